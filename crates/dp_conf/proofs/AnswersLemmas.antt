@@ -1,0 +1,29 @@
+-- What follows from an answer and a reading, for loops that read one value after another.
+use Rattle.std.proofs.Common.{◌≡◌, List, [], ◌∷◌, ◌++◌, Option, Some, None, Result, Ok, Err, refl, ap, ◌∙◌, sym}
+use Rattle.std.proofs.lemmas.List.{append_assoc}
+use Rattle.dp_conf.specs.Answers.{Refuses, ◌>>=◌, with_front, all_of}
+
+-- what is refused for a reason that passes on is refused as a whole
+pub Refuses-passed_on : {Y Z D : Type 0} (reason : Option D) (part : Result Y D) (whole : Result Z D) → ((fault : D) → part ≡ Err fault → whole ≡ Err fault) → Refuses reason part → Refuses reason whole
+Refuses-passed_on None part whole pass refused = tt
+Refuses-passed_on (Some fault) part whole pass refused = pass fault refused
+
+-- a front before a front
+pub with_front-with_front : {X E : Type 0} (xs ys : List X) (rest : Result (List X) E) → with_front xs (with_front ys rest) ≡ with_front (xs ++ ys) rest
+with_front-with_front xs ys (Ok zs) = ap (λ (all : List _). Ok all) (sym (append_assoc xs ys zs))
+with_front-with_front xs ys (Err fault) = refl
+
+-- an empty front
+pub with_front-nil : {X E : Type 0} (rest : Result (List X) E) → with_front [] rest ≡ rest
+with_front-nil (Ok zs) = refl
+with_front-nil (Err fault) = refl
+
+-- a reading that gave values goes to the front of the rest
+pub all_of-Ok : {X E : Type 0} (front xs : List X) (reading : Result (List X) E) (readings : List (Result (List X) E)) → reading ≡ Ok xs → with_front front (all_of (reading ∷ readings)) ≡ with_front (front ++ xs) (all_of readings)
+all_of-Ok front xs reading readings e =
+    ap (λ (r : Result (List _) _). with_front front (r >>= λ ys. with_front ys (all_of readings))) e ∙ with_front-with_front front xs (all_of readings)
+
+-- a reading that gave a fault is the fault of the whole
+pub all_of-Err : {X E : Type 0} (front : List X) (fault : E) (reading : Result (List X) E) (readings : List (Result (List X) E)) → reading ≡ Err fault → with_front front (all_of (reading ∷ readings)) ≡ Err fault
+all_of-Err front fault reading readings e =
+    ap (λ (r : Result (List _) _). with_front front (r >>= λ ys. with_front ys (all_of readings))) e

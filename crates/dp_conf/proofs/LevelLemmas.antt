@@ -1,0 +1,82 @@
+-- The parts of a text between its commas of level 0, taken off one after another.
+use Rattle.std.proofs.Common.{Option, Some, None, Bor, length, take, drop, ◌≡◌, ℕ, ◌+◌, ◌-◌, ◌<◌, ◌≤◌, suc, get_or, add-one, drop-cons, Bool, true, false, cond, ◌&&◌, eqb, List, [], ◌∷◌, ◌++◌, refl, ap, ◌∙◌, sym, arith}
+use Rattle.std.specs.List.{onto_first}
+use Rattle.std.proofs.lemmas.List.Sums.{fold-append}
+use Rattle.std.proofs.lemmas.List.{append-nil, append_assoc, take_all, drop_all, length-drop}
+use Rattle.dp_conf.specs.Levels.{next_level, level_of, parts_arguments, split_after, parts_of}
+
+-- the parts with the bytes put before the first
+abbrev pub onto_front : List ℕ → List (List ℕ) → List (List ℕ)
+onto_front front [] = front ∷ []
+onto_front front (part ∷ parts) = (front ++ part) ∷ parts
+
+-- one more byte counts on the level that was reached
+pub level_of-push : (before : List ℕ) (x : ℕ) → level_of (before ++ x ∷ []) ≡ next_level (level_of before) x
+level_of-push before x = fold-append next_level 0 before (x ∷ [])
+
+-- of what stands before only the level counts
+pub split_after-level : (a b xs : List ℕ) → level_of a ≡ level_of b → split_after parts_arguments a xs ≡ split_after parts_arguments b xs
+split_after-level a b [] e = refl
+split_after-level a b (x ∷ xs) e =
+    let next : level_of (a ++ x ∷ []) ≡ level_of (b ++ x ∷ []) = level_of-push a x ∙ (ap (λ n. next_level n x) e ∙ sym (level_of-push b x)) in
+    ap (λ n. cond (eqb x 44 && eqb n 0) ([] ∷ split_after parts_arguments (a ++ x ∷ []) xs) (onto_first x (split_after parts_arguments (a ++ x ∷ []) xs))) e
+    ∙ ap (λ (parts : List (List ℕ)). cond (parts_arguments b x) ([] ∷ parts) (onto_first x parts)) (split_after-level (a ++ x ∷ []) (b ++ x ∷ []) xs next)
+
+onto_front-onto_first : (front : List ℕ) (x : ℕ) (parts : List (List ℕ)) → onto_front front (onto_first x parts) ≡ onto_front (front ++ x ∷ []) parts
+onto_front-onto_first front x [] = refl
+onto_front-onto_first front x (part ∷ parts) = ap (λ (p : List ℕ). p ∷ parts) (sym (append_assoc front (x ∷ []) part))
+
+-- a byte that parts nothing goes to the first part
+pub split_after-plain : (front : List ℕ) (x : ℕ) (rest : List ℕ) → parts_arguments front x ≡ false → onto_front front (split_after parts_arguments front (x ∷ rest)) ≡ onto_front (front ++ x ∷ []) (split_after parts_arguments (front ++ x ∷ []) rest)
+split_after-plain front x rest e =
+    ap (λ t. onto_front front (cond t ([] ∷ split_after parts_arguments (front ++ x ∷ []) rest) (onto_first x (split_after parts_arguments (front ++ x ∷ []) rest)))) e
+    ∙ onto_front-onto_first front x (split_after parts_arguments (front ++ x ∷ []) rest)
+
+-- behind a comma of level 0 the text goes on as if it began there
+pub split_after-comma : (front rest : List ℕ) → level_of front ≡ 0 → onto_front front (split_after parts_arguments front (44 ∷ rest)) ≡ front ∷ split_after parts_arguments [] rest
+split_after-comma front rest e =
+    let level : level_of (front ++ 44 ∷ []) ≡ 0 = level_of-push front 44 ∙ ap (λ n. next_level n 44) e in
+    ap (λ n. onto_front front (cond (eqb n 0) ([] ∷ split_after parts_arguments (front ++ 44 ∷ []) rest) (onto_first 44 (split_after parts_arguments (front ++ 44 ∷ []) rest)))) e
+    ∙ ap (λ (parts : List (List ℕ)). (front ++ []) ∷ parts) (split_after-level (front ++ 44 ∷ []) [] rest level)
+    ∙ ap (λ (part : List ℕ). part ∷ split_after parts_arguments [] rest) (append-nil front)
+
+onto_front-nil : (x : ℕ) (t : Bool) (parts : List (List ℕ)) → onto_front [] (cond t ([] ∷ parts) (onto_first x parts)) ≡ cond t ([] ∷ parts) (onto_first x parts)
+onto_front-nil x true parts = refl
+onto_front-nil x false [] = refl
+onto_front-nil x false (part ∷ parts) = refl
+
+-- with nothing before the first part the parts are as they were
+pub onto_front-split_after : (before xs : List ℕ) → onto_front [] (split_after parts_arguments before xs) ≡ split_after parts_arguments before xs
+onto_front-split_after before [] = refl
+onto_front-split_after before (x ∷ xs) = onto_front-nil x (parts_arguments before x) (split_after parts_arguments (before ++ x ∷ []) xs)
+
+-- the parts of what is left to cut, where something is
+abbrev pub parts_left : Option (Bor (List ℕ)) → List (List ℕ)
+parts_left None = []
+parts_left (Some rest) = parts_of rest.now
+
+-- a number that falls as the text is cut
+abbrev pub left_len : Option (Bor (List ℕ)) → ℕ
+left_len None = 0
+left_len (Some rest) = length rest.now + 1
+
+-- what is left from a place on begins with the byte there
+pub drop-byte : (text : List ℕ) (at byte : ℕ) → at < length text → get_or text at 0 ≡ byte → drop at text ≡ byte ∷ drop (at + 1) text
+drop-byte text at byte within here = rw (add-one, drop-cons text at 0) (ap (λ b. b ∷ drop (suc at) text) here)
+
+-- a cut at a comma of level 0, by its place
+pub parts_of-comma : (text : List ℕ) (at : ℕ) → drop at text ≡ 44 ∷ drop (at + 1) text → level_of (take at text) ≡ 0
+    → onto_front (take at text) (split_after parts_arguments (take at text) (drop at text)) ≡ split_after parts_arguments [] text
+    → parts_of text ≡ take at text ∷ parts_of (take (length text - (at + 1)) (drop (at + 1) text))
+unfolding parts_of
+parts_of-comma text at here level whole =
+    rw (take_all (length text - (at + 1)) (drop (at + 1) text) (omega (arith, length-drop (at + 1) text)))
+    (sym whole ∙ (ap (λ (rest : List ℕ). onto_front (take at text) (split_after parts_arguments (take at text) rest)) here ∙ split_after-comma (take at text) (drop (at + 1) text) level))
+
+-- a text without such a comma is its one part
+pub parts_of-whole : (text : List ℕ) (at : ℕ) → length text ≤ at → onto_front (take at text) (split_after parts_arguments (take at text) (drop at text)) ≡ split_after parts_arguments [] text → parts_of text ≡ text ∷ []
+unfolding parts_of
+parts_of-whole text at end whole =
+    sym whole
+    ∙ (ap (λ (rest : List ℕ). onto_front (take at text) (split_after parts_arguments (take at text) rest)) (drop_all at text end)
+    ∙ (ap (λ (part : List ℕ). part ∷ []) (append-nil (take at text)) ∙ ap (λ (part : List ℕ). part ∷ []) (take_all at text end)))

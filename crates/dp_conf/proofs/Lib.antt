@@ -1,0 +1,7 @@
+pub mod AnswersLemmas
+mod CutLemmas
+mod LevelLemmas
+mod LinesLemmas
+mod Rows
+pub mod ToldLemmas
+mod TrimLemmas

@@ -1,0 +1,14 @@
+-- A text's first byte, and a text cut once at a byte.
+use Rattle.std.specs.Prelude.{ℕ, Bool, false, ◌==◌, nat_lt, List, [], ◌∷◌, length, Option, Some, None, if◌then◌else◌}
+use Rattle.std.specs.List.{position_or_len, before_first, after_first}
+
+-- whether the text begins with the byte
+abbrev pub begins_with : ℕ → List ℕ → Bool
+begins_with byte [] = false
+begins_with byte (b ∷ bs) = b == byte
+
+-- what stands before the first such byte and what behind it, where there is one
+abbrev pub cut_once : ℕ → List ℕ → Option (List ℕ × List ℕ)
+cut_once byte text =
+    if nat_lt (position_or_len (λ b. b == byte) text) (length text)
+    then Some (before_first (λ b. b == byte) text, after_first (λ b. b == byte) text) else None

@@ -1,0 +1,31 @@
+-- The level of a place in a text, and the parts that the commas of level 0 cut it into.
+use Rattle.std.specs.Prelude.{ℕ, ◌+◌, ◌-◌, Bool, ◌&&◌, ◌==◌, List, [], ◌∷◌, ◌++◌, map, fold, if◌then◌else◌}
+use Rattle.std.specs.List.{onto_first}
+use Rattle.dp_conf.specs.Blanks.{trim}
+
+-- a `(` counts the level up by one, and a `)` down by one, but not below zero
+abbrev pub next_level : ℕ → ℕ → ℕ
+next_level level byte = if byte == 40 then level + 1 else (if byte == 41 then level - 1 else level)
+
+-- the level of a place, by the bytes before it
+abbrev pub level_of : List ℕ → ℕ
+level_of before = fold next_level 0 before
+
+-- a comma parts arguments where its level is 0
+abbrev pub parts_arguments : List ℕ → ℕ → Bool
+parts_arguments before byte = byte == 44 && level_of before == 0
+
+-- the parts between the elements at which `cuts` says so, by what stands before them and themselves
+abbrev pub split_after : {X : Type 0} → (List X → X → Bool) → List X → List X → List (List X)
+split_after cuts before [] = [] ∷ []
+split_after cuts before (x ∷ xs) =
+    if cuts before x then [] ∷ split_after cuts (before ++ x ∷ []) xs
+    else onto_first x (split_after cuts (before ++ x ∷ []) xs)
+
+-- the parts of a text between its commas of level 0
+unfoldable pub parts_of : List ℕ → List (List ℕ)
+parts_of text = split_after parts_arguments [] text
+
+-- the arguments of a text: those parts, each without the blanks at its ends
+abbrev pub arguments_of : List ℕ → List (List ℕ)
+arguments_of text = map trim (parts_of text)

@@ -1,0 +1,11 @@
+pub mod Answers
+pub mod Blanks
+pub mod Codes
+pub mod Cut
+pub mod Fronts
+pub mod Levels
+pub mod Lines
+pub mod Numbers
+pub mod Told
+pub mod Whole
+pub mod Words

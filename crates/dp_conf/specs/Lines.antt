@@ -1,0 +1,110 @@
+-- The items of a configuration text, or its first fault.
+use Rattle.std.specs.Prelude.{ℕ, ◌+◌, Bool, true, false, not, ◌&&◌, ◌==◌, nat_eq, List, [], ◌∷◌, length, take, drop, Option, Some, None, Result, Ok, Err, codes, if◌then◌else◌}
+use Rattle.std.specs.List.{slice_split, list_any, starts_with}
+use Rattle.dp_conf.specs.Answers.{all_of, each_after}
+use Rattle.dp_conf.specs.Blanks.{trim, trim_start}
+use Rattle.dp_conf.specs.Cut.{begins_with, cut_once}
+use Rattle.dp_conf.specs.declared.fault.LineKind.{LineKind}
+use Rattle.dp_conf.specs.declared.fault.LineKind.TheVariants.{BlockComment, NoSection, BadHeader, NoEquals, Directive, Template}
+use Rattle.dp_conf.specs.declared.fault.ConfFault.{ConfFault}
+use Rattle.dp_conf.specs.declared.fault.ConfFault.TheVariants.{At, NoMemory}
+use Rattle.dp_conf.specs.declared.lines.ConfLine.{ConfLine}
+use Rattle.dp_conf.specs.declared.lines.ConfLine.TheVariants.{Header, Pair}
+
+-- a faulty line, counted from 1, and what is wrong with it
+pub record LineFault : Type 0 where
+  pub line : ℕ
+  pub kind : LineKind
+
+-- whether an item is a header
+abbrev pub is_header : ConfLine → Bool
+is_header (Header line name) = true
+is_header (Pair line key value) = false
+
+-- the text without the byte order mark at its front
+abbrev pub without_mark : List ℕ → List ℕ
+without_mark text = if starts_with nat_eq text (239 ∷ 187 ∷ 191 ∷ []) then drop 3 text else text
+
+-- the parts of a text between its line feeds
+abbrev pub parts_of : List ℕ → List (List ℕ)
+parts_of text = slice_split (λ b. b == 10) text
+
+-- how many bytes stand before the first `;` with no `\` directly before it
+abbrev pub comment_start : ℕ → List ℕ → ℕ
+comment_start previous [] = 0
+comment_start previous (b ∷ bs) = if b == 59 && not (previous == 92) then 0 else 1 + comment_start b bs
+
+-- the comment of a part with its `;`, or nothing
+abbrev pub comment_of : List ℕ → List ℕ
+comment_of part = drop (comment_start 10 part) part
+
+-- a comment that begins a block: `;--` and no third dash
+abbrev pub opens_block : List ℕ → Bool
+opens_block comment = starts_with nat_eq comment (codes ";--") && not (starts_with nat_eq comment (codes ";---"))
+
+-- the bytes with each `\;` written `;`: a `\` directly before a `;` is left out
+abbrev pub unescaped : List ℕ → List ℕ
+unescaped [] = []
+unescaped (b ∷ bs) = if b == 92 && starts_with nat_eq bs (59 ∷ []) then unescaped bs else b ∷ unescaped bs
+
+-- the content of a part: what stands before its comment, unescaped and trimmed
+abbrev pub content_of : List ℕ → List ℕ
+content_of part = trim (unescaped (take (comment_start 10 part) part))
+
+-- a header by its trimmed name and by what stands behind its `]`, from the first byte that is no blank
+abbrev pub header_by : ℕ → List ℕ → List ℕ → Result (List ConfLine) LineKind
+header_by line [] behind = Err BadHeader
+header_by line (n ∷ name) [] = Ok (Header line (n ∷ name) ∷ [])
+header_by line (n ∷ name) (b ∷ behind) = Err (if b == 40 then Template else BadHeader)
+
+-- a header, by what the `]` cut of what stands behind its `[`
+abbrev pub header_of : ℕ → Option (List ℕ × List ℕ) → Result (List ConfLine) LineKind
+header_of line None = Err BadHeader
+header_of line (Some cut) = header_by line (trim cut.0) (trim_start cut.1)
+
+-- a `>` directly behind the `=` belongs to the sign
+abbrev pub behind_sign : List ℕ → List ℕ
+behind_sign [] = []
+behind_sign (b ∷ bs) = if b == 62 then bs else b ∷ bs
+
+-- a pair, by what the first `=` cut
+abbrev pub pair_of : ℕ → Option (List ℕ × List ℕ) → Result (List ConfLine) LineKind
+pair_of line None = Err NoEquals
+pair_of line (Some cut) = Ok (Pair line (trim cut.0) (trim (behind_sign cut.1)) ∷ [])
+
+-- the item of a content, where there is one: whether a section has begun says if a pair may stand there
+abbrev pub item_of : Bool → ℕ → List ℕ → Result (List ConfLine) LineKind
+item_of in_section line [] = Ok []
+item_of in_section line (b ∷ bs) =
+    if b == 91 then header_of line (cut_once 93 bs)
+    else if b == 35 then Err Directive
+    else if in_section then pair_of line (cut_once 61 (b ∷ bs))
+    else Err NoSection
+
+-- a part: a block comment is refused before all else
+abbrev pub part_item : Bool → ℕ → List ℕ → Result (List ConfLine) LineKind
+part_item in_section line part =
+    if opens_block (comment_of part) then Err BlockComment else item_of in_section line (content_of part)
+
+-- a part begins a section where its content begins with `[`
+abbrev pub opens_section : List ℕ → Bool
+opens_section part = begins_with 91 (content_of part)
+
+-- the fault of a line, at its number
+abbrev pub at_line : {X : Type 0} → ℕ → Result X LineKind → Result X LineFault
+at_line line (Ok x) = Ok x
+at_line line (Err fault) = Err (record { line = line; kind = fault })
+
+-- the reading of a part, by the parts before it
+abbrev pub reading_of : List (List ℕ) → List ℕ → Result (List ConfLine) LineFault
+reading_of before part =
+    at_line (length before + 1) (part_item (list_any opens_section before) (length before + 1) part)
+
+-- the items of a text in order, or the fault of its first faulty line
+unfoldable pub lines_of : List ℕ → Result (List ConfLine) LineFault
+lines_of text = all_of (each_after reading_of [] (parts_of (without_mark text)))
+
+-- the faulty line that a fault names; want of memory names none
+abbrev pub line_fault : ConfFault → Option LineFault
+line_fault (At line kind) = Some (record { line = line; kind = kind })
+line_fault NoMemory = None

@@ -1,0 +1,8 @@
+-- Words that are compared without regard to ASCII case.
+use Rattle.std.specs.Prelude.{ℕ, Bool, List, map, nat_eq}
+use Rattle.std.specs.Cmp.Lexicographic.{pointwise}
+use Rattle.std.specs.Char.{to_ascii_lowercase}
+
+-- two words are the same but for the case of ASCII letters
+abbrev pub same_word : List ℕ → List ℕ → Bool
+same_word a b = pointwise nat_eq (map to_ascii_lowercase a) (map to_ascii_lowercase b)

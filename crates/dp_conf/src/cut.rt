@@ -1,0 +1,119 @@
+//! How a text is cut: blanks off its ends, at a byte, into lines, and into arguments.
+ghost use Rattle.std.specs.Prelude.{◌≡◌, ◌+◌, ◌^◌, ◌<◌, IfOk, IfSome, MatchOption, Some, None, [], ◌∷◌, length, map};
+ghost use Rattle.dp_conf.specs.Blanks as blanks;
+ghost use Rattle.dp_conf.specs.Cut as cuts;
+ghost use Rattle.dp_conf.specs.Levels as levels;
+ghost use Rattle.dp_conf.specs.Lines as lines;
+
+use bstr::ByteSlice;
+use std::alloc::{AllocError, Global};
+
+/// Whether the byte is a blank: 32 or less, and no line feed (a choice of this program).
+fn is_blank(byte: u8) -> bool
+    ensures { result ≡ blanks.is_blank byte }
+{
+    byte <= b' ' && byte != b'\n'
+}
+
+/// The text without the blanks at both ends. A blank is a byte of 32 or less other than a line feed.
+pub fn trim(text: &[u8]) -> &[u8]
+    ensures { result.now ≡ blanks.trim text.now }
+{
+    trim_end(trim_start(text))
+}
+
+/// The text from its first byte that is no blank.
+pub(crate) fn trim_start(text: &[u8]) -> &[u8]
+    ensures { result.now ≡ blanks.trim_start text.now }
+{
+    let mut left = text;
+    while let Some((first, rest)) = left.split_first() {
+        if !is_blank(*first) {
+            break;
+        }
+        left = rest;
+    }
+    left
+}
+
+/// The text up to its last byte that is no blank.
+fn trim_end(text: &[u8]) -> &[u8]
+    ensures { result.now ≡ blanks.trim_end text.now }
+{
+    let mut left = text;
+    while let Some((last, front)) = left.split_last() {
+        if !is_blank(*last) {
+            break;
+        }
+        left = front;
+    }
+    left
+}
+
+/// What stands before the first such byte of the text and what stands behind it, or None where there is none.
+pub fn cut_once(text: &[u8], byte: u8) -> Option<(&[u8], &[u8])>
+    ensures { MatchOption result (cuts.cut_once byte text.now ≡ None)
+        (λ cut. cuts.cut_once byte text.now ≡ Some (cut.0.now, cut.1.now)) }
+{
+    match text.find_byte(byte) {
+        None => None,
+        Some(at) => Some((&text[..at], &text[at + 1..])),
+    }
+}
+
+/// The first part of the text between its line feeds, and what stands behind it, where more parts come.
+pub(crate) fn first_part(text: &[u8]) -> (&[u8], Option<&[u8]>)
+    ensures parts { MatchOption result.1 (lines.parts_of text.now ≡ result.0.now ∷ [])
+        (λ rest. lines.parts_of text.now ≡ result.0.now ∷ lines.parts_of rest.now) }
+    ensures shorter { IfSome result.1 (λ rest. length rest.now < length text.now) }
+{
+    match cut_once(text, b'\n') {
+        None => (text, None),
+        Some((part, rest)) => (part, Some(rest)),
+    }
+}
+
+/// The level behind a byte that stands at this level.
+fn next_level(level: usize, byte: u8) -> usize
+    requires { level + 1 < 2 ^ 64 }
+    ensures { result ≡ levels.next_level level byte }
+{
+    match byte {
+        b'(' => level + 1,
+        b')' => level.saturating_sub(1),
+        _ => level,
+    }
+}
+
+/// The text up to its first comma of level 0, and what stands behind it, where there is such a comma.
+fn first_argument(text: &[u8]) -> (&[u8], Option<&[u8]>)
+    ensures parts { MatchOption result.1 (levels.parts_of text.now ≡ result.0.now ∷ [])
+        (λ rest. levels.parts_of text.now ≡ result.0.now ∷ levels.parts_of rest.now) }
+    ensures shorter { IfSome result.1 (λ rest. length rest.now < length text.now) }
+{
+    let mut level: usize = 0;
+    for (at, byte) in text.iter().enumerate() {
+        if *byte == b',' && level == 0 {
+            return (&text[..at], Some(&text[at + 1..]));
+        }
+        level = next_level(level, *byte);
+    }
+    (text, None)
+}
+
+/// The arguments of a text: what its commas outside parentheses part, each without the blanks at its ends.
+///
+/// A `)` with no `(` before it is plain, and the empty text has one empty argument (choices of this program).
+pub fn split_args(alloc: Global, text: &[u8]) -> Result<Vec<&[u8]>, AllocError>
+    ensures { IfOk result (λ arguments. map (λ argument. argument.now) arguments.items
+        ≡ levels.arguments_of text.now) }
+{
+    let mut arguments = Vec::new(alloc);
+    let mut rest = Some(text);
+    while let Some(left) = rest {
+        let (argument, behind) = first_argument(left);
+        arguments.push(trim(argument))?;
+        rest = behind;
+    }
+    Ok(arguments)
+}

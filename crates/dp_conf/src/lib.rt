@@ -1,0 +1,21 @@
+//! The text layer of the dialplan machine: lines of a configuration text, its byte texts, and what is read and written.
+#![tactic(auto)]
+
+mod cut;
+mod fault;
+mod lines;
+#[cfg(test)]
+mod tests;
+mod text;
+mod told;
+mod whole;
+mod words;
+
+pub use cut::{cut_once, split_args, trim};
+pub use fault::{ConfFault, LineKind, ReadFault, WriteFailed};
+pub use lines::{ConfLine, read_lines};
+pub use std::alloc::AllocError as NoMemory;
+pub use text::Text;
+pub use told::{ReadTold, Told, WriteTold};
+pub use whole::{MOST_BYTES, read_whole};
+pub use words::{read_number, same_word};

@@ -1,0 +1,238 @@
+//! The items of a configuration text, after the Asterisk documentation's page on its configuration files.
+ghost use Rattle.std.specs.Prelude.{◌≡◌, ◌+◌, ◌++◌, ◌∷◌, [], ◌^◌, ◌<◌, ◌≤◌, ◌||◌, OnOk, OnErr, IfOk, IfErr, nat_eq, length, take};
+ghost use Rattle.std.specs.Option.{option_to_list};
+ghost use Rattle.std.specs.List.{list_any};
+ghost use Rattle.dp_conf.specs.Answers.{Answers};
+ghost use Rattle.dp_conf.specs.Cut as cut;
+ghost use Rattle.dp_conf.specs.Lines as spec;
+
+use crate::cut::{cut_once, first_part, trim, trim_start};
+use crate::fault::{ConfFault, LineKind};
+use crate::text::Text;
+use std::alloc::{AllocError, Global};
+
+/// One item of a configuration text, with the number of its line, counted from 1.
+#[derive(Debug, PartialEq, Eq, Drop)]
+pub enum ConfLine {
+    /// A section's header, `[name]`, by its name without blanks at its ends.
+    Header { line: usize, name: Text },
+    /// A line `key = value` or `key => value`, without blanks at the ends of both.
+    Pair { line: usize, key: Text, value: Text },
+}
+
+/// The text without the byte order mark at its front.
+fn without_mark(text: &[u8]) -> &[u8]
+    ensures { result.now ≡ spec.without_mark text.now }
+{
+    if text.starts_with(b"\xEF\xBB\xBF") {
+        &text[3..]
+    } else {
+        text
+    }
+}
+
+/// How many bytes stand before the comment of a line: before its first `;` with no `\` directly before it.
+fn comment_start(part: &[u8]) -> usize
+    ensures start { result ≡ spec.comment_start 10 part.now }
+    ensures within { result ≤ length part.now }
+{
+    let mut previous = b'\n';
+    for (at, byte) in part.iter().enumerate() {
+        if *byte == b';' && previous != b'\\' {
+            return at;
+        }
+        previous = *byte;
+    }
+    part.len()
+}
+
+/// Whether a comment, with its `;`, begins a block comment: `;--` and no third dash.
+fn opens_block(comment: &[u8]) -> bool
+    ensures { result ≡ spec.opens_block comment.now }
+{
+    comment.starts_with(b";--") && !comment.starts_with(b";---")
+}
+
+/// The bytes with each `\;` written `;`.
+fn unescape(alloc: Global, bytes: &[u8]) -> Result<Vec<u8>, AllocError>
+    ensures { IfOk result (λ plain. plain.items ≡ spec.unescaped bytes.now) }
+{
+    let mut plain = Vec::with_capacity(alloc, bytes.len())?;
+    let mut left = bytes;
+    while let Some((byte, rest)) = left.split_first() {
+        if *byte != b'\\' || !rest.starts_with(b";") {
+            plain.push(*byte)?;
+        }
+        left = rest;
+    }
+    Ok(plain)
+}
+
+/// A copy of the text.
+fn copied(alloc: Global, text: &[u8]) -> Result<Text, AllocError>
+    ensures { IfOk result (λ copy. copy ≡ text.now) }
+{
+    let bytes = Vec::from_slice(alloc, text)?;
+    Ok(Text::new(bytes))
+}
+
+/// The header of a section, by what stands behind its `[`.
+fn read_header(alloc: Global, line: usize, inside: &[u8]) -> Result<ConfLine, ConfFault>
+    ensures { Answers (λ item. item ∷ []) spec.line_fault result
+        (spec.at_line line (spec.header_of line (cut.cut_once 93 inside.now))) }
+{
+    let Some((name, behind)) = cut_once(inside, b']') else {
+        return Err(ConfFault::At {
+            line,
+            kind: LineKind::BadHeader,
+        });
+    };
+    let name = trim(name);
+    if name.is_empty() {
+        return Err(ConfFault::At {
+            line,
+            kind: LineKind::BadHeader,
+        });
+    }
+    match trim_start(behind).first() {
+        None => {
+            let name = copied(alloc, name)?;
+            Ok(ConfLine::Header { line, name })
+        }
+        Some(b'(') => Err(ConfFault::At {
+            line,
+            kind: LineKind::Template,
+        }),
+        Some(_) => Err(ConfFault::At {
+            line,
+            kind: LineKind::BadHeader,
+        }),
+    }
+}
+
+/// What stands behind the `=`, without the `>` that belongs to the sign.
+fn behind_sign(text: &[u8]) -> &[u8]
+    ensures { result.now ≡ spec.behind_sign text.now }
+{
+    match text.split_first() {
+        Some((b'>', rest)) => rest,
+        _ => text,
+    }
+}
+
+/// A key and a value, by the content of their line.
+fn read_pair(alloc: Global, line: usize, content: &[u8]) -> Result<ConfLine, ConfFault>
+    ensures { Answers (λ item. item ∷ []) spec.line_fault result
+        (spec.at_line line (spec.pair_of line (cut.cut_once 61 content.now))) }
+{
+    let Some((key, value)) = cut_once(content, b'=') else {
+        return Err(ConfFault::At {
+            line,
+            kind: LineKind::NoEquals,
+        });
+    };
+    let key = copied(alloc, trim(key))?;
+    let value = copied(alloc, trim(behind_sign(value)))?;
+    Ok(ConfLine::Pair { line, key, value })
+}
+
+/// The item of a line, by its content, where it has one.
+fn read_content(
+    alloc: Global,
+    line: usize,
+    in_section: bool,
+    content: &[u8],
+) -> Result<Option<ConfLine>, ConfFault>
+    ensures { Answers option_to_list spec.line_fault result
+        (spec.at_line line (spec.item_of in_section line content.now)) }
+{
+    match content.split_first() {
+        None => Ok(None),
+        Some((b'[', inside)) => {
+            let header = read_header(alloc, line, inside)?;
+            Ok(Some(header))
+        }
+        Some((b'#', _)) => Err(ConfFault::At {
+            line,
+            kind: LineKind::Directive,
+        }),
+        Some(_) if in_section => {
+            let pair = read_pair(alloc, line, content)?;
+            Ok(Some(pair))
+        }
+        Some(_) => Err(ConfFault::At {
+            line,
+            kind: LineKind::NoSection,
+        }),
+    }
+}
+
+/// The item of a line, where it has one.
+fn read_part(
+    alloc: Global,
+    line: usize,
+    in_section: bool,
+    part: &[u8],
+) -> Result<Option<ConfLine>, ConfFault>
+    ensures { Answers option_to_list spec.line_fault result
+        (spec.at_line line (spec.part_item in_section line part.now)) }
+{
+    let (before, comment) = part.split_at(comment_start(part));
+    if opens_block(comment) {
+        return Err(ConfFault::At {
+            line,
+            kind: LineKind::BlockComment,
+        });
+    }
+    let plain = unescape(alloc, before)?;
+    let content = trim(plain.as_slice());
+    let item = read_content(alloc, line, in_section, content)?;
+    Ok(item)
+}
+
+/// Whether a section has begun behind this item.
+fn has_begun(in_section: bool, item: &Option<ConfLine>) -> bool
+    ensures { result ≡ (in_section || list_any spec.is_header (option_to_list item.now)) }
+{
+    match item {
+        Some(ConfLine::Header { .. }) => true,
+        Some(ConfLine::Pair { .. }) => in_section,
+        None => in_section,
+    }
+}
+
+/// Adds the item at the end, where there is one.
+fn push_item(lines: &mut Vec<ConfLine>, item: Option<ConfLine>) -> Result<(), AllocError>
+    ensures { OnOk result (lines.new.items ≡ lines.old.items ++ option_to_list item) }
+{
+    if let Some(item) = item {
+        lines.push(item)?;
+    }
+    Ok(())
+}
+
+/// The items of a configuration text in order, with the numbers of their lines, or the fault of its first faulty line.
+///
+/// Lines end at line feeds; a byte order mark at the front is skipped, and blanks are bytes of 32 or less (choices of
+/// this program). A `;` begins a comment unless a `\` stands directly before it, and `\;` is a `;`. What is left of
+/// a line, without the blanks at its ends, is nothing, a header `[name]`, or a pair `key = value` or `key => value`.
+///
+/// A line is refused, in this order, for a block comment, a bad header, a template, a directive, a pair before any
+/// header, and a missing `=`: see [`LineKind`].
+pub fn read_lines(alloc: Global, text: &[u8]) -> Result<Vec<ConfLine>, ConfFault>
+    ensures { Answers (λ lines. lines.items) spec.line_fault result (spec.lines_of text.now) }
+{
+    let mut lines = Vec::new(alloc);
+    let mut line: usize = 0;
+    let mut in_section = false;
+    let mut rest = Some(without_mark(text));
+    while let Some(left) = rest {
+        let (part, behind) = first_part(left);
+        line += 1;
+        let item = read_part(alloc, line, in_section, part)?;
+        in_section = has_begun(in_section, &item);
+        push_item(&mut lines, item)?;
+        rest = behind;
+    }
+    Ok(lines)
+}

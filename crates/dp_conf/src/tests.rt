@@ -1,0 +1,5 @@
+mod args;
+mod codes;
+mod files;
+mod items;
+mod terms;

@@ -1,0 +1,119 @@
+//! Readers and writers that tell whether one of their calls failed.
+ghost use Rattle.std.specs.Prelude.{◌≡◌, ℕ, Bool, ◌||◌, List, Option, OnOk, OnErr, IfOk, false};
+ghost use Rattle.std.specs.Result.{is_err};
+ghost use Rattle.std.specs.Io.{ReadsAtMost};
+ghost use Rattle.std.specs.Io.KnownBytes.{Appends, ReadConsumes};
+ghost use Rattle.dp_conf.specs.Fronts.{AppendsFront};
+
+use crate::fault::WriteFailed;
+use std::io;
+use std::io::{Read, Write};
+
+/// A reader or a writer that remembers whether one of its calls has failed.
+#[derive(Drop)]
+pub struct Told<T> {
+    inner: T,
+    failed: bool,
+}
+
+impl<T> Told<T> {
+    ghost use Rattle.dp_conf.specs.Told.{told_inner, told_failed};
+
+    /// The reader or the writer, of which no call has failed yet.
+    pub fn new(inner: T) -> Self
+        ensures inner { told_inner result ≡ inner }
+        ensures failed { told_failed result ≡ false }
+    {
+        Told {
+            inner,
+            failed: false,
+        }
+    }
+
+    /// Whether a call has failed.
+    pub fn has_failed(&self) -> bool
+        ensures { result ≡ told_failed self.now }
+    {
+        self.failed
+    }
+
+    /// The reader or the writer itself.
+    pub fn into_inner(self) -> T
+        ensures { result ≡ told_inner self }
+    {
+        let Told { inner, failed: _ } = self;
+        inner
+    }
+}
+
+/// A reader whose contract says when one of its reads has failed.
+pub trait ReadTold {
+    // The bytes that reads will give from here on, where they are known.
+    ghost remaining: { Self → Option (List ℕ) };
+
+    // Whether a read has failed.
+    ghost has_failed: { Self → Bool };
+
+    /// Reads some bytes into the buffer and says how many, none only at the end or with no room.
+    fn read_told(&mut self, buffer: &mut [u8]) -> io::Result<usize>
+        ensures bound { ReadsAtMost result buffer.new }
+        ensures bytes { ReadConsumes (remaining self.old) (remaining self.new) result buffer.new }
+        ensures told { has_failed self.new ≡ (has_failed self.old || is_err result) };
+}
+
+impl<R: Read> ReadTold for Told<R> {
+    ghost remaining = { λ told. R.remaining told.inner };
+
+    ghost has_failed = { λ told. told.failed };
+
+    fn read_told(&mut self, buffer: &mut [u8]) -> io::Result<usize> {
+        let Told { inner, failed } = self;
+        let result = inner.read(buffer);
+        *failed = *failed || result.is_err();
+        result
+    }
+}
+
+/// A writer whose contract says when one of its writes has failed.
+pub trait WriteTold {
+    // The bytes that the writer holds, where they are known.
+    ghost contents: { Self → Option (List ℕ) };
+
+    // Whether a write has failed.
+    ghost has_failed: { Self → Bool };
+
+    /// Writes all the bytes, or says that a write failed. What was written up to then is a front of them.
+    fn write_told(&mut self, bytes: &[u8]) -> Result<(), WriteFailed>
+        ensures ok { OnOk result (Appends (contents self.old) (contents self.new) bytes.now) }
+        ensures err { OnErr result (AppendsFront (contents self.old) (contents self.new) bytes.now) }
+        ensures told { has_failed self.new ≡ (has_failed self.old || is_err result) };
+}
+
+/// Writes all the bytes, unless a write answers an error or takes none of them.
+fn write_left<W: Write>(writer: &mut W, bytes: &[u8]) -> Result<(), WriteFailed>
+    ensures ok { OnOk result (Appends (W.contents writer.old) (W.contents writer.new) bytes.now) }
+    ensures err { OnErr result (AppendsFront (W.contents writer.old) (W.contents writer.new) bytes.now) }
+{
+    let mut left = bytes;
+    while !left.is_empty() {
+        match writer.write(left) {
+            Ok(0) => return Err(WriteFailed),
+            Ok(count) => left = &left[count..],
+            Err(_) => return Err(WriteFailed),
+        }
+    }
+    Ok(())
+}
+
+impl<W: Write> WriteTold for Told<W> {
+    ghost contents = { λ told. W.contents told.inner };
+
+    ghost has_failed = { λ told. told.failed };
+
+    fn write_told(&mut self, bytes: &[u8]) -> Result<(), WriteFailed> {
+        let Told { inner, failed } = self;
+        let result = write_left(inner, bytes);
+        *failed = *failed || result.is_err();
+        result
+    }
+}

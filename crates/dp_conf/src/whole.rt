@@ -1,0 +1,41 @@
+//! A reader read whole, up to the most bytes that a file may have.
+ghost use Rattle.std.specs.Prelude.{◌≡◌, ◌||◌, IfSome};
+ghost use Rattle.dp_conf.specs.Answers.{Answers};
+ghost use Rattle.dp_conf.specs.Whole.{whole_of, length_fault, is_read_failed};
+
+use crate::fault::ReadFault;
+use crate::told::ReadTold;
+use std::alloc::Global;
+
+/// How many bytes a file may have.
+pub const MOST_BYTES: usize = 16_777_216;
+
+/// How many bytes are asked of a reader at once.
+const CHUNK: usize = 8192;
+
+/// All bytes of the reader, where it has at most 16,777,216 of them.
+///
+/// The fault is `ReadFailed` where a read answered an error of any kind, and `TooLong` where more bytes came. Each
+/// read but the last brings a byte, so there are at most 16,777,217 of them. After a fault the reader has given some
+/// of its bytes.
+pub fn read_whole<R: ReadTold>(alloc: Global, reader: &mut R) -> Result<Vec<u8>, ReadFault>
+    ensures whole { IfSome (R.remaining reader.old)
+        (λ bytes. Answers (λ read. read.items) length_fault result (whole_of bytes)) }
+    ensures told { R.has_failed reader.new ≡ (R.has_failed reader.old || is_read_failed result) }
+{
+    let mut bytes = Vec::new(alloc);
+    let mut chunk = [0u8; CHUNK];
+    for _turn in 0..MOST_BYTES + 1 {
+        match reader.read_told(&mut chunk) {
+            Err(_) => return Err(ReadFault::ReadFailed),
+            Ok(0) => return Ok(bytes),
+            Ok(count) => {
+                if count > MOST_BYTES - bytes.len() {
+                    return Err(ReadFault::TooLong);
+                }
+                bytes.extend_from_slice(&chunk[..count])?;
+            }
+        }
+    }
+    unreachable!()
+}
