@@ -1,7 +1,8 @@
 -- What follows from an answer and a reading, for loops that read one value after another.
-use Rattle.std.proofs.Common.{◌≡◌, List, [], ◌∷◌, ◌++◌, Option, Some, None, Result, Ok, Err, refl, ap, ◌∙◌, sym}
-use Rattle.std.proofs.lemmas.List.{append_assoc}
-use Rattle.dp_conf.specs.Answers.{Refuses, ◌>>=◌, with_front, all_of}
+use Rattle.std.proofs.Common.{◌≡◌, List, [], ◌∷◌, ◌++◌, Option, Some, None, Result, Ok, Err, refl, ap, ◌∙◌, sym, subst}
+use Rattle.std.proofs.Math.Seq.{append_snoc}
+use Rattle.std.proofs.lemmas.List.{append_assoc, append-nil}
+use Rattle.dp_conf.specs.Answers.{Refuses, ◌>>=◌, with_front, all_of, each_after}
 
 -- what is refused for a reason that passes on is refused as a whole
 pub Refuses-passed_on : {Y Z D : Type 0} (reason : Option D) (part : Result Y D) (whole : Result Z D) → ((fault : D) → part ≡ Err fault → whole ≡ Err fault) → Refuses reason part → Refuses reason whole
@@ -27,3 +28,15 @@ all_of-Ok front xs reading readings e =
 pub all_of-Err : {X E : Type 0} (front : List X) (fault : E) (reading : Result (List X) E) (readings : List (Result (List X) E)) → reading ≡ Err fault → with_front front (all_of (reading ∷ readings)) ≡ Err fault
 all_of-Err front fault reading readings e =
     ap (λ (r : Result (List _) _). with_front front (r >>= λ ys. with_front ys (all_of readings))) e
+
+-- one more element is read with all the others before it
+pub each_after-push : {X Y : Type 0} (f : List X → X → Y) (before xs : List X) (x : X) → each_after f before (xs ++ x ∷ []) ≡ each_after f before xs ++ f (before ++ xs) x ∷ []
+each_after-push f before [] x = ap (λ (b : List _). f b x ∷ []) (sym (append-nil before))
+each_after-push f before (y ∷ ys) x =
+    ap (λ (later : List _). f before y ∷ later) (each_after-push f (before ++ y ∷ []) ys x)
+    ∙ ap (λ (b : List _). f before y ∷ (each_after f (before ++ y ∷ []) ys ++ f b x ∷ [])) (append_snoc before y ys)
+
+-- what holds of no elements, and of one more wherever it holds of some, holds of all
+pub snoc_from : {X : Type 0} (P : List X → Type 0) → ((xs : List X) (x : X) → P xs → P (xs ++ x ∷ [])) → (before xs : List X) → P before → P (before ++ xs)
+snoc_from P push before [] h = subst P (sym (append-nil before)) h
+snoc_from P push before (x ∷ xs) h = subst P (append_snoc before x xs) (snoc_from P push (before ++ x ∷ []) xs (push before x h))

@@ -62,7 +62,7 @@ pub fn cut_once(text: &[u8], byte: u8) -> Option<(&[u8], &[u8])>
 }
 
 /// The first part of the text between its line feeds, and what stands behind it, where more parts come.
-pub(crate) fn first_part(text: &[u8]) -> (&[u8], Option<&[u8]>)
+pub fn first_part(text: &[u8]) -> (&[u8], Option<&[u8]>)
     ensures parts { MatchOption result.1 (lines.parts_of text.now ≡ result.0.now ∷ [])
         (λ rest. lines.parts_of text.now ≡ result.0.now ∷ lines.parts_of rest.now) }
     ensures shorter { IfSome result.1 (λ rest. length rest.now < length text.now) }

@@ -68,14 +68,6 @@ fn unescape(alloc: Global, bytes: &[u8]) -> Result<Vec<u8>, AllocError>
     Ok(plain)
 }
 
-/// A copy of the text.
-fn copied(alloc: Global, text: &[u8]) -> Result<Text, AllocError>
-    ensures { IfOk result (λ copy. copy ≡ text.now) }
-{
-    let bytes = Vec::from_slice(alloc, text)?;
-    Ok(Text::new(bytes))
-}
-
 /// The header of a section, by what stands behind its `[`.
 fn read_header(alloc: Global, line: usize, inside: &[u8]) -> Result<ConfLine, ConfFault>
     ensures { Answers (λ item. item ∷ []) spec.line_fault result
@@ -96,7 +88,7 @@ fn read_header(alloc: Global, line: usize, inside: &[u8]) -> Result<ConfLine, Co
     }
     match trim_start(behind).first() {
         None => {
-            let name = copied(alloc, name)?;
+            let name = Text::copy_of(alloc, name)?;
             Ok(ConfLine::Header { line, name })
         }
         Some(b'(') => Err(ConfFault::At {
@@ -131,8 +123,8 @@ fn read_pair(alloc: Global, line: usize, content: &[u8]) -> Result<ConfLine, Con
             kind: LineKind::NoEquals,
         });
     };
-    let key = copied(alloc, trim(key))?;
-    let value = copied(alloc, trim(behind_sign(value)))?;
+    let key = Text::copy_of(alloc, trim(key))?;
+    let value = Text::copy_of(alloc, trim(behind_sign(value)))?;
     Ok(ConfLine::Pair { line, key, value })
 }
 

@@ -162,6 +162,7 @@ fn a_text_keeps_its_bytes(rt: HostRuntime) -> Result<(), Fail> {
     assert_eq!(rt; text.bytes(), b"a\x00\xff".as_slice());
     let copy = text.clone()?;
     assert!(rt; copy == text);
+    assert!(rt; Text::copy_of(rt.alloc(), b"a\x00\xff")? == text);
     let empty = Text::new(Vec::new(rt.alloc()));
     assert!(rt; empty != text);
     assert_eq!(rt; empty.bytes().len(), 0);

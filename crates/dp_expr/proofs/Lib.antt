@@ -1,0 +1,10 @@
+mod Rows
+mod Reducing
+mod Completeness
+mod Soundness
+mod Making
+pub mod Readings
+pub mod TokensLemmas
+pub mod NumbersLemmas
+pub mod TextsLemmas
+pub mod FramesLemmas

@@ -1,0 +1,80 @@
+-- Tokens have at most one reading, and a walk finds it.
+use Rattle.std.specs.Prelude.{unwrap_or}
+use Rattle.std.proofs.Common.{◌≡◌, ℕ, List, [], Option, Some, None, refl, sym, ◌∙◌, ap, option_map}
+use Rattle.dp_expr.specs.Expression.{IsValue, expression_value}
+use Rattle.dp_expr.specs.Tokens.{Token, tokens_of}
+use Rattle.dp_expr.specs.Trees.{Tree, Leaf, Group, Before, Between, IsReading}
+use Rattle.dp_expr.specs.Values.{value_of, answer}
+use Rattle.dp_expr.specs.Walk.{Wanting, walk, trees, values}
+use Rattle.dp_expr.proofs.Completeness.{made, walk-reading}
+use Rattle.dp_expr.proofs.Soundness.{reading-walk}
+use Rattle.dp_expr.proofs.Making.{walk-trees}
+
+-- a tree made of trees is itself
+made-trees : (tree : Tree) → made trees tree ≡ tree
+made-trees (Leaf bytes) = refl
+made-trees (Group inner) = ap Group (made-trees inner)
+made-trees (Before prefix operand) = ap (Before prefix) (made-trees operand)
+made-trees (Between operator left right) = cc (made-trees left, made-trees right)
+
+-- two readings of the same tokens are equal
+pub reading_unique : (tokens : List Token) (s t : Tree) → IsReading tokens s → IsReading tokens t → s ≡ t
+reading_unique tokens s t p q =
+    let e = walk-reading trees tokens s p in
+    let f = walk-reading trees tokens t q in
+    let a = made-trees s in
+    let b = made-trees t in
+    cc
+
+-- what is made of values is the tree's value
+made-values : (tree : Tree) → made values tree ≡ value_of tree
+made-values (Leaf bytes) = refl
+made-values (Group inner) = made-values inner
+made-values (Before prefix operand) = ap (values.before prefix) (made-values operand)
+made-values (Between operator left right) = cc (made-values left, made-values right)
+
+-- a walk gives a reading's value
+pub walk-value : (tokens : List Token) (tree : Tree) → IsReading tokens tree → walk values (Wanting []) tokens ≡ Some (value_of tree)
+walk-value tokens tree reading = walk-reading values tokens tree reading ∙ ap Some (made-values tree)
+
+-- a walk makes no tree where nothing is a reading
+no_tree : (tokens : List Token) (o : Option Tree) → walk trees (Wanting []) tokens ≡ o → ((tree : Tree) → ¬ (IsReading tokens tree)) → option_map (made values) o ≡ None
+no_tree tokens None e none = refl
+no_tree tokens (Some tree) e none = absurd (none tree (reading-walk tokens tree e))
+
+-- where nothing is a reading, it gives none
+pub walk-none : (tokens : List Token) → ((tree : Tree) → ¬ (IsReading tokens tree)) → walk values (Wanting []) tokens ≡ None
+walk-none tokens none = walk-trees values tokens ∙ no_tree tokens (walk trees (Wanting []) tokens) refl none
+
+-- the value of a text with a reading, and of one without
+pub expression_value-reading : (text : List ℕ) (tree : Tree) → IsReading (tokens_of text) tree → expression_value text ≡ answer (value_of tree)
+unfolding expression_value
+expression_value-reading text tree reading =
+    ap (λ o. answer (unwrap_or o None)) (walk-value (tokens_of text) tree reading)
+
+-- and of one without
+pub expression_value-none : (text : List ℕ) → ((tree : Tree) → ¬ (IsReading (tokens_of text) tree)) → expression_value text ≡ []
+unfolding expression_value
+expression_value-none text none =
+    ap (λ o. answer (unwrap_or o None)) (walk-none (tokens_of text) none)
+
+-- the function is a value
+pub IsValue-expression_value : (text : List ℕ) → IsValue text (expression_value text)
+IsValue-expression_value text =
+    record { tree = expression_value-reading text; none = expression_value-none text }
+
+-- nothing else is a value: either the walk over trees makes one, or there is none
+value_by : (text bytes : List ℕ) (o : Option Tree) → walk trees (Wanting []) (tokens_of text) ≡ o → IsValue text bytes → bytes ≡ expression_value text
+value_by text bytes None e is =
+    let none : (tree : Tree) → ¬ (IsReading (tokens_of text) tree) = λ tree reading. absurd_walk tree reading in
+    is.none none ∙ sym (expression_value-none text none)
+  where
+    absurd_walk : (tree : Tree) → IsReading (tokens_of text) tree → ⊥
+    absurd_walk tree reading = let f = walk-reading trees (tokens_of text) tree reading in cc
+value_by text bytes (Some tree) e is =
+    let reading = reading-walk (tokens_of text) tree e in
+    is.tree tree reading ∙ sym (expression_value-reading text tree reading)
+
+-- and the only one
+pub value_unique : (text bytes : List ℕ) → IsValue text bytes → bytes ≡ expression_value text
+value_unique text bytes is = value_by text bytes (walk trees (Wanting []) (tokens_of text)) refl is

@@ -1,0 +1,31 @@
+use Rattle.std.proofs.Common.{◌≡◌, IfOk, sym, ap, subst, ◌∙◌, List, ℕ}
+use Rattle.dp_expr.specs.Texts.{value_seen}
+use Rattle.dp_expr.specs.Values.{answer}
+use Rattle.dp_expr.specs.Expression.{expression_value}
+use Rattle.dp_expr.proofs.Readings.{expression_value-reading, expression_value-none}
+use Rattle.dp_expr.proofs.expression.evaluate.Goals as goal
+
+pub returns-in-Some-clause-exact : goal.returns-in-Some-clause-exact
+unfolding expression_value
+returns-in-Some-clause-exact c =
+    let same = ap (λ v. answer (value_seen v)) (sym c.in-Some.is) ∙ ap answer c.in_ok-value.ensures in
+    subst (λ (x : List ℕ). IfOk c.bytes_of.result (λ bytes. bytes.items ≡ x)) same c.bytes_of.ensures
+
+pub returns-in-Some-clause-value : goal.returns-in-Some-clause-value
+returns-in-Some-clause-value c = λ tree reading.
+    subst (λ (x : List ℕ). IfOk c.bytes_of.result (λ bytes. bytes.items ≡ x))
+    (expression_value-reading c.args.text.now tree reading) (returns-in-Some-clause-exact c)
+
+pub returns-in-Some-clause-fault : goal.returns-in-Some-clause-fault
+returns-in-Some-clause-fault c = λ none.
+    subst (λ (x : List ℕ). IfOk c.bytes_of.result (λ bytes. bytes.items ≡ x))
+    (expression_value-none c.args.text.now none) (returns-in-Some-clause-exact c)
+
+pub returns-in-None-clause-exact : goal.returns-in-None-clause-exact
+unfolding expression_value
+returns-in-None-clause-exact c =
+    c.new.ensures.items ∙ ap (λ v. answer (value_seen v)) (sym c.in-None.is) ∙ ap answer c.in_ok-value.ensures
+
+pub returns-in-None-clause-value : goal.returns-in-None-clause-value
+returns-in-None-clause-value c = λ tree reading.
+    returns-in-None-clause-exact c ∙ expression_value-reading c.args.text.now tree reading

@@ -1,0 +1,13 @@
+use Rattle.std.proofs.Common.{◌≡◌, [], length}
+use Rattle.dp_expr.specs.Tokens.{tokens_of}
+use Rattle.dp_expr.specs.Walk.{Wanting, walk, values}
+use Rattle.dp_expr.specs.Frames.{frames_seen}
+use Rattle.dp_expr.specs.Places.{place_seen}
+use Rattle.dp_expr.proofs.walk.value.Given as goal
+
+abbrev pub invariant-loop-token : goal.invariant-loop-token
+invariant-loop-token l =
+    walk values (place_seen l.place (frames_seen l.stack.frames.items)) (tokens_of l.rest) ≡ walk values (Wanting []) (tokens_of l.text)
+
+abbrev pub decreases-loop-token : goal.decreases-loop-token
+decreases-loop-token l = length l.rest

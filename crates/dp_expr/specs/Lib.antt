@@ -1,0 +1,12 @@
+pub mod Ascii
+pub mod Tokens
+pub mod Trees
+pub mod Numbers
+pub mod Values
+pub mod Expression
+pub mod Walk
+pub mod Seen
+pub mod Texts
+pub mod Frames
+pub mod Places
+pub mod Stacks

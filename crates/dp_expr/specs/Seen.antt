@@ -1,0 +1,29 @@
+-- How definitions see the tokens of the code.
+use Rattle.std.specs.Prelude.{◌≡◌, ℕ, ◌<◌, false, List, [], ◌∷◌, length, ⊤}
+use Rattle.dp_expr.specs.declared.token.Token.{Token as BorrowedToken}
+use Rattle.dp_expr.specs.declared.token.Token.TheVariants as borrowed
+use Rattle.dp_expr.specs.declared.token.Cut.{Cut as BorrowedCut}
+use Rattle.dp_expr.specs.Tokens.{Token, Operand, Sign, Bang, Opening, Closing, Stray, Cut, is_blank, tokens_of}
+
+-- a token, with the bytes that it borrows
+abbrev pub token_seen : BorrowedToken → Token
+token_seen (borrowed.Operand bytes) = Operand bytes.now
+token_seen (borrowed.Sign operator) = Sign operator
+token_seen borrowed.Bang = Bang
+token_seen borrowed.Opening = Opening
+token_seen borrowed.Closing = Closing
+token_seen borrowed.Stray = Stray
+
+-- a cut, with its token
+abbrev pub cut_seen : BorrowedCut → Cut
+cut_seen cut = record { token = token_seen cut.token; more = cut.more }
+
+-- the text is empty, or begins with no blank
+abbrev pub IsStart : List ℕ → Type 0
+IsStart [] = ⊤
+IsStart (b ∷ bytes) = is_blank b ≡ false
+
+-- the token is the first of the text, and the rest, a shorter text, has the others
+pub record IsNext (text : List ℕ) (token : Token) (rest : List ℕ) : Type 0 where
+  pub tokens : tokens_of text ≡ token ∷ tokens_of rest
+  pub shorter : length rest < length text

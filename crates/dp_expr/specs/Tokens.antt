@@ -1,0 +1,107 @@
+-- The tokens of a text.
+use Rattle.std.specs.Prelude.{ℕ, zero, suc, Bool, true, false, ◌&&◌, not, List, [], ◌∷◌, take, Option, Some, None, if◌then◌else◌, ◌==◌, nat_lt, codes}
+use Rattle.std.specs.List.{list_any}
+use Rattle.dp_expr.specs.Ascii.{exclamation, quote, percent, ampersand, opening_parenthesis, closing_parenthesis, asterisk, plus_sign, minus_sign, slash, less_sign, equals_sign, more_sign, bar}
+use Rattle.dp_expr.specs.declared.operator.Operator.{Operator}
+use Rattle.dp_expr.specs.declared.operator.Operator.TheVariants.{Or, And, Equal, NotEqual, LessThan, AtMost, MoreThan, AtLeast, Plus, Minus, Times, Over, Remainder}
+
+-- a token; `!` alone is a bang, and what may stand in no expression is a stray
+pub data Token : Type 0 where
+  Operand : (bytes : List ℕ) → Token
+  Sign : (operator : Operator) → Token
+  Bang : Token
+  Opening : Token
+  Closing : Token
+  Stray : Token
+
+-- a byte that parts tokens
+abbrev pub is_blank : ℕ → Bool
+is_blank b = nat_lt b 33
+
+-- the bytes that end a word, beside the blanks
+abbrev pub marks : List ℕ
+marks = codes "\"|&=<>+-*/%!():?~"
+
+-- a byte of a word
+unfoldable pub is_word_byte : ℕ → Bool
+is_word_byte b = not (is_blank b) && not (list_any (λ m. m == b) marks)
+
+-- how many bytes of a word the text begins with
+unfoldable pub word_size : List ℕ → ℕ
+word_size [] = 0
+word_size (b ∷ bytes) = if is_word_byte b then suc (word_size bytes) else 0
+
+-- one more, where there is a number
+abbrev pub one_more : Option ℕ → Option ℕ
+one_more None = None
+one_more (Some n) = Some (suc n)
+
+-- how many bytes the text has up to its first quote and with it, if it has one
+unfoldable pub quoted_size : List ℕ → Option ℕ
+quoted_size [] = None
+quoted_size (b ∷ bytes) = if b == quote then Some 1 else one_more (quoted_size bytes)
+
+-- the text begins with that byte
+abbrev pub begins_with : ℕ → List ℕ → Bool
+begins_with c [] = false
+begins_with c (b ∷ bytes) = b == c
+
+-- a token, and how many bytes it takes of those behind its first
+pub record Cut : Type 0 where
+  pub token : Token
+  pub more : ℕ
+
+-- a quoted operand, with both its quotes; a quote without its end is a stray
+abbrev pub quoted_cut : List ℕ → Option ℕ → Cut
+quoted_cut bytes None = record { token = Stray; more = 0 }
+quoted_cut bytes (Some n) = record { token = Operand (quote ∷ take n bytes); more = n }
+
+-- the long spelling, of one byte more, where it stands there, else the short one
+abbrev pub longest : Bool → Token → Token → Cut
+longest true long short = record { token = long; more = 1 }
+longest false long short = record { token = short; more = 0 }
+
+-- a token of one byte
+abbrev pub single : Token → Cut
+single token = record { token = token; more = 0 }
+
+-- a mark other than a quote, before these bytes
+unfoldable pub mark_cut : ℕ → List ℕ → Cut
+mark_cut b bytes =
+    if b == bar then longest (begins_with bar bytes) (Sign Or) (Sign Or)
+    else if b == ampersand then longest (begins_with ampersand bytes) (Sign And) (Sign And)
+    else if b == equals_sign then longest (begins_with equals_sign bytes) (Sign Equal) (Sign Equal)
+    else if b == exclamation then longest (begins_with equals_sign bytes) (Sign NotEqual) Bang
+    else if b == less_sign then longest (begins_with equals_sign bytes) (Sign AtMost) (Sign LessThan)
+    else if b == more_sign then longest (begins_with equals_sign bytes) (Sign AtLeast) (Sign MoreThan)
+    else if b == plus_sign then single (Sign Plus)
+    else if b == minus_sign then single (Sign Minus)
+    else if b == asterisk then single (Sign Times)
+    else if b == slash then single (Sign Over)
+    else if b == percent then single (Sign Remainder)
+    else if b == opening_parenthesis then single Opening
+    else if b == closing_parenthesis then single Closing
+    else single Stray
+
+-- the token that begins with a byte that is no blank, before these bytes
+unfoldable pub cut_at : ℕ → List ℕ → Cut
+cut_at b bytes =
+    if b == quote then quoted_cut bytes (quoted_size bytes)
+    else if is_word_byte b
+    then record { token = Operand (b ∷ take (word_size bytes) bytes); more = word_size bytes }
+    else mark_cut b bytes
+
+-- the tokens where a byte stands before the rest: a blank gives none
+abbrev pub begin_token : Bool → Cut → (ℕ → List Token) → List Token
+begin_token true cut rest = rest 0
+begin_token false cut rest = cut.token ∷ rest cut.more
+
+-- the tokens behind the first n bytes, which a token before them takes
+unfoldable pub tokens_after : List ℕ → ℕ → List Token
+tokens_after [] n = []
+tokens_after (b ∷ bytes) zero = begin_token (is_blank b) (cut_at b bytes) (tokens_after bytes)
+tokens_after (b ∷ bytes) (suc n) = tokens_after bytes n
+
+-- the tokens of a text, from the left
+unfoldable pub tokens_of : List ℕ → List Token
+tokens_of text = tokens_after text 0

@@ -1,0 +1,60 @@
+//! The value of an expression, and that there is at most one.
+
+ghost use Rattle.std.specs.Prelude.{◌≡◌, ◌↔◌, ℕ, List, [], IfOk};
+ghost use Rattle.dp_expr.specs.Tokens.{tokens_of};
+ghost use Rattle.dp_expr.specs.Texts.{text_seen, value_seen};
+ghost use Rattle.dp_expr.specs.Trees.{Tree, IsTree};
+ghost use Rattle.dp_expr.specs.Values.{value_of, answer};
+ghost use Rattle.dp_expr.specs.Expression.{IsValue, expression_value};
+
+use crate::text::Text;
+use crate::{NoMemory, walk};
+use itoa::Buffer;
+use std::alloc::Global;
+
+/// The value of the expression that a text holds, or the empty text for a fault.
+///
+/// Takes a text of any bytes. A fault is a text that the grammar does not allow, more than 32
+/// parentheses and unary operators inside one another, an operand of arithmetic that is no number,
+/// a result outside 64 bits with a sign, and a divisor that is zero. One fault anywhere, also on
+/// the side of `|` or `&` that is not chosen, is a fault of the whole.
+///
+/// Grammar and operators follow the Asterisk documentation's page on expressions. That a fault
+/// gives the empty text, the limits, the order of texts by bytes, the rank of the unary operators
+/// and quotes that stay are choices of this program.
+///
+/// The error comes only where a growth was refused.
+pub fn evaluate(alloc: Global, text: &[u8]) -> Result<Vec<u8>, NoMemory>
+    // The value of the text's one tree.
+    ensures value { (tree : Tree) → IsTree text.now tree
+        → IfOk result (λ bytes. bytes.items ≡ answer (value_of tree)) }
+    // A text with no tree.
+    ensures fault { ((tree : Tree) → ¬ (IsTree text.now tree)) → IfOk result (λ bytes. bytes.items ≡ []) }
+    // The same by a function.
+    ensures exact { IfOk result (λ bytes. bytes.items ≡ expression_value text.now) }
+{
+    match walk::value(alloc, text)? {
+        Some(value) => bytes_of(alloc, &value),
+        None => Ok(Vec::new(alloc)),
+    }
+}
+
+fn bytes_of(alloc: Global, text: &Text<'_>) -> Result<Vec<u8>, NoMemory>
+    ensures { IfOk result (λ bytes. bytes.items ≡ text_seen text.now) }
+{
+    match text {
+        Text::Written(operand) => Vec::from_slice(alloc, operand.text),
+        Text::Computed(number) => Vec::from_slice(alloc, Buffer::new().format(*number).as_bytes()),
+    }
+}
+
+/// Every text reads as at most one tree.
+pub fn one_tree()
+    ensures { (text : List ℕ) (first second : Tree) → IsTree text first → IsTree text second
+        → first ≡ second }
+{}
+
+/// Every text has exactly one value: that of its tree, and the empty text where it has none.
+pub fn one_value()
+    ensures { (text bytes : List ℕ) → IsValue text bytes ↔ (bytes ≡ expression_value text) }
+{}

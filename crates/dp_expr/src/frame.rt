@@ -1,0 +1,56 @@
+//! What waits for an operand during a walk.
+
+ghost use Rattle.std.specs.Prelude.{◌≡◌, ◌+◌, ◌≤◌, ℕ};
+ghost use Rattle.dp_expr.specs.Texts.{value_seen};
+ghost use Rattle.dp_expr.specs.Walk.{is_due, depth_with, value_under, values};
+ghost use Rattle.dp_expr.specs.Frames.{frame_seen};
+
+use crate::operation;
+use crate::operator::{Operator, Prefix};
+use crate::text::Text;
+
+/// What waits for an operand.
+#[derive(Clone, Copy, Debug)]
+pub enum Frame<'a> {
+    /// A binary operator with the value on its left.
+    Left(Operator, Option<Text<'a>>),
+    /// A unary operator.
+    Front(Prefix),
+    /// A parenthesis.
+    Paren,
+}
+
+impl<'a> Frame<'a> {
+    /// The frame takes its operand before an operator of that level does.
+    pub fn is_due(&self, level: u8) -> bool
+        ensures { result ≡ is_due level (frame_seen self.now) }
+    {
+        match self {
+            Frame::Left(operator, _) => level <= operator.level(),
+            Frame::Front(_) => true,
+            Frame::Paren => false,
+        }
+    }
+
+    /// By how much the frame deepens what stands inside it.
+    pub fn depth(&self) -> usize
+        ensures { (n : ℕ) → depth_with (frame_seen self.now) n ≡ n + result }
+    {
+        match self {
+            Frame::Left(_, _) => 0,
+            Frame::Front(_) | Frame::Paren => 1,
+        }
+    }
+
+    /// What the frame makes of its operand.
+    pub fn apply(self, operand: Option<Text<'a>>) -> Option<Text<'a>>
+        ensures { value_seen result
+            ≡ value_under values (frame_seen self.entry) (value_seen operand.entry) }
+    {
+        match self {
+            Frame::Left(operator, left) => operation::between(operator, left, operand),
+            Frame::Front(prefix) => operation::before(prefix, operand),
+            Frame::Paren => operand,
+        }
+    }
+}

@@ -1,0 +1,31 @@
+#![tactic(auto)]
+//! Expressions as dialplans write them in `$[..]`, after the Asterisk documentation's page on expressions.
+//!
+//! ```text
+//! expr  = and  { "|" and }
+//! and   = cmp  { "&" cmp }
+//! cmp   = sum  { ("=" | "!=" | "<" | "<=" | ">" | ">=") sum }
+//! sum   = prod { ("+" | "-") prod }
+//! prod  = unary { ("*" | "/" | "%") unary }
+//! unary = ("-" | "!") unary | prim
+//! prim  = word | quoted | "(" expr ")"
+//! ```
+//!
+//! Operators group to the left. At most 32 parentheses and unary operators may stand inside one another.
+
+mod expression;
+mod frame;
+mod number;
+mod operand;
+mod operation;
+mod operator;
+mod place;
+mod stack;
+#[cfg(test)]
+mod tests;
+mod text;
+mod token;
+mod walk;
+
+pub use expression::{evaluate, one_tree, one_value};
+pub use std::alloc::AllocError as NoMemory;

@@ -1,0 +1,125 @@
+//! What operators make of values. A value is a text, or none for a fault.
+
+ghost use Rattle.std.specs.Prelude.{◌≡◌};
+ghost use Rattle.dp_expr.specs.Numbers.{decimal_text};
+ghost use Rattle.dp_expr.specs.Values.{either, both, value_between, text_between, arithmetic, result_of, quotient, remainder, negation, value_before};
+ghost use Rattle.dp_expr.specs.Texts.{text_seen, value_seen};
+
+use crate::operator::{Operator, Prefix};
+use crate::text::Text;
+
+/// The value of a binary operator between two values. A fault on either side is one of the whole.
+pub fn between<'a>(
+    operator: Operator,
+    left: Option<Text<'a>>,
+    right: Option<Text<'a>>,
+) -> Option<Text<'a>>
+    ensures { value_seen result ≡ value_between operator (value_seen left.entry) (value_seen right.entry) }
+{
+    let left = left?;
+    let right = right?;
+    text_between(operator, left, right)
+}
+
+fn text_between<'a>(operator: Operator, left: Text<'a>, right: Text<'a>) -> Option<Text<'a>>
+    ensures { value_seen result ≡ text_between operator (text_seen left.entry) (text_seen right.entry) }
+{
+    match operator {
+        Operator::Or => Some(either(left, right)),
+        Operator::And => Some(both(left, right)),
+        Operator::Equal => Some(Text::truth(left.order(&right).is_eq())),
+        Operator::NotEqual => Some(Text::truth(left.order(&right).is_ne())),
+        Operator::LessThan => Some(Text::truth(left.order(&right).is_lt())),
+        Operator::AtMost => Some(Text::truth(left.order(&right).is_le())),
+        Operator::MoreThan => Some(Text::truth(left.order(&right).is_gt())),
+        Operator::AtLeast => Some(Text::truth(left.order(&right).is_ge())),
+        Operator::Plus | Operator::Minus | Operator::Times | Operator::Over | Operator::Remainder =>
+            arithmetic(operator, &left, &right),
+    }
+}
+
+/// The left side unless it is false, else the right one.
+fn either<'a>(left: Text<'a>, right: Text<'a>) -> Text<'a>
+    ensures { text_seen result ≡ either (text_seen left.entry) (text_seen right.entry) }
+{
+    if left.is_false() { right } else { left }
+}
+
+/// The left side if neither is false, else `0`.
+fn both<'a>(left: Text<'a>, right: Text<'a>) -> Text<'a>
+    ensures { text_seen result ≡ both (text_seen left.entry) (text_seen right.entry) }
+{
+    if left.is_false() || right.is_false() {
+        Text::truth(false)
+    } else {
+        left
+    }
+}
+
+fn arithmetic<'a>(operator: Operator, left: &Text<'_>, right: &Text<'_>) -> Option<Text<'a>>
+    ensures { value_seen result ≡ arithmetic operator (text_seen left.now) (text_seen right.now) }
+{
+    let left = left.number()?;
+    let right = right.number()?;
+    decimal_text(result_of(operator, left, right))
+}
+
+/// The text of a number in range.
+fn decimal_text<'a>(number: Option<i64>) -> Option<Text<'a>>
+    ensures { value_seen result ≡ decimal_text number }
+{
+    Some(Text::Computed(number?))
+}
+
+fn result_of(operator: Operator, left: i64, right: i64) -> Option<i64>
+    ensures { result ≡ result_of operator left right }
+{
+    match operator {
+        Operator::Plus => left.checked_add(right),
+        Operator::Minus => left.checked_sub(right),
+        Operator::Times => left.checked_mul(right),
+        Operator::Over => quotient(left, right),
+        Operator::Remainder => remainder(left, right),
+        Operator::Or
+        | Operator::And
+        | Operator::Equal
+        | Operator::NotEqual
+        | Operator::LessThan
+        | Operator::AtMost
+        | Operator::MoreThan
+        | Operator::AtLeast => None,
+    }
+}
+
+fn quotient(left: i64, right: i64) -> Option<i64>
+    ensures { result ≡ quotient left right }
+{
+    left.checked_div(right)
+}
+
+fn remainder(left: i64, right: i64) -> Option<i64>
+    ensures { result ≡ remainder left right }
+{
+    if right == 0 {
+        None
+    } else {
+        Some(left.wrapping_rem(right))
+    }
+}
+
+/// The value of a unary operator before a value. A fault stays one.
+pub fn before<'a>(prefix: Prefix, operand: Option<Text<'a>>) -> Option<Text<'a>>
+    ensures { value_seen result ≡ value_before prefix (value_seen operand.entry) }
+{
+    let operand = operand?;
+    match prefix {
+        Prefix::Negate => negation(operand.number()),
+        Prefix::Not => Some(Text::truth(operand.is_false())),
+    }
+}
+
+fn negation<'a>(number: Option<i64>) -> Option<Text<'a>>
+    ensures { value_seen result ≡ negation number }
+{
+    decimal_text(number?.checked_neg())
+}

@@ -1,0 +1,92 @@
+//! The frames that are open during a walk.
+
+ghost use Rattle.std.specs.Prelude.{◌≡◌, ◌≤◌};
+ghost use Rattle.dp_expr.specs.Trees.{most_depth};
+ghost use Rattle.dp_expr.specs.Walk.{nesting};
+ghost use Rattle.dp_expr.specs.Frames.{frames_seen};
+
+use crate::frame::Frame;
+use crate::text::Text;
+use std::alloc::{AllocError, Global};
+
+/// How many parentheses and unary operators may stand inside one another.
+pub const MOST_DEPTH: usize = 32;
+
+/// The open frames, the innermost last.
+#[derive(Drop)]
+pub struct Stack<'a> {
+    pub frames: Vec<Frame<'a>>,
+    pub depth: usize,
+    ghost counted: { depth ≡ nesting (frames_seen frames.items) },
+    ghost shallow: { depth ≤ most_depth },
+}
+
+impl<'a> Stack<'a> {
+    ghost use Rattle.std.specs.Prelude.{◌≡◌, ◌≤◌, ◌∷◌, [], IfNone, IfSome, OnOk, is_some};
+    ghost use Rattle.dp_expr.specs.Trees.{most_depth};
+    ghost use Rattle.dp_expr.specs.Texts.{value_seen};
+    ghost use Rattle.dp_expr.specs.Walk.{depth_with, reduction, values};
+    ghost use Rattle.dp_expr.specs.Frames.{frame_seen, is_top_due};
+    ghost use Rattle.dp_expr.specs.Stacks.{stack_seen};
+
+    pub fn new(alloc: Global) -> Self
+        ensures { stack_seen result ≡ [] }
+    {
+        Stack {
+            frames: Vec::new(alloc),
+            depth: 0,
+        }
+    }
+
+    /// Opens a frame. After a refused growth the frames are as before.
+    pub fn push(&mut self, frame: Frame<'a>) -> Result<(), AllocError>
+        requires { depth_with (frame_seen frame) self.old.depth ≤ most_depth }
+        ensures { OnOk result (stack_seen self.new ≡ frame_seen frame.entry ∷ stack_seen self.old) }
+    {
+        let depth = self.depth + frame.depth();
+        self.frames.push(frame)?;
+        self.depth = depth;
+        Ok(())
+    }
+
+    /// Takes the innermost frame.
+    pub fn pop(&mut self) -> Option<Frame<'a>>
+        ensures none { IfNone result (stack_seen self.old ≡ []) }
+        ensures some { IfSome result (λ frame. stack_seen self.old ≡ frame_seen frame ∷ stack_seen self.new) }
+    {
+        let frame = self.frames.pop()?;
+        self.depth -= frame.depth();
+        Some(frame)
+    }
+
+    /// The innermost frame takes its operand before an operator of that level does.
+    pub fn is_due(&self, level: u8) -> bool
+        ensures { result ≡ is_top_due level (stack_seen self.now) }
+    {
+        match self.frames.last() {
+            Some(frame) => frame.is_due(level),
+            None => false,
+        }
+    }
+
+    /// Takes the innermost frame if it is due before that level.
+    fn pop_due(&mut self, level: u8) -> Option<Frame<'a>>
+        ensures due { is_some result ≡ is_top_due level (stack_seen self.old) }
+        ensures none { IfNone result (stack_seen self.new ≡ stack_seen self.old) }
+        ensures some { IfSome result (λ frame. stack_seen self.old ≡ frame_seen frame ∷ stack_seen self.new) }
+    {
+        if self.is_due(level) { self.pop() } else { None }
+    }
+
+    /// What is held when all frames that are due before that level have taken their operand.
+    pub fn reduce(&mut self, level: u8, operand: Option<Text<'a>>) -> Option<Text<'a>>
+        ensures { reduction values level (stack_seen self.old) (value_seen operand.entry)
+            ≡ record { frames = stack_seen self.new; value = value_seen result } }
+    {
+        let mut value = operand;
+        while let Some(frame) = self.pop_due(level) {
+            value = frame.apply(value);
+        }
+        value
+    }
+}

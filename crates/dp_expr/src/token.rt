@@ -1,0 +1,191 @@
+//! The tokens of a text, one at a time.
+
+ghost use Rattle.std.specs.Prelude.{◌≡◌, ◌+◌, ◌<◌, ◌≤◌, ◌∷◌, [], length, take, MatchOption, ⊤};
+ghost use Rattle.dp_expr.specs.Tokens.{Operand, Sign, is_blank, is_word_byte, word_size, quoted_size, begins_with, longest, mark_cut, cut_at, tokens_of};
+ghost use Rattle.dp_expr.specs.Seen.{token_seen, cut_seen, IsStart, IsNext};
+
+use crate::operator::Operator;
+
+/// A token, which borrows the text.
+#[derive(Clone, Copy, Debug)]
+pub enum Token<'a> {
+    /// A word, or a quoted operand with both its quotes.
+    Operand(&'a [u8]),
+    Sign(Operator),
+    /// A `!` that no `=` follows.
+    Bang,
+    Opening,
+    Closing,
+    /// What stands in no expression: `:`, `?` and `~` outside quotes, and a quote without its end.
+    Stray,
+}
+
+/// A token, and how many bytes it takes of those behind its first.
+#[derive(Clone, Copy, Debug)]
+struct Cut<'a> {
+    token: Token<'a>,
+    more: usize,
+}
+
+const MARKS: &[u8] = b"\"|&=<>+-*/%!():?~";
+
+fn is_blank(byte: u8) -> bool
+    ensures { result ≡ is_blank byte }
+{
+    byte <= b' '
+}
+
+#[tactic(auto, unfolding(crate::specs::Tokens::is_word_byte))]
+fn is_word_byte(byte: u8) -> bool
+    ensures { result ≡ is_word_byte byte }
+{
+    !is_blank(byte) && !MARKS.contains(&byte)
+}
+
+/// How many bytes of a word the text begins with.
+fn word_size(text: &[u8]) -> usize
+    ensures size { result ≡ word_size text.now }
+    ensures within { result ≤ length text.now }
+{
+    for (index, byte) in text.iter().enumerate() {
+        if !is_word_byte(*byte) {
+            return index;
+        }
+    }
+    text.len()
+}
+
+/// How many bytes the text has up to its first quote and with it, if it has one.
+fn quoted_size(text: &[u8]) -> Option<usize>
+    ensures size { result ≡ quoted_size text.now }
+    ensures within { MatchOption result ⊤ (λ size. size ≤ length text.now) }
+{
+    for (index, byte) in text.iter().enumerate() {
+        if *byte == b'"' {
+            return Some(index + 1);
+        }
+    }
+    None
+}
+
+fn begins_with(text: &[u8], byte: u8) -> bool
+    ensures { result ≡ begins_with byte text.now }
+{
+    match text.first() {
+        Some(first) => *first == byte,
+        None => false,
+    }
+}
+
+/// The long token if the second byte follows, else the short one.
+fn longest<'a>(rest: &[u8], second: u8, long: Token<'a>, short: Token<'a>) -> Cut<'a>
+    ensures cut { cut_seen result
+        ≡ longest (begins_with second rest.now) (token_seen long.entry) (token_seen short.entry) }
+    ensures within { result.more ≤ length rest.now }
+{
+    if begins_with(rest, second) {
+        Cut {
+            token: long,
+            more: 1,
+        }
+    } else {
+        only(short)
+    }
+}
+
+fn longest_sign(rest: &[u8], second: u8, long: Operator, short: Operator) -> Cut<'static>
+    ensures cut { cut_seen result ≡ longest (begins_with second rest.now) (Sign long) (Sign short) }
+    ensures within { result.more ≤ length rest.now }
+{
+    longest(rest, second, Token::Sign(long), Token::Sign(short))
+}
+
+/// A token of one byte.
+fn only(token: Token<'_>) -> Cut<'_>
+    ensures { result ≡ record { token = token.entry; more = 0 } }
+{
+    Cut { token, more: 0 }
+}
+
+/// A mark other than a quote, before the rest.
+#[tactic(auto, unfolding(crate::specs::Tokens::mark_cut))]
+fn mark_cut(first: u8, rest: &[u8]) -> Cut<'_>
+    ensures cut { cut_seen result ≡ mark_cut first rest.now }
+    ensures within { result.more ≤ length rest.now }
+{
+    match first {
+        b'|' => longest_sign(rest, b'|', Operator::Or, Operator::Or),
+        b'&' => longest_sign(rest, b'&', Operator::And, Operator::And),
+        b'=' => longest_sign(rest, b'=', Operator::Equal, Operator::Equal),
+        b'!' => longest(rest, b'=', Token::Sign(Operator::NotEqual), Token::Bang),
+        b'<' => longest_sign(rest, b'=', Operator::AtMost, Operator::LessThan),
+        b'>' => longest_sign(rest, b'=', Operator::AtLeast, Operator::MoreThan),
+        b'+' => only(Token::Sign(Operator::Plus)),
+        b'-' => only(Token::Sign(Operator::Minus)),
+        b'*' => only(Token::Sign(Operator::Times)),
+        b'/' => only(Token::Sign(Operator::Over)),
+        b'%' => only(Token::Sign(Operator::Remainder)),
+        b'(' => only(Token::Opening),
+        b')' => only(Token::Closing),
+        _ => only(Token::Stray),
+    }
+}
+
+/// The token that begins with a byte that is no blank; the text is that byte and the rest.
+#[tactic(auto, unfolding(crate::specs::Tokens::cut_at))]
+fn cut_at<'a>(first: u8, rest: &'a [u8], text: &'a [u8]) -> Cut<'a>
+    requires { text.now ≡ first ∷ rest.now }
+    ensures cut { cut_seen result ≡ cut_at first rest.now }
+    ensures within { result.more ≤ length rest.now }
+{
+    if first == b'"' {
+        match quoted_size(rest) {
+            Some(more) => operand(text, more),
+            None => only(Token::Stray),
+        }
+    } else if is_word_byte(first) {
+        operand(text, word_size(rest))
+    } else {
+        mark_cut(first, rest)
+    }
+}
+
+/// An operand of one byte and some more.
+fn operand(text: &[u8], more: usize) -> Cut<'_>
+    requires { more < length text.now }
+    ensures { cut_seen result ≡ record { token = Operand (take (more + 1) text.now); more = more } }
+{
+    let (token, _) = text.split_at(more + 1);
+    Cut {
+        token: Token::Operand(token),
+        more,
+    }
+}
+
+/// The text from its first byte that is no blank.
+fn skip_blanks(text: &[u8]) -> &[u8]
+    ensures same { tokens_of result.now ≡ tokens_of text.now }
+    ensures start { IsStart result.now }
+    ensures within { length result.now ≤ length text.now }
+{
+    let mut rest = text;
+    while let Some((first, others)) = rest.split_first() {
+        if !is_blank(*first) {
+            return rest;
+        }
+        rest = others;
+    }
+    rest
+}
+
+/// The first token of a text, and the text behind it; none where only blanks are left.
+pub fn next_token(text: &[u8]) -> Option<(Token<'_>, &[u8])>
+    ensures { MatchOption result (tokens_of text.now ≡ [])
+        (λ next. IsNext text.now (token_seen next.0) next.1.now) }
+{
+    let text = skip_blanks(text);
+    let (first, rest) = text.split_first()?;
+    let cut = cut_at(*first, rest, text);
+    let (_, after) = rest.split_at(cut.more);
+    Some((cut.token, after))
+}

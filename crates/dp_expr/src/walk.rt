@@ -1,0 +1,164 @@
+//! A walk over the tokens of a text, which makes its value on the way.
+
+ghost use Rattle.std.specs.Prelude.{◌≡◌, ◌≤◌, ◌∷◌, [], IfOk, None, unwrap_or};
+ghost use Rattle.dp_expr.specs.Tokens.{tokens_of};
+ghost use Rattle.dp_expr.specs.Texts.{value_seen};
+ghost use Rattle.dp_expr.specs.Seen.{token_seen};
+ghost use Rattle.dp_expr.specs.Trees.{level_of};
+ghost use Rattle.dp_expr.specs.Walk.{Wanting, entry, closing_step, prefix_entry, first_step, next_step, operator_step, reduction, step, whole_of, ending, walk, values};
+ghost use Rattle.dp_expr.specs.Frames.{frame_seen};
+ghost use Rattle.dp_expr.specs.Stacks.{stack_seen, state_seen};
+
+use crate::frame::Frame;
+use crate::operand::Operand;
+use crate::operator::{Operator, Prefix};
+use crate::place::Place;
+use crate::stack::{MOST_DEPTH, Stack};
+use crate::text::Text;
+use crate::token::{Token, next_token};
+use std::alloc::{AllocError, Global};
+
+/// The value of the expression that a text holds; none for a fault.
+pub fn value(alloc: Global, text: &[u8]) -> Result<Option<Text<'_>>, AllocError>
+    ensures { IfOk result (λ value. value_seen value
+        ≡ unwrap_or (walk values (Wanting []) (tokens_of text.now)) None) }
+{
+    let mut stack = Stack::new(alloc);
+    let mut place = Place::Wanting;
+    let mut rest = text;
+    while let Some((token, after)) = next_token(rest) {
+        place = step(&mut stack, place, token)?;
+        rest = after;
+    }
+    Ok(finish(&mut stack, place))
+}
+
+#[tactic(auto, unfolding(crate::specs::Walk::step))]
+fn step<'a>(
+    stack: &mut Stack<'a>,
+    place: Place<'a>,
+    token: Token<'a>,
+) -> Result<Place<'a>, AllocError>
+    ensures { IfOk result (λ next. state_seen next stack.new
+        ≡ step values (state_seen place.entry stack.old) (token_seen token.entry)) }
+{
+    match place {
+        Place::Wanting => begin(stack, token),
+        Place::Holding(value) => go_on(stack, value, token),
+        Place::Failed => Ok(Place::Failed),
+    }
+}
+
+/// A token where an operand is wanted.
+fn begin<'a>(stack: &mut Stack<'a>, token: Token<'a>) -> Result<Place<'a>, AllocError>
+    ensures { IfOk result (λ next. state_seen next stack.new
+        ≡ first_step values (stack_seen stack.old) (token_seen token.entry)) }
+{
+    match token {
+        Token::Operand(text) => Ok(Place::Holding(Some(Text::Written(Operand::new(text))))),
+        Token::Sign(operator) => front(stack, operator),
+        Token::Bang => enter(stack, Frame::Front(Prefix::Not)),
+        Token::Opening => enter(stack, Frame::Paren),
+        Token::Closing | Token::Stray => Ok(Place::Failed),
+    }
+}
+
+/// An operator where an operand is wanted: only a minus may stand there.
+fn front<'a>(stack: &mut Stack<'a>, operator: Operator) -> Result<Place<'a>, AllocError>
+    ensures { IfOk result (λ next. state_seen next stack.new
+        ≡ prefix_entry operator (stack_seen stack.old)) }
+{
+    match operator {
+        Operator::Minus => enter(stack, Frame::Front(Prefix::Negate)),
+        Operator::Or
+        | Operator::And
+        | Operator::Equal
+        | Operator::NotEqual
+        | Operator::LessThan
+        | Operator::AtMost
+        | Operator::MoreThan
+        | Operator::AtLeast
+        | Operator::Plus
+        | Operator::Times
+        | Operator::Over
+        | Operator::Remainder => Ok(Place::Failed),
+    }
+}
+
+/// Opens a frame, unless too many stand inside one another.
+fn enter<'a>(stack: &mut Stack<'a>, frame: Frame<'a>) -> Result<Place<'a>, AllocError>
+    ensures { IfOk result (λ next. state_seen next stack.new
+        ≡ entry (frame_seen frame.entry) (stack_seen stack.old)) }
+{
+    if stack.depth < MOST_DEPTH {
+        stack.push(frame)?;
+        Ok(Place::Wanting)
+    } else {
+        Ok(Place::Failed)
+    }
+}
+
+/// A token behind an operand.
+fn go_on<'a>(
+    stack: &mut Stack<'a>,
+    value: Option<Text<'a>>,
+    token: Token<'a>,
+) -> Result<Place<'a>, AllocError>
+    ensures { IfOk result (λ next. state_seen next stack.new
+        ≡ next_step values (stack_seen stack.old) (value_seen value.entry) (token_seen token.entry)) }
+{
+    match token {
+        Token::Sign(operator) => push_left(stack, operator, value),
+        Token::Closing => Ok(close(stack, value)),
+        Token::Operand(_) | Token::Bang | Token::Opening | Token::Stray => Ok(Place::Failed),
+    }
+}
+
+/// An operator behind an operand, which becomes its left side.
+fn push_left<'a>(
+    stack: &mut Stack<'a>,
+    operator: Operator,
+    value: Option<Text<'a>>,
+) -> Result<Place<'a>, AllocError>
+    ensures { IfOk result (λ next. state_seen next stack.new
+        ≡ operator_step operator (reduction values (level_of operator) (stack_seen stack.old) (value_seen value.entry))) }
+{
+    let left = stack.reduce(operator.level(), value);
+    stack.push(Frame::Left(operator, left))?;
+    Ok(Place::Wanting)
+}
+
+/// A closing parenthesis behind an operand.
+fn close<'a>(stack: &mut Stack<'a>, value: Option<Text<'a>>) -> Place<'a>
+    ensures { state_seen result stack.new
+        ≡ closing_step values (reduction values 0 (stack_seen stack.old) (value_seen value.entry)) }
+{
+    let inner = stack.reduce(0, value);
+    match stack.pop() {
+        Some(Frame::Paren) => Place::Holding(inner),
+        _ => Place::Failed,
+    }
+}
+
+/// What is held when the tokens end: a value if no parenthesis is open.
+#[tactic(auto, unfolding(crate::specs::Walk::ending))]
+fn finish<'a>(stack: &mut Stack<'a>, place: Place<'a>) -> Option<Text<'a>>
+    ensures { value_seen result
+        ≡ unwrap_or (ending values (state_seen place.entry stack.old)) None }
+{
+    match place {
+        Place::Holding(value) => finish_held(stack, value),
+        Place::Wanting | Place::Failed => None,
+    }
+}
+
+fn finish_held<'a>(stack: &mut Stack<'a>, value: Option<Text<'a>>) -> Option<Text<'a>>
+    ensures { value_seen result
+        ≡ unwrap_or (whole_of (reduction values 0 (stack_seen stack.old) (value_seen value.entry))) None }
+{
+    let value = stack.reduce(0, value);
+    match stack.pop() {
+        Some(_) => None,
+        None => value,
+    }
+}

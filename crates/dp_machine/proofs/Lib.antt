@@ -1,0 +1,3 @@
+mod FoundLemmas
+pub mod ReplayLemmas
+mod Rows

@@ -1,0 +1,114 @@
+-- Texts, targets, entries and events whose answers are computed on the definitions themselves.
+use Rattle.std.proofs.Common.{◌≡◌, [], ◌∷◌, true, false, Some, None, refl}
+use Rattle.std.specs.Prelude.{codes}
+use Rattle.dp_conf.specs.Levels.{parts_of}
+use Rattle.dp_plan.specs.Plan.{PlanOf}
+use Rattle.dp_machine.specs.Applications.{target_of, row_of}
+use Rattle.dp_machine.specs.Events.{event_row, step_row, started}
+use Rattle.dp_machine.specs.Found.{dashless, is_match, found_entry}
+use Rattle.dp_machine.specs.Replay.{replies_to, world_after}
+use Rattle.dp_machine.specs.World.{World, opening, channel_at}
+use Rattle.dp_machine.specs.declared.application.Move.TheVariants.{Jump, Hang}
+use Rattle.dp_machine.specs.declared.channel.Channel.{Channel}
+use Rattle.dp_machine.specs.declared.channel.Phase.TheVariants.{Ready, Ended as phase_ended}
+use Rattle.dp_machine.specs.declared.channel.Place.{Place}
+use Rattle.dp_machine.specs.declared.event.Event.TheVariants.{Start, Step}
+use Rattle.dp_machine.specs.declared.refusal.Refusal.TheVariants.{NoChannel, Ended}
+use Rattle.dp_machine.specs.declared.reply.Reply.TheVariants.{Started, Ran, Refused}
+
+-- the place of a call to `100` in `main`
+abbrev own : Place
+own = record { context = codes "main"; exten = codes "100"; priority = 1 }
+
+dashless-both_ends : dashless (codes "-2-00-") ≡ codes "200"
+dashless-both_ends = refl
+
+-- a dash counts in a name, and does not count in what was dialled
+match-dashes : is_match (codes "200") (codes "2-00") ≡ true
+match-dashes = refl
+
+match-dashes_of_a_name : is_match (codes "2-00") (codes "2-00") ≡ false
+match-dashes_of_a_name = refl
+
+target-own_parts : target_of own (codes "2" ∷ []) ≡ Some (record { context = codes "main"; exten = codes "100"; priority = 2 })
+target-own_parts = refl
+
+target-empty_part : target_of own (codes "out" ∷ [] ∷ codes "03" ∷ []) ≡ Some (record { context = codes "out"; exten = codes "100"; priority = 3 })
+target-empty_part = refl
+
+-- a place where no entry can be
+target-greatest : target_of own (codes "2147483648" ∷ []) ≡ Some (record { context = codes "main"; exten = codes "100"; priority = 2147483648 })
+target-greatest = refl
+
+target-above : target_of own (codes "2147483649" ∷ []) ≡ None
+target-above = refl
+
+target-four_parts : target_of own (codes "a" ∷ codes "b" ∷ codes "1" ∷ codes "1" ∷ []) ≡ None
+target-four_parts = refl
+
+row-goto : row_of (codes "gOTO") (codes " 200 , 1 ") own ≡ Some (Jump (record { context = codes "main"; exten = codes "200"; priority = 1 }))
+unfolding row_of parts_of
+row-goto = refl
+
+row-label : row_of (codes "Goto") (codes "200,x") own ≡ Some Hang
+unfolding row_of parts_of
+row-label = refl
+
+row-absent : row_of (codes "NoOp2") [] own ≡ None
+unfolding row_of
+row-absent = refl
+
+-- a plan of one context: `100` goes to `200`, where the call hangs up
+abbrev plan : PlanOf
+plan = record {
+  globals = [];
+  contexts = (record {
+    name = codes "main";
+    entries =
+        (record { name = codes "100"; priority = 1; application = codes "NoOp"; arguments = [] })
+        ∷ (record { name = codes "100"; priority = 2; application = codes "Goto"; arguments = codes "2-00,1" })
+        ∷ (record { name = codes "200"; priority = 1; application = codes "Hangup"; arguments = [] }) ∷ [];
+  }) ∷ [];
+}
+
+-- a call to `100` that has taken its first step
+abbrev call : Channel
+call = record { place = record { context = codes "main"; exten = codes "100"; priority = 2 }; phase = Ready; caller = codes "7" }
+
+abbrev world : World
+world = record { plan = plan; channels = call ∷ [] }
+
+channel-zero : channel_at (call ∷ []) 0 ≡ None
+channel-zero = refl
+
+channel-first : channel_at (call ∷ []) 1 ≡ Some call
+channel-first = refl
+
+channel-above : channel_at (call ∷ []) 2 ≡ None
+channel-above = refl
+
+-- the next number, at priority 1
+event-start : event_row world (Start (codes "main") (codes "2") []) ≡
+    (record { plan = plan; channels = call ∷ (record { place = record { context = codes "main"; exten = codes "2"; priority = 1 }; phase = Ready; caller = [] }) ∷ [] }, Started 2)
+unfolding started
+event-start = refl
+
+event-step : event_row world (Step 1) ≡
+    (record { plan = plan; channels = (record { place = record { context = codes "main"; exten = codes "2-00"; priority = 1 }; phase = Ready; caller = codes "7" }) ∷ [] }, Ran (record { context = 0; entry = 1 }))
+unfolding step_row found_entry row_of parts_of
+event-step = refl
+
+event-no_channel : event_row world (Step 2) ≡ (world, Refused NoChannel)
+event-no_channel = refl
+
+-- a call from its start to its end, and one step more
+replies-first_run : replies_to (opening plan) (Start (codes "main") (codes "100") [] ∷ Step 1 ∷ Step 1 ∷ Step 1 ∷ Step 1 ∷ []) ≡
+    Started 1 ∷ Ran (record { context = 0; entry = 0 }) ∷ Ran (record { context = 0; entry = 1 }) ∷ Ran (record { context = 0; entry = 2 }) ∷ Refused Ended ∷ []
+unfolding started step_row found_entry row_of parts_of
+replies-first_run = refl
+
+-- the call ends where it stands
+world-no_entry : world_after (opening plan) (Start (codes "main") (codes "9") [] ∷ Step 1 ∷ []) ≡
+    record { plan = plan; channels = (record { place = record { context = codes "main"; exten = codes "9"; priority = 1 }; phase = phase_ended; caller = [] }) ∷ [] }
+unfolding started step_row found_entry row_of parts_of
+world-no_entry = refl

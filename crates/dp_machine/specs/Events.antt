@@ -1,0 +1,81 @@
+-- What each event makes of a world, and the reply.
+use Rattle.std.specs.Prelude.{ℕ, ◌+◌, Bool, true, false, nat_lt, List, [], ◌∷◌, ◌++◌, length, Option, Some, None, if◌then◌else◌}
+use Rattle.dp_plan.specs.Plan.{PlanOf}
+use Rattle.dp_machine.specs.Applications.{row_of}
+use Rattle.dp_machine.specs.Found.{Located, found_entry}
+use Rattle.dp_machine.specs.World.{World, channel_at, with_channel}
+use Rattle.dp_machine.specs.declared.application.Move.{Move}
+use Rattle.dp_machine.specs.declared.application.Move.TheVariants.{Next, Jump, Hang}
+use Rattle.dp_machine.specs.declared.channel.Phase.{Phase}
+use Rattle.dp_machine.specs.declared.channel.Phase.TheVariants.{Ready as phase_ready, Ended as phase_ended}
+use Rattle.dp_machine.specs.declared.channel.Channel.{Channel}
+use Rattle.dp_machine.specs.declared.event.Event.{Event}
+use Rattle.dp_machine.specs.declared.event.Event.TheVariants.{Start, Step}
+use Rattle.dp_machine.specs.declared.refusal.Refusal.{Refusal}
+use Rattle.dp_machine.specs.declared.refusal.Refusal.TheVariants.{NoChannel, Ended, NumbersSpent}
+use Rattle.dp_machine.specs.declared.reply.Reply.{Reply}
+use Rattle.dp_machine.specs.declared.reply.Reply.TheVariants.{Started, Ran, NoEntry, Refused}
+
+-- what a channel's event makes of the channel, and the reply
+pub record Own : Type 0 where
+  pub channel : Channel
+  pub reply : Reply
+
+-- a refused event leaves the channel as it was
+abbrev pub refuse : Refusal → Channel → Own
+refuse refusal c = record { channel = c; reply = Refused refusal }
+
+-- a hang-up ends the channel
+abbrev pub hung_up : Channel → Channel
+hung_up c = record c { phase = phase_ended }
+
+-- the channel behind a move: the next priority, another place, or the end
+abbrev pub moved : Channel → Move → Channel
+moved c Next = record c { place = record { context = c.place.context; exten = c.place.exten; priority = c.place.priority + 1 } }
+moved c (Jump place) = record c { place = place }
+moved c Hang = hung_up c
+
+-- the channel behind its application; a name that the table lacks is a hang-up
+abbrev pub went : Channel → Option Move → Channel
+went c None = hung_up c
+went c (Some move) = moved c move
+
+-- a step, by the entry at the channel's place
+abbrev pub step_at : Channel → Option Located → Own
+step_at c None = record { channel = hung_up c; reply = NoEntry }
+step_at c (Some found) =
+    record { channel = went c (row_of found.entry.application found.entry.arguments c.place); reply = Ran found.id }
+
+-- a step, by the channel's phase
+abbrev pub step_in : Phase → PlanOf → Channel → Own
+step_in phase_ready plan c = step_at c (found_entry plan c.place)
+step_in phase_ended plan c = refuse Ended c
+
+-- the event `Step`
+unfoldable pub step_row : PlanOf → Channel → Own
+step_row plan c = step_in c.phase plan c
+
+-- the event `Start`
+unfoldable pub started : World → List ℕ → List ℕ → List ℕ → World × Reply
+started w context exten caller =
+    if nat_lt (length w.channels) 65535
+    then (record w { channels = w.channels ++ (record { place = record { context = context; exten = exten; priority = 1 }; phase = phase_ready; caller = caller }) ∷ [] }, Started (length w.channels + 1))
+    else (w, Refused NumbersSpent)
+
+-- a channel's event reads the dialplan and its own channel, and writes its own channel
+abbrev pub own_event : World → ℕ → (PlanOf → Channel → Own) → Option Channel → World × Reply
+own_event w number row None = (w, Refused NoChannel)
+own_event w number row (Some c) =
+    (record w { channels = with_channel w.channels number (row w.plan c).channel }, (row w.plan c).reply)
+
+-- the world behind an event, and the reply
+abbrev pub event_row : World → Event → World × Reply
+event_row w (Start context exten caller) = started w context exten caller
+event_row w (Step number) = own_event w number step_row (channel_at w.channels number)
+
+-- whether a reply is a refusal
+abbrev pub is_refused : Reply → Bool
+is_refused (Started number) = false
+is_refused (Ran id) = false
+is_refused NoEntry = false
+is_refused (Refused refusal) = true

@@ -1,0 +1,6 @@
+pub mod Applications
+pub mod Codes
+pub mod Events
+pub mod Found
+pub mod Replay
+pub mod World

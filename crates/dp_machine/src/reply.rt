@@ -1,0 +1,16 @@
+//! What a machine replies to an event.
+use crate::refusal::Refusal;
+use dp_plan::EntryId;
+
+/// The reply to an event.
+#[derive(Clone, Copy, Debug, PartialEq, Eq)]
+pub enum Reply {
+    /// A channel of this number was started.
+    Started(u32),
+    /// The application of this entry was run.
+    Ran(EntryId),
+    /// No entry stands where the channel stands, and the call is over.
+    NoEntry,
+    /// The event was refused, and nothing has changed.
+    Refused(Refusal),
+}

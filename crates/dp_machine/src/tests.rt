@@ -1,0 +1,6 @@
+mod applications;
+mod codes;
+mod machines;
+mod plans;
+mod render;
+mod rows;

@@ -1,0 +1,33 @@
+-- Texts and their dashes.
+use Rattle.std.proofs.Common.{◌≡◌, ℕ, Bool, true, false, List, [], ◌∷◌, length, ◌≤◌, arith, refl, sym, ap, ◌∙◌}
+use Rattle.dp_pattern.specs.Dashes.{is_dash, undashed, from_first}
+
+-- the dashes at the front make no difference
+pub undashed-from_first : (text : List ℕ) → undashed (from_first text) ≡ undashed text
+undashed-from_first [] = refl
+undashed-from_first (b ∷ text) = by_test (undashed-from_first text) (is_dash b) refl
+  where
+    by_test : undashed (from_first text) ≡ undashed text → (t : Bool) → is_dash b ≡ t → undashed (from_first (b ∷ text)) ≡ undashed (b ∷ text)
+    by_test behind true e = rw e behind
+    by_test behind false e = rw e (rw e refl)
+
+-- what does not begin with a dash
+pub from_first-begins : (text rest : List ℕ) (b : ℕ) → from_first text ≡ b ∷ rest → undashed text ≡ b ∷ undashed rest
+from_first-begins [] rest b e = cc
+from_first-begins (a ∷ text) rest b e = by_test (from_first-begins text rest b) (is_dash a) refl
+  where
+    by_test : (from_first text ≡ b ∷ rest → undashed text ≡ b ∷ undashed rest) → (t : Bool) → is_dash a ≡ t → undashed (a ∷ text) ≡ b ∷ undashed rest
+    by_test behind true t = rw t (behind (rw t at e))
+    by_test behind false t = rw t (let same : a ∷ text ≡ b ∷ rest = rw t at e in cc)
+
+pub from_first-ends : (front text : List ℕ) → front ≡ from_first text → length front ≡ 0 → undashed text ≡ []
+from_first-ends [] text e none = sym (undashed-from_first text) ∙ ap undashed (sym e)
+from_first-ends (b ∷ front) text e none = absurd (omega arith)
+
+pub length-from_first : (text : List ℕ) → length (from_first text) ≤ length text
+length-from_first [] = omega arith
+length-from_first (b ∷ text) = by_test (length-from_first text) (is_dash b) refl
+  where
+    by_test : length (from_first text) ≤ length text → (t : Bool) → is_dash b ≡ t → length (from_first (b ∷ text)) ≤ length (b ∷ text)
+    by_test behind true e = rw e (omega arith)
+    by_test behind false e = rw e (omega arith)

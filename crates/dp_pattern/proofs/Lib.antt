@@ -1,0 +1,15 @@
+pub mod ClassLemmas
+pub mod DashLemmas
+pub mod GoesOnLemmas
+pub mod ItemLemmas
+pub mod OrderLemmas
+pub mod PieceLemmas
+pub mod SpelledBytes
+pub mod SpellingLemmas
+pub mod WalkLemmas
+pub mod MemberLemmas
+pub mod NameLemmas
+pub mod MeaningLemmas
+mod MatchRows
+mod NameRows
+pub mod SetLemmas

@@ -1,0 +1,16 @@
+-- A `-` is written to be read: in names outside sets, and in dialled text, it is ignored.
+use Rattle.std.specs.Prelude.{ℕ, Bool, not, ◌==◌, List, [], ◌∷◌, if◌then◌else◌}
+use Rattle.std.specs.List.{filter}
+use Rattle.std.specs.Str.{byte}
+
+abbrev pub is_dash : ℕ → Bool
+is_dash b = b == byte "-"
+
+-- the text without its dashes
+abbrev pub undashed : List ℕ → List ℕ
+undashed text = filter (λ b. not (is_dash b)) text
+
+-- the text from its first byte other than a dash on
+abbrev pub from_first : List ℕ → List ℕ
+from_first [] = []
+from_first (b ∷ text) = if is_dash b then from_first text else b ∷ text

@@ -1,0 +1,26 @@
+-- What is kept of a name, and what a reading cuts from a text, as values of the definition.
+use Rattle.dp_pattern.specs.Name.{Meaning, Plain, Pattern, Piece, Dash, Wild, Byte, Set, Unclosed}
+use Rattle.dp_pattern.specs.declared.name.Kind as kind
+use Rattle.dp_pattern.specs.declared.name.Kind.TheVariants as kept
+use Rattle.dp_pattern.specs.declared.name.Parts as parts
+use Rattle.dp_pattern.specs.declared.name.Parts.TheVariants as shown
+use Rattle.dp_pattern.specs.declared.reading.Piece as piece
+use Rattle.dp_pattern.specs.declared.reading.Piece.TheVariants as cut
+
+-- the meaning of what is kept
+abbrev pub kept_meaning : kind.Kind → Meaning
+kept_meaning (kept.Plain text) = Plain text.items
+kept_meaning (kept.Pattern classes tail) = Pattern classes.items tail
+
+-- the meaning of a name's parts
+abbrev pub parts_meaning : parts.Parts → Meaning
+parts_meaning (shown.Plain text) = Plain text.now
+parts_meaning (shown.Pattern classes tail) = Pattern classes.now tail
+
+-- the piece that was cut
+abbrev pub cut_piece : piece.Piece → Piece
+cut_piece cut.Dash = Dash
+cut_piece (cut.Wild tail) = Wild tail
+cut_piece (cut.Byte b) = Byte b
+cut_piece (cut.Set bytes) = Set bytes.now
+cut_piece cut.Unclosed = Unclosed

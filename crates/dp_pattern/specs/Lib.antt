@@ -1,0 +1,10 @@
+pub mod Classes
+pub mod Codes
+pub mod Dashes
+pub mod GoesOn
+pub mod Kept
+pub mod Matches
+pub mod Name
+pub mod Order
+pub mod Spelling
+pub mod Walk

@@ -1,0 +1,190 @@
+-- What a text means as the name of an extension, or why it is no name.
+use Rattle.std.specs.Prelude.{◌≡◌, ℕ, zero, suc, ◌+◌, ◌<◌, Bool, true, false, ◌||◌, ◌&&◌, ◌==◌, nat_lt, nat_le, List, [], ◌∷◌, length, take, codes, if◌then◌else◌, Option, Some, None, Result, Ok, Err, EachIndex, slice_index}
+use Rattle.std.specs.List.{list_any, list_all, position}
+use Rattle.std.specs.Str.{byte}
+use Rattle.dp_pattern.specs.Classes.{class_by}
+use Rattle.dp_pattern.specs.Dashes.{is_dash, undashed, from_first}
+use Rattle.dp_pattern.specs.declared.class.Item.{Item}
+use Rattle.dp_pattern.specs.declared.class.Item.TheVariants.{One, Range}
+use Rattle.dp_pattern.specs.declared.tail.Tail.{Tail}
+use Rattle.dp_pattern.specs.declared.tail.Tail.TheVariants.{End, Dot, Bang}
+use Rattle.dp_pattern.specs.declared.fault.NameFault.{NameFault}
+use Rattle.dp_pattern.specs.declared.fault.NameFault.TheVariants.{EmptyName, EmptySet, BadRange, OpenSet, AfterWildcard, BadByte}
+use Rattle.dp_pattern.specs.declared.fault.PatternFault.{PatternFault}
+use Rattle.dp_pattern.specs.declared.fault.PatternFault.TheVariants.{Name, NoMemory}
+
+-- what a name means: a text, or the classes of a pattern and the tail behind them
+pub data Meaning : Type 0 where
+  Plain : List ℕ → Meaning
+  Pattern : List (List ℕ) → Tail → Meaning
+
+-- a piece of a pattern's text; a set is what stands between `[` and the next `]`
+pub data Piece : Type 0 where
+  Dash : Piece
+  Wild : Tail → Piece
+  Byte : ℕ → Piece
+  Set : List ℕ → Piece
+  Unclosed : Piece
+
+infixl 10 ◌>>=◌
+abbrev pub ◌>>=◌ : {A B : Type 0} → Result A NameFault → (A → Result B NameFault) → Result B NameFault
+(Ok x) >>= f = f x
+(Err e) >>= f = Err e
+
+abbrev pub is_one_of : List ℕ → ℕ → Bool
+is_one_of bytes b = list_any (λ a. b == a) bytes
+
+-- a byte that no name has: one below 33, as a blank, 127, or `\`, which is 92
+abbrev pub is_bad : ℕ → Bool
+is_bad b = nat_lt b 33 || b == 127 || b == 92
+
+-- ---- a set
+
+-- from the left, three bytes with a `-` in the middle are a range
+abbrev pub items_of : List ℕ → List Item
+items_of [] = []
+items_of (a ∷ []) = One a ∷ []
+items_of (a ∷ b ∷ []) = One a ∷ One b ∷ []
+items_of (a ∷ b ∷ c ∷ bytes) =
+    elim (is_dash b) [ true ↦ Range a c ∷ items_of bytes | false ↦ One a ∷ items_of (b ∷ c ∷ bytes) ]
+
+-- low up to high, and from and to between them in rising or equal order
+abbrev pub is_within : ℕ → ℕ → ℕ → ℕ → Bool
+is_within low high from to = nat_le low from && nat_le from to && nat_le to high
+
+-- two digits, two capitals or two small letters
+abbrev pub is_range : ℕ → ℕ → Bool
+is_range from to =
+    is_within (byte "0") (byte "9") from to || is_within (byte "A") (byte "Z") from to || is_within (byte "a") (byte "z") from to
+
+-- why a set cannot list the item
+abbrev pub item_fault : Item → Option NameFault
+item_fault (One b) = if is_dash b then Some BadRange else (if is_bad b then Some BadByte else None)
+item_fault (Range from to) = if is_range from to then None else Some BadRange
+
+abbrev pub or_else : Option NameFault → Option NameFault → Option NameFault
+or_else None next = next
+or_else (Some fault) next = Some fault
+
+abbrev pub first_fault : List Item → Option NameFault
+first_fault [] = None
+first_fault (item ∷ items) = or_else (item_fault item) (first_fault items)
+
+-- whether the item lists the byte
+abbrev pub lists : ℕ → Item → Bool
+lists b (One a) = a == b
+lists b (Range from to) = nat_le from b && nat_le b to
+
+-- the bytes that some item lists, unless an item is faulty
+abbrev pub unless_fault : Option NameFault → List ℕ → Result (List ℕ) NameFault
+unless_fault None class = Ok class
+unless_fault (Some fault) class = Err fault
+
+abbrev pub class_of_items : List Item → Result (List ℕ) NameFault
+class_of_items items = unless_fault (first_fault items) (class_by (λ b. list_any (lists b) items))
+
+abbrev pub class_of_set : List ℕ → Result (List ℕ) NameFault
+class_of_set [] = Err EmptySet
+class_of_set (b ∷ bytes) = class_of_items (items_of (b ∷ bytes))
+
+-- ---- a pattern
+
+-- the class of a byte outside sets: digits for a letter that stands for them, else the byte itself
+abbrev pub class_of : ℕ → Result (List ℕ) NameFault
+class_of b =
+    if is_one_of (codes "Xx") b then Ok (codes "0123456789") else
+    (if is_one_of (codes "Zz") b then Ok (codes "123456789") else
+    (if is_one_of (codes "Nn") b then Ok (codes "23456789") else
+    (if is_bad b then Err BadByte else Ok (b ∷ []))))
+
+-- a byte outside sets other than `[`
+abbrev pub piece_of : ℕ → Piece
+piece_of b =
+    if is_dash b then Dash else
+    (if b == byte "." then Wild Dot else
+    (if b == byte "!" then Wild Bang else Byte b))
+
+abbrev pub is_end : ℕ → Bool
+is_end b = b == byte "]"
+
+-- the set of the text behind a `[`, by the place of the next `]`
+abbrev pub set_piece : Option ℕ → List ℕ → Piece
+set_piece None text = Unclosed
+set_piece (Some n) text = Set (take n text)
+
+-- how many bytes behind the `[` belong to the set, with its `]`
+abbrev pub set_size : Option ℕ → List ℕ → ℕ
+set_size None text = length text
+set_size (Some n) text = n + 1
+
+-- the pieces of the text, the first n bytes of which belong to the piece before
+abbrev pub pieces_after : ℕ → List ℕ → List Piece
+pieces_after n [] = []
+pieces_after (suc n) (b ∷ text) = pieces_after n text
+pieces_after zero (b ∷ text) = elim (b == byte "[") [
+  | true ↦ set_piece (position is_end text) text ∷ pieces_after (set_size (position is_end text) text) text
+  | false ↦ piece_of b ∷ pieces_after zero text
+]
+
+abbrev pub pieces_of : List ℕ → List Piece
+pieces_of text = pieces_after zero text
+
+abbrev pub is_dash_piece : Piece → Bool
+is_dash_piece Dash = true
+is_dash_piece (Wild tail) = false
+is_dash_piece (Byte b) = false
+is_dash_piece (Set bytes) = false
+is_dash_piece Unclosed = false
+
+abbrev pub Parts : Type 0
+Parts = List (List ℕ) × Tail
+
+abbrev pub with_class : Result (List ℕ) NameFault → Result Parts NameFault → Result Parts NameFault
+with_class class parts = class >>= (λ c. parts >>= (λ p. Ok (c ∷ p.0, p.1)))
+
+-- the classes and the tail, or the first fault from the left
+abbrev pub parts_of : List Piece → Result Parts NameFault
+parts_of [] = Ok ([], End)
+parts_of (Dash ∷ pieces) = parts_of pieces
+parts_of (Wild tail ∷ pieces) = if list_all is_dash_piece pieces then Ok ([], tail) else Err AfterWildcard
+parts_of (Byte b ∷ pieces) = with_class (class_of b) (parts_of pieces)
+parts_of (Set bytes ∷ pieces) = with_class (class_of_set bytes) (parts_of pieces)
+parts_of (Unclosed ∷ pieces) = Err OpenSet
+
+-- ---- a name
+
+-- a pattern of no class and no tail is an empty name
+abbrev pub pattern_of : Parts → Result Meaning NameFault
+pattern_of parts = elim parts.1 [ End ↦ ended parts.0 | Dot ↦ Ok (Pattern parts.0 Dot) | Bang ↦ Ok (Pattern parts.0 Bang) ]
+  where
+    ended : List (List ℕ) → Result Meaning NameFault
+    ended [] = Err EmptyName
+    ended (c ∷ classes) = Ok (Pattern (c ∷ classes) End)
+
+-- a text that is no pattern
+abbrev pub plain_of : List ℕ → Result Meaning NameFault
+plain_of text = if list_any is_bad text then Err BadByte else Ok (Plain (undashed text))
+
+-- what stands behind the `_` of a pattern
+abbrev pub pattern_reading : List ℕ → Result Meaning NameFault
+pattern_reading text = parts_of (pieces_of text) >>= pattern_of
+
+-- a text that begins with no dash: behind a `_` stands a pattern
+abbrev pub reading_of : List ℕ → Result Meaning NameFault
+reading_of [] = Err EmptyName
+reading_of (b ∷ text) = if b == byte "_" then pattern_reading text else plain_of (b ∷ text)
+
+-- what the text means, or why it is no name
+unfoldable pub meaning_of : List ℕ → Result Meaning NameFault
+meaning_of text = reading_of (from_first text)
+
+-- what some text means
+pub record IsName (name : Meaning) : Type 0 where
+  pub text : List ℕ
+  pub bytes : EachIndex text (λ k. slice_index text k < 256)
+  pub read : meaning_of text ≡ Ok name
+
+-- why a text was not read: the fault of the name, or want of memory in place of any answer
+abbrev pub IsReason : {X : Type 0} → PatternFault → Result X NameFault → Type 0
+IsReason (Name fault) given = given ≡ Err fault
+IsReason NoMemory given = Unit {0}

@@ -1,0 +1,25 @@
+//! Dashes, which are ignored in names outside sets and in dialled text.
+ghost use Rattle.std.specs.Prelude.{◌≡◌, ◌<◌, [], ◌∷◌, length, MatchOption};
+ghost use Rattle.dp_pattern.specs.Dashes.{undashed, from_first};
+
+/// The text from its first byte other than a dash on.
+pub(crate) fn from_first(text: &[u8]) -> &[u8]
+    ensures { result.now ≡ from_first text.now }
+{
+    let mut rest = text;
+    while let Some((b'-', behind)) = rest.split_first() {
+        rest = behind;
+    }
+    rest
+}
+
+/// The first byte other than a dash, and the text behind it.
+pub(crate) fn next_digit(text: &[u8]) -> Option<(u8, &[u8])>
+    ensures { MatchOption result (undashed text.now ≡ [])
+        (λ x. (undashed text.now ≡ x.0 ∷ undashed x.1.now) × (length x.1.now < length text.now)) }
+{
+    match from_first(text).split_first() {
+        None => None,
+        Some((digit, behind)) => Some((*digit, behind)),
+    }
+}

@@ -1,0 +1,36 @@
+//! Names of extensions, after the Asterisk documentation's page on pattern matching.
+//!
+//! ```text
+//! name    = plain | "_" pattern           a "-" outside sets is ignored
+//! plain   = byte { byte }
+//! pattern = { class } [ "." | "!" ]       a class or a wildcard at least
+//! class   = "X" | "Z" | "N" | set | byte  X is 0 to 9, Z is 1 to 9, N is 2 to 9, in either case
+//! set     = "[" item { item } "]"
+//! item    = byte | byte "-" byte          two digits, two capitals or two small letters
+//! ```
+//!
+//! A byte is 33 or more and neither 127 nor `\`. `.` stands for one or more characters and `!` for
+//! any number of them; every other byte is itself. The faults, dashes before the `_` and dashes in
+//! dialled text are this program's own choice.
+#![tactic(auto)]
+
+mod class;
+mod dashes;
+mod fault;
+mod matching;
+mod name;
+mod order;
+mod reading;
+mod spelling;
+mod tail;
+#[cfg(test)]
+mod tests;
+mod walk;
+
+pub use class::{Class, compare_classes};
+pub use fault::{NameFault, PatternFault};
+pub use matching::{could_match_more, matches};
+pub use name::{Name, Parts, spelling_is_clean};
+pub use order::{compare, order_is_total, same};
+pub use std::alloc::AllocError as NoMemory;
+pub use tail::Tail;

@@ -1,0 +1,62 @@
+//! Matching of dialled text against names.
+ghost use Rattle.std.specs.Prelude.{◌≡◌, ◌↔◌, IsTrue};
+ghost use Rattle.dp_pattern.specs.Dashes.{undashed};
+ghost use Rattle.dp_pattern.specs.Walk.{tail_allows, is_match, goes_on, walk_of};
+ghost use Rattle.dp_pattern.specs.Matches.{Matches};
+ghost use Rattle.dp_pattern.specs.GoesOn.{GoesOn};
+
+use crate::dashes::next_digit;
+use crate::name::Name;
+use crate::tail::Tail;
+use crate::walk::{Walk, walk_name};
+
+// Whether the tail of a name allows what is left of a text.
+fn allows(tail: Tail, rest: &[u8]) -> bool
+    ensures { result ≡ tail_allows tail (undashed rest.now) }
+{
+    match tail {
+        Tail::End => next_digit(rest).is_none(),
+        Tail::Dot => next_digit(rest).is_some(),
+        Tail::Bang => true,
+    }
+}
+
+// Whether the walk is that of a match.
+fn is_match(walk: Walk<'_>, tail: Tail) -> bool
+    ensures { result ≡ is_match tail (walk_of walk.entry) }
+{
+    match walk {
+        Walk::Refused | Walk::Short => false,
+        Walk::Behind(rest) => allows(tail, rest),
+    }
+}
+
+// Whether some ending makes it that of a match, other than by a `!`.
+fn goes_on(walk: Walk<'_>, tail: Tail) -> bool
+    ensures { result ≡ goes_on tail (walk_of walk.entry) }
+{
+    match (walk, tail) {
+        (Walk::Refused, _) | (_, Tail::Bang) => false,
+        (Walk::Short, _) => true,
+        (Walk::Behind(_), _) => tail == Tail::Dot,
+    }
+}
+
+/// Whether the dialled text matches the name, after the Asterisk documentation's page on pattern
+/// matching: a plain name by its bytes, a pattern by one member of each class in turn and then what
+/// its tail allows. That dashes in the dialled text are ignored is this program's own choice.
+pub fn matches(name: &Name, text: &[u8]) -> bool
+    ensures { IsTrue result ↔ Matches name.now text.now }
+{
+    let (walk, tail) = walk_name(name, text);
+    is_match(walk, tail)
+}
+
+/// Whether some ending of one or more bytes other than `-` makes the text match the name, which
+/// has no tail `!`: a caller who dials so far may go on. This is the program's own choice.
+pub fn could_match_more(name: &Name, text: &[u8]) -> bool
+    ensures { IsTrue result ↔ GoesOn name.now text.now }
+{
+    let (walk, tail) = walk_name(name, text);
+    goes_on(walk, tail)
+}

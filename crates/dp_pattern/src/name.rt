@@ -1,0 +1,122 @@
+//! The name of an extension.
+ghost use Rattle.std.specs.Prelude.{◌≡◌, Ok, IfOk, MatchResult};
+ghost use Rattle.dp_pattern.specs.Name.{meaning_of, IsName, IsReason};
+ghost use Rattle.dp_pattern.specs.Kept.{kept_meaning, parts_meaning};
+ghost use Rattle.dp_pattern.specs.Spelling.{spelling, SpellsCleanly};
+
+use crate::class::Class;
+use crate::fault::PatternFault;
+use crate::reading::read_kind;
+use crate::spelling::pattern_text;
+use crate::tail::Tail;
+use std::alloc::{AllocError as NoMemory, Global};
+use std::marker::Model;
+
+/// The name of an extension: a plain text, or a pattern over dialled text.
+///
+/// Contracts see it as its meaning, and know that some text means it.
+#[derive(Debug, Drop)]
+pub struct Name {
+    kind: Kind,
+}
+
+/// How a meaning is kept.
+#[derive(Debug, Drop)]
+pub(crate) enum Kind {
+    Plain(Vec<u8>),
+    Pattern(Vec<Class>, Tail),
+}
+
+impl Model for Name {
+    ghost use Rattle.dp_pattern.specs.Name.{Meaning, IsName};
+
+    ghost Value = { Meaning };
+
+    ghost use Rattle.dp_pattern.specs.Kept.{kept_meaning};
+
+    ghost view = { λ name. kept_meaning name.kind };
+
+    ghost invariant = { λ name. IsName (kept_meaning name.kind) };
+}
+
+/// What a name is made of.
+#[derive(Clone, Copy)]
+pub enum Parts<'a> {
+    /// A plain name: its text without dashes.
+    Plain(&'a [u8]),
+    /// A pattern: its classes in turn, and the tail behind them.
+    Pattern(&'a [Class], Tail),
+}
+
+// A copy of what is kept.
+fn copy_kind(kind: &Kind) -> Result<Kind, NoMemory>
+    ensures { IfOk result (λ copy. kept_meaning copy ≡ kept_meaning kind.now) }
+{
+    match kind {
+        Kind::Plain(text) => {
+            let text = text.clone()?;
+            Ok(Kind::Plain(text))
+        }
+        Kind::Pattern(classes, tail) => {
+            let classes = classes.clone()?;
+            Ok(Kind::Pattern(classes, *tail))
+        }
+    }
+}
+
+impl Clone for Name {
+    ghost is_clone = { λ name copy. copy ≡ name };
+
+    fn clone(&self) -> Result<Name, NoMemory> {
+        let kind = copy_kind(&self.kind)?;
+        Ok(Name { kind })
+    }
+}
+
+impl Name {
+    /// What the text means as a name, after the Asterisk documentation's page on pattern matching.
+    ///
+    /// A name whose first byte other than `-` is `_` is a pattern, and any other is a plain text.
+    /// An `Err` is the first fault from the left, or `NoMemory` where a growth was refused.
+    pub fn read(alloc: Global, text: &[u8]) -> Result<Name, PatternFault>
+        ensures means { MatchResult result (λ name. meaning_of text.now ≡ Ok name)
+            (λ fault. IsReason fault (meaning_of text.now)) }
+        ensures named { IfOk result IsName }
+    {
+        let kind = read_kind(alloc, text)?;
+        Ok(Name { kind })
+    }
+
+    /// What the name is made of.
+    pub fn parts(&self) -> Parts<'_>
+        ensures value { parts_meaning result ≡ self.now }
+        ensures named { IsName self.now }
+    {
+        match &self.kind {
+            Kind::Plain(text) => Parts::Plain(text),
+            Kind::Pattern(classes, tail) => Parts::Pattern(classes, *tail),
+        }
+    }
+
+    /// The canonical spelling, a choice of this program, which reads as the same name again.
+    ///
+    /// A plain name is spelled without dashes. A pattern is `_`, then for each class `X`, `Z` or
+    /// `N` where it is one of those sets, one character that means itself, or else all members
+    /// in brackets in byte order, and then the tail.
+    #[tactic(auto, unfolding(crate::specs::Spelling::spelling))]
+    pub fn text(&self, alloc: Global) -> Result<Vec<u8>, NoMemory>
+        ensures ok { IfOk result (λ text. text.items ≡ spelling self.now) }
+        ensures again { meaning_of (spelling self.now) ≡ Ok self.now }
+    {
+        match &self.kind {
+            Kind::Plain(text) => Vec::from_slice(alloc, text),
+            Kind::Pattern(classes, tail) => pattern_text(alloc, classes, *tail),
+        }
+    }
+}
+
+/// What the bytes of spellings are: none that names cannot have, and each is a digit, a letter, one
+/// of `_ [ ] . !`, or a byte of the text that the name was read from.
+pub fn spelling_is_clean()
+    ensures { SpellsCleanly }
+{}

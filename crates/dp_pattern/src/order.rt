@@ -1,0 +1,82 @@
+//! The order of names: which of two names that match is the more specific.
+ghost use Rattle.std.specs.Prelude.{◌≡◌, ◌↔◌, IsTrue};
+ghost use Rattle.std.specs.Ordering.{ordering_reverse};
+ghost use Rattle.dp_pattern.specs.Order.{tail_cmp, tail_cmp_class, class_cmp_tail, pattern_cmp, name_cmp, OrdersNames};
+
+use crate::class::{Class, compare_classes};
+use crate::name::{Name, Parts};
+use crate::tail::Tail;
+use std::cmp::Ordering;
+
+// Two patterns at the place where both classes have ended.
+fn compare_tails(left: Tail, right: Tail) -> Ordering
+    ensures { result ≡ tail_cmp left right }
+{
+    match (left, right) {
+        (Tail::End, Tail::End) => Ordering::Equal,
+        (Tail::End, _) => Ordering::Less,
+        (_, Tail::End) => Ordering::Greater,
+        (Tail::Dot, Tail::Dot) => Ordering::Equal,
+        (Tail::Dot, Tail::Bang) => Ordering::Less,
+        (Tail::Bang, Tail::Dot) => Ordering::Greater,
+        (Tail::Bang, Tail::Bang) => Ordering::Equal,
+    }
+}
+
+// The tail of one pattern at the place of another's class.
+fn compare_tail_with_class(tail: Tail) -> Ordering
+    ensures left { result ≡ tail_cmp_class tail }
+    ensures right { ordering_reverse result ≡ class_cmp_tail tail }
+{
+    match tail {
+        Tail::End => Ordering::Less,
+        Tail::Dot | Tail::Bang => Ordering::Greater,
+    }
+}
+
+// Two patterns by the first place where they differ.
+fn compare_patterns(left: &[Class], left_tail: Tail, right: &[Class], right_tail: Tail) -> Ordering
+    ensures { result ≡ pattern_cmp left.now left_tail right.now right_tail }
+{
+    for i in 0..left.len().min(right.len()) {
+        let order = compare_classes(&left[i], &right[i]);
+        if order != Ordering::Equal {
+            return order;
+        }
+    }
+    match left.len().cmp(&right.len()) {
+        Ordering::Equal => compare_tails(left_tail, right_tail),
+        Ordering::Less => compare_tail_with_class(left_tail),
+        Ordering::Greater => compare_tail_with_class(right_tail).reverse(),
+    }
+}
+
+/// The order of two names, the more specific first, after the Asterisk documentation's page on
+/// pattern matching. Plain names stand before patterns, and plain names are in the order of their
+/// bytes. Patterns are decided at the first place where they differ: there the end of a pattern
+/// comes first, by this program's own choice, then a class, with fewer members first and equal
+/// sizes by their members, then `.`, then `!`.
+#[tactic(auto, unfolding(crate::specs::Order::name_cmp))]
+pub fn compare(left: &Name, right: &Name) -> Ordering
+    ensures { result ≡ name_cmp left.now right.now }
+{
+    match (left.parts(), right.parts()) {
+        (Parts::Plain(a), Parts::Plain(b)) => a.cmp(b),
+        (Parts::Plain(_), Parts::Pattern(_, _)) => Ordering::Less,
+        (Parts::Pattern(_, _), Parts::Plain(_)) => Ordering::Greater,
+        (Parts::Pattern(a, s), Parts::Pattern(b, t)) => compare_patterns(a, s, b, t),
+    }
+}
+
+/// Whether two names mean the same, however they were written.
+pub fn same(left: &Name, right: &Name) -> bool
+    ensures { IsTrue result ↔ (left.now ≡ right.now) }
+{
+    compare(left, right).is_eq()
+}
+
+/// The orders of names and of classes are total, and they answer `Equal` for equal meanings and equal
+/// classes alone.
+pub fn order_is_total()
+    ensures { OrdersNames }
+{}

@@ -1,0 +1,140 @@
+//! The reading of a text as a name, piece after piece.
+ghost use Rattle.std.specs.Prelude.{◌≡◌, ◌<◌, ◌≤◌, ◌+◌, ◌∷◌, [], Ok, Err, length, MatchOption, MatchResult, IfOk};
+ghost use Rattle.std.specs.List.{list_all, list_any, position};
+ghost use Rattle.dp_pattern.specs.Dashes.{undashed, is_dash};
+ghost use Rattle.dp_pattern.specs.Name.{pieces_of, pieces_after, piece_of, set_piece, set_size, is_end, parts_of, pattern_reading, is_bad, plain_of, meaning_of, IsReason};
+ghost use Rattle.dp_pattern.specs.Kept.{kept_meaning, cut_piece};
+
+use crate::class::{Class, class_of, class_of_set, is_bad};
+use crate::dashes::from_first;
+use crate::fault::{NameFault, PatternFault};
+use crate::name::Kind;
+use crate::tail::Tail;
+use std::alloc::{AllocError, Global};
+
+/// A piece of a pattern's text.
+#[derive(Clone, Copy)]
+enum Piece<'a> {
+    Dash,
+    Wild(Tail),
+    Byte(u8),
+    Set(&'a [u8]),
+    Unclosed,
+}
+
+// The place of the first `]`.
+fn place_of_end(text: &[u8]) -> Option<usize>
+    ensures { result ≡ position is_end text.now }
+{
+    text.iter().position(|b| *b == b']')
+}
+
+// The set of the text behind a `[`, and what stands behind the set.
+fn set_at(text: &[u8]) -> (Piece<'_>, &[u8])
+    ensures piece { cut_piece result.0 ≡ set_piece (position is_end text.now) text.now }
+    ensures behind { pieces_of result.1.now
+        ≡ pieces_after (set_size (position is_end text.now) text.now) text.now }
+    ensures shorter { length result.1.now ≤ length text.now }
+{
+    match place_of_end(text) {
+        Some(n) => (Piece::Set(&text[..n]), &text[n + 1..]),
+        None => (Piece::Unclosed, &text[text.len()..]),
+    }
+}
+
+// The first piece of the text, and what stands behind it.
+fn first_piece(text: &[u8]) -> Option<(Piece<'_>, &[u8])>
+    ensures { MatchOption result (text.now ≡ [])
+        (λ x. (pieces_of text.now ≡ cut_piece x.0 ∷ pieces_of x.1.now)
+        × (length x.1.now < length text.now)) }
+{
+    let (byte, behind) = text.split_first()?;
+    let piece = match *byte {
+        b'[' => return Some(set_at(behind)),
+        b'-' => Piece::Dash,
+        b'.' => Piece::Wild(Tail::Dot),
+        b'!' => Piece::Wild(Tail::Bang),
+        byte => Piece::Byte(byte),
+    };
+    Some((piece, behind))
+}
+
+// Whether only dashes are left.
+fn only_dashes(text: &[u8]) -> bool
+    ensures { result ≡ list_all is_dash text.now }
+{
+    text.iter().all(|b| *b == b'-')
+}
+
+// The classes and the tail of a pattern.
+fn read_parts(alloc: Global, text: &[u8]) -> Result<(Vec<Class>, Tail), PatternFault>
+    ensures { MatchResult result (λ x. parts_of (pieces_of text.now) ≡ Ok (x.0.items, x.1))
+        (λ fault. IsReason fault (parts_of (pieces_of text.now))) }
+{
+    let mut classes = Vec::new(alloc);
+    let mut rest = text;
+    while let Some((piece, behind)) = first_piece(rest) {
+        match piece {
+            Piece::Dash => {}
+            Piece::Wild(tail) if only_dashes(behind) => return Ok((classes, tail)),
+            Piece::Wild(_) => return Err(PatternFault::Name(NameFault::AfterWildcard)),
+            Piece::Byte(byte) => classes.push(class_of(byte)?)?,
+            Piece::Set(bytes) => classes.push(class_of_set(bytes)?)?,
+            Piece::Unclosed => return Err(PatternFault::Name(NameFault::OpenSet)),
+        }
+        rest = behind;
+    }
+    Ok((classes, Tail::End))
+}
+
+// The pattern whose classes and tail the text spells.
+fn read_pattern(alloc: Global, text: &[u8]) -> Result<Kind, PatternFault>
+    ensures { MatchResult result (λ kind. pattern_reading text.now ≡ Ok (kept_meaning kind))
+        (λ fault. IsReason fault (pattern_reading text.now)) }
+{
+    let (classes, tail) = read_parts(alloc, text)?;
+    if classes.is_empty() && tail == Tail::End {
+        return Err(PatternFault::Name(NameFault::EmptyName));
+    }
+    Ok(Kind::Pattern(classes, tail))
+}
+
+// The text without its dashes.
+fn undashed(alloc: Global, text: &[u8]) -> Result<Vec<u8>, AllocError>
+    ensures { IfOk result (λ kept. kept.items ≡ undashed text.now) }
+{
+    text.iter().copied().filter(|b| *b != b'-').collect(alloc)
+}
+
+// Whether a byte is one that no name has.
+fn has_bad(text: &[u8]) -> bool
+    ensures { result ≡ list_any is_bad text.now }
+{
+    text.iter().any(|b| is_bad(*b))
+}
+
+// The plain name that the text spells.
+fn read_plain(alloc: Global, text: &[u8]) -> Result<Kind, PatternFault>
+    ensures { MatchResult result (λ kind. plain_of text.now ≡ Ok (kept_meaning kind))
+        (λ fault. IsReason fault (plain_of text.now)) }
+{
+    if has_bad(text) {
+        return Err(PatternFault::Name(NameFault::BadByte));
+    }
+    let kept = undashed(alloc, text)?;
+    Ok(Kind::Plain(kept))
+}
+
+/// What is kept of the name that the text spells.
+#[tactic(auto, unfolding(crate::specs::Name::meaning_of))]
+pub(crate) fn read_kind(alloc: Global, text: &[u8]) -> Result<Kind, PatternFault>
+    ensures { MatchResult result (λ kind. meaning_of text.now ≡ Ok (kept_meaning kind))
+        (λ fault. IsReason fault (meaning_of text.now)) }
+{
+    let named = from_first(text);
+    match named.split_first() {
+        None => Err(PatternFault::Name(NameFault::EmptyName)),
+        Some((b'_', behind)) => read_pattern(alloc, behind),
+        Some(_) => read_plain(alloc, named),
+    }
+}

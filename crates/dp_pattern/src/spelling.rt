@@ -1,0 +1,89 @@
+//! The canonical spelling of names.
+ghost use Rattle.std.specs.Prelude.{◌≡◌, ◌++◌, OnOk, IfOk};
+ghost use Rattle.std.specs.List.{flat_map};
+ghost use Rattle.dp_pattern.specs.Name.{Pattern};
+ghost use Rattle.dp_pattern.specs.Spelling.{stands_alone, class_spelling, tail_spelling, spelling};
+
+use crate::class::Class;
+use crate::tail::Tail;
+use std::alloc::{AllocError, Global};
+
+const DIGITS: &[u8] = b"0123456789";
+
+const DIGITS_FROM_1: &[u8] = b"123456789";
+
+const DIGITS_FROM_2: &[u8] = b"23456789";
+
+// One byte that means itself outside sets.
+fn stands_alone(members: &[u8]) -> bool
+    ensures { result ≡ stands_alone members.now }
+{
+    match members {
+        [byte] => !matches!(
+            *byte,
+            b'X' | b'x' | b'Z' | b'z' | b'N' | b'n' | b'[' | b'.' | b'!'
+        ),
+        _ => false,
+    }
+}
+
+// Writes the class of these members.
+fn push_class(text: &mut Vec<u8>, members: &[u8]) -> Result<(), AllocError>
+    ensures { OnOk result (text.new.items ≡ text.old.items ++ class_spelling members.now) }
+{
+    if members == DIGITS {
+        text.push(b'X')?;
+    } else if members == DIGITS_FROM_1 {
+        text.push(b'Z')?;
+    } else if members == DIGITS_FROM_2 {
+        text.push(b'N')?;
+    } else if stands_alone(members) {
+        text.extend_from_slice(members)?;
+    } else {
+        text.push(b'[')?;
+        text.extend_from_slice(members)?;
+        text.push(b']')?;
+    }
+    Ok(())
+}
+
+// Writes the tail.
+fn push_tail(text: &mut Vec<u8>, tail: Tail) -> Result<(), AllocError>
+    ensures { OnOk result (text.new.items ≡ text.old.items ++ tail_spelling tail) }
+{
+    match tail {
+        Tail::End => {}
+        Tail::Dot => text.push(b'.')?,
+        Tail::Bang => text.push(b'!')?,
+    }
+    Ok(())
+}
+
+// Writes the classes, each over one list of its members.
+fn push_classes(alloc: Global, text: &mut Vec<u8>, classes: &[Class]) -> Result<(), AllocError>
+    ensures { OnOk result (text.new.items ≡ text.old.items ++ flat_map class_spelling classes.now) }
+{
+    let mut members = Vec::new(alloc);
+    for class in classes {
+        members.clear();
+        class.push_members(&mut members)?;
+        push_class(text, &members)?;
+    }
+    Ok(())
+}
+
+/// The canonical spelling of a pattern.
+#[tactic(auto, unfolding(crate::specs::Spelling::spelling))]
+pub(crate) fn pattern_text(
+    alloc: Global,
+    classes: &[Class],
+    tail: Tail,
+) -> Result<Vec<u8>, AllocError>
+    ensures { IfOk result (λ text. text.items ≡ spelling (Pattern classes.now tail)) }
+{
+    let mut text = Vec::new(alloc);
+    text.push(b'_')?;
+    push_classes(alloc, &mut text, classes)?;
+    push_tail(&mut text, tail)?;
+    Ok(text)
+}

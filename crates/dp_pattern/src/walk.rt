@@ -1,0 +1,67 @@
+//! How far the classes of a pattern, or the bytes of a plain name, take a text.
+ghost use Rattle.std.specs.Prelude.{◌≡◌};
+ghost use Rattle.dp_pattern.specs.Dashes.{undashed};
+ghost use Rattle.dp_pattern.specs.Name.{IsName};
+ghost use Rattle.dp_pattern.specs.Walk.{walked, walk_of, singles, classes_of, tail_of};
+
+use crate::class::Class;
+use crate::dashes::next_digit;
+use crate::name::{Name, Parts};
+use crate::tail::Tail;
+
+/// Where a walk over a text ends.
+#[derive(Clone, Copy)]
+pub(crate) enum Walk<'a> {
+    /// A digit is no member of its class.
+    Refused,
+    /// The text ends before the classes do.
+    Short,
+    /// Each class has its member, and this is left of the text.
+    Behind(&'a [u8]),
+}
+
+/// Takes a member of each class in turn.
+pub(crate) fn walk_classes<'a>(classes: &[Class], text: &'a [u8]) -> Walk<'a>
+    ensures { walk_of result ≡ walked classes.now (undashed text.now) }
+{
+    let mut rest = text;
+    for class in classes {
+        let Some((digit, behind)) = next_digit(rest) else {
+            return Walk::Short;
+        };
+        if !class.has(digit) {
+            return Walk::Refused;
+        }
+        rest = behind;
+    }
+    Walk::Behind(rest)
+}
+
+/// Takes each byte of a plain name in turn.
+pub(crate) fn walk_plain<'a>(plain: &[u8], text: &'a [u8]) -> Walk<'a>
+    ensures { walk_of result ≡ walked (singles plain.now) (undashed text.now) }
+{
+    let mut rest = text;
+    for byte in plain {
+        let Some((digit, behind)) = next_digit(rest) else {
+            return Walk::Short;
+        };
+        if digit != *byte {
+            return Walk::Refused;
+        }
+        rest = behind;
+    }
+    Walk::Behind(rest)
+}
+
+/// How far the name takes the text, and the tail behind that.
+pub(crate) fn walk_name<'a>(name: &Name, text: &'a [u8]) -> (Walk<'a>, Tail)
+    ensures walk { walk_of result.0 ≡ walked (classes_of name.now) (undashed text.now) }
+    ensures tail { result.1 ≡ tail_of name.now }
+    ensures named { IsName name.now }
+{
+    match name.parts() {
+        Parts::Plain(plain) => (walk_plain(plain, text), Tail::End),
+        Parts::Pattern(classes, tail) => (walk_classes(classes, text), tail),
+    }
+}

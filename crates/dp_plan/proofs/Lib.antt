@@ -1,0 +1,4 @@
+mod DraftLemmas
+mod EntryLemmas
+mod LoadedLemmas
+mod Rows

@@ -1,0 +1,12 @@
+-- A context of a dialplan.
+use Rattle.std.specs.Prelude.{ℕ, List, [], ◌∷◌, ◌++◌}
+use Rattle.dp_plan.specs.declared.entry.Entry.{Entry}
+
+-- a context: its name, and its entries in the order of the file
+pub record PlanContext : Type 0 where
+  pub name : List ℕ
+  pub entries : List Entry
+
+-- the context with one more entry
+abbrev pub with_entry : Entry → PlanContext → PlanContext
+with_entry entry context = record context { entries = context.entries ++ entry ∷ [] }

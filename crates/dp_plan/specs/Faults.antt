@@ -1,0 +1,29 @@
+-- The faults of a dialplan beside those of its text, and want of memory.
+use Rattle.std.specs.Prelude.{ℕ, Option, Some, None, Result, Ok, Err}
+use Rattle.dp_conf.specs.Lines.{LineFault}
+use Rattle.dp_conf.specs.declared.fault.ConfFault.{ConfFault}
+use Rattle.dp_conf.specs.declared.fault.ConfFault.TheVariants.{At, NoMemory as conf_no_memory}
+use Rattle.dp_plan.specs.declared.fault.PlanKind.{PlanKind}
+use Rattle.dp_plan.specs.declared.fault.LoadFault.{LoadFault}
+use Rattle.dp_plan.specs.declared.fault.LoadFault.TheVariants.{Conf, Plan, NoMemory}
+
+-- want of memory is outermost
+abbrev pub fault_of_conf : ConfFault → LoadFault
+fault_of_conf (At line kind) = Conf (At line kind)
+fault_of_conf conf_no_memory = NoMemory
+
+-- why a dialplan is refused; want of memory is no reason
+abbrev pub reason_of : LoadFault → Option LoadFault
+reason_of (Conf fault) = Some (Conf fault)
+reason_of (Plan line kind) = Some (Plan line kind)
+reason_of NoMemory = None
+
+-- a faulty line of the text, as a fault of the dialplan
+abbrev pub text_fault : {X : Type 0} → Result X LineFault → Result X LoadFault
+text_fault (Ok x) = Ok x
+text_fault (Err fault) = Err (Conf (At fault.line fault.kind))
+
+-- the fault of a line, at its number
+abbrev pub at_line : {X : Type 0} → ℕ → Result X PlanKind → Result X LoadFault
+at_line line (Ok x) = Ok x
+at_line line (Err kind) = Err (Plan line kind)

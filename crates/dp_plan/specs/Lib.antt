@@ -1,0 +1,10 @@
+pub mod Codes
+pub mod Contexts
+pub mod Draft
+pub mod EntryLine
+pub mod Faults
+pub mod Items
+pub mod Loaded
+pub mod Lookup
+pub mod Plan
+pub mod Priority

@@ -1,0 +1,6 @@
+-- The numbers that are priorities of entries.
+use Rattle.std.specs.Prelude.{ℕ, ◌≤◌}
+
+-- the number lies from 1 to the greatest priority
+abbrev pub IsPriority : ℕ → Type 0
+IsPriority number = (1 ≤ number) × (number ≤ 2147483647)

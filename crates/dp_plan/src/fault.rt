@@ -1,0 +1,119 @@
+//! What a dialplan is refused for, with the numbers and the names that are printed.
+ghost use Rattle.std.specs.Prelude.{◌≡◌};
+ghost use Rattle.dp_plan.specs.Codes.{plan_code, plan_name};
+
+use dp_conf::{ConfFault, NoMemory};
+use std::alloc::AllocFailed;
+use thiserror::Error;
+
+/// What a line asks for that this program leaves out.
+#[derive(Clone, Copy, Debug, PartialEq, Eq)]
+pub enum Word {
+    /// A key `switch`, `lswitch` or `eswitch`.
+    Switch,
+    /// A key `ignorepat`.
+    IgnorePat,
+    /// The priority `hint`.
+    Hint,
+    /// An application with a comma before its `(`, or with a comma and no `(`.
+    OldForm,
+    /// A priority `next`, `s` or `same`, or one with a `+`.
+    PriorityWord,
+}
+
+/// Why a line of a context is refused.
+#[derive(Clone, Copy, Debug, PartialEq, Eq)]
+pub enum PlanKind {
+    /// A priority that is no number from 1 on.
+    BadPriority,
+    /// An application with an empty name, or with a `(` and no `)` as its last byte.
+    BadApplication,
+    /// The line asks for what this program leaves out.
+    LeftOut(Word),
+    /// A priority above 2,147,483,647.
+    PriorityLimit,
+    /// An extension's line with fewer than two commas.
+    ShortLine,
+    /// The line asks for what this program does not have yet.
+    NotYet,
+}
+
+impl PlanKind {
+    /// The number of the fault, 20 to 29.
+    pub fn code(self) -> u8
+        ensures { result ≡ plan_code self }
+    {
+        match self {
+            PlanKind::BadPriority => 20,
+            PlanKind::BadApplication => 23,
+            PlanKind::LeftOut(_) => 24,
+            PlanKind::PriorityLimit => 27,
+            PlanKind::ShortLine => 28,
+            PlanKind::NotYet => 29,
+        }
+    }
+
+    /// The name of the fault, as it is printed beside its number.
+    pub fn name(self) -> &'static str
+        ensures { result.now ≡ plan_name self }
+    {
+        match self {
+            PlanKind::BadPriority => "BadPriority",
+            PlanKind::BadApplication => "BadApplication",
+            PlanKind::LeftOut(_) => "LeftOut",
+            PlanKind::PriorityLimit => "PriorityLimit",
+            PlanKind::ShortLine => "ShortLine",
+            PlanKind::NotYet => "NotYet",
+        }
+    }
+}
+
+/// Why a dialplan did not load. Want of memory is always `NoMemory`, and never within `Conf`.
+#[derive(Clone, Copy, Debug, PartialEq, Eq, Error)]
+pub enum LoadFault {
+    /// A line of the text is refused, whatever its section.
+    #[error(transparent)]
+    Conf(ConfFault),
+    /// A line of a context or of the global variables is refused; lines are counted from 1.
+    #[error("{} line {line}", kind.name())]
+    Plan { line: usize, kind: PlanKind },
+    /// The allocator had no memory.
+    #[error("out of memory")]
+    NoMemory,
+}
+
+impl From<ConfFault> for LoadFault {
+    ghost use Rattle.dp_plan.specs.Faults.{fault_of_conf};
+    ghost use Rattle.std.specs.Prelude.{◌≡◌};
+
+    ghost from_gives = { λ conf fault. fault ≡ fault_of_conf conf };
+
+    fn from(conf: ConfFault) -> Self {
+        match conf {
+            ConfFault::At { line, kind } => LoadFault::Conf(ConfFault::At { line, kind }),
+            ConfFault::NoMemory => LoadFault::NoMemory,
+        }
+    }
+}
+
+impl From<NoMemory> for LoadFault {
+    ghost use Rattle.std.specs.Prelude.{◌≡◌};
+    ghost use Rattle.dp_plan.specs.declared.fault.LoadFault.TheVariants.{NoMemory};
+
+    ghost from_gives = { λ _ fault. fault ≡ NoMemory };
+
+    fn from(_: NoMemory) -> Self {
+        LoadFault::NoMemory
+    }
+}
+
+impl<T: Drop> From<AllocFailed<T>> for LoadFault {
+    ghost use Rattle.std.specs.Prelude.{◌≡◌};
+    ghost use Rattle.dp_plan.specs.declared.fault.LoadFault.TheVariants.{NoMemory};
+
+    ghost from_gives = { λ _ fault. fault ≡ NoMemory };
+
+    fn from(_: AllocFailed<T>) -> Self {
+        LoadFault::NoMemory
+    }
+}

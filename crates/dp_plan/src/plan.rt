@@ -1,0 +1,106 @@
+//! A loaded dialplan.
+ghost use Rattle.std.specs.Prelude.{◌≡◌, ◌≤◌, map, IfSome};
+ghost use Rattle.std.specs.Option.{option_copied};
+ghost use Rattle.dp_conf.specs.Answers.{Answers};
+ghost use Rattle.dp_plan.specs.Faults.{reason_of};
+ghost use Rattle.dp_plan.specs.Loaded.{loaded};
+
+use crate::context::Context;
+use crate::draft::read_draft;
+use crate::entry::{Entry, EntryId};
+use crate::fault::LoadFault;
+use crate::item::read_items;
+use crate::note::Note;
+use dp_conf::{Text, read_lines};
+use indexmap::IndexSet;
+use std::alloc::Global;
+use std::marker::Model;
+
+/// A global variable of a dialplan, not expanded.
+#[derive(Debug, PartialEq, Eq, Drop)]
+pub struct GlobalVariable {
+    pub name: Text,
+    pub value: Text,
+}
+
+/// A loaded dialplan. A contract sees it as its global variables in the order of the file, and its contexts in the
+/// order of first appearance.
+#[derive(Debug, Drop)]
+pub struct Dialplan {
+    globals: Vec<GlobalVariable>,
+    names: IndexSet<Text>,
+    contexts: Vec<Context>,
+}
+
+impl Model for Dialplan {
+    ghost use Rattle.std.specs.Prelude.{◌≡◌, map};
+    ghost use Rattle.dp_plan.specs.Plan.{PlanOf};
+
+    ghost Value = { PlanOf };
+
+    ghost view = { λ plan. record { globals = plan.globals.items; contexts = plan.contexts.items } };
+
+    ghost invariant = { λ plan. plan.names.keys ≡ map (λ context. context.name) plan.contexts.items };
+}
+
+impl Dialplan {
+    ghost use Rattle.dp_plan.specs.Lookup.{entry_at, number_of};
+
+    /// Loads a dialplan, with notes on the lines that were dropped, in the order of the lines.
+    ///
+    /// A fault of the text is answered first, as `LoadFault::Conf`; then the fault of the first faulty line of a
+    /// context or of the global variables, as `LoadFault::Plan`.
+    pub fn load(alloc: Global, text: &[u8]) -> Result<(Self, Vec<Note>), LoadFault>
+        ensures { Answers (λ read. (read.0, read.1.items)) reason_of result (loaded text.now) }
+    {
+        let lines = read_lines(alloc, text)?;
+        let items = read_items(alloc, &lines)?;
+        let read = read_draft(alloc, items)?;
+        Ok(read)
+    }
+
+    /// The dialplan of these parts.
+    pub(crate) fn of_parts(
+        globals: Vec<GlobalVariable>,
+        names: IndexSet<Text>,
+        contexts: Vec<Context>,
+    ) -> Self
+        requires { names.keys ≡ map (λ context. context.name) contexts.items }
+        ensures { result ≡ record { globals = globals.items; contexts = contexts.items } }
+    {
+        Dialplan {
+            globals,
+            names,
+            contexts,
+        }
+    }
+
+    /// The contexts in the order of first appearance, with their names and entries.
+    pub fn contexts(&self) -> &[Context]
+        ensures { result.now ≡ self.now.contexts }
+    {
+        &self.contexts
+    }
+
+    /// The global variables in the order of the file. A name may stand twice.
+    pub fn globals(&self) -> &[GlobalVariable]
+        ensures { result.now ≡ self.now.globals }
+    {
+        &self.globals
+    }
+
+    /// The entry of these numbers, or None where there is none.
+    pub fn entry(&self, id: EntryId) -> Option<&Entry>
+        ensures { option_copied result ≡ entry_at self.now id }
+    {
+        let context = self.contexts.get(id.context)?;
+        context.entries().get(id.entry)
+    }
+
+    /// The number of the context of this name, or None where there is none.
+    pub fn number_of(&self, name: &Text) -> Option<usize>
+        ensures { result ≡ number_of self.now name.now }
+    {
+        self.names.get_index_of(name)
+    }
+}

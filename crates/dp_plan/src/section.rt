@@ -1,0 +1,32 @@
+//! The sections of a dialplan.
+ghost use Rattle.std.specs.Prelude.{◌≡◌, IfOk};
+ghost use Rattle.dp_plan.specs.Items.{section_named};
+
+use dp_conf::{NoMemory, Text, same_word};
+
+/// What the lines of a section are read as.
+#[derive(Debug, Drop)]
+pub(crate) enum Section {
+    /// Settings, which are read and ignored.
+    General,
+    /// Global variables.
+    Globals,
+    /// The context of this name.
+    Context(Text),
+}
+
+impl Section {
+    /// The section of a header, by its name: `general` and `globals` in any case are none of the contexts.
+    pub(crate) fn named(name: &Text) -> Result<Self, NoMemory>
+        ensures { IfOk result (λ section. section ≡ section_named name.now) }
+    {
+        if same_word(name.bytes(), b"general") {
+            return Ok(Section::General);
+        }
+        if same_word(name.bytes(), b"globals") {
+            return Ok(Section::Globals);
+        }
+        let name = name.clone()?;
+        Ok(Section::Context(name))
+    }
+}

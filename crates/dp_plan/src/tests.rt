@@ -1,0 +1,5 @@
+mod codes;
+mod plans;
+mod readers;
+mod render;
+mod rows;

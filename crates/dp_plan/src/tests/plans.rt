@@ -1,0 +1,376 @@
+//! Dialplans with what they load as, or their fault, worked out by hand from the rules.
+use crate::tests::render::shown;
+use crate::{Dialplan, NoMemory};
+use std::alloc::Global;
+use std::process::Abort;
+use std::test::Fail;
+
+/// Sections, settings and global variables.
+const SECTIONS: [(&[u8], &str); 34] = [
+    // Nothing to keep.
+    (b"", ""),
+    (b"\n\n\n", ""),
+    (b"; a comment\n \t\r\n", ""),
+    (b"\xEF\xBB\xBF", ""),
+    (b"[general]\nstatic=yes\nwriteprotect=no\n", ""),
+    (b"[globals]\n", ""),
+    // Sections.
+    (b"[main]", "[main]"),
+    (b"\xEF\xBB\xBF[main]\n", "[main]"),
+    (b"[out]\n[main]\n", "[out][main]"),
+    (b"[main]\n[out]\n[main]\n[out]\n", "[main][out]"),
+    (b"[Main]\n[main]\n[MAIN]\n", "[Main][main][MAIN]"),
+    (b"[ main ]\n[main]\n", "[main]"),
+    (b"[two words]\n", "[two words]"),
+    (b"[a\\;b]\n", "[a;b]"),
+    (
+        b"[generals]\n[global]\nA=1\n",
+        "[generals][global] note 3 UnknownKey",
+    ),
+    // Settings are read and ignored, in any case of the section's name.
+    (b"[General]\nexten => s,1,A\n", ""),
+    (
+        b"[GENERAL]\nswitch => x\n=\nexten => s,0,A\nx=${Y}\nsame => n,A\n",
+        "",
+    ),
+    (
+        b"[m]\n[ general ]\nexten => s,1,A\n[m]\nexten => s,2,B\n",
+        "[m]<s,2,B()>",
+    ),
+    // Global variables.
+    (b"[globals]\nTRUNK=Line/9\n", "{TRUNK=Line/9}"),
+    (b"[GLOBALS]\nA => 1\n[m]\n[gLoBaLs]\nB=2\n", "{A=1}{B=2}[m]"),
+    (b"[globals]\nA=1\nA=2\nA=1\n", "{A=1}{A=2}{A=1}"),
+    (b"[globals]\nb=1\nB=2\na=3\n", "{b=1}{B=2}{a=3}"),
+    (b"[globals]\nA=\nB =>\n", "{A=}{B=}"),
+    (b"[globals]\nA=b=c\nD == e\n", "{A=b=c}{D== e}"),
+    (b"[globals]\nA=x\\;y\nB=x;y\n", "{A=x;y}{B=x}"),
+    (b"[globals]\n=1\n", " note 2 UnknownKey"),
+    (b"[globals]\n=${X}\nA=1\n", "{A=1} note 2 UnknownKey"),
+    (b"[globals]\n=\n=\n", " note 2 UnknownKey note 3 UnknownKey"),
+    (b"[globals]\nA=${X}\n", "fault 29 line 2"),
+    (b"[globals]\nA=1\nB=x$[1]\n", "fault 29 line 3"),
+    (b"[globals]\nA=$${\n", "fault 29 line 2"),
+    (b"[globals]\nA=$X {Y} $ {Z} ]$\n", "{A=$X {Y} $ {Z} ]$}"),
+    (b"[globals]\n${A}=1\n", "{${A}=1}"),
+    (
+        b"[globals]\nexten => s,1,A\nsame=1\ninclude=2\nswitch=3\n",
+        "{exten=s,1,A}{same=1}{include=2}{switch=3}",
+    ),
+];
+
+/// Entries, dropped lines and unknown keys, with their notes.
+const ENTRIES: [(&[u8], &str); 25] = [
+    // Entries.
+    (b"[m]\nexten => s,1,NoOp(a)\n", "[m]<s,1,NoOp(a)>"),
+    (b"[m]\nexten = s,1,Set(A=b)", "[m]<s,1,Set(A=b)>"),
+    (
+        b"[m]\nEXTEN => s,1,A\neXtEn => t,1,B\n",
+        "[m]<s,1,A()><t,1,B()>",
+    ),
+    (
+        b"[m]\nexten => s,2,B\nexten => s,1,A\n",
+        "[m]<s,2,B()><s,1,A()>",
+    ),
+    (
+        b"[m]\nexten => s,1,A\nexten => t,1,A\n",
+        "[m]<s,1,A()><t,1,A()>",
+    ),
+    (
+        b"[m]\nexten => a,1,A\nexten => A,1,B\n",
+        "[m]<a,1,A()><A,1,B()>",
+    ),
+    (
+        b"[m]\nexten => *98#,1,A\nexten => 0aZ9,1,A\n",
+        "[m]<*98#,1,A()><0aZ9,1,A()>",
+    ),
+    (
+        b"[m]\nexten => 1,1,A\nexten => 01,1,B\n",
+        "[m]<1,1,A()><01,1,B()>",
+    ),
+    (
+        b"[m]\nexten => next,1,A\nexten => hint,1,B\n",
+        "[m]<next,1,A()><hint,1,B()>",
+    ),
+    // Entries of contexts with several sections.
+    (
+        b"[a]\nexten => s,1,A\n[b]\nexten => s,1,B\n[a]\nexten => s,2,C\n",
+        "[a]<s,1,A()><s,2,C()>[b]<s,1,B()>",
+    ),
+    (
+        b"[b]\n[a]\nexten => s,1,A\n[b]\nexten => s,1,B\n",
+        "[b]<s,1,B()>[a]<s,1,A()>",
+    ),
+    (
+        b"[a]\nexten => s,1,A\n[globals]\nX=1\n[a]\nexten => t,1,B\n[a]\nexten => u,1,C\n",
+        "{X=1}[a]<s,1,A()><t,1,B()><u,1,C()>",
+    ),
+    // A second line for an extension and a priority is dropped.
+    (
+        b"[m]\nexten => s,1,A\nexten => s,1,B\n",
+        "[m]<s,1,A()> note 3 DoublePriority",
+    ),
+    (
+        b"[m]\nexten => s,1,A\nexten => s,01,A\n",
+        "[m]<s,1,A()> note 3 DoublePriority",
+    ),
+    (
+        b"[m]\nexten => s,1,A\nexten => s,1,B\nexten => s,1,C\n",
+        "[m]<s,1,A()> note 3 DoublePriority note 4 DoublePriority",
+    ),
+    (
+        b"[m]\nexten => s,1,A\nexten => s,1,B\nexten => s,2,C\n",
+        "[m]<s,1,A()><s,2,C()> note 3 DoublePriority",
+    ),
+    (
+        b"[a]\nexten => s,1,A\n[b]\nexten => s,1,B\n[a]\nexten => s,1,C\n",
+        "[a]<s,1,A()>[b]<s,1,B()> note 6 DoublePriority",
+    ),
+    (
+        b"[a]\nexten => s,1,A\n[A]\nexten => s,1,B\n",
+        "[a]<s,1,A()>[A]<s,1,B()>",
+    ),
+    (b"[m]\nexten => s,1,A\nexten => s,1,B(\n", "fault 23 line 3"),
+    // Keys that a context does not know, and the order of notes.
+    (b"[m]\nfoo => bar\n", "[m] note 2 UnknownKey"),
+    (b"[m]\n=bar\n", "[m] note 2 UnknownKey"),
+    (
+        b"[m]\nfoo => ${X}\nhint => s\n",
+        "[m] note 2 UnknownKey note 3 UnknownKey",
+    ),
+    (
+        b"[m]\nextens => s,1,A\next en => s,1,A\n",
+        "[m] note 2 UnknownKey note 3 UnknownKey",
+    ),
+    (
+        b"[m]\nx=1\nexten => s,1,A\nexten => s,1,B\n\ny=2\n",
+        "[m]<s,1,A()> note 2 UnknownKey note 4 DoublePriority note 6 UnknownKey",
+    ),
+    (
+        b"[globals]\n=1\n[b]\nx=1\n[a]\ny=1\n[b]\nz=1\n[globals]\n=\n",
+        "[b][a] note 2 UnknownKey note 4 UnknownKey note 6 UnknownKey note 8 UnknownKey note 10 UnknownKey",
+    ),
+];
+
+/// Lines that are left out by their key, too short, or not read yet.
+const NOT_YET: [(&[u8], &str); 52] = [
+    // Keys that are left out or not read yet.
+    (b"[m]\nswitch => IAX2/x\n", "fault 24 Switch line 2"),
+    (b"[m]\nSwitch =>\n", "fault 24 Switch line 2"),
+    (b"[m]\nlswitch => x\n", "fault 24 Switch line 2"),
+    (b"[m]\nESWITCH => x\n", "fault 24 Switch line 2"),
+    (b"[m]\nignorepat => 9\n", "fault 24 IgnorePat line 2"),
+    (b"[m]\nIgnorePat => ${X}\n", "fault 24 IgnorePat line 2"),
+    (b"[m]\nsame => 1,A\n", "fault 29 line 2"),
+    (b"[m]\nexten => s,1,A\nSAME => hint,A(\n", "fault 29 line 3"),
+    (b"[m]\ninclude => out\n", "fault 29 line 2"),
+    (b"[m]\nInclude =>\n", "fault 29 line 2"),
+    // Too few commas, and names that are not read yet.
+    (b"[m]\nexten =>\n", "fault 28 line 2"),
+    (b"[m]\nexten => s\n", "fault 28 line 2"),
+    (b"[m]\nexten => a b\n", "fault 28 line 2"),
+    (b"[m]\nexten => ${X}\n", "fault 28 line 2"),
+    (b"[m]\nexten => s,\n", "fault 28 line 2"),
+    (b"[m]\nexten => s,n\n", "fault 28 line 2"),
+    (b"[m]\nexten => s,1(a)\n", "fault 28 line 2"),
+    (b"[m]\nexten => s,hint\n", "fault 28 line 2"),
+    (b"[m]\nexten => a b,1\n", "fault 29 line 2"),
+    (b"[m]\nexten => ,\n", "fault 29 line 2"),
+    (b"[m]\nexten => ,1,A\n", "fault 29 line 2"),
+    (b"[m]\nexten => _X.,1,A\n", "fault 29 line 2"),
+    (b"[m]\nexten => 1-2,1,A\n", "fault 29 line 2"),
+    (b"[m]\nexten => s/123,1,A\n", "fault 29 line 2"),
+    (b"[m]\nexten => ${X},1,A\n", "fault 29 line 2"),
+    (b"[m]\nexten => +1,1,A\n", "fault 29 line 2"),
+    (b"[m]\nexten => a\\;b,1,A\n", "fault 29 line 2"),
+    (b"[m]\nexten => \xC3\xA9,1,A\n", "fault 29 line 2"),
+    (b"[m]\nexten => /,1,A\n", "fault 29 line 2"),
+    (b"[m]\nexten => :,1,A\n", "fault 29 line 2"),
+    (b"[m]\nexten => @,1,A\n", "fault 29 line 2"),
+    (b"[m]\nexten => [,1,A\n", "fault 29 line 2"),
+    (b"[m]\nexten => `,1,A\n", "fault 29 line 2"),
+    (b"[m]\nexten => {,1,A\n", "fault 29 line 2"),
+    // What is not read yet is asked before the other faults of its line.
+    (b"[m]\nexten => a-b,hint,A(\n", "fault 29 line 2"),
+    (b"[m]\nexten => s,n,A(\n", "fault 29 line 2"),
+    (b"[m]\nexten => s,n,a,b\n", "fault 29 line 2"),
+    (b"[m]\nexten => s,1(a),A\n", "fault 29 line 2"),
+    (b"[m]\nexten => s,0(a),A\n", "fault 29 line 2"),
+    (b"[m]\nexten => s,hint(a),A\n", "fault 29 line 2"),
+    (b"[m]\nexten => s,n+1(a,A\n", "fault 29 line 2"),
+    (b"[m]\nexten => s,1,A(${X})\n", "fault 29 line 2"),
+    (b"[m]\nexten => s,1,A(x$[1 + 1])\n", "fault 29 line 2"),
+    (b"[m]\nexten => s,0,A(${X})\n", "fault 29 line 2"),
+    (b"[m]\nexten => s,hint,A(${X})\n", "fault 29 line 2"),
+    (b"[m]\nexten => s,2147483648,A($[1])\n", "fault 29 line 2"),
+    (b"[m]\nexten => s,1,A(${X}\n", "fault 23 line 2"),
+    (b"[m]\nexten => s,1,(${X})\n", "fault 23 line 2"),
+    (b"[m]\nexten => s,1,a,B(${X})\n", "fault 24 OldForm line 2"),
+    (b"[m]\nexten => s,0,A(${X}\n", "fault 20 line 2"),
+    (b"[m]\nexten => s,1,${A}\n", "[m]<s,1,${A}()>"),
+    (b"[m]\nexten => s,1,A($X{Y}$)\n", "[m]<s,1,A($X{Y}$)>"),
+];
+
+/// Priorities.
+const PRIORITIES: [(&[u8], &str); 27] = [
+    // Priorities that are left out.
+    (b"[m]\nexten => s,hint,A\n", "fault 24 Hint line 2"),
+    (b"[m]\nexten => s,next,A\n", "fault 24 PriorityWord line 2"),
+    (b"[m]\nexten => s,s,A\n", "fault 24 PriorityWord line 2"),
+    (b"[m]\nexten => s,same,A\n", "fault 24 PriorityWord line 2"),
+    (b"[m]\nexten => s,n+1,A\n", "fault 24 PriorityWord line 2"),
+    (b"[m]\nexten => s,+1,A\n", "fault 24 PriorityWord line 2"),
+    (b"[m]\nexten => s,+,A\n", "fault 24 PriorityWord line 2"),
+    (b"[m]\nexten => s,0+,A(\n", "fault 24 PriorityWord line 2"),
+    // Priorities that are none, and those at the limits.
+    (b"[m]\nexten => s,0,A\n", "fault 20 line 2"),
+    (
+        b"[m]\nexten => s,0000000000000000000000000000000000000000,A\n",
+        "fault 20 line 2",
+    ),
+    (b"[m]\nexten => s,,A\n", "fault 20 line 2"),
+    (b"[m]\nexten => s,-1,A\n", "fault 20 line 2"),
+    (b"[m]\nexten => s,1x,A\n", "fault 20 line 2"),
+    (b"[m]\nexten => s,1 2,A\n", "fault 20 line 2"),
+    (b"[m]\nexten => s,N,A\n", "fault 20 line 2"),
+    (b"[m]\nexten => s,Hint,A\n", "fault 20 line 2"),
+    (b"[m]\nexten => s,S,A\n", "fault 20 line 2"),
+    (b"[m]\nexten => s,nexts,A\n", "fault 20 line 2"),
+    (b"[m]\nexten => s,1\xA0,A\n", "fault 20 line 2"),
+    (
+        b"[m]\nexten => s,1,A\nexten => s,2147483647,B\n",
+        "[m]<s,1,A()><s,2147483647,B()>",
+    ),
+    (
+        b"[m]\nexten => s,0000000000000000000000000000000000000007,A\n",
+        "[m]<s,7,A()>",
+    ),
+    (b"[m]\nexten => s,2147483648,A\n", "fault 27 line 2"),
+    (b"[m]\nexten => s,4294967297,A\n", "fault 27 line 2"),
+    (
+        b"[m]\nexten => s,18446744073709551617,A\n",
+        "fault 27 line 2",
+    ),
+    (
+        b"[m]\nexten => s,9999999999999999999999999999999999999999,A\n",
+        "fault 27 line 2",
+    ),
+    (b"[m]\nexten => s,0,A(\n", "fault 20 line 2"),
+    (b"[m]\nexten => s,2147483648,a,b\n", "fault 27 line 2"),
+];
+
+/// Applications, and the bytes of lines.
+const APPLICATIONS: [(&[u8], &str); 26] = [
+    // Applications.
+    (b"[m]\nexten => s,1,App\n", "[m]<s,1,App()>"),
+    (b"[m]\nexten => s,1,App()\n", "[m]<s,1,App()>"),
+    (b"[m]\nexten => s,1,App(a,b)\n", "[m]<s,1,App(a,b)>"),
+    (b"[m]\nexten => s,1,App(a(b)c)\n", "[m]<s,1,App(a(b)c)>"),
+    (b"[m]\nexten => s,1,App(()\n", "[m]<s,1,App(()>"),
+    (b"[m]\nexten => s,1,App(a))\n", "[m]<s,1,App(a))>"),
+    (b"[m]\nexten => s,1,App()x)\n", "[m]<s,1,App()x)>"),
+    (b"[m]\nexten => s,1,App)\n", "[m]<s,1,App)()>"),
+    (b"[m]\nexten => s,1,)\n", "[m]<s,1,)()>"),
+    (b"[m]\nexten => s,1,A b(c)\n", "[m]<s,1,A b(c)>"),
+    (b"[m]\nexten => s,1,\n", "fault 23 line 2"),
+    (b"[m]\nexten => s,1,(\n", "fault 23 line 2"),
+    (b"[m]\nexten => s,1,(a)\n", "fault 23 line 2"),
+    (b"[m]\nexten => s,1,App(\n", "fault 23 line 2"),
+    (b"[m]\nexten => s,1,App(a) b\n", "fault 23 line 2"),
+    (b"[m]\nexten => s,1,App(a;b)\n", "fault 23 line 2"),
+    (b"[m]\nexten => s,1,App,a\n", "fault 24 OldForm line 2"),
+    (b"[m]\nexten => s,1,a,b(c)\n", "fault 24 OldForm line 2"),
+    (b"[m]\nexten => s,1,,\n", "fault 24 OldForm line 2"),
+    (b"[m]\nexten => s,1,,(\n", "fault 24 OldForm line 2"),
+    // Blanks, carriage returns, and bytes that are neither ASCII nor blank.
+    (
+        b"\t[ m ]\t\r\n exten\t=>\ts\t,\t1\t,\tNo Op ( a )\t\r\n",
+        "[m]<s,1,No Op( a )>",
+    ),
+    (
+        b"[m]\r\n\r\nexten => s , \x0b1\x00 , A\r\nexten => s,1,B\r\n",
+        "[m]<s,1,A()> note 4 DoublePriority",
+    ),
+    (b"[m]\rexten => s,1,A", "fault 3 line 1"),
+    (b"[globals]\r\nA = b c \r\n", "{A=b c}"),
+    (
+        b"[globals]\n\xC3\xA9=\xC3\xA8\n[\xC3\xA9]\nexten => s,1,\xC3\xA9(\xC3\xA8)\n",
+        "{\u{e9}=\u{e8}}[\u{e9}]<s,1,\u{e9}(\u{e8})>",
+    ),
+    (b"[m]\nexten => s,1,\x7f(\x7f)\n", "[m]<s,1,\u{7f}(\u{7f})>"),
+];
+
+/// Texts with several faults, and a usual one.
+const WHOLE: [(&[u8], &str); 12] = [
+    // Faults of the text come before those of a context, and of either the lowest line.
+    (b"[m]\nexten => s,0,A\nabc\n", "fault 4 line 3"),
+    (b"[m]\nexten => _X.,1,A\n\n;-- x\n", "fault 1 line 4"),
+    (b"[m]\nswitch => x\n[x\n", "fault 3 line 3"),
+    (b"[globals]\nA=${X}\n#include x\n", "fault 5 line 3"),
+    (b"[m]\nexten => s,1\n[x](+)\n#y\n", "fault 6 line 3"),
+    (b"\n\nexten => s,0,A\n[m]\n", "fault 2 line 3"),
+    (b"[m]\nexten => s,0,A\nexten => s,1\n", "fault 20 line 2"),
+    (b"[m]\nexten => s,1\nexten => s,0,A\n", "fault 28 line 2"),
+    (
+        b"[m]\nx=1\nexten => s,1,A\nexten => s,1,B\nsame => n,C\n",
+        "fault 29 line 5",
+    ),
+    (
+        b"[m]\nswitch => x\n[globals]\nA=${X}\n",
+        "fault 24 Switch line 2",
+    ),
+    (b"[globals]\nA=${X}\n[m]\nswitch => x\n", "fault 29 line 2"),
+    // A usual file.
+    (
+        b"[general]\nstatic=yes\n\n[globals]\nTRUNK=Line/9\n\n[main]\nexten => 100,1,NoOp(hello)\n\
+exten => 100,2,Goto(200,1)\n\n[out]\nexten => 5,1,Hangup ; away\n\n[main]\nexten => 200,1,Hangup()\n",
+        "{TRUNK=Line/9}[main]<100,1,NoOp(hello)><100,2,Goto(200,1)><200,1,Hangup()>[out]<5,1,Hangup()>",
+    ),
+];
+
+/// Each text loads as what stands beside it.
+fn check_all(rt: &impl Abort, alloc: Global, texts: &[(&[u8], &str)]) -> Result<(), NoMemory> {
+    for pair in texts {
+        let (text, want) = *pair;
+        let read = Dialplan::load(alloc, text);
+        let got = shown(alloc, &read)?;
+        assert_eq!(rt; got.as_str(), want, "of {text:?}");
+    }
+    Ok(())
+}
+
+#[test]
+fn sections_load_so(rt: HostRuntime) -> Result<(), Fail> {
+    check_all(&rt, rt.alloc(), &SECTIONS)?;
+    Ok(())
+}
+
+#[test]
+fn entries_load_so(rt: HostRuntime) -> Result<(), Fail> {
+    check_all(&rt, rt.alloc(), &ENTRIES)?;
+    Ok(())
+}
+
+#[test]
+fn lines_are_not_read_yet(rt: HostRuntime) -> Result<(), Fail> {
+    check_all(&rt, rt.alloc(), &NOT_YET)?;
+    Ok(())
+}
+
+#[test]
+fn priorities_load_so(rt: HostRuntime) -> Result<(), Fail> {
+    check_all(&rt, rt.alloc(), &PRIORITIES)?;
+    Ok(())
+}
+
+#[test]
+fn applications_load_so(rt: HostRuntime) -> Result<(), Fail> {
+    check_all(&rt, rt.alloc(), &APPLICATIONS)?;
+    Ok(())
+}
+
+#[test]
+fn whole_texts_load_so(rt: HostRuntime) -> Result<(), Fail> {
+    check_all(&rt, rt.alloc(), &WHOLE)?;
+    Ok(())
+}

@@ -1,0 +1,7 @@
+pub mod Codes
+pub mod Faults
+pub mod Joined
+pub mod Run
+pub mod Script
+pub mod Stops
+pub mod Trace

@@ -1,0 +1,49 @@
+//! The numbers and the printed names of the faults.
+use crate::fault::{Code, PbxFault};
+use crate::tests::render::push_fault;
+use dp_conf::{LineKind, ReadFault};
+use dp_plan::{PlanKind, Word};
+use std::test::Fail;
+
+#[test]
+fn faults_have_these_codes(rt: HostRuntime) {
+    let codes = [
+        (Code::Line(LineKind::BlockComment), 1, "BlockComment"),
+        (Code::Line(LineKind::NoSection), 2, "NoSection"),
+        (Code::Line(LineKind::BadHeader), 3, "BadHeader"),
+        (Code::Line(LineKind::NoEquals), 4, "NoEquals"),
+        (Code::Line(LineKind::Directive), 5, "Directive"),
+        (Code::Line(LineKind::Template), 6, "Template"),
+        (Code::ReadFailed, 7, "ReadFailed"),
+        (Code::TooLong, 8, "TooLong"),
+        (Code::WriteFailed, 9, "WriteFailed"),
+        (Code::Plan(PlanKind::BadPriority), 20, "BadPriority"),
+        (Code::Plan(PlanKind::BadApplication), 23, "BadApplication"),
+        (Code::Plan(PlanKind::LeftOut(Word::Hint)), 24, "LeftOut"),
+        (Code::Plan(PlanKind::LeftOut(Word::Switch)), 24, "LeftOut"),
+        (Code::Plan(PlanKind::PriorityLimit), 27, "PriorityLimit"),
+        (Code::Plan(PlanKind::ShortLine), 28, "ShortLine"),
+        (Code::Plan(PlanKind::NotYet), 29, "NotYet"),
+        (Code::BadScript, 70, "BadScript"),
+    ];
+    for (code, number, name) in codes {
+        assert_eq!(rt; code.number(), number);
+        assert_eq!(rt; code.name(), name);
+    }
+}
+
+/// A failed read and a text that is too long have no line.
+#[test]
+fn read_faults_have_no_line(rt: HostRuntime) -> Result<(), Fail> {
+    let faults = [
+        (ReadFault::ReadFailed, "fault 7 ReadFailed"),
+        (ReadFault::TooLong, "fault 8 TooLong"),
+        (ReadFault::NoMemory, "fault out of memory"),
+    ];
+    for (fault, want) in faults {
+        let mut got = String::new(rt.alloc());
+        push_fault(&mut got, PbxFault::from(fault))?;
+        assert_eq!(rt; got.as_str(), want);
+    }
+    Ok(())
+}

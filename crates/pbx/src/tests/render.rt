@@ -1,0 +1,98 @@
+//! A writer over memory, and what runs write and end with.
+use crate::fault::PbxFault;
+use crate::joined::run_joined;
+use dp_conf::Told;
+use dp_plan::NoMemory;
+use std::alloc::Global;
+use std::io;
+use std::io::{ErrorKind, Write};
+use std::process::Abort;
+use std::test::Fail;
+
+/// A joined text, with all that is written, and with its status or its fault as it is printed.
+pub(super) type Row = (&'static [u8], &'static [u8], &'static str);
+
+/// A writer that takes at most `step` bytes at once, and whose write `fails_at`, counted from 0, answers an error.
+#[derive(Drop)]
+pub(super) struct Sink {
+    pub(super) held: Vec<u8>,
+    step: usize,
+    writes: usize,
+    fails_at: Option<usize>,
+}
+
+impl Write for Sink {
+    fn write(&mut self, bytes: &[u8]) -> io::Result<usize> {
+        let turn = self.writes;
+        self.writes = turn.saturating_add(1);
+        if self.fails_at == Some(turn) {
+            return Err(io::Error::from(ErrorKind::BrokenPipe));
+        }
+        let count = self.step.min(bytes.len());
+        self.held.extend_from_slice(&bytes[..count])?;
+        Ok(count)
+    }
+
+    fn flush(&mut self) -> io::Result<()> {
+        Ok(())
+    }
+}
+
+/// An empty writer.
+pub(super) fn make_sink(alloc: Global, step: usize, fails_at: Option<usize>) -> Told<Sink> {
+    Told::new(Sink {
+        held: Vec::new(alloc),
+        step,
+        writes: 0,
+        fails_at,
+    })
+}
+
+/// Adds a fault as it is printed.
+pub(super) fn push_fault(out: &mut String, fault: PbxFault) -> Result<(), NoMemory> {
+    match fault {
+        PbxFault::Coded {
+            code,
+            line: Some(line),
+        } => write!(out, "fault {} {} line {line}", code.number(), code.name()),
+        PbxFault::Coded { code, line: None } => {
+            write!(out, "fault {} {}", code.number(), code.name())
+        }
+        PbxFault::NoMemory => out.push_str("fault out of memory"),
+    }
+}
+
+/// What a run ends with: `status STATUS`, or its fault as it is printed.
+pub(super) fn ending(alloc: Global, ran: Result<u8, PbxFault>) -> Result<String, NoMemory> {
+    let mut out = String::new(alloc);
+    match ran {
+        Ok(status) => write!(out, "status {status}")?,
+        Err(fault) => push_fault(&mut out, fault)?,
+    }
+    Ok(out)
+}
+
+/// Runs a joined text, and asserts all that it writes and what it ends with.
+pub(super) fn check(
+    rt: &impl Abort,
+    alloc: Global,
+    text: &[u8],
+    want: &[u8],
+    want_ending: &str,
+) -> Result<(), Fail> {
+    let mut writer = make_sink(alloc, 4096, None);
+    let result = run_joined(alloc, text, &mut writer);
+    let got_ending = ending(alloc, result)?;
+    assert_eq!(rt; got_ending.as_str(), want_ending, "of {text:?}");
+    assert!(rt; !writer.has_failed(), "of {text:?}");
+    assert_eq!(rt; writer.into_inner().held.as_slice(), want, "of {text:?}");
+    Ok(())
+}
+
+/// Asserts each row of a table.
+pub(super) fn check_all(rt: &impl Abort, alloc: Global, rows: &[Row]) -> Result<(), Fail> {
+    for (text, want, want_ending) in rows {
+        check(rt, alloc, text, want, want_ending)?;
+    }
+    Ok(())
+}
