@@ -14,6 +14,7 @@ use fault::PbxFault;
 use joined::run_joined;
 use std::alloc::Global;
 use std::env::Env;
+use std::io::ErrorKind;
 use std::process::ExitCode;
 use std::{env, io};
 
@@ -43,20 +44,30 @@ fn print_fault(rt: &impl Eprint, fault: PbxFault) -> io::Result<()> {
     }
 }
 
-/// Whether the program was given words.
-fn has_words(rt: &(impl Env + Alloc)) -> bool {
+/// Whether the program was given words. One that is not UTF-8 counts too.
+fn has_words(rt: &(impl Env + Alloc)) -> Result<bool, PbxFault> {
     match env::args(rt) {
-        Ok(mut words) => words.nth(1).is_some(),
-        Err(_) => true,
+        Ok(mut words) => Ok(words.nth(1).is_some()),
+        Err(error) => match error.kind() {
+            ErrorKind::OutOfMemory => Err(PbxFault::NoMemory),
+            _ => Ok(true),
+        },
     }
 }
 
-fn main(rt: HostRuntime) -> ExitCode {
-    if has_words(&rt) {
+/// The status of the program: 2 where it was given words, which it does not take.
+fn run_program(
+    rt: &(impl Input + Print + Eprint + Env + Alloc<A = Global>),
+) -> Result<u8, PbxFault> {
+    if has_words(rt)? {
         let _ = eprintln!(rt; "usage: pbx < TEXT (a dialplan, a line `;; script`, and a script)");
-        return ExitCode::from(2);
+        return Ok(2);
     }
-    match run_input(&rt, rt.alloc()) {
+    run_input(rt, rt.alloc())
+}
+
+fn main(rt: HostRuntime) -> ExitCode {
+    match run_program(&rt) {
         Ok(status) => ExitCode::from(status),
         Err(fault) => {
             let _ = print_fault(&rt, fault);
