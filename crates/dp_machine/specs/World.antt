@@ -1,4 +1,4 @@
--- The world of a machine: the dialplan, the channels, and the part that they share.
+-- The world of a machine: the dialplan and the channels.
 use Rattle.std.specs.Prelude.{ℕ, ◌-◌, ◌==◌, List, [], Option, None, slice_get, slice_set, if◌then◌else◌}
 use Rattle.dp_plan.specs.Plan.{PlanOf}
 use Rattle.dp_machine.specs.declared.channel.Channel.{Channel}
