@@ -1,5 +1,7 @@
--- The numbers of the faults and the names that are printed beside them.
-use Rattle.std.specs.Prelude.{ℕ, List, Option, Some, None, codes}
+-- The numbers of the faults, the names that are printed beside them, and the text of a fault at a line.
+use Rattle.std.specs.Prelude.{ℕ, List, ◌++◌, Option, Some, None, codes, decimal}
+use Rattle.dp_conf.specs.declared.fault.ConfFault.{ConfFault}
+use Rattle.dp_conf.specs.declared.fault.ConfFault.TheVariants.{At, NoMemory as conf_no_memory}
 use Rattle.dp_conf.specs.declared.fault.LineKind.{LineKind}
 use Rattle.dp_conf.specs.declared.fault.LineKind.TheVariants.{BlockComment, NoSection, BadHeader, NoEquals, Directive, Template}
 use Rattle.dp_conf.specs.declared.fault.ReadFault.{ReadFault}
@@ -22,6 +24,11 @@ line_name BadHeader = codes "BadHeader"
 line_name NoEquals = codes "NoEquals"
 line_name Directive = codes "Directive"
 line_name Template = codes "Template"
+
+-- what is printed where a text could not be read as lines
+abbrev pub conf_fault_text : ConfFault → List ℕ
+conf_fault_text (At line kind) = line_name kind ++ codes " line " ++ decimal line
+conf_fault_text conf_no_memory = codes "out of memory"
 
 -- the number of a reader's fault; want of memory has none
 abbrev pub read_code : ReadFault → Option ℕ

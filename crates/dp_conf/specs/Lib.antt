@@ -6,6 +6,7 @@ pub mod Fronts
 pub mod Levels
 pub mod Lines
 pub mod Numbers
+pub mod Printed
 pub mod Told
 pub mod Whole
 pub mod Words

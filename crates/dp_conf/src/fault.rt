@@ -1,6 +1,6 @@
 //! What a configuration text, a reader or a writer is refused for, with the numbers and the names that are printed.
-ghost use Rattle.std.specs.Prelude.{◌≡◌};
-ghost use Rattle.dp_conf.specs.Codes.{line_code, line_name, read_code, read_name, write_code, write_name};
+ghost use Rattle.std.specs.Prelude.{◌≡◌, Some};
+ghost use Rattle.dp_conf.specs.Codes.{line_code, line_name, conf_fault_text, read_code, read_name, write_code, write_name};
 
 use std::alloc::{AllocError, AllocFailed};
 use std::error::Error;
@@ -85,6 +85,8 @@ impl<T: Drop> From<AllocFailed<T>> for ConfFault {
 }
 
 impl fmt::Display for ConfFault {
+    ghost output = { λ fault. Some (conf_fault_text fault) };
+
     fn fmt<W: fmt::Write>(&self, f: &mut fmt::Formatter<W>) -> fmt::Result {
         match self {
             ConfFault::At { line, kind } => write!(f, "{} line {line}", kind.name()),
@@ -142,6 +144,8 @@ impl From<AllocError> for ReadFault {
 }
 
 impl fmt::Display for ReadFault {
+    ghost output = { λ fault. Some (read_name fault) };
+
     fn fmt<W: fmt::Write>(&self, f: &mut fmt::Formatter<W>) -> fmt::Result {
         f.write_str(self.name())
     }
@@ -170,6 +174,8 @@ impl WriteFailed {
 }
 
 impl fmt::Display for WriteFailed {
+    ghost output = { λ _. Some write_name };
+
     fn fmt<W: fmt::Write>(&self, f: &mut fmt::Formatter<W>) -> fmt::Result {
         f.write_str(self.name())
     }

@@ -1,10 +1,11 @@
 //! A text of bytes, which contracts see as its bytes.
-ghost use Rattle.std.specs.Prelude.{◌≡◌, IfOk, nat_eq};
+ghost use Rattle.std.specs.Prelude.{◌≡◌, IfOk, nat_eq, Some};
 ghost use Rattle.std.specs.Hash as fed;
 ghost use Rattle.std.specs.Cmp.Lexicographic.{pointwise, nat_list_eq_equiv};
 ghost use Rattle.std.specs.Cmp.{partial_equiv_from_equiv};
 ghost use Rattle.std.specs.Cmp.Rules.{hashing};
 ghost use Rattle.std.proofs.Common.{rules};
+ghost use Rattle.dp_conf.specs.Printed.{printed_text};
 
 use bstr::BStr;
 use std::alloc::{AllocError, Global};
@@ -92,6 +93,8 @@ impl fmt::Debug for Text {
 }
 
 impl fmt::Display for Text {
+    ghost output = { λ text. Some (printed_text text) };
+
     fn fmt<W: fmt::Write>(&self, f: &mut fmt::Formatter<W>) -> fmt::Result {
         fmt::Display::fmt(&BStr::new(self.bytes()), f)
     }
