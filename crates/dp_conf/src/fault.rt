@@ -177,7 +177,7 @@ impl fmt::Display for WriteFailed {
     ghost output = { λ _. Some write_name };
 
     fn fmt<W: fmt::Write>(&self, f: &mut fmt::Formatter<W>) -> fmt::Result {
-        f.write_str(self.name())
+        f.write_str(WriteFailed.name())
     }
 }
 
