@@ -9,7 +9,7 @@ use bstr::ByteSlice;
 use std::alloc::{AllocError, Global};
 
 /// Whether the byte is a blank: 32 or less, and no line feed (a choice of this program).
-fn is_blank(byte: u8) -> bool
+pub fn is_blank(byte: u8) -> bool
     ensures { result ≡ blanks.is_blank byte }
 {
     byte <= b' ' && byte != b'\n'

@@ -11,7 +11,7 @@ mod told;
 mod whole;
 mod words;
 
-pub use cut::{cut_once, first_part, split_args, trim};
+pub use cut::{cut_once, first_part, is_blank, split_args, trim};
 pub use fault::{ConfFault, LineKind, ReadFault, WriteFailed};
 pub use lines::{ConfLine, read_lines};
 pub use std::alloc::AllocError as NoMemory;
