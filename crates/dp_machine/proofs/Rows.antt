@@ -2,6 +2,8 @@
 use Rattle.std.proofs.Common.{◌≡◌, [], ◌∷◌, true, false, Some, None, refl}
 use Rattle.std.specs.Prelude.{codes}
 use Rattle.dp_conf.specs.Levels.{parts_of}
+use Rattle.dp_pattern.specs.Name.{Plain, Pattern}
+use Rattle.dp_pattern.specs.declared.tail.Tail.TheVariants.{Dot}
 use Rattle.dp_plan.specs.Plan.{PlanOf}
 use Rattle.dp_machine.specs.Applications.{target_of, row_of}
 use Rattle.dp_machine.specs.Events.{event_row, step_row, started}
@@ -23,12 +25,13 @@ own = record { context = codes "main"; exten = codes "100"; priority = 1 }
 dashless-both_ends : dashless (codes "-2-00-") ≡ codes "200"
 dashless-both_ends = refl
 
--- a dash counts in a name, and does not count in what was dialled
-match-dashes : is_match (codes "200") (codes "2-00") ≡ true
+-- a dash does not count in what was dialled
+match-dashes : is_match (Plain (codes "200")) (codes "2-00") ≡ true
 match-dashes = refl
 
-match-dashes_of_a_name : is_match (codes "2-00") (codes "2-00") ≡ false
-match-dashes_of_a_name = refl
+-- patterns match nothing yet
+match-pattern : is_match (Pattern [] Dot) (codes "200") ≡ false
+match-pattern = refl
 
 target-own_parts : target_of own (codes "2" ∷ []) ≡ Some (record { context = codes "main"; exten = codes "100"; priority = 2 })
 target-own_parts = refl
@@ -65,9 +68,10 @@ plan = record {
   contexts = (record {
     name = codes "main";
     entries =
-        (record { name = codes "100"; priority = 1; application = codes "NoOp"; arguments = [] })
-        ∷ (record { name = codes "100"; priority = 2; application = codes "Goto"; arguments = codes "2-00,1" })
-        ∷ (record { name = codes "200"; priority = 1; application = codes "Hangup"; arguments = [] }) ∷ [];
+        (record { name = Plain (codes "100"); priority = 1; label = None; application = codes "NoOp"; arguments = [] })
+        ∷ (record { name = Plain (codes "100"); priority = 2; label = None; application = codes "Goto"; arguments = codes "2-00,1" })
+        ∷ (record { name = Plain (codes "200"); priority = 1; label = None; application = codes "Hangup"; arguments = [] }) ∷ [];
+    includes = [];
   }) ∷ [];
 }
 

@@ -1,8 +1,9 @@
 -- The entry at a place: of the place's context, its extension and its priority.
-use Rattle.std.specs.Prelude.{ℕ, Bool, not, ◌&&◌, ◌==◌, List, Option, Some, None, filter, position, slice_get}
+use Rattle.std.specs.Prelude.{ℕ, Bool, false, not, ◌&&◌, ◌==◌, List, Option, Some, None, filter, position, slice_get}
 use Rattle.std.specs.Option.{option_and_then, option_map}
+use Rattle.dp_pattern.specs.Name.{Meaning, Plain, Pattern}
 use Rattle.dp_plan.specs.Contexts.{PlanContext}
-use Rattle.dp_plan.specs.EntryLine.{same_text}
+use Rattle.dp_conf.specs.Words.{same_text}
 use Rattle.dp_plan.specs.Lookup.{number_of}
 use Rattle.dp_plan.specs.Plan.{PlanOf}
 use Rattle.dp_plan.specs.declared.entry.Entry.{Entry}
@@ -19,9 +20,10 @@ pub record Located : Type 0 where
 abbrev pub dashless : List ℕ → List ℕ
 dashless text = filter (λ b. not (b == 45)) text
 
--- the name of an extension matches what was dialled
-abbrev pub is_match : List ℕ → List ℕ → Bool
-is_match name dialled = same_text name (dashless dialled)
+-- a plain name matches what was dialled; patterns match nothing yet
+abbrev pub is_match : Meaning → List ℕ → Bool
+is_match (Plain text) dialled = same_text text (dashless dialled)
+is_match (Pattern classes tail) dialled = false
 
 -- the entry stands at the place of its context
 abbrev pub stands_at : Place → Entry → Bool

@@ -1,9 +1,12 @@
-//! The entry at a place: names are matched by equality, and dashes in what was dialled do not count.
+//! The entry at a place: plain names are matched by equality, patterns match nothing yet, and dashes in what was dialled
+//! do not count.
 ghost use Rattle.std.specs.Prelude.{◌≡◌, ◌==◌, position};
 ghost use Rattle.std.specs.Option.{option_map};
+ghost use Rattle.dp_conf.specs.Words.{same_text};
 ghost use Rattle.dp_machine.specs.Found as spec;
 
 use crate::channel::Place;
+use dp_pattern::{Name, Parts};
 use dp_plan::{Context, Dialplan, Entry, EntryId};
 
 /// An entry of a dialplan, and which one it is.
@@ -13,11 +16,11 @@ pub(crate) struct Found<'a> {
     pub(crate) entry: &'a Entry,
 }
 
-/// Whether the name matches what was dialled: dashes there do not count (a choice of this program).
-fn is_match(name: &[u8], dialled: &[u8]) -> bool
-    ensures { result ≡ spec.is_match name.now dialled.now }
+/// Whether the text is what was dialled: dashes there do not count (a choice of this program).
+fn is_dialled(text: &[u8], dialled: &[u8]) -> bool
+    ensures { result ≡ same_text text.now (spec.dashless dialled.now) }
 {
-    let mut left = name;
+    let mut left = text;
     for byte in dialled {
         if *byte != b'-' {
             let Some((first, rest)) = left.split_first() else {
@@ -32,11 +35,21 @@ fn is_match(name: &[u8], dialled: &[u8]) -> bool
     left.is_empty()
 }
 
+/// Whether the name matches what was dialled.
+fn is_match(name: &Name, dialled: &[u8]) -> bool
+    ensures { result ≡ spec.is_match name.now dialled.now }
+{
+    match name.parts() {
+        Parts::Plain(text) => is_dialled(text, dialled),
+        Parts::Pattern(_, _) => false,
+    }
+}
+
 /// Whether the entry stands at the place of its context.
 fn stands_at(place: &Place, entry: &Entry) -> bool
     ensures { result ≡ spec.stands_at place.now entry.now }
 {
-    is_match(entry.name.bytes(), place.exten.bytes()) && entry.priority.get() == place.priority
+    is_match(&entry.name, place.exten.bytes()) && entry.priority.get() == place.priority
 }
 
 /// The place in the list of the first entry that stands at the place.

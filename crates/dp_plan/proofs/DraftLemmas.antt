@@ -1,6 +1,7 @@
 -- What the items make of a draft, one after another, is what the dialplan of all of them says.
-use Rattle.std.proofs.Common.{◌≡◌, ℕ, zero, suc, ◌+◌, ◌<◌, Bool, true, false, cond, not, ◌&&◌, ◌||◌, List, [], ◌∷◌, ◌++◌, Option, Some, None, length, get_or, set, map, fold, refl, ap, subst, ◌∙◌, sym, arith}
+use Rattle.std.proofs.Common.{◌≡◌, ℕ, suc, ◌+◌, Bool, true, false, cond, not, ◌&&◌, ◌||◌, List, [], ◌∷◌, ◌++◌, Option, Some, None, map, fold, refl, ap, subst, ◌∙◌, sym, arith}
 use Rattle.std.specs.List.{list_any, list_all, filter_map, filter, flat_map, cons_option, position_or_len}
+use Rattle.std.specs.Option.{option_map, option_to_list}
 use Rattle.std.specs.Cmp.Lexicographic.{nat_list_eq_equiv}
 use Rattle.std.proofs.lemmas.List.{append-nil, map-append}
 use Rattle.std.proofs.lemmas.List.Elements.{filter_map-append, filter-append}
@@ -9,27 +10,24 @@ use Rattle.std.proofs.lemmas.List.Sums.{fold-append}
 use Rattle.std.proofs.lemmas.Grind.{flat_map-append}
 use Rattle.std.proofs.Math.Seq.{append_snoc}
 use Rattle.dp_conf.specs.Answers.{each_after}
+use Rattle.dp_conf.specs.Words.{same_text}
 use Rattle.dp_conf.proofs.AnswersLemmas.{each_after-push, snoc_from}
-use Rattle.dp_plan.specs.Contexts.{PlanContext, with_entry}
-use Rattle.dp_plan.specs.EntryLine.{same_text}
-use Rattle.dp_plan.specs.Plan.{Addition, same_place, is_taken, is_named, kept_by, added_in, context_in, global_in, kept_in, names_in, context_of, note_of, notes_of}
-use Rattle.dp_plan.specs.Draft.{Drafted, nothing, same_slot, slot_of, with_context, changed_at, with_note, with_addition, added}
+use Rattle.dp_plan.specs.Contexts.{PlanContext, with_entry, with_include}
+use Rattle.dp_plan.specs.Extensions.{extension_of}
+use Rattle.dp_plan.specs.Plan.{Addition, Inclusion, of_one_extension, shares_label, same_place, is_place_taken, is_label_taken, is_taken, is_named, kept_by, added_in, included_in, context_in, global_in, kept_in, names_in, context_of, entry_note, include_note, note_of, notes_of}
+use Rattle.dp_plan.specs.Draft.{Drafted, nothing, same_slot, same_marked, slot_of, label_of, with_name, with_context, changed_at, changed_context, is_marked, with_note, with_addition, with_inclusion, added}
 use Rattle.dp_plan.specs.declared.draft.Slot.{Slot}
+use Rattle.dp_plan.specs.declared.draft.Label.{Label}
 use Rattle.dp_plan.specs.declared.entry.Entry.{Entry}
 use Rattle.dp_plan.specs.declared.plan.GlobalVariable.{GlobalVariable}
 use Rattle.dp_plan.specs.declared.note.Note.{Note}
-use Rattle.dp_plan.specs.declared.note.NoteKind.TheVariants.{DoublePriority, UnknownKey}
+use Rattle.dp_plan.specs.declared.note.NoteKind.TheVariants.{DoublePriority, DoubleLabel, UnknownContext, UnknownKey}
+use Rattle.dp_plan.specs.declared.section.Section.TheVariants.{General, Globals, Context}
 use Rattle.dp_plan.specs.declared.item.Item.{Item}
-use Rattle.dp_plan.specs.declared.item.Item.TheVariants.{Opens, Sets, Adds, Unknown}
-
--- a write at a place changes the element there
-pub changed_at-set : {X : Type 0} (change : X → X) (place : ℕ) (xs : List X) (x y : X) → place < length xs → x ≡ get_or xs place x → y ≡ change x → set xs place y ≡ changed_at change place xs
-changed_at-set change place [] x y within here new = absurd (omega (arith, within))
-changed_at-set change zero (z ∷ xs) x y within here new = ap (λ (t : _). t ∷ xs) (new ∙ ap change here)
-changed_at-set change (suc place) (z ∷ xs) x y within here new = ap (λ (t : List _). z ∷ t) (changed_at-set change place xs x y (omega (arith, within)) here new)
+use Rattle.dp_plan.specs.declared.item.Item.TheVariants.{Begins, Sets, Adds, Includes, Unknown}
 
 -- a test of either kind
-or_false : (a b : Bool) → (a || b) ≡ false → (a ≡ false) × (b ≡ false)
+pub or_false : (a b : Bool) → (a || b) ≡ false → (a ≡ false) × (b ≡ false)
 or_false true b e = absurd cc
 or_false false b e = (refl, e)
 
@@ -72,33 +70,50 @@ kept_by-option : {X : Type 0} (taken : List X → X → Bool) (xs : List X) (o :
 kept_by-option taken xs None = ap (kept_by taken []) (append-nil xs)
 kept_by-option taken xs (Some x) = kept_by-push taken [] xs x
 
-kept_by-filter_map : {X Y : Type 0} (taken : List Y → Y → Bool) (h : X → Option Y) (xs : List X) (x : X) → kept_by taken [] (filter_map h (xs ++ x ∷ [])) ≡ more_by taken (kept_by taken [] (filter_map h xs)) (h x)
+pub kept_by-filter_map : {X Y : Type 0} (taken : List Y → Y → Bool) (h : X → Option Y) (xs : List X) (x : X) → kept_by taken [] (filter_map h (xs ++ x ∷ [])) ≡ more_by taken (kept_by taken [] (filter_map h xs)) (h x)
 kept_by-filter_map taken h xs x = ap (kept_by taken []) (filter_map-append h xs (x ∷ [])) ∙ kept_by-option taken (filter_map h xs) (h x)
 
--- one more item's note goes last
-notes_of-push : (items : List Item) (x : Item) → notes_of (items ++ x ∷ []) ≡ notes_of items ++ note_of items x
-unfolding notes_of
-notes_of-push items x =
-    ap (flat_map (λ (notes : List Note). notes)) (each_after-push note_of [] items x)
-    ∙ (flat_map-append (λ (notes : List Note). notes) (each_after note_of [] items) (note_of items x ∷ [])
-    ∙ ap (λ (more : List Note). flat_map (λ (notes : List Note). notes) (each_after note_of [] items) ++ more) (append-nil (note_of items x)))
+-- the notes of the items, where these are the names of all contexts
+abbrev pub notes_with : List (List ℕ) → List Item → List Note
+notes_with known items = flat_map (λ notes. notes) (each_after (note_of known) [] items)
 
--- the slot of an addition
+-- one more item's note goes last
+notes_with-push : (known : List (List ℕ)) (items : List Item) (x : Item) → notes_with known (items ++ x ∷ []) ≡ notes_with known items ++ note_of known items x
+notes_with-push known items x =
+    ap (flat_map (λ (notes : List Note). notes)) (each_after-push (note_of known) [] items x)
+    ∙ (flat_map-append (λ (notes : List Note). notes) (each_after (note_of known) [] items) (note_of known items x ∷ [])
+    ∙ ap (λ (more : List Note). flat_map (λ (notes : List Note). notes) (each_after (note_of known) [] items) ++ more) (append-nil (note_of known items x)))
+
+-- the notes of the items are those with the names of all their contexts
+pub notes_of-is : (items : List Item) → notes_with (names_in items) items ≡ notes_of items
+unfolding notes_of
+notes_of-is items = refl
+
+-- the slot and the label of an addition
 abbrev slot_in : Addition → Slot
 slot_in a = slot_of a.context a.entry
 
--- a draft by its global variables, its names, what is kept, and its notes
-abbrev pub drafted : List GlobalVariable → List (List ℕ) → List Addition → List Note → Drafted
-drafted globals names kept notes =
-    record { globals = globals; names = names; contexts = map (context_of kept) names; taken = map slot_in kept; notes = notes }
+abbrev label_in : Addition → Option Label
+label_in a = label_of a.context a.entry
+
+-- a draft by its global variables, its names, what is kept, its includes, and its notes
+abbrev pub drafted : List GlobalVariable → List (List ℕ) → List Addition → List Inclusion → List Note → Drafted
+drafted globals names kept included notes = record {
+  globals = globals;
+  names = names;
+  contexts = map (context_of kept included) names;
+  taken = map slot_in kept;
+  labels = filter_map label_in kept;
+  notes = notes;
+}
 
 -- the draft that the items say
-abbrev pub drafted_in : List Item → Drafted
-drafted_in items = drafted (filter_map global_in items) (names_in items) (kept_in items) (notes_of items)
+abbrev pub drafted_in : List (List ℕ) → List Item → Drafted
+drafted_in known items = drafted (filter_map global_in items) (names_in items) (kept_in items) (filter_map included_in items) (notes_with known items)
 
--- every context of what is kept has its name among the names
-abbrev pub IsAllNamed : List (List ℕ) → List Addition → Type 0
-IsAllNamed names kept = list_all (λ a. is_named names a.context) kept ≡ true
+-- every context of what is kept, and of what is included, has its name among the names
+abbrev pub IsAllNamed : List (List ℕ) → List Addition → List Inclusion → Type 0
+IsAllNamed names kept included = (list_all (λ a. is_named names a.context) kept ≡ true) × (list_all (λ i. is_named names i.context) included ≡ true)
 
 -- no name stands twice
 abbrev pub IsDistinct : List (List ℕ) → Type 0
@@ -111,22 +126,25 @@ is_named-same [] a b e = refl
 is_named-same (n ∷ names) a b e =
     ap (λ t. t || is_named names a) (nat_list_eq_equiv.congr a b n e) ∙ ap (λ t. same_text b n || t) (is_named-same names a b e)
 
--- a context of a name that is absent has no entries
-filter-absent : (names : List (List ℕ)) (kept : List Addition) (name : List ℕ) → is_named names name ≡ false → IsAllNamed names kept → filter (λ a. same_text name a.context) kept ≡ []
-filter-absent names [] name absent named = refl
-filter-absent names (a ∷ kept) name absent named =
-    filter-absent_by names a kept name absent (and_left _ _ named) (filter-absent names kept name absent (and_right _ _ named)) (same_text name a.context) refl
+-- what belongs to a context of an absent name is nothing
+filter-absent : {X : Type 0} (name_of : X → List ℕ) (names : List (List ℕ)) (xs : List X) (name : List ℕ) → is_named names name ≡ false → list_all (λ x. is_named names (name_of x)) xs ≡ true → filter (λ x. same_text name (name_of x)) xs ≡ []
+filter-absent name_of names [] name absent named = refl
+filter-absent {X} name_of names (x ∷ xs) name absent named =
+    by (and_left _ _ named) (filter-absent name_of names xs name absent (and_right _ _ named)) (same_text name (name_of x)) refl
   where
-    filter-absent_by : (names : List (List ℕ)) (a : Addition) (kept : List Addition) (name : List ℕ) → is_named names name ≡ false → is_named names a.context ≡ true → filter (λ a. same_text name a.context) kept ≡ [] → (t : Bool) → same_text name a.context ≡ t → cond t (a ∷ filter (λ a. same_text name a.context) kept) (filter (λ a. same_text name a.context) kept) ≡ []
-    filter-absent_by names a kept name absent there rest true e =
-        let same = is_named-same names name a.context e in
+    by : is_named names (name_of x) ≡ true → filter (λ y. same_text name (name_of y)) xs ≡ [] → (t : Bool) → same_text name (name_of x) ≡ t → cond t (x ∷ filter (λ y. same_text name (name_of y)) xs) (filter (λ y. same_text name (name_of y)) xs) ≡ []
+    by there rest true e =
+        let same = is_named-same names name (name_of x) e in
         absurd cc
-    filter-absent_by names a kept name absent there rest false e = rest
+    by there rest false e = rest
 
 -- the context of an absent name, among the contexts so far
-context_of-absent : (names : List (List ℕ)) (kept : List Addition) (name : List ℕ) → is_named names name ≡ false → IsAllNamed names kept → context_of kept name ≡ record { name = name; entries = [] }
-context_of-absent names kept name absent named =
-    ap (λ (found : List Addition). let c : PlanContext = record { name = name; entries = map (λ a. a.entry) found } in c) (filter-absent names kept name absent named)
+context_of-absent : (names : List (List ℕ)) (kept : List Addition) (included : List Inclusion) (name : List ℕ) → is_named names name ≡ false → IsAllNamed names kept included → context_of kept included name ≡ record { name = name; entries = []; includes = [] }
+context_of-absent names kept included name absent named = λ i. record {
+  name = name;
+  entries = map (λ a. a.entry) (filter-absent (λ (a : Addition). a.context) names kept name absent named.0 i);
+  includes = map (λ k. k.name) (filter-absent (λ (k : Inclusion). k.context) names included name absent named.1 i);
+}
 
 -- more names name what was named
 is_named-append : (names more : List (List ℕ)) (name : List ℕ) → is_named names name ≡ true → is_named (names ++ more) name ≡ true
@@ -144,10 +162,16 @@ is_named-more names name = by (is_named names name) refl where
   by true e = is_named-append names [] name e
   by false e = is_named-last names name
 
-IsAllNamed-append : (names more : List (List ℕ)) (kept : List Addition) → IsAllNamed names kept → IsAllNamed (names ++ more) kept
-IsAllNamed-append names more [] named = refl
-IsAllNamed-append names more (a ∷ kept) named =
-    and_both _ _ (is_named-append names more a.context (and_left _ _ named)) (IsAllNamed-append names more kept (and_right _ _ named))
+list_all-named : {X : Type 0} (name_of : X → List ℕ) (names more : List (List ℕ)) (xs : List X) → list_all (λ x. is_named names (name_of x)) xs ≡ true → list_all (λ x. is_named (names ++ more) (name_of x)) xs ≡ true
+list_all-named name_of names more [] named = refl
+list_all-named name_of names more (x ∷ xs) named =
+    and_both _ _ (is_named-append names more (name_of x) (and_left _ _ named)) (list_all-named name_of names more xs (and_right _ _ named))
+
+IsAllNamed-append : (names more : List (List ℕ)) (kept : List Addition) (included : List Inclusion) → IsAllNamed names kept included → IsAllNamed (names ++ more) kept included
+IsAllNamed-append names more kept included named = (
+  list_all-named (λ (a : Addition). a.context) names more kept named.0,
+  list_all-named (λ (k : Inclusion). k.context) names more included named.1,
+)
 
 -- a name that is another than those before it leaves them distinct
 IsDistinct-push : (names : List (List ℕ)) (name : List ℕ) → is_named names name ≡ false → IsDistinct names → IsDistinct (names ++ name ∷ [])
@@ -165,146 +189,276 @@ IsDistinct-more names name distinct = by (is_named names name) refl where
   by true e = subst IsDistinct (sym (append-nil names)) distinct
   by false e = IsDistinct-push names name e distinct
 
-IsAllNamed-more : (names : List (List ℕ)) (kept : List Addition) (name : List ℕ) → IsAllNamed names kept → IsAllNamed (more_by is_named names (Some name)) kept
-IsAllNamed-more names kept name named = IsAllNamed-append names (cond (is_named names name) [] (name ∷ [])) kept named
+IsAllNamed-more : (names : List (List ℕ)) (kept : List Addition) (included : List Inclusion) (name : List ℕ) → IsAllNamed names kept included → IsAllNamed (more_by is_named names (Some name)) kept included
+IsAllNamed-more names kept included name named = IsAllNamed-append names (cond (is_named names name) [] (name ∷ [])) kept included named
+
+-- ---- contexts that begin
 
 -- the draft with a context that is new or there already
-with_context-is : (globals : List GlobalVariable) (names : List (List ℕ)) (kept : List Addition) (notes : List Note) (name : List ℕ) → IsAllNamed names kept → with_context (drafted globals names kept notes) name ≡ drafted globals (more_by is_named names (Some name)) kept notes
-with_context-is globals names kept notes name named = by (is_named names name) refl where
-  by : (t : Bool) → is_named names name ≡ t → cond t (drafted globals names kept notes) (record (drafted globals names kept notes) { names = names ++ name ∷ []; contexts = map (context_of kept) names ++ (record { name = name; entries = [] }) ∷ [] }) ≡ drafted globals (names ++ cond t [] (name ∷ [])) kept notes
-  by true e = ap (λ (ns : List (List ℕ)). drafted globals ns kept notes) (sym (append-nil names))
+with_context-is : (globals : List GlobalVariable) (names : List (List ℕ)) (kept : List Addition) (included : List Inclusion) (notes : List Note) (name : List ℕ) → IsAllNamed names kept included → with_context (drafted globals names kept included notes) name ≡ drafted globals (more_by is_named names (Some name)) kept included notes
+with_context-is globals names kept included notes name named = by (is_named names name) refl where
+  before : Drafted
+  before = drafted globals names kept included notes
+
+  by : (t : Bool) → is_named names name ≡ t → cond t before (record before { names = names ++ name ∷ []; contexts = map (context_of kept included) names ++ (record { name = name; entries = []; includes = [] }) ∷ [] }) ≡ drafted globals (names ++ cond t [] (name ∷ [])) kept included notes
+  by true e = ap (λ (ns : List (List ℕ)). drafted globals ns kept included notes) (sym (append-nil names))
   by false e =
-      let last : List PlanContext → Drafted = λ contexts. record { globals = globals; names = names ++ name ∷ []; contexts = contexts; taken = map slot_in kept; notes = notes } in
+      let last : List PlanContext → Drafted = λ contexts. record { globals = globals; names = names ++ name ∷ []; contexts = contexts; taken = map slot_in kept; labels = filter_map label_in kept; notes = notes } in
       ap last
-      (ap (λ (c : PlanContext). map (context_of kept) names ++ c ∷ []) (sym (context_of-absent names kept name e named))
-      ∙ sym (map-append (context_of kept) names (name ∷ [])))
+      (ap (λ (c : PlanContext). map (context_of kept included) names ++ c ∷ []) (sym (context_of-absent names kept included name e named))
+      ∙ sym (map-append (context_of kept included) names (name ∷ [])))
 
--- the entries of a context, with one more addition
-context_of-other : (kept : List Addition) (a : Addition) (name : List ℕ) → same_text name a.context ≡ false → context_of (kept ++ a ∷ []) name ≡ context_of kept name
-context_of-other kept a name e =
-    let entries : List Addition → PlanContext = λ found. record { name = name; entries = map (λ x. x.entry) found } in
-    ap entries (filter-append (λ x. same_text name x.context) kept (a ∷ []) ∙ ap (λ t. filter (λ x. same_text name x.context) kept ++ cond t (a ∷ []) []) e ∙ append-nil (filter (λ x. same_text name x.context) kept))
-
-context_of-same : (kept : List Addition) (a : Addition) (name : List ℕ) → same_text name a.context ≡ true → context_of (kept ++ a ∷ []) name ≡ with_entry a.entry (context_of kept name)
-context_of-same kept a name e =
-    let entries : List Addition → PlanContext = λ found. record { name = name; entries = map (λ x. x.entry) found } in
-    let listed : List Entry → PlanContext = λ found. record { name = name; entries = found } in
-    ap entries (filter-append (λ x. same_text name x.context) kept (a ∷ []) ∙ ap (λ t. filter (λ x. same_text name x.context) kept ++ cond t (a ∷ []) []) e)
-    ∙ ap listed (map-append (λ x. x.entry) (filter (λ x. same_text name x.context) kept) (a ∷ []))
+-- ---- a context that is changed
 
 -- contexts of other names stay as they were
-contexts-others : (kept : List Addition) (a : Addition) (names : List (List ℕ)) (name : List ℕ) → same_text name a.context ≡ true → is_named names name ≡ false → map (context_of (kept ++ a ∷ [])) names ≡ map (context_of kept) names
-contexts-others kept a [] name e absent = refl
-contexts-others kept a (n ∷ names) name e absent =
+map-others : {C : Type 0} (make made : List ℕ → C) (context : List ℕ) (names : List (List ℕ)) (name : List ℕ) → ((n : List ℕ) → same_text n context ≡ false → made n ≡ make n) → same_text name context ≡ true → is_named names name ≡ false → map made names ≡ map make names
+map-others make made context [] name other e absent = refl
+map-others {C} make made context (n ∷ names) name other e absent =
     let apart = or_false (same_text name n) (is_named names name) absent in
-    let other : same_text n a.context ≡ false = nat_list_eq_equiv.symm n a.context ∙ (sym (nat_list_eq_equiv.congr name a.context n e) ∙ apart.0) in
-    ap (λ (c : PlanContext). c ∷ map (context_of (kept ++ a ∷ [])) names) (context_of-other kept a n other)
-    ∙ ap (λ (cs : List PlanContext). context_of kept n ∷ cs) (contexts-others kept a names name e apart.1)
+    let not_this : same_text n context ≡ false = nat_list_eq_equiv.symm n context ∙ (sym (nat_list_eq_equiv.congr name context n e) ∙ apart.0) in
+    ap (λ (c : C). c ∷ map made names) (other n not_this)
+    ∙ ap (λ (cs : List C). make n ∷ cs) (map-others make made context names name other e apart.1)
 
--- the addition goes to the context of its name
-contexts-added : (kept : List Addition) (a : Addition) (names : List (List ℕ)) → IsDistinct names → map (context_of (kept ++ a ∷ [])) names ≡ changed_at (with_entry a.entry) (position_or_len (same_text a.context) names) (map (context_of kept) names)
-contexts-added kept a [] distinct = refl
-contexts-added kept a (n ∷ names) distinct = by (contexts-added kept a names distinct.1) (same_text a.context n) refl where
-  by : map (context_of (kept ++ a ∷ [])) names ≡ changed_at (with_entry a.entry) (position_or_len (same_text a.context) names) (map (context_of kept) names) → (t : Bool) → same_text a.context n ≡ t → map (context_of (kept ++ a ∷ [])) (n ∷ names) ≡ changed_at (with_entry a.entry) (cond (not t) (1 + position_or_len (same_text a.context) names) 0) (map (context_of kept) (n ∷ names))
+-- what changes the context of one name alone changes the one at the name's place
+map-changed : {C : Type 0} (make made : List ℕ → C) (change : C → C) (context : List ℕ) (names : List (List ℕ)) → ((n : List ℕ) → same_text n context ≡ true → made n ≡ change (make n)) → ((n : List ℕ) → same_text n context ≡ false → made n ≡ make n) → IsDistinct names → map made names ≡ changed_at change (position_or_len (same_text context) names) (map make names)
+map-changed make made change context [] this other distinct = refl
+map-changed {C} make made change context (n ∷ names) this other distinct = by (map-changed make made change context names this other distinct.1) (same_text context n) refl where
+  by : map made names ≡ changed_at change (position_or_len (same_text context) names) (map make names) → (t : Bool) → same_text context n ≡ t → map made (n ∷ names) ≡ changed_at change (cond (not t) (1 + position_or_len (same_text context) names) 0) (map make (n ∷ names))
   by later true e =
-      let same : same_text n a.context ≡ true = nat_list_eq_equiv.symm n a.context ∙ e in
-      ap (λ (c : PlanContext). c ∷ map (context_of (kept ++ a ∷ [])) names) (context_of-same kept a n same)
-      ∙ ap (λ (cs : List PlanContext). with_entry a.entry (context_of kept n) ∷ cs) (contexts-others kept a names n same distinct.0)
+      let same : same_text n context ≡ true = nat_list_eq_equiv.symm n context ∙ e in
+      ap (λ (c : C). c ∷ map made names) (this n same)
+      ∙ ap (λ (cs : List C). change (make n) ∷ cs) (map-others make made context names n other same distinct.0)
   by later false e =
-      let other : same_text n a.context ≡ false = nat_list_eq_equiv.symm n a.context ∙ e in
-      let next : suc (position_or_len (same_text a.context) names) ≡ 1 + position_or_len (same_text a.context) names = omega arith in
-      ap (λ (c : PlanContext). c ∷ map (context_of (kept ++ a ∷ [])) names) (context_of-other kept a n other)
-      ∙ (ap (λ (cs : List PlanContext). context_of kept n ∷ cs) later
-      ∙ ap (λ place. changed_at (with_entry a.entry) place (map (context_of kept) (n ∷ names))) next)
+      let not_this : same_text n context ≡ false = nat_list_eq_equiv.symm n context ∙ e in
+      let next : suc (position_or_len (same_text context) names) ≡ 1 + position_or_len (same_text context) names = omega arith in
+      ap (λ (c : C). c ∷ map made names) (other n not_this)
+      ∙ (ap (λ (cs : List C). make n ∷ cs) later
+      ∙ ap (λ place. changed_at change place (map make (n ∷ names))) next)
 
--- what is taken, by the slots and by what is kept
-is_taken-slots : (kept : List Addition) (a : Addition) → list_any (same_slot (slot_in a)) (map slot_in kept) ≡ is_taken kept a
-is_taken-slots [] a = refl
-is_taken-slots (k ∷ kept) a = ap (λ t. same_place a k || t) (is_taken-slots kept a)
+-- what a filter keeps of one more element
+filter-push : {X : Type 0} (test : X → Bool) (xs : List X) (x : X) (t : Bool) → test x ≡ t → filter test (xs ++ x ∷ []) ≡ filter test xs ++ cond t (x ∷ []) []
+filter-push test xs x t e = filter-append test xs (x ∷ []) ∙ ap (λ u. filter test xs ++ cond u (x ∷ []) []) e
 
--- the note of an addition
-abbrev note_if : Bool → ℕ → List Note
-note_if t line = cond t ((record { line = line; kind = DoublePriority }) ∷ []) []
+-- one more entry goes to the context of its name
+contexts-entry : (kept : List Addition) (included : List Inclusion) (a : Addition) (names : List (List ℕ)) → IsDistinct names → map (context_of (kept ++ a ∷ []) included) names ≡ changed_at (with_entry a.entry) (position_or_len (same_text a.context) names) (map (context_of kept included) names)
+contexts-entry kept included a names distinct = map-changed (context_of kept included) (context_of (kept ++ a ∷ []) included) (with_entry a.entry) a.context names this other distinct
+  where
+    with_entries : List ℕ → List Entry → PlanContext
+    with_entries name entries = record { name = name; entries = entries; includes = map (λ k. k.name) (filter (λ k. same_text name k.context) included) }
 
-with_addition-is : (globals : List GlobalVariable) (names : List (List ℕ)) (kept : List Addition) (notes : List Note) (line : ℕ) (a : Addition) → IsDistinct names → with_addition (drafted globals names kept notes) line a.context a.entry ≡ drafted globals names (more_by is_taken kept (Some a)) (notes ++ note_if (is_taken kept a) line)
-with_addition-is globals names kept notes line a distinct =
-    ap (λ t. choose t) (is_taken-slots kept a) ∙ by (is_taken kept a) where
-      choose : Bool → Drafted
-      choose t = cond t (with_note (drafted globals names kept notes) line DoublePriority) (record (drafted globals names kept notes) { contexts = changed_at (with_entry a.entry) (position_or_len (same_text a.context) names) (map (context_of kept) names); taken = map slot_in kept ++ slot_of a.context a.entry ∷ [] })
+    this : (n : List ℕ) → same_text n a.context ≡ true → context_of (kept ++ a ∷ []) included n ≡ with_entry a.entry (context_of kept included n)
+    this n e =
+        ap (λ (xs : List Addition). with_entries n (map (λ x. x.entry) xs)) (filter-push (λ x. same_text n x.context) kept a true e)
+        ∙ ap (with_entries n) (map-append (λ x. x.entry) (filter (λ x. same_text n x.context) kept) (a ∷ []))
 
-      by : (t : Bool) → choose t ≡ drafted globals names (kept ++ cond t [] (a ∷ [])) (notes ++ note_if t line)
-      by true = ap (λ (ks : List Addition). drafted globals names ks (notes ++ note_if true line)) (sym (append-nil kept))
-      by false = λ i. record {
+    other : (n : List ℕ) → same_text n a.context ≡ false → context_of (kept ++ a ∷ []) included n ≡ context_of kept included n
+    other n e = ap (λ (xs : List Addition). with_entries n (map (λ x. x.entry) xs)) (filter-push (λ x. same_text n x.context) kept a false e ∙ append-nil (filter (λ x. same_text n x.context) kept))
+
+-- one more include goes to the context of its name
+contexts-include : (kept : List Addition) (included : List Inclusion) (k : Inclusion) (names : List (List ℕ)) → IsDistinct names → map (context_of kept (included ++ k ∷ [])) names ≡ changed_at (with_include k.name) (position_or_len (same_text k.context) names) (map (context_of kept included) names)
+contexts-include kept included k names distinct = map-changed (context_of kept included) (context_of kept (included ++ k ∷ [])) (with_include k.name) k.context names this other distinct
+  where
+    with_includes : List ℕ → List (List ℕ) → PlanContext
+    with_includes name includes = record { name = name; entries = map (λ a. a.entry) (filter (λ a. same_text name a.context) kept); includes = includes }
+
+    this : (n : List ℕ) → same_text n k.context ≡ true → context_of kept (included ++ k ∷ []) n ≡ with_include k.name (context_of kept included n)
+    this n e =
+        ap (λ (xs : List Inclusion). with_includes n (map (λ x. x.name) xs)) (filter-push (λ x. same_text n x.context) included k true e)
+        ∙ ap (with_includes n) (map-append (λ x. x.name) (filter (λ x. same_text n x.context) included) (k ∷ []))
+
+    other : (n : List ℕ) → same_text n k.context ≡ false → context_of kept (included ++ k ∷ []) n ≡ context_of kept included n
+    other n e = ap (λ (xs : List Inclusion). with_includes n (map (λ x. x.name) xs)) (filter-push (λ x. same_text n x.context) included k false e ∙ append-nil (filter (λ x. same_text n x.context) included))
+
+-- ---- what is taken
+
+-- the places that are taken, by the slots and by what is kept
+is_slot_taken-is : (kept : List Addition) (a : Addition) → list_any (same_slot (slot_in a)) (map slot_in kept) ≡ is_place_taken kept a
+is_slot_taken-is [] a = refl
+is_slot_taken-is (k ∷ kept) a = ap (λ t. same_place a k || t) (is_slot_taken-is kept a)
+
+and_false : (t : Bool) → false ≡ (t && false)
+and_false true = refl
+and_false false = refl
+
+list_any-none : {X : Type 0} (test : X → Bool) (xs : List X) → ((x : X) → test x ≡ false) → list_any test xs ≡ false
+list_any-none test [] none = refl
+list_any-none test (x ∷ xs) none = (λ i. none x i || list_any-none test xs none i)
+
+-- a label among those that are taken, by the labels and by what is kept
+marked-some : (kept : List Addition) (a : Addition) (label : List ℕ) → list_any (same_marked (record { extension = extension_of a.context a.entry.name; label = label })) (filter_map label_in kept) ≡ list_any (λ b. of_one_extension a b && shares_label (Some label) b.entry.label) kept
+marked-some [] a label = refl
+marked-some (k ∷ kept) a label = by k.entry.label (marked-some kept a label) where
+  by : (o : Option (List ℕ)) → list_any (same_marked (record { extension = extension_of a.context a.entry.name; label = label })) (filter_map label_in kept) ≡ list_any (λ b. of_one_extension a b && shares_label (Some label) b.entry.label) kept
+      → list_any (same_marked (record { extension = extension_of a.context a.entry.name; label = label })) (cons_option (option_map (λ l. record { extension = extension_of k.context k.entry.name; label = l }) o) (filter_map label_in kept)) ≡ ((of_one_extension a k && shares_label (Some label) o) || list_any (λ b. of_one_extension a b && shares_label (Some label) b.entry.label) kept)
+  by None rest = rest ∙ ap (λ t. t || list_any (λ b. of_one_extension a b && shares_label (Some label) b.entry.label) kept) (and_false (of_one_extension a k))
+  by (Some l) rest = ap (λ t. (of_one_extension a k && same_text label l) || t) rest
+
+is_marked-is : (d : Drafted) (kept : List Addition) (a : Addition) → d.labels ≡ filter_map label_in kept → is_marked d (label_in a) ≡ is_label_taken kept a
+is_marked-is d kept a labels = by a.entry.label where
+  by : (o : Option (List ℕ)) → is_marked d (option_map (λ l. record { extension = extension_of a.context a.entry.name; label = l }) o) ≡ list_any (λ b. of_one_extension a b && shares_label o b.entry.label) kept
+  by None = sym (list_any-none (λ (b : Addition). of_one_extension a b && false) kept (λ b. sym (and_false (of_one_extension a b))))
+  by (Some l) = ap (λ (ls : List Label). list_any (same_marked (record { extension = extension_of a.context a.entry.name; label = l })) ls) labels ∙ marked-some kept a l
+
+list-cons : {X : Type 0} (o : Option X) → option_to_list o ≡ cons_option o []
+list-cons None = refl
+list-cons (Some x) = refl
+
+-- ---- one more entry or include
+
+with_addition-is : (globals : List GlobalVariable) (names : List (List ℕ)) (kept : List Addition) (included : List Inclusion) (notes : List Note) (line : ℕ) (a : Addition) → IsDistinct names → with_addition (drafted globals names kept included notes) line a.context a.entry ≡ drafted globals names (more_by is_taken kept (Some a)) included (notes ++ entry_note line kept a)
+with_addition-is globals names kept included notes line a distinct =
+    (λ i. choose (is_slot_taken-is kept a i) (is_marked-is before kept a refl i)) ∙ by (is_place_taken kept a) (is_label_taken kept a) where
+      before : Drafted
+      before = drafted globals names kept included notes
+
+      choose : Bool → Bool → Drafted
+      choose p l = cond p (with_note before line DoublePriority) (cond l (with_note before line DoubleLabel) (record before {
+        contexts = changed_context before (with_entry a.entry) a.context;
+        taken = map slot_in kept ++ slot_of a.context a.entry ∷ [];
+        labels = filter_map label_in kept ++ option_to_list (label_of a.context a.entry);
+      }))
+
+      note : Bool → Bool → List Note
+      note p l = cond p ((record { line = line; kind = DoublePriority }) ∷ []) (cond l ((record { line = line; kind = DoubleLabel }) ∷ []) [])
+
+      by : (p l : Bool) → choose p l ≡ drafted globals names (kept ++ cond (p || l) [] (a ∷ [])) included (notes ++ note p l)
+      by true l = ap (λ (ks : List Addition). drafted globals names ks included (notes ++ note true true)) (sym (append-nil kept))
+      by false true = ap (λ (ks : List Addition). drafted globals names ks included (notes ++ note false true)) (sym (append-nil kept))
+      by false false = λ i. record {
         globals = globals;
         names = names;
-        contexts = sym (contexts-added kept a names distinct) i;
+        contexts = sym (contexts-entry kept included a names distinct) i;
         taken = sym (map-append slot_in kept (a ∷ [])) i;
+        labels = (ap (λ (ls : List Label). filter_map label_in kept ++ ls) (list-cons (label_in a)) ∙ sym (filter_map-append label_in kept (a ∷ []))) i;
         notes = sym (append-nil notes) i;
       }
 
+with_inclusion-is : (known : List (List ℕ)) (globals : List GlobalVariable) (names : List (List ℕ)) (kept : List Addition) (included : List Inclusion) (notes : List Note) (line : ℕ) (k : Inclusion) → IsDistinct names → with_inclusion known (drafted globals names kept included notes) line k.context k.name ≡ drafted globals names kept (included ++ k ∷ []) (notes ++ include_note line known k.name)
+with_inclusion-is known globals names kept included notes line k distinct = by (is_named known k.name) where
+  before : Drafted
+  before = drafted globals names kept included notes
+
+  after : Drafted
+  after = record before { contexts = changed_context before (with_include k.name) k.context }
+
+  by : (t : Bool) → cond t after (with_note after line UnknownContext) ≡ drafted globals names kept (included ++ k ∷ []) (notes ++ cond t [] ((record { line = line; kind = UnknownContext }) ∷ []))
+  by true = λ i. record {
+    globals = globals;
+    names = names;
+    contexts = sym (contexts-include kept included k names distinct) i;
+    taken = map slot_in kept;
+    labels = filter_map label_in kept;
+    notes = sym (append-nil notes) i;
+  }
+  by false = λ i. record {
+    globals = globals;
+    names = names;
+    contexts = sym (contexts-include kept included k names distinct) i;
+    taken = map slot_in kept;
+    labels = filter_map label_in kept;
+    notes = notes ++ (record { line = line; kind = UnknownContext }) ∷ [];
+  }
+
+-- ---- one more item
+
 -- one more item, by the parts of the draft
-added-is : (globals : List GlobalVariable) (names : List (List ℕ)) (kept : List Addition) (notes : List Note) (x : Item) → IsAllNamed names kept → IsDistinct names
+added-is : (known : List (List ℕ)) (globals : List GlobalVariable) (names : List (List ℕ)) (kept : List Addition) (included : List Inclusion) (notes : List Note) (x : Item) → IsAllNamed names kept included → IsDistinct names
     → (before : List Item) → kept_in before ≡ kept
-    → added (drafted globals names kept notes) x ≡ drafted (globals ++ cons_option (global_in x) []) (more_by is_named names (context_in x)) (more_by is_taken kept (added_in x)) (notes ++ note_of before x)
-added-is globals names kept notes (Opens name) named distinct before same =
-    with_context-is globals names kept notes name named
-    ∙ (λ i. drafted (sym (append-nil globals) i) (more_by is_named names (Some name)) kept (sym (append-nil notes) i))
-added-is globals names kept notes (Sets global) named distinct before same =
-    λ i. drafted (globals ++ global ∷ []) names kept (sym (append-nil notes) i)
-added-is globals names kept notes (Adds line context entry) named distinct before same =
+    → added known (drafted globals names kept included notes) x ≡ drafted (globals ++ cons_option (global_in x) []) (more_by is_named names (context_in x)) (more_by is_taken kept (added_in x)) (included ++ cons_option (included_in x) []) (notes ++ note_of known before x)
+added-is known globals names kept included notes (Begins General) named distinct before same =
+    λ i. drafted (sym (append-nil globals) i) names kept (sym (append-nil included) i) (sym (append-nil notes) i)
+added-is known globals names kept included notes (Begins Globals) named distinct before same =
+    λ i. drafted (sym (append-nil globals) i) names kept (sym (append-nil included) i) (sym (append-nil notes) i)
+added-is known globals names kept included notes (Begins (Context name)) named distinct before same =
+    with_context-is globals names kept included notes name named
+    ∙ (λ i. drafted (sym (append-nil globals) i) (more_by is_named names (Some name)) kept (sym (append-nil included) i) (sym (append-nil notes) i))
+added-is known globals names kept included notes (Sets global) named distinct before same =
+    λ i. drafted (globals ++ global ∷ []) names kept (sym (append-nil included) i) (sym (append-nil notes) i)
+added-is known globals names kept included notes (Adds line context entry) named distinct before same =
     let a : Addition = record { context = context; entry = entry } in
-    ap (λ (d : Drafted). with_addition d line context entry) (with_context-is globals names kept notes context named)
-    ∙ (with_addition-is globals (more_by is_named names (Some context)) kept notes line a (IsDistinct-more names context distinct)
-    ∙ (λ i. drafted (sym (append-nil globals) i) (more_by is_named names (Some context)) (more_by is_taken kept (Some a)) (notes ++ note_if (is_taken (sym same i) a) line)))
-added-is globals names kept notes (Unknown line) named distinct before same =
-    λ i. drafted (sym (append-nil globals) i) names kept (notes ++ (record { line = line; kind = UnknownKey }) ∷ [])
+    ap (λ (d : Drafted). with_addition d line context entry) (with_context-is globals names kept included notes context named)
+    ∙ (with_addition-is globals (more_by is_named names (Some context)) kept included notes line a (IsDistinct-more names context distinct)
+    ∙ (λ i. drafted (sym (append-nil globals) i) (more_by is_named names (Some context)) (more_by is_taken kept (Some a)) (sym (append-nil included) i) (notes ++ entry_note line (sym same i) a)))
+added-is known globals names kept included notes (Includes line context name) named distinct before same =
+    let k : Inclusion = record { context = context; name = name } in
+    ap (λ (d : Drafted). with_inclusion known d line context name) (with_context-is globals names kept included notes context named)
+    ∙ (with_inclusion-is known globals (more_by is_named names (Some context)) kept included notes line k (IsDistinct-more names context distinct)
+    ∙ (λ i. drafted (sym (append-nil globals) i) (more_by is_named names (Some context)) kept (included ++ k ∷ []) (notes ++ include_note line known name)))
+added-is known globals names kept included notes (Unknown line) named distinct before same =
+    λ i. drafted (sym (append-nil globals) i) names kept (sym (append-nil included) i) (notes ++ (record { line = line; kind = UnknownKey }) ∷ [])
 
 -- what the items make of a draft, and what stays true of its names
-pub record Makes (items : List Item) : Type 0 where
-  pub draft : fold added nothing items ≡ drafted_in items
-  pub named : IsAllNamed (names_in items) (kept_in items)
+pub record Makes (known : List (List ℕ)) (items : List Item) : Type 0 where
+  pub draft : fold (added known) nothing items ≡ drafted_in known items
+  pub named : IsAllNamed (names_in items) (kept_in items) (filter_map included_in items)
   pub distinct : IsDistinct (names_in items)
 
-named-more : (names : List (List ℕ)) (kept : List Addition) (x : Item) → IsAllNamed names kept → IsAllNamed (more_by is_named names (context_in x)) (more_by is_taken kept (added_in x))
-named-more names kept (Opens name) named = IsAllNamed-more names kept name named
-named-more names kept (Sets global) named = named
-named-more names kept (Adds line context entry) named = by (is_taken kept (record { context = context; entry = entry })) where
-  by : (t : Bool) → IsAllNamed (more_by is_named names (Some context)) (kept ++ cond t [] ((record { context = context; entry = entry }) ∷ []))
-  by true = subst (IsAllNamed (more_by is_named names (Some context))) (sym (append-nil kept)) (IsAllNamed-more names kept context named)
-  by false =
-      list_all-append (λ a. is_named (more_by is_named names (Some context)) a.context) kept ((record { context = context; entry = entry }) ∷ [])
-      ∙ and_both _ _ (IsAllNamed-more names kept context named) (and_both _ true (is_named-more names context) refl)
-named-more names kept (Unknown line) named = named
+-- one more element whose context is named leaves all named
+list_all-push : {X : Type 0} (test : X → Bool) (xs : List X) (x : X) → list_all test xs ≡ true → test x ≡ true → list_all test (xs ++ x ∷ []) ≡ true
+list_all-push test xs x all one = list_all-append test xs (x ∷ []) ∙ and_both _ _ all (and_both _ true one refl)
 
-distinct-more : (names : List (List ℕ)) (x : Item) → IsDistinct names → IsDistinct (more_by is_named names (context_in x))
-distinct-more names (Opens name) distinct = IsDistinct-more names name distinct
-distinct-more names (Sets global) distinct = distinct
-distinct-more names (Adds line context entry) distinct = IsDistinct-more names context distinct
-distinct-more names (Unknown line) distinct = distinct
+named-more : (names : List (List ℕ)) (kept : List Addition) (included : List Inclusion) (x : Item) → IsAllNamed names kept included → IsAllNamed (more_by is_named names (context_in x)) (more_by is_taken kept (added_in x)) (included ++ cons_option (included_in x) [])
+named-more names kept included (Begins General) named = subst (IsAllNamed names kept) (sym (append-nil included)) named
+named-more names kept included (Begins Globals) named = subst (IsAllNamed names kept) (sym (append-nil included)) named
+named-more names kept included (Begins (Context name)) named = subst (IsAllNamed (more_by is_named names (Some name)) kept) (sym (append-nil included)) (IsAllNamed-more names kept included name named)
+named-more names kept included (Sets global) named = subst (IsAllNamed names kept) (sym (append-nil included)) named
+named-more names kept included (Adds line context entry) named =
+    subst (IsAllNamed (more_by is_named names (Some context)) (kept ++ cond (is_taken kept a) [] (a ∷ []))) (sym (append-nil included)) (by (is_taken kept a))
+  where
+    a : Addition
+    a = record { context = context; entry = entry }
 
-Makes-push : (items : List Item) (x : Item) → Makes items → Makes (items ++ x ∷ [])
-Makes-push items x makes =
+    more : IsAllNamed (more_by is_named names (Some context)) kept included
+    more = IsAllNamed-more names kept included context named
+
+    by : (t : Bool) → IsAllNamed (more_by is_named names (Some context)) (kept ++ cond t [] (a ∷ [])) included
+    by true = (subst (λ (ks : List Addition). list_all (λ x. is_named (more_by is_named names (Some context)) x.context) ks ≡ true) (sym (append-nil kept)) more.0, more.1)
+    by false = (list_all-push (λ (x : Addition). is_named (more_by is_named names (Some context)) x.context) kept a more.0 (is_named-more names context), more.1)
+named-more names kept included (Includes line context name) named =
+    let more = IsAllNamed-more names kept included context named in
+    (more.0, list_all-push (λ (k : Inclusion). is_named (more_by is_named names (Some context)) k.context) included (record { context = context; name = name }) more.1 (is_named-more names context))
+named-more names kept included (Unknown line) named = subst (IsAllNamed names kept) (sym (append-nil included)) named
+
+distinct-option : (names : List (List ℕ)) (o : Option (List ℕ)) → IsDistinct names → IsDistinct (more_by is_named names o)
+distinct-option names None distinct = distinct
+distinct-option names (Some name) distinct = IsDistinct-more names name distinct
+
+Makes-push : (known : List (List ℕ)) (items : List Item) (x : Item) → Makes known items → Makes known (items ++ x ∷ [])
+Makes-push known items x makes =
     let globals : filter_map global_in (items ++ x ∷ []) ≡ filter_map global_in items ++ cons_option (global_in x) [] = filter_map-append global_in items (x ∷ []) in
+    let included : filter_map included_in (items ++ x ∷ []) ≡ filter_map included_in items ++ cons_option (included_in x) [] = filter_map-append included_in items (x ∷ []) in
     let names : names_in (items ++ x ∷ []) ≡ more_by is_named (names_in items) (context_in x) = kept_by-filter_map is_named context_in items x in
     let kept : kept_in (items ++ x ∷ []) ≡ more_by is_taken (kept_in items) (added_in x) = kept_by-filter_map is_taken added_in items x in
-    let notes = notes_of-push items x in
+    let notes = notes_with-push known items x in
     record {
       draft =
-          fold-append added nothing items (x ∷ [])
-          ∙ (ap (λ (d : Drafted). added d x) makes.draft
-          ∙ (added-is (filter_map global_in items) (names_in items) (kept_in items) (notes_of items) x makes.named makes.distinct items refl
-          ∙ (λ i. drafted (sym globals i) (sym names i) (sym kept i) (sym notes i))));
-      named = let P : List (List ℕ) → Type 0 = λ ns. IsAllNamed ns (kept_in (items ++ x ∷ [])) in
-          subst P (sym names) (subst (IsAllNamed (more_by is_named (names_in items) (context_in x))) (sym kept) (named-more (names_in items) (kept_in items) x makes.named));
-      distinct = subst IsDistinct (sym names) (distinct-more (names_in items) x makes.distinct);
+          fold-append (added known) nothing items (x ∷ [])
+          ∙ (ap (λ (d : Drafted). added known d x) makes.draft
+          ∙ (added-is known (filter_map global_in items) (names_in items) (kept_in items) (filter_map included_in items) (notes_with known items) x makes.named makes.distinct items refl
+          ∙ (λ i. drafted (sym globals i) (sym names i) (sym kept i) (sym included i) (sym notes i))));
+      named =
+          subst (IsAllNamed (names_in (items ++ x ∷ [])) (kept_in (items ++ x ∷ []))) (sym included)
+          (subst (λ (ks : List Addition). IsAllNamed (names_in (items ++ x ∷ [])) ks (filter_map included_in items ++ cons_option (included_in x) [])) (sym kept)
+          (subst (λ (ns : List (List ℕ)). IsAllNamed ns (more_by is_taken (kept_in items) (added_in x)) (filter_map included_in items ++ cons_option (included_in x) [])) (sym names)
+          (named-more (names_in items) (kept_in items) (filter_map included_in items) x makes.named)));
+      distinct = subst IsDistinct (sym names) (distinct-option (names_in items) (context_in x) makes.distinct);
     }
 
 -- the items make the draft that they say
-pub Makes-all : (items : List Item) → Makes items
-unfolding notes_of
-Makes-all items = snoc_from Makes Makes-push [] items (record { draft = refl; named = refl; distinct = tt })
+pub Makes-all : (known : List (List ℕ)) (items : List Item) → Makes known items
+Makes-all known items = snoc_from (Makes known) (Makes-push known) [] items (record { draft = refl; named = (refl, refl); distinct = tt })
 
 -- the names of the contexts are the names
-pub names-contexts : (kept : List Addition) (names : List (List ℕ)) → map (λ (c : PlanContext). c.name) (map (context_of kept) names) ≡ names
-names-contexts kept [] = refl
-names-contexts kept (n ∷ names) = ap (λ (ns : List (List ℕ)). n ∷ ns) (names-contexts kept names)
+pub names-contexts : (kept : List Addition) (included : List Inclusion) (names : List (List ℕ)) → map (λ (c : PlanContext). c.name) (map (context_of kept included) names) ≡ names
+names-contexts kept included [] = refl
+names-contexts kept included (n ∷ names) = ap (λ (ns : List (List ℕ)). n ∷ ns) (names-contexts kept included names)
+
+-- one more item's context goes to the names
+pub names_in-push : (items : List Item) (x : Item) → names_in (items ++ x ∷ []) ≡ with_name (names_in items) (context_in x)
+names_in-push items x = kept_by-filter_map is_named context_in items x ∙ by (context_in x) where
+  by : (o : Option (List ℕ)) → more_by is_named (names_in items) o ≡ with_name (names_in items) o
+  by None = refl
+  by (Some name) = inner (is_named (names_in items) name) where
+    inner : (t : Bool) → (names_in items ++ cond t [] (name ∷ [])) ≡ cond t (names_in items) (names_in items ++ name ∷ [])
+    inner true = append-nil (names_in items)
+    inner false = refl

@@ -1,4 +1,9 @@
+mod ApartLemmas
+mod ChangedLemmas
 mod DraftLemmas
 mod EntryLemmas
+mod HistoryLemmas
+mod ItemsLemmas
 mod LoadedLemmas
+mod RankingLemmas
 mod Rows

@@ -1,32 +1,80 @@
--- Texts, lines, priorities and applications whose answers are computed on the definitions themselves.
-use Rattle.std.proofs.Common.{◌≡◌, [], ◌∷◌, ◌++◌, Ok, Err, refl}
+-- Texts, lines, names, priorities and applications whose answers are computed on the definitions themselves.
+use Rattle.std.proofs.Common.{◌≡◌, [], ◌∷◌, ◌++◌, Some, None, Ok, Err, refl}
 use Rattle.std.specs.Prelude.{codes}
 use Rattle.dp_conf.specs.Lines.{lines_of}
 use Rattle.dp_conf.specs.declared.fault.ConfFault.TheVariants.{At}
 use Rattle.dp_conf.specs.declared.fault.LineKind.TheVariants.{NoEquals}
-use Rattle.dp_plan.specs.EntryLine.{priority_of, application_of, entry_by, entry_of}
+use Rattle.dp_pattern.specs.Name.{Plain, meaning_of}
+use Rattle.dp_pattern.specs.Spelling.{spelling}
+use Rattle.dp_pattern.specs.declared.fault.NameFault.TheVariants.{BadByte}
+use Rattle.dp_plan.specs.EntryLine.{name_of, written_priority, number_after, application_of, exten_entry, same_entry}
 use Rattle.dp_plan.specs.Loaded.{loaded}
 use Rattle.dp_plan.specs.Plan.{plan_of, notes_of}
-use Rattle.dp_plan.specs.declared.fault.LoadFault.TheVariants.{Conf, Plan}
-use Rattle.dp_plan.specs.declared.fault.PlanKind.TheVariants.{BadPriority, BadApplication, LeftOut, PriorityLimit, ShortLine, NotYet}
-use Rattle.dp_plan.specs.declared.fault.Word.TheVariants.{OldForm, PriorityWord}
-use Rattle.dp_plan.specs.declared.note.NoteKind.TheVariants.{DoublePriority, UnknownKey}
+use Rattle.dp_plan.specs.declared.fault.LoadFault.TheVariants.{Conf, Pattern, Plan}
+use Rattle.dp_plan.specs.declared.fault.PlanKind.TheVariants.{BadPriority, NoPrevious, BadLabel, BadApplication, LeftOut, NoExten, PriorityLimit, ShortLine, NotYet}
+use Rattle.dp_plan.specs.declared.fault.Word.TheVariants.{CallerId, Variable, OldForm, PriorityWord}
+use Rattle.dp_plan.specs.declared.note.NoteKind.TheVariants.{DoublePriority, DoubleLabel, UnknownContext, UnknownKey}
+use Rattle.dp_plan.specs.declared.numbering.Written.TheVariants.{Number, TooGreat, Next}
 
-priority-greatest : priority_of (codes "2147483647") ≡ Ok 2147483647
-unfolding priority_of
+-- ---- names
+
+name-variable_first : name_of 3 (codes "${X}/1") ≡ Err (Plan 3 (LeftOut Variable))
+unfolding name_of
+name-variable_first = refl
+
+name-caller_before_the_set : name_of 3 (codes "_[/") ≡ Err (Plan 3 (LeftOut CallerId))
+unfolding name_of
+name-caller_before_the_set = refl
+
+name-variable_of_the_spelling : name_of 3 (codes "$-{x") ≡ Err (Plan 3 (LeftOut Variable))
+unfolding name_of meaning_of spelling
+name-variable_of_the_spelling = refl
+
+name-blank : name_of 3 (codes "a b") ≡ Err (Pattern 3 BadByte)
+unfolding name_of meaning_of
+name-blank = refl
+
+-- ---- priorities
+
+priority-greatest : written_priority (codes "2147483647") ≡ Ok (Number 2147483647, None)
+unfolding written_priority
 priority-greatest = refl
 
-priority-above : priority_of (codes "2147483648") ≡ Err PriorityLimit
-unfolding priority_of
+priority-above : written_priority (codes "2147483648") ≡ Ok (TooGreat, None)
+unfolding written_priority
 priority-above = refl
 
-priority-zero : priority_of (codes "00") ≡ Err BadPriority
-unfolding priority_of
+priority-zero : written_priority (codes "00") ≡ Err BadPriority
+unfolding written_priority
 priority-zero = refl
 
-priority-sum : priority_of (codes "n+1") ≡ Err (LeftOut PriorityWord)
-unfolding priority_of
+priority-sum : written_priority (codes "n+1(a)") ≡ Err (LeftOut PriorityWord)
+unfolding written_priority
 priority-sum = refl
+
+priority-label : written_priority (codes "n ( a b )") ≡ Ok (Next, Some (codes "a b"))
+unfolding written_priority
+priority-label = refl
+
+-- the sign is left out before the label alone
+priority-sum_in_a_label : written_priority (codes "1(a+b)") ≡ Ok (Number 1, Some (codes "a+b"))
+unfolding written_priority
+priority-sum_in_a_label = refl
+
+priority-digits_in_a_label : written_priority (codes "2147483648(12)") ≡ Err BadLabel
+unfolding written_priority
+priority-digits_in_a_label = refl
+
+next-first : number_after None Next ≡ Err NoPrevious
+next-first = refl
+
+next-after : number_after (Some 4) Next ≡ Ok 5
+next-after = refl
+
+next-after_the_greatest : number_after (Some 2147483647) Next ≡ Err PriorityLimit
+next-after_the_greatest = refl
+
+-- ---- applications
 
 application-levels : application_of (codes "App(a(b)c)") ≡ Ok (codes "App", codes "a(b)c")
 unfolding application_of
@@ -40,36 +88,60 @@ application-old_form : application_of (codes "a,b(c)") ≡ Err (LeftOut OldForm)
 unfolding application_of
 application-old_form = refl
 
-entry-trimmed : entry_of (codes "s , 01 , No Op ( a )") ≡ Ok (record { name = codes "s"; priority = 1; application = codes "No Op"; arguments = codes " a " })
-unfolding entry_by priority_of application_of
-entry-trimmed = refl
-
--- what is not read yet is asked before the priority
-entry-not_yet : entry_of (codes "s,0,A(${X})") ≡ Err NotYet
-unfolding entry_by priority_of application_of
-entry-not_yet = refl
-
--- a line with no comma has no name
-entry-short : entry_of (codes "a b") ≡ Err ShortLine
-entry-short = refl
+-- ---- whole texts
 
 loaded-empty : loaded [] ≡ Ok (record { globals = []; contexts = [] }, [])
 unfolding loaded lines_of plan_of notes_of
 loaded-empty = refl
 
+-- what is not read yet is asked before the name and the priority
+loaded-not_yet : loaded (codes "[m]" ++ 10 ∷ codes "exten=a b,0,A(${X})") ≡ Err (Plan 2 NotYet)
+unfolding loaded lines_of exten_entry application_of
+loaded-not_yet = refl
+
+-- a line with one comma is short, whatever its name
+loaded-short : loaded (codes "[m]" ++ 10 ∷ codes "exten=a b,1") ≡ Err (Plan 2 ShortLine)
+unfolding loaded lines_of exten_entry
+loaded-short = refl
+
+-- a line that repeats no extension, though it is short
+loaded-no_exten : loaded (codes "[m]" ++ 10 ∷ codes "same=1") ≡ Err (Plan 2 NoExten)
+unfolding loaded lines_of same_entry
+loaded-no_exten = refl
+
 -- the first line of a place stands, also over the sections of a context
-loaded-double : loaded (codes "[a]" ++ 10 ∷ codes "exten=s,1,A" ++ 10 ∷ codes "[b]" ++ 10 ∷ codes "x=" ++ 10 ∷ codes "[a]" ++ 10 ∷ codes "exten=s,1,B")
+loaded-double : loaded (codes "[a]" ++ 10 ∷ codes "exten=s,1,A" ++ 10 ∷ codes "[b]" ++ 10 ∷ codes "x=" ++ 10 ∷ codes "[a]" ++ 10 ∷ codes "exten=-s,1,B")
     ≡ Ok (
       record {
         globals = [];
         contexts =
-            (record { name = codes "a"; entries = (record { name = codes "s"; priority = 1; application = codes "A"; arguments = [] }) ∷ [] })
-            ∷ (record { name = codes "b"; entries = [] }) ∷ [];
+            (record { name = codes "a"; entries = (record { name = Plain (codes "s"); priority = 1; label = None; application = codes "A"; arguments = [] }) ∷ []; includes = [] })
+            ∷ (record { name = codes "b"; entries = []; includes = [] }) ∷ [];
       },
       (record { line = 4; kind = UnknownKey }) ∷ (record { line = 6; kind = DoublePriority }) ∷ [],
     )
-unfolding loaded lines_of plan_of notes_of entry_by priority_of application_of
+unfolding loaded lines_of plan_of notes_of exten_entry name_of meaning_of spelling written_priority application_of
 loaded-double = refl
+
+-- `n` counts on behind a line that is dropped; a label is taken once; an include of a context that comes later is known
+loaded-next : loaded (codes "[a]" ++ 10 ∷ codes "exten=s,1(x),A" ++ 10 ∷ codes "same=n(x),B" ++ 10 ∷ codes "same=n,C" ++ 10 ∷ codes "include=b" ++ 10 ∷ codes "include=c" ++ 10 ∷ codes "[b]")
+    ≡ Ok (
+      record {
+        globals = [];
+        contexts =
+            (record {
+              name = codes "a";
+              entries =
+                  (record { name = Plain (codes "s"); priority = 1; label = Some (codes "x"); application = codes "A"; arguments = [] })
+                  ∷ (record { name = Plain (codes "s"); priority = 3; label = None; application = codes "C"; arguments = [] }) ∷ [];
+              includes = codes "b" ∷ codes "c" ∷ [];
+            })
+            ∷ (record { name = codes "b"; entries = []; includes = [] }) ∷ [];
+      },
+      (record { line = 3; kind = DoubleLabel }) ∷ (record { line = 6; kind = UnknownContext }) ∷ [],
+    )
+unfolding loaded lines_of plan_of notes_of exten_entry same_entry name_of meaning_of spelling written_priority application_of
+loaded-next = refl
 
 loaded-globals : loaded (codes "[GLOBALS]" ++ 10 ∷ codes "A=1" ++ 10 ∷ codes "=2" ++ 10 ∷ codes "A=")
     ≡ Ok (
@@ -85,5 +157,5 @@ unfolding loaded lines_of
 loaded-text_first = refl
 
 loaded-lowest_line : loaded (codes "[m]" ++ 10 ∷ codes "exten=s,1" ++ 10 ∷ codes "exten=s,0,A") ≡ Err (Plan 2 ShortLine)
-unfolding loaded lines_of entry_by priority_of application_of
+unfolding loaded lines_of exten_entry
 loaded-lowest_line = refl

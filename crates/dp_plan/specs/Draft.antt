@@ -1,43 +1,65 @@
 -- A dialplan in the making, and what one more item makes of it.
-use Rattle.std.specs.Prelude.{ℕ, zero, suc, Bool, ◌&&◌, ◌==◌, List, [], ◌∷◌, ◌++◌, if◌then◌else◌}
+use Rattle.std.specs.Prelude.{ℕ, zero, suc, Bool, false, ◌&&◌, ◌==◌, List, [], ◌∷◌, ◌++◌, Option, Some, None, if◌then◌else◌}
 use Rattle.std.specs.List.{list_any, position_or_len}
-use Rattle.dp_plan.specs.EntryLine.{same_text}
-use Rattle.dp_plan.specs.Contexts.{PlanContext, with_entry}
+use Rattle.std.specs.Option.{option_to_list, option_map}
+use Rattle.dp_conf.specs.Words.{same_text}
+use Rattle.dp_plan.specs.Contexts.{PlanContext, with_entry, with_include}
+use Rattle.dp_plan.specs.Extensions.{extension_of, same_extension}
 use Rattle.dp_plan.specs.Plan.{is_named}
 use Rattle.dp_plan.specs.declared.draft.Slot.{Slot}
+use Rattle.dp_plan.specs.declared.draft.Label.{Label}
 use Rattle.dp_plan.specs.declared.entry.Entry.{Entry}
 use Rattle.dp_plan.specs.declared.plan.GlobalVariable.{GlobalVariable}
 use Rattle.dp_plan.specs.declared.note.Note.{Note}
 use Rattle.dp_plan.specs.declared.note.NoteKind.{NoteKind}
-use Rattle.dp_plan.specs.declared.note.NoteKind.TheVariants.{DoublePriority, UnknownKey}
+use Rattle.dp_plan.specs.declared.note.NoteKind.TheVariants.{DoublePriority, DoubleLabel, UnknownContext, UnknownKey}
+use Rattle.dp_plan.specs.declared.section.Section.{Section}
+use Rattle.dp_plan.specs.declared.section.Section.TheVariants.{General, Globals, Context}
 use Rattle.dp_plan.specs.declared.item.Item.{Item}
-use Rattle.dp_plan.specs.declared.item.Item.TheVariants.{Opens, Sets, Adds, Unknown}
+use Rattle.dp_plan.specs.declared.item.Item.TheVariants.{Begins, Sets, Adds, Includes, Unknown}
 
--- the global variables, the contexts with their names, the places that are taken, and the notes so far
+-- the global variables, the contexts with their names, the places and labels that are taken, and the notes so far
 pub record Drafted : Type 0 where
   pub globals : List GlobalVariable
   pub names : List (List ℕ)
   pub contexts : List PlanContext
   pub taken : List Slot
+  pub labels : List Label
   pub notes : List Note
 
 -- nothing so far
 abbrev pub nothing : Drafted
-nothing = record { globals = []; names = []; contexts = []; taken = []; notes = [] }
+nothing = record { globals = []; names = []; contexts = []; taken = []; labels = []; notes = [] }
 
 -- two slots are the same place
 abbrev pub same_slot : Slot → Slot → Bool
-same_slot a b = same_text a.context b.context && same_text a.name b.name && a.priority == b.priority
+same_slot a b = same_extension a.extension b.extension && a.priority == b.priority
+
+-- two labels are the same one of the same extension
+abbrev pub same_marked : Label → Label → Bool
+same_marked a b = same_extension a.extension b.extension && same_text a.label b.label
 
 -- the place that an entry takes in its context
 abbrev pub slot_of : List ℕ → Entry → Slot
-slot_of context entry = record { context = context; name = entry.name; priority = entry.priority }
+slot_of context entry = record { extension = extension_of context entry.name; priority = entry.priority }
+
+-- the label that an entry takes, where it has one
+abbrev pub label_of : List ℕ → Entry → Option Label
+label_of context entry = option_map (λ label. record { extension = extension_of context entry.name; label = label }) entry.label
 
 -- the draft with the context, which is new or there already
 abbrev pub with_context : Drafted → List ℕ → Drafted
 with_context d name =
     if is_named d.names name then d
-    else record d { names = d.names ++ name ∷ []; contexts = d.contexts ++ (record { name = name; entries = [] }) ∷ [] }
+    else record d {
+      names = d.names ++ name ∷ [];
+      contexts = d.contexts ++ (record { name = name; entries = []; includes = [] }) ∷ [];
+    }
+
+-- the names with one more, where there is one and it is not among them already
+abbrev pub with_name : List (List ℕ) → Option (List ℕ) → List (List ℕ)
+with_name names None = names
+with_name names (Some name) = if is_named names name then names else names ++ name ∷ []
 
 -- the list with the element at the place changed
 abbrev pub changed_at : {X : Type 0} → (X → X) → ℕ → List X → List X
@@ -49,26 +71,55 @@ changed_at change (suc place) (x ∷ xs) = x ∷ changed_at change place xs
 abbrev pub is_slot_taken : Drafted → Slot → Bool
 is_slot_taken d slot = list_any (same_slot slot) d.taken
 
+-- there is a label and it is taken
+abbrev pub is_marked : Drafted → Option Label → Bool
+is_marked d None = false
+is_marked d (Some label) = list_any (same_marked label) d.labels
+
 -- the draft with the place taken
 abbrev pub with_slot : Drafted → Slot → Drafted
 with_slot d slot = if is_slot_taken d slot then d else record d { taken = d.taken ++ slot ∷ [] }
+
+-- the draft with the label taken, where there is one
+abbrev pub with_label : Drafted → Option Label → Drafted
+with_label d None = d
+with_label d (Some label) = if is_marked d (Some label) then d else record d { labels = d.labels ++ label ∷ [] }
 
 -- the draft with one more note
 abbrev pub with_note : Drafted → ℕ → NoteKind → Drafted
 with_note d line kind = record d { notes = d.notes ++ (record { line = line; kind = kind }) ∷ [] }
 
--- the draft with the entry in its context, which is there already, unless its place is taken
+-- the context of the name, which is there already, is changed
+abbrev pub changed_context : Drafted → (PlanContext → PlanContext) → List ℕ → List PlanContext
+changed_context d change name = changed_at change (position_or_len (same_text name) d.names) d.contexts
+
+-- the draft with the entry in its context, which is there already, unless its place or its label is taken
 abbrev pub with_addition : Drafted → ℕ → List ℕ → Entry → Drafted
 with_addition d line context entry =
     if is_slot_taken d (slot_of context entry) then with_note d line DoublePriority
+    else if is_marked d (label_of context entry) then with_note d line DoubleLabel
     else record d {
-      contexts = changed_at (with_entry entry) (position_or_len (same_text context) d.names) d.contexts;
+      contexts = changed_context d (with_entry entry) context;
       taken = d.taken ++ slot_of context entry ∷ [];
+      labels = d.labels ++ option_to_list (label_of context entry);
     }
 
--- the draft with one more item
-abbrev pub added : Drafted → Item → Drafted
-added d (Opens name) = with_context d name
-added d (Sets global) = record d { globals = d.globals ++ global ∷ [] }
-added d (Adds line context entry) = with_addition (with_context d context) line context entry
-added d (Unknown line) = with_note d line UnknownKey
+-- the draft with the include in its context, which is there already; a name that is not known is noted
+abbrev pub with_inclusion : List (List ℕ) → Drafted → ℕ → List ℕ → List ℕ → Drafted
+with_inclusion known d line context name =
+    if is_named known name then record d { contexts = changed_context d (with_include name) context }
+    else with_note (record d { contexts = changed_context d (with_include name) context }) line UnknownContext
+
+-- the draft with the context of a section, where it is one
+abbrev pub with_section : Drafted → Section → Drafted
+with_section d General = d
+with_section d Globals = d
+with_section d (Context name) = with_context d name
+
+-- the draft with one more item, where the names of all contexts are known
+abbrev pub added : List (List ℕ) → Drafted → Item → Drafted
+added known d (Begins section) = with_section d section
+added known d (Sets global) = record d { globals = d.globals ++ global ∷ [] }
+added known d (Adds line context entry) = with_addition (with_context d context) line context entry
+added known d (Includes line context name) = with_inclusion known (with_context d context) line context name
+added known d (Unknown line) = with_note d line UnknownKey

@@ -1,61 +1,129 @@
--- What the value of an extension's line says: `name,priority,application`.
-use Rattle.std.specs.Prelude.{ℕ, Bool, false, ◌&&◌, ◌||◌, ◌==◌, nat_le, nat_eq, List, [], ◌∷◌, Option, Some, None, Result, Ok, Err, codes, if◌then◌else◌}
+-- What the line of an entry says: `exten => name,priority[(label)],application` or `same => priority[(label)],application`.
+use Rattle.std.specs.Prelude.{ℕ, ◌+◌, Bool, false, ◌&&◌, ◌||◌, ◌==◌, nat_le, List, [], ◌∷◌, Option, Some, None, Result, Ok, Err, codes, if◌then◌else◌}
 use Rattle.std.specs.List.{list_any, list_all}
 use Rattle.std.specs.Option.{option_map}
-use Rattle.std.specs.Cmp.Lexicographic.{pointwise}
+use Rattle.std.specs.Str.{byte}
 use Rattle.dp_conf.specs.Answers.{◌>>=◌}
 use Rattle.dp_conf.specs.Blanks.{trim}
 use Rattle.dp_conf.specs.Cut.{begins_with, cut_once}
-use Rattle.dp_conf.specs.Numbers.{number_of}
-use Rattle.dp_plan.specs.declared.fault.Word.TheVariants.{Hint, OldForm, PriorityWord}
+use Rattle.dp_conf.specs.Numbers.{is_digit, number_of}
+use Rattle.dp_conf.specs.Words.{same_text}
+use Rattle.dp_pattern.specs.Name.{Meaning, meaning_of}
+use Rattle.dp_pattern.specs.Spelling.{spelling}
+use Rattle.dp_plan.specs.Faults.{at_line, name_at_line}
+use Rattle.dp_plan.specs.History.{History}
+use Rattle.dp_plan.specs.declared.fault.Word.TheVariants.{Hint, CallerId, Variable, OldForm, PriorityWord}
 use Rattle.dp_plan.specs.declared.fault.PlanKind.{PlanKind}
-use Rattle.dp_plan.specs.declared.fault.PlanKind.TheVariants.{BadPriority, BadApplication, LeftOut, PriorityLimit, ShortLine, NotYet}
+use Rattle.dp_plan.specs.declared.fault.PlanKind.TheVariants.{BadPriority, NoPrevious, BadLabel, BadApplication, LeftOut, NoExten, PriorityLimit, ShortLine, NotYet}
+use Rattle.dp_plan.specs.declared.fault.LoadFault.{LoadFault}
+use Rattle.dp_plan.specs.declared.fault.LoadFault.TheVariants.{Plan}
+use Rattle.dp_plan.specs.declared.numbering.Written.{Written}
+use Rattle.dp_plan.specs.declared.numbering.Written.TheVariants.{Number, TooGreat, Next}
+use Rattle.dp_plan.specs.declared.numbering.Numbering.{Numbering}
 use Rattle.dp_plan.specs.declared.application.Called.{Called}
 use Rattle.dp_plan.specs.declared.entry.Entry.{Entry}
 
--- two texts have the same bytes
-abbrev pub same_text : List ℕ → List ℕ → Bool
-same_text = pointwise nat_eq
-
--- a byte of the names that are read so far: a digit, a letter, `*` or `#`
-abbrev pub is_name_byte : ℕ → Bool
-is_name_byte b =
-    (nat_le 48 b && nat_le b 57) || (nat_le 65 b && nat_le b 90) || (nat_le 97 b && nat_le b 122) || b == 42 || b == 35
-
--- a name that is read so far
-abbrev pub is_plain_name : List ℕ → Bool
-is_plain_name [] = false
-is_plain_name (b ∷ bs) = list_all is_name_byte (b ∷ bs)
+-- a `${` stands in the text
+abbrev pub has_variable : List ℕ → Bool
+has_variable [] = false
+has_variable (b ∷ bs) = (b == byte "$" && begins_with (byte "{") bs) || has_variable bs
 
 -- a `${` or a `$[` stands in the text
 abbrev pub has_opening : List ℕ → Bool
 has_opening [] = false
-has_opening (b ∷ bs) = (b == 36 && (begins_with 123 bs || begins_with 91 bs)) || has_opening bs
+has_opening (b ∷ bs) = (b == byte "$" && (begins_with (byte "{") bs || begins_with (byte "[") bs)) || has_opening bs
 
 -- the text without its last byte, where that is the byte
 abbrev pub without_last : ℕ → List ℕ → Option (List ℕ)
-without_last byte [] = None
-without_last byte (b ∷ []) = if b == byte then Some [] else None
-without_last byte (b ∷ c ∷ bs) = option_map (λ front. b ∷ front) (without_last byte (c ∷ bs))
+without_last last [] = None
+without_last last (b ∷ []) = if b == last then Some [] else None
+without_last last (b ∷ c ∷ bs) = option_map (λ front. b ∷ front) (without_last last (c ∷ bs))
 
--- a priority that is none of the words and signs that are left out
-abbrev pub priority_number : Option ℕ → Result ℕ PlanKind
-priority_number None = Err BadPriority
-priority_number (Some number) =
-    if number == 0 then Err BadPriority else (if nat_le number 2147483647 then Ok number else Err PriorityLimit)
+-- ---- the name
 
--- the words and the sign that are left out
+-- a name that has been read, unless its canonical spelling has a `${`
+abbrev pub named : ℕ → Meaning → Result Meaning LoadFault
+named line name = if has_variable (spelling name) then Err (Plan line (LeftOut Variable)) else Ok name
+
+-- the name of a line: variables and callers' numbers are left out, and asked before the faults of names
+unfoldable pub name_of : ℕ → List ℕ → Result Meaning LoadFault
+name_of line text =
+    if has_variable text then Err (Plan line (LeftOut Variable))
+    else if list_any (λ b. b == byte "/") text then Err (Plan line (LeftOut CallerId))
+    else name_at_line line (meaning_of text) >>= λ name. named line name
+
+-- the name of a line that repeats the one before it
+abbrev pub name_again : ℕ → Option Meaning → Result Meaning LoadFault
+name_again line None = Err (Plan line NoExten)
+name_again line (Some name) = Ok name
+
+-- ---- the priority
+
+-- the words and the sign that are left out, but `hint`
 abbrev pub is_priority_word : List ℕ → Bool
 is_priority_word text =
     same_text text (codes "next") || same_text text (codes "s") || same_text text (codes "same")
-    || list_any (λ b. b == 43) text
+    || list_any (λ b. b == byte "+") text
 
--- the priority of a line
-unfoldable pub priority_of : List ℕ → Result ℕ PlanKind
-priority_of text =
+-- a number that a priority is written as, which may be too great
+abbrev pub written_number : Option ℕ → Result Written PlanKind
+written_number None = Err BadPriority
+written_number (Some number) =
+    if number == 0 then Err BadPriority else (if nat_le number 2147483647 then Ok (Number number) else Ok TooGreat)
+
+-- a number or `n`, and neither a word nor a sign that is left out
+abbrev pub written_of : List ℕ → Result Written PlanKind
+written_of text =
     if same_text text (codes "hint") then Err (LeftOut Hint)
     else if is_priority_word text then Err (LeftOut PriorityWord)
-    else priority_number (number_of text)
+    else if same_text text (codes "n") then Ok Next
+    else written_number (number_of text)
+
+-- what stands before the first `(` of a priority
+abbrev pub before_label : List ℕ → Option (List ℕ × List ℕ) → List ℕ
+before_label text None = text
+before_label text (Some cut) = trim cut.0
+
+-- the text has no byte but digits
+abbrev pub has_digits_alone : List ℕ → Bool
+has_digits_alone text = list_all is_digit text
+
+-- a parenthesis stands in the text
+abbrev pub has_parenthesis : List ℕ → Bool
+has_parenthesis text = list_any (λ b. b == byte "(" || b == byte ")") text
+
+-- a text that is no label: an empty one, digits alone, or one with a parenthesis
+abbrev pub is_no_label : List ℕ → Bool
+is_no_label text = has_digits_alone text || has_parenthesis text
+
+-- the label of the text between the parentheses
+abbrev pub label_within : Option (List ℕ) → Result (List ℕ) PlanKind
+label_within None = Err BadLabel
+label_within (Some text) = if is_no_label (trim text) then Err BadLabel else Ok (trim text)
+
+-- the label of a priority that is cut at its first `(`, where there is one
+abbrev pub label_of : Option (List ℕ × List ℕ) → Result (Option (List ℕ)) PlanKind
+label_of None = Ok None
+label_of (Some cut) = label_within (without_last (byte ")") cut.1) >>= λ label. Ok (Some label)
+
+-- the number of a priority; `n` is one more than the last priority of the extension
+abbrev pub number_after : Option ℕ → Written → Result ℕ PlanKind
+number_after last (Number number) = Ok number
+number_after last TooGreat = Err PriorityLimit
+number_after None Next = Err NoPrevious
+number_after (Some last) Next = if nat_le (last + 1) 2147483647 then Ok (last + 1) else Err PriorityLimit
+
+-- a priority as it is written: its number or `n`, and its label
+unfoldable pub written_priority : List ℕ → Result (Written × Option (List ℕ)) PlanKind
+written_priority text =
+    written_of (before_label text (cut_once (byte "(") text)) >>= λ written.
+    label_of (cut_once (byte "(") text) >>= λ label. Ok (written, label)
+
+-- a priority that was read, as its number or `n` and its label
+abbrev pub numbering_now : Numbering → Written × Option (List ℕ)
+numbering_now numbering = (numbering.written, option_map (λ label. label.now) numbering.label)
+
+-- ---- the application
 
 -- what stands between the `(` of an application and its final `)`, beside the application's name
 abbrev pub called_with : List ℕ → Option (List ℕ) → Result (List ℕ × List ℕ) PlanKind
@@ -66,16 +134,16 @@ called_with (b ∷ name) (Some arguments) = Ok (b ∷ name, arguments)
 -- what stands before the first `(` of an application, and what stands between that and a final `)`
 abbrev pub application_parts : List ℕ → Option (List ℕ × List ℕ) → List ℕ × Option (List ℕ)
 application_parts text None = (text, Some [])
-application_parts text (Some cut) = (cut.0, without_last 41 cut.1)
+application_parts text (Some cut) = (cut.0, without_last (byte ")") cut.1)
 
 -- the application of those parts
 abbrev pub application_by : List ℕ × Option (List ℕ) → Result (List ℕ × List ℕ) PlanKind
 application_by parts =
-    if list_any (λ b. b == 44) parts.0 then Err (LeftOut OldForm) else called_with (trim parts.0) parts.1
+    if list_any (λ b. b == byte ",") parts.0 then Err (LeftOut OldForm) else called_with (trim parts.0) parts.1
 
 -- the name and the arguments of an application, `name` or `name(arguments)`
 unfoldable pub application_of : List ℕ → Result (List ℕ × List ℕ) PlanKind
-application_of text = application_by (application_parts text (cut_once 40 text))
+application_of text = application_by (application_parts text (cut_once (byte "(") text))
 
 -- an application that was read, as its texts
 abbrev pub called_now : Result Called PlanKind → Result (List ℕ × List ℕ) PlanKind
@@ -87,27 +155,43 @@ abbrev pub is_expanded : Result (List ℕ × List ℕ) PlanKind → Bool
 is_expanded (Ok application) = has_opening application.1
 is_expanded (Err kind) = false
 
--- a priority that is not read yet: `n`, or one with a label
-abbrev pub is_later_priority : List ℕ → Bool
-is_later_priority text = same_text text (codes "n") || list_any (λ b. b == 40) text
+-- ---- the line
 
--- an entry by its name, its priority and its application, each trimmed
-unfoldable pub entry_by : List ℕ → List ℕ → List ℕ → Result Entry PlanKind
-entry_by name priority application =
-    if is_later_priority priority || is_expanded (application_of application) then Err NotYet
-    else priority_of priority >>= λ number. application_of application >>= λ called.
-    Ok (record { name = name; priority = number; application = called.0; arguments = called.1 })
+-- the entry of a name with its priority and its application
+abbrev pub entry_by : History → ℕ → List ℕ → Meaning → List ℕ → Result (List ℕ × List ℕ) PlanKind → Result Entry LoadFault
+entry_by history line context name priority application =
+    at_line line (written_priority priority) >>= λ written.
+    at_line line (number_after (history.priority context name) written.0) >>= λ number.
+    at_line line application >>= λ called.
+    Ok (record { name = name; priority = number; label = written.1; application = called.0; arguments = called.1 })
 
--- an entry by its name and what the second comma cut
-abbrev pub entry_rest : List ℕ → Option (List ℕ × List ℕ) → Result Entry PlanKind
-entry_rest name None = Err ShortLine
-entry_rest name (Some cut) = entry_by name (trim cut.0) (trim cut.1)
+-- the same, where the name may be faulty; arguments that are not read yet are asked first
+abbrev pub entry_of : History → ℕ → List ℕ → Result Meaning LoadFault → List ℕ → Result (List ℕ × List ℕ) PlanKind → Result Entry LoadFault
+entry_of history line context name priority application =
+    if is_expanded application then Err (Plan line NotYet)
+    else name >>= λ meaning. entry_by history line context meaning priority application
 
--- an entry by what the first comma cut
-abbrev pub entry_cut : Option (List ℕ × List ℕ) → Result Entry PlanKind
-entry_cut None = Err ShortLine
-entry_cut (Some cut) = if is_plain_name (trim cut.0) then entry_rest (trim cut.0) (cut_once 44 cut.1) else Err NotYet
+-- an `exten` line, by its name and what the second comma cut
+abbrev pub exten_rest : History → ℕ → List ℕ → List ℕ → Option (List ℕ × List ℕ) → Result Entry LoadFault
+exten_rest history line context name None = Err (Plan line ShortLine)
+exten_rest history line context name (Some cut) =
+    entry_of history line context (name_of line name) (trim cut.0) (application_of (trim cut.1))
 
--- the entry that the value of an extension's line writes
-abbrev pub entry_of : List ℕ → Result Entry PlanKind
-entry_of value = entry_cut (cut_once 44 value)
+-- by what the first comma cut
+abbrev pub exten_cut : History → ℕ → List ℕ → Option (List ℕ × List ℕ) → Result Entry LoadFault
+exten_cut history line context None = Err (Plan line ShortLine)
+exten_cut history line context (Some cut) = exten_rest history line context (trim cut.0) (cut_once (byte ",") cut.1)
+
+-- the entry that the value of an `exten` line writes
+unfoldable pub exten_entry : History → ℕ → List ℕ → List ℕ → Result Entry LoadFault
+exten_entry history line context value = exten_cut history line context (cut_once (byte ",") value)
+
+-- a `same` line, by what its comma cut
+abbrev pub same_cut : History → ℕ → List ℕ → Option (List ℕ × List ℕ) → Result Entry LoadFault
+same_cut history line context None = name_again line history.name >>= λ name. Err (Plan line ShortLine)
+same_cut history line context (Some cut) =
+    entry_of history line context (name_again line history.name) (trim cut.0) (application_of (trim cut.1))
+
+-- the entry that the value of a `same` line writes
+unfoldable pub same_entry : History → ℕ → List ℕ → List ℕ → Result Entry LoadFault
+same_entry history line context value = same_cut history line context (cut_once (byte ",") value)

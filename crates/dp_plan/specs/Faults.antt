@@ -3,9 +3,10 @@ use Rattle.std.specs.Prelude.{ℕ, Option, Some, None, Result, Ok, Err}
 use Rattle.dp_conf.specs.Lines.{LineFault}
 use Rattle.dp_conf.specs.declared.fault.ConfFault.{ConfFault}
 use Rattle.dp_conf.specs.declared.fault.ConfFault.TheVariants.{At, NoMemory as conf_no_memory}
+use Rattle.dp_pattern.specs.declared.fault.NameFault.{NameFault}
 use Rattle.dp_plan.specs.declared.fault.PlanKind.{PlanKind}
 use Rattle.dp_plan.specs.declared.fault.LoadFault.{LoadFault}
-use Rattle.dp_plan.specs.declared.fault.LoadFault.TheVariants.{Conf, Plan, NoMemory}
+use Rattle.dp_plan.specs.declared.fault.LoadFault.TheVariants.{Conf, Pattern, Plan, NoMemory}
 
 -- want of memory is outermost
 abbrev pub fault_of_conf : ConfFault → LoadFault
@@ -15,6 +16,7 @@ fault_of_conf conf_no_memory = NoMemory
 -- why a dialplan is refused; want of memory is no reason
 abbrev pub reason_of : LoadFault → Option LoadFault
 reason_of (Conf fault) = Some (Conf fault)
+reason_of (Pattern line fault) = Some (Pattern line fault)
 reason_of (Plan line kind) = Some (Plan line kind)
 reason_of NoMemory = None
 
@@ -27,3 +29,8 @@ text_fault (Err fault) = Err (Conf (At fault.line fault.kind))
 abbrev pub at_line : {X : Type 0} → ℕ → Result X PlanKind → Result X LoadFault
 at_line line (Ok x) = Ok x
 at_line line (Err kind) = Err (Plan line kind)
+
+-- the fault of a name, at the number of its line
+abbrev pub name_at_line : {X : Type 0} → ℕ → Result X NameFault → Result X LoadFault
+name_at_line line (Ok x) = Ok x
+name_at_line line (Err fault) = Err (Pattern line fault)

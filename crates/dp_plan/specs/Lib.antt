@@ -2,9 +2,13 @@ pub mod Codes
 pub mod Contexts
 pub mod Draft
 pub mod EntryLine
+pub mod Extensions
 pub mod Faults
+pub mod History
 pub mod Items
 pub mod Loaded
 pub mod Lookup
 pub mod Plan
 pub mod Priority
+pub mod Ranking
+pub mod Reader

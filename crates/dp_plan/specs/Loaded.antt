@@ -1,9 +1,9 @@
 -- What a text loads as: a dialplan and its notes, or the first fault.
 use Rattle.std.specs.Prelude.{ℕ, List, [], Result, Ok}
-use Rattle.dp_conf.specs.Answers.{◌>>=◌, all_of, each_after}
+use Rattle.dp_conf.specs.Answers.{◌>>=◌}
 use Rattle.dp_conf.specs.Lines.{lines_of}
 use Rattle.dp_plan.specs.Faults.{text_fault}
-use Rattle.dp_plan.specs.Items.{item_of}
+use Rattle.dp_plan.specs.Items.{items_after}
 use Rattle.dp_plan.specs.Plan.{PlanOf, plan_of, notes_of}
 use Rattle.dp_plan.specs.declared.fault.LoadFault.{LoadFault}
 use Rattle.dp_plan.specs.declared.note.Note.{Note}
@@ -11,5 +11,4 @@ use Rattle.dp_plan.specs.declared.note.Note.{Note}
 -- the dialplan of a text with its notes: faults of the text come before those of a context
 unfoldable pub loaded : List ℕ → Result (PlanOf × List Note) LoadFault
 loaded text =
-    text_fault (lines_of text) >>= λ lines. all_of (each_after item_of [] lines) >>= λ items.
-    Ok (plan_of items, notes_of items)
+    text_fault (lines_of text) >>= λ lines. items_after [] lines >>= λ items. Ok (plan_of items, notes_of items)

@@ -6,11 +6,12 @@ use dp_conf::{NoMemory, Text};
 use std::alloc::Global;
 use std::marker::Model;
 
-/// A context: its name, and its entries in the order of the file. A contract sees it as these two.
+/// A context: its name, and its entries and includes in the order of the file. A contract sees it as these three.
 #[derive(Debug, Drop)]
 pub struct Context {
     name: Text,
     entries: Vec<Entry>,
+    includes: Vec<Text>,
 }
 
 impl Model for Context {
@@ -18,19 +19,24 @@ impl Model for Context {
 
     ghost Value = { PlanContext };
 
-    ghost view = { λ context. record { name = context.name; entries = context.entries.items } };
+    ghost view = { λ context. record {
+      name = context.name;
+      entries = context.entries.items;
+      includes = context.includes.items;
+    } };
 }
 
 impl Context {
-    ghost use Rattle.dp_plan.specs.Contexts.{with_entry};
+    ghost use Rattle.dp_plan.specs.Contexts.{with_entry, with_include};
 
-    /// A context with no entries.
+    /// A context with no entries and no includes.
     pub(crate) fn new(alloc: Global, name: Text) -> Self
-        ensures { result ≡ record { name = name; entries = [] } }
+        ensures { result ≡ record { name = name; entries = []; includes = [] } }
     {
         Context {
             name,
             entries: Vec::new(alloc),
+            includes: Vec::new(alloc),
         }
     }
 
@@ -48,11 +54,27 @@ impl Context {
         &self.entries
     }
 
+    /// The names of the contexts that the context includes, in the order of the file. There need be no such context,
+    /// and a name may stand twice.
+    pub fn includes(&self) -> &[Text]
+        ensures { result.now ≡ self.now.includes }
+    {
+        &self.includes
+    }
+
     /// Adds an entry behind the others.
     pub(crate) fn push(&mut self, entry: Entry) -> Result<(), NoMemory>
         ensures { OnOk result (self.new ≡ with_entry entry self.old) }
     {
         self.entries.push(entry)?;
+        Ok(())
+    }
+
+    /// Adds an include behind the others.
+    pub(crate) fn push_include(&mut self, name: Text) -> Result<(), NoMemory>
+        ensures { OnOk result (self.new ≡ with_include name self.old) }
+    {
+        self.includes.push(name)?;
         Ok(())
     }
 }

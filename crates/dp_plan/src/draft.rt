@@ -1,16 +1,22 @@
 //! A dialplan in the making.
-ghost use Rattle.std.specs.Prelude.{◌≡◌, ◌<◌, OnOk, IfOk, length, not, fold, map};
-ghost use Rattle.std.specs.List.{position_or_len};
-ghost use Rattle.dp_plan.specs.Contexts.{with_entry};
+ghost use Rattle.std.specs.Prelude.{◌≡◌, ◌++◌, ◌<◌, [], ◌∷◌, OnOk, IfOk, Some, length, fold, map};
+ghost use Rattle.std.specs.List.{All, position_or_len};
+ghost use Rattle.std.specs.Option.{option_copied};
+ghost use Rattle.dp_plan.specs.Contexts.{with_entry, with_include};
 ghost use Rattle.dp_plan.specs.Draft as spec;
-ghost use Rattle.dp_plan.specs.EntryLine.{same_text};
+ghost use Rattle.dp_conf.specs.Words.{same_text};
 ghost use Rattle.dp_plan.specs.Plan as plans;
+ghost use Rattle.dp_plan.specs.Ranking.{AreApart};
 
 use crate::context::Context;
 use crate::entry::Entry;
+use crate::extension::Extension;
 use crate::item::Item;
 use crate::note::{Note, NoteKind};
 use crate::plan::{Dialplan, GlobalVariable};
+use crate::priority::Priority;
+use crate::ranking::rank_contexts;
+use crate::section::Section;
 use dp_conf::{NoMemory, Text};
 use indexmap::IndexSet;
 use std::alloc::Global;
@@ -19,18 +25,25 @@ use std::marker::Model;
 /// A place in a dialplan that at most one entry has.
 #[derive(Debug, PartialEq, Eq, Hash, Drop)]
 pub(crate) struct Slot {
-    context: Text,
-    name: Text,
+    extension: Extension,
     priority: u32,
 }
 
-/// What the items so far make: the parts of a dialplan, the places that are taken, and the notes.
+/// A label of an extension, which at most one entry has.
+#[derive(Debug, PartialEq, Eq, Hash, Drop)]
+pub(crate) struct Label {
+    extension: Extension,
+    label: Text,
+}
+
+/// What the items so far make: the parts of a dialplan, the places and labels that are taken, and the notes.
 #[derive(Drop)]
 pub(crate) struct Draft {
     globals: Vec<GlobalVariable>,
     names: IndexSet<Text>,
     contexts: Vec<Context>,
     taken: IndexSet<Slot>,
+    labels: IndexSet<Label>,
     notes: Vec<Note>,
 }
 
@@ -45,10 +58,37 @@ impl Model for Draft {
       names = draft.names.keys;
       contexts = draft.contexts.items;
       taken = draft.taken.keys;
+      labels = draft.labels.keys;
       notes = draft.notes.items;
     } };
 
     ghost invariant = { λ draft. length draft.names.keys ≡ length draft.contexts.items };
+}
+
+/// The place that an entry takes in its context.
+fn slot_of(alloc: Global, context: &Text, entry: &Entry) -> Result<Slot, NoMemory>
+    ensures { IfOk result (λ slot. slot ≡ spec.slot_of context.now entry.now) }
+{
+    let extension = Extension::of(alloc, context, &entry.name)?;
+    let priority = entry.priority.get();
+    Ok(Slot {
+        extension,
+        priority,
+    })
+}
+
+/// The label that an entry takes, where it has one.
+fn label_of(alloc: Global, context: &Text, entry: &Entry) -> Result<Option<Label>, NoMemory>
+    ensures { IfOk result (λ label. label ≡ spec.label_of context.now entry.now) }
+{
+    match &entry.label {
+        None => Ok(None),
+        Some(label) => {
+            let extension = Extension::of(alloc, context, &entry.name)?;
+            let label = label.clone()?;
+            Ok(Some(Label { extension, label }))
+        }
+    }
 }
 
 impl Draft {
@@ -61,6 +101,7 @@ impl Draft {
             names: IndexSet::new(alloc),
             contexts: Vec::new(alloc),
             taken: IndexSet::new(alloc),
+            labels: IndexSet::new(alloc),
             notes: Vec::new(alloc),
         }
     }
@@ -81,7 +122,7 @@ impl Draft {
         Ok(place)
     }
 
-    /// Notes that a line is dropped.
+    /// Notes something of a line.
     fn note(&mut self, line: usize, kind: NoteKind) -> Result<(), NoMemory>
         ensures { OnOk result (self.new ≡ spec.with_note self.old line kind) }
     {
@@ -89,13 +130,47 @@ impl Draft {
         Ok(())
     }
 
-    /// Takes up the place, unless it is taken already, and says whether it was free.
-    fn take(&mut self, slot: Slot) -> Result<bool, NoMemory>
-        ensures ok { OnOk result (self.new ≡ spec.with_slot self.old slot) }
-        ensures free { IfOk result (λ is_free. is_free ≡ not (spec.is_slot_taken self.old slot)) }
+    /// Whether the place is taken.
+    fn is_slot_taken(&self, slot: &Slot) -> bool
+        ensures { result ≡ spec.is_slot_taken self.now slot.now }
     {
-        let (_, is_free) = self.taken.insert_full(slot)?;
-        Ok(is_free)
+        self.taken.contains(slot)
+    }
+
+    /// Whether there is a label and it is taken.
+    fn is_marked(&self, label: Option<&Label>) -> bool
+        ensures { result ≡ spec.is_marked self.now (option_copied label.entry) }
+    {
+        match label {
+            None => false,
+            Some(label) => self.labels.contains(label),
+        }
+    }
+
+    /// Takes up the place.
+    fn take(&mut self, slot: Slot) -> Result<(), NoMemory>
+        ensures { OnOk result (self.new ≡ spec.with_slot self.old slot) }
+    {
+        self.taken.insert(slot)?;
+        Ok(())
+    }
+
+    /// Takes up the label.
+    fn take_label(&mut self, label: Label) -> Result<(), NoMemory>
+        ensures { OnOk result (self.new ≡ spec.with_label self.old (Some label)) }
+    {
+        self.labels.insert(label)?;
+        Ok(())
+    }
+
+    /// Takes up the label, where there is one.
+    fn mark(&mut self, label: Option<Label>) -> Result<(), NoMemory>
+        ensures { OnOk result (self.new ≡ spec.with_label self.old label) }
+    {
+        if let Some(label) = label {
+            self.take_label(label)?;
+        }
+        Ok(())
     }
 
     /// Adds the entry to the context at the place.
@@ -110,7 +185,19 @@ impl Draft {
         Ok(())
     }
 
-    /// Adds an entry to its context, or notes that its place is taken.
+    /// Adds the include to the context at the place.
+    fn push_include(&mut self, place: usize, name: Text) -> Result<(), NoMemory>
+        requires { place < length self.old.contexts }
+        ensures { OnOk result (self.new ≡ record self.old {
+          contexts = spec.changed_at (with_include name) place self.old.contexts;
+        }) }
+    {
+        let context = &mut self.contexts[place];
+        context.push_include(name)?;
+        Ok(())
+    }
+
+    /// Adds an entry to its context, or notes that its place or its label is taken.
     fn add_entry(
         &mut self,
         alloc: Global,
@@ -118,84 +205,156 @@ impl Draft {
         context: Text,
         entry: Entry,
     ) -> Result<(), NoMemory>
-        ensures { OnOk result (self.new ≡ spec.added self.old (Item.Adds line context entry)) }
+        ensures { OnOk result (self.new ≡ spec.with_addition (spec.with_context self.old context) line context entry) }
     {
-        let name = entry.name.clone()?;
-        let priority = entry.priority.get();
-        let place = self.open(alloc, context.clone()?)?;
-        let is_free = self.take(Slot {
-            context,
-            name,
-            priority,
-        })?;
-        if is_free {
-            self.push_entry(place, entry)?;
-        } else {
-            self.note(line, NoteKind::DoublePriority)?;
+        let slot = slot_of(alloc, &context, &entry)?;
+        let label = label_of(alloc, &context, &entry)?;
+        let place = self.open(alloc, context)?;
+        if self.is_slot_taken(&slot) {
+            return self.note(line, NoteKind::DoublePriority);
+        }
+        if self.is_marked(label.as_ref()) {
+            return self.note(line, NoteKind::DoubleLabel);
+        }
+        self.take(slot)?;
+        self.mark(label)?;
+        self.push_entry(place, entry)
+    }
+
+    /// Adds an include to its context, with a note where the name is not among those of all contexts.
+    fn add_include(
+        &mut self,
+        alloc: Global,
+        known: &IndexSet<Text>,
+        line: usize,
+        context: Text,
+        name: Text,
+    ) -> Result<(), NoMemory>
+        ensures { OnOk result (self.new
+            ≡ spec.with_inclusion known.now.keys (spec.with_context self.old context) line context name) }
+    {
+        let is_known = known.contains(&name);
+        let place = self.open(alloc, context)?;
+        self.push_include(place, name)?;
+        if !is_known {
+            self.note(line, NoteKind::UnknownContext)?;
         }
         Ok(())
     }
 
     /// Adds a global variable.
     fn set_global(&mut self, global: GlobalVariable) -> Result<(), NoMemory>
-        ensures { OnOk result (self.new ≡ spec.added self.old (Item.Sets global)) }
+        ensures { OnOk result (self.new ≡ record self.old { globals = self.old.globals ++ global ∷ [] }) }
     {
         self.globals.push(global)?;
         Ok(())
     }
 
-    /// Adds what an item says.
-    fn add(&mut self, alloc: Global, item: Item) -> Result<(), NoMemory>
-        ensures { OnOk result (self.new ≡ spec.added self.old item) }
+    /// Begins a section.
+    fn begin(&mut self, alloc: Global, section: Section) -> Result<(), NoMemory>
+        ensures { OnOk result (self.new ≡ spec.with_section self.old section) }
     {
-        match item {
-            Item::Opens(name) => {
-                self.open(alloc, name)?;
-            }
-            Item::Sets(global) => self.set_global(global)?,
-            Item::Adds {
-                line,
-                context,
-                entry,
-            } => self.add_entry(alloc, line, context, entry)?,
-            Item::Unknown(line) => self.note(line, NoteKind::UnknownKey)?,
+        if let Section::Context(name) = section {
+            self.open(alloc, name)?;
         }
         Ok(())
     }
 
+    /// Adds what an item says, where the names of all contexts are known.
+    fn add(&mut self, alloc: Global, known: &IndexSet<Text>, item: Item) -> Result<(), NoMemory>
+        ensures { OnOk result (self.new ≡ spec.added known.now.keys self.old item) }
+    {
+        match item {
+            Item::Begins(section) => self.begin(alloc, section),
+            Item::Sets(global) => self.set_global(global),
+            Item::Adds {
+                line,
+                context,
+                entry,
+            } => self.add_entry(alloc, line, context, entry),
+            Item::Includes {
+                line,
+                context,
+                name,
+            } => self.add_include(alloc, known, line, context, name),
+            Item::Unknown(line) => self.note(line, NoteKind::UnknownKey),
+        }
+    }
+
     /// The dialplan of the draft, and its notes.
-    fn into_plan(self) -> (Dialplan, Vec<Note>)
-        requires { self.names ≡ map (λ context. context.name) self.contexts }
-        ensures plan { result.0 ≡ record { globals = self.globals; contexts = self.contexts } }
-        ensures notes { result.1.items ≡ self.notes }
+    fn into_plan(self, alloc: Global) -> Result<(Dialplan, Vec<Note>), NoMemory>
+        requires names { self.names ≡ map (λ context. context.name) self.contexts }
+        requires apart { All (λ context. AreApart context.entries) self.contexts }
+        ensures plan { IfOk result (λ made. made.0 ≡ record { globals = self.globals; contexts = self.contexts }) }
+        ensures notes { IfOk result (λ made. made.1.items ≡ self.notes) }
     {
         let Draft {
             globals,
             names,
             contexts,
             taken: _,
+            labels: _,
             notes,
         } = self;
-        (Dialplan::of_parts(globals, names, contexts), notes)
+        let rankings = rank_contexts(alloc, &contexts)?;
+        Ok((
+            Dialplan::of_parts(globals, names, contexts, rankings),
+            notes,
+        ))
     }
 }
 
+/// The context's name to which an item belongs, where it belongs to one.
+fn context_in(item: &Item) -> Option<&Text>
+    ensures { option_copied result ≡ plans.context_in item.now }
+{
+    match item {
+        Item::Begins(Section::Context(name)) => Some(name),
+        Item::Adds { context, .. } | Item::Includes { context, .. } => Some(context),
+        Item::Begins(Section::General | Section::Globals) | Item::Sets(_) | Item::Unknown(_) =>
+            None,
+    }
+}
+
+/// Adds a copy of the name, where there is one and it is not there already.
+fn insert_name(names: &mut IndexSet<Text>, name: Option<&Text>) -> Result<(), NoMemory>
+    ensures { OnOk result (names.new.keys ≡ spec.with_name names.old.keys (option_copied name.entry)) }
+{
+    if let Some(name) = name {
+        names.insert(name.clone()?)?;
+    }
+    Ok(())
+}
+
+/// The names of the contexts of some items, in the order of first appearance.
+fn names_of(alloc: Global, items: &[Item]) -> Result<IndexSet<Text>, NoMemory>
+    ensures { IfOk result (λ names. names.keys ≡ plans.names_in items.now) }
+{
+    let mut names = IndexSet::new(alloc);
+    for item in items {
+        insert_name(&mut names, context_in(item))?;
+    }
+    Ok(names)
+}
+
 /// The draft of some items.
-fn draft_of(alloc: Global, items: Vec<Item>) -> Result<Draft, NoMemory>
-    ensures { IfOk result (λ draft. draft ≡ fold spec.added spec.nothing items.items) }
+fn draft_of(alloc: Global, known: &IndexSet<Text>, items: Vec<Item>) -> Result<Draft, NoMemory>
+    ensures { IfOk result (λ draft. draft ≡ fold (spec.added known.now.keys) spec.nothing items.items) }
 {
     let mut draft = Draft::new(alloc);
     for item in items {
-        draft.add(alloc, item)?;
+        draft.add(alloc, known, item)?;
     }
     Ok(draft)
 }
 
-/// The dialplan of some items, and the notes on the lines that are dropped.
+/// The dialplan of some items, and the notes on their lines.
 pub(crate) fn read_draft(alloc: Global, items: Vec<Item>) -> Result<(Dialplan, Vec<Note>), NoMemory>
     ensures plan { IfOk result (λ read. read.0 ≡ plans.plan_of items.items) }
     ensures notes { IfOk result (λ read. read.1.items ≡ plans.notes_of items.items) }
 {
-    let draft = draft_of(alloc, items)?;
-    Ok(draft.into_plan())
+    let known = names_of(alloc, &items)?;
+    let draft = draft_of(alloc, &known, items)?;
+    let read = draft.into_plan(alloc)?;
+    Ok(read)
 }

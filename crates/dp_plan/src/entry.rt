@@ -1,13 +1,16 @@
 //! The entries of a context.
 use crate::priority::Priority;
 use dp_conf::Text;
+use dp_pattern::Name;
 
 /// An entry of a context: at this priority of this extension the application is run with these arguments.
-#[derive(Debug, PartialEq, Eq, Drop)]
+#[derive(Debug, Drop)]
 pub struct Entry {
-    /// The extension's name.
-    pub name: Text,
+    /// The extension's name, which may be a pattern.
+    pub name: Name,
     pub priority: Priority,
+    /// The name that the priority has beside its number, where it has one.
+    pub label: Option<Text>,
     /// The application's name, as it is written.
     pub application: Text,
     /// The bytes between the parentheses of the application, not expanded.

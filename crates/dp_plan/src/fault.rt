@@ -3,6 +3,7 @@ ghost use Rattle.std.specs.Prelude.{◌≡◌};
 ghost use Rattle.dp_plan.specs.Codes.{plan_code, plan_name};
 
 use dp_conf::{ConfFault, NoMemory};
+use dp_pattern::NameFault;
 use std::alloc::AllocFailed;
 use thiserror::Error;
 
@@ -13,6 +14,12 @@ pub enum Word {
     Switch,
     /// A key `ignorepat`.
     IgnorePat,
+    /// A name with a `/`, behind which a caller's number would stand.
+    CallerId,
+    /// An include with a comma, behind which times would stand.
+    IncludeTimes,
+    /// A name with a `${`.
+    Variable,
     /// The priority `hint`.
     Hint,
     /// An application with a comma before its `(`, or with a comma and no `(`.
@@ -24,15 +31,21 @@ pub enum Word {
 /// Why a line of a context is refused.
 #[derive(Clone, Copy, Debug, PartialEq, Eq)]
 pub enum PlanKind {
-    /// A priority that is no number from 1 on.
+    /// A priority that is neither a number from 1 on nor `n`.
     BadPriority,
+    /// A priority `n` with no earlier line of its extension.
+    NoPrevious,
+    /// A label that is empty, digits alone, or with a parenthesis in it, or a `(` and no `)` as the last byte.
+    BadLabel,
     /// An application with an empty name, or with a `(` and no `)` as its last byte.
     BadApplication,
     /// The line asks for what this program leaves out.
     LeftOut(Word),
+    /// A line `same` with no line `exten` since the header.
+    NoExten,
     /// A priority above 2,147,483,647.
     PriorityLimit,
-    /// An extension's line with fewer than two commas.
+    /// A line `exten` with fewer than two commas, or a line `same` with none.
     ShortLine,
     /// The line asks for what this program does not have yet.
     NotYet,
@@ -45,8 +58,11 @@ impl PlanKind {
     {
         match self {
             PlanKind::BadPriority => 20,
+            PlanKind::NoPrevious => 21,
+            PlanKind::BadLabel => 22,
             PlanKind::BadApplication => 23,
             PlanKind::LeftOut(_) => 24,
+            PlanKind::NoExten => 26,
             PlanKind::PriorityLimit => 27,
             PlanKind::ShortLine => 28,
             PlanKind::NotYet => 29,
@@ -59,8 +75,11 @@ impl PlanKind {
     {
         match self {
             PlanKind::BadPriority => "BadPriority",
+            PlanKind::NoPrevious => "NoPrevious",
+            PlanKind::BadLabel => "BadLabel",
             PlanKind::BadApplication => "BadApplication",
             PlanKind::LeftOut(_) => "LeftOut",
+            PlanKind::NoExten => "NoExten",
             PlanKind::PriorityLimit => "PriorityLimit",
             PlanKind::ShortLine => "ShortLine",
             PlanKind::NotYet => "NotYet",
@@ -74,6 +93,9 @@ pub enum LoadFault {
     /// A line of the text is refused, whatever its section.
     #[error(transparent)]
     Conf(ConfFault),
+    /// The name of a line is none; lines are counted from 1.
+    #[error("{} line {line}", fault.name())]
+    Pattern { line: usize, fault: NameFault },
     /// A line of a context or of the global variables is refused; lines are counted from 1.
     #[error("{} line {line}", kind.name())]
     Plan { line: usize, kind: PlanKind },

@@ -5,17 +5,24 @@ mod application;
 mod context;
 mod draft;
 mod entry;
+mod entry_line;
+mod extension;
 mod fault;
 mod item;
+mod naming;
 mod note;
+mod numbering;
 mod plan;
 mod priority;
+mod ranking;
+mod reader;
 mod section;
 #[cfg(test)]
 mod tests;
 
 pub use context::Context;
 pub use dp_conf::{ConfFault, LineKind, NoMemory, Text};
+pub use dp_pattern::{Name, NameFault};
 pub use entry::{Entry, EntryId};
 pub use fault::{LoadFault, PlanKind, Word};
 pub use note::{Note, NoteKind};

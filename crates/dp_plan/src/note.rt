@@ -1,13 +1,18 @@
-//! What a dialplan's loading notes: lines that are dropped.
+//! What a dialplan's loading notes: lines that are dropped, and includes that find nothing.
 ghost use Rattle.std.specs.Prelude.{◌≡◌};
 ghost use Rattle.dp_plan.specs.Codes.{note_name};
 
-/// Why a line was dropped.
+/// What is noted of a line.
 #[derive(Clone, Copy, Debug, PartialEq, Eq)]
 pub enum NoteKind {
-    /// An earlier line has the extension and the priority (that the first one stands is this program's choice).
+    /// An earlier line has the extension and the priority: the line is dropped (this program's choice).
     DoublePriority,
-    /// The key is none that a context has, or is empty among the global variables (this program's choice).
+    /// An earlier line of the extension has the label: the line is dropped (this program's choice).
+    DoubleLabel,
+    /// No context has the name that is included: the include is kept and finds nothing (this program's choice).
+    UnknownContext,
+    /// The key is none that a context has, or is empty among the global variables: the line is dropped (this
+    /// program's choice).
     UnknownKey,
 }
 
@@ -18,12 +23,14 @@ impl NoteKind {
     {
         match self {
             NoteKind::DoublePriority => "DoublePriority",
+            NoteKind::DoubleLabel => "DoubleLabel",
+            NoteKind::UnknownContext => "UnknownContext",
             NoteKind::UnknownKey => "UnknownKey",
         }
     }
 }
 
-/// A dropped line, counted from 1, and why it was dropped.
+/// A line, counted from 1, and what is noted of it.
 #[derive(Clone, Copy, Debug, PartialEq, Eq)]
 pub struct Note {
     pub line: usize,

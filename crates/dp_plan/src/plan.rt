@@ -4,6 +4,7 @@ ghost use Rattle.std.specs.Option.{option_copied};
 ghost use Rattle.dp_conf.specs.Answers.{Answers};
 ghost use Rattle.dp_plan.specs.Faults.{reason_of};
 ghost use Rattle.dp_plan.specs.Loaded.{loaded};
+ghost use Rattle.dp_plan.specs.Ranking.{AreRanked};
 
 use crate::context::Context;
 use crate::draft::read_draft;
@@ -11,6 +12,7 @@ use crate::entry::{Entry, EntryId};
 use crate::fault::LoadFault;
 use crate::item::read_items;
 use crate::note::Note;
+use crate::ranking::Ranking;
 use dp_conf::{Text, read_lines};
 use indexmap::IndexSet;
 use std::alloc::Global;
@@ -30,21 +32,25 @@ pub struct Dialplan {
     globals: Vec<GlobalVariable>,
     names: IndexSet<Text>,
     contexts: Vec<Context>,
+    rankings: Vec<Ranking>,
 }
 
 impl Model for Dialplan {
     ghost use Rattle.std.specs.Prelude.{◌≡◌, map};
     ghost use Rattle.dp_plan.specs.Plan.{PlanOf};
+    ghost use Rattle.dp_plan.specs.Ranking.{AreRanked};
 
     ghost Value = { PlanOf };
 
     ghost view = { λ plan. record { globals = plan.globals.items; contexts = plan.contexts.items } };
 
-    ghost invariant = { λ plan. plan.names.keys ≡ map (λ context. context.name) plan.contexts.items };
+    ghost invariant = { λ plan.
+        (plan.names.keys ≡ map (λ context. context.name) plan.contexts.items)
+        × AreRanked plan.contexts.items plan.rankings.items };
 }
 
 impl Dialplan {
-    ghost use Rattle.dp_plan.specs.Lookup.{entry_at, number_of};
+    ghost use Rattle.dp_plan.specs.Lookup.{entry_at, number_of, includes_at, includes_of, IsRankedAt, IsRankedOf};
 
     /// Loads a dialplan, with notes on the lines that were dropped, in the order of the lines.
     ///
@@ -64,14 +70,17 @@ impl Dialplan {
         globals: Vec<GlobalVariable>,
         names: IndexSet<Text>,
         contexts: Vec<Context>,
+        rankings: Vec<Ranking>,
     ) -> Self
-        requires { names.keys ≡ map (λ context. context.name) contexts.items }
+        requires names { names.keys ≡ map (λ context. context.name) contexts.items }
+        requires ranked { AreRanked contexts.items rankings.items }
         ensures { result ≡ record { globals = globals.items; contexts = contexts.items } }
     {
         Dialplan {
             globals,
             names,
             contexts,
+            rankings,
         }
     }
 
@@ -102,5 +111,47 @@ impl Dialplan {
         ensures { result ≡ number_of self.now name.now }
     {
         self.names.get_index_of(name)
+    }
+
+    /// The names of the contexts that the context of this name includes, in the order of the file, with those that
+    /// name no context. An unknown context includes none.
+    pub fn includes(&self, context: &Text) -> &[Text]
+        ensures { result.now ≡ includes_of self.now context.now }
+    {
+        match self.names.get_index_of(context) {
+            Some(number) => self.includes_at(number),
+            None => &[],
+        }
+    }
+
+    /// The names of the contexts that the context of this number includes, none where there is no such context.
+    pub fn includes_at(&self, number: usize) -> &[Text]
+        ensures { result.now ≡ includes_at self.now number }
+    {
+        match self.contexts.get(number) {
+            Some(context) => context.includes(),
+            None => &[],
+        }
+    }
+
+    /// The numbers of the entries of the context of this name by their names, the more specific first, and then by
+    /// their priorities. An unknown context has none.
+    pub fn ranked(&self, context: &Text) -> &[EntryId]
+        ensures { IsRankedOf self.now context.now result.now }
+    {
+        match self.names.get_index_of(context) {
+            Some(number) => self.ranked_at(number),
+            None => &[],
+        }
+    }
+
+    /// The numbers of the entries of the context of this number in that order, none where there is no such context.
+    pub fn ranked_at(&self, number: usize) -> &[EntryId]
+        ensures { IsRankedAt self.now number result.now }
+    {
+        match self.rankings.get(number) {
+            Some(ranking) => ranking.ids(),
+            None => &[],
+        }
     }
 }

@@ -1,4 +1,10 @@
 mod codes;
+mod faults;
+mod includes;
+mod labels;
+mod names;
+mod numbering;
+mod orders;
 mod plans;
 mod readers;
 mod render;

@@ -4,8 +4,8 @@ use Rattle.dp_conf.specs.declared.fault.ConfFault.TheVariants.{At, NoMemory as c
 use Rattle.dp_conf.specs.declared.fault.ReadFault.{ReadFault}
 use Rattle.dp_conf.specs.declared.fault.ReadFault.TheVariants.{ReadFailed as read_failed, TooLong as read_too_long, NoMemory as read_no_memory}
 use Rattle.dp_plan.specs.declared.fault.LoadFault.{LoadFault}
-use Rattle.dp_plan.specs.declared.fault.LoadFault.TheVariants.{Conf, Plan as load_plan, NoMemory as load_no_memory}
-use Rattle.pbx.specs.declared.fault.Code.TheVariants.{Line, Plan, ReadFailed, TooLong, WriteFailed, BadScript}
+use Rattle.dp_plan.specs.declared.fault.LoadFault.TheVariants.{Conf, Pattern, Plan as load_plan, NoMemory as load_no_memory}
+use Rattle.pbx.specs.declared.fault.Code.TheVariants.{Line, Name, Plan, ReadFailed, TooLong, WriteFailed, BadScript}
 use Rattle.pbx.specs.declared.fault.PbxFault.{PbxFault}
 use Rattle.pbx.specs.declared.fault.PbxFault.TheVariants.{Coded, NoMemory}
 
@@ -13,6 +13,7 @@ use Rattle.pbx.specs.declared.fault.PbxFault.TheVariants.{Coded, NoMemory}
 abbrev pub fault_of_load : LoadFault → PbxFault
 fault_of_load (Conf (At line kind)) = Coded (Line kind) (Some line)
 fault_of_load (Conf conf_no_memory) = NoMemory
+fault_of_load (Pattern line fault) = Coded (Name fault) (Some line)
 fault_of_load (load_plan line kind) = Coded (Plan kind) (Some line)
 fault_of_load load_no_memory = NoMemory
 
@@ -30,6 +31,7 @@ reason_of NoMemory = None
 -- whether the fault is a failed write
 abbrev pub is_write_fault : PbxFault → Bool
 is_write_fault (Coded (Line kind) line) = false
+is_write_fault (Coded (Name fault) line) = false
 is_write_fault (Coded (Plan kind) line) = false
 is_write_fault (Coded ReadFailed line) = false
 is_write_fault (Coded TooLong line) = false

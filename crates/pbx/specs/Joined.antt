@@ -5,7 +5,7 @@ use Rattle.std.specs.List.{join_with_byte}
 use Rattle.std.specs.Option.{option_map}
 use Rattle.dp_conf.specs.Blanks.{trim}
 use Rattle.dp_conf.specs.Lines.{parts_of}
-use Rattle.dp_plan.specs.EntryLine.{same_text}
+use Rattle.dp_conf.specs.Words.{same_text}
 
 -- a line that is `;; script` without the blanks at its ends
 abbrev pub is_separator : List ℕ → Bool

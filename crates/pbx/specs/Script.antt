@@ -7,7 +7,7 @@ use Rattle.dp_conf.specs.Blanks.{is_blank}
 use Rattle.dp_conf.specs.Cut.{begins_with}
 use Rattle.dp_conf.specs.Lines.{parts_of}
 use Rattle.dp_conf.specs.Numbers.{number_of}
-use Rattle.dp_plan.specs.EntryLine.{same_text}
+use Rattle.dp_conf.specs.Words.{same_text}
 use Rattle.dp_machine.specs.declared.event.Event.{Event}
 use Rattle.dp_machine.specs.declared.event.Event.TheVariants.{Start as event_start, Step as event_step}
 use Rattle.pbx.specs.declared.fault.Code.TheVariants.{BadScript}

@@ -2,6 +2,7 @@
 use Rattle.std.specs.Prelude.{ℕ, Bool, List, [], ◌∷◌, ◌++◌, Option, Some, None, slice_get, codes, decimal}
 use Rattle.std.specs.List.{list_any}
 use Rattle.std.specs.Option.{option_map}
+use Rattle.dp_pattern.specs.Spelling.{spelling}
 use Rattle.dp_plan.specs.Contexts.{PlanContext}
 use Rattle.dp_plan.specs.Plan.{PlanOf}
 use Rattle.dp_plan.specs.declared.entry.Entry.{Entry}
@@ -34,10 +35,10 @@ unfoldable pub state_text : World → ℕ → List ℕ
 state_text w number =
     state_by (option_map (λ c. c.phase) (channel_at w.channels number)) (option_map (λ c. c.place) (channel_at w.channels number))
 
--- an entry of a context, `CONTEXT,NAME,PRIORITY APP`
+-- an entry of a context, `CONTEXT,NAME,PRIORITY APP`, its name in the canonical spelling
 abbrev pub entry_by : PlanContext → Option Entry → List ℕ
 entry_by context None = []
-entry_by context (Some entry) = place_text context.name entry.name entry.priority ++ codes " " ++ entry.application
+entry_by context (Some entry) = place_text context.name (spelling entry.name) entry.priority ++ codes " " ++ entry.application
 
 abbrev pub entry_in : ℕ → Option PlanContext → List ℕ
 entry_in number None = []

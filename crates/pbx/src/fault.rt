@@ -3,7 +3,7 @@ ghost use Rattle.std.specs.Prelude.{◌≡◌};
 ghost use Rattle.pbx.specs.Codes.{code_number, code_name};
 
 use dp_conf::{ConfFault, LineKind, ReadFault};
-use dp_plan::{LoadFault, NoMemory, PlanKind};
+use dp_plan::{LoadFault, NameFault, NoMemory, PlanKind};
 use std::alloc::AllocFailed;
 
 /// What a fault is.
@@ -11,6 +11,8 @@ use std::alloc::AllocFailed;
 pub enum Code {
     /// A line of the dialplan's text is refused.
     Line(LineKind),
+    /// The name of a line is none.
+    Name(NameFault),
     /// A line of a context or of the global variables is refused.
     Plan(PlanKind),
     /// A file or the standard input could not be read.
@@ -30,6 +32,7 @@ impl Code {
     {
         match self {
             Code::Line(kind) => kind.code(),
+            Code::Name(fault) => fault.code(),
             Code::Plan(kind) => kind.code(),
             Code::ReadFailed => 7,
             Code::TooLong => 8,
@@ -44,6 +47,7 @@ impl Code {
     {
         match self {
             Code::Line(kind) => kind.name(),
+            Code::Name(fault) => fault.name(),
             Code::Plan(kind) => kind.name(),
             Code::ReadFailed => "ReadFailed",
             Code::TooLong => "TooLong",
@@ -73,6 +77,10 @@ impl From<LoadFault> for PbxFault {
                 line: Some(line),
             },
             LoadFault::Conf(ConfFault::NoMemory) => PbxFault::NoMemory,
+            LoadFault::Pattern { line, fault } => PbxFault::Coded {
+                code: Code::Name(fault),
+                line: Some(line),
+            },
             LoadFault::Plan { line, kind } => PbxFault::Coded {
                 code: Code::Plan(kind),
                 line: Some(line),

@@ -2,12 +2,11 @@
 ghost use Rattle.std.specs.Prelude.{◌≡◌, ◌+◌, ◌++◌, [], ◌∷◌, IfOk, OnOk, map, false};
 ghost use Rattle.std.specs.Option.{option_map, option_to_list};
 ghost use Rattle.dp_conf.specs.Answers.{Answers};
-ghost use Rattle.dp_conf.specs.Blanks as blanks;
 ghost use Rattle.pbx.specs.Script as spec;
 ghost use Rattle.pbx.specs.Faults.{reason_of, is_write_failed};
 
 use crate::fault::{Code, PbxFault};
-use dp_conf::{first_part, read_number};
+use dp_conf::{first_part, is_blank, read_number};
 use dp_plan::{NoMemory, Text};
 use std::alloc::Global;
 
@@ -25,13 +24,6 @@ pub enum ScriptLine {
         channel: u32,
         count: u32,
     },
-}
-
-/// Whether the byte parts words.
-fn is_blank(byte: u8) -> bool
-    ensures { result ≡ blanks.is_blank byte }
-{
-    byte <= b' ' && byte != b'\n'
 }
 
 /// The words of a line, between its blanks.

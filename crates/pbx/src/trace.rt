@@ -61,12 +61,17 @@ fn push_state(out: &mut Vec<u8>, machine: &Machine, number: u32) -> Result<(), N
     Ok(())
 }
 
-/// Adds an entry of a context, `CONTEXT,NAME,PRIORITY APP`.
-fn push_entry_of(out: &mut Vec<u8>, context: &Context, entry: &Entry) -> Result<(), NoMemory>
+/// Adds an entry of a context, `CONTEXT,NAME,PRIORITY APP`, its name in the canonical spelling.
+fn push_entry_of(
+    alloc: Global,
+    out: &mut Vec<u8>,
+    context: &Context,
+    entry: &Entry,
+) -> Result<(), NoMemory>
     ensures { OnOk result (out.new.items ≡ out.old.items ++ spec.entry_by context.now (Some entry.now)) }
 {
-    let name = context.name().bytes();
-    push_place(out, name, entry.name.bytes(), entry.priority.get())?;
+    let spelling = entry.name.text(alloc)?;
+    push_place(out, context.name().bytes(), &spelling, entry.priority.get())?;
     out.extend_from_slice(b" ")?;
     out.extend_from_slice(entry.application.bytes())?;
     Ok(())
@@ -74,7 +79,12 @@ fn push_entry_of(out: &mut Vec<u8>, context: &Context, entry: &Entry) -> Result<
 
 /// Adds the entry of the dialplan that has these numbers.
 #[tactic(auto, unfolding(crate::specs::Trace::entry_text))]
-fn push_entry(out: &mut Vec<u8>, plan: &Dialplan, id: EntryId) -> Result<(), NoMemory>
+fn push_entry(
+    alloc: Global,
+    out: &mut Vec<u8>,
+    plan: &Dialplan,
+    id: EntryId,
+) -> Result<(), NoMemory>
     ensures { OnOk result (out.new.items ≡ out.old.items ++ spec.entry_text plan.now id) }
 {
     let Some(context) = plan.contexts().get(id.context) else {
@@ -83,7 +93,7 @@ fn push_entry(out: &mut Vec<u8>, plan: &Dialplan, id: EntryId) -> Result<(), NoM
     let Some(entry) = context.entries().get(id.entry) else {
         return Ok(());
     };
-    push_entry_of(out, context, entry)?;
+    push_entry_of(alloc, out, context, entry)?;
     Ok(())
 }
 
@@ -108,19 +118,26 @@ fn push_refused(out: &mut Vec<u8>, refusal: Refusal) -> Result<(), NoMemory>
 }
 
 /// Adds the line of a step that ran an entry.
-fn push_ran(out: &mut Vec<u8>, machine: &Machine, number: u32, id: EntryId) -> Result<(), NoMemory>
+fn push_ran(
+    alloc: Global,
+    out: &mut Vec<u8>,
+    machine: &Machine,
+    number: u32,
+    id: EntryId,
+) -> Result<(), NoMemory>
     ensures { OnOk result (out.new.items ≡ out.old.items ++ spec.reply_text machine.now number (Reply.Ran id)) }
 {
     out.extend_from_slice(b"ran ")?;
     push_number(out, number)?;
     out.extend_from_slice(b" ")?;
-    push_entry(out, machine.plan(), id)?;
+    push_entry(alloc, out, machine.plan(), id)?;
     push_behind(out, machine, number)?;
     Ok(())
 }
 
 /// Adds the line of a reply to an event of the channel of this number, with the machine behind the event.
 fn push_reply(
+    alloc: Global,
     out: &mut Vec<u8>,
     machine: &Machine,
     number: u32,
@@ -133,7 +150,7 @@ fn push_reply(
             out.extend_from_slice(b"started ")?;
             push_number(out, channel)?;
         }
-        Reply::Ran(id) => push_ran(out, machine, number, id)?,
+        Reply::Ran(id) => push_ran(alloc, out, machine, number, id)?,
         Reply::NoEntry => {
             out.extend_from_slice(b"no entry ")?;
             push_number(out, number)?;
@@ -155,7 +172,7 @@ pub(crate) fn reply_line(
     ensures { IfOk result (λ line. line.items ≡ spec.reply_text machine.now number reply ++ 10 ∷ []) }
 {
     let mut line = Vec::new(alloc);
-    push_reply(&mut line, machine, number, reply)?;
+    push_reply(alloc, &mut line, machine, number, reply)?;
     line.push(b'\n')?;
     Ok(line)
 }

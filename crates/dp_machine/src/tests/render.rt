@@ -39,15 +39,21 @@ fn channel_of(given: Given, reply: Reply) -> u32 {
     }
 }
 
-fn push_entry(out: &mut String, plan: &Dialplan, id: EntryId) -> Result<(), NoMemory> {
+fn push_entry(
+    out: &mut String,
+    alloc: Global,
+    plan: &Dialplan,
+    id: EntryId,
+) -> Result<(), NoMemory> {
     match (plan.contexts().get(id.context), plan.entry(id)) {
         (Some(context), Some(entry)) => {
+            let name = Text::new(entry.name.text(alloc)?);
             let priority = entry.priority.get();
             write!(
                 out,
                 "{},{},{priority} {}",
                 context.name(),
-                entry.name,
+                name,
                 entry.application
             )
         }
@@ -55,12 +61,17 @@ fn push_entry(out: &mut String, plan: &Dialplan, id: EntryId) -> Result<(), NoMe
     }
 }
 
-fn push_reply(out: &mut String, plan: &Dialplan, reply: Reply) -> Result<(), NoMemory> {
+fn push_reply(
+    out: &mut String,
+    alloc: Global,
+    plan: &Dialplan,
+    reply: Reply,
+) -> Result<(), NoMemory> {
     match reply {
         Reply::Started(number) => write!(out, "started {number}"),
         Reply::Ran(id) => {
             out.push_str("ran ")?;
-            push_entry(out, plan, id)
+            push_entry(out, alloc, plan, id)
         }
         Reply::NoEntry => out.push_str("no entry"),
         Reply::Refused(refusal) => { write!(out, "refused {} {}", refusal.code(), refusal.name()) }
@@ -98,7 +109,7 @@ pub(super) fn shown(
     for given in events {
         let event = event_of(alloc, *given)?;
         let reply = machine.apply(alloc, event)?;
-        push_reply(&mut out, machine.plan(), reply)?;
+        push_reply(&mut out, alloc, machine.plan(), reply)?;
         out.push_str(" -> ")?;
         push_state(&mut out, machine, channel_of(*given, reply))?;
         out.push('\n')?;

@@ -1,17 +1,23 @@
 //! The numbers and the printed names of faults and notes.
-use crate::{ConfFault, LineKind, LoadFault, NoteKind, PlanKind, Word};
+use crate::{ConfFault, LineKind, LoadFault, NameFault, NoteKind, PlanKind, Word};
 use std::test::Fail;
 
 #[test]
 fn faults_have_these_codes(rt: HostRuntime) {
     let kinds = [
         (PlanKind::BadPriority, 20, "BadPriority"),
+        (PlanKind::NoPrevious, 21, "NoPrevious"),
+        (PlanKind::BadLabel, 22, "BadLabel"),
         (PlanKind::BadApplication, 23, "BadApplication"),
         (PlanKind::LeftOut(Word::Switch), 24, "LeftOut"),
         (PlanKind::LeftOut(Word::IgnorePat), 24, "LeftOut"),
         (PlanKind::LeftOut(Word::Hint), 24, "LeftOut"),
+        (PlanKind::LeftOut(Word::CallerId), 24, "LeftOut"),
+        (PlanKind::LeftOut(Word::IncludeTimes), 24, "LeftOut"),
+        (PlanKind::LeftOut(Word::Variable), 24, "LeftOut"),
         (PlanKind::LeftOut(Word::OldForm), 24, "LeftOut"),
         (PlanKind::LeftOut(Word::PriorityWord), 24, "LeftOut"),
+        (PlanKind::NoExten, 26, "NoExten"),
         (PlanKind::PriorityLimit, 27, "PriorityLimit"),
         (PlanKind::ShortLine, 28, "ShortLine"),
         (PlanKind::NotYet, 29, "NotYet"),
@@ -22,10 +28,53 @@ fn faults_have_these_codes(rt: HostRuntime) {
     }
 }
 
+/// The faults of names are those of the crate that reads them.
+#[test]
+fn faults_of_names_have_these_codes(rt: HostRuntime) {
+    let faults = [
+        (NameFault::EmptyName, 10, "EmptyName"),
+        (NameFault::EmptySet, 11, "EmptySet"),
+        (NameFault::BadRange, 12, "BadRange"),
+        (NameFault::OpenSet, 13, "OpenSet"),
+        (NameFault::AfterWildcard, 14, "AfterWildcard"),
+        (NameFault::BadByte, 15, "BadByte"),
+    ];
+    for (fault, code, name) in faults {
+        assert_eq!(rt; fault.code(), code);
+        assert_eq!(rt; fault.name(), name);
+    }
+}
+
+#[test]
+fn words_are_named_so(rt: HostRuntime) -> Result<(), Fail> {
+    let words = [
+        (Word::Switch, "Switch"),
+        (Word::IgnorePat, "IgnorePat"),
+        (Word::Hint, "Hint"),
+        (Word::CallerId, "CallerId"),
+        (Word::IncludeTimes, "IncludeTimes"),
+        (Word::Variable, "Variable"),
+        (Word::OldForm, "OldForm"),
+        (Word::PriorityWord, "PriorityWord"),
+    ];
+    for (word, want) in words {
+        let printed = format!(in rt.alloc(); "{word:?}")?;
+        assert_eq!(rt; printed.as_str(), want);
+    }
+    Ok(())
+}
+
 #[test]
 fn notes_have_these_names(rt: HostRuntime) {
-    assert_eq!(rt; NoteKind::DoublePriority.name(), "DoublePriority");
-    assert_eq!(rt; NoteKind::UnknownKey.name(), "UnknownKey");
+    let kinds = [
+        (NoteKind::DoublePriority, "DoublePriority"),
+        (NoteKind::DoubleLabel, "DoubleLabel"),
+        (NoteKind::UnknownContext, "UnknownContext"),
+        (NoteKind::UnknownKey, "UnknownKey"),
+    ];
+    for (kind, name) in kinds {
+        assert_eq!(rt; kind.name(), name);
+    }
 }
 
 #[test]
@@ -34,14 +83,21 @@ fn faults_are_printed_so(rt: HostRuntime) -> Result<(), Fail> {
         line: 12,
         kind: LineKind::NoEquals,
     });
+    let of_name = LoadFault::Pattern {
+        line: 7,
+        fault: NameFault::AfterWildcard,
+    };
     let of_context = LoadFault::Plan {
         line: 3,
         kind: PlanKind::LeftOut(Word::Hint),
     };
-    let printed = format!(in rt.alloc(); "{of_text}, {of_context}, {}", LoadFault::NoMemory)?;
+    let printed = format!(in rt.alloc();
+        "{of_text}, {of_name}, {of_context}, {}",
+        LoadFault::NoMemory
+    )?;
     assert_eq!(rt;
         printed.as_str(),
-        "NoEquals line 12, LeftOut line 3, out of memory"
+        "NoEquals line 12, AfterWildcard line 7, LeftOut line 3, out of memory"
     );
     Ok(())
 }

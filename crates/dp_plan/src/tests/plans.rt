@@ -1,12 +1,9 @@
 //! Dialplans with what they load as, or their fault, worked out by hand from the rules.
-use crate::tests::render::shown;
-use crate::{Dialplan, NoMemory};
-use std::alloc::Global;
-use std::process::Abort;
+use crate::tests::render::{Row, check_all};
 use std::test::Fail;
 
 /// Sections, settings and global variables.
-const SECTIONS: [(&[u8], &str); 34] = [
+const SECTIONS: [Row; 34] = [
     // Nothing to keep.
     (b"", ""),
     (b"\n\n\n", ""),
@@ -60,7 +57,7 @@ const SECTIONS: [(&[u8], &str); 34] = [
 ];
 
 /// Entries, dropped lines and unknown keys, with their notes.
-const ENTRIES: [(&[u8], &str); 25] = [
+const ENTRIES: [Row; 25] = [
     // Entries.
     (b"[m]\nexten => s,1,NoOp(a)\n", "[m]<s,1,NoOp(a)>"),
     (b"[m]\nexten = s,1,Set(A=b)", "[m]<s,1,Set(A=b)>"),
@@ -148,24 +145,28 @@ const ENTRIES: [(&[u8], &str); 25] = [
     ),
     (
         b"[globals]\n=1\n[b]\nx=1\n[a]\ny=1\n[b]\nz=1\n[globals]\n=\n",
-        "[b][a] note 2 UnknownKey note 4 UnknownKey note 6 UnknownKey note 8 UnknownKey note 10 UnknownKey",
+        "[b][a] note 2 UnknownKey note 4 UnknownKey note 6 UnknownKey note 8 UnknownKey \
+note 10 UnknownKey",
     ),
 ];
 
-/// Lines that are left out by their key, too short, or not read yet.
-const NOT_YET: [(&[u8], &str); 52] = [
-    // Keys that are left out or not read yet.
+/// Lines that are left out by their key or too short, keys beside `exten`, and names.
+const LINES: [Row; 34] = [
+    // Keys that are left out, and the others that contexts have.
     (b"[m]\nswitch => IAX2/x\n", "fault 24 Switch line 2"),
     (b"[m]\nSwitch =>\n", "fault 24 Switch line 2"),
     (b"[m]\nlswitch => x\n", "fault 24 Switch line 2"),
     (b"[m]\nESWITCH => x\n", "fault 24 Switch line 2"),
     (b"[m]\nignorepat => 9\n", "fault 24 IgnorePat line 2"),
     (b"[m]\nIgnorePat => ${X}\n", "fault 24 IgnorePat line 2"),
-    (b"[m]\nsame => 1,A\n", "fault 29 line 2"),
-    (b"[m]\nexten => s,1,A\nSAME => hint,A(\n", "fault 29 line 3"),
-    (b"[m]\ninclude => out\n", "fault 29 line 2"),
-    (b"[m]\nInclude =>\n", "fault 29 line 2"),
-    // Too few commas, and names that are not read yet.
+    (b"[m]\nsame => 1,A\n", "fault 26 line 2"),
+    (
+        b"[m]\nexten => s,1,A\nSAME => hint,A(\n",
+        "fault 24 Hint line 3",
+    ),
+    (b"[m]\ninclude => out\n", "[m]{+out} note 2 UnknownContext"),
+    (b"[m]\nInclude =>\n", "[m]{+} note 2 UnknownContext"),
+    // Too few commas.
     (b"[m]\nexten =>\n", "fault 28 line 2"),
     (b"[m]\nexten => s\n", "fault 28 line 2"),
     (b"[m]\nexten => a b\n", "fault 28 line 2"),
@@ -174,45 +175,63 @@ const NOT_YET: [(&[u8], &str); 52] = [
     (b"[m]\nexten => s,n\n", "fault 28 line 2"),
     (b"[m]\nexten => s,1(a)\n", "fault 28 line 2"),
     (b"[m]\nexten => s,hint\n", "fault 28 line 2"),
-    (b"[m]\nexten => a b,1\n", "fault 29 line 2"),
-    (b"[m]\nexten => ,\n", "fault 29 line 2"),
-    (b"[m]\nexten => ,1,A\n", "fault 29 line 2"),
-    (b"[m]\nexten => _X.,1,A\n", "fault 29 line 2"),
-    (b"[m]\nexten => 1-2,1,A\n", "fault 29 line 2"),
-    (b"[m]\nexten => s/123,1,A\n", "fault 29 line 2"),
-    (b"[m]\nexten => ${X},1,A\n", "fault 29 line 2"),
-    (b"[m]\nexten => +1,1,A\n", "fault 29 line 2"),
-    (b"[m]\nexten => a\\;b,1,A\n", "fault 29 line 2"),
-    (b"[m]\nexten => \xC3\xA9,1,A\n", "fault 29 line 2"),
-    (b"[m]\nexten => /,1,A\n", "fault 29 line 2"),
-    (b"[m]\nexten => :,1,A\n", "fault 29 line 2"),
-    (b"[m]\nexten => @,1,A\n", "fault 29 line 2"),
-    (b"[m]\nexten => [,1,A\n", "fault 29 line 2"),
-    (b"[m]\nexten => `,1,A\n", "fault 29 line 2"),
-    (b"[m]\nexten => {,1,A\n", "fault 29 line 2"),
-    // What is not read yet is asked before the other faults of its line.
-    (b"[m]\nexten => a-b,hint,A(\n", "fault 29 line 2"),
-    (b"[m]\nexten => s,n,A(\n", "fault 29 line 2"),
-    (b"[m]\nexten => s,n,a,b\n", "fault 29 line 2"),
-    (b"[m]\nexten => s,1(a),A\n", "fault 29 line 2"),
-    (b"[m]\nexten => s,0(a),A\n", "fault 29 line 2"),
-    (b"[m]\nexten => s,hint(a),A\n", "fault 29 line 2"),
-    (b"[m]\nexten => s,n+1(a,A\n", "fault 29 line 2"),
+    (b"[m]\nexten => a b,1\n", "fault 28 line 2"),
+    (b"[m]\nexten => ,\n", "fault 28 line 2"),
+    // Names.
+    (b"[m]\nexten => ,1,A\n", "fault 10 line 2"),
+    (b"[m]\nexten => _X.,1,A\n", "[m]<_X.,1,A()>"),
+    (b"[m]\nexten => 1-2,1,A\n", "[m]<12,1,A()>"),
+    (b"[m]\nexten => s/123,1,A\n", "fault 24 CallerId line 2"),
+    (b"[m]\nexten => ${X},1,A\n", "fault 24 Variable line 2"),
+    (b"[m]\nexten => +1,1,A\n", "[m]<+1,1,A()>"),
+    (b"[m]\nexten => a\\;b,1,A\n", "[m]<a;b,1,A()>"),
+    (b"[m]\nexten => \xC3\xA9,1,A\n", "[m]<\u{e9},1,A()>"),
+    (b"[m]\nexten => /,1,A\n", "fault 24 CallerId line 2"),
+    (b"[m]\nexten => :,1,A\n", "[m]<:,1,A()>"),
+    (b"[m]\nexten => @,1,A\n", "[m]<@,1,A()>"),
+    (b"[m]\nexten => [,1,A\n", "[m]<[,1,A()>"),
+    (b"[m]\nexten => `,1,A\n", "[m]<`,1,A()>"),
+    (b"[m]\nexten => {,1,A\n", "[m]<{,1,A()>"),
+];
+
+/// Lines whose arguments are not read yet, and some that have no such arguments.
+const NOT_YET: [Row; 26] = [
+    // A `${` or a `$[` in arguments is asked before the other faults of its line.
     (b"[m]\nexten => s,1,A(${X})\n", "fault 29 line 2"),
     (b"[m]\nexten => s,1,A(x$[1 + 1])\n", "fault 29 line 2"),
     (b"[m]\nexten => s,0,A(${X})\n", "fault 29 line 2"),
     (b"[m]\nexten => s,hint,A(${X})\n", "fault 29 line 2"),
     (b"[m]\nexten => s,2147483648,A($[1])\n", "fault 29 line 2"),
+    (b"[m]\nexten => s,n,A(${X})\n", "fault 29 line 2"),
+    (b"[m]\nexten => s,1(,A(${X})\n", "fault 29 line 2"),
+    (b"[m]\nexten => ,1,A(${X})\n", "fault 29 line 2"),
+    (b"[m]\nexten => _[,hint,A($[1])\n", "fault 29 line 2"),
+    (b"[m]\nexten => ${X}/1,1,A(${X})\n", "fault 29 line 2"),
+    (b"[m]\nsame => 1,A(${X})\n", "fault 29 line 2"),
+    (b"[m]\nsame => n(),A(x,$[)\n", "fault 29 line 2"),
+    (
+        b"[m]\nexten => s,1,A\nexten => s,1,B(${X})\n",
+        "fault 29 line 3",
+    ),
+    // A malformed application has no arguments, and a line with too few commas no application.
     (b"[m]\nexten => s,1,A(${X}\n", "fault 23 line 2"),
     (b"[m]\nexten => s,1,(${X})\n", "fault 23 line 2"),
     (b"[m]\nexten => s,1,a,B(${X})\n", "fault 24 OldForm line 2"),
     (b"[m]\nexten => s,0,A(${X}\n", "fault 20 line 2"),
+    (b"[m]\nexten => s,1(a,b),A(${X})\n", "fault 22 line 2"),
+    (b"[m]\nexten => s,A(${X})\n", "fault 28 line 2"),
+    (b"[m]\nsame => A(${X})\n", "fault 26 line 2"),
+    (b"[m]\nexten => s,1,A\nsame => A(${X})\n", "fault 28 line 3"),
+    // Such bytes elsewhere in a line.
     (b"[m]\nexten => s,1,${A}\n", "[m]<s,1,${A}()>"),
+    (b"[m]\nexten => s,1,A${X}(y)\n", "[m]<s,1,A${X}(y)>"),
     (b"[m]\nexten => s,1,A($X{Y}$)\n", "[m]<s,1,A($X{Y}$)>"),
+    (b"[m]\nexten => s,${X},A\n", "fault 20 line 2"),
+    (b"[m]\nexten => s,1(${x}),A\n", "[m]<s,1(${x}),A()>"),
 ];
 
 /// Priorities.
-const PRIORITIES: [(&[u8], &str); 27] = [
+const PRIORITIES: [Row; 27] = [
     // Priorities that are left out.
     (b"[m]\nexten => s,hint,A\n", "fault 24 Hint line 2"),
     (b"[m]\nexten => s,next,A\n", "fault 24 PriorityWord line 2"),
@@ -260,7 +279,7 @@ const PRIORITIES: [(&[u8], &str); 27] = [
 ];
 
 /// Applications, and the bytes of lines.
-const APPLICATIONS: [(&[u8], &str); 26] = [
+const APPLICATIONS: [Row; 26] = [
     // Applications.
     (b"[m]\nexten => s,1,App\n", "[m]<s,1,App()>"),
     (b"[m]\nexten => s,1,App()\n", "[m]<s,1,App()>"),
@@ -301,7 +320,7 @@ const APPLICATIONS: [(&[u8], &str); 26] = [
 ];
 
 /// Texts with several faults, and a usual one.
-const WHOLE: [(&[u8], &str); 12] = [
+const WHOLE: [Row; 13] = [
     // Faults of the text come before those of a context, and of either the lowest line.
     (b"[m]\nexten => s,0,A\nabc\n", "fault 4 line 3"),
     (b"[m]\nexten => _X.,1,A\n\n;-- x\n", "fault 1 line 4"),
@@ -312,32 +331,28 @@ const WHOLE: [(&[u8], &str); 12] = [
     (b"[m]\nexten => s,0,A\nexten => s,1\n", "fault 20 line 2"),
     (b"[m]\nexten => s,1\nexten => s,0,A\n", "fault 28 line 2"),
     (
-        b"[m]\nx=1\nexten => s,1,A\nexten => s,1,B\nsame => n,C\n",
-        "fault 29 line 5",
+        b"[m]\nx=1\nexten => s,1,A\nexten => s,1,B\nsame => hint,C\n",
+        "fault 24 Hint line 5",
     ),
     (
         b"[m]\nswitch => x\n[globals]\nA=${X}\n",
         "fault 24 Switch line 2",
     ),
     (b"[globals]\nA=${X}\n[m]\nswitch => x\n", "fault 29 line 2"),
+    // Dropped lines leave the rest as it is.
+    (
+        b"[m]\nx=1\nexten => s,1,A\nexten => s,1,B\nsame => n,C\n",
+        "[m]<s,1,A()><s,2,C()> note 2 UnknownKey note 4 DoublePriority",
+    ),
     // A usual file.
     (
         b"[general]\nstatic=yes\n\n[globals]\nTRUNK=Line/9\n\n[main]\nexten => 100,1,NoOp(hello)\n\
-exten => 100,2,Goto(200,1)\n\n[out]\nexten => 5,1,Hangup ; away\n\n[main]\nexten => 200,1,Hangup()\n",
-        "{TRUNK=Line/9}[main]<100,1,NoOp(hello)><100,2,Goto(200,1)><200,1,Hangup()>[out]<5,1,Hangup()>",
+exten => 100,2,Goto(200,1)\n\n[out]\nexten => 5,1,Hangup ; away\n\n[main]\n\
+exten => 200,1,Hangup()\n",
+        "{TRUNK=Line/9}[main]<100,1,NoOp(hello)><100,2,Goto(200,1)><200,1,Hangup()>\
+[out]<5,1,Hangup()>",
     ),
 ];
-
-/// Each text loads as what stands beside it.
-fn check_all(rt: &impl Abort, alloc: Global, texts: &[(&[u8], &str)]) -> Result<(), NoMemory> {
-    for pair in texts {
-        let (text, want) = *pair;
-        let read = Dialplan::load(alloc, text);
-        let got = shown(alloc, &read)?;
-        assert_eq!(rt; got.as_str(), want, "of {text:?}");
-    }
-    Ok(())
-}
 
 #[test]
 fn sections_load_so(rt: HostRuntime) -> Result<(), Fail> {
@@ -348,6 +363,12 @@ fn sections_load_so(rt: HostRuntime) -> Result<(), Fail> {
 #[test]
 fn entries_load_so(rt: HostRuntime) -> Result<(), Fail> {
     check_all(&rt, rt.alloc(), &ENTRIES)?;
+    Ok(())
+}
+
+#[test]
+fn lines_load_so(rt: HostRuntime) -> Result<(), Fail> {
+    check_all(&rt, rt.alloc(), &LINES)?;
     Ok(())
 }
 

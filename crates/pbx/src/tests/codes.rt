@@ -2,7 +2,7 @@
 use crate::fault::{Code, PbxFault};
 use crate::tests::render::push_fault;
 use dp_conf::{LineKind, ReadFault};
-use dp_plan::{PlanKind, Word};
+use dp_plan::{NameFault, PlanKind, Word};
 use std::test::Fail;
 
 #[test]
@@ -17,10 +17,19 @@ fn faults_have_these_codes(rt: HostRuntime) {
         (Code::ReadFailed, 7, "ReadFailed"),
         (Code::TooLong, 8, "TooLong"),
         (Code::WriteFailed, 9, "WriteFailed"),
+        (Code::Name(NameFault::EmptyName), 10, "EmptyName"),
+        (Code::Name(NameFault::EmptySet), 11, "EmptySet"),
+        (Code::Name(NameFault::BadRange), 12, "BadRange"),
+        (Code::Name(NameFault::OpenSet), 13, "OpenSet"),
+        (Code::Name(NameFault::AfterWildcard), 14, "AfterWildcard"),
+        (Code::Name(NameFault::BadByte), 15, "BadByte"),
         (Code::Plan(PlanKind::BadPriority), 20, "BadPriority"),
+        (Code::Plan(PlanKind::NoPrevious), 21, "NoPrevious"),
+        (Code::Plan(PlanKind::BadLabel), 22, "BadLabel"),
         (Code::Plan(PlanKind::BadApplication), 23, "BadApplication"),
         (Code::Plan(PlanKind::LeftOut(Word::Hint)), 24, "LeftOut"),
         (Code::Plan(PlanKind::LeftOut(Word::Switch)), 24, "LeftOut"),
+        (Code::Plan(PlanKind::NoExten), 26, "NoExten"),
         (Code::Plan(PlanKind::PriorityLimit), 27, "PriorityLimit"),
         (Code::Plan(PlanKind::ShortLine), 28, "ShortLine"),
         (Code::Plan(PlanKind::NotYet), 29, "NotYet"),

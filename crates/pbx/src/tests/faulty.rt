@@ -3,7 +3,7 @@ use crate::tests::render::check;
 use std::test::Fail;
 
 /// Faulty dialplans, each with a script.
-const PLANS: [(&[u8], &str); 25] = [
+const PLANS: [(&[u8], &str); 28] = [
     // Faults of the text.
     (
         b"[main]\n;-- x\n;; script\nstart main s\n",
@@ -62,36 +62,49 @@ const PLANS: [(&[u8], &str); 25] = [
         b"[main]\nexten => s\n;; script\n",
         "fault 28 ShortLine line 2",
     ),
-    // What is not read yet.
+    // Names, and priorities that count on.
+    (
+        b"[main]\nexten => _,1,A\n;; script\n",
+        "fault 10 EmptyName line 2",
+    ),
+    (
+        b"[main]\nexten => _[],1,A\n;; script\n",
+        "fault 11 EmptySet line 2",
+    ),
+    (
+        b"[main]\nexten => _[9-0],1,A\n;; script\n",
+        "fault 12 BadRange line 2",
+    ),
+    (
+        b"[main]\nexten => _[12,1,A\n;; script\n",
+        "fault 13 OpenSet line 2",
+    ),
+    (
+        b"[main]\nexten => _1.2,1,A\n;; script\n",
+        "fault 14 AfterWildcard line 2",
+    ),
+    (
+        b"[main]\nexten => a b,1,A\n;; script\n",
+        "fault 15 BadByte line 2",
+    ),
     (
         b"[main]\nexten => s,n,A\n;; script\nstart main s\n",
-        "fault 29 NotYet line 2",
+        "fault 21 NoPrevious line 2",
     ),
     (
-        b"[main]\nexten => _X,1,A\n;; script\n",
-        "fault 29 NotYet line 2",
+        b"[main]\nexten => s,1(),A\n;; script\n",
+        "fault 22 BadLabel line 2",
     ),
     (
-        b"[main]\nexten => s,1(a),A\n;; script\n",
-        "fault 29 NotYet line 2",
+        b"[main]\nsame => 2,B\n;; script\n",
+        "fault 26 NoExten line 2",
     ),
-    (
-        b"[main]\nexten => s,1,A\nsame => 2,B\n;; script\n",
-        "fault 29 NotYet line 3",
-    ),
-    (
-        b"[main]\ninclude => main\n;; script\n",
-        "fault 29 NotYet line 2",
-    ),
+    // What is not read yet.
     (
         b"[main]\nexten => s,1,NoOp(${X})\n;; script\n",
         "fault 29 NotYet line 2",
     ),
     (b"[globals]\nA=$[1]\n;; script\n", "fault 29 NotYet line 2"),
-    (
-        b"[main]\nexten => \xC3\xBC,1,A\n;; script\n",
-        "fault 29 NotYet line 2",
-    ),
     // The text's fault before those of contexts.
     (
         b"[main]\nexten => s,0,A\nabc\n;; script\n",

@@ -1,0 +1,161 @@
+//! The line of an entry: `exten => name,priority[(label)],application` or `same => priority[(label)],application`.
+ghost use Rattle.std.specs.Prelude.{◌≡◌, IfOk, Some};
+ghost use Rattle.std.specs.Option.{option_map, option_copied};
+ghost use Rattle.dp_conf.specs.Answers.{Answers};
+ghost use Rattle.dp_plan.specs.EntryLine as spec;
+ghost use Rattle.dp_plan.specs.Faults.{reason_of, at_line};
+ghost use Rattle.dp_plan.specs.Reader.{history_in, last_priority};
+
+use crate::application::{Called, is_expanded, read_application};
+use crate::entry::Entry;
+use crate::fault::{LoadFault, PlanKind};
+use crate::naming::read_name;
+use crate::numbering::{Written, number_after, read_numbering};
+use crate::priority::Priority;
+use crate::reader::Reader;
+use dp_conf::{NoMemory, Text, cut_once, trim};
+use dp_pattern::Name;
+use std::alloc::Global;
+
+/// The fault of a line.
+fn fault(line: usize, kind: PlanKind) -> LoadFault
+    ensures { result ≡ LoadFault.Plan line kind }
+{
+    LoadFault::Plan { line, kind }
+}
+
+/// A copy of the text, where there is one.
+fn copy_label(alloc: Global, label: Option<&[u8]>) -> Result<Option<Text>, NoMemory>
+    ensures { IfOk result (λ copy. copy ≡ option_map (λ label. label.now) label.entry) }
+{
+    match label {
+        None => Ok(None),
+        Some(label) => {
+            let copy = Text::copy_of(alloc, label)?;
+            Ok(Some(copy))
+        }
+    }
+}
+
+/// The last priority of the extension, where the priority of the line asks for it.
+fn priority_before(
+    alloc: Global,
+    reader: &Reader,
+    context: &Text,
+    name: &Name,
+    written: Written,
+) -> Result<Option<Priority>, NoMemory>
+    ensures { IfOk result (λ last. spec.number_after last written
+        ≡ spec.number_after (last_priority reader.now context.now name.now) written) }
+{
+    match written {
+        Written::Next => {
+            let last = reader.last_priority(alloc, context, name)?;
+            Ok(last)
+        }
+        Written::Number(_) | Written::TooGreat => Ok(None),
+    }
+}
+
+/// The entry of the name, with its priority and its application.
+fn read_named(
+    alloc: Global,
+    reader: &Reader,
+    line: usize,
+    context: &Text,
+    name: Name,
+    priority: &[u8],
+    called: Result<Called<'_>, PlanKind>,
+) -> Result<Entry, LoadFault>
+    ensures { Answers (λ entry. entry) reason_of result
+        (spec.entry_by (history_in reader.now) line context.now name priority.now (spec.called_now called.entry)) }
+{
+    let numbering = match read_numbering(priority) {
+        Ok(numbering) => numbering,
+        Err(kind) => return Err(fault(line, kind)),
+    };
+    let last = priority_before(alloc, reader, context, &name, numbering.written)?;
+    let priority = match number_after(last, numbering.written) {
+        Ok(priority) => priority,
+        Err(kind) => return Err(fault(line, kind)),
+    };
+    let called = match called {
+        Ok(called) => called,
+        Err(kind) => return Err(fault(line, kind)),
+    };
+    let label = copy_label(alloc, numbering.label)?;
+    let application = Text::copy_of(alloc, called.name)?;
+    let arguments = Text::copy_of(alloc, called.arguments)?;
+    Ok(Entry {
+        name,
+        priority,
+        label,
+        application,
+        arguments,
+    })
+}
+
+/// The entry that the value of an `exten` line writes.
+#[tactic(auto, unfolding(crate::specs::EntryLine::exten_entry))]
+pub(crate) fn read_exten(
+    alloc: Global,
+    reader: &Reader,
+    line: usize,
+    context: &Text,
+    value: &[u8],
+) -> Result<Entry, LoadFault>
+    ensures { Answers (λ entry. entry) reason_of result
+        (spec.exten_entry (history_in reader.now) line context.now value.now) }
+{
+    let Some((name, rest)) = cut_once(value, b',') else {
+        return Err(fault(line, PlanKind::ShortLine));
+    };
+    let Some((priority, application)) = cut_once(rest, b',') else {
+        return Err(fault(line, PlanKind::ShortLine));
+    };
+    let called = read_application(trim(application));
+    if is_expanded(&called) {
+        return Err(fault(line, PlanKind::NotYet));
+    }
+    let name = read_name(alloc, line, trim(name))?;
+    let entry = read_named(alloc, reader, line, context, name, trim(priority), called)?;
+    Ok(entry)
+}
+
+/// The name of a line that repeats the one before it.
+fn name_again(reader: &Reader, line: usize) -> Result<Name, LoadFault>
+    ensures { Answers (λ name. name) reason_of result (spec.name_again line reader.now.name) }
+{
+    match reader.name() {
+        None => Err(fault(line, PlanKind::NoExten)),
+        Some(name) => {
+            let name = name.clone()?;
+            Ok(name)
+        }
+    }
+}
+
+/// The entry that the value of a `same` line writes.
+#[tactic(auto, unfolding(crate::specs::EntryLine::same_entry))]
+pub(crate) fn read_same(
+    alloc: Global,
+    reader: &Reader,
+    line: usize,
+    context: &Text,
+    value: &[u8],
+) -> Result<Entry, LoadFault>
+    ensures { Answers (λ entry. entry) reason_of result
+        (spec.same_entry (history_in reader.now) line context.now value.now) }
+{
+    let Some((priority, application)) = cut_once(value, b',') else {
+        name_again(reader, line)?;
+        return Err(fault(line, PlanKind::ShortLine));
+    };
+    let called = read_application(trim(application));
+    if is_expanded(&called) {
+        return Err(fault(line, PlanKind::NotYet));
+    }
+    let name = name_again(reader, line)?;
+    let entry = read_named(alloc, reader, line, context, name, trim(priority), called)?;
+    Ok(entry)
+}

@@ -1,0 +1,139 @@
+//! The priority of an entry's line: its number, or `n`, and its label.
+ghost use Rattle.std.specs.Prelude.{◌≡◌, Some};
+ghost use Rattle.std.specs.List.{list_any};
+ghost use Rattle.dp_conf.specs.Answers.{Answers};
+ghost use Rattle.dp_plan.specs.EntryLine as spec;
+
+use crate::application::before_closing;
+use crate::fault::{PlanKind, Word};
+use crate::priority::Priority;
+use dp_conf::{cut_once, read_number, trim};
+
+/// How a priority is written.
+#[derive(Clone, Copy)]
+pub(crate) enum Written {
+    /// A number.
+    Number(Priority),
+    /// A number above the greatest priority.
+    TooGreat,
+    /// `n`: one more than the last priority of the extension.
+    Next,
+}
+
+/// A priority as it is written, with the label behind it, where it has one.
+#[derive(Clone, Copy)]
+pub(crate) struct Numbering<'a> {
+    pub(crate) written: Written,
+    pub(crate) label: Option<&'a [u8]>,
+}
+
+/// Whether the priority is one of the words that are left out, or has the sign that is.
+fn is_priority_word(text: &[u8]) -> bool
+    ensures { result ≡ spec.is_priority_word text.now }
+{
+    text == b"next".as_slice()
+        || text == b"s".as_slice()
+        || text == b"same".as_slice()
+        || text.contains(&b'+')
+}
+
+/// How the number is written as a priority.
+fn written_number(number: u64) -> Result<Written, PlanKind>
+    ensures { result ≡ spec.written_number (Some number) }
+{
+    if number == 0 {
+        return Err(PlanKind::BadPriority);
+    }
+    let Ok(number) = u32::try_from(number) else {
+        return Ok(Written::TooGreat);
+    };
+    match Priority::new(number) {
+        Some(priority) => Ok(Written::Number(priority)),
+        None => Ok(Written::TooGreat),
+    }
+}
+
+/// A priority without its label.
+fn read_written(text: &[u8]) -> Result<Written, PlanKind>
+    ensures { result ≡ spec.written_of text.now }
+{
+    if text == b"hint".as_slice() {
+        return Err(PlanKind::LeftOut(Word::Hint));
+    }
+    if is_priority_word(text) {
+        return Err(PlanKind::LeftOut(Word::PriorityWord));
+    }
+    if text == b"n".as_slice() {
+        return Ok(Written::Next);
+    }
+    match read_number(text) {
+        None => Err(PlanKind::BadPriority),
+        Some(number) => written_number(number),
+    }
+}
+
+/// Whether each byte of the text is a digit.
+fn has_digits_alone(text: &[u8]) -> bool
+    ensures { result ≡ spec.has_digits_alone text.now }
+{
+    text.iter().all(u8::is_ascii_digit)
+}
+
+/// Whether a parenthesis stands in the text.
+fn has_parenthesis(text: &[u8]) -> bool
+    ensures { result ≡ spec.has_parenthesis text.now }
+{
+    text.iter().any(|byte| *byte == b'(' || *byte == b')')
+}
+
+/// The label of what stands behind the first `(` of a priority.
+fn read_label(behind: &[u8]) -> Result<&[u8], PlanKind>
+    ensures { Answers (λ label. label.now) (λ kind. Some kind) result (spec.label_within (spec.without_last 41 behind.now)) }
+{
+    let Some(text) = before_closing(behind) else {
+        return Err(PlanKind::BadLabel);
+    };
+    let label = trim(text);
+    if has_digits_alone(label) || has_parenthesis(label) {
+        return Err(PlanKind::BadLabel);
+    }
+    Ok(label)
+}
+
+/// A priority as it is written.
+#[tactic(auto, unfolding(crate::specs::EntryLine::written_priority))]
+pub(crate) fn read_numbering(text: &[u8]) -> Result<Numbering<'_>, PlanKind>
+    ensures { Answers spec.numbering_now (λ kind. Some kind) result (spec.written_priority text.now) }
+{
+    match cut_once(text, b'(') {
+        None => {
+            let written = read_written(text)?;
+            Ok(Numbering {
+                written,
+                label: None,
+            })
+        }
+        Some((before, behind)) => {
+            let written = read_written(trim(before))?;
+            let label = read_label(behind)?;
+            Ok(Numbering {
+                written,
+                label: Some(label),
+            })
+        }
+    }
+}
+
+/// The number of a priority, by the last priority of the extension.
+pub(crate) fn number_after(last: Option<Priority>, written: Written) -> Result<Priority, PlanKind>
+    ensures { result ≡ spec.number_after last written }
+{
+    match written {
+        Written::Number(priority) => Ok(priority),
+        Written::TooGreat => Err(PlanKind::PriorityLimit),
+        Written::Next => {
+            let last = last.ok_or(PlanKind::NoPrevious)?;
+            Priority::new(last.get() + 1).ok_or(PlanKind::PriorityLimit)
+        }
+    }
+}

@@ -1,0 +1,102 @@
+//! The order in which the entries of a context are asked.
+ghost use Rattle.std.specs.Prelude.{◌≡◌, ◌≤◌, ◌^◌, length, map, IfOk};
+ghost use Rattle.std.specs.List.{All};
+ghost use Rattle.dp_plan.specs.Ranking as spec;
+
+use crate::context::Context;
+use crate::entry::{Entry, EntryId};
+use dp_conf::NoMemory;
+use dp_pattern::compare;
+use std::alloc::Global;
+use std::cmp::Ordering;
+use std::marker::Model;
+
+/// The numbers of a context's entries in the order in which a look-up asks them. A contract sees it as their list.
+#[derive(Debug, Drop)]
+pub(crate) struct Ranking {
+    ids: Vec<EntryId>,
+}
+
+impl Model for Ranking {
+    ghost use Rattle.std.specs.Prelude.{List};
+    ghost use Rattle.dp_plan.specs.declared.entry.EntryId.{EntryId};
+
+    ghost Value = { List EntryId };
+
+    ghost view = { λ ranking. ranking.ids.items };
+}
+
+impl Ranking {
+    ghost use Rattle.std.specs.Prelude.{◌≡◌};
+
+    /// The numbers in their order.
+    pub(crate) fn ids(&self) -> &[EntryId]
+        ensures { result.now ≡ self.now }
+    {
+        &self.ids
+    }
+}
+
+/// An entry beside its number.
+#[derive(Clone, Copy)]
+pub(crate) struct Numbered<'a> {
+    id: EntryId,
+    entry: &'a Entry,
+}
+
+/// The order of two entries: by their names, and then by their priorities.
+fn compare_entries(left: &Entry, right: &Entry) -> Ordering
+    ensures { result ≡ spec.entry_cmp left.now right.now }
+{
+    compare(&left.name, &right.name).then(left.priority.get().cmp(&right.priority.get()))
+}
+
+/// The entries of a context beside their numbers, in the order of the file.
+fn number_entries(
+    alloc: Global,
+    context: usize,
+    entries: &[Entry],
+) -> Result<Vec<Numbered<'_>>, NoMemory>
+    ensures { IfOk result (λ numbered. map spec.numbered_now numbered.items ≡ spec.numbered_from context 0 entries.now) }
+{
+    let mut numbered = Vec::with_capacity(alloc, entries.len())?;
+    for (number, entry) in entries.iter().enumerate() {
+        let id = EntryId {
+            context,
+            entry: number,
+        };
+        numbered.push(Numbered { id, entry })?;
+    }
+    Ok(numbered)
+}
+
+/// The numbers of the entries in their order.
+fn ids_of(alloc: Global, numbered: &[Numbered<'_>]) -> Result<Vec<EntryId>, NoMemory>
+    ensures { IfOk result (λ ids. ids.items ≡ map (λ x. x.id) numbered.now) }
+{
+    numbered.iter().map(|numbered| numbered.id).collect(alloc)
+}
+
+/// The ranking of the entries of a context.
+fn rank(alloc: Global, context: usize, entries: &[Entry]) -> Result<Ranking, NoMemory>
+    requires { spec.AreApart entries.now }
+    ensures { IfOk result (λ ranking. spec.IsRanking context entries.now ranking) }
+{
+    let mut numbered = number_entries(alloc, context, entries)?;
+    numbered.sort_by(|left, right| compare_entries(left.entry, right.entry))?;
+    let ids = ids_of(alloc, &numbered)?;
+    Ok(Ranking { ids })
+}
+
+/// The rankings of all contexts.
+pub(crate) fn rank_contexts(alloc: Global, contexts: &[Context]) -> Result<Vec<Ranking>, NoMemory>
+    requires { All (λ context. spec.AreApart context.entries) contexts.now }
+    ensures { IfOk result (λ rankings. spec.AreRanked contexts.now rankings.items) }
+{
+    let mut rankings = Vec::with_capacity(alloc, contexts.len())?;
+    for (number, context) in contexts.iter().enumerate() {
+        let ranking = rank(alloc, number, context.entries())?;
+        rankings.push(ranking)?;
+    }
+    Ok(rankings)
+}

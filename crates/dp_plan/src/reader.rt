@@ -1,0 +1,119 @@
+//! What the lines so far leave for the next one.
+ghost use Rattle.std.specs.Prelude.{◌≡◌, IfOk, OnOk, fold};
+ghost use Rattle.std.specs.Option.{option_copied, option_to_list};
+ghost use Rattle.dp_plan.specs.Reader as spec;
+
+use crate::entry::Entry;
+use crate::extension::Extension;
+use crate::item::Item;
+use crate::priority::Priority;
+use crate::section::Section;
+use dp_conf::{NoMemory, Text};
+use dp_pattern::Name;
+use indexmap::IndexMap;
+use std::alloc::Global;
+use std::marker::Model;
+
+/// The section of the next line, the name of the last extension since its header, and each extension with its last
+/// priority.
+#[derive(Drop)]
+pub(crate) struct Reader {
+    section: Section,
+    name: Option<Name>,
+    priorities: IndexMap<Extension, Priority>,
+}
+
+impl Model for Reader {
+    ghost use Rattle.dp_plan.specs.Reader.{Reading};
+
+    ghost Value = { Reading };
+
+    ghost view = { λ reader. record {
+      section = reader.section;
+      name = reader.name;
+      priorities = reader.priorities.entries;
+    } };
+}
+
+impl Reader {
+    /// Before the first line.
+    pub(crate) fn new(alloc: Global) -> Self
+        ensures { result ≡ spec.unread }
+    {
+        Reader {
+            section: Section::General,
+            name: None,
+            priorities: IndexMap::new(alloc),
+        }
+    }
+
+    /// The section of the next line.
+    pub(crate) fn section(&self) -> &Section
+        ensures { result.now ≡ self.now.section }
+    {
+        &self.section
+    }
+
+    /// The name of the last extension since the section's header.
+    pub(crate) fn name(&self) -> Option<&Name>
+        ensures { option_copied result ≡ self.now.name }
+    {
+        self.name.as_ref()
+    }
+
+    /// The priority of the last line of the extension, also where that line is dropped.
+    pub(crate) fn last_priority(
+        &self,
+        alloc: Global,
+        context: &Text,
+        name: &Name,
+    ) -> Result<Option<Priority>, NoMemory>
+        ensures { IfOk result (λ last. last ≡ spec.last_priority self.now context.now name.now) }
+    {
+        let extension = Extension::of(alloc, context, name)?;
+        Ok(self.priorities.get(&extension).copied())
+    }
+
+    /// Goes behind a header.
+    fn begin(&mut self, section: &Section) -> Result<(), NoMemory>
+        ensures { OnOk result (self.new ≡ spec.behind self.old (Item.Begins section.now)) }
+    {
+        self.section = section.clone()?;
+        self.name = None;
+        Ok(())
+    }
+
+    /// Goes behind the line of an entry.
+    fn go_behind(
+        &mut self,
+        alloc: Global,
+        line: usize,
+        context: &Text,
+        entry: &Entry,
+    ) -> Result<(), NoMemory>
+        ensures { OnOk result (self.new ≡ spec.behind self.old (Item.Adds line context.now entry.now)) }
+    {
+        let extension = Extension::of(alloc, context, &entry.name)?;
+        let name = entry.name.clone()?;
+        self.priorities.insert(extension, entry.priority)?;
+        self.name = Some(name);
+        Ok(())
+    }
+
+    /// Goes behind a line, by its item where it has one.
+    pub(crate) fn remember(&mut self, alloc: Global, item: Option<&Item>) -> Result<(), NoMemory>
+        ensures { OnOk result (self.new ≡ fold spec.behind self.old (option_to_list (option_copied item.entry))) }
+    {
+        match item {
+            Some(Item::Begins(section)) => self.begin(section),
+            Some(
+                Item::Adds {
+                    line,
+                    context,
+                    entry,
+                },
+            ) => self.go_behind(alloc, *line, context, entry),
+            Some(Item::Sets(_) | Item::Includes { .. } | Item::Unknown(_)) | None => Ok(()),
+        }
+    }
+}
