@@ -1,0 +1,37 @@
+-- How far the walk through a dialplan's contexts has come.
+use Rattle.std.specs.Prelude.{◌≡◌, ℕ, zero, suc, ◌+◌, ◌≤◌, Bool, List, [], ◌∷◌, ◌++◌, length, drop, if◌then◌else◌}
+use Rattle.dp_plan.specs.Plan.{PlanOf}
+use Rattle.dp_lookup.specs.SearchOrder.{context_count, links_at, has, IsMarked, AreContexts}
+use Rattle.dp_lookup.specs.declared.visit.Frame.{Frame}
+
+-- the includes of a context that are still to come
+abbrev pub links_left : PlanOf → Frame → List ℕ
+links_left plan frame = drop frame.next (links_at plan frame.context)
+
+-- all that are still to come; those of the last context come first
+abbrev pub pending : PlanOf → List Frame → List ℕ
+pending plan [] = []
+pending plan (frame ∷ frames) = pending plan frames ++ links_left plan frame
+
+-- the numbers below a bound that were not seen, each counted by its weight
+abbrev pub unseen : (ℕ → ℕ) → ℕ → List ℕ → ℕ
+unseen weight zero seen = 0
+unseen weight (suc bound) seen = unseen weight bound seen + (if has seen bound then 0 else weight bound)
+
+abbrev pub one : ℕ → ℕ
+one number = 1
+
+-- how many includes a context has
+abbrev pub link_count : PlanOf → ℕ → ℕ
+link_count plan number = length (links_at plan number)
+
+-- how many includes are still to be asked
+abbrev pub work : PlanOf → List ℕ → List Frame → ℕ
+work plan order frames = unseen (link_count plan) (context_count plan) order + length (pending plan frames)
+
+-- the marks are those of the order, which has no context twice; and each context that is gone through stands in it
+pub record IsFilling (plan : PlanOf) (order : List ℕ) (marks : List Bool) (frames : List Frame) : Type 0 where
+  pub marked : IsMarked order marks
+  pub counted : unseen one (context_count plan) order + length order ≡ context_count plan
+  pub short : length frames ≤ length order
+  pub within : AreContexts plan order

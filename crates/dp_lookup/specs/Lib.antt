@@ -1,0 +1,4 @@
+pub mod Filling
+pub mod Found
+pub mod SearchOrder
+pub mod Walk

@@ -1,0 +1,70 @@
+-- The contexts in which a look-up searches, in their order.
+use Rattle.std.specs.Prelude.{◌≡◌, ℕ, zero, suc, ◌<◌, ◌==◌, nat_lt, Bool, not, ◌&&◌, List, [], ◌∷◌, ◌++◌, length, map, fold, slice_get, Some, All, unwrap_or, if◌then◌else◌}
+use Rattle.std.specs.List.{list_any}
+use Rattle.std.specs.Option.{option_map_or}
+use Rattle.dp_plan.specs.Lookup.{number_of, includes_at}
+use Rattle.dp_plan.specs.Plan.{PlanOf}
+
+-- a search order: the numbers of its contexts, and how many contexts it has room for
+pub record OrderOf : Type 0 where
+  pub contexts : List ℕ
+  pub room : ℕ
+
+-- the number is one of these
+abbrev pub has : List ℕ → ℕ → Bool
+has seen number = list_any (λ c. c == number) seen
+
+-- so many contexts has the dialplan
+abbrev pub context_count : PlanOf → ℕ
+context_count plan = length plan.contexts
+
+-- the context is still to be visited: it is one of the dialplan's, and none of those that were seen
+abbrev pub is_open : PlanOf → List ℕ → ℕ → Bool
+is_open plan seen number = nat_lt number (context_count plan) && not (has seen number)
+
+-- the number of the context of an included name; an unknown name has a number that no context has
+abbrev pub link_of : PlanOf → List ℕ → ℕ
+link_of plan name = unwrap_or (number_of plan name) (context_count plan)
+
+-- the numbers of the contexts that the context of a number includes, in the order of the file
+abbrev pub links_at : PlanOf → ℕ → List ℕ
+links_at plan number = map (link_of plan) (includes_at plan number)
+
+-- what was seen, a context, and what was seen after the visit of that context
+abbrev pub Visit : Type 0
+Visit = List ℕ → ℕ → List ℕ
+
+-- a visit of a context that is still to be visited is the context and then visits of its includes; of any other, nothing
+abbrev pub visited_by : PlanOf → Visit → Visit
+visited_by plan inner seen number =
+    if is_open plan seen number then fold inner (seen ++ number ∷ []) (links_at plan number) else seen
+
+-- visits inside one another, at most so many
+abbrev pub visit_in : ℕ → PlanOf → Visit
+visit_in zero plan seen number = seen
+visit_in (suc most) plan seen number = visited_by plan (visit_in most plan) seen number
+
+-- the visit of a context; no more visits stand inside one another than the dialplan has contexts
+unfoldable pub visit : PlanOf → Visit
+visit plan = visit_in (context_count plan) plan
+
+-- the equation that says what a visit is
+abbrev pub IsVisit : PlanOf → Visit → Type 0
+IsVisit plan f = (seen : List ℕ) (number : ℕ) → f seen number ≡ visited_by plan f seen number
+
+-- the visit meets that equation, and nothing else does
+pub record IsTheVisit (plan : PlanOf) (f : Visit) : Type 0 where
+  pub meets : IsVisit plan f
+  pub only : (g : Visit) → IsVisit plan g → (seen : List ℕ) (number : ℕ) → g seen number ≡ f seen number
+
+-- the order of the context of a name: the context, then its includes, depth first; an unknown context has none
+abbrev pub search_order : PlanOf → List ℕ → List ℕ
+search_order plan name = option_map_or (visit plan []) (number_of plan name) []
+
+-- each number is that of a context
+abbrev pub AreContexts : PlanOf → List ℕ → Type 0
+AreContexts plan order = All (λ number. number < context_count plan) order
+
+-- there is a mark for each number below some bound, and it says whether the order has the number
+abbrev pub IsMarked : List ℕ → List Bool → Type 0
+IsMarked order marks = (number : ℕ) → number < length marks → slice_get marks number ≡ Some (has order number)

@@ -1,0 +1,13 @@
+//! Look-up in a dialplan, after the Asterisk documentation's pages on the dialplan and on pattern matching. That it
+//! goes through a context and then its includes, depth first, is this program's own choice, after the classic search.
+#![tactic(auto)]
+
+mod look_up;
+mod order;
+#[cfg(test)]
+mod tests;
+mod visit;
+
+pub use dp_plan::{Dialplan, EntryId, NoMemory, Text};
+pub use look_up::{could_be_more, exists, find, find_label};
+pub use order::{SearchOrder, visit_is_the_visit};

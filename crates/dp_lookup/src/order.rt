@@ -1,0 +1,99 @@
+//! The contexts in which a look-up searches.
+ghost use Rattle.std.specs.Prelude.{◌≡◌, ◌≤◌, [], length, IfOk};
+ghost use Rattle.dp_plan.specs.Plan.{PlanOf};
+ghost use Rattle.dp_lookup.specs.SearchOrder.{context_count, visit, search_order, AreContexts, IsTheVisit};
+
+use crate::visit::{Frame, unmark, visit_all};
+use dp_plan::{Dialplan, NoMemory, Text};
+use std::alloc::Global;
+use std::marker::Model;
+
+/// The order in which the contexts of a dialplan are searched, and room for every one of them. A contract sees it as
+/// the numbers of its contexts, and how many contexts it has room for.
+#[derive(Debug, Drop)]
+pub struct SearchOrder {
+    contexts: Vec<usize>,
+    marks: Vec<bool>,
+    frames: Vec<Frame>,
+}
+
+impl Model for SearchOrder {
+    ghost use Rattle.std.specs.Prelude.{◌<◌, ◌≤◌, All, vec_capacity, vec_len};
+    ghost use Rattle.dp_lookup.specs.SearchOrder.{OrderOf, IsMarked};
+
+    ghost Value = { OrderOf };
+
+    ghost view = { λ order. record { contexts = order.contexts.items; room = vec_len order.marks } };
+
+    // The marks are those of the order, and the lists have room for every context.
+    ghost invariant = { λ order.
+        IsMarked order.contexts.items order.marks.items
+        × All (λ number. number < vec_len order.marks) order.contexts.items
+        × (vec_len order.marks ≤ vec_capacity order.contexts)
+        × (vec_len order.marks ≤ vec_capacity order.frames) };
+}
+
+impl SearchOrder {
+    /// An empty order with room for every context of the dialplan.
+    pub fn room(alloc: Global, plan: &Dialplan) -> Result<Self, NoMemory>
+        ensures { IfOk result (λ order. order ≡ record { contexts = []; room = context_count plan.now }) }
+    {
+        let count = plan.contexts().len();
+        let contexts = Vec::with_capacity(alloc, count)?;
+        let marks = vec![in alloc; false; count]?;
+        let frames = Vec::with_capacity(alloc, count)?;
+        Ok(SearchOrder {
+            contexts,
+            marks,
+            frames,
+        })
+    }
+
+    /// The order of the context of this name: the context, then its includes in the order of the file, depth first.
+    /// A context that stands in it already is skipped, and so is a name that no context has. An unknown context has
+    /// an empty order.
+    pub fn of(alloc: Global, plan: &Dialplan, context: &Text) -> Result<Self, NoMemory>
+        ensures order { IfOk result (λ order. order.contexts ≡ search_order plan.now context.now) }
+        ensures room { IfOk result (λ order. order.room ≡ context_count plan.now) }
+        ensures within { IfOk result (λ order. AreContexts plan.now order.contexts) }
+    {
+        let mut order = SearchOrder::room(alloc, plan)?;
+        order.fill(plan, context);
+        Ok(order)
+    }
+
+    /// Makes this the order of the context of this name, in the room that is there. It takes no memory, and costs the
+    /// order that it makes and the one that stood here before.
+    pub fn fill(&mut self, plan: &Dialplan, context: &Text)
+        requires { context_count plan.now ≤ self.old.room }
+        ensures order { self.new.contexts ≡ search_order plan.now context.now }
+        ensures room { self.new.room ≡ self.old.room }
+        ensures within { AreContexts plan.now self.new.contexts }
+    {
+        unmark(&self.contexts, &mut self.marks);
+        self.contexts.clear();
+        if let Some(number) = plan.number_of(context) {
+            visit_all(
+                plan,
+                number,
+                &mut self.contexts,
+                &mut self.marks,
+                &mut self.frames,
+            );
+        }
+    }
+
+    /// The numbers of the order's contexts.
+    pub fn contexts(&self) -> &[usize]
+        ensures { result.now ≡ self.now.contexts }
+    {
+        &self.contexts
+    }
+}
+
+/// What a visit of a context is, for any dialplan: where the context does not stand in the order yet, it is added, and
+/// then each of its includes is visited in turn; where it does, nothing is visited. The visit meets this equation, and
+/// nothing else does.
+pub fn visit_is_the_visit()
+    ensures { (plan : PlanOf) → IsTheVisit plan (visit plan) }
+{}

@@ -1,0 +1,9 @@
+mod includes;
+mod labels;
+mod large;
+mod more;
+mod names;
+mod orders;
+mod priorities;
+mod render;
+mod rows;

@@ -1,0 +1,69 @@
+//! Which entry is found where several names have the priority, worked out by hand from the rules.
+use crate::tests::render::Ask::Find;
+use crate::tests::render::check;
+use std::test::Fail;
+
+#[test]
+fn the_priority_is_asked_before_the_name(rt: HostRuntime) -> Result<(), Fail> {
+    let text = b"[main]\nexten => _X,3,any\nexten => _N,2,digit\nexten => 5,1,five\n";
+    let asked = [
+        (Find(b"5", 1), "main five"),
+        (Find(b"5", 2), "main digit"),
+        (Find(b"5", 3), "main any"),
+        (Find(b"5", 4), "none"),
+        (Find(b"1", 1), "none"),
+        (Find(b"1", 2), "none"),
+        (Find(b"1", 3), "main any"),
+        (Find(b"2", 1), "none"),
+        (Find(b"2", 2), "main digit"),
+    ];
+    check(&rt, rt.alloc(), text, b"main", &asked)
+}
+
+#[test]
+fn lines_stand_in_any_order(rt: HostRuntime) -> Result<(), Fail> {
+    let text = b"[main]\nexten => _X,2,other\nexten => 5,3,three\nexten => _X,1,any\n\
+exten => 5,1,one\nexten => _X,3,last\n";
+    let asked = [
+        (Find(b"5", 1), "main one"),
+        (Find(b"5", 2), "main other"),
+        (Find(b"5", 3), "main three"),
+        (Find(b"6", 1), "main any"),
+        (Find(b"6", 2), "main other"),
+        (Find(b"6", 3), "main last"),
+    ];
+    check(&rt, rt.alloc(), text, b"main", &asked)
+}
+
+#[test]
+fn a_gap_is_no_entry(rt: HostRuntime) -> Result<(), Fail> {
+    let text = b"[main]\nexten => 1,1,one\nexten => 1,3,three\n";
+    let asked = [
+        (Find(b"1", 0), "none"),
+        (Find(b"1", 1), "main one"),
+        (Find(b"1", 2), "none"),
+        (Find(b"1", 3), "main three"),
+        (Find(b"1", 2_147_483_647), "none"),
+    ];
+    check(&rt, rt.alloc(), text, b"main", &asked)
+}
+
+#[test]
+fn numbers_beyond_the_greatest_priority_find_nothing(rt: HostRuntime) -> Result<(), Fail> {
+    let text = b"[main]\nexten => 1,2147483647,last\n";
+    let asked = [
+        (Find(b"1", 2_147_483_646), "none"),
+        (Find(b"1", 2_147_483_647), "main last"),
+        (Find(b"1", 2_147_483_648), "none"),
+        (Find(b"1", 4_294_967_295), "none"),
+    ];
+    check(&rt, rt.alloc(), text, b"main", &asked)
+}
+
+/// The line that is kept of two is the one that is found.
+#[test]
+fn the_first_line_of_a_place_is_found(rt: HostRuntime) -> Result<(), Fail> {
+    let text = b"[main]\nexten => 1,1,first\nexten => 1,1,second\nexten => _X,1,any\n";
+    let asked = [(Find(b"1", 1), "main first"), (Find(b"2", 1), "main any")];
+    check(&rt, rt.alloc(), text, b"main", &asked)
+}

@@ -1,0 +1,103 @@
+//! The walk through a dialplan's contexts. It takes no memory, and no call of it stands inside another.
+ghost use Rattle.std.specs.Prelude.{◌≡◌, ◌<◌, ◌≤◌, [], ◌∷◌, length, fold, All, vec_len, vec_capacity, MatchOption};
+ghost use Rattle.dp_lookup.specs.SearchOrder.{context_count, link_of, visit, AreContexts, IsMarked};
+ghost use Rattle.dp_lookup.specs.Filling.{pending, work, IsFilling};
+
+use dp_plan::{Dialplan, Text};
+
+/// A context whose includes are visited: those from this one on are still to come.
+#[derive(Clone, Copy, Debug)]
+pub(crate) struct Frame {
+    context: usize,
+    next: usize,
+}
+
+/// Takes the marks of the contexts of the order away.
+pub(crate) fn unmark(order: &[usize], marks: &mut [bool])
+    requires marked { IsMarked order.now marks.old }
+    requires within { All (λ number. number < length marks.old) order.now }
+    ensures { IsMarked [] marks.new }
+{
+    for number in order {
+        marks[*number] = false;
+    }
+}
+
+/// Adds a context that does not stand in the order yet, with all its includes still to come.
+fn enter(
+    plan: &Dialplan,
+    number: usize,
+    order: &mut Vec<usize>,
+    marks: &mut [bool],
+    frames: &mut Vec<Frame>,
+)
+    requires context { number < context_count plan.now }
+    requires marks { context_count plan.now ≤ length marks.old }
+    requires order { context_count plan.now ≤ vec_capacity order.old }
+    requires frames { context_count plan.now ≤ vec_capacity frames.old }
+    requires filling { IsFilling plan.now order.old.items marks.old frames.old.items }
+    ensures order { vec_capacity order.new ≡ vec_capacity order.old }
+    ensures frames { vec_capacity frames.new ≡ vec_capacity frames.old }
+    ensures filling { IsFilling plan.now order.new.items marks.new frames.new.items }
+    ensures visited { fold (visit plan.now) order.new.items (pending plan.now frames.new.items)
+        ≡ fold (visit plan.now) (visit plan.now order.old.items number) (pending plan.now frames.old.items) }
+    ensures work { work plan.now order.new.items frames.new.items ≡ work plan.now order.old.items frames.old.items }
+{
+    if !marks[number] {
+        marks[number] = true;
+        order.push_reserved(number);
+        frames.push_reserved(Frame {
+            context: number,
+            next: 0,
+        });
+    }
+}
+
+/// Takes the next include that is still to come.
+fn next_include<'a>(plan: &'a Dialplan, frames: &mut Vec<Frame>) -> Option<&'a Text>
+    requires { vec_len frames.old ≤ vec_capacity frames.old }
+    ensures next { MatchOption result (pending plan.now frames.old.items ≡ [])
+        (λ name. pending plan.now frames.old.items ≡ link_of plan.now name.now ∷ pending plan.now frames.new.items) }
+    ensures frames { vec_capacity frames.new ≡ vec_capacity frames.old }
+    ensures short { vec_len frames.new ≤ vec_len frames.old }
+{
+    while let Some(frame) = frames.pop() {
+        if let Some(name) = plan.includes_at(frame.context).get(frame.next) {
+            frames.push_reserved(Frame {
+                context: frame.context,
+                next: frame.next + 1,
+            });
+            return Some(name);
+        }
+    }
+    None
+}
+
+/// Fills an empty order with the visit of a context.
+pub(crate) fn visit_all(
+    plan: &Dialplan,
+    number: usize,
+    order: &mut Vec<usize>,
+    marks: &mut [bool],
+    frames: &mut Vec<Frame>,
+)
+    requires context { number < context_count plan.now }
+    requires empty { order.old.items ≡ [] }
+    requires unmarked { IsMarked [] marks.old }
+    requires marks { context_count plan.now ≤ length marks.old }
+    requires order { context_count plan.now ≤ vec_capacity order.old }
+    requires frames { context_count plan.now ≤ vec_capacity frames.old }
+    ensures visited { order.new.items ≡ visit plan.now [] number }
+    ensures within { AreContexts plan.now order.new.items }
+    ensures marked { IsMarked order.new.items marks.new }
+    ensures order { vec_capacity order.new ≡ vec_capacity order.old }
+    ensures frames { vec_capacity frames.new ≡ vec_capacity frames.old }
+{
+    frames.clear();
+    enter(plan, number, order, marks, frames);
+    while let Some(name) = next_include(plan, frames) {
+        if let Some(number) = plan.number_of(name) {
+            enter(plan, number, order, marks, frames);
+        }
+    }
+}
