@@ -2,6 +2,7 @@ mod codes;
 mod faults;
 mod includes;
 mod labels;
+mod manual;
 mod names;
 mod numbering;
 mod orders;
