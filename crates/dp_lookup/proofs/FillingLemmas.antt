@@ -2,12 +2,10 @@
 use Rattle.std.proofs.Common.{◌≡◌, ◌≢◌, ℕ, zero, suc, ◌+◌, ◌<◌, ◌≤◌, Bool, true, false, not, ◌&&◌, ◌||◌, eqb, cond, true≢false, subst, List, [], ◌∷◌, ◌++◌, length, drop, set, get_or, Some, None, inl, inr, arith, refl, sym, ap, ◌∙◌, add-one, append_assoc, drop-cons, length-append, length-set}
 use Rattle.std.specs.Prelude.{nat_lt, fold, map, slice_get, unwrap_or}
 use Rattle.std.proofs.lemmas.Bool.{eqb-true, lt-ltb, ltb-true, cases_eq}
-use Rattle.std.proofs.lemmas.List.{append-nil, drop_all, length-map}
+use Rattle.std.proofs.lemmas.List.{append-nil, drop_all}
 use Rattle.std.proofs.lemmas.List.Elements.{All-push}
-use Rattle.std.proofs.lemmas.List.Quantifiers.{position-Some}
 use Rattle.std.proofs.lemmas.List.Sums.{fold-append}
 use Rattle.std.proofs.lemmas.Option.{slice_get-get_or, same_Some}
-use Rattle.dp_plan.specs.Contexts.{PlanContext}
 use Rattle.dp_plan.specs.Lookup.{includes_at, number_of}
 use Rattle.dp_plan.specs.Plan.{PlanOf}
 use Rattle.dp_lookup.specs.SearchOrder.{context_count, has, is_open, link_of, links_at, visit, IsMarked}
@@ -190,14 +188,7 @@ filling-fewer plan order marks frames fewer filling few = record {
   within = filling.within;
 }
 
--- ---- the next include by its name
-
-pub number_within : (plan : PlanOf) (name : List ℕ) (number : ℕ) → number_of plan name ≡ Some number → number < context_count plan
-number_within plan name number known =
-    let place = position-Some _ (map (λ (context : PlanContext). context.name) plan.contexts) number [] known in
-    let within = place.0 in
-    let sizes = length-map plan.contexts (λ (context : PlanContext). context.name) in
-    omega (arith, within, sizes)
+-- ---- an include that no context has
 
 nothing_open : (plan : PlanOf) (order : List ℕ) → is_open plan order (context_count plan) ≡ false
 nothing_open plan order = ap (λ b. b && not (has order (context_count plan))) (not_below (context_count plan) (nat_lt (context_count plan) (context_count plan)) refl)
@@ -212,9 +203,3 @@ past_unknown plan order before after name next unknown =
     let link : link_of plan name ≡ context_count plan = ap (λ o. unwrap_or o (context_count plan)) unknown in
     let stays : visit plan order (link_of plan name) ≡ order = ap (visit plan order) link ∙ (visit-equation plan order (context_count plan) ∙ closed plan (visit plan) order (context_count plan) (nothing_open plan order)) in
     ap (λ s. fold (visit plan) s after) (sym stays) ∙ ap (fold (visit plan) order) (sym next)
-
--- any other is visited
-pub past_known : (plan : PlanOf) (order before after : List ℕ) (name : List ℕ) (number : ℕ) → before ≡ link_of plan name ∷ after → number_of plan name ≡ Some number → fold (visit plan) (visit plan order number) after ≡ fold (visit plan) order before
-past_known plan order before after name number next known =
-    let link : link_of plan name ≡ number = ap (λ o. unwrap_or o (context_count plan)) known in
-    ap (λ k. fold (visit plan) (visit plan order k) after) (sym link) ∙ ap (fold (visit plan) order) (sym next)

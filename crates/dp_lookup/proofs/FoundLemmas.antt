@@ -18,8 +18,8 @@ use Rattle.dp_plan.specs.Plan.{PlanOf}
 use Rattle.dp_plan.specs.Ranking.{entry_cmp, ids_of, ranked_entry, IsRanking}
 use Rattle.dp_plan.specs.declared.entry.Entry.{Entry}
 use Rattle.dp_plan.specs.declared.entry.EntryId.{EntryId}
-use Rattle.dp_lookup.specs.Found.{BeginsLater, StandsAt, found_cmp, IsLeast, NoneAsked, SomeGoesOn}
-use Rattle.dp_lookup.specs.Walk.{NoneBefore, IsFirst, NoneIn, IsFirstIn, IsFirstAt, SomeFirst, SomeLeast}
+use Rattle.dp_lookup.specs.Found.{HasLabel, BeginsLater, StandsAt, found_cmp, IsLeast, NoneAsked, IsFoundLabel, SomeGoesOn}
+use Rattle.dp_lookup.specs.Questions.{NoneBefore, IsFirst, NoneIn, IsFirstIn, IsFirstAt, SomeFirst, SomeLeast}
 
 -- ---- one context
 
@@ -122,29 +122,30 @@ names_rise_by a b Greater names e = absurd cc
 names_rise : (a b : Entry) → entry_cmp a b ≡ Less → NamesRise a b
 names_rise a b e = names_rise_by a b (name_cmp a.name b.name) refl e
 
+-- two entries at one place are of one context, and the same entry where their numbers are
+one_context : (plan : PlanOf) (order : List ℕ) (i j : ℕ) (other id : EntryId) (a b : Entry) → StandsAt plan order i other a → StandsAt plan order j id b → i ≡ j → other.context ≡ id.context
+one_context plan order i j other id a b here there same =
+    same_Some other.context id.context (sym here.context ∙ (ap (slice_get order) same ∙ there.context))
+
+one_entry : (plan : PlanOf) (order : List ℕ) (i j : ℕ) (other id : EntryId) (a b : Entry) → StandsAt plan order i other a → StandsAt plan order j id b → other ≡ id → a ≡ b
+one_entry plan order i j other id a b here there same = same_Some a b (sym here.there ∙ (ap (entry_at plan) same ∙ there.there))
+
 module _ (plan : PlanOf) (order : List ℕ) (Wanted : Entry → Type 0) (total : IsTotalOrder name_cmp) where
   back : (a b : Entry) (o : Ordering) → name_cmp b.name a.name ≡ o → name_cmp a.name b.name ≡ ordering_reverse o
   back a b o e = total.antisymm a.name b.name ∙ ap ordering_reverse e
-
-  one_context : (i j : ℕ) (other id : EntryId) (a b : Entry) → StandsAt plan order i other a → StandsAt plan order j id b → i ≡ j → other.context ≡ id.context
-  one_context i j other id a b here there same =
-      same_Some other.context id.context (sym here.context ∙ (ap (slice_get order) same ∙ there.context))
-
-  one_entry : (i j : ℕ) (other id : EntryId) (a b : Entry) → StandsAt plan order i other a → StandsAt plan order j id b → other ≡ id → a ≡ b
-  one_entry i j other id a b here there same = same_Some a b (sym here.there ∙ (ap (entry_at plan) same ∙ there.there))
 
   module _ (place : ℕ) (id : EntryId) (entry : Entry) (first : IsFirstAt plan order Wanted place id entry) where
     -- another entry at the place is the same one or stands behind it
     other_here : (i : ℕ) (other : EntryId) (a : Entry) → StandsAt plan order i other a → Wanted a → i ≡ place → (other ≡ id) ⊎ NamesRise entry a
     other_here i other a stands asked same =
-        elim (first.first other a (one_context i place other id a entry stands first.stands same) stands.there asked) [
+        elim (first.first other a (one_context plan order i place other id a entry stands first.stands same) stands.there asked) [
           | inl e ↦ inl e
           | inr less ↦ inr (names_rise entry a less)
         ]
 
     not_less : (i : ℕ) (other : EntryId) (a : Entry) → StandsAt plan order i other a → (other ≡ id) ⊎ NamesRise entry a → name_cmp a.name entry.name ≡ Less → ⊥
     not_less i other a stands (inl e) less =
-        let same : a ≡ entry = one_entry i place other id a entry stands first.stands e in
+        let same : a ≡ entry = one_entry plan order i place other id a entry stands first.stands e in
         let tied = ap (λ (x : Entry). name_cmp x.name entry.name) same ∙ tied_itself total entry.name in
         absurd cc
     not_less i other a stands (inr (inl rise)) less = let back_way = back a entry Less rise in absurd cc
@@ -163,7 +164,7 @@ module _ (plan : PlanOf) (order : List ℕ) (Wanted : Entry → Type 0) (total :
 
     lowest_by : (other : EntryId) (a : Entry) → StandsAt plan order place other a → (other ≡ id) ⊎ NamesRise entry a → name_cmp a.name entry.name ≡ Equal → entry.priority ≤ a.priority
     lowest_by other a stands (inl e) tied =
-        let same = ap (λ (x : Entry). x.priority) (one_entry place place other id a entry stands first.stands e) in
+        let same = ap (λ (x : Entry). x.priority) (one_entry plan order place place other id a entry stands first.stands e) in
         omega (arith, same)
     lowest_by other a stands (inr (inl rise)) tied = let back_way = back a entry Less rise in absurd cc
     lowest_by other a stands (inr (inr same)) tied = let lower = same.1 in omega (arith, lower)
@@ -198,3 +199,22 @@ pub some_goes_on : (plan : PlanOf) (order text : List ℕ) (r : Option EntryId) 
 some_goes_on plan order text None none = ((λ e. absurd cc), λ later. absurd (none later.place later.id later.entry later.stands later.later))
 some_goes_on plan order text (Some id) found =
     ((λ e. record { place = found.place; id = id; entry = found.entry; stands = found.first.stands; later = found.first.asked }), λ later. refl)
+
+-- a priority that is found is that of the entry that stands first
+is_lowest : (plan : PlanOf) (order text label : List ℕ) (id : EntryId) (priority : ℕ) (first : SomeLeast plan order (HasLabel text label) id) → IsFoundLabel plan order text label priority → priority ≡ first.entry.priority
+is_lowest plan order text label id priority first found =
+    let where_it_is = first.only found.place found.id found.entry found.least in
+    elim (where_it_is.1) [
+      | inl same ↦ found.same ∙ ap (λ (x : Entry). x.priority)
+          (one_entry plan order found.place first.place found.id id found.entry first.entry found.least.stands first.least.stands same)
+      | inr (tied, lower) ↦
+          (let stands : StandsAt plan order found.place id first.entry = record { context = ap (slice_get order) where_it_is.0 ∙ first.least.stands.context; there = first.least.stands.there } in
+          let least = found.lowest id first.entry stands first.least.asked tied in
+          absurd (omega (arith, lower, least)))
+    ]
+
+-- one priority at most is found
+pub label_once : (plan : PlanOf) (order text label : List ℕ) (r : Option EntryId) → MatchOption r (NoneAsked (HasLabel text label) plan order) (SomeLeast plan order (HasLabel text label)) → (a b : ℕ) → IsFoundLabel plan order text label a → IsFoundLabel plan order text label b → a ≡ b
+label_once plan order text label None none a b found other = absurd (none found.place found.id found.entry found.least.stands found.least.asked)
+label_once plan order text label (Some id) first a b found other =
+    is_lowest plan order text label id a first found ∙ sym (is_lowest plan order text label id b first other)

@@ -56,7 +56,7 @@ pub record SomeFound (plan : PlanOf) (order text : List ℕ) (priority : ℕ) : 
   pub id : EntryId
   pub found : IsFound plan order text priority id
 
--- the priority is that of the least entry that matches the text and has the label; of several of one name, the lowest
+-- the priority is that of the least entry that matches the text and has the label; of several of one name, it is the lowest
 pub record IsFoundLabel (plan : PlanOf) (order text label : List ℕ) (priority : ℕ) : Type 0 where
   pub place : ℕ
   pub id : EntryId

@@ -1,4 +1,4 @@
 pub mod Filling
 pub mod Found
+pub mod Questions
 pub mod SearchOrder
-pub mod Walk

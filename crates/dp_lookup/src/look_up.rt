@@ -3,7 +3,7 @@ ghost use Rattle.std.specs.Prelude.{◌≡◌, ◌↔◌, ℕ, length, Some, IsT
 ghost use Rattle.dp_plan.specs.Lookup.{IsRankedAt};
 ghost use Rattle.dp_plan.specs.declared.entry.EntryId.{EntryId};
 ghost use Rattle.dp_lookup.specs.Found.{HasPriority, HasLabel, NoneAsked, IsFound, SomeFound, IsFoundLabel, SomeGoesOn};
-ghost use Rattle.dp_lookup.specs.Walk.{Asked, NoneBefore, IsFirst, NoneIn, IsFirstIn, SomeFirst, SomeLeast};
+ghost use Rattle.dp_lookup.specs.Questions.{Asked, NoneBefore, IsFirst, NoneIn, IsFirstIn, SomeFirst, SomeLeast};
 
 use crate::order::SearchOrder;
 use dp_pattern::{could_match_more, matches, order_is_total};
@@ -99,7 +99,7 @@ fn find_least(
     ensures { MatchOption result (NoneAsked (Asked question.entry text.now) plan.now order.now)
         (SomeLeast plan.now order.now (Asked question.entry text.now)) }
 {
-    // Two entries of one place are never less than each other, since the order of names is total.
+    // What stands first is least, since the order of names is total.
     order_is_total();
     find_first(plan, order, question, text)
 }
@@ -107,9 +107,9 @@ fn find_least(
 /// The entry of the order's contexts that matches the dialled text and has the priority, or None where there is none.
 ///
 /// Of several, it is in the context that stands first in the order, and there it has the most specific name, after
-/// the Asterisk documentation's page on pattern matching. The priority is asked before the name is chosen, and the
-/// extensions `s`, `i`, `t` and `h` are found as any other text is. It takes no memory. Contexts that the dialplan
-/// does not have hold no entries.
+/// the Asterisk documentation's page on pattern matching. The priority is asked before the name is chosen (a choice of
+/// this program), and the extensions `s`, `i`, `t` and `h` are found as any other text is. It takes no memory. A
+/// number in the order that no context of the dialplan has finds nothing.
 pub fn find(plan: &Dialplan, order: &SearchOrder, text: &[u8], priority: u32) -> Option<EntryId>
     ensures found { MatchOption result (NoneAsked (HasPriority text.now priority) plan.now order.now.contexts)
         (IsFound plan.now order.now.contexts text.now priority) }
@@ -120,8 +120,10 @@ pub fn find(plan: &Dialplan, order: &SearchOrder, text: &[u8], priority: u32) ->
 }
 
 /// The priority of the entry of the order's contexts that matches the dialled text and has the label, or None where
-/// there is none. Of several it is that of the context that stands first in the order, and there of the most specific
-/// name. It takes no memory.
+/// there is none.
+///
+/// Of several entries it is the one that `find` would choose, by the context and then by the name (a choice of this
+/// program); of one name, the one of the lowest priority. It takes no memory.
 pub fn find_label(plan: &Dialplan, order: &SearchOrder, text: &[u8], label: &[u8]) -> Option<u32>
     ensures found { MatchOption result (NoneAsked (HasLabel text.now label.now) plan.now order.now.contexts)
         (IsFoundLabel plan.now order.now.contexts text.now label.now) }
@@ -133,7 +135,7 @@ pub fn find_label(plan: &Dialplan, order: &SearchOrder, text: &[u8], label: &[u8
     Some(entry.priority.get())
 }
 
-/// Whether an entry is found at the priority. It takes no memory.
+/// Whether `find` gives an entry. It takes no memory.
 pub fn exists(plan: &Dialplan, order: &SearchOrder, text: &[u8], priority: u32) -> bool
     ensures { IsTrue result ↔ SomeFound plan.now order.now.contexts text.now priority }
 {

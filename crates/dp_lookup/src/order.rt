@@ -8,8 +8,11 @@ use dp_plan::{Dialplan, NoMemory, Text};
 use std::alloc::Global;
 use std::marker::Model;
 
-/// The order in which the contexts of a dialplan are searched, and room for every one of them. A contract sees it as
-/// the numbers of its contexts, and how many contexts it has room for.
+/// The contexts in which a look-up searches, in their order, and room for every context of a dialplan. A contract sees
+/// it as the numbers of its contexts, and how many contexts it has room for.
+///
+/// After the Asterisk documentation's page on the dialplan, a context is searched and then its includes, in the order
+/// of the file. That they are searched depth first, each context once, is this program's own choice.
 #[derive(Debug, Drop)]
 pub struct SearchOrder {
     contexts: Vec<usize>,
@@ -50,8 +53,8 @@ impl SearchOrder {
     }
 
     /// The order of the context of this name: the context, then its includes in the order of the file, depth first.
-    /// A context that stands in it already is skipped, and so is a name that no context has. An unknown context has
-    /// an empty order.
+    /// A context that stands in it already is skipped, and so is an include of an unknown context. An unknown context
+    /// has an empty order.
     pub fn of(alloc: Global, plan: &Dialplan, context: &Text) -> Result<Self, NoMemory>
         ensures order { IfOk result (λ order. order.contexts ≡ search_order plan.now context.now) }
         ensures room { IfOk result (λ order. order.room ≡ context_count plan.now) }
@@ -62,8 +65,9 @@ impl SearchOrder {
         Ok(order)
     }
 
-    /// Makes this the order of the context of this name, in the room that is there. It takes no memory, and costs the
-    /// order that it makes and the one that stood here before.
+    /// Makes this the order of the context of this name, as `of` gives it. There is room for every context of the
+    /// dialplan, as in an order that `room` made for it. It takes no memory, and costs the order that it makes and the
+    /// one that stood here before.
     pub fn fill(&mut self, plan: &Dialplan, context: &Text)
         requires { context_count plan.now ≤ self.old.room }
         ensures order { self.new.contexts ≡ search_order plan.now context.now }

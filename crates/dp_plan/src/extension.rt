@@ -26,15 +26,3 @@ impl Extension {
         })
     }
 }
-
-impl Clone for Extension {
-    ghost use Rattle.std.specs.Prelude.{◌≡◌};
-
-    ghost is_clone = { λ extension copy. copy ≡ extension };
-
-    fn clone(&self) -> Result<Extension, NoMemory> {
-        let context = self.context.clone()?;
-        let spelling = self.spelling.clone()?;
-        Ok(Extension { context, spelling })
-    }
-}

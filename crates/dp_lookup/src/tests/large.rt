@@ -18,11 +18,14 @@ fn chain(alloc: Global) -> Result<String, NoMemory> {
 }
 
 /// The entry of `77` from a context, and how long the context's order is.
-fn find_77(alloc: Global, text: &str, context: &[u8]) -> Result<(Option<EntryId>, usize), Fail> {
-    let (plan, _) = Dialplan::load(alloc, text.as_bytes())?;
+fn find_77(
+    alloc: Global,
+    plan: &Dialplan,
+    context: &[u8],
+) -> Result<(Option<EntryId>, usize), NoMemory> {
     let context = Text::copy_of(alloc, context)?;
-    let order = SearchOrder::of(alloc, &plan, &context)?;
-    Ok((find(&plan, &order, b"77", 1), order.contexts().len()))
+    let order = SearchOrder::of(alloc, plan, &context)?;
+    Ok((find(plan, &order, b"77", 1), order.contexts().len()))
 }
 
 /// The only entry of the last context.
@@ -34,9 +37,10 @@ const LAST: EntryId = EntryId {
 #[test]
 fn a_chain_of_includes_is_followed(rt: HostRuntime) -> Result<(), Fail> {
     let text = chain(rt.alloc())?;
-    let found = find_77(rt.alloc(), text.as_str(), b"c0")?;
+    let (plan, _) = Dialplan::load(rt.alloc(), text.as_bytes())?;
+    let found = find_77(rt.alloc(), &plan, b"c0")?;
     assert_eq!(rt; found, (Some(LAST), CONTEXTS));
-    let found = find_77(rt.alloc(), text.as_str(), b"c9999")?;
+    let found = find_77(rt.alloc(), &plan, b"c9999")?;
     assert_eq!(rt; found, (Some(LAST), 1));
     Ok(())
 }
@@ -45,9 +49,10 @@ fn a_chain_of_includes_is_followed(rt: HostRuntime) -> Result<(), Fail> {
 fn a_ring_of_includes_is_followed(rt: HostRuntime) -> Result<(), Fail> {
     let mut text = chain(rt.alloc())?;
     text.push_str("include => c0\n")?;
+    let (plan, _) = Dialplan::load(rt.alloc(), text.as_bytes())?;
     for context in [b"c0".as_slice(), b"c5000", b"c9999"] {
-        let found = find_77(rt.alloc(), text.as_str(), context)?;
-        assert_eq!(rt; found, (Some(LAST), CONTEXTS));
+        let found = find_77(rt.alloc(), &plan, context)?;
+        assert_eq!(rt; found, (Some(LAST), CONTEXTS), "from {context:?}");
     }
     Ok(())
 }

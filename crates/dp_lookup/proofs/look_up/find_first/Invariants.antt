@@ -1,4 +1,4 @@
-use Rattle.dp_lookup.specs.Walk.{Asked, NoneFirst}
+use Rattle.dp_lookup.specs.Questions.{Asked, NoneFirst}
 use Rattle.dp_lookup.proofs.look_up.find_first.Given as goal
 
 abbrev pub invariant-loop-number : goal.invariant-loop-number

@@ -1,4 +1,4 @@
-use Rattle.dp_lookup.specs.Walk.{Asked}
+use Rattle.dp_lookup.specs.Questions.{Asked}
 use Rattle.dp_lookup.proofs.FoundLemmas.{first_in}
 use Rattle.dp_lookup.proofs.look_up.find_in.Goals as goal
 

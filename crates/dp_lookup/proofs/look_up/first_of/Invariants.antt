@@ -1,4 +1,4 @@
-use Rattle.dp_lookup.specs.Walk.{Asked, NoneBefore}
+use Rattle.dp_lookup.specs.Questions.{Asked, NoneBefore}
 use Rattle.dp_lookup.proofs.look_up.first_of.Given as goal
 
 abbrev pub invariant-loop-id : goal.invariant-loop-id

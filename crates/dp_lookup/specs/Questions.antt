@@ -1,4 +1,4 @@
--- What is asked of the entries of a context, one after another.
+-- What is asked of entries, and which of them stands first.
 use Rattle.std.specs.Prelude.{◌≡◌, ℕ, ◌<◌, ◌≤◌, List, slice_get, Some, ◌⊎◌}
 use Rattle.std.specs.declared.cmp.Ordering.TheVariants.{Less, Equal}
 use Rattle.dp_pattern.specs.Order.{name_cmp}
