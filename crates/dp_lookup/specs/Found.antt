@@ -31,7 +31,7 @@ pub record StandsAt (plan : PlanOf) (order : List ℕ) (place : ℕ) (id : Entry
   pub context : slice_get order place ≡ Some id.context
   pub there : entry_at plan id ≡ Some entry
 
--- an entry at a place before one at another: by the places, and in one context by the names
+-- the order of entries that stand at places: by the places, and at one place by the names
 abbrev pub found_cmp : ℕ → Entry → ℕ → Entry → Ordering
 found_cmp i a j b = ordering_then (nat_cmp i j) (name_cmp a.name b.name)
 
