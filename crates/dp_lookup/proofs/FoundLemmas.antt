@@ -1,5 +1,5 @@
 -- The entry that stands first in the ranked contexts is the least one.
-use Rattle.std.proofs.Common.{◌≡◌, ◌≢◌, ℕ, ◌<◌, ◌≤◌, List, [], length, Option, Some, None, MatchOption, inl, inr, ◌⊎◌, arith, refl, sym, ap, ◌∙◌, subst, nat_cmp, Ordering, Less, Equal, Greater}
+use Rattle.std.proofs.Common.{◌≡◌, ◌≢◌, ℕ, ◌+◌, ◌<◌, ◌≤◌, false, true≢false, List, [], length, get_or, Option, Some, None, MatchOption, inl, inr, ◌⊎◌, arith, refl, sym, ap, ◌∙◌, subst, nat_cmp, Ordering, Less, Equal, Greater}
 use Rattle.std.specs.Prelude.{◌↔◌, IsTrue, is_some, slice_get, All}
 use Rattle.std.specs.List.{range_with_len}
 use Rattle.std.specs.Option.{option_and_then}
@@ -19,7 +19,7 @@ use Rattle.dp_plan.specs.Ranking.{entry_cmp, ids_of, ranked_entry, IsRanking}
 use Rattle.dp_plan.specs.declared.entry.Entry.{Entry}
 use Rattle.dp_plan.specs.declared.entry.EntryId.{EntryId}
 use Rattle.dp_lookup.specs.Found.{HasLabel, BeginsLater, StandsAt, found_cmp, IsLeast, NoneAsked, IsFoundLabel, SomeGoesOn}
-use Rattle.dp_lookup.specs.Questions.{NoneBefore, IsFirst, NoneIn, IsFirstIn, IsFirstAt, SomeFirst, SomeLeast}
+use Rattle.dp_lookup.specs.Questions.{NoneBefore, IsFirst, NoneIn, IsFirstIn, NoneFirst, IsFirstAt, SomeFirst, SomeLeast}
 
 -- ---- one context
 
@@ -96,6 +96,22 @@ pub first_in : (plan : PlanOf) (number : ℕ) (ids : List EntryId) (Wanted : Ent
 first_in plan number ids Wanted r ranking found = in_context plan number ids Wanted r (slice_get plan.contexts number) refl ranking found
 
 -- ---- the contexts of an order
+
+-- one more context with no entry that is asked for
+pub none_more : (plan : PlanOf) (order : List ℕ) (Wanted : Entry → Type 0) (index : ℕ) (r : Option EntryId) → NoneFirst plan order Wanted index → is_some r ≡ false → MatchOption r (NoneIn plan (get_or order index 0) Wanted) (IsFirstIn plan (get_or order index 0) Wanted) → NoneFirst plan order Wanted (index + 1)
+none_more plan order Wanted index None before none here = λ place id entry below stands asked.
+    elim (cases_order place index) [
+      | inl same ↦ here id entry (sym (get_or_from_slice_get order index id.context 0 (sym (ap (slice_get order) same) ∙ stands.context))) stands.there asked
+      | inr (inl earlier) ↦ before place id entry earlier stands asked
+      | inr (inr later) ↦ absurd (omega (arith, below, later))
+    ]
+none_more plan order Wanted index (Some id) before none here = absurd (true≢false none)
+
+-- none of all its contexts
+pub none_of_all : (plan : PlanOf) (order : List ℕ) (Wanted : Entry → Type 0) (index : ℕ) → length order ≤ index → NoneFirst plan order Wanted index → NoneAsked Wanted plan order
+none_of_all plan order Wanted index whole before = λ place id entry stands asked.
+    let within = slice_get_within order place id.context stands.context in
+    before place id entry (omega (arith, within, whole)) stands asked
 
 nat_less : (x y : ℕ) → nat_cmp x y ≡ Less → x < y
 nat_less x y e = subst (λ (o : Ordering). MatchOrdering o (x < y) (x ≡ y) (y < x)) e (ranked x y (nat_cmp x y) refl)

@@ -1,4 +1,5 @@
 pub mod FillingLemmas
+pub mod FoundEntryLemmas
 pub mod FoundLemmas
 mod Rows
 pub mod SeenLemmas

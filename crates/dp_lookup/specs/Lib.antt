@@ -1,4 +1,5 @@
 pub mod Filling
 pub mod Found
+pub mod FoundEntry
 pub mod Questions
 pub mod SearchOrder

@@ -1,5 +1,5 @@
 -- What is asked of entries, and which of them stands first.
-use Rattle.std.specs.Prelude.{◌≡◌, ℕ, ◌<◌, ◌≤◌, List, slice_get, Some, ◌⊎◌}
+use Rattle.std.specs.Prelude.{◌≡◌, ℕ, ◌<◌, ◌≤◌, Bool, IsTrue, List, slice_get, Some, ◌⊎◌}
 use Rattle.std.specs.declared.cmp.Ordering.TheVariants.{Less, Equal}
 use Rattle.dp_pattern.specs.Order.{name_cmp}
 use Rattle.dp_plan.specs.Lookup.{entry_at}
@@ -8,6 +8,7 @@ use Rattle.dp_plan.specs.Ranking.{entry_cmp}
 use Rattle.dp_plan.specs.declared.entry.Entry.{Entry}
 use Rattle.dp_plan.specs.declared.entry.EntryId.{EntryId}
 use Rattle.dp_lookup.specs.Found.{HasPriority, HasLabel, BeginsLater, StandsAt, IsLeast}
+use Rattle.dp_lookup.specs.FoundEntry.{has_priority, has_label, begins_later}
 use Rattle.dp_lookup.specs.declared.look_up.Question.{Question}
 use Rattle.dp_lookup.specs.declared.look_up.Question.TheVariants.{Priority, Label, More}
 
@@ -16,6 +17,16 @@ abbrev pub Asked : Question → List ℕ → Entry → Type 0
 Asked (Priority number) text entry = HasPriority text number entry
 Asked (Label label) text entry = HasLabel text label.now entry
 Asked More text entry = BeginsLater text entry
+
+-- whether the entry is one that the question asks for
+abbrev pub asks : Question → List ℕ → Entry → Bool
+asks (Priority number) text entry = has_priority text number entry
+asks (Label label) text entry = has_label text label.now entry
+asks More text entry = begins_later text entry
+
+-- the entry passes the test
+abbrev pub Passes : (Entry → Bool) → Entry → Type 0
+Passes test entry = IsTrue (test entry)
 
 -- none of the first so many entries is one that is asked for
 abbrev pub NoneBefore : PlanOf → List EntryId → (Entry → Type 0) → ℕ → Type 0

@@ -1,9 +1,10 @@
 //! The entries that a look-up finds in a search order.
-ghost use Rattle.std.specs.Prelude.{◌≡◌, ◌↔◌, ℕ, length, Some, IsTrue, MatchOption};
+ghost use Rattle.std.specs.Prelude.{◌≡◌, ◌↔◌, ℕ, length, Some, is_some, IsTrue, MatchOption};
 ghost use Rattle.dp_plan.specs.Lookup.{IsRankedAt};
 ghost use Rattle.dp_plan.specs.declared.entry.EntryId.{EntryId};
 ghost use Rattle.dp_lookup.specs.Found.{HasPriority, HasLabel, NoneAsked, IsFound, SomeFound, IsFoundLabel, SomeGoesOn};
-ghost use Rattle.dp_lookup.specs.Questions.{Asked, NoneBefore, IsFirst, NoneIn, IsFirstIn, SomeFirst, SomeLeast};
+ghost use Rattle.dp_lookup.specs.FoundEntry.{passing, least, found_by, found_entry, found_label, goes_on_more};
+ghost use Rattle.dp_lookup.specs.Questions.{Asked, asks, Passes, NoneBefore, IsFirst, NoneIn, IsFirstIn, SomeFirst, SomeLeast};
 
 use crate::order::SearchOrder;
 use dp_pattern::{could_match_more, matches, order_is_total};
@@ -31,14 +32,19 @@ fn has_label(entry: &Entry, label: &[u8]) -> bool
 
 /// Whether the entry is one that the question asks for.
 fn is_asked(question: Question<'_>, text: &[u8], entry: &Entry) -> bool
-    ensures { IsTrue result ↔ Asked question.entry text.now entry.now }
+    ensures asked { IsTrue result ↔ Asked question.entry text.now entry.now }
+    ensures value { result ≡ asks question.entry text.now entry.now }
 {
     match question {
         Question::Priority(priority) => {
             entry.priority.get() == priority && matches(&entry.name, text)
         }
         Question::Label(label) => has_label(entry, label) && matches(&entry.name, text),
-        Question::More => entry.priority.get() == 1 && could_match_more(&entry.name, text),
+        Question::More => {
+            // Some text means the name, so how far it takes the text decides whether it goes on.
+            let _parts = entry.name.parts();
+            entry.priority.get() == 1 && could_match_more(&entry.name, text)
+        }
     }
 }
 
@@ -49,8 +55,10 @@ fn first_of(
     question: Question<'_>,
     text: &[u8],
 ) -> Option<EntryId>
-    ensures { MatchOption result (NoneBefore plan.now ids.now (Asked question.entry text.now) (length ids.now))
+    ensures asked { MatchOption result (NoneBefore plan.now ids.now (Asked question.entry text.now) (length ids.now))
         (IsFirst plan.now ids.now (Asked question.entry text.now)) }
+    ensures passing { MatchOption result (NoneBefore plan.now ids.now (Passes (asks question.entry text.now)) (length ids.now))
+        (IsFirst plan.now ids.now (Passes (asks question.entry text.now))) }
 {
     for id in ids {
         if let Some(entry) = plan.entry(*id) {
@@ -64,8 +72,9 @@ fn first_of(
 
 /// The entry of the context of this number that the question asks for and that stands before every other such entry.
 fn find_in(plan: &Dialplan, number: usize, question: Question<'_>, text: &[u8]) -> Option<EntryId>
-    ensures { MatchOption result (NoneIn plan.now number (Asked question.entry text.now))
+    ensures asked { MatchOption result (NoneIn plan.now number (Asked question.entry text.now))
         (IsFirstIn plan.now number (Asked question.entry text.now)) }
+    ensures value { result ≡ least plan.now (passing plan.now (asks question.entry text.now) number) }
 {
     first_of(plan, plan.ranked_at(number), question, text)
 }
@@ -77,8 +86,9 @@ fn find_first(
     question: Question<'_>,
     text: &[u8],
 ) -> Option<EntryId>
-    ensures { MatchOption result (NoneAsked (Asked question.entry text.now) plan.now order.now)
+    ensures asked { MatchOption result (NoneAsked (Asked question.entry text.now) plan.now order.now)
         (SomeFirst plan.now order.now (Asked question.entry text.now)) }
+    ensures value { result ≡ found_by plan.now (asks question.entry text.now) order.now }
 {
     for number in order {
         let found = find_in(plan, *number, question, text);
@@ -96,8 +106,9 @@ fn find_least(
     question: Question<'_>,
     text: &[u8],
 ) -> Option<EntryId>
-    ensures { MatchOption result (NoneAsked (Asked question.entry text.now) plan.now order.now)
+    ensures least { MatchOption result (NoneAsked (Asked question.entry text.now) plan.now order.now)
         (SomeLeast plan.now order.now (Asked question.entry text.now)) }
+    ensures value { result ≡ found_by plan.now (asks question.entry text.now) order.now }
 {
     // What stands first is least, since the order of names is total.
     order_is_total();
@@ -113,6 +124,7 @@ fn find_least(
 pub fn find(plan: &Dialplan, order: &SearchOrder, text: &[u8], priority: u32) -> Option<EntryId>
     ensures found { MatchOption result (NoneAsked (HasPriority text.now priority) plan.now order.now.contexts)
         (IsFound plan.now order.now.contexts text.now priority) }
+    ensures value { result ≡ found_entry plan.now order.now.contexts text.now priority }
     ensures once { (a b : EntryId) → IsFound plan.now order.now.contexts text.now priority a
         → IsFound plan.now order.now.contexts text.now priority b → a ≡ b }
 {
@@ -127,6 +139,7 @@ pub fn find(plan: &Dialplan, order: &SearchOrder, text: &[u8], priority: u32) ->
 pub fn find_label(plan: &Dialplan, order: &SearchOrder, text: &[u8], label: &[u8]) -> Option<u32>
     ensures found { MatchOption result (NoneAsked (HasLabel text.now label.now) plan.now order.now.contexts)
         (IsFoundLabel plan.now order.now.contexts text.now label.now) }
+    ensures value { result ≡ found_label plan.now order.now.contexts text.now label.now }
     ensures once { (a b : ℕ) → IsFoundLabel plan.now order.now.contexts text.now label.now a
         → IsFoundLabel plan.now order.now.contexts text.now label.now b → a ≡ b }
 {
@@ -137,7 +150,8 @@ pub fn find_label(plan: &Dialplan, order: &SearchOrder, text: &[u8], label: &[u8
 
 /// Whether `find` gives an entry. It takes no memory.
 pub fn exists(plan: &Dialplan, order: &SearchOrder, text: &[u8], priority: u32) -> bool
-    ensures { IsTrue result ↔ SomeFound plan.now order.now.contexts text.now priority }
+    ensures found { IsTrue result ↔ SomeFound plan.now order.now.contexts text.now priority }
+    ensures value { result ≡ is_some (found_entry plan.now order.now.contexts text.now priority) }
 {
     find(plan, order, text, priority).is_some()
 }
@@ -146,7 +160,8 @@ pub fn exists(plan: &Dialplan, order: &SearchOrder, text: &[u8], priority: u32) 
 /// name does not end with `!`: a caller who has dialled so far may go on. It takes no memory, and is a choice of this
 /// program.
 pub fn could_be_more(plan: &Dialplan, order: &SearchOrder, text: &[u8]) -> bool
-    ensures { IsTrue result ↔ SomeGoesOn plan.now order.now.contexts text.now }
+    ensures found { IsTrue result ↔ SomeGoesOn plan.now order.now.contexts text.now }
+    ensures value { result ≡ goes_on_more plan.now order.now.contexts text.now }
 {
     find_first(plan, order.contexts(), Question::More, text).is_some()
 }
