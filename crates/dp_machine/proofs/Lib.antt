@@ -1,3 +1,2 @@
-mod FoundLemmas
 pub mod ReplayLemmas
 mod Rows

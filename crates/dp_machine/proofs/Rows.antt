@@ -1,16 +1,18 @@
 -- Texts, targets, entries and events whose answers are computed on the definitions themselves.
-use Rattle.std.proofs.Common.{◌≡◌, [], ◌∷◌, true, false, Some, None, refl}
+use Rattle.std.proofs.Common.{◌≡◌, [], ◌∷◌, Some, None, refl}
 use Rattle.std.specs.Prelude.{codes}
 use Rattle.dp_conf.specs.Levels.{parts_of}
-use Rattle.dp_pattern.specs.Name.{Plain, Pattern}
-use Rattle.dp_pattern.specs.declared.tail.Tail.TheVariants.{Dot}
+use Rattle.dp_lookup.specs.FoundEntry.{found_entry}
+use Rattle.dp_lookup.specs.SearchOrder.{visit}
+use Rattle.dp_pattern.specs.Name.{Plain}
 use Rattle.dp_plan.specs.Plan.{PlanOf}
 use Rattle.dp_machine.specs.Applications.{target_of, row_of}
 use Rattle.dp_machine.specs.Events.{event_row, step_row, started}
-use Rattle.dp_machine.specs.Found.{dashless, is_match, found_entry}
+use Rattle.dp_machine.specs.Found.{entry_found}
 use Rattle.dp_machine.specs.Replay.{replies_to, world_after}
 use Rattle.dp_machine.specs.World.{World, opening, channel_at}
-use Rattle.dp_machine.specs.declared.application.Move.TheVariants.{Jump, Hang}
+use Rattle.dp_machine.specs.declared.application.Wanted.TheVariants.{Number, Label}
+use Rattle.dp_machine.specs.declared.application.Move.TheVariants.{Jump}
 use Rattle.dp_machine.specs.declared.channel.Channel.{Channel}
 use Rattle.dp_machine.specs.declared.channel.Phase.TheVariants.{Ready, Ended as phase_ended}
 use Rattle.dp_machine.specs.declared.channel.Place.{Place}
@@ -22,25 +24,14 @@ use Rattle.dp_machine.specs.declared.reply.Reply.TheVariants.{Started, Ran, Refu
 abbrev own : Place
 own = record { context = codes "main"; exten = codes "100"; priority = 1 }
 
-dashless-both_ends : dashless (codes "-2-00-") ≡ codes "200"
-dashless-both_ends = refl
-
--- a dash does not count in what was dialled
-match-dashes : is_match (Plain (codes "200")) (codes "2-00") ≡ true
-match-dashes = refl
-
--- patterns match nothing yet
-match-pattern : is_match (Pattern [] Dot) (codes "200") ≡ false
-match-pattern = refl
-
-target-own_parts : target_of own (codes "2" ∷ []) ≡ Some (record { context = codes "main"; exten = codes "100"; priority = 2 })
+target-own_parts : target_of own (codes "2" ∷ []) ≡ Some (record { context = codes "main"; exten = codes "100"; priority = Number 2 })
 target-own_parts = refl
 
-target-empty_part : target_of own (codes "out" ∷ [] ∷ codes "03" ∷ []) ≡ Some (record { context = codes "out"; exten = codes "100"; priority = 3 })
+target-empty_part : target_of own (codes "out" ∷ [] ∷ codes "03" ∷ []) ≡ Some (record { context = codes "out"; exten = codes "100"; priority = Number 3 })
 target-empty_part = refl
 
 -- a place where no entry can be
-target-greatest : target_of own (codes "2147483648" ∷ []) ≡ Some (record { context = codes "main"; exten = codes "100"; priority = 2147483648 })
+target-greatest : target_of own (codes "2147483648" ∷ []) ≡ Some (record { context = codes "main"; exten = codes "100"; priority = Number 2147483648 })
 target-greatest = refl
 
 target-above : target_of own (codes "2147483649" ∷ []) ≡ None
@@ -49,11 +40,11 @@ target-above = refl
 target-four_parts : target_of own (codes "a" ∷ codes "b" ∷ codes "1" ∷ codes "1" ∷ []) ≡ None
 target-four_parts = refl
 
-row-goto : row_of (codes "gOTO") (codes " 200 , 1 ") own ≡ Some (Jump (record { context = codes "main"; exten = codes "200"; priority = 1 }))
+row-goto : row_of (codes "gOTO") (codes " 200 , 1 ") own ≡ Some (Jump (record { context = codes "main"; exten = codes "200"; priority = Number 1 }))
 unfolding row_of parts_of
 row-goto = refl
 
-row-label : row_of (codes "Goto") (codes "200,x") own ≡ Some Hang
+row-label : row_of (codes "Goto") (codes "200,x") own ≡ Some (Jump (record { context = codes "main"; exten = codes "200"; priority = Label (codes "x") }))
 unfolding row_of parts_of
 row-label = refl
 
@@ -99,7 +90,7 @@ event-start = refl
 
 event-step : event_row world (Step 1) ≡
     (record { plan = plan; channels = (record { place = record { context = codes "main"; exten = codes "2-00"; priority = 1 }; phase = Ready; caller = codes "7" }) ∷ [] }, Ran (record { context = 0; entry = 1 }))
-unfolding step_row found_entry row_of parts_of
+unfolding step_row entry_found found_entry visit row_of parts_of
 event-step = refl
 
 event-no_channel : event_row world (Step 2) ≡ (world, Refused NoChannel)
@@ -108,11 +99,11 @@ event-no_channel = refl
 -- a call from its start to its end, and one step more
 replies-first_run : replies_to (opening plan) (Start (codes "main") (codes "100") [] ∷ Step 1 ∷ Step 1 ∷ Step 1 ∷ Step 1 ∷ []) ≡
     Started 1 ∷ Ran (record { context = 0; entry = 0 }) ∷ Ran (record { context = 0; entry = 1 }) ∷ Ran (record { context = 0; entry = 2 }) ∷ Refused Ended ∷ []
-unfolding started step_row found_entry row_of parts_of
+unfolding started step_row entry_found found_entry visit row_of parts_of
 replies-first_run = refl
 
 -- the call ends where it stands
 world-no_entry : world_after (opening plan) (Start (codes "main") (codes "9") [] ∷ Step 1 ∷ []) ≡
     record { plan = plan; channels = (record { place = record { context = codes "main"; exten = codes "9"; priority = 1 }; phase = phase_ended; caller = [] }) ∷ [] }
-unfolding started step_row found_entry row_of parts_of
+unfolding started step_row entry_found found_entry visit row_of parts_of
 world-no_entry = refl

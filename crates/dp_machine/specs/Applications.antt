@@ -1,10 +1,13 @@
 -- The table of applications: what each does with its arguments, for a channel at a place.
 use Rattle.std.specs.Prelude.{ℕ, ◌&&◌, nat_le, List, [], ◌∷◌, Option, Some, None, codes, if◌then◌else◌}
-use Rattle.std.specs.Option.{option_and_then, option_map}
+use Rattle.std.specs.Option.{option_map}
 use Rattle.dp_conf.specs.Levels.{arguments_of}
 use Rattle.dp_conf.specs.Numbers.{number_of}
 use Rattle.dp_conf.specs.Words.{same_word}
 use Rattle.dp_machine.specs.declared.channel.Place.{Place}
+use Rattle.dp_machine.specs.declared.application.Wanted.{Wanted}
+use Rattle.dp_machine.specs.declared.application.Wanted.TheVariants.{Number, Label}
+use Rattle.dp_machine.specs.declared.application.Target.{Target}
 use Rattle.dp_machine.specs.declared.application.Move.{Move}
 use Rattle.dp_machine.specs.declared.application.Move.TheVariants.{Next, Jump, Hang}
 
@@ -17,24 +20,34 @@ part_or own (b ∷ bs) = b ∷ bs
 abbrev pub target_priority : ℕ → Option ℕ
 target_priority number = if nat_le 1 number && nat_le number 2147483648 then Some number else None
 
--- the place of a target by its parts
-abbrev pub place_of : Place → List ℕ → List ℕ → List ℕ → Option Place
-place_of own context exten priority =
-    option_map (λ number. record { context = part_or own.context context; exten = part_or own.exten exten; priority = number })
-    (option_and_then target_priority (number_of priority))
+-- the priority that a target asks for, by the number that its text writes
+abbrev pub wanted_by : List ℕ → Option ℕ → Option Wanted
+wanted_by text None = Some (Label text)
+wanted_by text (Some number) = option_map (λ n. Number n) (target_priority number)
 
--- the place of a target: one to three parts, of which the last is the priority
-abbrev pub target_of : Place → List (List ℕ) → Option Place
+-- the priority that a target asks for: a number where it is digits alone, else a label
+abbrev pub wanted_of : List ℕ → Option Wanted
+wanted_of [] = None
+wanted_of (b ∷ bs) = wanted_by (b ∷ bs) (number_of (b ∷ bs))
+
+-- a target by its parts
+abbrev pub target_by : Place → List ℕ → List ℕ → List ℕ → Option Target
+target_by own context exten priority =
+    option_map (λ wanted. record { context = part_or own.context context; exten = part_or own.exten exten; priority = wanted })
+    (wanted_of priority)
+
+-- a target: one to three parts, of which the last is the priority
+abbrev pub target_of : Place → List (List ℕ) → Option Target
 target_of own [] = None
-target_of own (priority ∷ []) = place_of own [] [] priority
-target_of own (exten ∷ priority ∷ []) = place_of own [] exten priority
-target_of own (context ∷ exten ∷ priority ∷ []) = place_of own context exten priority
+target_of own (priority ∷ []) = target_by own [] [] priority
+target_of own (exten ∷ priority ∷ []) = target_by own [] exten priority
+target_of own (context ∷ exten ∷ priority ∷ []) = target_by own context exten priority
 target_of own (context ∷ exten ∷ priority ∷ more ∷ parts) = None
 
 -- a jump to a target, or a hang-up where there is none
-abbrev pub jump_to : Option Place → Move
+abbrev pub jump_to : Option Target → Move
 jump_to None = Hang
-jump_to (Some place) = Jump place
+jump_to (Some target) = Jump target
 
 -- the row of an application: the move of a channel at a place, where the table has the name
 unfoldable pub row_of : List ℕ → List ℕ → Place → Option Move

@@ -2,8 +2,11 @@
 use Rattle.std.specs.Prelude.{ℕ, ◌+◌, Bool, true, false, nat_lt, List, [], ◌∷◌, ◌++◌, length, Option, Some, None, if◌then◌else◌}
 use Rattle.dp_plan.specs.Plan.{PlanOf}
 use Rattle.dp_machine.specs.Applications.{row_of}
-use Rattle.dp_machine.specs.Found.{Located, found_entry}
+use Rattle.dp_machine.specs.Found.{Located, entry_found, label_found}
 use Rattle.dp_machine.specs.World.{World, channel_at, with_channel}
+use Rattle.dp_machine.specs.declared.application.Wanted.{Wanted}
+use Rattle.dp_machine.specs.declared.application.Wanted.TheVariants.{Number, Label}
+use Rattle.dp_machine.specs.declared.application.Target.{Target}
 use Rattle.dp_machine.specs.declared.application.Move.{Move}
 use Rattle.dp_machine.specs.declared.application.Move.TheVariants.{Next, Jump, Hang}
 use Rattle.dp_machine.specs.declared.channel.Phase.{Phase}
@@ -29,26 +32,36 @@ refuse refusal c = record { channel = c; reply = Refused refusal }
 abbrev pub hung_up : Channel → Channel
 hung_up c = record c { phase = phase_ended }
 
--- the channel behind a move: the next priority, another place, or the end
-abbrev pub moved : Channel → Move → Channel
-moved c Next = record c { place = record { context = c.place.context; exten = c.place.exten; priority = c.place.priority + 1 } }
-moved c (Jump place) = record c { place = place }
-moved c Hang = hung_up c
+-- the priority that a target asks for, in the dialplan
+abbrev pub resolved : PlanOf → Target → Wanted → Option ℕ
+resolved plan target (Number number) = Some number
+resolved plan target (Label label) = label_found plan target.context target.exten label
+
+-- the channel at the extension of a target, at this priority; where there is none it is hung up
+abbrev pub landed : Channel → Target → Option ℕ → Channel
+landed c target None = hung_up c
+landed c target (Some number) = record c { place = record { context = target.context; exten = target.exten; priority = number } }
+
+-- the channel behind a move: the next priority, a target, or the end
+abbrev pub moved : PlanOf → Channel → Move → Channel
+moved plan c Next = record c { place = record { context = c.place.context; exten = c.place.exten; priority = c.place.priority + 1 } }
+moved plan c (Jump target) = landed c target (resolved plan target target.priority)
+moved plan c Hang = hung_up c
 
 -- the channel behind its application; a name that the table lacks is a hang-up
-abbrev pub went : Channel → Option Move → Channel
-went c None = hung_up c
-went c (Some move) = moved c move
+abbrev pub went : PlanOf → Channel → Option Move → Channel
+went plan c None = hung_up c
+went plan c (Some move) = moved plan c move
 
 -- a step, by the entry at the channel's place
-abbrev pub step_at : Channel → Option Located → Own
-step_at c None = record { channel = hung_up c; reply = NoEntry }
-step_at c (Some found) =
-    record { channel = went c (row_of found.entry.application found.entry.arguments c.place); reply = Ran found.id }
+abbrev pub step_at : PlanOf → Channel → Option Located → Own
+step_at plan c None = record { channel = hung_up c; reply = NoEntry }
+step_at plan c (Some found) =
+    record { channel = went plan c (row_of found.entry.application found.entry.arguments c.place); reply = Ran found.id }
 
 -- a step, by the channel's phase
 abbrev pub step_in : Phase → PlanOf → Channel → Own
-step_in phase_ready plan c = step_at c (found_entry plan c.place)
+step_in phase_ready plan c = step_at plan c (entry_found plan c.place)
 step_in phase_ended plan c = refuse Ended c
 
 -- the event `Step`

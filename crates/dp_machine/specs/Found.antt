@@ -1,10 +1,9 @@
--- The entry at a place: of the place's context, its extension and its priority.
-use Rattle.std.specs.Prelude.{ℕ, Bool, false, not, ◌&&◌, ◌==◌, List, Option, Some, None, filter, position, slice_get}
+-- The entry at a place: of the contexts that are searched from the place's own, for its extension and its priority.
+use Rattle.std.specs.Prelude.{ℕ, List, Option, Some, None}
 use Rattle.std.specs.Option.{option_and_then, option_map}
-use Rattle.dp_pattern.specs.Name.{Meaning, Plain, Pattern}
-use Rattle.dp_plan.specs.Contexts.{PlanContext}
-use Rattle.dp_conf.specs.Words.{same_text}
-use Rattle.dp_plan.specs.Lookup.{number_of}
+use Rattle.dp_lookup.specs.FoundEntry.{found_entry, found_label}
+use Rattle.dp_lookup.specs.SearchOrder.{search_order}
+use Rattle.dp_plan.specs.Lookup.{entry_at}
 use Rattle.dp_plan.specs.Plan.{PlanOf}
 use Rattle.dp_plan.specs.declared.entry.Entry.{Entry}
 use Rattle.dp_plan.specs.declared.entry.EntryId.{EntryId}
@@ -16,30 +15,18 @@ pub record Located : Type 0 where
   pub id : EntryId
   pub entry : Entry
 
--- a dialled text without its dashes
-abbrev pub dashless : List ℕ → List ℕ
-dashless text = filter (λ b. not (b == 45)) text
-
--- a plain name matches what was dialled; patterns match nothing yet
-abbrev pub is_match : Meaning → List ℕ → Bool
-is_match (Plain text) dialled = same_text text (dashless dialled)
-is_match (Pattern classes tail) dialled = false
-
--- the entry stands at the place of its context
-abbrev pub stands_at : Place → Entry → Bool
-stands_at place entry = is_match entry.name place.exten && entry.priority == place.priority
-
--- the entry of a context that stands at the place
-abbrev pub located_in : Place → ℕ → PlanContext → Option Located
-located_in place number context =
-    option_and_then (λ k. option_map (λ e. record { id = record { context = number; entry = k }; entry = e }) (slice_get context.entries k))
-    (position (stands_at place) context.entries)
+-- the entry of these numbers, located
+abbrev pub located : PlanOf → EntryId → Option Located
+located plan id = option_map (λ entry. record { id = id; entry = entry }) (entry_at plan id)
 
 -- the entry at a place of the dialplan
-unfoldable pub found_entry : PlanOf → Place → Option Located
-found_entry plan place =
-    option_and_then (λ number. option_and_then (located_in place number) (slice_get plan.contexts number))
-    (number_of plan place.context)
+unfoldable pub entry_found : PlanOf → Place → Option Located
+entry_found plan place =
+    option_and_then (located plan) (found_entry plan (search_order plan place.context) place.exten place.priority)
+
+-- the priority that has the label, of an extension in a context
+unfoldable pub label_found : PlanOf → List ℕ → List ℕ → List ℕ → Option ℕ
+label_found plan context exten label = found_label plan (search_order plan context) exten label
 
 -- an entry that was found, as contracts see it
 abbrev pub located_now : Option Found → Option Located

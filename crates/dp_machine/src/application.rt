@@ -1,8 +1,6 @@
 //! The applications that a machine has, after the Asterisk documentation's application reference.
 ghost use Rattle.std.specs.Prelude.{◌≡◌, IfOk, map};
-ghost use Rattle.std.specs.Option.{option_and_then};
 ghost use Rattle.dp_conf.specs.Levels.{arguments_of};
-ghost use Rattle.dp_conf.specs.Numbers.{number_of};
 ghost use Rattle.dp_machine.specs.Applications as spec;
 
 use crate::channel::Place;
@@ -10,26 +8,59 @@ use dp_conf::{read_number, same_word, split_args};
 use dp_plan::{NoMemory, Text};
 use std::alloc::Global;
 
+/// The priority that a target asks for.
+#[derive(Debug, Drop)]
+pub(crate) enum Wanted {
+    /// This number.
+    Number(u32),
+    /// The one that has this label.
+    Label(Text),
+}
+
+/// Where an application sends a channel.
+#[derive(Debug, Drop)]
+pub(crate) struct Target {
+    pub(crate) context: Text,
+    pub(crate) exten: Text,
+    pub(crate) priority: Wanted,
+}
+
 /// Where a channel goes behind an application.
 #[derive(Debug, Drop)]
 pub(crate) enum Move {
     /// To the next priority.
     Next,
-    /// To this place.
-    Jump(Place),
+    /// To this target.
+    Jump(Target),
     /// Nowhere: the call ends.
     Hang,
 }
 
 /// A number that a target may have: one above the greatest priority of an entry is a place where no entry can be.
-fn target_priority(text: &[u8]) -> Option<u32>
-    ensures { result ≡ option_and_then spec.target_priority (number_of text.now) }
+fn target_priority(number: u64) -> Option<u32>
+    ensures { result ≡ spec.target_priority number }
 {
-    let number = u32::try_from(read_number(text)?).ok()?;
+    let number = u32::try_from(number).ok()?;
     if number < 1 || number > 2_147_483_648 {
         return None;
     }
     Some(number)
+}
+
+/// The priority that the text asks for, where it asks for one.
+fn wanted_of(alloc: Global, text: &[u8]) -> Result<Option<Wanted>, NoMemory>
+    ensures { IfOk result (λ wanted. wanted ≡ spec.wanted_of text.now) }
+{
+    if text.is_empty() {
+        return Ok(None);
+    }
+    match read_number(text) {
+        Some(number) => Ok(target_priority(number).map(Wanted::Number)),
+        None => {
+            let label = Text::copy_of(alloc, text)?;
+            Ok(Some(Wanted::Label(label)))
+        }
+    }
 }
 
 /// A copy of the part, or of the channel's own where the part is empty.
@@ -42,36 +73,36 @@ fn part_or(alloc: Global, own: &Text, part: &[u8]) -> Result<Text, NoMemory>
     Text::copy_of(alloc, part)
 }
 
-/// The place of a target by its parts.
-fn place_of(
+/// A target by its parts.
+fn target_by(
     alloc: Global,
     own: &Place,
     context: &[u8],
     exten: &[u8],
     priority: &[u8],
-) -> Result<Option<Place>, NoMemory>
-    ensures { IfOk result (λ place. place ≡ spec.place_of own.now context.now exten.now priority.now) }
+) -> Result<Option<Target>, NoMemory>
+    ensures { IfOk result (λ target. target ≡ spec.target_by own.now context.now exten.now priority.now) }
 {
-    let Some(priority) = target_priority(priority) else {
+    let Some(priority) = wanted_of(alloc, priority)? else {
         return Ok(None);
     };
     let context = part_or(alloc, &own.context, context)?;
     let exten = part_or(alloc, &own.exten, exten)?;
-    Ok(Some(Place {
+    Ok(Some(Target {
         context,
         exten,
         priority,
     }))
 }
 
-/// The place of a target by the list of its parts.
-fn target_of(alloc: Global, own: &Place, parts: &[&[u8]]) -> Result<Option<Place>, NoMemory>
-    ensures { IfOk result (λ place. place ≡ spec.target_of own.now (map (λ part. part.now) parts.now)) }
+/// A target by the list of its parts.
+fn target_of(alloc: Global, own: &Place, parts: &[&[u8]]) -> Result<Option<Target>, NoMemory>
+    ensures { IfOk result (λ target. target ≡ spec.target_of own.now (map (λ part. part.now) parts.now)) }
 {
     match parts {
-        [priority] => place_of(alloc, own, b"", b"", priority),
-        [exten, priority] => place_of(alloc, own, b"", exten, priority),
-        [context, exten, priority] => place_of(alloc, own, context, exten, priority),
+        [priority] => target_by(alloc, own, b"", b"", priority),
+        [exten, priority] => target_by(alloc, own, b"", exten, priority),
+        [context, exten, priority] => target_by(alloc, own, context, exten, priority),
         _ => Ok(None),
     }
 }
@@ -83,7 +114,7 @@ fn go_to(alloc: Global, arguments: &[u8], own: &Place) -> Result<Move, NoMemory>
     let parts = split_args(alloc, arguments)?;
     let target = target_of(alloc, own, &parts)?;
     match target {
-        Some(place) => Ok(Move::Jump(place)),
+        Some(target) => Ok(Move::Jump(target)),
         None => Ok(Move::Hang),
     }
 }

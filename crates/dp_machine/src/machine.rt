@@ -1,6 +1,7 @@
 //! The machine: a world that events change one after another.
 ghost use Rattle.std.specs.Prelude.{◌≡◌, ◌+◌, ◌≤◌, ◌++◌, IfOk, OnOk, OnErr, false, length};
 ghost use Rattle.std.specs.Option.{option_copied, option_map};
+ghost use Rattle.dp_lookup.specs.SearchOrder.{context_count};
 ghost use Rattle.dp_machine.specs.Events as spec;
 ghost use Rattle.dp_machine.specs.Replay as replay;
 ghost use Rattle.dp_machine.specs.World as worlds;
@@ -10,6 +11,7 @@ use crate::event::Event;
 use crate::refusal::Refusal;
 use crate::reply::Reply;
 use crate::step::step_channel;
+use dp_lookup::SearchOrder;
 use dp_plan::{Dialplan, NoMemory, Text};
 use std::alloc::Global;
 use std::marker::Model;
@@ -21,18 +23,22 @@ pub const MOST_CHANNELS: usize = 65_535;
 #[derive(Debug, Drop)]
 pub struct Machine {
     plan: Dialplan,
+    // Look-ups search in it and take no memory.
+    order: SearchOrder,
     channels: Vec<Channel>,
 }
 
 impl Model for Machine {
     ghost use Rattle.std.specs.Prelude.{◌≤◌, length};
+    ghost use Rattle.dp_lookup.specs.SearchOrder.{context_count};
     ghost use Rattle.dp_machine.specs.World.{World};
 
     ghost Value = { World };
 
     ghost view = { λ machine. record { plan = machine.plan; channels = machine.channels.items } };
 
-    ghost invariant = { λ machine. length machine.channels.items ≤ 65535 };
+    ghost invariant = { λ machine.
+        (length machine.channels.items ≤ 65535) × (context_count machine.plan ≤ machine.order.room) };
 }
 
 /// The channel of a number.
@@ -82,9 +88,12 @@ fn start(
 fn step(
     alloc: Global,
     plan: &Dialplan,
+    order: &mut SearchOrder,
     channels: &mut Vec<Channel>,
     number: u32,
 ) -> Result<Reply, NoMemory>
+    requires { context_count plan.now ≤ order.old.room }
+    ensures room { order.new.room ≡ order.old.room }
     ensures ok { IfOk result (λ reply. spec.own_event (record { plan = plan.now; channels = channels.old.items }) number spec.step_row (worlds.channel_at channels.old.items number)
         ≡ (record { plan = plan.now; channels = channels.new.items }, reply)) }
     ensures len { length channels.new.items ≡ length channels.old.items }
@@ -96,17 +105,20 @@ fn step(
         return Ok(Reply::Refused(Refusal::NoChannel));
     }
     let channel = &mut channels[index - 1];
-    step_channel(alloc, plan, channel)
+    step_channel(alloc, plan, order, channel)
 }
 
 /// Applies one event to the parts of a machine.
 fn apply_to(
     alloc: Global,
     plan: &Dialplan,
+    order: &mut SearchOrder,
     channels: &mut Vec<Channel>,
     event: Event,
 ) -> Result<Reply, NoMemory>
-    requires { length channels.old.items ≤ 65535 }
+    requires channels { length channels.old.items ≤ 65535 }
+    requires room { context_count plan.now ≤ order.old.room }
+    ensures room { order.new.room ≡ order.old.room }
     ensures ok { IfOk result (λ reply. spec.event_row (record { plan = plan.now; channels = channels.old.items }) event
         ≡ (record { plan = plan.now; channels = channels.new.items }, reply)) }
     ensures bound { length channels.new.items ≤ 65535 }
@@ -119,19 +131,21 @@ fn apply_to(
             exten,
             caller,
         } => start(plan, channels, context, exten, caller),
-        Event::Step { channel } => step(alloc, plan, channels, channel),
+        Event::Step { channel } => step(alloc, plan, order, channels, channel),
     }
 }
 
 impl Machine {
     /// A machine with this dialplan, in which no call has come.
-    pub fn new(alloc: Global, plan: Dialplan) -> Self
-        ensures { result ≡ worlds.opening plan }
+    pub fn new(alloc: Global, plan: Dialplan) -> Result<Self, NoMemory>
+        ensures { IfOk result (λ machine. machine ≡ worlds.opening plan) }
     {
-        Machine {
+        let order = SearchOrder::room(alloc, &plan)?;
+        Ok(Machine {
             plan,
+            order,
             channels: Vec::new(alloc),
-        }
+        })
     }
 
     /// Applies one event, and gives the reply. A refused event changes nothing and takes no memory; where memory is
@@ -141,7 +155,8 @@ impl Machine {
         ensures err { OnErr result (self.new ≡ self.old) }
         ensures refused { OnErr result (spec.is_refused (spec.event_row self.old event).1 ≡ false) }
     {
-        apply_to(alloc, &self.plan, &mut self.channels, event)
+        let plan = &self.plan;
+        apply_to(alloc, plan, &mut self.order, &mut self.channels, event)
     }
 
     /// Applies the events one after another, and adds the reply to each at the end of the replies. Where memory is

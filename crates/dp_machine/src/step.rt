@@ -1,24 +1,62 @@
 //! The step of a channel.
-ghost use Rattle.std.specs.Prelude.{◌≡◌, ◌+◌, ◌^◌, ◌<◌, IfOk, OnErr, Some, false};
+ghost use Rattle.std.specs.Prelude.{◌≡◌, ◌+◌, ◌^◌, ◌<◌, ◌≤◌, IfOk, OnErr, Some, false};
 ghost use Rattle.dp_machine.specs.Events as spec;
-ghost use Rattle.dp_machine.specs.Found.{found_entry};
+ghost use Rattle.dp_machine.specs.Found.{entry_found};
+ghost use Rattle.dp_lookup.specs.SearchOrder.{context_count};
 
-use crate::application::{Move, dispatch};
-use crate::channel::{Channel, Phase};
-use crate::lookup::find;
+use crate::application::{Move, Target, Wanted, dispatch};
+use crate::channel::{Channel, Phase, Place};
+use crate::lookup::{Found, find, find_label};
 use crate::refusal::Refusal;
 use crate::reply::Reply;
-use dp_plan::{Dialplan, Entry, EntryId, NoMemory};
+use dp_lookup::SearchOrder;
+use dp_plan::{Dialplan, NoMemory};
 use std::alloc::Global;
 
+/// The priority that a target asks for, in the dialplan.
+fn resolve(plan: &Dialplan, order: &mut SearchOrder, target: &Target) -> Option<u32>
+    requires { context_count plan.now ≤ order.old.room }
+    ensures priority { result ≡ spec.resolved plan.now target.now target.now.priority }
+    ensures room { order.new.room ≡ order.old.room }
+{
+    match &target.priority {
+        Wanted::Number(number) => Some(*number),
+        Wanted::Label(label) => find_label(plan, order, &target.context, &target.exten, label),
+    }
+}
+
+/// Moves the channel to the target, or ends it where the target asks for a label that is not found.
+fn land(plan: &Dialplan, order: &mut SearchOrder, channel: &mut Channel, target: Target)
+    requires { context_count plan.now ≤ order.old.room }
+    ensures channel { channel.new ≡ spec.landed channel.old target (spec.resolved plan.now target target.priority) }
+    ensures room { order.new.room ≡ order.old.room }
+{
+    let Some(priority) = resolve(plan, order, &target) else {
+        channel.phase = Phase::Ended;
+        return;
+    };
+    let Target {
+        context,
+        exten,
+        priority: _,
+    } = target;
+    channel.place = Place {
+        context,
+        exten,
+        priority,
+    };
+}
+
 /// Moves the channel, behind an application that a table may lack.
-fn go(channel: &mut Channel, going: Option<Move>)
-    requires { channel.old.place.priority + 1 < 2 ^ 32 }
-    ensures { channel.new ≡ spec.went channel.old going }
+fn go(plan: &Dialplan, order: &mut SearchOrder, channel: &mut Channel, going: Option<Move>)
+    requires priority { channel.old.place.priority + 1 < 2 ^ 32 }
+    requires room { context_count plan.now ≤ order.old.room }
+    ensures channel { channel.new ≡ spec.went plan.now channel.old going }
+    ensures room { order.new.room ≡ order.old.room }
 {
     match going {
         Some(Move::Next) => channel.place.priority += 1,
-        Some(Move::Jump(place)) => channel.place = place,
+        Some(Move::Jump(target)) => land(plan, order, channel, target),
         Some(Move::Hang) => channel.phase = Phase::Ended,
         None => channel.phase = Phase::Ended,
     }
@@ -27,35 +65,45 @@ fn go(channel: &mut Channel, going: Option<Move>)
 /// Runs the entry that stands where the channel stands.
 fn run_entry(
     alloc: Global,
+    plan: &Dialplan,
+    order: &mut SearchOrder,
     channel: &mut Channel,
-    id: EntryId,
-    entry: &Entry,
+    found: Found<'_>,
 ) -> Result<Reply, NoMemory>
-    requires { channel.old.place.priority + 1 < 2 ^ 32 }
-    ensures ok { IfOk result (λ reply. spec.step_at channel.old (Some (record { id = id; entry = entry.now }))
+    requires priority { channel.old.place.priority + 1 < 2 ^ 32 }
+    requires room { context_count plan.now ≤ order.old.room }
+    ensures room { order.new.room ≡ order.old.room }
+    ensures ok { IfOk result (λ reply. spec.step_at plan.now channel.old (Some (record { id = found.entry.id; entry = found.entry.entry.now }))
         ≡ record { channel = channel.new; reply = reply }) }
     ensures err { OnErr result (channel.new ≡ channel.old) }
 {
     let going = dispatch(
         alloc,
-        entry.application.bytes(),
-        entry.arguments.bytes(),
+        found.entry.application.bytes(),
+        found.entry.arguments.bytes(),
         &channel.place,
     )?;
-    go(channel, going);
-    Ok(Reply::Ran(id))
+    go(plan, order, channel, going);
+    Ok(Reply::Ran(found.id))
 }
 
 /// A step of a channel that is ready.
-fn step_ready(alloc: Global, plan: &Dialplan, channel: &mut Channel) -> Result<Reply, NoMemory>
-    ensures ok { IfOk result (λ reply. spec.step_at channel.old (found_entry plan.now channel.old.place) ≡ record { channel = channel.new; reply = reply }) }
+fn step_ready(
+    alloc: Global,
+    plan: &Dialplan,
+    order: &mut SearchOrder,
+    channel: &mut Channel,
+) -> Result<Reply, NoMemory>
+    requires { context_count plan.now ≤ order.old.room }
+    ensures room { order.new.room ≡ order.old.room }
+    ensures ok { IfOk result (λ reply. spec.step_at plan.now channel.old (entry_found plan.now channel.old.place) ≡ record { channel = channel.new; reply = reply }) }
     ensures err { OnErr result (channel.new ≡ channel.old) }
 {
-    match find(plan, &channel.place) {
+    match find(plan, order, &channel.place) {
         Some(found) => {
             // The entry's priority is the channel's, so that one more is a number too.
             let _ = found.entry.priority.get();
-            run_entry(alloc, channel, found.id, found.entry)
+            run_entry(alloc, plan, order, channel, found)
         }
         None => {
             channel.phase = Phase::Ended;
@@ -69,14 +117,17 @@ fn step_ready(alloc: Global, plan: &Dialplan, channel: &mut Channel) -> Result<R
 pub(crate) fn step_channel(
     alloc: Global,
     plan: &Dialplan,
+    order: &mut SearchOrder,
     channel: &mut Channel,
 ) -> Result<Reply, NoMemory>
+    requires { context_count plan.now ≤ order.old.room }
+    ensures room { order.new.room ≡ order.old.room }
     ensures ok { IfOk result (λ reply. spec.step_row plan.now channel.old ≡ record { channel = channel.new; reply = reply }) }
     ensures err { OnErr result (channel.new ≡ channel.old) }
     ensures refused { OnErr result (spec.is_refused (spec.step_row plan.now channel.old).reply ≡ false) }
 {
     match channel.phase {
-        Phase::Ready => step_ready(alloc, plan, channel),
+        Phase::Ready => step_ready(alloc, plan, order, channel),
         Phase::Ended => Ok(Reply::Refused(Refusal::Ended)),
     }
 }

@@ -179,7 +179,7 @@ fn begin(alloc: Global, plan: &[u8], script: &[u8]) -> Result<(Machine, Vec<Scri
 {
     let (plan, _) = Dialplan::load(alloc, plan)?;
     let lines = read_script(alloc, script)?;
-    Ok((Machine::new(alloc, plan), lines))
+    Ok((Machine::new(alloc, plan)?, lines))
 }
 
 /// The status of a run by what it came to.

@@ -1,6 +1,7 @@
 mod codes;
 mod faulty;
 mod joined;
+mod lookups;
 mod render;
 mod rows;
 mod scripts;

@@ -285,7 +285,7 @@ fn check(
     let want = format!(in alloc;
         "started 1 -> ready main,100,1\nran main,100,1 {name} -> {state}\n{next}\n"
     )?;
-    let mut machine = Machine::new(alloc, plan);
+    let mut machine = Machine::new(alloc, plan)?;
     let events = [
         Given::Start(b"main", b"100"),
         Given::Step(1),

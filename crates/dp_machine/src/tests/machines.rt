@@ -1,6 +1,8 @@
 //! Machines, their readers, runs of events, and copies of events.
-use crate::tests::render::{push_state, start};
-use crate::{Dialplan, EntryId, Event, Machine, Phase, Refusal, Reply, Text};
+use crate::tests::render::{machine_of, push_state, start};
+use crate::{EntryId, Event, Machine, Phase, Refusal, Reply, Text};
+use std::alloc::Global;
+use std::process::Abort;
 use std::test::Fail;
 
 const PLAN: &[u8] = b"[globals]\nN=1\n[main]\nexten => s,1,NoOp()\nexten => s,2,Goto(out,t,1)\n\
@@ -10,10 +12,11 @@ fn ran(context: usize, entry: usize) -> Reply {
     Reply::Ran(EntryId { context, entry })
 }
 
-#[test]
-fn a_new_machine_has_its_plan_and_no_channel(rt: HostRuntime) -> Result<(), Fail> {
-    let (plan, _) = Dialplan::load(rt.alloc(), PLAN)?;
-    let machine = Machine::new(rt.alloc(), plan);
+fn check_a_new_machine_has_its_plan_and_no_channel(
+    rt: &impl Abort,
+    alloc: Global,
+    machine: &Machine,
+) -> Result<(), Fail> {
     assert_eq!(rt; machine.plan().globals().len(), 1);
     assert_eq!(rt; machine.plan().contexts().len(), 2);
     assert_eq!(rt;
@@ -27,16 +30,22 @@ fn a_new_machine_has_its_plan_and_no_channel(rt: HostRuntime) -> Result<(), Fail
     Ok(())
 }
 
-/// A channel that has ended keeps its place.
 #[test]
-fn channels_are_read_by_their_numbers(rt: HostRuntime) -> Result<(), Fail> {
-    let (plan, _) = Dialplan::load(rt.alloc(), PLAN)?;
-    let mut machine = Machine::new(rt.alloc(), plan);
+fn a_new_machine_has_its_plan_and_no_channel(rt: HostRuntime) -> Result<(), Fail> {
+    let machine = machine_of(rt.alloc(), PLAN)?;
+    check_a_new_machine_has_its_plan_and_no_channel(&rt, rt.alloc(), &machine)
+}
+
+fn check_channels_are_read_by_their_numbers(
+    rt: &impl Abort,
+    alloc: Global,
+    machine: &mut Machine,
+) -> Result<(), Fail> {
     for exten in [b"s", b"x"] {
-        let call = start(rt.alloc(), b"main", exten)?;
-        machine.apply(rt.alloc(), call)?;
+        let call = start(alloc, b"main", exten)?;
+        machine.apply(alloc, call)?;
     }
-    machine.apply(rt.alloc(), Event::Step { channel: 2 })?;
+    machine.apply(alloc, Event::Step { channel: 2 })?;
     for (channel, phase, exten) in [(1, Phase::Ready, b"s"), (2, Phase::Ended, b"x")] {
         assert_eq!(rt; machine.phase(channel), Some(&phase));
         let place = machine.place(channel).ok_or("no place")?;
@@ -52,30 +61,37 @@ fn channels_are_read_by_their_numbers(rt: HostRuntime) -> Result<(), Fail> {
     Ok(())
 }
 
-/// The replies stand behind those that are there already, and the machine is the one behind the last event.
+/// A channel that has ended keeps its place.
 #[test]
-fn a_run_adds_its_replies(rt: HostRuntime) -> Result<(), Fail> {
-    let (plan, _) = Dialplan::load(rt.alloc(), PLAN)?;
-    let mut machine = Machine::new(rt.alloc(), plan);
-    let mut replies = vec![in rt.alloc(); Reply::NoEntry]?;
-    machine.run(rt.alloc(), &[], &mut replies)?;
+fn channels_are_read_by_their_numbers(rt: HostRuntime) -> Result<(), Fail> {
+    let mut machine = machine_of(rt.alloc(), PLAN)?;
+    check_channels_are_read_by_their_numbers(&rt, rt.alloc(), &mut machine)
+}
+
+fn check_a_run_adds_its_replies(
+    rt: &impl Abort,
+    alloc: Global,
+    machine: &mut Machine,
+) -> Result<(), Fail> {
+    let mut replies = vec![in alloc; Reply::NoEntry]?;
+    machine.run(alloc, &[], &mut replies)?;
     assert_eq!(rt; replies.as_slice(), [Reply::NoEntry].as_slice());
     assert!(rt; machine.phase(1).is_none());
     let first = [
-        start(rt.alloc(), b"main", b"s")?,
+        start(alloc, b"main", b"s")?,
         Event::Step { channel: 1 },
         Event::Step { channel: 2 },
-        start(rt.alloc(), b"out", b"t")?,
+        start(alloc, b"out", b"t")?,
         Event::Step { channel: 2 },
     ];
-    machine.run(rt.alloc(), &first, &mut replies)?;
+    machine.run(alloc, &first, &mut replies)?;
     let second = [
         Event::Step { channel: 1 },
         Event::Step { channel: 2 },
         Event::Step { channel: 1 },
         Event::Step { channel: 1 },
     ];
-    machine.run(rt.alloc(), &second, &mut replies)?;
+    machine.run(alloc, &second, &mut replies)?;
     let want = [
         Reply::NoEntry,
         Reply::Started(1),
@@ -89,38 +105,45 @@ fn a_run_adds_its_replies(rt: HostRuntime) -> Result<(), Fail> {
         Reply::Refused(Refusal::Ended),
     ];
     assert_eq!(rt; replies.as_slice(), want.as_slice());
-    let mut got = String::new(rt.alloc());
+    let mut got = String::new(alloc);
     for channel in 1..4 {
-        push_state(&mut got, &machine, channel)?;
+        push_state(&mut got, machine, channel)?;
         got.push('\n')?;
     }
     assert_eq!(rt; got.as_str(), "ended out,t,1\nended out,t,1\nnone\n");
     Ok(())
 }
 
-/// Where memory is refused the machine is as before, so that the event, given again, has its own reply.
+/// The replies stand behind those that are there already, and the machine is the one behind the last event.
 #[test]
-fn an_event_is_given_again(rt: HostRuntime) -> Result<(), Fail> {
-    let (plan, _) = Dialplan::load(rt.alloc(), PLAN)?;
-    let mut machine = Machine::new(rt.alloc(), plan);
+fn a_run_adds_its_replies(rt: HostRuntime) -> Result<(), Fail> {
+    let mut machine = machine_of(rt.alloc(), PLAN)?;
+    check_a_run_adds_its_replies(&rt, rt.alloc(), &mut machine)
+}
+
+fn check_an_event_is_given_again(
+    rt: &impl Abort,
+    alloc: Global,
+    machine: &mut Machine,
+) -> Result<(), Fail> {
     let events = [
-        start(rt.alloc(), b"main", b"s")?,
+        start(alloc, b"main", b"s")?,
         Event::Step { channel: 1 },
         Event::Step { channel: 1 },
         Event::Step { channel: 1 },
     ];
-    let mut got = String::new(rt.alloc());
+    let mut got = String::new(alloc);
     for event in &events {
-        let mut before = String::new(rt.alloc());
-        push_state(&mut before, &machine, 1)?;
+        let mut before = String::new(alloc);
+        push_state(&mut before, machine, 1)?;
         let (once, again) = (event.copy()?, event.copy()?);
-        if machine.apply(rt.alloc(), once).is_err() {
-            let mut behind = String::new(rt.alloc());
-            push_state(&mut behind, &machine, 1)?;
+        if machine.apply(alloc, once).is_err() {
+            let mut behind = String::new(alloc);
+            push_state(&mut behind, machine, 1)?;
             assert_eq!(rt; behind.as_str(), before.as_str());
-            machine.apply(rt.alloc(), again)?;
+            machine.apply(alloc, again)?;
         }
-        push_state(&mut got, &machine, 1)?;
+        push_state(&mut got, machine, 1)?;
         got.push('\n')?;
     }
     assert_eq!(rt;
@@ -130,22 +153,25 @@ fn an_event_is_given_again(rt: HostRuntime) -> Result<(), Fail> {
     Ok(())
 }
 
-/// Where memory is refused the replies say how far a run came, so that it goes on from there.
+/// Where memory is refused the machine is as before, so that the event, given again, has its own reply.
 #[test]
-fn a_run_goes_on(rt: HostRuntime) -> Result<(), Fail> {
-    let (plan, _) = Dialplan::load(rt.alloc(), PLAN)?;
-    let mut machine = Machine::new(rt.alloc(), plan);
+fn an_event_is_given_again(rt: HostRuntime) -> Result<(), Fail> {
+    let mut machine = machine_of(rt.alloc(), PLAN)?;
+    check_an_event_is_given_again(&rt, rt.alloc(), &mut machine)
+}
+
+fn check_a_run_goes_on(rt: &impl Abort, alloc: Global, machine: &mut Machine) -> Result<(), Fail> {
     let events = [
-        start(rt.alloc(), b"main", b"s")?,
+        start(alloc, b"main", b"s")?,
         Event::Step { channel: 1 },
         Event::Step { channel: 2 },
         Event::Step { channel: 1 },
         Event::Step { channel: 1 },
     ];
-    let mut replies = Vec::new(rt.alloc());
-    if machine.run(rt.alloc(), &events, &mut replies).is_err() {
+    let mut replies = Vec::new(alloc);
+    if machine.run(alloc, &events, &mut replies).is_err() {
         let left = events.get(replies.len()..).ok_or("too many replies")?;
-        machine.run(rt.alloc(), left, &mut replies)?;
+        machine.run(alloc, left, &mut replies)?;
     }
     let want = [
         Reply::Started(1),
@@ -156,6 +182,13 @@ fn a_run_goes_on(rt: HostRuntime) -> Result<(), Fail> {
     ];
     assert_eq!(rt; replies.as_slice(), want.as_slice());
     Ok(())
+}
+
+/// Where memory is refused the replies say how far a run came, so that it goes on from there.
+#[test]
+fn a_run_goes_on(rt: HostRuntime) -> Result<(), Fail> {
+    let mut machine = machine_of(rt.alloc(), PLAN)?;
+    check_a_run_goes_on(&rt, rt.alloc(), &mut machine)
 }
 
 #[test]

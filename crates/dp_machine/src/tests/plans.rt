@@ -14,7 +14,7 @@ fn check(
     want: &str,
 ) -> Result<(), Fail> {
     let (plan, _) = Dialplan::load(alloc, text)?;
-    let mut machine = Machine::new(alloc, plan);
+    let mut machine = Machine::new(alloc, plan)?;
     let got = shown(alloc, &mut machine, events)?;
     assert_eq!(rt; got.as_str(), want, "of {text:?}");
     Ok(())

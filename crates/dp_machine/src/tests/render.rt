@@ -1,6 +1,14 @@
 //! Machines that take the events of a table, and their replies, as lines of text.
 use crate::{Dialplan, EntryId, Event, Machine, NoMemory, Phase, Reply, Text};
 use std::alloc::Global;
+use std::test::Fail;
+
+/// A machine with the dialplan of a text.
+pub(super) fn machine_of(alloc: Global, text: &[u8]) -> Result<Machine, Fail> {
+    let (plan, _) = Dialplan::load(alloc, text)?;
+    let machine = Machine::new(alloc, plan)?;
+    Ok(machine)
+}
 
 /// An event of a table.
 #[derive(Clone, Copy)]
