@@ -1,6 +1,6 @@
 //! Worked cases, with their answers.
 use crate::tests::render::{machine_of, push_state, start};
-use crate::{EntryId, Event, MOST_CHANNELS, Machine, Refusal, Reply};
+use crate::{Dialplan, EntryId, Event, MOST_CHANNELS, Machine, Refusal, Reply};
 use std::alloc::Global;
 use std::process::Abort;
 use std::test::Fail;
@@ -25,10 +25,11 @@ fn check_first_run(rt: &impl Abort, alloc: Global, machine: &mut Machine) -> Res
 
 #[test]
 fn first_run(rt: HostRuntime) -> Result<(), Fail> {
-    let mut machine = machine_of(
-        rt.alloc(),
-        b"[main]\nexten => 100,1,NoOp(hello)\nexten => 100,2,Goto(200,1)\nexten => 200,1,Hangup()\n",
-    )?;
+    let text = b"[main]\nexten => 100,1,NoOp(hello)\nexten => 100,2,Goto(200,1)\n\
+exten => 200,1,Hangup()\n";
+    let (plan, notes) = Dialplan::load(rt.alloc(), text)?;
+    assert_eq!(rt; notes.len(), 0);
+    let mut machine = Machine::new(rt.alloc(), plan)?;
     check_first_run(&rt, rt.alloc(), &mut machine)
 }
 
