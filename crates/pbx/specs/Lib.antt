@@ -1,6 +1,8 @@
 pub mod Codes
+pub mod CommandLine
 pub mod Faults
 pub mod Joined
+pub mod Report
 pub mod Run
 pub mod Script
 pub mod Stops

@@ -2,7 +2,7 @@
 ghost use Rattle.std.specs.Prelude.{◌≡◌};
 ghost use Rattle.pbx.specs.Codes.{code_number, code_name};
 
-use dp_conf::{ConfFault, LineKind, ReadFault};
+use dp_conf::{ConfFault, LineKind, ReadFault, WriteFailed};
 use dp_plan::{LoadFault, NameFault, NoMemory, PlanKind};
 use std::alloc::AllocFailed;
 
@@ -107,6 +107,21 @@ impl From<ReadFault> for PbxFault {
                 line: None,
             },
             ReadFault::NoMemory => PbxFault::NoMemory,
+        }
+    }
+}
+
+impl From<WriteFailed> for PbxFault {
+    ghost use Rattle.std.specs.Prelude.{◌≡◌, None};
+    ghost use Rattle.pbx.specs.declared.fault.Code.TheVariants.{WriteFailed as write_failed};
+    ghost use Rattle.pbx.specs.declared.fault.PbxFault.TheVariants.{Coded};
+
+    ghost from_gives = { λ _ fault. fault ≡ Coded write_failed None };
+
+    fn from(_: WriteFailed) -> Self {
+        PbxFault::Coded {
+            code: Code::WriteFailed,
+            line: None,
         }
     }
 }

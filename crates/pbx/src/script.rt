@@ -36,7 +36,7 @@ fn words<'a>(alloc: Global, line: &'a [u8]) -> Result<Vec<&'a [u8]>, NoMemory>
 }
 
 /// A number up to the limit.
-fn number_within(limit: u32, word: &[u8]) -> Option<u32>
+pub(crate) fn number_within(limit: u32, word: &[u8]) -> Option<u32>
     ensures { result ≡ spec.number_within limit word.now }
 {
     let number = read_number(word)?;

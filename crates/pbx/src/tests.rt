@@ -1,8 +1,10 @@
 mod codes;
+mod commands;
 mod faulty;
 mod joined;
 mod lookups;
 mod render;
+mod reports;
 mod rows;
 mod scripts;
 mod writers;

@@ -5,12 +5,12 @@ ghost use Rattle.pbx.specs.Trace as spec;
 
 use dp_machine::{EntryId, Machine, Phase, Place, Refusal, Reply};
 use dp_plan::{Context, Dialplan, Entry, NoMemory};
-use itoa::Buffer;
+use itoa::{Buffer, Integer};
 use std::alloc::Global;
 
 /// Adds a number in decimal.
-fn push_number(out: &mut Vec<u8>, number: u32) -> Result<(), NoMemory>
-    ensures { OnOk result (out.new.items ≡ out.old.items ++ decimal number) }
+pub(crate) fn push_number<I: Integer>(out: &mut Vec<u8>, number: I) -> Result<(), NoMemory>
+    ensures { OnOk result (out.new.items ≡ out.old.items ++ I.text number) }
 {
     let mut buffer = Buffer::new();
     out.extend_from_slice(buffer.format(number).as_bytes())?;
@@ -79,7 +79,7 @@ fn push_entry_of(
 
 /// Adds the entry of the dialplan that has these numbers.
 #[tactic(auto, unfolding(crate::specs::Trace::entry_text))]
-fn push_entry(
+pub(crate) fn push_entry(
     alloc: Global,
     out: &mut Vec<u8>,
     plan: &Dialplan,
