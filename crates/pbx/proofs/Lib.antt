@@ -1,3 +1,4 @@
+mod CommandLineRows
 mod JoinedLemmas
 mod ScriptLemmas
 mod StreamsLemmas

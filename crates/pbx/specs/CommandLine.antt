@@ -1,8 +1,99 @@
--- The words of a command line.
-use Rattle.std.specs.Prelude.{ℕ, List, Option, Some, None, nat_lt, if◌then◌else◌}
-use Rattle.std.specs.Option.{option_and_then}
+-- What the words of a command line ask for. Which word belongs to which name of a command is what clap's definitions say
+-- of the commands below.
+use Rattle.std.specs.Prelude.{ℕ, true, String, string_bytes, List, [], ◌∷◌, Option, Some, None, nat_lt, map, codes, if◌then◌else◌}
+use Rattle.std.specs.Option.{option_and_then, option_map}
+use Rattle.std.specs.declared.alloc.Global.{Global}
+use Rattle.clap.specs.Simple.{App, new_app, new_rule, with_rule, with_subcommand, subcommand_of}
+use Rattle.clap.specs.Walk.{Row, Rule, first_of}
+use Rattle.dp_conf.specs.Words.{same_text}
 use Rattle.pbx.specs.Script.{number_within}
+use Rattle.pbx.specs.declared.command_line.Request.{Request}
+use Rattle.pbx.specs.declared.command_line.Request.TheVariants.{Joined, Check, Match, Run}
+
+-- a word that has to be given
+abbrev pub required_word : List ℕ → Rule
+required_word name = record (new_rule name) { required = true }
+
+-- a word that may be left out, with what stands for it then
+abbrev pub word_or : List ℕ → List ℕ → Rule
+word_or name default = record (new_rule name) { defaults = default ∷ [] }
+
+-- `check FILE`
+abbrev pub check_app : App
+check_app = with_rule (new_app (codes "check")) (required_word (codes "FILE"))
+
+-- `match FILE CONTEXT TEXT [PRIORITY]`
+abbrev pub match_app : App
+match_app =
+    with_rule (with_rule (with_rule (with_rule (new_app (codes "match"))
+    (required_word (codes "FILE"))) (required_word (codes "CONTEXT"))) (required_word (codes "TEXT")))
+    (word_or (codes "PRIORITY") (codes "1"))
+
+-- `run FILE SCRIPT`
+abbrev pub run_app : App
+run_app =
+    with_rule (with_rule (new_app (codes "run")) (required_word (codes "FILE"))) (required_word (codes "SCRIPT"))
+
+-- the program's commands
+abbrev pub pbx_app : App
+pbx_app =
+    with_subcommand (with_subcommand (with_subcommand (new_app (codes "pbx")) check_app.top) match_app.top) run_app.top
+
+-- what a command line asks for, with its texts
+pub data Asked : Type 0 where
+  joined : Asked
+  check : List ℕ → Asked
+  matching : List ℕ → List ℕ → List ℕ → ℕ → Asked
+  run : List ℕ → List ℕ → Asked
+
+-- what a request asks for
+abbrev pub asked : Request → Asked
+asked Joined = joined
+asked (Check file) = check file.now
+asked (Match file context text priority) = matching file.now context.now text.now priority
+asked (Run file script) = run file.now script.now
 
 -- the priority that a word writes: digits, and a number from 1 to 2147483647
 abbrev pub priority_in : List ℕ → Option ℕ
 priority_in word = option_and_then (λ n. if nat_lt 0 n then Some n else None) (number_within 2147483647 word)
+
+-- what `check` asks for, by its words
+abbrev pub check_asked : List Row → Option Asked
+check_asked words = option_map check (first_of (codes "FILE") words)
+
+-- what `match` asks for at a priority, by its other words
+abbrev pub match_at : List Row → ℕ → Option Asked
+match_at words priority =
+    option_and_then (λ file. option_and_then (λ context. option_map (λ text. matching file context text priority)
+    (first_of (codes "TEXT") words)) (first_of (codes "CONTEXT") words)) (first_of (codes "FILE") words)
+
+-- what `match` asks for, by its words
+abbrev pub match_asked : List Row → Option Asked
+match_asked words =
+    option_and_then (λ word. option_and_then (match_at words) (priority_in word)) (first_of (codes "PRIORITY") words)
+
+-- what `run` asks for, by its words
+abbrev pub run_asked : List Row → Option Asked
+run_asked words =
+    option_and_then (λ file. option_map (run file) (first_of (codes "SCRIPT") words)) (first_of (codes "FILE") words)
+
+-- what a command of a name asks for, by its words
+abbrev pub command_asked : List ℕ → List Row → Option Asked
+command_asked name words =
+    if same_text name (codes "check") then check_asked words
+    else if same_text name (codes "match") then match_asked words
+    else if same_text name (codes "run") then run_asked words
+    else None
+
+-- the same, where there is no command too
+abbrev pub asked_by : Option (List ℕ × List Row) → Option Asked
+asked_by None = Some joined
+asked_by (Some command) = command_asked command.0 command.1
+
+-- the words as their bytes
+abbrev pub texts : List (String Global) → List (List ℕ)
+texts words = map string_bytes words
+
+-- what a command line asks for, by all its words, the first of which is the program's own name
+unfoldable pub asked_of : List (List ℕ) → Option Asked
+asked_of words = asked_by (subcommand_of pbx_app words)

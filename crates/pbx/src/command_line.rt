@@ -1,5 +1,12 @@
 //! The command line: what its words ask for.
-ghost use Rattle.std.specs.Prelude.{◌≡◌};
+ghost use Rattle.std.specs.Prelude.{◌≡◌, IfOk, IfErr, Some, false, is_some, map, option_map, codes, true};
+ghost use Rattle.clap.specs.Matches.{found_of};
+ghost use Rattle.clap.specs.Simple.{app_of, new_app, subcommand_of, subcommand_rows_of, with_rule, with_subcommand};
+ghost use Rattle.clap.specs.Takes.{takes};
+ghost use Rattle.clap.specs.Values.{kind_of};
+ghost use Rattle.clap.specs.Walk.{first_of, rows_of, rule_of};
+ghost use Rattle.clap.specs.declared.builder.command.Command.TheViews.{out-Command as fields_of};
+ghost use Rattle.clap.specs.declared.error.kind.ErrorKind.TheVariants.{OutOfMemory};
 ghost use Rattle.pbx.specs.CommandLine as spec;
 
 use crate::script::number_within;
@@ -76,53 +83,140 @@ Example:
   ran 1 main,100,1 NoOp -> ready main,100,2
   ran 1 main,100,2 Hangup -> ended";
 
-/// A word that has to be given.
-fn required<'a>(alloc: Global, name: &'a str, help: &'a str) -> Arg<'a> {
-    Arg::new(alloc, name).required(true).help(help)
+/// What the help says of a dialplan's file.
+const DIALPLAN_HELP: &str = "The dialplan, as extensions.conf";
+
+/// A command with no words yet, and what its help says above and below them.
+fn described<'a>(alloc: Global, name: &'a str, about: &'a str, notes: &'a str) -> Command<'a>
+    ensures app { app_of result ≡ new_app name.now }
+    ensures local { (fields_of result).has_globals ≡ false }
+{
+    Command::new(alloc, name).about(about).after_help(notes)
+}
+
+/// The command with one more word, which has to be given.
+fn with_required<'a>(
+    alloc: Global,
+    command: Command<'a>,
+    name: &'a str,
+    help: &'a str,
+) -> Result<Command<'a>, NoMemory>
+    ensures app { IfOk result (λ with. app_of with ≡ with_rule (app_of command.entry) (spec.required_word name.now)) }
+    ensures local { IfOk result (λ with. (fields_of with).has_globals ≡ (fields_of command.entry).has_globals) }
+{
+    let word = Arg::new(alloc, name).required(true).help(help);
+    let with = command.arg(word)?;
+    Ok(with)
+}
+
+/// The command with one more word, which may be left out, and what stands for it then.
+fn with_optional<'a>(
+    alloc: Global,
+    command: Command<'a>,
+    name: &'a str,
+    help: &'a str,
+    default: &'a str,
+) -> Result<Command<'a>, NoMemory>
+    ensures app { IfOk result (λ with. app_of with ≡ with_rule (app_of command.entry) (spec.word_or name.now default.now)) }
+    ensures local { IfOk result (λ with. (fields_of with).has_globals ≡ (fields_of command.entry).has_globals) }
+{
+    let word = Arg::new(alloc, name).help(help).default_value(default);
+    let with = command.arg(word)?;
+    Ok(with)
+}
+
+/// The program's command with one more command below it.
+fn with_command<'a>(command: Command<'a>, below: Command<'a>) -> Result<Command<'a>, NoMemory>
+    requires { (fields_of below).has_globals ≡ false }
+    ensures { IfOk result (λ with. app_of with ≡ with_subcommand (app_of command.entry) (app_of below.entry).top) }
+{
+    let with = command.subcommand(below)?;
+    Ok(with)
 }
 
 /// The command `check`.
-fn check_command<'a>(alloc: Global) -> Result<Command<'a>, NoMemory> {
-    Command::new(alloc, "check")
-        .about("Load a dialplan, and print its notes and its counts")
-        .after_help(CHECK_NOTES)
-        .arg(required(alloc, "FILE", "The dialplan, as extensions.conf"))
+fn check_command<'a>(alloc: Global) -> Result<Command<'a>, NoMemory>
+    ensures app { IfOk result (λ command. app_of command ≡ spec.check_app) }
+    ensures local { IfOk result (λ command. (fields_of command).has_globals ≡ false) }
+{
+    let check = described(
+        alloc,
+        "check",
+        "Load a dialplan, and print its notes and its counts",
+        CHECK_NOTES,
+    );
+    let check = with_required(alloc, check, "FILE", DIALPLAN_HELP)?;
+    Ok(check)
 }
 
 /// The command `match`.
-fn match_command<'a>(alloc: Global) -> Result<Command<'a>, NoMemory> {
-    let priority = Arg::new(alloc, "PRIORITY")
-        .help("The priority that is asked for, from 1 to 2147483647")
-        .default_value("1");
-    Command::new(alloc, "match")
-        .about("Print which entry of a dialplan answers a call")
-        .after_help(MATCH_NOTES)
-        .arg(required(alloc, "FILE", "The dialplan, as extensions.conf"))?
-        .arg(required(alloc, "CONTEXT", "The context where the call begins"))?
-        .arg(required(alloc, "TEXT", "What was dialled"))?
-        .arg(priority)
+fn match_command<'a>(alloc: Global) -> Result<Command<'a>, NoMemory>
+    ensures app { IfOk result (λ command. app_of command ≡ spec.match_app) }
+    ensures local { IfOk result (λ command. (fields_of command).has_globals ≡ false) }
+{
+    let matching = described(
+        alloc,
+        "match",
+        "Print which entry of a dialplan answers a call",
+        MATCH_NOTES,
+    );
+    let matching = with_required(alloc, matching, "FILE", DIALPLAN_HELP)?;
+    let matching = with_required(
+        alloc,
+        matching,
+        "CONTEXT",
+        "The context where the call begins",
+    )?;
+    let matching = with_required(alloc, matching, "TEXT", "What was dialled")?;
+    let matching = with_optional(
+        alloc,
+        matching,
+        "PRIORITY",
+        "The priority that is asked for, from 1 to 2147483647",
+        "1",
+    )?;
+    Ok(matching)
 }
 
 /// The command `run`.
-fn run_command<'a>(alloc: Global) -> Result<Command<'a>, NoMemory> {
-    Command::new(alloc, "run")
-        .about("Run a script of events on a dialplan, and print the trace")
-        .after_help(RUN_NOTES)
-        .arg(required(alloc, "FILE", "The dialplan, as extensions.conf"))?
-        .arg(required(alloc, "SCRIPT", "The script of events"))
+fn run_command<'a>(alloc: Global) -> Result<Command<'a>, NoMemory>
+    ensures app { IfOk result (λ command. app_of command ≡ spec.run_app) }
+    ensures local { IfOk result (λ command. (fields_of command).has_globals ≡ false) }
+{
+    let run = described(
+        alloc,
+        "run",
+        "Run a script of events on a dialplan, and print the trace",
+        RUN_NOTES,
+    );
+    let run = with_required(alloc, run, "FILE", DIALPLAN_HELP)?;
+    let run = with_required(alloc, run, "SCRIPT", "The script of events")?;
+    Ok(run)
+}
+
+/// The program's own part of its commands.
+fn bare_command<'a>(alloc: Global) -> Result<Command<'a>, NoMemory>
+    ensures { IfOk result (λ command. app_of command ≡ new_app (codes "pbx")) }
+{
+    let pbx = described(
+        alloc,
+        "pbx",
+        "Say which priority of an Asterisk dialplan answers a call, and run calls through it",
+        PBX_NOTES,
+    );
+    let pbx = pbx.bin_name("pbx")?;
+    Ok(pbx)
 }
 
 /// The program's commands.
-fn pbx_command<'a>(alloc: Global) -> Result<Command<'a>, NoMemory> {
-    Command::new(alloc, "pbx")
-        .bin_name("pbx")?
-        .about(
-            "Say which priority of an Asterisk dialplan answers a call, and run calls through it",
-        )
-        .after_help(PBX_NOTES)
-        .subcommand(check_command(alloc)?)?
-        .subcommand(match_command(alloc)?)?
-        .subcommand(run_command(alloc)?)
+fn pbx_command<'a>(alloc: Global) -> Result<Command<'a>, NoMemory>
+    ensures { IfOk result (λ command. app_of command ≡ spec.pbx_app) }
+{
+    let pbx = bare_command(alloc)?;
+    let pbx = with_command(pbx, check_command(alloc)?)?;
+    let pbx = with_command(pbx, match_command(alloc)?)?;
+    let pbx = with_command(pbx, run_command(alloc)?)?;
+    Ok(pbx)
 }
 
 /// The priority that a word writes: digits, and a number from 1 to 2,147,483,647.
@@ -143,63 +237,117 @@ fn refuse_priority(alloc: Global, word: &str) -> Result<Error, NoMemory> {
         .error(ErrorKind::ValueValidation, &message)
 }
 
+/// The word of this name among those of a command.
+fn word_of<'a>(given: &ArgMatches<'a>, name: &str) -> Option<&'a str>
+    ensures { option_map (λ word. word.now) result ≡ first_of name.now (rows_of (found_of given.now)) }
+{
+    given.get_str(name)
+}
+
 /// What the words of `check` ask for.
-fn check_request<'a>(given: &ArgMatches<'a>) -> Option<Request<'a>> {
+fn check_request<'a>(given: &ArgMatches<'a>) -> Option<Request<'a>>
+    ensures { option_map spec.asked result ≡ spec.check_asked (rows_of (found_of given.now)) }
+{
     Some(Request::Check {
-        file: given.get_str("FILE")?,
+        file: word_of(given, "FILE")?,
     })
 }
 
-/// What the words of `match` ask for at a priority.
-fn match_request<'a>(given: &ArgMatches<'a>, priority: Priority) -> Option<Request<'a>> {
+/// What the words of `match` ask for, or its refusal where they name no priority.
+fn match_request<'a>(alloc: Global, given: &ArgMatches<'a>) -> Result<Option<Request<'a>>, Error>
+    ensures asked { IfOk result (λ request. option_map spec.asked request ≡ spec.match_asked (rows_of (found_of given.now))) }
+    ensures refused { IfErr result (λ error. is_some (spec.match_asked (rows_of (found_of given.now))) ≡ true → kind_of error ≡ OutOfMemory) }
+{
+    let Some(word) = word_of(given, "PRIORITY") else {
+        return Ok(None);
+    };
+    match read_priority(word) {
+        Some(priority) => Ok(match_at(given, priority)),
+        None => Err(refuse_priority(alloc, word)?),
+    }
+}
+
+/// What the other words of `match` ask for at a priority.
+fn match_at<'a>(given: &ArgMatches<'a>, priority: Priority) -> Option<Request<'a>>
+    ensures { option_map spec.asked result ≡ spec.match_at (rows_of (found_of given.now)) priority }
+{
     Some(Request::Match {
-        file: given.get_str("FILE")?,
-        context: given.get_str("CONTEXT")?,
-        text: given.get_str("TEXT")?,
+        file: word_of(given, "FILE")?,
+        context: word_of(given, "CONTEXT")?,
+        text: word_of(given, "TEXT")?,
         priority,
     })
 }
 
 /// What the words of `run` ask for.
-fn run_request<'a>(given: &ArgMatches<'a>) -> Option<Request<'a>> {
+fn run_request<'a>(given: &ArgMatches<'a>) -> Option<Request<'a>>
+    ensures { option_map spec.asked result ≡ spec.run_asked (rows_of (found_of given.now)) }
+{
     Some(Request::Run {
-        file: given.get_str("FILE")?,
-        script: given.get_str("SCRIPT")?,
+        file: word_of(given, "FILE")?,
+        script: word_of(given, "SCRIPT")?,
     })
 }
 
 /// What the words of a command ask for, or None where one that is required is missing.
-fn request_of<'a>(
+fn command_request<'a>(
     alloc: Global,
     name: &str,
     given: &ArgMatches<'a>,
-) -> Result<Option<Request<'a>>, Error> {
+) -> Result<Option<Request<'a>>, Error>
+    ensures asked { IfOk result (λ request. option_map spec.asked request
+        ≡ spec.command_asked name.now (rows_of (found_of given.now))) }
+    ensures refused { IfErr result (λ error. is_some (spec.command_asked name.now (rows_of (found_of given.now))) ≡ true
+        → kind_of error ≡ OutOfMemory) }
+{
     match name {
         "check" => Ok(check_request(given)),
-        "match" => {
-            let word = given.get_str("PRIORITY").unwrap_or("1");
-            match read_priority(word) {
-                Some(priority) => Ok(match_request(given, priority)),
-                None => Err(refuse_priority(alloc, word)?),
-            }
-        }
+        "match" => match_request(alloc, given),
         "run" => Ok(run_request(given)),
         _ => Ok(None),
     }
 }
 
+/// What the matches of the program's commands ask for, or None where a word that is required is missing.
+fn request_of<'a>(alloc: Global, matches: &ArgMatches<'a>) -> Result<Option<Request<'a>>, Error>
+    ensures asked { IfOk result (λ request. option_map spec.asked request ≡ spec.asked_by (subcommand_rows_of matches.now)) }
+    ensures refused { IfErr result (λ error. is_some (spec.asked_by (subcommand_rows_of matches.now)) ≡ true
+        → kind_of error ≡ OutOfMemory) }
+{
+    match matches.subcommand() {
+        Some((name, given)) => command_request(alloc, name, given),
+        None => Ok(Some(Request::Joined)),
+    }
+}
+
+/// The refusal of a command line that lacks a word that is required.
+fn refuse_missing(alloc: Global) -> Result<Error, NoMemory> {
+    pbx_command(alloc)?.error(
+        ErrorKind::MissingRequiredArgument,
+        "one or more required arguments were not provided",
+    )
+}
+
+/// What `clap` makes of the words.
+fn read_matches<'a>(alloc: Global, words: &'a [String]) -> Result<ArgMatches<'a>, Error>
+    ensures command { IfOk result (λ matches. subcommand_rows_of matches ≡ subcommand_of spec.pbx_app (spec.texts words.now)) }
+    ensures refused { IfErr result (λ error. takes spec.pbx_app (spec.texts words.now) ≡ true → kind_of error ≡ OutOfMemory) }
+{
+    let commands = pbx_command(alloc)?;
+    commands.try_get_matches_from(words)
+}
+
 /// What a command line asks for, the program's own name first among its words; or the help that it asks for, or what is
 /// wrong with it.
-pub fn read_words<'a>(alloc: Global, words: &'a [String]) -> Result<Request<'a>, Error> {
-    let matches = pbx_command(alloc)?.try_get_matches_from(words)?;
-    let Some((name, given)) = matches.subcommand() else {
-        return Ok(Request::Joined);
-    };
-    match request_of(alloc, name, given)? {
+#[tactic(auto, unfolding(crate::specs::CommandLine::asked_of))]
+pub fn read_words<'a>(alloc: Global, words: &'a [String]) -> Result<Request<'a>, Error>
+    ensures asked { IfOk result (λ request. spec.asked_of (spec.texts words.now) ≡ Some (spec.asked request)) }
+    ensures refused { IfErr result (λ error. takes spec.pbx_app (spec.texts words.now) ≡ true
+        → is_some (spec.asked_of (spec.texts words.now)) ≡ true → kind_of error ≡ OutOfMemory) }
+{
+    let matches = read_matches(alloc, words)?;
+    match request_of(alloc, &matches)? {
         Some(request) => Ok(request),
-        None => Err(pbx_command(alloc)?.error(
-            ErrorKind::MissingRequiredArgument,
-            "one or more required arguments were not provided",
-        )?),
+        None => Err(refuse_missing(alloc)?),
     }
 }

@@ -1,0 +1,32 @@
+-- Command lines, computed on the definition.
+use Rattle.std.proofs.Common.{◌≡◌, [], ◌∷◌, Some, None, codes, refl}
+use Rattle.clap.proofs.OnLiterals.{clap_on_literals}
+use Rattle.pbx.specs.CommandLine.{asked_of, joined, check, matching, run}
+
+no_command : asked_of (codes "pbx" ∷ []) ≡ Some joined
+unfolding clap_on_literals asked_of
+no_command = refl
+
+checked : asked_of (codes "pbx" ∷ codes "check" ∷ codes "a.conf" ∷ []) ≡ Some (check (codes "a.conf"))
+unfolding clap_on_literals asked_of
+checked = refl
+
+matched : asked_of (codes "pbx" ∷ codes "match" ∷ codes "a.conf" ∷ codes "main" ∷ codes "555-1234" ∷ []) ≡ Some (matching (codes "a.conf") (codes "main") (codes "555-1234") 1)
+unfolding clap_on_literals asked_of
+matched = refl
+
+matched_at : asked_of (codes "pbx" ∷ codes "match" ∷ codes "a.conf" ∷ codes "main" ∷ codes "5" ∷ codes "07" ∷ []) ≡ Some (matching (codes "a.conf") (codes "main") (codes "5") 7)
+unfolding clap_on_literals asked_of
+matched_at = refl
+
+matched_nowhere : asked_of (codes "pbx" ∷ codes "match" ∷ codes "a.conf" ∷ codes "main" ∷ codes "5" ∷ codes "0" ∷ []) ≡ None
+unfolding clap_on_literals asked_of
+matched_nowhere = refl
+
+matched_dashes : asked_of (codes "pbx" ∷ codes "match" ∷ codes "--" ∷ codes "a.conf" ∷ codes "-in-" ∷ codes "-1" ∷ []) ≡ Some (matching (codes "a.conf") (codes "-in-") (codes "-1") 1)
+unfolding clap_on_literals asked_of
+matched_dashes = refl
+
+ran : asked_of (codes "pbx" ∷ codes "run" ∷ codes "a.conf" ∷ codes "b.script" ∷ []) ≡ Some (run (codes "a.conf") (codes "b.script"))
+unfolding clap_on_literals asked_of
+ran = refl
