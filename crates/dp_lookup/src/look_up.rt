@@ -25,7 +25,7 @@ fn has_label(entry: &Entry, label: &[u8]) -> bool
     ensures { IsTrue result ↔ (entry.now.label ≡ Some label.now) }
 {
     match &entry.label {
-        Some(own) => own.bytes() == label,
+        Some(entry_label) => entry_label.bytes() == label,
         None => false,
     }
 }
@@ -40,11 +40,7 @@ fn is_asked(question: Question<'_>, text: &[u8], entry: &Entry) -> bool
             entry.priority.get() == priority && matches(&entry.name, text)
         }
         Question::Label(label) => has_label(entry, label) && matches(&entry.name, text),
-        Question::More => {
-            // Some text means the name, so how far it takes the text decides whether it goes on.
-            let _parts = entry.name.parts();
-            entry.priority.get() == 1 && could_match_more(&entry.name, text)
-        }
+        Question::More => entry.priority.get() == 1 && could_match_more(&entry.name, text),
     }
 }
 

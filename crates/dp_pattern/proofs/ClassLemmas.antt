@@ -7,7 +7,8 @@ use Rattle.std.proofs.lemmas.Nat.Bits.{bit_at-zero}
 use Rattle.dp_pattern.specs.Name.{is_one_of}
 use Rattle.dp_pattern.specs.Classes.{byte_count, class_by, has_bit}
 
-filter_range-same : (p q : ℕ → Bool) (low n : ℕ) → ((b : ℕ) → low ≤ b → b < low + n → p b ≡ q b) → filter p (range_with_len low n) ≡ filter q (range_with_len low n)
+-- two tests that agree on each number of a range let the same ones pass
+pub filter_range-same : (p q : ℕ → Bool) (low n : ℕ) → ((b : ℕ) → low ≤ b → b < low + n → p b ≡ q b) → filter p (range_with_len low n) ≡ filter q (range_with_len low n)
 filter_range-same p q low zero same = refl
 filter_range-same p q low (suc n) same =
     let here : p low ≡ q low = same low (omega arith) (omega arith) in
@@ -19,7 +20,8 @@ pub class_by-same : (p q : ℕ → Bool) → ((b : ℕ) → b < 256 → p b ≡ 
 unfolding byte_count
 class_by-same p q same = filter_range-same p q 0 256 (λ b _ below. same b below)
 
-filter_range-none : (low n : ℕ) → filter (λ _. false) (range_with_len low n) ≡ []
+-- where no number passes, none is left
+pub filter_range-none : (low n : ℕ) → filter (λ _. false) (range_with_len low n) ≡ []
 filter_range-none low zero = refl
 filter_range-none low (suc n) = filter_range-none (low + 1) n
 

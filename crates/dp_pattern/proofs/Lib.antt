@@ -10,6 +10,7 @@ pub mod WalkLemmas
 pub mod MemberLemmas
 pub mod NameLemmas
 pub mod MeaningLemmas
+pub mod WordLemmas
 mod MatchRows
 mod NameRows
 pub mod SetLemmas

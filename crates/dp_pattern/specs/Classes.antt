@@ -1,5 +1,5 @@
 -- A class is a finite set of bytes, written as its members in byte order.
-use Rattle.std.specs.Prelude.{ℕ, ◌/◌, ◌%◌, Bool, ◌==◌, List, slice_index}
+use Rattle.std.specs.Prelude.{ℕ, ◌-◌, ◌/◌, ◌%◌, Bool, ◌==◌, List, slice_index}
 use Rattle.std.specs.List.{filter, range_with_len}
 use Rattle.std.specs.Int.{bit_at}
 
@@ -18,3 +18,11 @@ has_bit words b = bit_at (slice_index words (b / 64)) (b % 64) == 1
 -- the members of a class that is kept as one bit for each byte
 abbrev pub members_of : List ℕ → List ℕ
 members_of words = class_by (has_bit words)
+
+-- how many bytes one word stands for
+unfoldable pub word_bytes : ℕ
+word_bytes = 64
+
+-- the members of a class among the bytes that one word stands for, from a first one on
+abbrev pub members_in : ℕ → ℕ → List ℕ
+members_in word first = filter (λ b. bit_at word (b - first) == 1) (range_with_len first word_bytes)

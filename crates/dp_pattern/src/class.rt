@@ -1,9 +1,9 @@
 //! A class: a finite set of bytes, kept as one bit for each byte.
-ghost use Rattle.std.specs.Prelude.{◌≡◌, ◌↔◌, ℕ, ◌<◌, ◌==◌, ◌||◌, ◌&&◌, nat_le, ◌≤◌, [], ◌∷◌, ◌++◌, length, codes, Contains, None, IsTrue, MatchOption, OnOk};
+ghost use Rattle.std.specs.Prelude.{◌≡◌, ◌↔◌, ℕ, ◌+◌, ◌<◌, ◌==◌, ◌||◌, ◌&&◌, nat_le, ◌≤◌, [], ◌∷◌, ◌++◌, length, codes, Contains, None, IsTrue, MatchOption, OnOk};
 ghost use Rattle.std.specs.Int.{bit_at};
 ghost use Rattle.std.specs.Ordering.{nat_cmp};
 ghost use Rattle.std.specs.Cmp.Lexicographic.{slice_cmp};
-ghost use Rattle.dp_pattern.specs.Classes.{has_bit, class_by, members_of};
+ghost use Rattle.dp_pattern.specs.Classes.{has_bit, class_by, members_of, members_in};
 ghost use Rattle.dp_pattern.specs.Order.{class_cmp};
 ghost use Rattle.dp_pattern.specs.Name.{is_one_of, class_of, class_of_set, items_of, item_fault, lists, is_bad, is_range};
 
@@ -232,10 +232,8 @@ fn size(words: &[u64; 4]) -> usize
     ensures { result ≡ length (members_of words.now) }
 {
     let mut count = 0;
-    for byte in 0..256 {
-        if has(words, byte) {
-            count += 1;
-        }
+    for word in words {
+        count += word.count_ones() as usize;
     }
     count
 }
@@ -273,14 +271,26 @@ pub fn compare_classes(left: &Class, right: &Class) -> Ordering
     compare_members(&left.words, &right.words)
 }
 
+// Adds the members among the 64 bytes from the first on, which the word stands for, in byte order.
+fn push_word(word: u64, first: u8, bytes: &mut Vec<u8>) -> Result<(), AllocError>
+    requires { first + 64 ≤ 256 }
+    ensures { OnOk result (bytes.new.items ≡ bytes.old.items ++ members_in word first) }
+{
+    let mut left = word;
+    while left != 0 {
+        let lowest = left.trailing_zeros();
+        bytes.push(first + lowest as u8)?;
+        left &= !(1 << lowest);
+    }
+    Ok(())
+}
+
 // Adds the members of the class to the bytes, in byte order.
 fn push_members(words: &[u64; 4], bytes: &mut Vec<u8>) -> Result<(), AllocError>
     ensures { OnOk result (bytes.new.items ≡ bytes.old.items ++ members_of words.now) }
 {
-    for byte in 0..256 {
-        if has(words, byte) {
-            bytes.push(byte as u8)?;
-        }
+    for place in 0..4 {
+        push_word(words[usize::from(place)], 64 * place, bytes)?;
     }
     Ok(())
 }

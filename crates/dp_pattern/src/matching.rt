@@ -1,6 +1,7 @@
 //! Matching of dialled text against names.
 ghost use Rattle.std.specs.Prelude.{◌≡◌, ◌↔◌, IsTrue};
 ghost use Rattle.dp_pattern.specs.Dashes.{undashed};
+ghost use Rattle.dp_pattern.specs.Name.{IsName};
 ghost use Rattle.dp_pattern.specs.Walk.{tail_allows, is_match, goes_on, walk_of};
 ghost use Rattle.dp_pattern.specs.Matches.{Matches};
 ghost use Rattle.dp_pattern.specs.GoesOn.{GoesOn};
@@ -55,7 +56,8 @@ pub fn matches(name: &Name, text: &[u8]) -> bool
 /// Whether some ending of one or more bytes other than `-` makes the text match the name, which
 /// has no tail `!`: a caller who dials so far may go on. This is the program's own choice.
 pub fn could_match_more(name: &Name, text: &[u8]) -> bool
-    ensures { IsTrue result ↔ GoesOn name.now text.now }
+    ensures more { IsTrue result ↔ GoesOn name.now text.now }
+    ensures named { IsName name.now }
 {
     let (walk, tail) = walk_name(name, text);
     goes_on(walk, tail)

@@ -15,4 +15,4 @@ returns-then-has_label-clause-value c =
 pub returns-then-get-eq1-clause-value : goal.returns-then-get-eq1-clause-value
 returns-then-get-eq1-clause-value c =
     asks-more c.args.question c.args.text.now c.args.entry.now c.could_match_more.result c.in-More.is
-    (sym c.get-in-More.ensures.number ∙ c.if-get-eq1.true) c.parts-parts.ensures.named c.could_match_more.ensures
+    (sym c.get-in-More.ensures.number ∙ c.if-get-eq1.true) c.could_match_more.ensures.named c.could_match_more.ensures.more
