@@ -5,6 +5,7 @@ ghost use Rattle.std.specs.Cmp.Lexicographic.{pointwise, nat_list_eq_equiv};
 ghost use Rattle.std.specs.Cmp.{partial_equiv_from_equiv};
 ghost use Rattle.std.specs.Cmp.Rules.{hashing};
 ghost use Rattle.std.proofs.Common.{rules};
+ghost use Rattle.bstr.specs.Show.{debug_text};
 ghost use Rattle.dp_conf.specs.Printed.{printed_text};
 
 use bstr::BStr;
@@ -87,6 +88,8 @@ impl Hash for Text {
 }
 
 impl fmt::Debug for Text {
+    ghost debug_output = { λ text. debug_text text };
+
     fn fmt<W: fmt::Write>(&self, f: &mut fmt::Formatter<W>) -> fmt::Result {
         fmt::Debug::fmt(&BStr::new(self.bytes()), f)
     }
