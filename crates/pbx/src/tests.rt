@@ -1,8 +1,10 @@
 mod codes;
 mod commands;
 mod faulty;
+mod folder;
 mod joined;
 mod lookups;
+mod mistakes;
 mod render;
 mod reports;
 mod rows;
