@@ -4,8 +4,6 @@
 mod cut;
 mod fault;
 mod lines;
-#[cfg(test)]
-mod tests;
 mod text;
 mod told;
 mod whole;

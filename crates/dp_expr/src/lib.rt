@@ -21,8 +21,6 @@ mod operation;
 mod operator;
 mod place;
 mod stack;
-#[cfg(test)]
-mod tests;
 mod text;
 mod token;
 mod walk;

@@ -4,8 +4,6 @@
 
 mod look_up;
 mod order;
-#[cfg(test)]
-mod tests;
 mod visit;
 
 pub use dp_plan::{Dialplan, EntryId, NoMemory, Text};

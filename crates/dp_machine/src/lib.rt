@@ -9,8 +9,6 @@ mod machine;
 mod refusal;
 mod reply;
 mod step;
-#[cfg(test)]
-mod tests;
 
 pub use channel::{Channel, Phase, Place};
 pub use dp_plan::{Dialplan, EntryId, NoMemory, Text};

@@ -23,8 +23,6 @@ mod order;
 mod reading;
 mod spelling;
 mod tail;
-#[cfg(test)]
-mod tests;
 mod walk;
 
 pub use class::{Class, compare_classes};

@@ -17,8 +17,6 @@ mod priority;
 mod ranking;
 mod reader;
 mod section;
-#[cfg(test)]
-mod tests;
 
 pub use context::Context;
 pub use dp_conf::{ConfFault, LineKind, NoMemory, Text};

@@ -1,0 +1,101 @@
+//! Texts with their arguments, worked out by hand from the rules.
+use crate::table::{Question, bytes_of, check};
+use dp_conf::{NoMemory, split_args, trim};
+use std::alloc::Global;
+use std::test::Fail;
+
+/// Adds each byte as the character of its number.
+pub(super) fn push_bytes(out: &mut String, bytes: &[u8]) -> Result<(), NoMemory> {
+    for byte in bytes {
+        out.push(char::from(*byte))?;
+    }
+    Ok(())
+}
+
+/// Arguments stand between bars.
+const ARGUMENTS: &str = r#"
+→||
+ \t →||
+a→|a|
+ a b →|a b|
+a,b→|a|b|
+ a , b →|a|b|
+,→|||
+,,→||||
+a,→|a||
+,a→||a|
+(a,b)→|(a,b)|
+a(b,c),d→|a(b,c)|d|
+((a,b),c),d→|((a,b),c)|d|
+(a,b→|(a,b|
+a),b→|a)|b|
+),(,),→|)|(,)||
+))(a,b),c→|))(a,b)|c|
+a)(,b→|a)(,b|
+()(),()→|()()|()|
+a"b,c"→|a"b|c"|
+[a,b]→|[a|b]|
+a\\,b→|a\\|b|
+q,c,,,30→|q|c|||30|
+main,s,1(x,y)→|main|s|1(x,y)|
+a\n,\nb→|a\n|\nb|
+( , ) , ( , )→|( , )|( , )|
+"#;
+
+fn push_arguments(out: &mut String, arguments: &[&[u8]]) -> Result<(), NoMemory> {
+    out.push('|')?;
+    for argument in arguments {
+        push_bytes(out, argument)?;
+        out.push('|')?;
+    }
+    Ok(())
+}
+
+struct Arguments;
+
+impl Question for Arguments {
+    fn answer(alloc: Global, asked: &str) -> Result<String, Fail> {
+        let text = bytes_of(alloc, asked)?;
+        let arguments = split_args(alloc, &text)?;
+        let mut out = String::new(alloc);
+        push_arguments(&mut out, &arguments)?;
+        Ok(out)
+    }
+}
+
+#[test]
+fn texts_have_these_arguments(rt: HostRuntime) -> Result<(), Fail> {
+    check::<Arguments>(&rt, rt.alloc(), ARGUMENTS)
+}
+
+/// Blanks are bytes of 32 or less, but the line feed.
+const TRIMMED: &str = r"
+→
+ →
+\x00\x01\x09\x0B\x1F\x20→
+a→a
+ a→a
+a\r→a
+\ta b\t→a b
+\n→\n
+ \n →\n
+\na\n→\na\n
+ \xFF →ÿ
+! \x7F→! \x7F
+";
+
+struct Trimmed;
+
+impl Question for Trimmed {
+    fn answer(alloc: Global, asked: &str) -> Result<String, Fail> {
+        let text = bytes_of(alloc, asked)?;
+        let mut out = String::new(alloc);
+        push_bytes(&mut out, trim(&text))?;
+        Ok(out)
+    }
+}
+
+#[test]
+fn texts_are_trimmed_so(rt: HostRuntime) -> Result<(), Fail> {
+    check::<Trimmed>(&rt, rt.alloc(), TRIMMED)
+}

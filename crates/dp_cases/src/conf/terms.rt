@@ -1,0 +1,110 @@
+//! Words, numbers and texts cut once, worked out by hand from the rules.
+use crate::conf::args::push_bytes;
+use crate::table::{Question, bytes_of, check};
+use dp_conf::{NoMemory, cut_once, read_number, same_word};
+use std::alloc::Global;
+use std::test::Fail;
+
+/// Whether the words on both sides of a bar are the same, asked in both orders.
+struct Words;
+
+impl Question for Words {
+    fn answer(alloc: Global, asked: &str) -> Result<String, Fail> {
+        let (left, right) = asked.split_once('|').ok_or("no two words")?;
+        let left = bytes_of(alloc, left)?;
+        let right = bytes_of(alloc, right)?;
+        let mut out = String::new(alloc);
+        match (same_word(&left, &right), same_word(&right, &left)) {
+            (true, true) => out.push_str("same")?,
+            (false, false) => out.push_str("other")?,
+            _ => out.push_str("two answers")?,
+        }
+        Ok(out)
+    }
+}
+
+const WORDS: &str = r"
+|→same
+general|general→same
+GeNeRaL|general→same
+general|general →other
+general|globals→other
+[|{→other
+@|`→other
+\xC4|\xE4→other
+";
+
+#[test]
+fn words_are_the_same_but_for_case(rt: HostRuntime) -> Result<(), Fail> {
+    check::<Words>(&rt, rt.alloc(), WORDS)
+}
+
+struct Number;
+
+impl Question for Number {
+    fn answer(alloc: Global, asked: &str) -> Result<String, Fail> {
+        let mut out = String::new(alloc);
+        match read_number(asked.as_bytes()) {
+            Some(number) => write!(out, "{number}")?,
+            None => out.push_str("none")?,
+        }
+        Ok(out)
+    }
+}
+
+const NUMBERS: &str = r"
+→none
+0→0
+7→7
+01→1
+000000000000000000000000000000012→12
+2147483648→2147483648
+18446744073709551615→18446744073709551615
+18446744073709551616→18446744073709551615
+99999999999999999999999999999999999999999→18446744073709551615
++1→none
+-1→none
+1 →none
+1a→none
+";
+
+#[test]
+fn texts_write_these_numbers(rt: HostRuntime) -> Result<(), Fail> {
+    check::<Number>(&rt, rt.alloc(), NUMBERS)
+}
+
+fn push_cut(out: &mut String, cut: Option<(&[u8], &[u8])>) -> Result<(), NoMemory> {
+    match cut {
+        Some((before, behind)) => {
+            push_bytes(out, before)?;
+            out.push('|')?;
+            push_bytes(out, behind)
+        }
+        None => out.push_str("none"),
+    }
+}
+
+/// What stands before and behind the first comma.
+struct Cut;
+
+impl Question for Cut {
+    fn answer(alloc: Global, asked: &str) -> Result<String, Fail> {
+        let mut out = String::new(alloc);
+        push_cut(&mut out, cut_once(asked.as_bytes(), b','))?;
+        Ok(out)
+    }
+}
+
+const CUTS: &str = r"
+→none
+ab→none
+,→|
+a,b→a|b
+a,b,c→a|b,c
+ a , → a |\x20
+";
+
+#[test]
+fn a_text_is_cut_at_the_first_such_byte(rt: HostRuntime) -> Result<(), Fail> {
+    check::<Cut>(&rt, rt.alloc(), CUTS)
+}

@@ -1,0 +1,19 @@
+//! Cases of the crates below, as tables with their answers.
+//!
+//! A crate with tests is proved twice, so the cases of the libraries stand here, where each is proved once.
+#![tactic(auto)]
+
+#[cfg(test)]
+mod conf;
+#[cfg(test)]
+mod expr;
+#[cfg(test)]
+mod lookup;
+#[cfg(test)]
+mod machine;
+#[cfg(test)]
+mod pattern;
+#[cfg(test)]
+mod plan;
+#[cfg(test)]
+mod table;

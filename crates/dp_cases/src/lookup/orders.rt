@@ -1,0 +1,81 @@
+//! Search orders of small dialplans, worked out by hand from the rules.
+ghost use Rattle.std.specs.Prelude.{◌≤◌};
+ghost use Rattle.dp_lookup.specs.SearchOrder.{context_count};
+
+use crate::lookup::render::push_order;
+use dp_lookup::{Dialplan, SearchOrder, Text, visit_is_the_visit};
+use std::alloc::Global;
+use std::process::Abort;
+use std::test::Fail;
+
+/// `a` includes `b` and `c`, which include `d`; `e` and `f` include each other and themselves, and a context that there
+/// is not; `g` includes nothing.
+const PLAN: &[u8] = b"[a]\ninclude => b\ninclude => c\n[b]\ninclude => d\n\
+[c]\ninclude => d\ninclude => b\ninclude => a\n[d]\n\
+[e]\ninclude => e\ninclude => x\ninclude => f\ninclude => f\n\
+[f]\ninclude => f\ninclude => e\ninclude => g\n[g]\n";
+
+/// A context, and the names of the contexts of its order, each before a blank.
+const ORDERS: [(&[u8], &str); 9] = [
+    (b"a", "a b d c "),
+    (b"b", "b d "),
+    (b"c", "c d b a "),
+    (b"d", "d "),
+    (b"e", "e f g "),
+    (b"f", "f e g "),
+    (b"g", "g "),
+    (b"x", ""),
+    (b"A", ""),
+];
+
+#[test]
+fn orders_are_depth_first(rt: HostRuntime) -> Result<(), Fail> {
+    visit_is_the_visit();
+    let (plan, _) = Dialplan::load(rt.alloc(), PLAN)?;
+    for (context, want) in ORDERS {
+        let context = Text::copy_of(rt.alloc(), context)?;
+        let order = SearchOrder::of(rt.alloc(), &plan, &context)?;
+        let mut got = String::new(rt.alloc());
+        push_order(&mut got, &plan, &order)?;
+        assert_eq!(rt; got.as_str(), want, "of {context}");
+    }
+    Ok(())
+}
+
+/// Fills the order again and again, and holds it against the one that is wanted.
+fn refill(
+    rt: &impl Abort,
+    alloc: Global,
+    plan: &Dialplan,
+    order: &mut SearchOrder,
+) -> Result<(), Fail>
+    requires { context_count plan.now ≤ order.old.room }
+{
+    for number in [0, 2, 2, 4, 5, 7, 0, 8, 8, 3, 1, 6, 0] {
+        let (context, want) = ORDERS[number];
+        let context = Text::copy_of(alloc, context)?;
+        order.fill(plan, &context);
+        let mut got = String::new(alloc);
+        push_order(&mut got, plan, order)?;
+        assert_eq!(rt; got.as_str(), want, "of {context}");
+    }
+    Ok(())
+}
+
+/// An order holds nothing of what stood in it before.
+#[test]
+fn an_order_is_filled_again(rt: HostRuntime) -> Result<(), Fail> {
+    let (plan, _) = Dialplan::load(rt.alloc(), PLAN)?;
+    let mut order = SearchOrder::room(rt.alloc(), &plan)?;
+    assert_eq!(rt; order.contexts().len(), 0);
+    refill(&rt, rt.alloc(), &plan, &mut order)
+}
+
+#[test]
+fn an_empty_dialplan_has_empty_orders(rt: HostRuntime) -> Result<(), Fail> {
+    let (plan, _) = Dialplan::load(rt.alloc(), b"")?;
+    let context = Text::copy_of(rt.alloc(), b"main")?;
+    let order = SearchOrder::of(rt.alloc(), &plan, &context)?;
+    assert_eq!(rt; order.contexts().len(), 0);
+    Ok(())
+}

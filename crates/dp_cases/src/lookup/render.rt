@@ -1,0 +1,125 @@
+//! Dialplans that are asked the questions of a table, and their answers as text.
+use dp_lookup::{
+    Dialplan, EntryId, NoMemory, SearchOrder, Text, could_be_more, exists, find, find_label,
+};
+use std::alloc::Global;
+use std::process::Abort;
+use std::test::Fail;
+
+fn push_entry(out: &mut String, plan: &Dialplan, id: EntryId) -> Result<(), NoMemory> {
+    match (plan.contexts().get(id.context), plan.entry(id)) {
+        (Some(context), Some(entry)) => write!(out, "{} {}", context.name(), entry.application),
+        _ => out.push_str("an entry that is not there"),
+    }
+}
+
+fn push_found(
+    out: &mut String,
+    plan: &Dialplan,
+    order: &SearchOrder,
+    text: &[u8],
+    priority: u32,
+) -> Result<(), NoMemory> {
+    match find(plan, order, text, priority) {
+        Some(id) if exists(plan, order, text, priority) => push_entry(out, plan, id),
+        None if !exists(plan, order, text, priority) => out.push_str("none"),
+        _ => out.push_str("two answers"),
+    }
+}
+
+fn push_label(out: &mut String, found: Option<u32>) -> Result<(), NoMemory> {
+    match found {
+        Some(priority) => write!(out, "{priority}"),
+        None => out.push_str("none"),
+    }
+}
+
+fn push_answer(
+    out: &mut String,
+    plan: &Dialplan,
+    order: &SearchOrder,
+    asked: &str,
+) -> Result<(), Fail> {
+    let (word, rest) = asked.split_once(' ').ok_or("no question")?;
+    if word == "more" {
+        out.push_str(if could_be_more(plan, order, rest.as_bytes()) {
+            "more"
+        } else {
+            "no more"
+        })?;
+        return Ok(());
+    }
+    let (text, other) = rest.split_once(',').ok_or("no text")?;
+    match word {
+        "find" => {
+            let priority = other.parse::<u32>().ok().ok_or("no priority")?;
+            push_found(out, plan, order, text.as_bytes(), priority)?;
+        }
+        "label" => {
+            push_label(
+                out,
+                find_label(plan, order, text.as_bytes(), other.as_bytes()),
+            )?;
+        }
+        _ => out.push_str("no such question")?,
+    }
+    Ok(())
+}
+
+/// The names of an order's contexts, each before a blank.
+pub(super) fn push_order(
+    out: &mut String,
+    plan: &Dialplan,
+    order: &SearchOrder,
+) -> Result<(), NoMemory> {
+    for number in order.contexts() {
+        match plan.contexts().get(*number) {
+            Some(context) => write!(out, "{} ", context.name())?,
+            None => out.push_str("a context that is not there ")?,
+        }
+    }
+    Ok(())
+}
+
+fn answer(
+    alloc: Global,
+    plan: &Dialplan,
+    order: &SearchOrder,
+    asked: &str,
+) -> Result<String, Fail> {
+    let mut out = String::new(alloc);
+    push_answer(&mut out, plan, order, asked)?;
+    Ok(out)
+}
+
+fn check_rows(
+    rt: &impl Abort,
+    alloc: Global,
+    plan: &Dialplan,
+    order: &SearchOrder,
+    rows: &str,
+) -> Result<(), Fail> {
+    for row in rows.lines() {
+        let (asked, want) = row.split_once('→').ok_or("no answer")?;
+        let got = answer(alloc, plan, order, asked)?;
+        assert_eq!(rt; got.as_str(), want, "{asked}");
+    }
+    Ok(())
+}
+
+/// Loads the dialplan, and holds each answer from the context against the one that is wanted.
+///
+/// A row is a question, an arrow and the answer: `find TEXT,PRIORITY` is `CONTEXT APPLICATION` or `none`,
+/// `label TEXT,LABEL` the priority or `none`, and `more TEXT` is `more` or `no more`.
+pub(super) fn check(
+    rt: &impl Abort,
+    alloc: Global,
+    text: &[u8],
+    context: &[u8],
+    rows: &str,
+) -> Result<(), Fail> {
+    let (plan, _) = Dialplan::load(alloc, text)?;
+    let context = Text::copy_of(alloc, context)?;
+    let order = SearchOrder::of(alloc, &plan, &context)?;
+    check_rows(rt, alloc, &plan, &order, rows)
+}

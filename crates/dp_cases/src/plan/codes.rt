@@ -1,0 +1,114 @@
+//! The numbers and the printed names of faults and notes.
+use dp_plan::{ConfFault, LineKind, LoadFault, NameFault, NoteKind, PlanKind, Word};
+use std::test::Fail;
+
+#[test]
+fn faults_have_these_codes(rt: HostRuntime) {
+    let kinds = [
+        (PlanKind::BadPriority, 20, "BadPriority"),
+        (PlanKind::NoPrevious, 21, "NoPrevious"),
+        (PlanKind::BadLabel, 22, "BadLabel"),
+        (PlanKind::BadApplication, 23, "BadApplication"),
+        (PlanKind::LeftOut(Word::Switch), 24, "LeftOut"),
+        (PlanKind::LeftOut(Word::IgnorePat), 24, "LeftOut"),
+        (PlanKind::LeftOut(Word::Hint), 24, "LeftOut"),
+        (PlanKind::LeftOut(Word::CallerId), 24, "LeftOut"),
+        (PlanKind::LeftOut(Word::IncludeTimes), 24, "LeftOut"),
+        (PlanKind::LeftOut(Word::Variable), 24, "LeftOut"),
+        (PlanKind::LeftOut(Word::OldForm), 24, "LeftOut"),
+        (PlanKind::LeftOut(Word::PriorityWord), 24, "LeftOut"),
+        (PlanKind::NoExten, 26, "NoExten"),
+        (PlanKind::PriorityLimit, 27, "PriorityLimit"),
+        (PlanKind::ShortLine, 28, "ShortLine"),
+        (PlanKind::NotYet, 29, "NotYet"),
+    ];
+    for (kind, code, name) in kinds {
+        assert_eq!(rt; kind.code(), code);
+        assert_eq!(rt; kind.name(), name);
+    }
+}
+
+/// The faults of names are those of the crate that reads them.
+#[test]
+fn faults_of_names_have_these_codes(rt: HostRuntime) {
+    let faults = [
+        (NameFault::EmptyName, 10, "EmptyName"),
+        (NameFault::EmptySet, 11, "EmptySet"),
+        (NameFault::BadRange, 12, "BadRange"),
+        (NameFault::OpenSet, 13, "OpenSet"),
+        (NameFault::AfterWildcard, 14, "AfterWildcard"),
+        (NameFault::BadByte, 15, "BadByte"),
+    ];
+    for (fault, code, name) in faults {
+        assert_eq!(rt; fault.code(), code);
+        assert_eq!(rt; fault.name(), name);
+    }
+}
+
+#[test]
+fn words_are_named_so(rt: HostRuntime) -> Result<(), Fail> {
+    let words = [
+        (Word::Switch, "Switch"),
+        (Word::IgnorePat, "IgnorePat"),
+        (Word::Hint, "Hint"),
+        (Word::CallerId, "CallerId"),
+        (Word::IncludeTimes, "IncludeTimes"),
+        (Word::Variable, "Variable"),
+        (Word::OldForm, "OldForm"),
+        (Word::PriorityWord, "PriorityWord"),
+    ];
+    for (word, want) in words {
+        let printed = format!(in rt.alloc(); "{word:?}")?;
+        assert_eq!(rt; printed.as_str(), want);
+    }
+    Ok(())
+}
+
+#[test]
+fn notes_have_these_names(rt: HostRuntime) {
+    let kinds = [
+        (NoteKind::DoublePriority, "DoublePriority"),
+        (NoteKind::DoubleLabel, "DoubleLabel"),
+        (NoteKind::UnknownContext, "UnknownContext"),
+        (NoteKind::UnknownKey, "UnknownKey"),
+    ];
+    for (kind, name) in kinds {
+        assert_eq!(rt; kind.name(), name);
+    }
+}
+
+#[test]
+fn faults_are_printed_so(rt: HostRuntime) -> Result<(), Fail> {
+    let of_text = LoadFault::Conf(ConfFault::At {
+        line: 12,
+        kind: LineKind::NoEquals,
+    });
+    let of_name = LoadFault::Pattern {
+        line: 7,
+        fault: NameFault::AfterWildcard,
+    };
+    let of_context = LoadFault::Plan {
+        line: 3,
+        kind: PlanKind::LeftOut(Word::Hint),
+    };
+    let printed = format!(in rt.alloc();
+        "{of_text}, {of_name}, {of_context}, {}",
+        LoadFault::NoMemory
+    )?;
+    assert_eq!(rt;
+        printed.as_str(),
+        "NoEquals line 12, AfterWildcard line 7, LeftOut line 3, out of memory"
+    );
+    Ok(())
+}
+
+/// Want of memory is outermost, whichever call met it.
+#[test]
+fn want_of_memory_is_outermost(rt: HostRuntime) {
+    assert_eq!(rt; LoadFault::from(ConfFault::NoMemory), LoadFault::NoMemory);
+    let fault = ConfFault::At {
+        line: 1,
+        kind: LineKind::Directive,
+    };
+    assert_eq!(rt; LoadFault::from(fault), LoadFault::Conf(fault));
+}

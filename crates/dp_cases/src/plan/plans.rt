@@ -1,0 +1,273 @@
+//! Dialplans with what they load as, or their fault, worked out by hand from the rules.
+use crate::plan::render::Loads;
+use crate::table::check;
+use std::test::Fail;
+
+/// Sections, settings and global variables.
+const SECTIONS: &str = r"
+# Nothing to keep.
+→
+\n\n\n→
+; a comment\n \t\r\n→
+\xEF\xBB\xBF→
+[general]\nstatic=yes\nwriteprotect=no\n→
+[globals]\n→
+# Sections.
+[main]→[main]
+\xEF\xBB\xBF[main]\n→[main]
+[out]\n[main]\n→[out][main]
+[main]\n[out]\n[main]\n[out]\n→[main][out]
+[Main]\n[main]\n[MAIN]\n→[Main][main][MAIN]
+[ main ]\n[main]\n→[main]
+[two words]\n→[two words]
+[a\\;b]\n→[a;b]
+[generals]\n[global]\nA=1\n→[generals][global] note 3 UnknownKey
+# Settings are read and ignored, in any case of the section's name.
+[General]\nexten => s,1,A\n→
+[GENERAL]\nswitch => x\n=\nexten => s,0,A\nx=${Y}\nsame => n,A\n→
+[m]\n[ general ]\nexten => s,1,A\n[m]\nexten => s,2,B\n→[m]<s,2,B()>
+# Global variables.
+[globals]\nTRUNK=Line/9\n→{TRUNK=Line/9}
+[GLOBALS]\nA => 1\n[m]\n[gLoBaLs]\nB=2\n→{A=1}{B=2}[m]
+[globals]\nA=1\nA=2\nA=1\n→{A=1}{A=2}{A=1}
+[globals]\nb=1\nB=2\na=3\n→{b=1}{B=2}{a=3}
+[globals]\nA=\nB =>\n→{A=}{B=}
+[globals]\nA=b=c\nD == e\n→{A=b=c}{D== e}
+[globals]\nA=x\\;y\nB=x;y\n→{A=x;y}{B=x}
+[globals]\n=1\n→ note 2 UnknownKey
+[globals]\n=${X}\nA=1\n→{A=1} note 2 UnknownKey
+[globals]\n=\n=\n→ note 2 UnknownKey note 3 UnknownKey
+[globals]\nA=${X}\n→fault 29 line 2
+[globals]\nA=1\nB=x$[1]\n→fault 29 line 3
+[globals]\nA=$${\n→fault 29 line 2
+[globals]\nA=$X {Y} $ {Z} ]$\n→{A=$X {Y} $ {Z} ]$}
+[globals]\n${A}=1\n→{${A}=1}
+[globals]\nexten => s,1,A\nsame=1\ninclude=2\nswitch=3\n→{exten=s,1,A}{same=1}{include=2}{switch=3}
+";
+
+/// Entries, dropped lines and unknown keys, with their notes.
+const ENTRIES: &str = r"
+# Entries.
+[m]\nexten => s,1,NoOp(a)\n→[m]<s,1,NoOp(a)>
+[m]\nexten = s,1,Set(A=b)→[m]<s,1,Set(A=b)>
+[m]\nEXTEN => s,1,A\neXtEn => t,1,B\n→[m]<s,1,A()><t,1,B()>
+[m]\nexten => s,2,B\nexten => s,1,A\n→[m]<s,2,B()><s,1,A()>
+[m]\nexten => s,1,A\nexten => t,1,A\n→[m]<s,1,A()><t,1,A()>
+[m]\nexten => a,1,A\nexten => A,1,B\n→[m]<a,1,A()><A,1,B()>
+[m]\nexten => *98#,1,A\nexten => 0aZ9,1,A\n→[m]<*98#,1,A()><0aZ9,1,A()>
+[m]\nexten => 1,1,A\nexten => 01,1,B\n→[m]<1,1,A()><01,1,B()>
+[m]\nexten => next,1,A\nexten => hint,1,B\n→[m]<next,1,A()><hint,1,B()>
+# Entries of contexts with several sections.
+[a]\nexten => s,1,A\n[b]\nexten => s,1,B\n[a]\nexten => s,2,C\n→[a]<s,1,A()><s,2,C()>[b]<s,1,B()>
+[b]\n[a]\nexten => s,1,A\n[b]\nexten => s,1,B\n→[b]<s,1,B()>[a]<s,1,A()>
+[a]\nexten => s,1,A\n[globals]\nX=1\n[a]\nexten => t,1,B\n[a]\nexten => u,1,C\n→{X=1}[a]<s,1,A()><t,1,B()><u,1,C()>
+# A second line for an extension and a priority is dropped.
+[m]\nexten => s,1,A\nexten => s,1,B\n→[m]<s,1,A()> note 3 DoublePriority
+[m]\nexten => s,1,A\nexten => s,01,A\n→[m]<s,1,A()> note 3 DoublePriority
+[m]\nexten => s,1,A\nexten => s,1,B\nexten => s,1,C\n→[m]<s,1,A()> note 3 DoublePriority note 4 DoublePriority
+[m]\nexten => s,1,A\nexten => s,1,B\nexten => s,2,C\n→[m]<s,1,A()><s,2,C()> note 3 DoublePriority
+[a]\nexten => s,1,A\n[b]\nexten => s,1,B\n[a]\nexten => s,1,C\n→[a]<s,1,A()>[b]<s,1,B()> note 6 DoublePriority
+[a]\nexten => s,1,A\n[A]\nexten => s,1,B\n→[a]<s,1,A()>[A]<s,1,B()>
+[m]\nexten => s,1,A\nexten => s,1,B(\n→fault 23 line 3
+# Keys that a context does not know, and the order of notes.
+[m]\nfoo => bar\n→[m] note 2 UnknownKey
+[m]\n=bar\n→[m] note 2 UnknownKey
+[m]\nfoo => ${X}\nhint => s\n→[m] note 2 UnknownKey note 3 UnknownKey
+[m]\nextens => s,1,A\next en => s,1,A\n→[m] note 2 UnknownKey note 3 UnknownKey
+[m]\nx=1\nexten => s,1,A\nexten => s,1,B\n\ny=2\n→[m]<s,1,A()> note 2 UnknownKey note 4 DoublePriority note 6 UnknownKey
+[globals]\n=1\n[b]\nx=1\n[a]\ny=1\n[b]\nz=1\n[globals]\n=\n→[b][a] note 2 UnknownKey note 4 UnknownKey note 6 UnknownKey note 8 UnknownKey note 10 UnknownKey
+";
+
+/// Lines that are left out by their key or too short, keys beside `exten`, and names.
+const LINES: &str = r"
+# Keys that are left out, and the others that contexts have.
+[m]\nswitch => IAX2/x\n→fault 24 Switch line 2
+[m]\nSwitch =>\n→fault 24 Switch line 2
+[m]\nlswitch => x\n→fault 24 Switch line 2
+[m]\nESWITCH => x\n→fault 24 Switch line 2
+[m]\nignorepat => 9\n→fault 24 IgnorePat line 2
+[m]\nIgnorePat => ${X}\n→fault 24 IgnorePat line 2
+[m]\nsame => 1,A\n→fault 26 line 2
+[m]\nexten => s,1,A\nSAME => hint,A(\n→fault 24 Hint line 3
+[m]\ninclude => out\n→[m]{+out} note 2 UnknownContext
+[m]\nInclude =>\n→[m]{+} note 2 UnknownContext
+# Too few commas.
+[m]\nexten =>\n→fault 28 line 2
+[m]\nexten => s\n→fault 28 line 2
+[m]\nexten => a b\n→fault 28 line 2
+[m]\nexten => ${X}\n→fault 28 line 2
+[m]\nexten => s,\n→fault 28 line 2
+[m]\nexten => s,n\n→fault 28 line 2
+[m]\nexten => s,1(a)\n→fault 28 line 2
+[m]\nexten => s,hint\n→fault 28 line 2
+[m]\nexten => a b,1\n→fault 28 line 2
+[m]\nexten => ,\n→fault 28 line 2
+# Names.
+[m]\nexten => ,1,A\n→fault 10 line 2
+[m]\nexten => _X.,1,A\n→[m]<_X.,1,A()>
+[m]\nexten => 1-2,1,A\n→[m]<12,1,A()>
+[m]\nexten => s/123,1,A\n→fault 24 CallerId line 2
+[m]\nexten => ${X},1,A\n→fault 24 Variable line 2
+[m]\nexten => +1,1,A\n→[m]<+1,1,A()>
+[m]\nexten => a\\;b,1,A\n→[m]<a;b,1,A()>
+[m]\nexten => \xC3\xA9,1,A\n→[m]<é,1,A()>
+[m]\nexten => /,1,A\n→fault 24 CallerId line 2
+[m]\nexten => :,1,A\n→[m]<:,1,A()>
+[m]\nexten => @,1,A\n→[m]<@,1,A()>
+[m]\nexten => [,1,A\n→[m]<[,1,A()>
+[m]\nexten => `,1,A\n→[m]<`,1,A()>
+[m]\nexten => {,1,A\n→[m]<{,1,A()>
+";
+
+/// Lines whose arguments are not read yet, and some that have no such arguments.
+const NOT_YET: &str = r"
+# A `${` or a `$[` in arguments is asked before the other faults of its line.
+[m]\nexten => s,1,A(${X})\n→fault 29 line 2
+[m]\nexten => s,1,A(x$[1 + 1])\n→fault 29 line 2
+[m]\nexten => s,0,A(${X})\n→fault 29 line 2
+[m]\nexten => s,hint,A(${X})\n→fault 29 line 2
+[m]\nexten => s,2147483648,A($[1])\n→fault 29 line 2
+[m]\nexten => s,n,A(${X})\n→fault 29 line 2
+[m]\nexten => s,1(,A(${X})\n→fault 29 line 2
+[m]\nexten => ,1,A(${X})\n→fault 29 line 2
+[m]\nexten => _[,hint,A($[1])\n→fault 29 line 2
+[m]\nexten => ${X}/1,1,A(${X})\n→fault 29 line 2
+[m]\nsame => 1,A(${X})\n→fault 29 line 2
+[m]\nsame => n(),A(x,$[)\n→fault 29 line 2
+[m]\nexten => s,1,A\nexten => s,1,B(${X})\n→fault 29 line 3
+# A malformed application has no arguments, and a line with too few commas no application.
+[m]\nexten => s,1,A(${X}\n→fault 23 line 2
+[m]\nexten => s,1,(${X})\n→fault 23 line 2
+[m]\nexten => s,1,a,B(${X})\n→fault 24 OldForm line 2
+[m]\nexten => s,0,A(${X}\n→fault 20 line 2
+[m]\nexten => s,1(a,b),A(${X})\n→fault 22 line 2
+[m]\nexten => s,A(${X})\n→fault 28 line 2
+[m]\nsame => A(${X})\n→fault 26 line 2
+[m]\nexten => s,1,A\nsame => A(${X})\n→fault 28 line 3
+# Such bytes elsewhere in a line.
+[m]\nexten => s,1,${A}\n→[m]<s,1,${A}()>
+[m]\nexten => s,1,A${X}(y)\n→[m]<s,1,A${X}(y)>
+[m]\nexten => s,1,A($X{Y}$)\n→[m]<s,1,A($X{Y}$)>
+[m]\nexten => s,${X},A\n→fault 20 line 2
+[m]\nexten => s,1(${x}),A\n→[m]<s,1(${x}),A()>
+";
+
+/// Priorities.
+const PRIORITIES: &str = r"
+# Priorities that are left out.
+[m]\nexten => s,hint,A\n→fault 24 Hint line 2
+[m]\nexten => s,next,A\n→fault 24 PriorityWord line 2
+[m]\nexten => s,s,A\n→fault 24 PriorityWord line 2
+[m]\nexten => s,same,A\n→fault 24 PriorityWord line 2
+[m]\nexten => s,n+1,A\n→fault 24 PriorityWord line 2
+[m]\nexten => s,+1,A\n→fault 24 PriorityWord line 2
+[m]\nexten => s,+,A\n→fault 24 PriorityWord line 2
+[m]\nexten => s,0+,A(\n→fault 24 PriorityWord line 2
+# Priorities that are none, and those at the limits.
+[m]\nexten => s,0,A\n→fault 20 line 2
+[m]\nexten => s,0000000000000000000000000000000000000000,A\n→fault 20 line 2
+[m]\nexten => s,,A\n→fault 20 line 2
+[m]\nexten => s,-1,A\n→fault 20 line 2
+[m]\nexten => s,1x,A\n→fault 20 line 2
+[m]\nexten => s,1 2,A\n→fault 20 line 2
+[m]\nexten => s,N,A\n→fault 20 line 2
+[m]\nexten => s,Hint,A\n→fault 20 line 2
+[m]\nexten => s,S,A\n→fault 20 line 2
+[m]\nexten => s,nexts,A\n→fault 20 line 2
+[m]\nexten => s,1\xA0,A\n→fault 20 line 2
+[m]\nexten => s,1,A\nexten => s,2147483647,B\n→[m]<s,1,A()><s,2147483647,B()>
+[m]\nexten => s,0000000000000000000000000000000000000007,A\n→[m]<s,7,A()>
+[m]\nexten => s,2147483648,A\n→fault 27 line 2
+[m]\nexten => s,4294967297,A\n→fault 27 line 2
+[m]\nexten => s,18446744073709551617,A\n→fault 27 line 2
+[m]\nexten => s,9999999999999999999999999999999999999999,A\n→fault 27 line 2
+[m]\nexten => s,0,A(\n→fault 20 line 2
+[m]\nexten => s,2147483648,a,b\n→fault 27 line 2
+";
+
+/// Applications, and the bytes of lines.
+const APPLICATIONS: &str = r"
+# Applications.
+[m]\nexten => s,1,App\n→[m]<s,1,App()>
+[m]\nexten => s,1,App()\n→[m]<s,1,App()>
+[m]\nexten => s,1,App(a,b)\n→[m]<s,1,App(a,b)>
+[m]\nexten => s,1,App(a(b)c)\n→[m]<s,1,App(a(b)c)>
+[m]\nexten => s,1,App(()\n→[m]<s,1,App(()>
+[m]\nexten => s,1,App(a))\n→[m]<s,1,App(a))>
+[m]\nexten => s,1,App()x)\n→[m]<s,1,App()x)>
+[m]\nexten => s,1,App)\n→[m]<s,1,App)()>
+[m]\nexten => s,1,)\n→[m]<s,1,)()>
+[m]\nexten => s,1,A b(c)\n→[m]<s,1,A b(c)>
+[m]\nexten => s,1,\n→fault 23 line 2
+[m]\nexten => s,1,(\n→fault 23 line 2
+[m]\nexten => s,1,(a)\n→fault 23 line 2
+[m]\nexten => s,1,App(\n→fault 23 line 2
+[m]\nexten => s,1,App(a) b\n→fault 23 line 2
+[m]\nexten => s,1,App(a;b)\n→fault 23 line 2
+[m]\nexten => s,1,App,a\n→fault 24 OldForm line 2
+[m]\nexten => s,1,a,b(c)\n→fault 24 OldForm line 2
+[m]\nexten => s,1,,\n→fault 24 OldForm line 2
+[m]\nexten => s,1,,(\n→fault 24 OldForm line 2
+# Blanks, carriage returns, and bytes that are neither ASCII nor blank.
+\t[ m ]\t\r\n exten\t=>\ts\t,\t1\t,\tNo Op ( a )\t\r\n→[m]<s,1,No Op( a )>
+[m]\r\n\r\nexten => s , \x0b1\x00 , A\r\nexten => s,1,B\r\n→[m]<s,1,A()> note 4 DoublePriority
+[m]\rexten => s,1,A→fault 3 line 1
+[globals]\r\nA = b c \r\n→{A=b c}
+[globals]\n\xC3\xA9=\xC3\xA8\n[\xC3\xA9]\nexten => s,1,\xC3\xA9(\xC3\xA8)\n→{é=è}[é]<s,1,é(è)>
+[m]\nexten => s,1,\x7f(\x7f)\n→[m]<s,1,\x7F(\x7F)>
+";
+
+/// Texts with several faults, and a usual one.
+const WHOLE: &str = r"
+# Faults of the text come before those of a context, and of either the lowest line.
+[m]\nexten => s,0,A\nabc\n→fault 4 line 3
+[m]\nexten => _X.,1,A\n\n;-- x\n→fault 1 line 4
+[m]\nswitch => x\n[x\n→fault 3 line 3
+[globals]\nA=${X}\n#include x\n→fault 5 line 3
+[m]\nexten => s,1\n[x](+)\n#y\n→fault 6 line 3
+\n\nexten => s,0,A\n[m]\n→fault 2 line 3
+[m]\nexten => s,0,A\nexten => s,1\n→fault 20 line 2
+[m]\nexten => s,1\nexten => s,0,A\n→fault 28 line 2
+[m]\nx=1\nexten => s,1,A\nexten => s,1,B\nsame => hint,C\n→fault 24 Hint line 5
+[m]\nswitch => x\n[globals]\nA=${X}\n→fault 24 Switch line 2
+[globals]\nA=${X}\n[m]\nswitch => x\n→fault 29 line 2
+# Dropped lines leave the rest as it is.
+[m]\nx=1\nexten => s,1,A\nexten => s,1,B\nsame => n,C\n→[m]<s,1,A()><s,2,C()> note 2 UnknownKey note 4 DoublePriority
+# A usual file.
+[general]\nstatic=yes\n\n[globals]\nTRUNK=Line/9\n\n[main]\nexten => 100,1,NoOp(hello)\nexten => 100,2,Goto(200,1)\n\n[out]\nexten => 5,1,Hangup ; away\n\n[main]\nexten => 200,1,Hangup()\n→{TRUNK=Line/9}[main]<100,1,NoOp(hello)><100,2,Goto(200,1)><200,1,Hangup()>[out]<5,1,Hangup()>
+";
+
+#[test]
+fn sections_load_so(rt: HostRuntime) -> Result<(), Fail> {
+    check::<Loads>(&rt, rt.alloc(), SECTIONS)
+}
+
+#[test]
+fn entries_load_so(rt: HostRuntime) -> Result<(), Fail> {
+    check::<Loads>(&rt, rt.alloc(), ENTRIES)
+}
+
+#[test]
+fn lines_load_so(rt: HostRuntime) -> Result<(), Fail> {
+    check::<Loads>(&rt, rt.alloc(), LINES)
+}
+
+#[test]
+fn lines_are_not_read_yet(rt: HostRuntime) -> Result<(), Fail> {
+    check::<Loads>(&rt, rt.alloc(), NOT_YET)
+}
+
+#[test]
+fn priorities_load_so(rt: HostRuntime) -> Result<(), Fail> {
+    check::<Loads>(&rt, rt.alloc(), PRIORITIES)
+}
+
+#[test]
+fn applications_load_so(rt: HostRuntime) -> Result<(), Fail> {
+    check::<Loads>(&rt, rt.alloc(), APPLICATIONS)
+}
+
+#[test]
+fn whole_texts_load_so(rt: HostRuntime) -> Result<(), Fail> {
+    check::<Loads>(&rt, rt.alloc(), WHOLE)
+}

@@ -1,0 +1,418 @@
+//! The readers of a loaded dialplan, and priorities.
+use crate::plan::render::{Loads, push_label, push_name};
+use crate::table::{Question, check};
+use dp_plan::{Context, Dialplan, Entry, EntryId, MOST_PRIORITY, NoMemory, Note, Priority, Text};
+use std::alloc::Global;
+use std::test::Fail;
+
+/// Two contexts, of which the first has two sections, and the second no entry.
+const PLAN: &[u8] =
+    b"[globals]\nB=2\nA=1\nB=3\n[main]\nexten => s,1,NoOp(a,b)\nexten => s,1,Wait()\n\
+[Out]\n[main]\nexten => 100,7,Hangup\nold=x\n";
+
+/// Three contexts with patterns, labels and includes, of which the last has nothing.
+const NAMED: &[u8] = b"[main]\nexten => _1XX,2(more),Second()\nexten => _X.,1,Any(x)\n\
+exten => 1-23,1( top ),Plain()\nexten => _[1]xx,1,First()\ninclude => out\n\
+[out]\ninclude => nowhere\ninclude => main\nexten => s,1,Out()\ninclude => nowhere\n\
+[Out]\n[main]\ninclude => main\nexten => 123,1(more),Again()\nexten => _1XX,3(more),Third()\n";
+
+/// The empty name may be included, and is no context.
+const EMPTY: &[u8] = b"[m]\ninclude =>\nexten => s,1,A\n";
+
+/// An entry as its name, its priority with the label, its application and its arguments, or `none`.
+fn push_found(out: &mut String, alloc: Global, found: Option<&Entry>) -> Result<(), NoMemory> {
+    match found {
+        None => out.push_str("none"),
+        Some(entry) => {
+            push_name(out, alloc, &entry.name)?;
+            write!(out, " {}", entry.priority.get())?;
+            push_label(out, &entry.label)?;
+            write!(out, " {} ({})", entry.application, entry.arguments)
+        }
+    }
+}
+
+fn push_number(out: &mut String, number: Option<usize>) -> Result<(), NoMemory> {
+    match number {
+        Some(number) => write!(out, "{number}"),
+        None => out.push_str("none"),
+    }
+}
+
+/// Names of contexts, each as `{+NAME}`.
+fn push_includes(out: &mut String, includes: &[Text]) -> Result<(), NoMemory> {
+    for name in includes {
+        write!(out, "{{+{name}}}")?;
+    }
+    Ok(())
+}
+
+/// Numbers of entries, each as `<CONTEXT,ENTRY>`.
+fn push_ids(out: &mut String, ids: &[EntryId]) -> Result<(), NoMemory> {
+    for id in ids {
+        write!(out, "<{},{}>", id.context, id.entry)?;
+    }
+    Ok(())
+}
+
+/// The contexts, each as `[NAME]` with the numbers of its entries and of its includes.
+fn push_contexts(out: &mut String, plan: &Dialplan) -> Result<(), NoMemory> {
+    for context in plan.contexts() {
+        let (entries, includes) = (context.entries().len(), context.includes().len());
+        write!(out, "[{}]{entries},{includes}", context.name())?;
+    }
+    Ok(())
+}
+
+/// What each context says of its includes.
+fn push_all_includes(out: &mut String, plan: &Dialplan) -> Result<(), NoMemory> {
+    for context in plan.contexts() {
+        push_includes(out, context.includes())?;
+        out.push('.')?;
+    }
+    Ok(())
+}
+
+fn push_globals(out: &mut String, plan: &Dialplan) -> Result<(), NoMemory> {
+    for global in plan.globals() {
+        write!(out, "{{{}={}}}", global.name, global.value)?;
+    }
+    Ok(())
+}
+
+fn number_of(word: &str) -> Result<usize, Fail> {
+    let number = word.parse::<usize>().ok().ok_or("no number")?;
+    Ok(number)
+}
+
+fn push_entry(out: &mut String, alloc: Global, plan: &Dialplan, words: &str) -> Result<(), Fail> {
+    let (context, entry) = words.split_once(' ').ok_or("no two numbers")?;
+    let id = EntryId {
+        context: number_of(context)?,
+        entry: number_of(entry)?,
+    };
+    push_found(out, alloc, plan.entry(id))?;
+    Ok(())
+}
+
+fn push_named(
+    out: &mut String,
+    alloc: Global,
+    plan: &Dialplan,
+    reader: &str,
+    name: &str,
+) -> Result<(), Fail> {
+    let name = Text::copy_of(alloc, name.as_bytes())?;
+    match reader {
+        "number_of" => push_number(out, plan.number_of(&name))?,
+        "includes" => push_includes(out, plan.includes(&name))?,
+        "ranked" => push_ids(out, plan.ranked(&name))?,
+        _ => out.push_str("no such reader")?,
+    }
+    Ok(())
+}
+
+fn push_read(
+    out: &mut String,
+    alloc: Global,
+    plan: &Dialplan,
+    reader: &str,
+    words: &str,
+) -> Result<(), Fail> {
+    match reader {
+        "contexts" => push_contexts(out, plan)?,
+        "context.includes" => push_all_includes(out, plan)?,
+        "globals" => push_globals(out, plan)?,
+        "entry" => push_entry(out, alloc, plan, words)?,
+        "includes_at" => push_includes(out, plan.includes_at(number_of(words)?))?,
+        "ranked_at" => push_ids(out, plan.ranked_at(number_of(words)?))?,
+        _ => push_named(out, alloc, plan, reader, words)?,
+    }
+    Ok(())
+}
+
+/// What a reader of the dialplan says: the reader's name, and behind a blank what it is asked.
+fn read(alloc: Global, plan: &Dialplan, asked: &str) -> Result<String, Fail> {
+    let (reader, words) = asked.split_once(' ').ok_or("no reader")?;
+    let mut out = String::new(alloc);
+    push_read(&mut out, alloc, plan, reader, words)?;
+    Ok(out)
+}
+
+/// What the readers say of one of the dialplans above.
+fn read_of(alloc: Global, text: &[u8], asked: &str) -> Result<String, Fail> {
+    let (plan, _) = Dialplan::load(alloc, text)?;
+    read(alloc, &plan, asked)
+}
+
+struct OfPlan;
+
+impl Question for OfPlan {
+    fn answer(alloc: Global, asked: &str) -> Result<String, Fail> {
+        read_of(alloc, PLAN, asked)
+    }
+}
+
+struct OfNamed;
+
+impl Question for OfNamed {
+    fn answer(alloc: Global, asked: &str) -> Result<String, Fail> {
+        read_of(alloc, NAMED, asked)
+    }
+}
+
+struct OfEmpty;
+
+impl Question for OfEmpty {
+    fn answer(alloc: Global, asked: &str) -> Result<String, Fail> {
+        read_of(alloc, EMPTY, asked)
+    }
+}
+
+struct OfNothing;
+
+impl Question for OfNothing {
+    fn answer(alloc: Global, asked: &str) -> Result<String, Fail> {
+        read_of(alloc, b"", asked)
+    }
+}
+
+const READ_OF_PLAN: &str = r"
+# Contexts are in the order of first appearance, and global variables in that of the file.
+contexts →[main]2,0[Out]0,0
+globals →{B=2}{A=1}{B=3}
+# Entries are read by their numbers.
+entry 0 0→s 1 NoOp (a,b)
+entry 0 1→100 7 Hangup ()
+entry 0 2→none
+entry 0 18446744073709551615→none
+entry 1 0→none
+entry 2 0→none
+entry 18446744073709551615 0→none
+entry 18446744073709551615 18446744073709551615→none
+# The names of contexts are compared with case, and settings and global variables are no contexts.
+number_of main→0
+number_of Out→1
+number_of out→none
+number_of Main→none
+number_of mai→none
+number_of main →none
+number_of globals→none
+number_of →none
+";
+
+const READ_OF_NAMED: &str = r"
+# Names are read in their one spelling, and labels without the blanks at their ends.
+entry 0 0→_1XX 2(more) Second ()
+entry 0 1→_X. 1 Any (x)
+entry 0 2→123 1(top) Plain ()
+entry 0 3→_1XX 1 First ()
+entry 1 0→s 1 Out ()
+# Includes are in the order of the file, as often as they are written, whether there is such a context or not.
+includes main→{+out}{+main}
+includes out→{+nowhere}{+main}{+nowhere}
+includes Out→
+includes OUT→
+includes nowhere→
+includes general→
+includes main →
+includes →
+includes_at 0→{+out}{+main}
+includes_at 1→{+nowhere}{+main}{+nowhere}
+includes_at 2→
+includes_at 3→
+includes_at 18446744073709551615→
+context.includes →{+out}{+main}.{+nowhere}{+main}{+nowhere}..
+# Plain names come before patterns, the more specific pattern first, and one name is in the order of its priorities.
+ranked main→<0,2><0,3><0,0><0,1>
+ranked out→<1,0>
+ranked Out→
+ranked OUT→
+ranked nowhere→
+ranked globals→
+ranked  main→
+ranked →
+ranked_at 0→<0,2><0,3><0,0><0,1>
+ranked_at 1→<1,0>
+ranked_at 2→
+ranked_at 3→
+ranked_at 18446744073709551615→
+";
+
+const READ_OF_EMPTY: &str = r"
+includes_at 0→{+}
+number_of →none
+includes →
+ranked →
+";
+
+const READ_OF_NOTHING: &str = r"
+globals →
+contexts →
+entry 0 0→none
+number_of main→none
+includes main→
+includes_at 0→
+ranked main→
+ranked_at 0→
+";
+
+#[test]
+fn a_dialplan_is_read_by_numbers_and_names(rt: HostRuntime) -> Result<(), Fail> {
+    check::<OfPlan>(&rt, rt.alloc(), READ_OF_PLAN)
+}
+
+#[test]
+fn names_labels_includes_and_rankings_are_read(rt: HostRuntime) -> Result<(), Fail> {
+    check::<OfNamed>(&rt, rt.alloc(), READ_OF_NAMED)
+}
+
+#[test]
+fn the_empty_name_is_an_unknown_context(rt: HostRuntime) -> Result<(), Fail> {
+    check::<OfEmpty>(&rt, rt.alloc(), READ_OF_EMPTY)
+}
+
+#[test]
+fn empty_file(rt: HostRuntime) -> Result<(), Fail> {
+    check::<OfNothing>(&rt, rt.alloc(), READ_OF_NOTHING)
+}
+
+fn push_notes(out: &mut String, notes: &[Note]) -> Result<(), NoMemory> {
+    for note in notes {
+        write!(out, "{} {},", note.line, note.kind.name())?;
+    }
+    Ok(())
+}
+
+/// The notes on the lines of a text.
+fn notes_of(alloc: Global, text: &[u8]) -> Result<String, Fail> {
+    let (_, notes) = Dialplan::load(alloc, text)?;
+    let mut out = String::new(alloc);
+    push_notes(&mut out, &notes)?;
+    Ok(out)
+}
+
+#[test]
+fn notes_name_their_lines(rt: HostRuntime) -> Result<(), Fail> {
+    for (text, want) in [
+        (b"".as_slice(), ""),
+        (PLAN, "7 DoublePriority,11 UnknownKey,"),
+        (
+            NAMED,
+            "8 UnknownContext,11 UnknownContext,15 DoublePriority,16 DoubleLabel,",
+        ),
+        (EMPTY, "2 UnknownContext,"),
+    ] {
+        let got = notes_of(rt.alloc(), text)?;
+        assert_eq!(rt; got.as_str(), want);
+    }
+    Ok(())
+}
+
+#[test]
+fn priorities_have_these_limits(rt: HostRuntime) {
+    let numbers = [
+        (0, false),
+        (1, true),
+        (2, true),
+        (MOST_PRIORITY, true),
+        (2_147_483_648, false),
+        (u32::MAX, false),
+    ];
+    for (number, is_priority) in numbers {
+        match Priority::new(number) {
+            Some(priority) => {
+                assert!(rt; is_priority, "of {number}");
+                assert_eq!(rt; priority.get(), number);
+            }
+            None => assert!(rt; !is_priority, "of {number}"),
+        }
+    }
+    assert_eq!(rt; MOST_PRIORITY, 2_147_483_647);
+}
+
+fn have_same_globals(alloc: Global, left: &[u8], right: &[u8]) -> Result<bool, Fail> {
+    let (left, _) = Dialplan::load(alloc, left)?;
+    let (right, _) = Dialplan::load(alloc, right)?;
+    Ok(left.globals() == right.globals())
+}
+
+/// Global variables compare by all that they hold.
+#[test]
+fn globals_compare(rt: HostRuntime) -> Result<(), Fail> {
+    let once = b"[globals]\nA=1\n";
+    let same = have_same_globals(rt.alloc(), once, b"[globals]\nA = 1\n[m]\n")?;
+    assert!(rt; same);
+    let same = have_same_globals(rt.alloc(), once, b"[globals]\nA=2\n")?;
+    assert!(rt; !same);
+    Ok(())
+}
+
+/// Three ways to write one dialplan.
+const ONE_DIALPLAN: &str = r"
+[m]\nexten => _NX,1,A(x)\nexten => _NX,2(b),B()\ninclude => m\n→[m]<_NX,1,A(x)><_NX,2(b),B()>{+m}
+[m]\nEXTEN = _[2-9]x,01,A (x)\nsame => n( b ),B\ninclude = m ; y\n→[m]<_NX,1,A(x)><_NX,2(b),B()>{+m}
+[m]\ninclude => m\n[m]\nexten => _n-X,1,A(x)\n[m]\nexten => _[98765432][0-9],n(b) , B()\n→[m]<_NX,1,A(x)><_NX,2(b),B()>{+m}
+";
+
+#[test]
+fn one_dialplan_is_written_in_many_ways(rt: HostRuntime) -> Result<(), Fail> {
+    check::<Loads>(&rt, rt.alloc(), ONE_DIALPLAN)
+}
+
+const HIGH: &[u8] = b"[globals]\n\xFF=\x80\x81\n[\xFE]\nexten => \xFF-\x80,1(\xFD),\xC3(\xA9\x00)\n\
+exten => _[\xFF\x80a]\xE9,1,A\ninclude => \xFC\n";
+
+fn push_bytes_of_entry(out: &mut String, alloc: Global, entry: &Entry) -> Result<(), NoMemory> {
+    let name = Text::new(entry.name.text(alloc)?);
+    let Entry {
+        label,
+        application,
+        arguments,
+        ..
+    } = entry;
+    write!(out, "<{name:?} {label:?} {application:?} {arguments:?}>")
+}
+
+fn push_bytes_of_context(
+    out: &mut String,
+    alloc: Global,
+    context: &Context,
+) -> Result<(), NoMemory> {
+    write!(out, "[{:?}]", context.name())?;
+    for entry in context.entries() {
+        push_bytes_of_entry(out, alloc, entry)?;
+    }
+    write!(out, "{:?}", context.includes())
+}
+
+/// A dialplan in which each byte that is no character shows its number.
+fn push_bytes(out: &mut String, alloc: Global, plan: &Dialplan) -> Result<(), NoMemory> {
+    for global in plan.globals() {
+        write!(out, "{{{:?}={:?}}}", global.name, global.value)?;
+    }
+    for context in plan.contexts() {
+        push_bytes_of_context(out, alloc, context)?;
+    }
+    Ok(())
+}
+
+fn bytes_of_plan(alloc: Global, text: &[u8]) -> Result<String, Fail> {
+    let (plan, _) = Dialplan::load(alloc, text)?;
+    let mut out = String::new(alloc);
+    push_bytes(&mut out, alloc, &plan)?;
+    Ok(out)
+}
+
+/// Bytes above 127 are kept as they are, and those of a set are in byte order.
+#[test]
+fn high_bytes_are_kept(rt: HostRuntime) -> Result<(), Fail> {
+    let got = notes_of(rt.alloc(), HIGH)?;
+    assert_eq!(rt; got.as_str(), "6 UnknownContext,");
+    let got = bytes_of_plan(rt.alloc(), HIGH)?;
+    assert_eq!(rt;
+        got.as_str(),
+        r#"{"\xff"="\x80\x81"}["\xfe"]<"\xff\x80" Some("\xfd") "\xc3" "\xa9\0"><"_[a\x80\xff]\xe9" None "A" "">["\xfc"]"#
+    );
+    Ok(())
+}

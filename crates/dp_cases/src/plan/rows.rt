@@ -1,0 +1,90 @@
+//! Worked cases, with their answers.
+use crate::plan::orders::Ranks;
+use crate::plan::render::Loads;
+use crate::table::{Question, check};
+use std::test::Fail;
+
+/// `_[2-9]X` is the name of the first line. The lesser of two classes of five members is asked first.
+const CLASSES_AND_DOUBLES: &str =
+    r"[main]\nexten => _NX,1,NoOp()\nexten => _[4-8]X,1,NoOp()\nexten => _[0-4]X,1,NoOp()\nexten => _[2-9]X,1,NoOp()\n";
+
+#[test]
+fn classes_and_doubles(rt: HostRuntime) -> Result<(), Fail> {
+    let loads = Loads::answer(rt.alloc(), CLASSES_AND_DOUBLES)?;
+    assert_eq!(rt;
+        loads.as_str(),
+        "[main]<_NX,1,NoOp()><_[45678]X,1,NoOp()><_[01234]X,1,NoOp()> note 5 DoublePriority"
+    );
+    let ranks = Ranks::answer(rt.alloc(), CLASSES_AND_DOUBLES)?;
+    assert_eq!(rt; ranks.as_str(), "<_[01234]X,1><_[45678]X,1><_NX,1>");
+    Ok(())
+}
+
+/// Each line stands behind `[main]`, but for the one that stands before any section.
+const FAULT_LINES: &str = r#"
+[main]\nexten => _,1,A\n→fault 10 line 2
+[main]\nexten => _[],1,A\n→fault 11 line 2
+[main]\nexten => _[9-0],1,A\n→fault 12 line 2
+[main]\nexten => _[12,1,A\n→fault 13 line 2
+[main]\nexten => _1.2,1,A\n→fault 14 line 2
+[main]\nexten => a b,1,A\n→fault 15 line 2
+[main]\nexten => s,0,A\n→fault 20 line 2
+[main]\nexten => s,n,A\n→fault 21 line 2
+[main]\nexten => s,1(),A\n→fault 22 line 2
+[main]\nexten => s,1,A(\n→fault 23 line 2
+[main]\nexten => s,hint,A\n→fault 24 Hint line 2
+[main]\nsame => 1,A\n→fault 26 line 2
+[main]\nexten => s,2147483648,A\n→fault 27 line 2
+[main]\nexten => s,1\n→fault 28 line 2
+[main]\nabc\n→fault 4 line 2
+[main]\n#include "x"\n→fault 5 line 2
+[main]\n[x\n→fault 3 line 2
+[main]\n[x](!)\n→fault 6 line 2
+a=1\n[main]\n→fault 2 line 1
+a=1\n→fault 2 line 1
+[main]\nexten => s,01,A\n→[main]<s,1,A()>
+[main]\nexten => s,1,A\n→[main]<s,1,A()>
+# Lines that are like them and load.
+[main]\nexten => _1.,1,A\n→[main]<_1.,1,A()>
+[main]\nexten => s,1(a),A\n→[main]<s,1(a),A()>
+[main]\nexten => s,2147483647,A\n→[main]<s,2147483647,A()>
+"#;
+
+#[test]
+fn fault_lines(rt: HostRuntime) -> Result<(), Fail> {
+    check::<Loads>(&rt, rt.alloc(), FAULT_LINES)
+}
+
+const ESCAPED_SEMICOLONS: &str = r"
+[main]\nexten => s,1,NoOp(a\\;b\\\\;c)\n→[main]<s,1,NoOp(a;b\\;c)>
+[main]\n;-- x\n→fault 1 line 2
+[main]\n\n;-- x\n→fault 1 line 3
+[main]\nexten => s,1,NoOp() ;-- x\n→fault 1 line 2
+[main]\n\n;--- x\n→[main]
+[main]\nexten => s,1,NoOp() ;--- x\n→[main]<s,1,NoOp()>
+";
+
+#[test]
+fn escaped_semicolons(rt: HostRuntime) -> Result<(), Fail> {
+    check::<Loads>(&rt, rt.alloc(), ESCAPED_SEMICOLONS)
+}
+
+/// Thirteen lines, of which the last one includes a context that is not there.
+const USUAL_FILE: &str =
+    r"[general]\nstatic=yes\nwriteprotect=no\n\n[globals]\nTRUNK=Line/9\n\n[main]\nexten => _NXXXXXX,1,Answer()\n same => n,Playback(hello-world)\n same => n(q),Queue(support,c)\n same => n,Hangup()\ninclude => out\n";
+
+#[test]
+fn usual_file(rt: HostRuntime) -> Result<(), Fail> {
+    let loads = Loads::answer(rt.alloc(), USUAL_FILE)?;
+    assert_eq!(rt;
+        loads.as_str(),
+        "{TRUNK=Line/9}[main]<_NXXXXXX,1,Answer()><_NXXXXXX,2,Playback(hello-world)>\
+<_NXXXXXX,3(q),Queue(support,c)><_NXXXXXX,4,Hangup()>{+out} note 13 UnknownContext"
+    );
+    let ranks = Ranks::answer(rt.alloc(), USUAL_FILE)?;
+    assert_eq!(rt;
+        ranks.as_str(),
+        "<_NXXXXXX,1><_NXXXXXX,2><_NXXXXXX,3><_NXXXXXX,4>"
+    );
+    Ok(())
+}
