@@ -7,6 +7,7 @@ use Rattle.dp_conf.specs.declared.fault.LineKind.TheVariants.{NoEquals}
 use Rattle.dp_pattern.specs.Name.{Plain, meaning_of}
 use Rattle.dp_pattern.specs.Spelling.{spelling}
 use Rattle.dp_pattern.specs.declared.fault.NameFault.TheVariants.{BadByte}
+use Rattle.dp_plan.specs.Items.{context_item}
 use Rattle.dp_plan.specs.EntryLine.{name_of, written_priority, number_after, application_of, exten_entry, same_entry}
 use Rattle.dp_plan.specs.Loaded.{loaded}
 use Rattle.dp_plan.specs.Plan.{plan_of, notes_of}
@@ -91,22 +92,22 @@ application-old_form = refl
 -- ---- whole texts
 
 loaded-empty : loaded [] ≡ Ok (record { globals = []; contexts = [] }, [])
-unfolding loaded lines_of plan_of notes_of
+unfolding loaded lines_of plan_of notes_of context_item
 loaded-empty = refl
 
 -- what is not read yet is asked before the name and the priority
 loaded-not_yet : loaded (codes "[m]" ++ 10 ∷ codes "exten=a b,0,A(${X})") ≡ Err (Plan 2 NotYet)
-unfolding loaded lines_of exten_entry application_of
+unfolding loaded lines_of exten_entry application_of context_item
 loaded-not_yet = refl
 
 -- a line with one comma is short, whatever its name
 loaded-short : loaded (codes "[m]" ++ 10 ∷ codes "exten=a b,1") ≡ Err (Plan 2 ShortLine)
-unfolding loaded lines_of exten_entry
+unfolding loaded lines_of exten_entry context_item
 loaded-short = refl
 
 -- a line that repeats no extension, though it is short
 loaded-no_exten : loaded (codes "[m]" ++ 10 ∷ codes "same=1") ≡ Err (Plan 2 NoExten)
-unfolding loaded lines_of same_entry
+unfolding loaded lines_of same_entry context_item
 loaded-no_exten = refl
 
 -- the first line of a place stands, also over the sections of a context
@@ -120,7 +121,7 @@ loaded-double : loaded (codes "[a]" ++ 10 ∷ codes "exten=s,1,A" ++ 10 ∷ code
       },
       (record { line = 4; kind = UnknownKey }) ∷ (record { line = 6; kind = DoublePriority }) ∷ [],
     )
-unfolding loaded lines_of plan_of notes_of exten_entry name_of meaning_of spelling written_priority application_of
+unfolding loaded lines_of plan_of notes_of exten_entry name_of meaning_of spelling written_priority application_of context_item
 loaded-double = refl
 
 -- `n` counts on behind a line that is dropped; a label is taken once; an include of a context that comes later is known
@@ -140,7 +141,7 @@ loaded-next : loaded (codes "[a]" ++ 10 ∷ codes "exten=s,1(x),A" ++ 10 ∷ cod
       },
       (record { line = 3; kind = DoubleLabel }) ∷ (record { line = 6; kind = UnknownContext }) ∷ [],
     )
-unfolding loaded lines_of plan_of notes_of exten_entry same_entry name_of meaning_of spelling written_priority application_of
+unfolding loaded lines_of plan_of notes_of exten_entry same_entry name_of meaning_of spelling written_priority application_of context_item
 loaded-next = refl
 
 loaded-globals : loaded (codes "[GLOBALS]" ++ 10 ∷ codes "A=1" ++ 10 ∷ codes "=2" ++ 10 ∷ codes "A=")
@@ -148,14 +149,14 @@ loaded-globals : loaded (codes "[GLOBALS]" ++ 10 ∷ codes "A=1" ++ 10 ∷ codes
       record { globals = (record { name = codes "A"; value = codes "1" }) ∷ (record { name = codes "A"; value = [] }) ∷ []; contexts = [] },
       (record { line = 3; kind = UnknownKey }) ∷ [],
     )
-unfolding loaded lines_of plan_of notes_of
+unfolding loaded lines_of plan_of notes_of context_item
 loaded-globals = refl
 
 -- a fault of the text comes before a fault of an earlier line
 loaded-text_first : loaded (codes "[m]" ++ 10 ∷ codes "exten=s,0,A" ++ 10 ∷ codes "abc") ≡ Err (Conf (At 3 NoEquals))
-unfolding loaded lines_of
+unfolding loaded lines_of context_item
 loaded-text_first = refl
 
 loaded-lowest_line : loaded (codes "[m]" ++ 10 ∷ codes "exten=s,1" ++ 10 ∷ codes "exten=s,0,A") ≡ Err (Plan 2 ShortLine)
-unfolding loaded lines_of exten_entry
+unfolding loaded lines_of exten_entry context_item
 loaded-lowest_line = refl

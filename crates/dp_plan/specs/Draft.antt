@@ -93,6 +93,16 @@ with_note d line kind = record d { notes = d.notes ++ (record { line = line; kin
 abbrev pub changed_context : Drafted → (PlanContext → PlanContext) → List ℕ → List PlanContext
 changed_context d change name = changed_at change (position_or_len (same_text name) d.names) d.contexts
 
+-- what an entry is noted for, where its place or its label is taken
+abbrev pub doubled : Drafted → Slot → Option Label → Option NoteKind
+doubled d slot label =
+    if is_slot_taken d slot then Some DoublePriority else if is_marked d label then Some DoubleLabel else None
+
+-- the draft with the place and the label taken, and the entry in the context at a place
+abbrev pub accepted : Drafted → ℕ → Slot → Option Label → Entry → Drafted
+accepted d place slot label entry =
+    record (with_label (with_slot d slot) label) { contexts = changed_at (with_entry entry) place d.contexts }
+
 -- the draft with the entry in its context, which is there already, unless its place or its label is taken
 abbrev pub with_addition : Drafted → ℕ → List ℕ → Entry → Drafted
 with_addition d line context entry =

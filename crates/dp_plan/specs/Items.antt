@@ -55,7 +55,7 @@ abbrev pub entry_item : List ℕ → ℕ → Result Entry LoadFault → Result I
 entry_item context line entry = entry >>= λ e. Ok (Adds line context e)
 
 -- a pair of a context
-abbrev pub context_item : History → List ℕ → ℕ → List ℕ → List ℕ → Result Item LoadFault
+unfoldable pub context_item : History → List ℕ → ℕ → List ℕ → List ℕ → Result Item LoadFault
 context_item history context line key value =
     if same_word key (codes "exten") then entry_item context line (exten_entry history line context value)
     else if same_word key (codes "same") then entry_item context line (same_entry history line context value)

@@ -91,6 +91,23 @@ fn label_of(alloc: Global, context: &Text, entry: &Entry) -> Result<Option<Label
     }
 }
 
+/// What an entry takes: its place, and its label where it has one.
+#[derive(Drop)]
+struct Claim {
+    slot: Slot,
+    label: Option<Label>,
+}
+
+/// What an entry takes of its context.
+fn claim_of(alloc: Global, context: &Text, entry: &Entry) -> Result<Claim, NoMemory>
+    ensures slot { IfOk result (λ claim. claim.slot ≡ spec.slot_of context.now entry.now) }
+    ensures label { IfOk result (λ claim. claim.label ≡ spec.label_of context.now entry.now) }
+{
+    let slot = slot_of(alloc, context, entry)?;
+    let label = label_of(alloc, context, entry)?;
+    Ok(Claim { slot, label })
+}
+
 impl Draft {
     /// A draft of nothing.
     fn new(alloc: Global) -> Self
@@ -197,6 +214,30 @@ impl Draft {
         Ok(())
     }
 
+    /// What an entry is noted for, where its place or its label is taken.
+    fn doubled(&self, claim: &Claim) -> Option<NoteKind>
+        ensures { result ≡ spec.doubled self.now claim.now.slot claim.now.label }
+    {
+        if self.is_slot_taken(&claim.slot) {
+            return Some(NoteKind::DoublePriority);
+        }
+        if self.is_marked(claim.label.as_ref()) {
+            return Some(NoteKind::DoubleLabel);
+        }
+        None
+    }
+
+    /// Adds an entry, of which the place and the label are free, to the context at the place.
+    fn accept(&mut self, place: usize, claim: Claim, entry: Entry) -> Result<(), NoMemory>
+        requires { place < length self.old.contexts }
+        ensures { OnOk result (self.new ≡ spec.accepted self.old place claim.slot claim.label entry) }
+    {
+        let Claim { slot, label } = claim;
+        self.take(slot)?;
+        self.mark(label)?;
+        self.push_entry(place, entry)
+    }
+
     /// Adds an entry to its context, or notes that its place or its label is taken.
     fn add_entry(
         &mut self,
@@ -207,18 +248,12 @@ impl Draft {
     ) -> Result<(), NoMemory>
         ensures { OnOk result (self.new ≡ spec.with_addition (spec.with_context self.old context) line context entry) }
     {
-        let slot = slot_of(alloc, &context, &entry)?;
-        let label = label_of(alloc, &context, &entry)?;
+        let claim = claim_of(alloc, &context, &entry)?;
         let place = self.open(alloc, context)?;
-        if self.is_slot_taken(&slot) {
-            return self.note(line, NoteKind::DoublePriority);
+        match self.doubled(&claim) {
+            Some(kind) => self.note(line, kind),
+            None => self.accept(place, claim, entry),
         }
-        if self.is_marked(label.as_ref()) {
-            return self.note(line, NoteKind::DoubleLabel);
-        }
-        self.take(slot)?;
-        self.mark(label)?;
-        self.push_entry(place, entry)
     }
 
     /// Adds an include to its context, with a note where the name is not among those of all contexts.
@@ -288,6 +323,7 @@ impl Draft {
         ensures plan { IfOk result (λ made. made.0 ≡ record { globals = self.globals; contexts = self.contexts }) }
         ensures notes { IfOk result (λ made. made.1.items ≡ self.notes) }
     {
+        let rankings = rank_contexts(alloc, &self.contexts)?;
         let Draft {
             globals,
             names,
@@ -296,7 +332,6 @@ impl Draft {
             labels: _,
             notes,
         } = self;
-        let rankings = rank_contexts(alloc, &contexts)?;
         Ok((
             Dialplan::of_parts(globals, names, contexts, rankings),
             notes,

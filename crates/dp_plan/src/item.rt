@@ -102,6 +102,7 @@ fn refused_key(key: &[u8]) -> Option<PlanKind>
 }
 
 /// The item of a pair in a context.
+#[tactic(auto, unfolding(crate::specs::Items::context_item))]
 fn read_context_pair(
     alloc: Global,
     reader: &Reader,
