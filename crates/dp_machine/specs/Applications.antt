@@ -1,5 +1,5 @@
 -- The table of applications: what each does with its arguments, for a channel at a place.
-use Rattle.std.specs.Prelude.{ℕ, ◌&&◌, nat_le, List, [], ◌∷◌, Option, Some, None, codes, if◌then◌else◌}
+use Rattle.std.specs.Prelude.{ℕ, Bool, ◌&&◌, nat_le, List, [], ◌∷◌, Option, Some, None, codes, if◌then◌else◌}
 use Rattle.std.specs.Option.{option_map}
 use Rattle.dp_conf.specs.Levels.{arguments_of}
 use Rattle.dp_conf.specs.Numbers.{number_of}
@@ -56,3 +56,7 @@ row_of name arguments own =
     else if same_word name (codes "Goto") then Some (jump_to (target_of own (arguments_of arguments)))
     else if same_word name (codes "Hangup") then Some Hang
     else None
+
+-- whether an application makes texts, as the place of a target; no other needs memory
+abbrev pub makes_texts : List ℕ → Bool
+makes_texts name = same_word name (codes "Goto")

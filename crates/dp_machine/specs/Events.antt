@@ -1,7 +1,7 @@
 -- What each event makes of a world, and the reply.
-use Rattle.std.specs.Prelude.{ℕ, ◌+◌, Bool, true, false, nat_lt, List, [], ◌∷◌, ◌++◌, length, Option, Some, None, if◌then◌else◌}
+use Rattle.std.specs.Prelude.{ℕ, ◌+◌, Bool, true, false, not, nat_lt, List, [], ◌∷◌, ◌++◌, length, Option, Some, None, if◌then◌else◌}
 use Rattle.dp_plan.specs.Plan.{PlanOf}
-use Rattle.dp_machine.specs.Applications.{row_of}
+use Rattle.dp_machine.specs.Applications.{row_of, makes_texts}
 use Rattle.dp_machine.specs.Found.{Located, entry_found, label_found}
 use Rattle.dp_machine.specs.World.{World, channel_at, with_channel}
 use Rattle.dp_machine.specs.declared.application.Wanted.{Wanted}
@@ -92,3 +92,23 @@ is_refused (Started number) = false
 is_refused (Ran id) = false
 is_refused NoEntry = false
 is_refused (Refused refusal) = true
+
+-- whether a step needs memory, by the entry at the channel's place
+abbrev pub needs_memory_at : Option Located → Bool
+needs_memory_at None = false
+needs_memory_at (Some found) = makes_texts found.entry.application
+
+-- whether a step needs memory, by the channel's phase
+abbrev pub needs_memory_in : Phase → PlanOf → Channel → Bool
+needs_memory_in phase_ready plan c = needs_memory_at (entry_found plan c.place)
+needs_memory_in phase_ended plan c = false
+
+-- whether the step of a channel needs memory; a channel that is not there needs none
+abbrev pub needs_memory_by : PlanOf → Option Channel → Bool
+needs_memory_by plan None = false
+needs_memory_by plan (Some c) = needs_memory_in c.phase plan c
+
+-- whether an event may need memory: a call that is taken, and a step that runs an application that makes texts
+abbrev pub needs_memory : World → Event → Bool
+needs_memory w (Start context exten caller) = not (is_refused (started w context exten caller).1)
+needs_memory w (Step number) = needs_memory_by w.plan (channel_at w.channels number)

@@ -8,9 +8,13 @@ pub record World : Type 0 where
   pub plan : PlanOf
   pub channels : List Channel
 
+-- the world of a dialplan and its channels
+abbrev pub world_of : PlanOf → List Channel → World
+world_of plan channels = record { plan = plan; channels = channels }
+
 -- the world in which no call has come
 abbrev pub opening : PlanOf → World
-opening plan = record { plan = plan; channels = [] }
+opening plan = world_of plan []
 
 -- the channel of a number
 abbrev pub channel_at : List Channel → ℕ → Option Channel

@@ -1,5 +1,5 @@
 //! The applications that a machine has, after the Asterisk documentation's application reference.
-ghost use Rattle.std.specs.Prelude.{◌≡◌, IfOk, map};
+ghost use Rattle.std.specs.Prelude.{◌≡◌, IfOk, OnErr, true, map};
 ghost use Rattle.dp_conf.specs.Levels.{arguments_of};
 ghost use Rattle.dp_machine.specs.Applications as spec;
 
@@ -120,7 +120,7 @@ fn go_to(alloc: Global, arguments: &[u8], own: &Place) -> Result<Move, NoMemory>
 }
 
 /// Runs the application of this name for a channel at the place, or gives None where the table lacks the name. Names
-/// are compared without regard to ASCII case.
+/// are compared without regard to ASCII case. Only `Goto` takes memory.
 #[tactic(auto, unfolding(crate::specs::Applications::row_of))]
 pub(crate) fn dispatch(
     alloc: Global,
@@ -128,7 +128,8 @@ pub(crate) fn dispatch(
     arguments: &[u8],
     own: &Place,
 ) -> Result<Option<Move>, NoMemory>
-    ensures { IfOk result (λ going. going ≡ spec.row_of name.now arguments.now own.now) }
+    ensures ok { IfOk result (λ going. going ≡ spec.row_of name.now arguments.now own.now) }
+    ensures memory { OnErr result (spec.makes_texts name.now ≡ true) }
 {
     if same_word(name, b"NoOp") {
         return Ok(Some(Move::Next));

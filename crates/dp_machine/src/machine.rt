@@ -1,5 +1,5 @@
 //! The machine: a world that events change one after another.
-ghost use Rattle.std.specs.Prelude.{◌≡◌, ◌+◌, ◌≤◌, ◌++◌, IfOk, OnOk, OnErr, false, length};
+ghost use Rattle.std.specs.Prelude.{◌≡◌, ◌+◌, ◌≤◌, ◌++◌, IfOk, OnOk, OnErr, true, false, length};
 ghost use Rattle.std.specs.Option.{option_copied, option_map};
 ghost use Rattle.dp_lookup.specs.SearchOrder.{context_count};
 ghost use Rattle.dp_machine.specs.Events as spec;
@@ -61,11 +61,11 @@ fn start(
     caller: Text,
 ) -> Result<Reply, NoMemory>
     requires { length channels.old.items ≤ 65535 }
-    ensures ok { IfOk result (λ reply. spec.started (record { plan = plan.now; channels = channels.old.items }) context exten caller
-        ≡ (record { plan = plan.now; channels = channels.new.items }, reply)) }
+    ensures ok { IfOk result (λ reply. spec.started (worlds.world_of plan.now channels.old.items) context exten caller
+        ≡ (worlds.world_of plan.now channels.new.items, reply)) }
     ensures bound { length channels.new.items ≤ 65535 }
     ensures err { OnErr result (channels.new.items ≡ channels.old.items) }
-    ensures refused { OnErr result (spec.is_refused (spec.started (record { plan = plan.now; channels = channels.old.items }) context exten caller).1 ≡ false) }
+    ensures memory { OnErr result (spec.is_refused (spec.started (worlds.world_of plan.now channels.old.items) context exten caller).1 ≡ false) }
 {
     let count = channels.len();
     if count >= MOST_CHANNELS {
@@ -84,7 +84,7 @@ fn start(
     Ok(Reply::Started(count as u32 + 1))
 }
 
-/// A channel takes its step. A refused event takes no memory.
+/// A channel takes its step. Only one that runs `Goto` takes memory.
 fn step(
     alloc: Global,
     plan: &Dialplan,
@@ -94,11 +94,11 @@ fn step(
 ) -> Result<Reply, NoMemory>
     requires { context_count plan.now ≤ order.old.room }
     ensures room { order.new.room ≡ order.old.room }
-    ensures ok { IfOk result (λ reply. spec.own_event (record { plan = plan.now; channels = channels.old.items }) number spec.step_row (worlds.channel_at channels.old.items number)
-        ≡ (record { plan = plan.now; channels = channels.new.items }, reply)) }
+    ensures ok { IfOk result (λ reply. spec.own_event (worlds.world_of plan.now channels.old.items) number spec.step_row (worlds.channel_at channels.old.items number)
+        ≡ (worlds.world_of plan.now channels.new.items, reply)) }
     ensures len { length channels.new.items ≡ length channels.old.items }
     ensures err { OnErr result (channels.new.items ≡ channels.old.items) }
-    ensures refused { OnErr result (spec.is_refused (spec.own_event (record { plan = plan.now; channels = channels.old.items }) number spec.step_row (worlds.channel_at channels.old.items number)).1 ≡ false) }
+    ensures memory { OnErr result (spec.needs_memory_by plan.now (worlds.channel_at channels.old.items number) ≡ true) }
 {
     let index = number as usize;
     if index == 0 || index > channels.len() {
@@ -119,11 +119,11 @@ fn apply_to(
     requires channels { length channels.old.items ≤ 65535 }
     requires room { context_count plan.now ≤ order.old.room }
     ensures room { order.new.room ≡ order.old.room }
-    ensures ok { IfOk result (λ reply. spec.event_row (record { plan = plan.now; channels = channels.old.items }) event
-        ≡ (record { plan = plan.now; channels = channels.new.items }, reply)) }
+    ensures ok { IfOk result (λ reply. spec.event_row (worlds.world_of plan.now channels.old.items) event
+        ≡ (worlds.world_of plan.now channels.new.items, reply)) }
     ensures bound { length channels.new.items ≤ 65535 }
     ensures err { OnErr result (channels.new.items ≡ channels.old.items) }
-    ensures refused { OnErr result (spec.is_refused (spec.event_row (record { plan = plan.now; channels = channels.old.items }) event).1 ≡ false) }
+    ensures memory { OnErr result (spec.needs_memory (worlds.world_of plan.now channels.old.items) event ≡ true) }
 {
     match event {
         Event::Start {
@@ -148,11 +148,12 @@ impl Machine {
         })
     }
 
-    /// Applies one event, and gives the reply. A refused event changes nothing and takes no memory; where memory is
-    /// refused the machine is as before.
+    /// Applies one event, and gives the reply. A refused event changes nothing. A call that comes in and a step that runs
+    /// `Goto` take memory, and nothing else does; where memory is refused the machine is as before.
     pub fn apply(&mut self, alloc: Global, event: Event) -> Result<Reply, NoMemory>
         ensures ok { IfOk result (λ reply. spec.event_row self.old event ≡ (self.new, reply)) }
         ensures err { OnErr result (self.new ≡ self.old) }
+        ensures memory { OnErr result (spec.needs_memory self.old event ≡ true) }
         ensures refused { OnErr result (spec.is_refused (spec.event_row self.old event).1 ≡ false) }
     {
         let plan = &self.plan;

@@ -1,5 +1,6 @@
 //! The step of a channel.
-ghost use Rattle.std.specs.Prelude.{◌≡◌, ◌+◌, ◌^◌, ◌<◌, ◌≤◌, IfOk, OnErr, Some, false};
+ghost use Rattle.std.specs.Prelude.{◌≡◌, ◌+◌, ◌^◌, ◌<◌, ◌≤◌, IfOk, OnErr, Some, true};
+ghost use Rattle.dp_machine.specs.Applications.{makes_texts};
 ghost use Rattle.dp_machine.specs.Events as spec;
 ghost use Rattle.dp_machine.specs.Found.{entry_found};
 ghost use Rattle.dp_lookup.specs.SearchOrder.{context_count};
@@ -76,6 +77,7 @@ fn run_entry(
     ensures ok { IfOk result (λ reply. spec.step_at plan.now channel.old (Some (record { id = found.entry.id; entry = found.entry.entry.now }))
         ≡ record { channel = channel.new; reply = reply }) }
     ensures err { OnErr result (channel.new ≡ channel.old) }
+    ensures memory { OnErr result (makes_texts found.entry.entry.now.application ≡ true) }
 {
     let going = dispatch(
         alloc,
@@ -98,6 +100,7 @@ fn step_ready(
     ensures room { order.new.room ≡ order.old.room }
     ensures ok { IfOk result (λ reply. spec.step_at plan.now channel.old (entry_found plan.now channel.old.place) ≡ record { channel = channel.new; reply = reply }) }
     ensures err { OnErr result (channel.new ≡ channel.old) }
+    ensures memory { OnErr result (spec.needs_memory_at (entry_found plan.now channel.old.place) ≡ true) }
 {
     match find(plan, order, &channel.place) {
         Some(found) => {
@@ -112,7 +115,7 @@ fn step_ready(
     }
 }
 
-/// A step of a channel. A refused one takes no memory.
+/// A step of a channel. Only one that runs `Goto` takes memory.
 #[tactic(auto, unfolding(crate::specs::Events::step_row))]
 pub(crate) fn step_channel(
     alloc: Global,
@@ -124,7 +127,7 @@ pub(crate) fn step_channel(
     ensures room { order.new.room ≡ order.old.room }
     ensures ok { IfOk result (λ reply. spec.step_row plan.now channel.old ≡ record { channel = channel.new; reply = reply }) }
     ensures err { OnErr result (channel.new ≡ channel.old) }
-    ensures refused { OnErr result (spec.is_refused (spec.step_row plan.now channel.old).reply ≡ false) }
+    ensures memory { OnErr result (spec.needs_memory_by plan.now (Some channel.old) ≡ true) }
 {
     match channel.phase {
         Phase::Ready => step_ready(alloc, plan, order, channel),
