@@ -1,6 +1,7 @@
 -- The items of a configuration text, or its first fault.
 use Rattle.std.specs.Prelude.{ℕ, ◌+◌, Bool, true, false, not, ◌&&◌, ◌==◌, nat_eq, List, [], ◌∷◌, length, take, drop, Option, Some, None, Result, Ok, Err, codes, if◌then◌else◌}
 use Rattle.std.specs.List.{slice_split, list_any, starts_with}
+use Rattle.std.specs.Str.{byte}
 use Rattle.dp_conf.specs.Answers.{all_of, each_after}
 use Rattle.dp_conf.specs.Blanks.{trim, trim_start}
 use Rattle.dp_conf.specs.Cut.{begins_with, cut_once}
@@ -21,22 +22,30 @@ abbrev pub is_header : ConfLine → Bool
 is_header (Header line name) = true
 is_header (Pair line key value) = false
 
+-- the byte order mark of a text: EF BB BF
+abbrev pub byte_order_mark : List ℕ
+byte_order_mark = 239 ∷ 187 ∷ 191 ∷ []
+
 -- the text without the byte order mark at its front
 abbrev pub without_mark : List ℕ → List ℕ
-without_mark text = if starts_with nat_eq text (239 ∷ 187 ∷ 191 ∷ []) then drop 3 text else text
+without_mark text = if starts_with nat_eq text byte_order_mark then drop 3 text else text
+
+-- the byte that ends a line
+abbrev pub line_feed : ℕ
+line_feed = 10
 
 -- the parts of a text between its line feeds
 abbrev pub parts_of : List ℕ → List (List ℕ)
-parts_of text = slice_split (λ b. b == 10) text
+parts_of text = slice_split (λ b. b == line_feed) text
 
 -- how many bytes stand before the first `;` with no `\` directly before it
 abbrev pub comment_start : ℕ → List ℕ → ℕ
 comment_start previous [] = 0
-comment_start previous (b ∷ bs) = if b == 59 && not (previous == 92) then 0 else 1 + comment_start b bs
+comment_start previous (b ∷ bs) = if b == byte ";" && not (previous == byte "\\") then 0 else 1 + comment_start b bs
 
 -- the comment of a part with its `;`, or nothing
 abbrev pub comment_of : List ℕ → List ℕ
-comment_of part = drop (comment_start 10 part) part
+comment_of part = drop (comment_start line_feed part) part
 
 -- a comment that begins a block: `;--` and no third dash
 abbrev pub opens_block : List ℕ → Bool
@@ -45,17 +54,17 @@ opens_block comment = starts_with nat_eq comment (codes ";--") && not (starts_wi
 -- the bytes with each `\;` written `;`: a `\` directly before a `;` is left out
 abbrev pub unescaped : List ℕ → List ℕ
 unescaped [] = []
-unescaped (b ∷ bs) = if b == 92 && starts_with nat_eq bs (59 ∷ []) then unescaped bs else b ∷ unescaped bs
+unescaped (b ∷ bs) = if b == byte "\\" && starts_with nat_eq bs (codes ";") then unescaped bs else b ∷ unescaped bs
 
 -- the content of a part: what stands before its comment, unescaped and trimmed
 abbrev pub content_of : List ℕ → List ℕ
-content_of part = trim (unescaped (take (comment_start 10 part) part))
+content_of part = trim (unescaped (take (comment_start line_feed part) part))
 
 -- a header by its trimmed name and by what stands behind its `]`, from the first byte that is no blank
 abbrev pub header_by : ℕ → List ℕ → List ℕ → Result (List ConfLine) LineKind
 header_by line [] behind = Err BadHeader
 header_by line (n ∷ name) [] = Ok (Header line (n ∷ name) ∷ [])
-header_by line (n ∷ name) (b ∷ behind) = Err (if b == 40 then Template else BadHeader)
+header_by line (n ∷ name) (b ∷ behind) = Err (if b == byte "(" then Template else BadHeader)
 
 -- a header, by what the `]` cut of what stands behind its `[`
 abbrev pub header_of : ℕ → Option (List ℕ × List ℕ) → Result (List ConfLine) LineKind
@@ -65,7 +74,7 @@ header_of line (Some cut) = header_by line (trim cut.0) (trim_start cut.1)
 -- a `>` directly behind the `=` belongs to the sign
 abbrev pub behind_sign : List ℕ → List ℕ
 behind_sign [] = []
-behind_sign (b ∷ bs) = if b == 62 then bs else b ∷ bs
+behind_sign (b ∷ bs) = if b == byte ">" then bs else b ∷ bs
 
 -- a pair, by what the first `=` cut
 abbrev pub pair_of : ℕ → Option (List ℕ × List ℕ) → Result (List ConfLine) LineKind
@@ -76,9 +85,9 @@ pair_of line (Some cut) = Ok (Pair line (trim cut.0) (trim (behind_sign cut.1)) 
 abbrev pub item_of : Bool → ℕ → List ℕ → Result (List ConfLine) LineKind
 item_of in_section line [] = Ok []
 item_of in_section line (b ∷ bs) =
-    if b == 91 then header_of line (cut_once 93 bs)
-    else if b == 35 then Err Directive
-    else if in_section then pair_of line (cut_once 61 (b ∷ bs))
+    if b == byte "[" then header_of line (cut_once (byte "]") bs)
+    else if b == byte "#" then Err Directive
+    else if in_section then pair_of line (cut_once (byte "=") (b ∷ bs))
     else Err NoSection
 
 -- a part: a block comment is refused before all else
@@ -88,7 +97,7 @@ part_item in_section line part =
 
 -- a part begins a section where its content begins with `[`
 abbrev pub opens_section : List ℕ → Bool
-opens_section part = begins_with 91 (content_of part)
+opens_section part = begins_with (byte "[") (content_of part)
 
 -- the fault of a line, at its number
 abbrev pub at_line : {X : Type 0} → ℕ → Result X LineKind → Result X LineFault

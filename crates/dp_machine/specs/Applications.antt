@@ -1,9 +1,10 @@
 -- The table of applications: what each does with its arguments, for a channel at a place.
-use Rattle.std.specs.Prelude.{ℕ, Bool, ◌&&◌, nat_le, List, [], ◌∷◌, Option, Some, None, codes, if◌then◌else◌}
+use Rattle.std.specs.Prelude.{ℕ, ◌+◌, Bool, ◌&&◌, nat_le, List, [], ◌∷◌, Option, Some, None, codes, if◌then◌else◌}
 use Rattle.std.specs.Option.{option_map}
 use Rattle.dp_conf.specs.Levels.{arguments_of}
 use Rattle.dp_conf.specs.Numbers.{number_of}
 use Rattle.dp_conf.specs.Words.{same_word}
+use Rattle.dp_plan.specs.Priority.{most_priority}
 use Rattle.dp_machine.specs.declared.channel.Place.{Place}
 use Rattle.dp_machine.specs.declared.application.Wanted.{Wanted}
 use Rattle.dp_machine.specs.declared.application.Wanted.TheVariants.{Number, Label}
@@ -16,9 +17,9 @@ abbrev pub part_or : List ℕ → List ℕ → List ℕ
 part_or own [] = own
 part_or own (b ∷ bs) = b ∷ bs
 
--- a number that a target may have
+-- a number that a target may have; one above the greatest priority is a place where no entry can be
 abbrev pub target_priority : ℕ → Option ℕ
-target_priority number = if nat_le 1 number && nat_le number 2147483648 then Some number else None
+target_priority number = if nat_le 1 number && nat_le number (most_priority + 1) then Some number else None
 
 -- the priority that a target asks for, by the number that its text writes
 abbrev pub wanted_by : List ℕ → Option ℕ → Option Wanted

@@ -3,7 +3,7 @@ use Rattle.std.specs.Prelude.{ℕ, ◌+◌, Bool, true, false, not, nat_lt, List
 use Rattle.dp_plan.specs.Plan.{PlanOf}
 use Rattle.dp_machine.specs.Applications.{row_of, makes_texts}
 use Rattle.dp_machine.specs.Found.{Located, entry_found, label_found}
-use Rattle.dp_machine.specs.World.{World, channel_at, with_channel}
+use Rattle.dp_machine.specs.World.{World, most_channels, channel_at, with_channel}
 use Rattle.dp_machine.specs.declared.application.Wanted.{Wanted}
 use Rattle.dp_machine.specs.declared.application.Wanted.TheVariants.{Number, Label}
 use Rattle.dp_machine.specs.declared.application.Target.{Target}
@@ -71,7 +71,7 @@ step_row plan c = step_in c.phase plan c
 -- the event `Start`
 unfoldable pub started : World → List ℕ → List ℕ → List ℕ → World × Reply
 started w context exten caller =
-    if nat_lt (length w.channels) 65535
+    if nat_lt (length w.channels) most_channels
     then (record w { channels = w.channels ++ (record { place = record { context = context; exten = exten; priority = 1 }; phase = phase_ready; caller = caller }) ∷ [] }, Started (length w.channels + 1))
     else (w, Refused NumbersSpent)
 

@@ -8,6 +8,10 @@ pub record World : Type 0 where
   pub plan : PlanOf
   pub channels : List Channel
 
+-- how many channels a world has at most
+abbrev pub most_channels : ℕ
+most_channels = 65535
+
 -- the world of a dialplan and its channels
 abbrev pub world_of : PlanOf → List Channel → World
 world_of plan channels = record { plan = plan; channels = channels }

@@ -5,7 +5,7 @@ ghost use Rattle.dp_machine.specs.Applications as spec;
 
 use crate::channel::Place;
 use dp_conf::{read_number, same_word, split_args};
-use dp_plan::{NoMemory, Text};
+use dp_plan::{MOST_PRIORITY, NoMemory, Text};
 use std::alloc::Global;
 
 /// The priority that a target asks for.
@@ -41,7 +41,7 @@ fn target_priority(number: u64) -> Option<u32>
     ensures { result ≡ spec.target_priority number }
 {
     let number = u32::try_from(number).ok()?;
-    if number < 1 || number > 2_147_483_648 {
+    if number < 1 || number > MOST_PRIORITY + 1 {
         return None;
     }
     Some(number)

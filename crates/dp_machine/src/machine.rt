@@ -31,14 +31,14 @@ pub struct Machine {
 impl Model for Machine {
     ghost use Rattle.std.specs.Prelude.{◌≤◌, length};
     ghost use Rattle.dp_lookup.specs.SearchOrder.{context_count};
-    ghost use Rattle.dp_machine.specs.World.{World};
+    ghost use Rattle.dp_machine.specs.World.{World, most_channels};
 
     ghost Value = { World };
 
     ghost view = { λ machine. record { plan = machine.plan; channels = machine.channels.items } };
 
     ghost invariant = { λ machine.
-        (length machine.channels.items ≤ 65535) × (context_count machine.plan ≤ machine.order.room) };
+        (length machine.channels.items ≤ most_channels) × (context_count machine.plan ≤ machine.order.room) };
 }
 
 /// The channel of a number.
@@ -60,10 +60,10 @@ fn start(
     exten: Text,
     caller: Text,
 ) -> Result<Reply, NoMemory>
-    requires { length channels.old.items ≤ 65535 }
+    requires { length channels.old.items ≤ worlds.most_channels }
     ensures ok { IfOk result (λ reply. spec.started (worlds.world_of plan.now channels.old.items) context exten caller
         ≡ (worlds.world_of plan.now channels.new.items, reply)) }
-    ensures bound { length channels.new.items ≤ 65535 }
+    ensures bound { length channels.new.items ≤ worlds.most_channels }
     ensures err { OnErr result (channels.new.items ≡ channels.old.items) }
     ensures memory { OnErr result (spec.is_refused (spec.started (worlds.world_of plan.now channels.old.items) context exten caller).1 ≡ false) }
 {
@@ -116,12 +116,12 @@ fn apply_to(
     channels: &mut Vec<Channel>,
     event: Event,
 ) -> Result<Reply, NoMemory>
-    requires channels { length channels.old.items ≤ 65535 }
+    requires channels { length channels.old.items ≤ worlds.most_channels }
     requires room { context_count plan.now ≤ order.old.room }
     ensures room { order.new.room ≡ order.old.room }
     ensures ok { IfOk result (λ reply. spec.event_row (worlds.world_of plan.now channels.old.items) event
         ≡ (worlds.world_of plan.now channels.new.items, reply)) }
-    ensures bound { length channels.new.items ≤ 65535 }
+    ensures bound { length channels.new.items ≤ worlds.most_channels }
     ensures err { OnErr result (channels.new.items ≡ channels.old.items) }
     ensures memory { OnErr result (spec.needs_memory (worlds.world_of plan.now channels.old.items) event ≡ true) }
 {

@@ -142,7 +142,8 @@ Parts = List (List ℕ) × Tail
 abbrev pub with_class : Result (List ℕ) NameFault → Result Parts NameFault → Result Parts NameFault
 with_class class parts = class >>= (λ c. parts >>= (λ p. Ok (c ∷ p.0, p.1)))
 
--- the classes and the tail, or the first fault from the left
+-- the classes and the tail, or the first fault from the left; of two faults at one byte, that something stands behind a
+-- wildcard comes first, then that a set is not closed, then what is in the set, where a range stands at its first byte
 abbrev pub parts_of : List Piece → Result Parts NameFault
 parts_of [] = Ok ([], End)
 parts_of (Dash ∷ pieces) = parts_of pieces

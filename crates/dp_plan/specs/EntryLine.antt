@@ -1,4 +1,10 @@
 -- What the line of an entry says: `exten => name,priority[(label)],application` or `same => priority[(label)],application`.
+--
+-- A line is asked in this order, and its fault is the first that is met: whether a `same` has an extension before it, and
+-- whether there are commas enough; the name, from the left (`name_of`); the priority, where a word that is left out comes
+-- before what is no priority, then the label, then an `n` with no earlier line, then the limit (`written_priority`,
+-- `number_after`); the application, where a comma comes before a parenthesis (`application_of`). A `${` or a `$[` in the
+-- arguments, which nothing reads yet, comes before all of these, where the line has arguments.
 use Rattle.std.specs.Prelude.{ℕ, ◌+◌, Bool, false, ◌&&◌, ◌||◌, ◌==◌, nat_le, List, [], ◌∷◌, Option, Some, None, Result, Ok, Err, codes, if◌then◌else◌}
 use Rattle.std.specs.List.{list_any, list_all}
 use Rattle.std.specs.Option.{option_map}
@@ -12,6 +18,7 @@ use Rattle.dp_pattern.specs.Name.{Meaning, meaning_of}
 use Rattle.dp_pattern.specs.Spelling.{spelling}
 use Rattle.dp_plan.specs.Faults.{at_line, name_at_line}
 use Rattle.dp_plan.specs.History.{History}
+use Rattle.dp_plan.specs.Priority.{most_priority}
 use Rattle.dp_plan.specs.declared.fault.Word.TheVariants.{Hint, CallerId, Variable, OldForm, PriorityWord}
 use Rattle.dp_plan.specs.declared.fault.PlanKind.{PlanKind}
 use Rattle.dp_plan.specs.declared.fault.PlanKind.TheVariants.{BadPriority, NoPrevious, BadLabel, BadApplication, LeftOut, NoExten, PriorityLimit, ShortLine, NotYet}
@@ -69,7 +76,7 @@ is_priority_word text =
 abbrev pub written_number : Option ℕ → Result Written PlanKind
 written_number None = Err BadPriority
 written_number (Some number) =
-    if number == 0 then Err BadPriority else (if nat_le number 2147483647 then Ok (Number number) else Ok TooGreat)
+    if number == 0 then Err BadPriority else (if nat_le number most_priority then Ok (Number number) else Ok TooGreat)
 
 -- a number or `n`, and neither a word nor a sign that is left out
 abbrev pub written_of : List ℕ → Result Written PlanKind
@@ -111,7 +118,7 @@ abbrev pub number_after : Option ℕ → Written → Result ℕ PlanKind
 number_after last (Number number) = Ok number
 number_after last TooGreat = Err PriorityLimit
 number_after None Next = Err NoPrevious
-number_after (Some last) Next = if nat_le (last + 1) 2147483647 then Ok (last + 1) else Err PriorityLimit
+number_after (Some last) Next = if nat_le (last + 1) most_priority then Ok (last + 1) else Err PriorityLimit
 
 -- a priority as it is written: its number or `n`, and its label
 unfoldable pub written_priority : List ℕ → Result (Written × Option (List ℕ)) PlanKind
