@@ -1,9 +1,9 @@
 //! Joined texts with a faulty dialplan or a faulty script: nothing is written.
-use crate::tests::render::check;
+use crate::tests::render::{FaultRow, check_faults};
 use std::test::Fail;
 
 /// Faulty dialplans, each with a script.
-const PLANS: [(&[u8], &str); 28] = [
+const PLANS: [FaultRow; 28] = [
     // Faults of the text.
     (
         b"[main]\n;-- x\n;; script\nstart main s\n",
@@ -123,14 +123,11 @@ const PLANS: [(&[u8], &str); 28] = [
 
 #[test]
 fn a_faulty_dialplan_is_not_run(rt: HostRuntime) -> Result<(), Fail> {
-    for (text, want) in PLANS {
-        check(&rt, rt.alloc(), text, b"", want)?;
-    }
-    Ok(())
+    check_faults(&rt, rt.alloc(), &PLANS)
 }
 
 /// Faulty scripts.
-const SCRIPTS: [(&[u8], &str); 12] = [
+const SCRIPTS: [FaultRow; 12] = [
     (b";; script\njump 1\n", "fault 70 BadScript line 1"),
     (b";; script\nstart a\n", "fault 70 BadScript line 1"),
     (b";; script\nstep x\n", "fault 70 BadScript line 1"),
@@ -161,8 +158,5 @@ const SCRIPTS: [(&[u8], &str); 12] = [
 
 #[test]
 fn a_faulty_script_is_not_run(rt: HostRuntime) -> Result<(), Fail> {
-    for (text, want) in SCRIPTS {
-        check(&rt, rt.alloc(), text, b"", want)?;
-    }
-    Ok(())
+    check_faults(&rt, rt.alloc(), &SCRIPTS)
 }

@@ -16,11 +16,11 @@ pub(super) type Row = (&'static [&'static str], &'static str, &'static str, u8);
 
 /// The files of the folder that the command lines find, beside `folder`, which is one itself, and `long`, which has one
 /// byte more than a file may have. There is none that is called `missing`.
-const FILES: [(&str, &[u8]); 20] = [
+const FILES: [(&str, &str); 20] = [
     // What the manual has as sample/extensions.conf and sample/calls.script, and its example of patterns.
     (
         "sample",
-        b"; The telephones of a small house.\n[phones]\nexten => 100,1(desk),NoOp(the front desk)\n\
+        "; The telephones of a small house.\n[phones]\nexten => 100,1(desk),NoOp(the front desk)\n\
  same => n,Hangup()\nexten => _1XX,1,NoOp(a room)\n\
  same => n,Goto(100,desk)             ; nobody is in: to the front desk\n\
 exten => _NXXXXXX,1,NoOp(a call to town)\n same => n,Hangup()\ninclude => rest\n\n[rest]\n\
@@ -28,63 +28,63 @@ exten => _X.,1,NoOp(no such number)\n same => n,Hangup()\n",
     ),
     (
         "sample.script",
-        b"; Room 123 is called, and then a number in town.\nstart phones 123\nstep 1 4\n\
+        "; Room 123 is called, and then a number in town.\nstart phones 123\nstep 1 4\n\
 start phones 555-1234\nstep 2 2\n",
     ),
     (
         "calls",
-        b"[calls]\nexten => 123,1,NoOp(one)\nexten => _1XX,1,NoOp(three)\nexten => _X.,1,NoOp(any)\n\
+        "[calls]\nexten => 123,1,NoOp(one)\nexten => _1XX,1,NoOp(three)\nexten => _X.,1,NoOp(any)\n\
 exten => _X.,2,NoOp(two)\n",
     ),
     (
         "usual",
-        b"[general]\nstatic=yes\nwriteprotect=no\n\n[globals]\nTRUNK=Line/9\n\n[main]\n\
+        "[general]\nstatic=yes\nwriteprotect=no\n\n[globals]\nTRUNK=Line/9\n\n[main]\n\
 exten => _NXXXXXX,1,Answer()\n same => n,Playback(hello-world)\n same => n(q),Queue(support,c)\n\
  same => n,Hangup()\ninclude => out\n",
     ),
     (
         "classes",
-        b"[main]\nexten => _NX,1,NoOp()\nexten => _[4-8]X,1,NoOp()\nexten => _[0-4]X,1,NoOp()\n\
+        "[main]\nexten => _NX,1,NoOp()\nexten => _[4-8]X,1,NoOp()\nexten => _[0-4]X,1,NoOp()\n\
 exten => _[2-9]X,1,NoOp()\n",
     ),
     (
         "specific",
-        b"[main]\nexten => _X.,1,NoOp()\nexten => _1XX,1,NoOp()\nexten => 123,1,NoOp()\n",
+        "[main]\nexten => _X.,1,NoOp()\nexten => _1XX,1,NoOp()\nexten => 123,1,NoOp()\n",
     ),
     (
         "priorities",
-        b"[main]\nexten => 123,1,NoOp(one)\nexten => _X.,1,NoOp(other)\nexten => _X.,2,NoOp(two)\n",
+        "[main]\nexten => 123,1,NoOp(one)\nexten => _X.,1,NoOp(other)\nexten => _X.,2,NoOp(two)\n",
     ),
-    ("cycle", b"[a]\ninclude => b\n[b]\ninclude => a\n"),
+    ("cycle", "[a]\ninclude => b\n[b]\ninclude => a\n"),
     (
         "chain",
-        b"[main]\nexten => _1XX,1,NoOp()\ninclude => late\n[late]\nexten => 123,1,Hangup()\n\
+        "[main]\nexten => _1XX,1,NoOp()\ninclude => late\n[late]\nexten => 123,1,Hangup()\n\
 exten => 123,2,Hangup()\ninclude => main\n",
     ),
     (
         "labels",
-        b"[main]\nexten => s,1,Goto(x)\nexten => s,n(x),Hangup()\n",
+        "[main]\nexten => s,1,Goto(x)\nexten => s,n(x),Hangup()\n",
     ),
-    ("labels.script", b"start main s\nstep 1 2\n"),
+    ("labels.script", "start main s\nstep 1 2\n"),
     (
         "first",
-        b"[main]\nexten => 100,1,NoOp(hello)\nexten => 100,2,Goto(200,1)\nexten => 200,1,Hangup()\n",
+        "[main]\nexten => 100,1,NoOp(hello)\nexten => 100,2,Goto(200,1)\nexten => 200,1,Hangup()\n",
     ),
-    ("first.script", b"start main 100\nstep 1 3\n"),
-    ("refused.script", b"step 1\nstart main 100\nstep 1\n"),
-    ("faulty", b"[main]\nabc\n"),
-    ("faulty.script", b"start main 100\njump 1\n"),
+    ("first.script", "start main 100\nstep 1 3\n"),
+    ("refused.script", "step 1\nstart main 100\nstep 1\n"),
+    ("faulty", "[main]\nabc\n"),
+    ("faulty.script", "start main 100\njump 1\n"),
     (
         "notes",
-        b"[globals]\n=x\n[main]\nexten => s,1,NoOp()\nexten => s,1,Hangup()\nexten => s,2(x),NoOp()\n\
+        "[globals]\n=x\n[main]\nexten => s,1,NoOp()\nexten => s,1,Hangup()\nexten => s,2(x),NoOp()\n\
 exten => s,3(x),NoOp()\ninclude => nowhere\ncolour = red\n",
     ),
     (
         "sections",
-        b"[a]\nexten => 1,1,A\n[b]\n[a]\nexten => 2,1,A\ninclude => b\n[c]\ninclude => a\ninclude => b\n",
+        "[a]\nexten => 1,1,A\n[b]\n[a]\nexten => 2,1,A\ninclude => b\n[c]\ninclude => a\ninclude => b\n",
     ),
-    ("empty", b""),
-    ("dashed", b"[-in-]\nexten => 1,1,NoOp\n"),
+    ("empty", ""),
+    ("dashed", "[-in-]\nexten => 1,1,NoOp\n"),
 ];
 
 /// The words of a command line, behind the program's own, with the files in the folder.
@@ -100,6 +100,27 @@ fn words_of(alloc: Global, folder: &str, words: &[&str]) -> Result<Vec<String>, 
     Ok(all)
 }
 
+/// The words of a command line as one text.
+fn joined(alloc: Global, words: &[&str]) -> Result<String, NoMemory> {
+    let mut all = String::new(alloc);
+    for word in words {
+        all.push_str(word)?;
+        all.push(' ')?;
+    }
+    Ok(all)
+}
+
+/// Asserts what a command line prints on one of its outputs.
+fn check_printed(rt: &impl Abort, line: &str, got: &[u8], want: &str) -> Result<(), Fail> {
+    assert_eq!(rt; str::from_utf8(got)?, want, "of {line}");
+    Ok(())
+}
+
+/// Asserts the status of a command line.
+fn check_status(rt: &impl Abort, line: &str, got: u8, want: u8) {
+    assert_eq!(rt; got, want, "of {line}");
+}
+
 /// Asserts all that a command line prints with this standard input, and its status.
 pub(super) fn check_line<R: Files + Abort + AllocGlobal>(
     rt: &R,
@@ -108,18 +129,30 @@ pub(super) fn check_line<R: Files + Abort + AllocGlobal>(
     row: &Row,
 ) -> Result<(), Fail> {
     let (words, want_output, want_errors, want_status) = row;
+    let line = joined(rt.alloc(), words)?;
     let words = words_of(rt.alloc(), folder, words)?;
-    let mut input = Told::new(input);
     let mut output = make_sink(rt.alloc(), 4096, None);
     let mut errors = make_sink(rt.alloc(), 4096, None).into_inner();
-    let status = answer(rt, rt.alloc(), &words, &mut input, &mut output, &mut errors);
-    assert_eq!(rt; str::from_utf8(&errors.held)?, *want_errors, "of {words:?}");
-    assert_eq!(rt;
-        str::from_utf8(&output.into_inner().held)?,
-        *want_output,
-        "of {words:?}"
+    let status = answer(
+        rt,
+        rt.alloc(),
+        &words,
+        &mut Told::new(input),
+        &mut output,
+        &mut errors,
     );
-    assert_eq!(rt; status, *want_status, "of {words:?}");
+    check_printed(rt, &line, &errors.held, want_errors)?;
+    check_printed(rt, &line, &output.into_inner().held, want_output)?;
+    check_status(rt, &line, status, *want_status);
+    Ok(())
+}
+
+/// Writes the files of the folder.
+fn write_files<R: Files + AllocGlobal>(rt: &R, folder: &str) -> Result<(), Fail> {
+    for (file, text) in &FILES {
+        let path = format!(in rt.alloc(); "{folder}/{file}")?;
+        fs::write(rt, path.as_str(), text.as_bytes())?;
+    }
     Ok(())
 }
 
@@ -132,10 +165,7 @@ pub(super) fn make_folder<R: Files + Env + AllocGlobal>(
     let place = env::temp_dir(rt)?;
     let folder = format!(in rt.alloc(); "{}/pbx-{name}-{number}", place.as_str())?;
     fs::create_dir(rt, folder.as_str())?;
-    for (file, bytes) in FILES {
-        let path = format!(in rt.alloc(); "{folder}/{file}")?;
-        fs::write(rt, path.as_str(), bytes)?;
-    }
+    write_files(rt, &folder)?;
     let inner = format!(in rt.alloc(); "{folder}/folder")?;
     fs::create_dir(rt, inner.as_str())?;
     Ok(folder)

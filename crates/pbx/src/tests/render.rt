@@ -12,6 +12,9 @@ use std::test::Fail;
 /// A joined text, with all that is written, and with its status or its fault as it is printed.
 pub(super) type Row = (&'static [u8], &'static [u8], &'static str);
 
+/// A text with its fault as it is printed.
+pub(super) type FaultRow = (&'static [u8], &'static str);
+
 /// A writer that takes at most `step` bytes at once, and whose write `fails_at`, counted from 0, answers an error.
 #[derive(Drop)]
 pub(super) struct Sink {
@@ -72,27 +75,85 @@ pub(super) fn ending(alloc: Global, ran: Result<u8, PbxFault>) -> Result<String,
     Ok(out)
 }
 
+/// What a run is to write and to end with, and whether one of its writes is to fail.
+#[derive(Clone, Copy)]
+pub(super) struct Want<'a> {
+    pub(super) written: &'a [u8],
+    pub(super) has_failed: bool,
+    pub(super) ending: &'a str,
+}
+
+/// Asserts two texts to be the same. The bytes name the case.
+pub(super) fn check_text(rt: &impl Abort, of: &[u8], got: &str, want: &str) {
+    assert_eq!(rt; got, want, "of {of:?}");
+}
+
+/// Asserts some bytes to be the same. The bytes `of` name the case.
+fn check_bytes(rt: &impl Abort, of: &[u8], got: &[u8], want: &[u8]) {
+    assert_eq!(rt; got, want, "of {of:?}");
+}
+
+/// Asserts whether a write has failed. The bytes name the case.
+fn check_failed(rt: &impl Abort, of: &[u8], got: bool, want: bool) {
+    assert_eq!(rt; got, want, "of {of:?}");
+}
+
+/// Asserts what a run has written, and what it ended with. The bytes name the case.
+pub(super) fn check_end(
+    rt: &impl Abort,
+    alloc: Global,
+    of: &[u8],
+    ended: Result<u8, PbxFault>,
+    writer: Told<Sink>,
+    want: Want<'_>,
+) -> Result<(), Fail> {
+    check_failed(rt, of, writer.has_failed(), want.has_failed);
+    check_bytes(rt, of, &writer.into_inner().held, want.written);
+    let got = ending(alloc, ended)?;
+    check_text(rt, of, &got, want.ending);
+    Ok(())
+}
+
 /// Runs a joined text, and asserts all that it writes and what it ends with.
+pub(super) fn check_into(
+    rt: &impl Abort,
+    alloc: Global,
+    text: &[u8],
+    mut writer: Told<Sink>,
+    want: Want<'_>,
+) -> Result<(), Fail> {
+    let ended = run_joined(alloc, text, &mut writer);
+    check_end(rt, alloc, text, ended, writer, want)
+}
+
+/// Runs a joined text, and asserts all that it writes and what it ends with, where no write fails.
 pub(super) fn check(
     rt: &impl Abort,
     alloc: Global,
     text: &[u8],
-    want: &[u8],
-    want_ending: &str,
+    written: &[u8],
+    ending: &str,
 ) -> Result<(), Fail> {
-    let mut writer = make_sink(alloc, 4096, None);
-    let result = run_joined(alloc, text, &mut writer);
-    let got_ending = ending(alloc, result)?;
-    assert_eq!(rt; got_ending.as_str(), want_ending, "of {text:?}");
-    assert!(rt; !writer.has_failed(), "of {text:?}");
-    assert_eq!(rt; writer.into_inner().held.as_slice(), want, "of {text:?}");
-    Ok(())
+    let want = Want {
+        written,
+        has_failed: false,
+        ending,
+    };
+    check_into(rt, alloc, text, make_sink(alloc, 4096, None), want)
 }
 
 /// Asserts each row of a table.
 pub(super) fn check_all(rt: &impl Abort, alloc: Global, rows: &[Row]) -> Result<(), Fail> {
     for (text, want, want_ending) in rows {
         check(rt, alloc, text, want, want_ending)?;
+    }
+    Ok(())
+}
+
+/// Asserts the fault of each row of a table, and that nothing is written.
+pub(super) fn check_faults(rt: &impl Abort, alloc: Global, rows: &[FaultRow]) -> Result<(), Fail> {
+    for (text, want_ending) in rows {
+        check(rt, alloc, text, b"", want_ending)?;
     }
     Ok(())
 }

@@ -1,12 +1,11 @@
 //! Reports on dialplans: what they write, and what they end with.
 use crate::fault::PbxFault;
 use crate::report::{check, match_one};
-use crate::tests::render::{Sink, ending, make_sink};
+use crate::tests::render::{Sink, Want, check_end, check_text, ending, make_sink};
 use dp_conf::Told;
 use dp_plan::{NoMemory, Priority};
 use std::alloc::Global;
 use std::process::Abort;
-use std::str;
 use std::test::Fail;
 
 /// A dialplan, with all that `check` writes of it, and with its status or its fault as it is printed.
@@ -80,24 +79,17 @@ const FAULT_LINES: [Row; 20] = [
     ),
 ];
 
-/// The text that a writer holds, behind what it ended with.
-fn written(
-    alloc: Global,
-    ended: Result<u8, PbxFault>,
-    writer: Told<Sink>,
-) -> Result<(String, Vec<u8>), NoMemory> {
-    Ok((ending(alloc, ended)?, writer.into_inner().held))
-}
-
 /// Asserts what `check` writes of a dialplan, and what it ends with.
 fn check_check(rt: &impl Abort, alloc: Global, row: &Row) -> Result<(), Fail> {
     let (plan, want, want_ending) = row;
+    let want = Want {
+        written: want.as_bytes(),
+        has_failed: false,
+        ending: want_ending,
+    };
     let mut writer = make_sink(alloc, 4096, None);
     let ended = check(alloc, plan, &mut writer);
-    let (got_ending, got) = written(alloc, ended, writer)?;
-    assert_eq!(rt; got_ending.as_str(), *want_ending, "of {plan:?}");
-    assert_eq!(rt; str::from_utf8(&got)?, *want, "of {plan:?}");
-    Ok(())
+    check_end(rt, alloc, plan, ended, writer, want)
 }
 
 #[test]
@@ -108,28 +100,65 @@ fn faulty_lines_are_reported(rt: HostRuntime) -> Result<(), Fail> {
     Ok(())
 }
 
+/// A dialplan with something to report.
+const NOTED: &[u8] = b"[main]\nexten => _NX,1,NoOp()\ninclude => out\n";
+
+/// What is wanted where a write fails behind these bytes.
+fn failing(written: &[u8]) -> Want<'_> {
+    Want {
+        written,
+        has_failed: true,
+        ending: "fault 9 WriteFailed",
+    }
+}
+
+/// Asserts that `check` fails where its write k does, with these bytes before it.
+fn check_failing_check(
+    rt: &impl Abort,
+    alloc: Global,
+    k: usize,
+    written: &[u8],
+) -> Result<(), Fail> {
+    let mut writer = make_sink(alloc, 1, Some(k));
+    let ended = check(alloc, NOTED, &mut writer);
+    check_end(rt, alloc, written, ended, writer, failing(written))
+}
+
+/// Asserts that `match_one` fails where its write k does, with these bytes before it.
+fn check_failing_match(
+    rt: &impl Abort,
+    alloc: Global,
+    k: usize,
+    written: &[u8],
+) -> Result<(), Fail> {
+    let mut writer = make_sink(alloc, 1, Some(k));
+    let ended = match_first(alloc, NOTED, b"main", b"23", &mut writer);
+    check_end(rt, alloc, written, ended, writer, failing(written))
+}
+
 /// One byte at a time, a report is as many writes as it has bytes: where write k fails, the bytes before it were written.
 #[test]
 fn a_writer_that_fails_at_write_k(rt: HostRuntime) -> Result<(), Fail> {
-    let plan = b"[main]\nexten => _NX,1,NoOp()\ninclude => out\n";
     let check_report = b"note 3 UnknownContext\nok 1 contexts 1 entries\n";
     let match_report = b"main,_NX,1 NoOp\n";
     for k in 0..check_report.len() {
-        let mut writer = make_sink(rt.alloc(), 1, Some(k));
-        let ended = check(rt.alloc(), plan, &mut writer);
-        assert!(rt; writer.has_failed(), "at write {k}");
-        let (got_ending, got) = written(rt.alloc(), ended, writer)?;
-        assert_eq!(rt; got_ending.as_str(), "fault 9 WriteFailed", "at write {k}");
-        assert_eq!(rt; got.as_slice(), &check_report[..k]);
+        check_failing_check(&rt, rt.alloc(), k, &check_report[..k])?;
     }
     for k in 0..match_report.len() {
-        let mut writer = make_sink(rt.alloc(), 1, Some(k));
-        let ended = match_first(rt.alloc(), plan, b"main", b"23", &mut writer);
-        assert!(rt; writer.has_failed(), "at write {k}");
-        let (got_ending, got) = written(rt.alloc(), ended, writer)?;
-        assert_eq!(rt; got_ending.as_str(), "fault 9 WriteFailed", "at write {k}");
-        assert_eq!(rt; got.as_slice(), &match_report[..k]);
+        check_failing_match(&rt, rt.alloc(), k, &match_report[..k])?;
     }
+    Ok(())
+}
+
+/// Asserts what a run ended with.
+fn check_ending(
+    rt: &impl Abort,
+    alloc: Global,
+    ended: Result<u8, PbxFault>,
+    want: &str,
+) -> Result<(), Fail> {
+    let got = ending(alloc, ended)?;
+    check_text(rt, b"", &got, want);
     Ok(())
 }
 
@@ -140,14 +169,8 @@ fn a_faulty_dialplan_asks_for_no_write(rt: HostRuntime) -> Result<(), Fail> {
     let checked = check(rt.alloc(), b"[main]\nabc\n", &mut writer);
     let matched = match_first(rt.alloc(), b"abc\n", b"", b"", &mut writer);
     assert!(rt; !writer.has_failed());
-    assert_eq!(rt;
-        ending(rt.alloc(), checked)?.as_str(),
-        "fault 4 NoEquals line 2"
-    );
-    assert_eq!(rt;
-        ending(rt.alloc(), matched)?.as_str(),
-        "fault 2 NoSection line 1"
-    );
+    check_ending(&rt, rt.alloc(), checked, "fault 4 NoEquals line 2")?;
+    check_ending(&rt, rt.alloc(), matched, "fault 2 NoSection line 1")?;
     Ok(())
 }
 
@@ -175,16 +198,22 @@ fn chain(alloc: Global, last: &str) -> Result<String, NoMemory> {
     Ok(plan)
 }
 
+/// Asserts that a chain of contexts is followed to its end.
+fn check_chain(rt: &impl Abort, alloc: Global, last: &str) -> Result<(), Fail> {
+    let plan = chain(alloc, last)?;
+    let want = Want {
+        written: b"c9999,77,1 NoOp\n",
+        has_failed: false,
+        ending: "status 0",
+    };
+    let mut writer = make_sink(alloc, 4096, None);
+    let ended = match_first(alloc, plan.as_bytes(), b"c0", b"77", &mut writer);
+    check_end(rt, alloc, last.as_bytes(), ended, writer, want)
+}
+
 /// Ten thousand contexts, of which each includes the next, and the last one the first.
 #[test]
 fn includes_are_followed_ten_thousand_deep(rt: HostRuntime) -> Result<(), Fail> {
-    for last in ["", "include => c0\n"] {
-        let plan = chain(rt.alloc(), last)?;
-        let mut writer = make_sink(rt.alloc(), 4096, None);
-        let ended = match_first(rt.alloc(), plan.as_bytes(), b"c0", b"77", &mut writer);
-        let (got_ending, got) = written(rt.alloc(), ended, writer)?;
-        assert_eq!(rt; got_ending.as_str(), "status 0");
-        assert_eq!(rt; str::from_utf8(&got)?, "c9999,77,1 NoOp\n");
-    }
-    Ok(())
+    check_chain(&rt, rt.alloc(), "")?;
+    check_chain(&rt, rt.alloc(), "include => c0\n")
 }

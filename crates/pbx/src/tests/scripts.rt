@@ -1,13 +1,17 @@
 //! Scripts with their lines or their fault, worked out by hand from the rules.
 use crate::fault::PbxFault;
 use crate::script::{ScriptLine, read_script};
-use crate::tests::render::push_fault;
+use crate::tests::render::{check_text, push_fault};
 use dp_plan::NoMemory;
 use std::alloc::Global;
+use std::process::Abort;
 use std::test::Fail;
 
+/// A script, with its lines or its fault.
+type Row = (&'static [u8], &'static str);
+
 /// Lines as `start{CONTEXT}{EXTEN}{CALLER}` and `step{CH}{COUNT}`, one after another.
-const LINES: [(&[u8], &str); 24] = [
+const LINES: [Row; 24] = [
     // Nothing to read.
     (b"", ""),
     (b"\n\n", ""),
@@ -48,7 +52,7 @@ const LINES: [(&[u8], &str); 24] = [
 ];
 
 /// Scripts of which a line is faulty, with its number.
-const FAULTY: [(&[u8], &str); 38] = [
+const FAULTY: [Row; 38] = [
     // Words that no line begins with.
     (b"jump 1", "fault 70 BadScript line 1"),
     (b"digit 1 5", "fault 70 BadScript line 1"),
@@ -124,22 +128,21 @@ fn shown(alloc: Global, read: &Result<Vec<ScriptLine>, PbxFault>) -> Result<Stri
     Ok(out)
 }
 
-#[test]
-fn scripts_are_read_as_these_lines(rt: HostRuntime) -> Result<(), Fail> {
-    for (text, want) in LINES {
-        let read = read_script(rt.alloc(), text);
-        let got = shown(rt.alloc(), &read)?;
-        assert_eq!(rt; got.as_str(), want, "of {text:?}");
+/// Asserts the lines or the fault of each row of a table.
+fn check_scripts(rt: &impl Abort, alloc: Global, rows: &[Row]) -> Result<(), Fail> {
+    for (text, want) in rows {
+        let got = shown(alloc, &read_script(alloc, text))?;
+        check_text(rt, text, &got, want);
     }
     Ok(())
 }
 
 #[test]
+fn scripts_are_read_as_these_lines(rt: HostRuntime) -> Result<(), Fail> {
+    check_scripts(&rt, rt.alloc(), &LINES)
+}
+
+#[test]
 fn faulty_scripts_have_these_faults(rt: HostRuntime) -> Result<(), Fail> {
-    for (text, want) in FAULTY {
-        let read = read_script(rt.alloc(), text);
-        let got = shown(rt.alloc(), &read)?;
-        assert_eq!(rt; got.as_str(), want, "of {text:?}");
-    }
-    Ok(())
+    check_scripts(&rt, rt.alloc(), &FAULTY)
 }
