@@ -1,6 +1,7 @@
 pub mod FillingLemmas
-pub mod FoundEntryLemmas
 pub mod FoundLemmas
+pub mod QuestionsLemmas
+pub mod RankedLemmas
 mod Rows
 pub mod SeenLemmas
 pub mod VisitLemmas

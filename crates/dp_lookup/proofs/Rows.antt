@@ -3,7 +3,7 @@ use Rattle.std.proofs.Common.{◌≡◌, ℕ, true, false, List, [], ◌∷◌, 
 use Rattle.std.specs.Prelude.{codes}
 use Rattle.dp_pattern.specs.Name.{Meaning, Plain, Pattern}
 use Rattle.dp_pattern.specs.Order.{name_cmp}
-use Rattle.dp_pattern.specs.declared.tail.Tail.TheVariants.{Dot}
+use Rattle.dp_pattern.specs.declared.tail.Tail.TheVariants.{End, Dot}
 use Rattle.dp_plan.specs.Contexts.{PlanContext}
 use Rattle.dp_plan.specs.Plan.{PlanOf}
 use Rattle.dp_plan.specs.declared.entry.Entry.{Entry}
@@ -125,6 +125,25 @@ found-none : found_entry office both_contexts (codes "12") 4 ≡ None
 unfolding found_entry name_cmp
 found-none = refl
 
+-- two entries of one name and priority, which no loaded dialplan has, and a name that no text means
+abbrev doubled : PlanOf
+doubled = plan_of (
+    (record {
+      name = codes "doubled";
+      entries =
+          entry_of (Plain (codes "1")) 2 None
+          ∷ entry_of (Plain (codes "7")) 1 None
+          ∷ entry_of (Plain (codes "7")) 1 None ∷ [];
+      includes = [];
+    })
+    ∷ (record { name = codes "no member"; entries = entry_of (Pattern ([] ∷ []) End) 1 None ∷ []; includes = [] })
+    ∷ [])
+
+-- of entries that tie, the first in the file
+found-first_of_two : found_entry doubled (0 ∷ []) (codes "7") 1 ≡ id_of 0 1
+unfolding found_entry name_cmp
+found-first_of_two = refl
+
 -- of two labels of one name, the lower priority
 label-lowest : found_label office both_contexts (codes "12") (codes "out") ≡ Some 3
 unfolding found_label name_cmp
@@ -154,3 +173,8 @@ more-ended = refl
 more-no_priority_1 : goes_on_more office (1 ∷ []) (codes "1") ≡ false
 unfolding goes_on_more name_cmp
 more-no_priority_1 = refl
+
+-- a class of no member is waited for, though no ending has a member of it: so the law asks for names that texts mean
+more-no_member : goes_on_more doubled (1 ∷ []) [] ≡ true
+unfolding goes_on_more name_cmp
+more-no_member = refl

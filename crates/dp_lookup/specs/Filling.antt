@@ -1,8 +1,13 @@
--- How far the walk through a dialplan's contexts has come.
-use Rattle.std.specs.Prelude.{◌≡◌, ℕ, zero, suc, ◌+◌, ◌≤◌, Bool, List, [], ◌∷◌, ◌++◌, length, drop, if◌then◌else◌}
+-- A step of the code: how far the walk through a dialplan's contexts has come, with its marks and its frames. What it
+-- comes to is `visit` of SearchOrder.
+use Rattle.std.specs.Prelude.{◌≡◌, ℕ, zero, suc, ◌+◌, ◌<◌, ◌≤◌, Bool, List, [], ◌∷◌, ◌++◌, length, drop, slice_get, Some, if◌then◌else◌}
 use Rattle.dp_plan.specs.Plan.{PlanOf}
-use Rattle.dp_lookup.specs.SearchOrder.{context_count, links_at, has, IsMarked, AreContexts}
+use Rattle.dp_lookup.specs.SearchOrder.{context_count, links_at, has, AreContexts}
 use Rattle.dp_lookup.specs.declared.visit.Frame.{Frame}
+
+-- there is a mark for each number below some bound, and it says whether the order has the number
+abbrev pub IsMarked : List ℕ → List Bool → Type 0
+IsMarked order marks = (number : ℕ) → number < length marks → slice_get marks number ≡ Some (has order number)
 
 -- the includes of a context that are still to come
 abbrev pub links_left : PlanOf → Frame → List ℕ

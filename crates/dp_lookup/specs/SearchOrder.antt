@@ -1,11 +1,11 @@
 -- The contexts in which a look-up searches, in their order.
-use Rattle.std.specs.Prelude.{◌≡◌, ℕ, zero, suc, ◌<◌, ◌==◌, nat_lt, Bool, not, ◌&&◌, List, [], ◌∷◌, ◌++◌, length, map, fold, slice_get, Some, All, unwrap_or, if◌then◌else◌}
+use Rattle.std.specs.Prelude.{◌≡◌, ℕ, zero, suc, ◌<◌, ◌==◌, nat_lt, Bool, not, ◌&&◌, List, [], ◌∷◌, ◌++◌, length, map, fold, All, unwrap_or, if◌then◌else◌}
 use Rattle.std.specs.List.{list_any}
 use Rattle.std.specs.Option.{option_map_or}
 use Rattle.dp_plan.specs.Lookup.{number_of, includes_at}
 use Rattle.dp_plan.specs.Plan.{PlanOf}
 
--- a search order: the numbers of its contexts, and how many contexts it has room for
+-- a search order: the numbers of its contexts, and how many contexts each of its lists has room for, no more and no fewer
 pub record OrderOf : Type 0 where
   pub contexts : List ℕ
   pub room : ℕ
@@ -64,7 +64,3 @@ search_order plan name = option_map_or (visit plan []) (number_of plan name) []
 -- each number is that of a context
 abbrev pub AreContexts : PlanOf → List ℕ → Type 0
 AreContexts plan order = All (λ number. number < context_count plan) order
-
--- there is a mark for each number below some bound, and it says whether the order has the number
-abbrev pub IsMarked : List ℕ → List Bool → Type 0
-IsMarked order marks = (number : ℕ) → number < length marks → slice_get marks number ≡ Some (has order number)

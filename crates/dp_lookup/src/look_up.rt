@@ -1,13 +1,16 @@
 //! The entries that a look-up finds in a search order.
-ghost use Rattle.std.specs.Prelude.{◌≡◌, ◌↔◌, ℕ, length, Some, is_some, IsTrue, MatchOption};
-ghost use Rattle.dp_plan.specs.Lookup.{IsRankedAt};
+ghost use Rattle.std.specs.Prelude.{◌≡◌, ◌↔◌, ℕ, List, Some, is_some, All, IsTrue, MatchOption};
+ghost use Rattle.std.specs.List as lists;
+ghost use Rattle.dp_plan.specs.Contexts.{AreNamed};
+ghost use Rattle.dp_plan.specs.Plan.{PlanOf};
+ghost use Rattle.dp_plan.specs.Ranking.{AreApart};
 ghost use Rattle.dp_plan.specs.declared.entry.EntryId.{EntryId};
 ghost use Rattle.dp_lookup.specs.Found.{HasPriority, HasLabel, NoneAsked, IsFound, SomeFound, IsFoundLabel, SomeGoesOn};
-ghost use Rattle.dp_lookup.specs.FoundEntry.{passing, least, found_by, found_entry, found_label, goes_on_more};
-ghost use Rattle.dp_lookup.specs.Questions.{Asked, asks, Passes, NoneBefore, IsFirst, NoneIn, IsFirstIn, SomeFirst, SomeLeast};
+ghost use Rattle.dp_lookup.specs.FoundEntry.{passes, passing, least, found_by, found_entry, found_label, goes_on_more};
+ghost use Rattle.dp_lookup.specs.Questions.{asks};
 
 use crate::order::SearchOrder;
-use dp_pattern::{could_match_more, matches, order_is_total};
+use dp_pattern::{could_match_more, matches};
 use dp_plan::{Dialplan, Entry, EntryId};
 
 /// What an entry is asked for, beside a text.
@@ -32,8 +35,7 @@ fn has_label(entry: &Entry, label: &[u8]) -> bool
 
 /// Whether the entry is one that the question asks for.
 fn is_asked(question: Question<'_>, text: &[u8], entry: &Entry) -> bool
-    ensures asked { IsTrue result ↔ Asked question.entry text.now entry.now }
-    ensures value { result ≡ asks question.entry text.now entry.now }
+    ensures { result ≡ asks question.entry text.now entry.now }
 {
     match question {
         Question::Priority(priority) => {
@@ -51,10 +53,7 @@ fn first_of(
     question: Question<'_>,
     text: &[u8],
 ) -> Option<EntryId>
-    ensures asked { MatchOption result (NoneBefore plan.now ids.now (Asked question.entry text.now) (length ids.now))
-        (IsFirst plan.now ids.now (Asked question.entry text.now)) }
-    ensures passing { MatchOption result (NoneBefore plan.now ids.now (Passes (asks question.entry text.now)) (length ids.now))
-        (IsFirst plan.now ids.now (Passes (asks question.entry text.now))) }
+    ensures { result ≡ lists.find (passes plan.now (asks question.entry text.now)) ids.now }
 {
     for id in ids {
         if let Some(entry) = plan.entry(*id) {
@@ -66,25 +65,21 @@ fn first_of(
     None
 }
 
-/// The entry of the context of this number that the question asks for and that stands before every other such entry.
+/// The least entry of the context of this number that the question asks for.
 fn find_in(plan: &Dialplan, number: usize, question: Question<'_>, text: &[u8]) -> Option<EntryId>
-    ensures asked { MatchOption result (NoneIn plan.now number (Asked question.entry text.now))
-        (IsFirstIn plan.now number (Asked question.entry text.now)) }
-    ensures value { result ≡ least plan.now (passing plan.now (asks question.entry text.now) number) }
+    ensures { result ≡ least plan.now (passing plan.now (asks question.entry text.now) number) }
 {
     first_of(plan, plan.ranked_at(number), question, text)
 }
 
-/// The entry that the question asks for and that stands first in the contexts of these numbers.
+/// The least entry that the question asks for, in the first of the contexts of these numbers that has such an entry.
 fn find_first(
     plan: &Dialplan,
     order: &[usize],
     question: Question<'_>,
     text: &[u8],
 ) -> Option<EntryId>
-    ensures asked { MatchOption result (NoneAsked (Asked question.entry text.now) plan.now order.now)
-        (SomeFirst plan.now order.now (Asked question.entry text.now)) }
-    ensures value { result ≡ found_by plan.now (asks question.entry text.now) order.now }
+    ensures { result ≡ found_by plan.now (asks question.entry text.now) order.now }
 {
     for number in order {
         let found = find_in(plan, *number, question, text);
@@ -93,22 +88,6 @@ fn find_first(
         }
     }
     None
-}
-
-/// The least entry of the contexts of these numbers that the question asks for.
-fn find_least(
-    plan: &Dialplan,
-    order: &[usize],
-    question: Question<'_>,
-    text: &[u8],
-) -> Option<EntryId>
-    ensures least { MatchOption result (NoneAsked (Asked question.entry text.now) plan.now order.now)
-        (SomeLeast plan.now order.now (Asked question.entry text.now)) }
-    ensures value { result ≡ found_by plan.now (asks question.entry text.now) order.now }
-{
-    // What stands first is least, since the order of names is total.
-    order_is_total();
-    find_first(plan, order, question, text)
 }
 
 /// The entry of the order's contexts that matches the dialled text and has the priority, or None where there is none.
@@ -124,7 +103,8 @@ pub fn find(plan: &Dialplan, order: &SearchOrder, text: &[u8], priority: u32) ->
     ensures once { (a b : EntryId) → IsFound plan.now order.now.contexts text.now priority a
         → IsFound plan.now order.now.contexts text.now priority b → a ≡ b }
 {
-    find_least(plan, order.contexts(), Question::Priority(priority), text)
+    plan.entries_are_known();
+    find_first(plan, order.contexts(), Question::Priority(priority), text)
 }
 
 /// The priority of the entry of the order's contexts that matches the dialled text and has the label, or None where
@@ -139,7 +119,7 @@ pub fn find_label(plan: &Dialplan, order: &SearchOrder, text: &[u8], label: &[u8
     ensures once { (a b : ℕ) → IsFoundLabel plan.now order.now.contexts text.now label.now a
         → IsFoundLabel plan.now order.now.contexts text.now label.now b → a ≡ b }
 {
-    let id = find_least(plan, order.contexts(), Question::Label(label), text)?;
+    let id = find_first(plan, order.contexts(), Question::Label(label), text)?;
     let entry = plan.entry(id)?;
     Some(entry.priority.get())
 }
@@ -159,5 +139,33 @@ pub fn could_be_more(plan: &Dialplan, order: &SearchOrder, text: &[u8]) -> bool
     ensures found { IsTrue result ↔ SomeGoesOn plan.now order.now.contexts text.now }
     ensures value { result ≡ goes_on_more plan.now order.now.contexts text.now }
 {
+    plan.entries_are_known();
     find_first(plan, order.contexts(), Question::More, text).is_some()
 }
+
+/// What `found_entry` finds, in any dialplan: the least entry of the priority, and None exactly where there is none.
+/// Where no two entries of a context have the same name and priority, as in every loaded dialplan, there is no other.
+pub fn found_entry_is_the_least()
+    ensures found { (plan : PlanOf) (order text : List ℕ) (priority : ℕ)
+        → MatchOption (found_entry plan order text priority) (NoneAsked (HasPriority text priority) plan order)
+        (IsFound plan order text priority) }
+    ensures once { (plan : PlanOf) (order text : List ℕ) (priority : ℕ) → All (λ context. AreApart context.entries) plan.contexts
+        → (a b : EntryId) → IsFound plan order text priority a → IsFound plan order text priority b → a ≡ b }
+{}
+
+/// What `found_label` finds, in any dialplan: the priority of the least entry of the label, and None exactly where there
+/// is none. There is no other.
+pub fn found_label_is_of_the_least()
+    ensures found { (plan : PlanOf) (order text label : List ℕ)
+        → MatchOption (found_label plan order text label) (NoneAsked (HasLabel text label) plan order)
+        (IsFoundLabel plan order text label) }
+    ensures once { (plan : PlanOf) (order text label : List ℕ) (a b : ℕ) → IsFoundLabel plan order text label a
+        → IsFoundLabel plan order text label b → a ≡ b }
+{}
+
+/// What `goes_on_more` says, in any dialplan whose names are what some texts mean, as those of every loaded dialplan
+/// are: that some ending of the text would match an entry of priority 1.
+pub fn goes_on_more_is_some_ending()
+    ensures { (plan : PlanOf) (order text : List ℕ) → All (λ context. AreNamed context.entries) plan.contexts
+        → IsTrue (goes_on_more plan order text) ↔ SomeGoesOn plan order text }
+{}

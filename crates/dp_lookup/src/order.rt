@@ -1,5 +1,5 @@
 //! The contexts in which a look-up searches.
-ghost use Rattle.std.specs.Prelude.{◌≡◌, ◌≤◌, [], length, IfOk};
+ghost use Rattle.std.specs.Prelude.{◌≡◌, ◌≤◌, [], false, length, replicate, vec_capacity, IfOk};
 ghost use Rattle.dp_plan.specs.Plan.{PlanOf};
 ghost use Rattle.dp_lookup.specs.SearchOrder.{context_count, visit, search_order, AreContexts, IsTheVisit};
 
@@ -9,7 +9,8 @@ use std::alloc::Global;
 use std::marker::Model;
 
 /// The contexts in which a look-up searches, in their order, and room for every context of a dialplan. A contract sees
-/// it as the numbers of its contexts, and how many contexts it has room for.
+/// it as the numbers of its contexts, and how many contexts each of its lists has room for: where that number stays, no
+/// list has grown.
 ///
 /// After the Asterisk documentation's page on the dialplan, a context is searched and then its includes, in the order
 /// of the file. That they are searched depth first, each context once, is this program's own choice.
@@ -21,19 +22,33 @@ pub struct SearchOrder {
 }
 
 impl Model for SearchOrder {
-    ghost use Rattle.std.specs.Prelude.{◌<◌, ◌≤◌, All, vec_capacity, vec_len};
-    ghost use Rattle.dp_lookup.specs.SearchOrder.{OrderOf, IsMarked};
+    ghost use Rattle.std.specs.Prelude.{◌≡◌, ◌<◌, All, vec_capacity, vec_len};
+    ghost use Rattle.dp_lookup.specs.Filling.{IsMarked};
+    ghost use Rattle.dp_lookup.specs.SearchOrder.{OrderOf};
 
     ghost Value = { OrderOf };
 
     ghost view = { λ order. record { contexts = order.contexts.items; room = vec_len order.marks } };
 
-    // The marks are those of the order, and the lists have room for every context.
+    // The marks are those of the order, and each list has room for every context, and for no more.
     ghost invariant = { λ order.
         IsMarked order.contexts.items order.marks.items
         × All (λ number. number < vec_len order.marks) order.contexts.items
-        × (vec_len order.marks ≤ vec_capacity order.contexts)
-        × (vec_len order.marks ≤ vec_capacity order.frames) };
+        × (vec_capacity order.contexts ≡ vec_len order.marks)
+        × (vec_capacity order.marks ≡ vec_len order.marks)
+        × (vec_capacity order.frames ≡ vec_len order.marks) };
+}
+
+/// So many marks, each of them taken away, with room for no more.
+fn no_marks(alloc: Global, count: usize) -> Result<Vec<bool>, NoMemory>
+    ensures marks { IfOk result (λ marks. marks.items ≡ replicate count false) }
+    ensures room { IfOk result (λ marks. vec_capacity marks ≡ count) }
+{
+    let mut marks = Vec::with_capacity(alloc, count)?;
+    for _ in 0..count {
+        marks.push_reserved(false);
+    }
+    Ok(marks)
 }
 
 impl SearchOrder {
@@ -43,7 +58,7 @@ impl SearchOrder {
     {
         let count = plan.contexts().len();
         let contexts = Vec::with_capacity(alloc, count)?;
-        let marks = vec![in alloc; false; count]?;
+        let marks = no_marks(alloc, count)?;
         let frames = Vec::with_capacity(alloc, count)?;
         Ok(SearchOrder {
             contexts,
@@ -66,8 +81,8 @@ impl SearchOrder {
     }
 
     /// Makes this the order of the context of this name, as `of` gives it. There is room for every context of the
-    /// dialplan, as in an order that `room` made for it. It takes no memory, and costs the order that it makes and the
-    /// one that stood here before.
+    /// dialplan, as in an order that `room` made for it. It takes no memory, since each list keeps the room that it has,
+    /// and costs the order that it makes and the one that stood here before.
     pub fn fill(&mut self, plan: &Dialplan, context: &Text)
         requires { context_count plan.now ≤ self.old.room }
         ensures order { self.new.contexts ≡ search_order plan.now context.now }

@@ -5,5 +5,6 @@ mod EntryLemmas
 mod HistoryLemmas
 mod ItemsLemmas
 mod LoadedLemmas
-mod RankingLemmas
+mod NamedLemmas
+pub mod RankingLemmas
 mod Rows

@@ -15,11 +15,11 @@ use Rattle.dp_plan.specs.declared.item.Item.{Item}
 use Rattle.dp_plan.specs.declared.note.Note.{Note}
 
 -- the dialplan of readings that all gave items
-abbrev of_items : Result (List Item) LoadFault → Result (PlanOf × List Note) LoadFault
+abbrev pub of_items : Result (List Item) LoadFault → Result (PlanOf × List Note) LoadFault
 of_items read = read >>= λ items. Ok (plan_of items, notes_of items)
 
 -- the dialplan of lines that were read
-abbrev of_lines : Result (List ConfLine) LineFault → Result (PlanOf × List Note) LoadFault
+abbrev pub of_lines : Result (List ConfLine) LineFault → Result (PlanOf × List Note) LoadFault
 of_lines lines = text_fault lines >>= λ ls. of_items (items_after [] ls)
 
 -- a fault of the text is that of the dialplan

@@ -3,12 +3,13 @@ use Rattle.std.proofs.Common.{◌≡◌, ℕ, zero, suc, ◌+◌, ◌<◌, Bool,
 use Rattle.std.specs.Cmp.{IsTotalOrder, IsStrictWeakOrder, unsigned_ties}
 use Rattle.std.specs.Cmp.Lexicographic.{nat_list_eq_equiv}
 use Rattle.std.specs.Fn.{Called, Mut, ComparesAs}
-use Rattle.std.specs.List.{AllByRecursion, IsDistinct, range_with_len}
+use Rattle.std.specs.List.{All, AllByRecursion, IsDistinct, range_with_len}
 use Rattle.std.specs.Ordering.{ordering_then, ordering_reverse}
+use Rattle.std.proofs.lemmas.Bool.{cases_order}
 use Rattle.std.proofs.lemmas.Cmp.{on_total, then_total, nat_cmp_total, nat_eq_equiv}
 use Rattle.std.proofs.lemmas.Fn.{always_returns_same}
 use Rattle.std.proofs.lemmas.List.{length_push, take_more}
-use Rattle.std.proofs.lemmas.List.Elements.{All-from_recursion, recursion_from_All}
+use Rattle.std.proofs.lemmas.List.Elements.{All-from_recursion, All-push, recursion_from_All}
 use Rattle.std.proofs.lemmas.List.Sorted.{All-permutation, IsPermutation-map, ranks_by, sorted_far}
 use Rattle.std.proofs.lemmas.Map.Keys.{apart_from_distinct, IsDistinct-IsPermutation}
 use Rattle.std.proofs.lemmas.Option.{none-some, same_Some, slice_get_within, get_or_from_slice_get}
@@ -18,7 +19,7 @@ use Rattle.dp_pattern.specs.Name.{Meaning}
 use Rattle.dp_pattern.specs.Order.{name_cmp}
 use Rattle.dp_pattern.specs.Spelling.{spelling}
 use Rattle.dp_pattern.proofs.OrderLemmas.{name_cmp_total, orders_names}
-use Rattle.dp_plan.specs.Contexts.{PlanContext}
+use Rattle.dp_plan.specs.Contexts.{PlanContext, AreNamed}
 use Rattle.dp_plan.specs.Ranking.{entry_cmp, shares_place, AreApart, ids_of, numbered_from, numbered_now, ranked_entry, IsRanking, AreRanked}
 use Rattle.dp_plan.specs.declared.entry.Entry.{Entry}
 use Rattle.dp_plan.specs.declared.entry.EntryId.{EntryId}
@@ -27,7 +28,7 @@ use Rattle.dp_plan.specs.declared.ranking.Numbered.{Numbered}
 -- ---- the order of entries
 
 -- the order of entries is total
-entry_cmp_total : IsTotalOrder entry_cmp
+pub entry_cmp_total : IsTotalOrder entry_cmp
 entry_cmp_total = then_total (on_total (λ (e : Entry). e.name) name_cmp_total) (on_total (λ (e : Entry). e.priority) nat_cmp_total)
 
 -- where a comparison and the one after it tie together, each ties
@@ -56,6 +57,20 @@ less_from_apart : (a b : Entry) (o : Ordering) → entry_cmp a b ≡ o → share
 less_from_apart a b Less e apart back = refl
 less_from_apart a b Equal e apart back = absurd (true≢false (sym (tied-shares_place a b e) ∙ apart))
 less_from_apart a b Greater e apart back = absurd (true≢false (sym (ap is_lt (entry_cmp_total.antisymm b a ∙ ap ordering_reverse e)) ∙ back))
+
+-- of entries that are apart, two that tie are one
+pub one_place : (entries : List Entry) → AreApart entries → (i j : ℕ) (a b : Entry) → slice_get entries i ≡ Some a → slice_get entries j ≡ Some b → entry_cmp a b ≡ Equal → i ≡ j
+one_place entries apart i j a b at_i at_j tied =
+    elim (cases_order i j) [
+      | inl same ↦ same
+      | inr (inl below) ↦ absurd (differ i j a b at_i at_j below tied)
+      | inr (inr above) ↦ absurd (differ j i b a at_j at_i above (entry_cmp_total.antisymm b a ∙ ap ordering_reverse tied))
+    ]
+  where
+    differ : (i j : ℕ) (a b : Entry) → slice_get entries i ≡ Some a → slice_get entries j ≡ Some b → i < j → entry_cmp a b ≡ Equal → ⊥
+    differ i j a b at_i at_j below tied =
+        let two : shares_place a b ≡ false = (λ k. shares_place (sym (get_or_from_slice_get entries i a a at_i) k) (sym (get_or_from_slice_get entries j b a at_j) k)) ∙ apart_from_distinct shares_place entries i j a apart below (slice_get_within entries j b at_j) in
+        true≢false (sym (tied-shares_place a b tied) ∙ two)
 
 -- ---- entries beside their numbers
 
@@ -187,3 +202,10 @@ AreRanked-more contexts rankings n context ids before within here last =
     let size : n ≡ length (take n contexts) = sym (length-take-le n contexts (omega arith)) in
     let more : take n contexts ++ context ∷ [] ≡ take (n + 1) contexts = ap (λ (c : PlanContext). take n contexts ++ c ∷ []) here ∙ sym (take_more contexts n context within) in
     subst (λ (l : List PlanContext). AreRanked l (rankings ++ ids ∷ [])) more (AreRanked-push (take n contexts) rankings context ids before (subst (λ (m : ℕ). IsRanking m context.entries ids) size last))
+
+-- with one more context whose entries are named, so are those of all contexts up to it
+pub AreAllNamed-more : (contexts : List PlanContext) (n : ℕ) (context : PlanContext) → All (λ (c : PlanContext). AreNamed c.entries) (take n contexts) → n < length contexts → context ≡ get_or contexts n context → AreNamed context.entries → All (λ (c : PlanContext). AreNamed c.entries) (take (n + 1) contexts)
+AreAllNamed-more contexts n context before within here named =
+    let P : PlanContext → Type 0 = λ c. AreNamed c.entries in
+    let more : take n contexts ++ context ∷ [] ≡ take (n + 1) contexts = ap (λ (c : PlanContext). take n contexts ++ c ∷ []) here ∙ sym (take_more contexts n context within) in
+    subst (All P) more (All-push P (take n contexts) context before named)

@@ -1,5 +1,7 @@
 -- A context of a dialplan.
 use Rattle.std.specs.Prelude.{ℕ, List, [], ◌∷◌, ◌++◌}
+use Rattle.std.specs.List.{All}
+use Rattle.dp_pattern.specs.Name.{IsName}
 use Rattle.dp_plan.specs.declared.entry.Entry.{Entry}
 
 -- a context: its name, and its entries and the names of the contexts that it includes, in the order of the file
@@ -7,6 +9,10 @@ pub record PlanContext : Type 0 where
   pub name : List ℕ
   pub entries : List Entry
   pub includes : List (List ℕ)
+
+-- the name of each entry is one that some text means
+abbrev pub AreNamed : List Entry → Type 0
+AreNamed = All (λ entry. IsName entry.name)
 
 -- the context with one more entry
 abbrev pub with_entry : Entry → PlanContext → PlanContext

@@ -1,4 +1,5 @@
--- What the lines so far leave for the next one, kept so that it is found at once.
+-- A step of the code: what the lines so far leave for the next one, kept so that it is found at once. What all their
+-- items leave, one after another, is `history_of` of History.
 use Rattle.std.specs.Prelude.{ℕ, List, [], Option, Some, None}
 use Rattle.std.specs.Map.{lookup}
 use Rattle.indexmap.specs.IndexMap.{insert_entry}

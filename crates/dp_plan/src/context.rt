@@ -15,7 +15,7 @@ pub struct Context {
 }
 
 impl Model for Context {
-    ghost use Rattle.dp_plan.specs.Contexts.{PlanContext};
+    ghost use Rattle.dp_plan.specs.Contexts.{PlanContext, AreNamed};
 
     ghost Value = { PlanContext };
 
@@ -24,10 +24,12 @@ impl Model for Context {
       entries = context.entries.items;
       includes = context.includes.items;
     } };
+
+    ghost invariant = { λ context. AreNamed context.entries.items };
 }
 
 impl Context {
-    ghost use Rattle.dp_plan.specs.Contexts.{with_entry, with_include};
+    ghost use Rattle.dp_plan.specs.Contexts.{AreNamed, with_entry, with_include};
 
     /// A context with no entries and no includes.
     pub(crate) fn new(alloc: Global, name: Text) -> Self
@@ -62,10 +64,19 @@ impl Context {
         &self.includes
     }
 
+    /// The name of each entry is one that some text means.
+    pub(crate) fn entries_are_named(&self)
+        ensures { AreNamed self.now.entries }
+    {
+        let _entries = &self.entries;
+    }
+
     /// Adds an entry behind the others.
     pub(crate) fn push(&mut self, entry: Entry) -> Result<(), NoMemory>
         ensures { OnOk result (self.new ≡ with_entry entry self.old) }
     {
+        // What a name is made of is what some text means.
+        let _parts = entry.name.parts();
         self.entries.push(entry)?;
         Ok(())
     }

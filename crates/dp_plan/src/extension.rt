@@ -1,6 +1,7 @@
 //! The extensions of a dialplan.
-ghost use Rattle.std.specs.Prelude.{IfOk, ◌≡◌};
-ghost use Rattle.dp_plan.specs.Extensions.{extension_of};
+ghost use Rattle.std.specs.Prelude.{IfOk, IsTrue, ◌≡◌, ◌↔◌};
+ghost use Rattle.dp_pattern.specs.Name.{Meaning, IsName};
+ghost use Rattle.dp_plan.specs.Extensions.{extension_of, same_name};
 
 use dp_conf::{NoMemory, Text};
 use dp_pattern::Name;
@@ -26,3 +27,9 @@ impl Extension {
         })
     }
 }
+
+/// Two names have one canonical spelling exactly where they mean the same: names of one meaning are one extension, and
+/// names of two meanings are two.
+pub fn same_names_are_equal()
+    ensures { (a b : Meaning) → IsName a → IsName b → IsTrue (same_name a b) ↔ (a ≡ b) }
+{}

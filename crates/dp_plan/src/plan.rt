@@ -1,10 +1,14 @@
 //! A loaded dialplan.
-ghost use Rattle.std.specs.Prelude.{◌≡◌, ◌≤◌, map, IfSome};
+ghost use Rattle.std.specs.Prelude.{◌≡◌, ◌<◌, ◌≤◌, ℕ, List, Ok, map, slice_index, EachIndex, IfSome};
+ghost use Rattle.std.specs.List.{All};
 ghost use Rattle.std.specs.Option.{option_copied};
 ghost use Rattle.dp_conf.specs.Answers.{Answers};
+ghost use Rattle.dp_plan.specs.Contexts.{AreNamed};
 ghost use Rattle.dp_plan.specs.Faults.{reason_of};
 ghost use Rattle.dp_plan.specs.Loaded.{loaded};
-ghost use Rattle.dp_plan.specs.Ranking.{AreRanked};
+ghost use Rattle.dp_plan.specs.Plan.{PlanOf};
+ghost use Rattle.dp_plan.specs.Ranking.{AreRanked, AreApart};
+ghost use Rattle.dp_plan.specs.declared.note.Note.{Note};
 
 use crate::context::Context;
 use crate::draft::read_draft;
@@ -37,8 +41,10 @@ pub struct Dialplan {
 
 impl Model for Dialplan {
     ghost use Rattle.std.specs.Prelude.{◌≡◌, map};
+    ghost use Rattle.std.specs.List.{All};
+    ghost use Rattle.dp_plan.specs.Contexts.{AreNamed};
     ghost use Rattle.dp_plan.specs.Plan.{PlanOf};
-    ghost use Rattle.dp_plan.specs.Ranking.{AreRanked};
+    ghost use Rattle.dp_plan.specs.Ranking.{AreRanked, AreApart};
 
     ghost Value = { PlanOf };
 
@@ -46,7 +52,9 @@ impl Model for Dialplan {
 
     ghost invariant = { λ plan.
         (plan.names.keys ≡ map (λ context. context.name) plan.contexts.items)
-        × AreRanked plan.contexts.items plan.rankings.items };
+        × AreRanked plan.contexts.items plan.rankings.items
+        × All (λ context. AreNamed context.entries) plan.contexts.items
+        × All (λ context. AreApart context.entries) plan.contexts.items };
 }
 
 impl Dialplan {
@@ -74,6 +82,8 @@ impl Dialplan {
     ) -> Self
         requires names { names.keys ≡ map (λ context. context.name) contexts.items }
         requires ranked { AreRanked contexts.items rankings.items }
+        requires named { All (λ context. AreNamed context.entries) contexts.items }
+        requires apart { All (λ context. AreApart context.entries) contexts.items }
         ensures { result ≡ record { globals = globals.items; contexts = contexts.items } }
     {
         Dialplan {
@@ -82,6 +92,15 @@ impl Dialplan {
             contexts,
             rankings,
         }
+    }
+
+    /// What is known of the entries of every dialplan: the name of each is one that some text means, and no two of a
+    /// context have the same name and priority. It does nothing.
+    pub fn entries_are_known(&self)
+        ensures named { All (λ context. AreNamed context.entries) self.now.contexts }
+        ensures apart { All (λ context. AreApart context.entries) self.now.contexts }
+    {
+        let _contexts = &self.contexts;
     }
 
     /// The contexts in the order of first appearance, with their names and entries.
@@ -155,3 +174,12 @@ impl Dialplan {
         }
     }
 }
+
+/// What is known of the entries of every dialplan that a text loads as: the name of each is one that some text means,
+/// and no two of a context have the same name and priority.
+pub fn loaded_entries_are_known()
+    ensures named { (text : List ℕ) (plan : PlanOf) (notes : List Note) → EachIndex text (λ k. slice_index text k < 256)
+        → loaded text ≡ Ok (plan, notes) → All (λ context. AreNamed context.entries) plan.contexts }
+    ensures apart { (text : List ℕ) (plan : PlanOf) (notes : List Note) → loaded text ≡ Ok (plan, notes)
+        → All (λ context. AreApart context.entries) plan.contexts }
+{}

@@ -1,6 +1,7 @@
 //! The order in which the entries of a context are asked.
 ghost use Rattle.std.specs.Prelude.{◌≡◌, ◌≤◌, ◌^◌, length, map, IfOk};
 ghost use Rattle.std.specs.List.{All};
+ghost use Rattle.dp_plan.specs.Contexts.{AreNamed};
 ghost use Rattle.dp_plan.specs.Ranking as spec;
 
 use crate::context::Context;
@@ -91,10 +92,12 @@ fn rank(alloc: Global, context: usize, entries: &[Entry]) -> Result<Ranking, NoM
 /// The rankings of all contexts.
 pub(crate) fn rank_contexts(alloc: Global, contexts: &[Context]) -> Result<Vec<Ranking>, NoMemory>
     requires { All (λ context. spec.AreApart context.entries) contexts.now }
-    ensures { IfOk result (λ rankings. spec.AreRanked contexts.now rankings.items) }
+    ensures ranked { IfOk result (λ rankings. spec.AreRanked contexts.now rankings.items) }
+    ensures named { IfOk result (λ rankings. All (λ context. AreNamed context.entries) contexts.now) }
 {
     let mut rankings = Vec::with_capacity(alloc, contexts.len())?;
     for (number, context) in contexts.iter().enumerate() {
+        context.entries_are_named();
         let ranking = rank(alloc, number, context.entries())?;
         rankings.push(ranking)?;
     }
