@@ -1,4 +1,4 @@
--- How definitions see the frames of the code.
+-- A step of the code: how definitions see the frames of its stack, which are those of `walk` of Walk.
 use Rattle.std.specs.Prelude.{ℕ, Bool, false, List, [], ◌∷◌}
 use Rattle.dp_expr.specs.declared.frame.Frame.{Frame as OpenFrame}
 use Rattle.dp_expr.specs.declared.frame.Frame.TheVariants as open_frames

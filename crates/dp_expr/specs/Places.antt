@@ -1,4 +1,4 @@
--- How definitions see where a walk of the code is.
+-- A step of the code: how definitions see where its walk is, which is a place of `walk` of Walk.
 use Rattle.std.specs.Prelude.{List}
 use Rattle.dp_expr.specs.declared.place.Place.{Place}
 use Rattle.dp_expr.specs.declared.place.Place.TheVariants as places

@@ -1,4 +1,4 @@
--- How definitions see the tokens of the code.
+-- A step of the code: how definitions see its tokens, which are those of `tokens_of` of Tokens.
 use Rattle.std.specs.Prelude.{◌≡◌, ℕ, ◌<◌, false, List, [], ◌∷◌, length, ⊤}
 use Rattle.dp_expr.specs.declared.token.Token.{Token as BorrowedToken}
 use Rattle.dp_expr.specs.declared.token.Token.TheVariants as borrowed

@@ -1,4 +1,4 @@
--- How definitions see the stack of the code.
+-- A step of the code: how definitions see its stack, which is the list of the frames of `walk` of Walk.
 use Rattle.std.specs.Prelude.{List}
 use Rattle.dp_expr.specs.declared.stack.Stack.{Stack}
 use Rattle.dp_expr.specs.declared.place.Place.{Place}

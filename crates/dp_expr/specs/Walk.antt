@@ -1,4 +1,5 @@
--- How the code walks over tokens, whatever it makes of them: values, or trees.
+-- A step of the code: how it walks over tokens, whatever it makes of them, values or trees. The walk over values comes to
+-- the value of the text's one tree (`IsValue` of Expression), and the one over trees to that tree.
 use Rattle.std.specs.Prelude.{ℕ, suc, Bool, true, false, List, [], ◌∷◌, Option, Some, None, if◌then◌else◌, nat_le, nat_lt}
 use Rattle.dp_expr.specs.declared.operator.Operator.{Operator}
 use Rattle.dp_expr.specs.declared.operator.Operator.TheVariants.{Or, And, Equal, NotEqual, LessThan, AtMost, MoreThan, AtLeast, Plus, Minus, Times, Over, Remainder}
