@@ -1,5 +1,5 @@
 //! The machine: a world that events change one after another.
-ghost use Rattle.std.specs.Prelude.{◌≡◌, ◌+◌, ◌≤◌, ◌++◌, IfOk, OnOk, OnErr, true, false, length};
+ghost use Rattle.std.specs.Prelude.{◌≡◌, ◌+◌, ◌<◌, ◌≤◌, ◌++◌, ◌⊎◌, IfSome, IfNone, IfOk, OnOk, OnErr, true, false, length};
 ghost use Rattle.std.specs.Option.{option_copied, option_map};
 ghost use Rattle.dp_lookup.specs.SearchOrder.{context_count};
 ghost use Rattle.dp_machine.specs.Events as spec;
@@ -41,14 +41,21 @@ impl Model for Machine {
         (length machine.channels.items ≤ most_channels) × (context_count machine.plan ≤ machine.order.room) };
 }
 
+/// Where the channel of a number stands among so many channels.
+fn index_of(number: u32, count: usize) -> Option<usize>
+    ensures index { IfSome result (λ index. (index + 1 ≡ number) × (index < count)) }
+    ensures none { IfNone result ((number ≡ 0) ⊎ (count < number)) }
+{
+    let index = (number as usize).checked_sub(1)?;
+    if index < count { Some(index) } else { None }
+}
+
 /// The channel of a number.
 fn channel_at(channels: &[Channel], number: u32) -> Option<&Channel>
     ensures { option_copied result ≡ worlds.channel_at channels.now number }
 {
-    if number == 0 {
-        return None;
-    }
-    channels.get(number as usize - 1)
+    let index = index_of(number, channels.len())?;
+    Some(&channels[index])
 }
 
 /// A call comes in. The event is refused where all numbers of channels were given, and then takes no memory.
@@ -100,11 +107,10 @@ fn step(
     ensures err { OnErr result (channels.new.items ≡ channels.old.items) }
     ensures memory { OnErr result (spec.needs_memory_by plan.now (worlds.channel_at channels.old.items number) ≡ true) }
 {
-    let index = number as usize;
-    if index == 0 || index > channels.len() {
+    let Some(index) = index_of(number, channels.len()) else {
         return Ok(Reply::Refused(Refusal::NoChannel));
-    }
-    let channel = &mut channels[index - 1];
+    };
+    let channel = &mut channels[index];
     step_channel(alloc, plan, order, channel)
 }
 
