@@ -1,5 +1,6 @@
 pub mod AnswersLemmas
 mod CutLemmas
+pub mod EscapeLemmas
 mod LevelLemmas
 mod LinesLemmas
 mod Rows

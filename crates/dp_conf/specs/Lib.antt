@@ -2,6 +2,7 @@ pub mod Answers
 pub mod Blanks
 pub mod Codes
 pub mod Cut
+pub mod Escape
 pub mod Fronts
 pub mod Levels
 pub mod Lines

@@ -2,6 +2,7 @@
 #![tactic(auto)]
 
 mod cut;
+mod escaping;
 mod fault;
 mod lines;
 mod text;
@@ -10,6 +11,7 @@ mod whole;
 mod words;
 
 pub use cut::{cut_once, first_part, is_blank, split_args, trim};
+pub use escaping::{escape, push_escaped};
 pub use fault::{ConfFault, LineKind, ReadFault, WriteFailed};
 pub use lines::{ConfLine, read_lines};
 pub use std::alloc::AllocError as NoMemory;

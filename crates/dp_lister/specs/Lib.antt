@@ -1,0 +1,3 @@
+pub use Rattle.dp_conf.specs.Escape
+pub use Rattle.dp_plan.specs.Plan
+pub mod Listing

@@ -1,0 +1,7 @@
+//! The lister: the one canonical text of a dialplan.
+#![tactic(auto)]
+
+mod listing;
+
+pub use dp_plan::{Dialplan, NoMemory};
+pub use listing::list;
