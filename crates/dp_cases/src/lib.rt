@@ -8,6 +8,8 @@ mod conf;
 #[cfg(test)]
 mod expr;
 #[cfg(test)]
+mod lister;
+#[cfg(test)]
 mod lookup;
 #[cfg(test)]
 mod machine;

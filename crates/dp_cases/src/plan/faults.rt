@@ -4,7 +4,7 @@ use crate::table::check;
 use std::test::Fail;
 
 /// Lines with several faults.
-const OF_A_LINE: &str = r"
+pub(crate) const OF_A_LINE: &str = r"
 # Too few commas come before the name, and the name before the priority.
 [m]\nexten => _[/\n→fault 28 line 2
 [m]\nexten => _[,hint\n→fault 28 line 2
@@ -51,7 +51,7 @@ const OF_A_LINE: &str = r"
 ";
 
 /// Texts with several faulty lines.
-const OF_A_TEXT: &str = r"
+pub(crate) const OF_A_TEXT: &str = r"
 # The first faulty line, whatever its fault.
 [m]\nexten => s,n,A\nexten => s,0,B\n→fault 21 line 2
 [m]\nexten => s,1,A\nsame => n,B\nexten => t,n,C\nexten => s,0,D\n→fault 21 line 4

@@ -4,7 +4,7 @@ use crate::table::check;
 use std::test::Fail;
 
 /// Includes that load.
-const INCLUDES: &str = r"
+pub(crate) const INCLUDES: &str = r"
 # Contexts that are there, before the line or behind it.
 [a]\n[b]\ninclude => a\n→[a][b]{+a}
 [a]\ninclude => b\n[b]\n→[a]{+b}[b]
@@ -41,7 +41,7 @@ const INCLUDES: &str = r"
 ";
 
 /// Includes with a comma are refused.
-const WITH_TIMES: &str = r"
+pub(crate) const WITH_TIMES: &str = r"
 [m]\ninclude => m,9:00-17:00,mon-fri,*,*\n[m]\n→fault 24 IncludeTimes line 2
 [m]\ninclude => m,\n→fault 24 IncludeTimes line 2
 [m]\ninclude => ,\n→fault 24 IncludeTimes line 2

@@ -4,7 +4,7 @@ use crate::table::check;
 use std::test::Fail;
 
 /// Labels that load.
-const LABELS: &str = r"
+pub(crate) const LABELS: &str = r"
 [m]\nexten => s,1(a),A\n→[m]<s,1(a),A()>
 [m]\nexten => s,1(a),A(b)\nexten => s,n(c),D(e)\n→[m]<s,1(a),A(b)><s,2(c),D(e)>
 # Blanks at the ends of the priority and of the label do not count.
@@ -29,7 +29,7 @@ const LABELS: &str = r"
 ";
 
 /// Labels that an extension has already, and those that are free.
-const TAKEN: &str = r"
+pub(crate) const TAKEN: &str = r"
 [m]\nexten => s,1(a),A\nexten => s,2(a),B\n→[m]<s,1(a),A()> note 3 DoubleLabel
 [m]\nexten => s,1(a),A\nexten => s,2( a ),B\n→[m]<s,1(a),A()> note 3 DoubleLabel
 [m]\nexten => s,1(a),A\nexten => s,n(a),B\nexten => s,n(a),C\n→[m]<s,1(a),A()> note 3 DoubleLabel note 4 DoubleLabel
@@ -65,7 +65,7 @@ const TAKEN: &str = r"
 ";
 
 /// Labels that are refused.
-const BAD: &str = r"
+pub(crate) const BAD: &str = r"
 # An empty one.
 [m]\nexten => s,1(),A\n→fault 22 line 2
 [m]\nexten => s,1( \t),A\n→fault 22 line 2

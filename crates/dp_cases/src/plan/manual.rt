@@ -4,7 +4,7 @@ use crate::table::check;
 use std::test::Fail;
 
 /// Dialplans, names, patterns, priorities, labels and includes.
-const EXAMPLES: &str = r"
+pub(crate) const EXAMPLES: &str = r"
 # Dialplans.
 [globals]\nGREETING = hello\n\n[main]\nexten => 100,1,NoOp(first)\nexten => 100,2,Goto(200,1)     ; to 200, priority 1, of this context\nexten => 200,1,Hangup()\n→{GREETING=hello}[main]<100,1,NoOp(first)><100,2,Goto(200,1)><200,1,Hangup()>
 # Names.

@@ -4,7 +4,7 @@ use crate::table::check;
 use std::test::Fail;
 
 /// Plain names.
-const PLAIN: &str = r#"
+pub(crate) const PLAIN: &str = r#"
 # Dashes do not count.
 [m]\nexten => 1-2-3,1,A\n→[m]<123,1,A()>
 [m]\nexten => --s--,1,A\n→[m]<s,1,A()>
@@ -35,7 +35,7 @@ const PLAIN: &str = r#"
 "#;
 
 /// Patterns, each with its one spelling.
-const PATTERNS: &str = r"
+pub(crate) const PATTERNS: &str = r"
 # Letters that stand for digits.
 [m]\nexten => _nXx,1,A\n→[m]<_NXX,1,A()>
 [m]\nexten => _zZ,1,A\n→[m]<_ZZ,1,A()>
@@ -88,7 +88,7 @@ const PATTERNS: &str = r"
 ";
 
 /// Texts that are no names.
-const NO_NAMES: &str = r"
+pub(crate) const NO_NAMES: &str = r"
 # Nothing is left.
 [m]\nexten => - ,1,A\n→fault 10 line 2
 [m]\nexten => ---,1,A\n→fault 10 line 2
@@ -147,7 +147,7 @@ const NO_NAMES: &str = r"
 ";
 
 /// Names that ask for what is left out.
-const LEFT_OUT: &str = r"
+pub(crate) const LEFT_OUT: &str = r"
 # A variable, wherever it stands in the name.
 [m]\nexten => a${,1,A\n→fault 24 Variable line 2
 [m]\nexten => _X${Y},1,A\n→fault 24 Variable line 2

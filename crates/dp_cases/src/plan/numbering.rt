@@ -4,7 +4,7 @@ use crate::table::check;
 use std::test::Fail;
 
 /// `n` is one more than the priority of the last earlier line of the context and the extension.
-const NEXT: &str = r"
+pub(crate) const NEXT: &str = r"
 [m]\nexten => s,1,A\nexten => s,n,B\nexten => s,n,C\n→[m]<s,1,A()><s,2,B()><s,3,C()>
 [m]\nexten => s,007,A\nexten => s, n ,B\n→[m]<s,7,A()><s,8,B()>
 # The last line counts, and not the greatest priority.
@@ -50,7 +50,7 @@ const NEXT: &str = r"
 ";
 
 /// `same` takes the name of the last line `exten` behind the header of its section.
-const SAME: &str = r"
+pub(crate) const SAME: &str = r"
 [m]\nexten => s,1,A\nsame => n,B\n same => n,C(x,y)\n→[m]<s,1,A()><s,2,B()><s,3,C(x,y)>
 [m]\nexten => s,1,A\nSAME => n,B\nSame = n,C\n→[m]<s,1,A()><s,2,B()><s,3,C()>
 [m]\nexten => s,1,A\nsame => 5,B\nsame => n,C\nsame => 2,D\n→[m]<s,1,A()><s,5,B()><s,6,C()><s,2,D()>
@@ -97,7 +97,7 @@ const SAME: &str = r"
 ";
 
 /// Whole texts.
-const WHOLE: &str = r"
+pub(crate) const WHOLE: &str = r"
 # A context whose sections, extensions and keys are mixed.
 [in]\nexten => 1-00,1(top),Answer\nsame => n,Wait(1)\nexten => _1xx,1,NoOp(any)\n[out]\nexten => _.,5,Dial(x)\nsame => n,Hangup\n[in]\nexten => 100,n(end),Hangup\nexten => _1[0-9]X,n,Goto(100,end)\nsame => n,Hangup()\n→[in]<100,1(top),Answer()><100,2,Wait(1)><_1XX,1,NoOp(any)><100,3(end),Hangup()><_1XX,2,Goto(100,end)><_1XX,3,Hangup()>[out]<_.,5,Dial(x)><_.,6,Hangup()>
 # An extension and a pattern that matches it are counted apart.

@@ -6,7 +6,7 @@ use std::alloc::Global;
 use std::test::Fail;
 
 /// Texts, with the entries of their first context in that order.
-const ORDERS: &str = r"
+pub(crate) const ORDERS: &str = r"
 [m]\n→
 [m]\nexten => s,1,A\n→<s,1>
 # One name by its priorities, which are numbers.

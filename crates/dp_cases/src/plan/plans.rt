@@ -4,7 +4,7 @@ use crate::table::check;
 use std::test::Fail;
 
 /// Sections, settings and global variables.
-const SECTIONS: &str = r"
+pub(crate) const SECTIONS: &str = r"
 # Nothing to keep.
 →
 \n\n\n→
@@ -46,7 +46,7 @@ const SECTIONS: &str = r"
 ";
 
 /// Entries, dropped lines and unknown keys, with their notes.
-const ENTRIES: &str = r"
+pub(crate) const ENTRIES: &str = r"
 # Entries.
 [m]\nexten => s,1,NoOp(a)\n→[m]<s,1,NoOp(a)>
 [m]\nexten = s,1,Set(A=b)→[m]<s,1,Set(A=b)>
@@ -79,7 +79,7 @@ const ENTRIES: &str = r"
 ";
 
 /// Lines that are left out by their key or too short, keys beside `exten`, and names.
-const LINES: &str = r"
+pub(crate) const LINES: &str = r"
 # Keys that are left out, and the others that contexts have.
 [m]\nswitch => IAX2/x\n→fault 24 Switch line 2
 [m]\nSwitch =>\n→fault 24 Switch line 2
@@ -120,7 +120,7 @@ const LINES: &str = r"
 ";
 
 /// Lines whose arguments are not read yet, and some that have no such arguments.
-const NOT_YET: &str = r"
+pub(crate) const NOT_YET: &str = r"
 # A `${` or a `$[` in arguments is asked before the other faults of its line.
 [m]\nexten => s,1,A(${X})\n→fault 29 line 2
 [m]\nexten => s,1,A(x$[1 + 1])\n→fault 29 line 2
@@ -153,7 +153,7 @@ const NOT_YET: &str = r"
 ";
 
 /// Priorities.
-const PRIORITIES: &str = r"
+pub(crate) const PRIORITIES: &str = r"
 # Priorities that are left out.
 [m]\nexten => s,hint,A\n→fault 24 Hint line 2
 [m]\nexten => s,next,A\n→fault 24 PriorityWord line 2
@@ -186,7 +186,7 @@ const PRIORITIES: &str = r"
 ";
 
 /// Applications, and the bytes of lines.
-const APPLICATIONS: &str = r"
+pub(crate) const APPLICATIONS: &str = r"
 # Applications.
 [m]\nexten => s,1,App\n→[m]<s,1,App()>
 [m]\nexten => s,1,App()\n→[m]<s,1,App()>
@@ -218,7 +218,7 @@ const APPLICATIONS: &str = r"
 ";
 
 /// Texts with several faults, and a usual one.
-const WHOLE: &str = r"
+pub(crate) const WHOLE: &str = r"
 # Faults of the text come before those of a context, and of either the lowest line.
 [m]\nexten => s,0,A\nabc\n→fault 4 line 3
 [m]\nexten => _X.,1,A\n\n;-- x\n→fault 1 line 4

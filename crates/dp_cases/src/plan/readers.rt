@@ -349,7 +349,7 @@ fn globals_compare(rt: HostRuntime) -> Result<(), Fail> {
 }
 
 /// Three ways to write one dialplan.
-const ONE_DIALPLAN: &str = r"
+pub(crate) const ONE_DIALPLAN: &str = r"
 [m]\nexten => _NX,1,A(x)\nexten => _NX,2(b),B()\ninclude => m\n→[m]<_NX,1,A(x)><_NX,2(b),B()>{+m}
 [m]\nEXTEN = _[2-9]x,01,A (x)\nsame => n( b ),B\ninclude = m ; y\n→[m]<_NX,1,A(x)><_NX,2(b),B()>{+m}
 [m]\ninclude => m\n[m]\nexten => _n-X,1,A(x)\n[m]\nexten => _[98765432][0-9],n(b) , B()\n→[m]<_NX,1,A(x)><_NX,2(b),B()>{+m}

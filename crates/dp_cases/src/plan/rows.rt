@@ -21,7 +21,7 @@ fn classes_and_doubles(rt: HostRuntime) -> Result<(), Fail> {
 }
 
 /// Each line stands behind `[main]`, but for the one that stands before any section.
-const FAULT_LINES: &str = r#"
+pub(crate) const FAULT_LINES: &str = r#"
 [main]\nexten => _,1,A\n→fault 10 line 2
 [main]\nexten => _[],1,A\n→fault 11 line 2
 [main]\nexten => _[9-0],1,A\n→fault 12 line 2
@@ -55,7 +55,7 @@ fn fault_lines(rt: HostRuntime) -> Result<(), Fail> {
     check::<Loads>(&rt, rt.alloc(), FAULT_LINES)
 }
 
-const ESCAPED_SEMICOLONS: &str = r"
+pub(crate) const ESCAPED_SEMICOLONS: &str = r"
 [main]\nexten => s,1,NoOp(a\\;b\\\\;c)\n→[main]<s,1,NoOp(a;b\\;c)>
 [main]\n;-- x\n→fault 1 line 2
 [main]\n\n;-- x\n→fault 1 line 3
