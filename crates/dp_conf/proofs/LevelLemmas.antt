@@ -3,7 +3,9 @@ use Rattle.std.proofs.Common.{Option, Some, None, Bor, length, take, drop, ◌�
 use Rattle.std.specs.List.{onto_first}
 use Rattle.std.proofs.lemmas.List.Sums.{fold-append}
 use Rattle.std.proofs.lemmas.List.{append-nil, append_assoc, take_all, drop_all, length-drop}
-use Rattle.dp_conf.specs.Levels.{next_level, level_of, parts_arguments, split_after, parts_of}
+use Rattle.std.proofs.lemmas.Bool.{eqb-true, eq-eqb}
+use Rattle.std.specs.Cmp.{first_so, second_so}
+use Rattle.dp_conf.specs.Levels.{next_level, level_of, parts_arguments, split_after, parts_of, cut_after, stands_outside, cut_outside}
 
 -- the parts with the bytes put before the first
 abbrev pub onto_front : List ℕ → List (List ℕ) → List (List ℕ)
@@ -64,19 +66,42 @@ left_len (Some rest) = length rest.now + 1
 pub drop-byte : (text : List ℕ) (at byte : ℕ) → at < length text → get_or text at 0 ≡ byte → drop at text ≡ byte ∷ drop (at + 1) text
 drop-byte text at byte within here = rw (add-one, drop-cons text at 0) (ap (λ b. b ∷ drop (suc at) text) here)
 
--- a cut at a comma of level 0, by its place
-pub parts_of-comma : (text : List ℕ) (at : ℕ) → drop at text ≡ 44 ∷ drop (at + 1) text → level_of (take at text) ≡ 0
-    → onto_front (take at text) (split_after parts_arguments (take at text) (drop at text)) ≡ split_after parts_arguments [] text
-    → parts_of text ≡ take at text ∷ parts_of (take (length text - (at + 1)) (drop (at + 1) text))
-unfolding parts_of
-parts_of-comma text at here level whole =
+-- the cut at a place, where the byte is of level 0
+pub cut_outside-found : (wanted : ℕ) (text : List ℕ) (at : ℕ) → drop at text ≡ wanted ∷ drop (at + 1) text → level_of (take at text) ≡ 0
+    → cut_after (stands_outside wanted) (take at text) (drop at text) ≡ cut_outside wanted text
+    → cut_outside wanted text ≡ Some (take at text, take (length text - (at + 1)) (drop (at + 1) text))
+unfolding cut_outside
+cut_outside-found wanted text at here level whole =
     rw (take_all (length text - (at + 1)) (drop (at + 1) text) (omega (arith, length-drop (at + 1) text)))
-    (sym whole ∙ (ap (λ (rest : List ℕ). onto_front (take at text) (split_after parts_arguments (take at text) rest)) here ∙ split_after-comma (take at text) (drop (at + 1) text) level))
+    (sym whole ∙ ap (cut_after (stands_outside wanted) (take at text)) here
+    ∙ (λ i. cond (eq-eqb wanted wanted refl i && eqb (level i) 0) (Some (take at text, drop (at + 1) text)) (cut_after (stands_outside wanted) (take at text ++ wanted ∷ []) (drop (at + 1) text))))
 
--- a text without such a comma is its one part
-pub parts_of-whole : (text : List ℕ) (at : ℕ) → length text ≤ at → onto_front (take at text) (split_after parts_arguments (take at text) (drop at text)) ≡ split_after parts_arguments [] text → parts_of text ≡ text ∷ []
+-- no cut in all of the text
+pub cut_outside-none : (wanted : ℕ) (text : List ℕ) (at : ℕ) → length text ≤ at
+    → cut_after (stands_outside wanted) (take at text) (drop at text) ≡ cut_outside wanted text → cut_outside wanted text ≡ None
+cut_outside-none wanted text at end whole = sym whole ∙ ap (cut_after (stands_outside wanted) (take at text)) (drop_all at text end)
+
+-- the parts by the first cut
+abbrev pub parts_by : List ℕ → Option (List ℕ × List ℕ) → List (List ℕ)
+parts_by text None = text ∷ []
+parts_by text (Some cut) = cut.0 ∷ parts_of cut.1
+
+split_after-cut : (before xs : List ℕ)
+    → onto_front before (split_after parts_arguments before xs) ≡ parts_by (before ++ xs) (cut_after (stands_outside 44) before xs)
 unfolding parts_of
-parts_of-whole text at end whole =
-    sym whole
-    ∙ (ap (λ (rest : List ℕ). onto_front (take at text) (split_after parts_arguments (take at text) rest)) (drop_all at text end)
-    ∙ (ap (λ (part : List ℕ). part ∷ []) (append-nil (take at text)) ∙ ap (λ (part : List ℕ). part ∷ []) (take_all at text end)))
+split_after-cut before [] = refl
+split_after-cut before (x ∷ xs) = by (parts_arguments before x) refl (split_after-cut (before ++ x ∷ []) xs)
+  where
+    by : (b : Bool) → parts_arguments before x ≡ b
+        → onto_front (before ++ x ∷ []) (split_after parts_arguments (before ++ x ∷ []) xs) ≡ parts_by ((before ++ x ∷ []) ++ xs) (cut_after (stands_outside 44) (before ++ x ∷ []) xs)
+        → onto_front before (split_after parts_arguments before (x ∷ xs)) ≡ parts_by (before ++ x ∷ xs) (cond b (Some (before, xs)) (cut_after (stands_outside 44) (before ++ x ∷ []) xs))
+    by true e rest =
+        let comma : x ≡ 44 = eqb-true x 44 (first_so _ _ e) in
+        let level : level_of before ≡ 0 = eqb-true (level_of before) 0 (second_so (eqb x 44) _ e) in
+        ap (λ b. onto_front before (split_after parts_arguments before (b ∷ xs))) comma ∙ split_after-comma before xs level
+    by false e rest = split_after-plain before x xs e ∙ rest ∙ ap (λ text. parts_by text (cut_after (stands_outside 44) (before ++ x ∷ []) xs)) (append_assoc before (x ∷ []) xs)
+
+-- the parts of a text by its first cut
+pub parts_of-cut : (text : List ℕ) → parts_of text ≡ parts_by text (cut_outside 44 text)
+unfolding parts_of cut_outside
+parts_of-cut text = sym (onto_front-split_after [] text) ∙ split_after-cut [] text

@@ -6,3 +6,5 @@ mod LinesLemmas
 mod Rows
 pub mod ToldLemmas
 mod TrimLemmas
+pub mod GroupsLemmas
+pub mod NestLemmas

@@ -1,5 +1,5 @@
 -- The level of a place in a text, and the parts that the commas of level 0 cut it into.
-use Rattle.std.specs.Prelude.{ℕ, ◌+◌, ◌-◌, Bool, ◌&&◌, ◌==◌, List, [], ◌∷◌, ◌++◌, map, fold, if◌then◌else◌}
+use Rattle.std.specs.Prelude.{ℕ, ◌+◌, ◌-◌, Bool, ◌&&◌, ◌==◌, List, [], ◌∷◌, ◌++◌, map, fold, Option, Some, None, if◌then◌else◌}
 use Rattle.std.specs.List.{onto_first}
 use Rattle.dp_conf.specs.Blanks.{trim}
 
@@ -29,3 +29,16 @@ parts_of text = split_after parts_arguments [] text
 -- the arguments of a text: those parts, each without the blanks at its ends
 abbrev pub arguments_of : List ℕ → List (List ℕ)
 arguments_of text = map trim (parts_of text)
+
+-- what stands before the first element at which `cuts` says so, by what stands before it and itself, and what behind it
+abbrev pub cut_after : {X : Type 0} → (List X → X → Bool) → List X → List X → Option (List X × List X)
+cut_after cuts before [] = None
+cut_after cuts before (x ∷ xs) = if cuts before x then Some (before, xs) else cut_after cuts (before ++ x ∷ []) xs
+
+-- such a byte of level 0
+abbrev pub stands_outside : ℕ → List ℕ → ℕ → Bool
+stands_outside wanted before byte = byte == wanted && level_of before == 0
+
+-- what stands before the first such byte of level 0 and what behind it, where there is one
+unfoldable pub cut_outside : ℕ → List ℕ → Option (List ℕ × List ℕ)
+cut_outside wanted text = cut_after (stands_outside wanted) [] text

@@ -4,8 +4,11 @@ pub mod Codes
 pub mod Cut
 pub mod Escape
 pub mod Fronts
+pub mod Groups
+pub mod GroupsRead
 pub mod Levels
 pub mod Lines
+pub mod Nest
 pub mod Numbers
 pub mod Printed
 pub mod Told

@@ -85,20 +85,34 @@ fn next_level(level: usize, byte: u8) -> usize
     }
 }
 
+/// What stands before the first such byte outside parentheses and what stands behind it, or None where there is none.
+///
+/// A `)` with no `(` before it is plain (a choice of this program).
+pub fn cut_outside(text: &[u8], byte: u8) -> Option<(&[u8], &[u8])>
+    ensures cut { MatchOption result (levels.cut_outside byte text.now ≡ None)
+        (λ cut. levels.cut_outside byte text.now ≡ Some (cut.0.now, cut.1.now)) }
+    ensures shorter { IfSome result (λ cut. length cut.1.now < length text.now) }
+{
+    let mut level: usize = 0;
+    for (at, other) in text.iter().enumerate() {
+        if *other == byte && level == 0 {
+            return Some((&text[..at], &text[at + 1..]));
+        }
+        level = next_level(level, *other);
+    }
+    None
+}
+
 /// The text up to its first comma of level 0, and what stands behind it, where there is such a comma.
 fn first_argument(text: &[u8]) -> (&[u8], Option<&[u8]>)
     ensures parts { MatchOption result.1 (levels.parts_of text.now ≡ result.0.now ∷ [])
         (λ rest. levels.parts_of text.now ≡ result.0.now ∷ levels.parts_of rest.now) }
     ensures shorter { IfSome result.1 (λ rest. length rest.now < length text.now) }
 {
-    let mut level: usize = 0;
-    for (at, byte) in text.iter().enumerate() {
-        if *byte == b',' && level == 0 {
-            return (&text[..at], Some(&text[at + 1..]));
-        }
-        level = next_level(level, *byte);
+    match cut_outside(text, b',') {
+        None => (text, None),
+        Some((argument, rest)) => (argument, Some(rest)),
     }
-    (text, None)
 }
 
 /// The arguments of a text: what its commas outside parentheses part, each without the blanks at its ends.

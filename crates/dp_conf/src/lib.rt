@@ -4,16 +4,20 @@
 mod cut;
 mod escaping;
 mod fault;
+mod groups;
 mod lines;
+mod nest;
 mod text;
 mod told;
 mod whole;
 mod words;
 
-pub use cut::{cut_once, first_part, is_blank, split_args, trim};
+pub use cut::{cut_once, cut_outside, first_part, is_blank, split_args, trim};
 pub use escaping::{escape, push_escaped};
 pub use fault::{ConfFault, LineKind, ReadFault, WriteFailed};
+pub use groups::{GroupKind, Mark, next_mark, one_reading};
 pub use lines::{ConfLine, read_lines};
+pub use nest::nesting;
 pub use std::alloc::AllocError as NoMemory;
 pub use text::Text;
 pub use told::{ReadTold, Told, WriteTold};

@@ -1,13 +1,10 @@
-use Rattle.std.proofs.Common.{sym, ◌∙◌, refl, arith}
-use Rattle.dp_conf.proofs.LevelLemmas.{drop-byte, onto_front-split_after, parts_of-comma, parts_of-whole}
+-- The parts of a text go by its first cut.
+use Rattle.std.proofs.Common.{ap, ◌∙◌}
+use Rattle.dp_conf.proofs.LevelLemmas.{parts_by, parts_of-cut}
 use Rattle.dp_conf.proofs.cut.first_argument.Goals as goal
 
-pub loop-at-init : goal.loop-at-init
-loop-at-init c = record { bound = omega arith; level = refl; parts = onto_front-split_after _ c.args.text.now }
+pub returns-in-None-clause-parts : goal.returns-in-None-clause-parts
+returns-in-None-clause-parts c = parts_of-cut c.args.text.now ∙ ap (parts_by c.args.text.now) c.in-None.ensures.cut
 
-pub returns-then-level-eq0-clause-parts : goal.returns-then-level-eq0-clause-parts
-returns-then-level-eq0-clause-parts c =
-    parts_of-comma c.args.text.now c.loop-at.at (drop-byte c.args.text.now c.loop-at.at 44 c.loop-at-test.true c.if-byte-eq44.true) (sym c.loop-at.invariant.level ∙ c.if-level-eq0.true) c.loop-at.invariant.parts
-
-pub returns-clause-parts : goal.returns-clause-parts
-returns-clause-parts c = parts_of-whole c.args.text.now c.loop-at.at c.loop-at-test.false c.loop-at.invariant.parts
+pub returns-in-Some-clause-parts : goal.returns-in-Some-clause-parts
+returns-in-Some-clause-parts c = parts_of-cut c.args.text.now ∙ ap (parts_by c.args.text.now) c.in-Some.ensures.cut

@@ -1,0 +1,79 @@
+-- What the openings that wait, and what is still to be read, come to.
+use Rattle.std.proofs.Common.{◌≡◌, ◌≤◌, ◌*◌, ℕ, suc, List, [], ◌∷◌, length, length-append, refl, sym, ap, ◌∙◌, arith, max}
+use Rattle.dp_conf.specs.declared.groups.GroupKind.{GroupKind}
+use Rattle.dp_conf.specs.declared.groups.Mark.{Mark}
+use Rattle.dp_conf.specs.declared.groups.Mark.TheVariants.{End, Opening, Byte}
+use Rattle.dp_conf.specs.declared.nest.Waiting.{Waiting}
+use Rattle.dp_conf.specs.Groups.{Reading, Over, Plain, Group, closer, printed, depth_of}
+use Rattle.dp_conf.specs.GroupsRead.{Levels, Last, Within, with_byte, with_opening, with_mark, levels, reading_of, nesting_of, outer_of}
+use Rattle.dp_conf.specs.Nest.{NestOf, kinds_of, closed, nest_after, deepest_in}
+use Rattle.dp_conf.proofs.GroupsLemmas.{levels-last, one_reading}
+
+-- the nesting of the whole, by the openings that wait, what the innermost level holds so far, and the levels behind
+abbrev pub come : List Waiting → ℕ → Levels → ℕ
+come waiting deepest (Last rest) = deepest_in waiting (max deepest (depth_of rest))
+come [] deepest (Within rest outer) = come [] (max deepest (depth_of rest)) outer
+come (w ∷ waiting) deepest (Within rest outer) = come waiting (max w.deepest (suc (max deepest (depth_of rest)))) outer
+
+come-with_byte : (waiting : List Waiting) (deepest byte : ℕ) (l : Levels) → come waiting deepest (with_byte byte l) ≡ come waiting deepest l
+unfolding depth_of
+come-with_byte waiting deepest byte (Last rest) = refl
+come-with_byte [] deepest byte (Within rest outer) = refl
+come-with_byte (w ∷ waiting) deepest byte (Within rest outer) = refl
+
+come-with_opening : (waiting : List Waiting) (deepest : ℕ) (kind : GroupKind) (l : Levels)
+    → come (record { kind = kind; deepest = deepest } ∷ waiting) 0 l ≡ come waiting deepest (with_opening kind l)
+unfolding depth_of
+come-with_opening waiting deepest kind (Last rest) = ap (deepest_in waiting) (omega arith)
+come-with_opening waiting deepest kind (Within inside (Last rest)) = ap (deepest_in waiting) (omega arith)
+come-with_opening [] deepest kind (Within inside (Within rest outer)) = ap (λ d. come [] d outer) (omega arith)
+come-with_opening (w ∷ waiting) deepest kind (Within inside (Within rest outer)) =
+    ap (λ d. come waiting (max w.deepest (suc d)) outer) (omega arith)
+
+-- a mark changes nothing of what all comes to
+pub come-mark : (m : Mark) (nest : NestOf) (behind : List GroupKind → ℕ → Levels)
+    → come (nest_after m nest).waiting (nest_after m nest).deepest (behind (kinds_of (nest_after m nest).waiting) 0)
+    ≡ come nest.waiting nest.deepest (with_mark m behind 0 (kinds_of nest.waiting))
+unfolding depth_of
+come-mark End nest behind = by nest.waiting
+  where
+    by : (ws : List Waiting)
+        → come (closed ws nest.deepest).waiting (closed ws nest.deepest).deepest (behind (kinds_of (closed ws nest.deepest).waiting) 0)
+        ≡ come ws nest.deepest (Within Over (behind (outer_of (kinds_of ws)) 0))
+    by [] = ap (λ d. come [] d (behind [] 0)) (omega arith)
+    by (w ∷ ws) = ap (λ d. come ws (max w.deepest (suc d)) (behind (kinds_of ws) 0)) (omega arith)
+come-mark (Opening kind) nest behind = come-with_opening nest.waiting nest.deepest kind (behind (kind ∷ kinds_of nest.waiting) 0)
+come-mark (Byte byte) nest behind = sym (come-with_byte nest.waiting nest.deepest byte (behind (kinds_of nest.waiting) 0))
+
+-- nothing is left
+pub come-over : (waiting : List Waiting) (deepest : ℕ) → come waiting deepest (levels [] (kinds_of waiting) 0) ≡ deepest_in waiting deepest
+unfolding levels depth_of
+come-over waiting deepest = ap (deepest_in waiting) (omega arith)
+
+-- nothing is read yet
+pub come-text : (text : List ℕ) → come [] 0 (levels text [] 0) ≡ nesting_of text
+unfolding nesting_of
+come-text text = ap (come [] 0) (levels-last text) ∙ omega arith
+
+deepest_in-above : (waiting : List Waiting) (deepest : ℕ) → deepest ≤ deepest_in waiting deepest
+deepest_in-above [] deepest = omega arith
+deepest_in-above (w ∷ waiting) deepest = omega (arith, deepest_in-above waiting (max w.deepest deepest))
+
+-- what the innermost level holds so far is no more than the whole
+pub come-above : (waiting : List Waiting) (deepest : ℕ) (l : Levels) → deepest ≤ come waiting deepest l
+come-above waiting deepest (Last rest) = omega (arith, deepest_in-above waiting (max deepest (depth_of rest)))
+come-above [] deepest (Within rest outer) = omega (arith, come-above [] (max deepest (depth_of rest)) outer)
+come-above (w ∷ waiting) deepest (Within rest outer) =
+    omega (arith, come-above waiting (max w.deepest (suc (max deepest (depth_of rest)))) outer)
+
+-- a group has three bytes of its own
+depth_of-length : (reading : Reading) → 3 * depth_of reading ≤ length (printed reading)
+unfolding depth_of printed
+depth_of-length Over = omega arith
+depth_of-length (Plain byte rest) = omega (arith, depth_of-length rest)
+depth_of-length (Group kind inside rest) =
+    omega (arith, depth_of-length inside, depth_of-length rest, length-append (printed inside) (closer kind ∷ printed rest))
+
+pub nesting_of-length : (text : List ℕ) → 3 * nesting_of text ≤ length text
+unfolding nesting_of
+nesting_of-length text = omega (arith, depth_of-length (reading_of text), ap length ((one_reading text (reading_of text)).1 refl).text_is)

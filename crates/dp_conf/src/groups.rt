@@ -1,0 +1,81 @@
+//! The groups of a text, after the Asterisk documentation's pages on variables and on expressions.
+//!
+//! A group is `${` up to its `}`, or `$[` up to its `]`. Openings stack: a byte that is the end of the innermost opening
+//! closes it, and brackets with no `$` before them are plain. An opening without its end is two plain bytes, and
+//! reading goes on behind them (choices of this program).
+ghost use Rattle.std.specs.Prelude.{◌≡◌, ◌↔◌, ◌<◌, ℕ, List, [], IfSome, MatchOption, Some, length};
+ghost use Rattle.dp_conf.specs.Groups as groups;
+ghost use Rattle.dp_conf.specs.Groups.{Reading, IsReading};
+ghost use Rattle.dp_conf.specs.GroupsRead.{reading_of, is_end_of, IsMarked};
+
+/// What a group is: a variable or a function in `${..}`, or an expression in `$[..]`.
+#[derive(Clone, Copy, Debug)]
+pub enum GroupKind {
+    Braces,
+    Brackets,
+}
+
+/// What stands at a place of a text.
+#[derive(Clone, Copy)]
+pub enum Mark {
+    /// The end of the innermost group.
+    End,
+    /// The two bytes that open a group.
+    Opening(GroupKind),
+    /// A plain byte.
+    Byte(u8),
+}
+
+/// Every text reads as groups and bytes in exactly one way.
+pub fn one_reading()
+    ensures { (text : List ℕ) (reading : Reading) → IsReading text reading ↔ (reading ≡ reading_of text) }
+{}
+
+/// Whether the byte ends a group of this kind, where there is one.
+fn is_end(innermost: Option<GroupKind>, byte: u8) -> bool
+    ensures { result ≡ is_end_of innermost byte }
+{
+    match innermost {
+        None => false,
+        Some(GroupKind::Braces) => byte == b'}',
+        Some(GroupKind::Brackets) => byte == b']',
+    }
+}
+
+/// The kind of group that a `$` with this byte behind it opens.
+fn kind_of(byte: u8) -> Option<GroupKind>
+    ensures { result ≡ groups.kind_of byte }
+{
+    match byte {
+        b'{' => Some(GroupKind::Braces),
+        b'[' => Some(GroupKind::Brackets),
+        _ => None,
+    }
+}
+
+/// The kind of group that a byte opens, by the bytes behind it.
+fn opening(byte: u8, behind: &[u8]) -> Option<GroupKind>
+    ensures kind { result ≡ groups.opening byte behind.now }
+    ensures two { IfSome result (λ _. 0 < length behind.now) }
+{
+    match behind.first() {
+        None => None,
+        Some(next) => if byte == b'$' { kind_of(*next) } else { None },
+    }
+}
+
+/// The first mark of a text, and what stands behind it, where this is the innermost group that is open; None for the
+/// empty text.
+pub fn next_mark(text: &[u8], innermost: Option<GroupKind>) -> Option<(Mark, &[u8])>
+    ensures marked { MatchOption result (text.now ≡ []) (λ cut. IsMarked innermost text.now cut.0 cut.1.now) }
+    ensures shorter { IfSome result (λ cut. length cut.1.now < length text.now) }
+{
+    let (byte, behind) = text.split_first()?;
+    if is_end(innermost, *byte) {
+        return Some((Mark::End, behind));
+    }
+    match opening(*byte, behind) {
+        None => Some((Mark::Byte(*byte), behind)),
+        Some(kind) => Some((Mark::Opening(kind), behind.split_at(1).1)),
+    }
+}

@@ -1,0 +1,122 @@
+//! How deep groups stand inside each other.
+ghost use Rattle.std.specs.Prelude.{◌≡◌, ◌+◌, ◌^◌, ◌<◌, [], IfOk, OnOk};
+ghost use Rattle.dp_conf.specs.Groups.{Reading, IsReading, depth_of};
+ghost use Rattle.dp_conf.specs.GroupsRead.{first_of, nesting_of};
+ghost use Rattle.dp_conf.specs.Nest as nests;
+
+use crate::groups::{GroupKind, Mark, next_mark};
+use std::alloc::{AllocError, Global};
+use std::marker::Model;
+
+/// An opening that waits for its end, with the nesting of what stands before it on its level.
+#[derive(Clone, Copy)]
+pub(crate) struct Waiting {
+    kind: GroupKind,
+    deepest: usize,
+}
+
+/// The openings that wait, and the nesting of what stands behind the innermost.
+#[derive(Drop)]
+struct Nest {
+    waiting: Vec<Waiting>,
+    deepest: usize,
+}
+
+impl Model for Nest {
+    ghost use Rattle.std.specs.Prelude.{reverse};
+    ghost use Rattle.dp_conf.specs.Nest.{NestOf};
+
+    ghost Value = { NestOf };
+
+    ghost view = { λ nest. record { waiting = reverse nest.waiting.items; deepest = nest.deepest } };
+}
+
+impl Nest {
+    fn new(alloc: Global) -> Self
+        ensures { result ≡ record { waiting = []; deepest = 0 } }
+    {
+        Nest {
+            waiting: Vec::new(alloc),
+            deepest: 0,
+        }
+    }
+
+    /// The kind of the innermost opening that waits.
+    fn innermost(&self) -> Option<GroupKind>
+        ensures { result ≡ first_of (nests.kinds_of self.now.waiting) }
+    {
+        match self.waiting.last() {
+            Some(waiting) => Some(waiting.kind),
+            None => None,
+        }
+    }
+
+    /// A group ends.
+    fn close(&mut self)
+        requires { self.old.deepest + 1 < 2 ^ 64 }
+        ensures { self.new ≡ nests.closed self.old.waiting self.old.deepest }
+    {
+        if let Some(waiting) = self.waiting.pop() {
+            self.deepest = waiting.deepest.max(self.deepest + 1);
+        }
+    }
+
+    /// A group opens.
+    fn open(&mut self, kind: GroupKind) -> Result<(), AllocError>
+        ensures { OnOk result (self.new ≡ nests.nest_after (Mark.Opening kind) self.old) }
+    {
+        let deepest = self.deepest;
+        self.waiting.push(Waiting { kind, deepest })?;
+        self.deepest = 0;
+        Ok(())
+    }
+
+    /// Goes behind a mark.
+    fn take(&mut self, mark: Mark) -> Result<(), AllocError>
+        requires { self.old.deepest + 1 < 2 ^ 64 }
+        ensures { OnOk result (self.new ≡ nests.nest_after mark self.old) }
+    {
+        match mark {
+            Mark::End => {
+                self.close();
+                Ok(())
+            }
+            Mark::Opening(kind) => self.open(kind),
+            Mark::Byte(_) => Ok(()),
+        }
+    }
+
+    /// The nesting, where the text ends.
+    fn finish(self) -> usize
+        ensures { result ≡ nests.deepest_in self.waiting self.deepest }
+    {
+        let Nest {
+            mut waiting,
+            mut deepest,
+        } = self;
+        while let Some(last) = waiting.pop() {
+            deepest = last.deepest.max(deepest);
+        }
+        deepest
+    }
+}
+
+/// The greatest number of groups inside each other in the text.
+///
+/// It takes one pass. An opening without its end is no group, whatever stands behind it.
+///
+/// The error comes only where a growth was refused.
+pub fn nesting(alloc: Global, text: &[u8]) -> Result<usize, AllocError>
+    // The depth of the text's one reading.
+    ensures reading { (reading : Reading) → IsReading text.now reading → IfOk result (λ depth. depth ≡ depth_of reading) }
+    // The same by a function.
+    ensures exact { IfOk result (λ depth. depth ≡ nesting_of text.now) }
+{
+    let mut nest = Nest::new(alloc);
+    let mut rest = text;
+    while let Some((mark, behind)) = next_mark(rest, nest.innermost()) {
+        nest.take(mark)?;
+        rest = behind;
+    }
+    Ok(nest.finish())
+}

@@ -1,0 +1,91 @@
+-- What is written, the openings that wait in it, and what is still to be read, come to the expansion of the whole.
+use Rattle.std.proofs.Common.{◌≡◌, ◌≤◌, ◌+◌, ℕ, List, [], ◌∷◌, ◌++◌, length, take, drop, length-append, append_assoc, sym, ap, ◌∙◌, arith}
+use Rattle.std.proofs.lemmas.List.{append-nil, length-take}
+use Rattle.std.proofs.Math.Seq.{take-append_seam, drop-append-add}
+use Rattle.dp_conf.proofs.GroupsLemmas.{levels-last}
+use Rattle.dp_conf.specs.declared.groups.GroupKind.{GroupKind}
+use Rattle.dp_conf.specs.declared.groups.Mark.{Mark}
+use Rattle.dp_conf.specs.declared.groups.Mark.TheVariants.{End, Opening, Byte}
+use Rattle.dp_conf.specs.Groups.{Over, opener}
+use Rattle.dp_conf.specs.GroupsRead.{Levels, Last, Within, with_byte, with_opening, with_mark, levels, outer_of}
+use Rattle.dp_vars.specs.Sights.{Sight}
+use Rattle.dp_vars.specs.Values.{group_value, expanded, expansion}
+use Rattle.dp_vars.specs.Expanding.{Written, kinds_of, StandIn, AreWritten, with_value, closed, after}
+use Rattle.dp_vars.specs.declared.expanding.Waiting.{Waiting}
+
+-- the openings stand in any larger size too
+StandIn-more : (waiting : List Waiting) (size more : ℕ) → size ≤ more → StandIn waiting size → StandIn waiting more
+StandIn-more [] size more larger stand = tt
+StandIn-more (w ∷ waiting) size more larger stand = (omega (arith, stand.0), stand.1)
+
+module _ (sight : Sight) where
+  -- the expansion of the whole, by what is written, the openings that wait in it, and the levels behind
+  abbrev pub come : List Waiting → List ℕ → Levels → List ℕ
+  come waiting bytes (Last rest) = bytes ++ expanded sight rest
+  come [] bytes (Within rest outer) = come [] (bytes ++ expanded sight rest) outer
+  come (w ∷ waiting) bytes (Within rest outer) = come waiting (with_value sight w (bytes ++ expanded sight rest)) outer
+
+  come-with_byte : (waiting : List Waiting) (bytes : List ℕ) (byte : ℕ) (l : Levels) → come waiting (bytes ++ byte ∷ []) l ≡ come waiting bytes (with_byte byte l)
+  unfolding expanded
+  come-with_byte waiting bytes byte (Last rest) = append_assoc bytes (byte ∷ []) (expanded sight rest)
+  come-with_byte [] bytes byte (Within rest outer) = ap (λ bs. come [] bs outer) (append_assoc bytes (byte ∷ []) (expanded sight rest))
+  come-with_byte (w ∷ waiting) bytes byte (Within rest outer) =
+      ap (λ bs. come waiting (with_value sight w bs) outer) (append_assoc bytes (byte ∷ []) (expanded sight rest))
+
+  -- a group whose opening is written last
+  value_at_end : (bytes body : List ℕ) (kind : GroupKind)
+      → with_value sight (record { kind = kind; start = length bytes }) ((bytes ++ 36 ∷ opener kind ∷ []) ++ body) ≡ bytes ++ group_value sight kind body
+  value_at_end bytes body kind =
+      ap (with_value sight (record { kind = kind; start = length bytes })) (append_assoc bytes (36 ∷ opener kind ∷ []) body)
+      ∙ (λ i. take-append_seam bytes (36 ∷ opener kind ∷ body) i ++ group_value sight kind (drop-append-add bytes (36 ∷ opener kind ∷ body) 2 i))
+
+  come-with_opening : (waiting : List Waiting) (bytes : List ℕ) (kind : GroupKind) (l : Levels)
+      → come (record { kind = kind; start = length bytes } ∷ waiting) (bytes ++ 36 ∷ opener kind ∷ []) l ≡ come waiting bytes (with_opening kind l)
+  unfolding expanded
+  come-with_opening waiting bytes kind (Last rest) = append_assoc bytes (36 ∷ opener kind ∷ []) (expanded sight rest)
+  come-with_opening waiting bytes kind (Within inside (Last rest)) =
+      ap (λ bs. bs ++ expanded sight rest) (value_at_end bytes (expanded sight inside) kind)
+      ∙ append_assoc bytes (group_value sight kind (expanded sight inside)) (expanded sight rest)
+  come-with_opening [] bytes kind (Within inside (Within rest outer)) =
+      ap (λ bs. come [] (bs ++ expanded sight rest) outer) (value_at_end bytes (expanded sight inside) kind)
+      ∙ ap (λ bs. come [] bs outer) (append_assoc bytes (group_value sight kind (expanded sight inside)) (expanded sight rest))
+  come-with_opening (w ∷ waiting) bytes kind (Within inside (Within rest outer)) =
+      ap (λ bs. come waiting (with_value sight w (bs ++ expanded sight rest)) outer) (value_at_end bytes (expanded sight inside) kind)
+      ∙ ap (λ bs. come waiting (with_value sight w bs) outer) (append_assoc bytes (group_value sight kind (expanded sight inside)) (expanded sight rest))
+
+  come-end : (waiting : List Waiting) (bytes : List ℕ) (behind : List GroupKind → ℕ → Levels)
+      → come (closed sight waiting bytes).waiting (closed sight waiting bytes).bytes (behind (kinds_of (closed sight waiting bytes).waiting) 0)
+      ≡ come waiting bytes (Within Over (behind (outer_of (kinds_of waiting)) 0))
+  unfolding expanded
+  come-end [] bytes behind = ap (λ bs. come [] bs (behind [] 0)) (sym (append-nil bytes))
+  come-end (w ∷ waiting) bytes behind = ap (λ bs. come waiting (with_value sight w bs) (behind (kinds_of waiting) 0)) (sym (append-nil bytes))
+
+  -- a mark changes nothing of what all comes to
+  pub come-mark : (m : Mark) (written : Written) (behind : List GroupKind → ℕ → Levels)
+      → come (after sight m written).waiting (after sight m written).bytes (behind (kinds_of (after sight m written).waiting) 0)
+      ≡ come written.waiting written.bytes (with_mark m behind 0 (kinds_of written.waiting))
+  come-mark End written behind = come-end written.waiting written.bytes behind
+  come-mark (Opening kind) written behind = come-with_opening written.waiting written.bytes kind (behind (kind ∷ kinds_of written.waiting) 0)
+  come-mark (Byte byte) written behind = come-with_byte written.waiting written.bytes byte (behind (kinds_of written.waiting) 0)
+
+  -- nothing is left
+  pub come-over : (waiting : List Waiting) (bytes : List ℕ) → come waiting bytes (levels [] (kinds_of waiting) 0) ≡ bytes
+  unfolding levels expanded
+  come-over waiting bytes = append-nil bytes
+
+  -- nothing is read yet
+  pub come-text : (text : List ℕ) → come [] [] (levels text [] 0) ≡ expansion sight text
+  come-text text = ap (come [] []) (levels-last text)
+
+  -- the openings that wait stand in what is written
+  pub AreWritten-after : (m : Mark) (written : Written) → AreWritten written → AreWritten (after sight m written)
+  AreWritten-after End written stand = by written.waiting stand
+    where
+      by : (ws : List Waiting) → StandIn ws (length written.bytes) → AreWritten (closed sight ws written.bytes)
+      by [] stand = tt
+      by (w ∷ ws) stand =
+          StandIn-more ws w.start (length (with_value sight w written.bytes))
+          (omega (arith, stand.0, length-append (take w.start written.bytes) (group_value sight w.kind (drop (w.start + 2) written.bytes)), length-take w.start written.bytes)) stand.1
+  AreWritten-after (Opening kind) written stand = (omega (arith, length-append written.bytes (36 ∷ opener kind ∷ [])), stand)
+  AreWritten-after (Byte byte) written stand =
+      StandIn-more written.waiting (length written.bytes) (length (written.bytes ++ byte ∷ [])) (omega (arith, length-append written.bytes (byte ∷ []))) stand

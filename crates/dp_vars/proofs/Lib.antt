@@ -1,0 +1,5 @@
+pub mod VariablesLemmas
+pub mod StoresLemmas
+pub mod PartsLemmas
+pub mod ValuesLemmas
+pub mod ExpandingLemmas

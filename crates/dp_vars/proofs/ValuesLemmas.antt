@@ -1,0 +1,79 @@
+-- The values of names, by the maps in which they are searched, and cuts at the last byte of a kind.
+use Rattle.std.proofs.Common.{◌≡◌, ℕ, Bool, true, false, cond, eqb, List, [], ◌∷◌, ◌++◌, Option, Some, None, unwrap_or, map, refl, sym, ap, ◌∙◌}
+use Rattle.std.specs.Option.{option_map, option_map_or, option_or}
+use Rattle.std.specs.FinMap.{get}
+use Rattle.std.specs.Map.{lookup}
+use Rattle.dp_conf.specs.Words.{same_text}
+use Rattle.dp_vars.specs.declared.scope.ChannelSeen.{ChannelSeen}
+use Rattle.dp_vars.specs.Sights.{given_by, given_names, given_value, channel_map}
+use Rattle.dp_vars.specs.declared.value.Given.{Given}
+use Rattle.dp_vars.specs.Values.{before_last}
+use Rattle.dp_vars.specs.Variables.{Named, first_value, value_or_empty}
+use Rattle.dp_vars.proofs.StoresLemmas.{first_value-append}
+use Rattle.dp_vars.proofs.VariablesLemmas.{get-by_bytes}
+
+placed : (b : Bool) (f : ℕ) (front : List ℕ) (o other : Option (List ℕ))
+    → option_map_or (λ before. Some (f ∷ before)) (cond b (Some front) o) other ≡ cond b (Some (f ∷ front)) (option_map_or (λ before. Some (f ∷ before)) o other)
+placed true f front o other = refl
+placed false f front o other = refl
+
+before_last-push : (byte : ℕ) (front : List ℕ) (last : ℕ)
+    → before_last byte (front ++ last ∷ []) ≡ cond (eqb last byte) (Some front) (before_last byte front)
+before_last-push byte [] last = refl
+before_last-push byte (f ∷ front) last =
+    ap (λ o. option_map_or (λ before. Some (f ∷ before)) o (cond (eqb f byte) (Some []) None)) (before_last-push byte front last)
+    ∙ placed (eqb last byte) f front (before_last byte front) (cond (eqb f byte) (Some []) None)
+
+-- the last byte is such a byte
+pub before_last-found : (byte : ℕ) (text front : List ℕ) (last : ℕ) → text ≡ front ++ last ∷ [] → eqb last byte ≡ true
+    → Some front ≡ before_last byte text
+before_last-found byte text front last cut is =
+    ap (λ b. cond b (Some front) (before_last byte front)) (sym is) ∙ sym (before_last-push byte front last) ∙ ap (before_last byte) (sym cut)
+
+-- the last byte is another
+pub before_last-passed : (byte : ℕ) (text front : List ℕ) (last : ℕ) → text ≡ front ++ last ∷ [] → eqb last byte ≡ false
+    → before_last byte front ≡ before_last byte text
+before_last-passed byte text front last cut is =
+    ap (λ b. cond b (Some front) (before_last byte front)) (sym is) ∙ sym (before_last-push byte front last) ∙ ap (before_last byte) (sym cut)
+
+-- a look-up among values that are computed from what is found
+lookup-map : {X Y : Type 0} (value : X → Y) (test : List ℕ → Bool) (entries : List (List ℕ × X))
+    → lookup test (map (λ e. (e.0, value e.1)) entries) ≡ option_map value (lookup test entries)
+lookup-map value test [] = refl
+lookup-map value test (e ∷ es) = by (test e.0) (lookup-map value test es)
+  where
+    by : (b : Bool) → lookup test (map (λ e. (e.0, value e.1)) es) ≡ option_map value (lookup test es)
+        → cond b (Some (value e.1)) (lookup test (map (λ e. (e.0, value e.1)) es)) ≡ option_map value (cond b (Some e.1) (lookup test es))
+    by true rest = refl
+    by false rest = rest
+
+-- what the channel gives a name
+get-channel_map : (channel : Option ChannelSeen) (name : List ℕ)
+    → get (channel_map channel) name ≡ option_map (given_value channel) (lookup (same_text name) given_names)
+get-channel_map channel name = get-by_bytes (λ key. key) name (given_by channel) ∙ lookup-map (given_value channel) (same_text name) given_names
+
+module _ (channel : Option ChannelSeen) (stored : List Named) (globals : Named) (name : List ℕ) where
+  -- a name that the channel gives
+  pub value-given : (given : Given) → Some given ≡ lookup (same_text name) given_names
+      → given_value channel given ≡ value_or_empty (channel_map channel ∷ (stored ++ globals ∷ [])) name
+  value-given given is =
+      ap (λ o. unwrap_or (option_or o (first_value (stored ++ globals ∷ []) name)) [])
+      (ap (option_map (given_value channel)) is ∙ sym (get-channel_map channel name))
+
+  not_given : None ≡ lookup (same_text name) given_names
+      → unwrap_or (option_or (first_value stored name) (first_value (globals ∷ []) name)) [] ≡ value_or_empty (channel_map channel ∷ (stored ++ globals ∷ [])) name
+  not_given none =
+      ap (λ o. unwrap_or o []) (sym (first_value-append stored (globals ∷ []) name))
+      ∙ ap (λ o. unwrap_or (option_or o (first_value (stored ++ globals ∷ []) name)) [])
+      (ap (option_map (given_value channel)) none ∙ sym (get-channel_map channel name))
+
+  -- a name that the store has
+  pub value-stored : (value : List ℕ) → None ≡ lookup (same_text name) given_names → Some value ≡ first_value stored name
+      → value ≡ value_or_empty (channel_map channel ∷ (stored ++ globals ∷ [])) name
+  value-stored value none is = ap (λ o. unwrap_or (option_or o (first_value (globals ∷ []) name)) []) is ∙ not_given none
+
+  -- any other name is a global's, or has no value
+  pub value-global : (value : List ℕ) → None ≡ lookup (same_text name) given_names → None ≡ first_value stored name
+      → value ≡ value_or_empty (globals ∷ []) name → value ≡ value_or_empty (channel_map channel ∷ (stored ++ globals ∷ [])) name
+  value-global value none absent is =
+      is ∙ ap (λ o. unwrap_or (option_or o (first_value (globals ∷ []) name)) []) absent ∙ not_given none

@@ -1,0 +1,77 @@
+-- The variables of a channel, and the frames above them, which may have locals.
+use Rattle.std.specs.Prelude.{ℕ, zero, suc, ◌-◌, List, [], ◌∷◌, ◌++◌, Option, Some, None, length, map, reverse, take, slice_get, if◌then◌else◌}
+use Rattle.std.specs.Option.{option_and_then, option_map, option_or}
+use Rattle.std.specs.FinMap.{contains_key, get, insert, empty}
+use Rattle.dp_vars.specs.Variables.{Named, first_value, map_of}
+use Rattle.dp_vars.specs.declared.frame.Frame.{Frame}
+use Rattle.dp_vars.specs.declared.variables.Variable.{Variable}
+
+-- the variables of a channel, and its frames, the innermost last
+pub record StoreOf (B : Type 0) : Type 0 where
+  pub variables : Named
+  pub frames : List (Frame B)
+
+module _ {B : Type 0} where
+  -- no variables and no frames
+  abbrev pub nothing : StoreOf B
+  nothing = record { variables = empty; frames = [] }
+
+  -- the locals of the frames, from the innermost outwards
+  abbrev pub all_locals : List (Frame B) → List Named
+  all_locals frames = map (λ frame. frame.locals) (reverse frames)
+
+  -- the maps in which a name is searched: those locals, and then the variables
+  abbrev pub searched : StoreOf B → List Named
+  searched store = all_locals store.frames ++ store.variables ∷ []
+
+  -- the value that the store has for a name
+  abbrev pub value_in : StoreOf B → List ℕ → Option (List ℕ)
+  value_in store name = first_value (searched store) name
+
+  -- the innermost frame
+  abbrev pub innermost : List (Frame B) → Option (Frame B)
+  innermost frames = slice_get frames (length frames - 1)
+
+  -- the value of the innermost frame's own local
+  abbrev pub local_in : StoreOf B → List ℕ → Option (List ℕ)
+  local_in store name = option_and_then (λ frame. get frame.locals name) (innermost store.frames)
+
+  -- the frame with the local set
+  abbrev pub with_local : List ℕ → List ℕ → Frame B → Frame B
+  with_local name value frame = record frame { locals = insert frame.locals name value }
+
+  -- the frames with the one at a place changed
+  abbrev pub changed_at : (Frame B → Frame B) → ℕ → List (Frame B) → List (Frame B)
+  changed_at change place [] = []
+  changed_at change zero (frame ∷ frames) = change frame ∷ frames
+  changed_at change (suc place) (frame ∷ frames) = frame ∷ changed_at change place frames
+
+  -- the place of the innermost frame that has the name as a local
+  abbrev pub holder : List ℕ → List (Frame B) → Option ℕ
+  holder name [] = None
+  holder name (frame ∷ frames) =
+      option_or (option_map suc (holder name frames)) (if contains_key frame.locals name then Some 0 else None)
+
+  -- the store with the variable set, or the local of the frame at that place
+  abbrev pub set_in : Option ℕ → StoreOf B → List ℕ → List ℕ → StoreOf B
+  set_in None store name value = record store { variables = insert store.variables name value }
+  set_in (Some place) store name value =
+      record store { frames = changed_at (with_local name value) place store.frames }
+
+  -- the store after a name is set: the local of the innermost frame that has it as one, else the channel's variable
+  unfoldable pub set : StoreOf B → List ℕ → List ℕ → StoreOf B
+  set store name value = set_in (holder name store.frames) store name value
+
+  -- the store with a local of the innermost frame set, where there is a frame
+  unfoldable pub set_local : StoreOf B → List ℕ → List ℕ → StoreOf B
+  set_local store name value =
+      record store { frames = changed_at (with_local name value) (length store.frames - 1) store.frames }
+
+  -- the store with one more frame, which has these locals
+  abbrev pub with_frame : StoreOf B → B → List Variable → StoreOf B
+  with_frame store back locals =
+      record store { frames = store.frames ++ record { back = back; locals = map_of locals } ∷ [] }
+
+  -- the store without its innermost frame
+  abbrev pub without_frame : StoreOf B → StoreOf B
+  without_frame store = record store { frames = take (length store.frames - 1) store.frames }

@@ -1,0 +1,78 @@
+-- The value of a group, and a text with the values of its groups.
+use Rattle.std.specs.Prelude.{ℕ, ◌==◌, List, [], ◌∷◌, ◌++◌, Option, Some, None, length, codes, if◌then◌else◌}
+use Rattle.std.specs.Fmt.{decimal}
+use Rattle.std.specs.Option.{option_map_or}
+use Rattle.dp_conf.specs.Cut.{cut_once}
+use Rattle.dp_conf.specs.Groups.{Reading, Over, Plain, Group}
+use Rattle.dp_conf.specs.GroupsRead.{reading_of}
+use Rattle.dp_conf.specs.Levels.{cut_outside}
+use Rattle.dp_conf.specs.Words.{same_text}
+use Rattle.dp_conf.specs.declared.groups.GroupKind.{GroupKind}
+use Rattle.dp_conf.specs.declared.groups.GroupKind.TheVariants.{Braces, Brackets}
+use Rattle.dp_expr.specs.Expression.{expression_value}
+use Rattle.dp_vars.specs.Parts.{asked_of, part}
+use Rattle.dp_vars.specs.Sights.{Sight}
+use Rattle.dp_vars.specs.declared.value.Function.{Function}
+use Rattle.dp_vars.specs.declared.value.Function.TheVariants.{Global, Local, Len, CallerId, QueueWaitingCount}
+
+-- what stands before the last such byte, where there is one
+abbrev pub before_last : ℕ → List ℕ → Option (List ℕ)
+before_last byte [] = None
+before_last byte (b ∷ bs) = option_map_or (λ front. Some (b ∷ front)) (before_last byte bs) (if b == byte then Some [] else None)
+
+-- the functions by their names
+abbrev pub function_of : List ℕ → Option Function
+function_of name =
+    if same_text name (codes "GLOBAL") then Some Global
+    else (if same_text name (codes "LOCAL") then Some Local
+    else (if same_text name (codes "LEN") then Some Len
+    else (if same_text name (codes "CALLERID") then Some CallerId
+    else (if same_text name (codes "QUEUE_WAITING_COUNT") then Some QueueWaitingCount else None))))
+
+-- the number of the caller, where that is asked for
+abbrev pub caller_value : List ℕ → List ℕ → List ℕ
+caller_value caller argument = if same_text argument (codes "num") then caller else []
+
+-- the value of a function of an argument; other names are no functions, and their value is empty
+abbrev pub function_value : Sight → Option Function → List ℕ → List ℕ
+function_value sight None argument = []
+function_value sight (Some Global) argument = sight.global argument
+function_value sight (Some Local) argument = sight.local argument
+function_value sight (Some Len) argument = decimal (length argument)
+function_value sight (Some CallerId) argument = caller_value sight.caller argument
+function_value sight (Some QueueWaitingCount) argument = decimal (sight.waiting argument)
+
+-- a function has its argument between its first `(` and the last `)` behind it; with no such `)` it is empty
+abbrev pub called : Sight → List ℕ → Option (List ℕ) → List ℕ
+called sight name None = []
+called sight name (Some argument) = function_value sight (function_of name) argument
+
+-- a head with a `(` is a function, and any other the name of a variable
+abbrev pub head_by : Sight → List ℕ → Option (List ℕ × List ℕ) → List ℕ
+head_by sight head None = sight.variable head
+head_by sight head (Some cut) = called sight cut.0 (before_last 41 cut.1)
+
+-- the value of a head
+unfoldable pub head_value : Sight → List ℕ → List ℕ
+head_value sight head = head_by sight head (cut_once 40 head)
+
+-- the value of a body that is cut, or of one that is not
+abbrev pub body_by : Sight → List ℕ → Option (List ℕ × List ℕ) → List ℕ
+body_by sight body None = head_value sight body
+body_by sight body (Some cut) = part (asked_of (Some cut.1)) (head_value sight cut.0)
+
+-- the value of the expanded body of a group: in braces what stands before the first `:` outside parentheses is a
+-- variable or a function, and what stands behind it asks for a part of the value; in brackets the body is an expression
+unfoldable pub group_value : Sight → GroupKind → List ℕ → List ℕ
+group_value sight Braces body = body_by sight body (cut_outside 58 body)
+group_value sight Brackets body = expression_value body
+
+-- a reading with each group replaced by the value of its expanded body; values are not read again
+unfoldable pub expanded : Sight → Reading → List ℕ
+expanded sight Over = []
+expanded sight (Plain byte rest) = byte ∷ expanded sight rest
+expanded sight (Group kind inside rest) = group_value sight kind (expanded sight inside) ++ expanded sight rest
+
+-- the same of a text by its one reading
+abbrev pub expansion : Sight → List ℕ → List ℕ
+expansion sight text = expanded sight (reading_of text)

@@ -1,0 +1,37 @@
+-- Variables: finite maps from names to values, both of them bytes.
+use Rattle.std.specs.Prelude.{ℕ, List, [], ◌∷◌, Option, None, map, fold, unwrap_or}
+use Rattle.std.specs.Option.{option_or}
+use Rattle.std.specs.Ordering.{nat_cmp}
+use Rattle.std.specs.Cmp.Lexicographic.{slice_cmp}
+use Rattle.std.specs.Coded.{Coded, coded_ℕ, coded_list}
+use Rattle.std.specs.FinMap.{FinMap, code, empty, get, insert}
+use Rattle.dp_vars.specs.declared.variables.Variable.{Variable}
+
+-- names with their values
+abbrev pub Named : Type 0
+Named = FinMap (slice_cmp nat_cmp) (List ℕ)
+
+-- such a map is stored as its entries
+abbrev pub named_code : Coded Named
+named_code = code (coded_list coded_ℕ) (coded_list coded_ℕ)
+
+-- the value that the first of the maps gives the name, where one gives it a value
+abbrev pub first_value : List Named → List ℕ → Option (List ℕ)
+first_value [] name = None
+first_value (m ∷ ms) name = option_or (get m name) (first_value ms name)
+
+-- that value, and the empty text where none gives it one
+abbrev pub value_or_empty : List Named → List ℕ → List ℕ
+value_or_empty maps name = unwrap_or (first_value maps name) []
+
+-- the map with the value of one variable set
+abbrev pub with_variable : Named → Variable → Named
+with_variable m variable = insert m variable.name variable.value
+
+-- the map of some variables; of two values of one name the later stands
+abbrev pub map_of : List Variable → Named
+map_of variables = fold with_variable empty variables
+
+-- entries whose keys are read by their bytes
+abbrev pub by_bytes : {K X : Type 0} → (K → List ℕ) → List (K × X) → List (List ℕ × X)
+by_bytes bytes entries = map (λ e. (bytes e.0, e.1)) entries

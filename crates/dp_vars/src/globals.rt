@@ -1,0 +1,60 @@
+//! The global variables.
+ghost use Rattle.std.specs.Prelude.{◌≡◌, ◌∷◌, [], OnErr, OnOk};
+ghost use Rattle.std.specs.FinMap as finite;
+ghost use Rattle.dp_vars.specs.Variables.{value_or_empty};
+
+use crate::variables::Variables;
+use dp_conf::NoMemory;
+use std::alloc::Global;
+use std::marker::Model;
+
+/// The global variables with their values, which a contract sees as a finite map from names to values.
+///
+/// Names are case sensitive.
+#[derive(Drop)]
+pub struct Globals {
+    variables: Variables,
+}
+
+impl Model for Globals {
+    ghost use Rattle.std.specs.Prelude.{ℕ, List};
+    ghost use Rattle.std.specs.Ordering.{nat_cmp};
+    ghost use Rattle.std.specs.Cmp.Lexicographic.{slice_cmp};
+    ghost use Rattle.std.specs.FinMap as finite;
+    ghost use Rattle.std.specs.Coded.{coded_ℕ, coded_list};
+
+    ghost Value = { finite.FinMap (slice_cmp nat_cmp) (List ℕ) };
+
+    ghost coded = { finite.code (coded_list coded_ℕ) (coded_list coded_ℕ) };
+
+    ghost view = { λ globals. globals.variables };
+}
+
+impl Globals {
+    /// No globals. It takes no memory.
+    pub fn new(alloc: Global) -> Self
+        ensures { result ≡ finite.empty }
+    {
+        Globals {
+            variables: Variables::new(alloc),
+        }
+    }
+
+    /// Gives the global of that name the value. After a refused growth all is as before.
+    pub fn put(&mut self, alloc: Global, name: &[u8], value: &[u8]) -> Result<(), NoMemory>
+        ensures ok { OnOk result (self.new ≡ finite.insert self.old name.now value.now) }
+        ensures err { OnErr result (self.new ≡ self.old) }
+    {
+        self.variables.insert(alloc, name, value)
+    }
+
+    /// The value of the global of that name; the empty text where there is none.
+    pub fn at(&self, name: &[u8]) -> &[u8]
+        ensures { result.now ≡ value_or_empty (self.now ∷ []) name.now }
+    {
+        match self.variables.get(name) {
+            Some(value) => value,
+            None => b"",
+        }
+    }
+}

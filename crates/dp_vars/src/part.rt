@@ -1,0 +1,145 @@
+//! Parts of values, after the Asterisk documentation's page on variables.
+//!
+//! Behind a value stands nothing, `:offset` or `:offset:length`. A negative offset counts from the end, and a negative
+//! length leaves so many bytes out at the end. An empty offset is 0 and an empty length is none. Anything else gives the
+//! empty text (a choice of this program).
+ghost use Rattle.std.specs.Prelude.{◌≡◌, ◌≤◌, Some};
+ghost use Rattle.std.specs.Option.{option_map};
+ghost use Rattle.dp_vars.specs.Parts as parts;
+ghost use Rattle.dp_vars.specs.Far as far;
+
+use dp_conf::{cut_once, read_number};
+
+/// How far a part reaches: so many bytes ahead, or so many back from the end.
+#[derive(Clone, Copy)]
+pub(crate) enum Reach {
+    Ahead(usize),
+    Back(usize),
+}
+
+/// What is asked for of a value.
+#[derive(Clone, Copy)]
+pub(crate) enum Asked {
+    Whole,
+    Part(Reach, Option<Reach>),
+    Nothing,
+}
+
+/// A number as a size, where a number that is too large for one is as good as the greatest.
+fn size_of(number: u64) -> usize
+    ensures { result ≡ number }
+{
+    number as usize
+}
+
+/// So many bytes back; none back is none ahead.
+fn back(number: usize) -> Reach
+    ensures { result ≡ parts.back number }
+{
+    if number == 0 {
+        Reach::Ahead(0)
+    } else {
+        Reach::Back(number)
+    }
+}
+
+/// An optional `-` and digits.
+fn read_reach(text: &[u8]) -> Option<Reach>
+    ensures { result ≡ option_map far.at_most (parts.reach_of text.now) }
+{
+    let (first, digits) = text.split_first()?;
+    if *first == b'-' {
+        match read_number(digits) {
+            Some(number) => Some(back(size_of(number))),
+            None => None,
+        }
+    } else {
+        match read_number(text) {
+            Some(number) => Some(Reach::Ahead(size_of(number))),
+            None => None,
+        }
+    }
+}
+
+/// An offset, which may be empty.
+fn read_offset(text: &[u8]) -> Option<Reach>
+    ensures { result ≡ option_map far.at_most (parts.offset_of text.now) }
+{
+    if text.is_empty() {
+        return Some(Reach::Ahead(0));
+    }
+    read_reach(text)
+}
+
+/// A length, which may be empty.
+fn read_length(text: &[u8]) -> Option<Option<Reach>>
+    ensures { result ≡ option_map (option_map far.at_most) (parts.length_of text.now) }
+{
+    if text.is_empty() {
+        return Some(None);
+    }
+    match read_reach(text) {
+        Some(reach) => Some(Some(reach)),
+        None => None,
+    }
+}
+
+/// An offset and a length as what they ask for.
+fn part_from(offset: Option<Reach>, length: Option<Option<Reach>>) -> Asked
+    ensures { result ≡ parts.part_from offset length }
+{
+    match (offset, length) {
+        (Some(offset), Some(length)) => Asked::Part(offset, length),
+        _ => Asked::Nothing,
+    }
+}
+
+/// What is asked for by what stands behind the first `:`.
+pub(crate) fn read_asked(tail: &[u8]) -> Asked
+    ensures { result ≡ far.asked_at_most (parts.asked_of (Some tail.now)) }
+{
+    match cut_once(tail, b':') {
+        None => part_from(read_offset(tail), Some(None)),
+        Some((offset, length)) => part_from(read_offset(offset), read_length(length)),
+    }
+}
+
+/// Where a part starts in a value of this size.
+fn start_of(offset: Reach, size: usize) -> usize
+    ensures start { result ≡ parts.start_of offset size }
+    ensures within { result ≤ size }
+{
+    match offset {
+        Reach::Ahead(number) => number.min(size),
+        Reach::Back(number) => size.saturating_sub(number),
+    }
+}
+
+/// Where a part ends that starts here.
+fn end_of(length: Option<Reach>, start: usize, size: usize) -> usize
+    requires { start ≤ size }
+    ensures end { result ≡ parts.end_of length start size }
+    ensures behind { start ≤ result }
+    ensures within { result ≤ size }
+{
+    match length {
+        None => size,
+        Some(Reach::Ahead(number)) => start.saturating_add(number).min(size),
+        Some(Reach::Back(number)) => size.saturating_sub(number).max(start),
+    }
+}
+
+/// The part of a value that is asked for.
+pub(crate) fn part(value: &[u8], asked: Asked) -> &[u8]
+    ensures { result.now ≡ parts.part asked value.now }
+{
+    match asked {
+        Asked::Whole => value,
+        Asked::Part(offset, length) => {
+            let start = start_of(offset, value.len());
+            let end = end_of(length, start, value.len());
+            &value[start..end]
+        }
+        Asked::Nothing => b"",
+    }
+}

@@ -1,0 +1,72 @@
+//! The value that a body in braces stands for.
+ghost use Rattle.std.specs.Prelude.{◌≡◌, ◌++◌, ◌<◌, ◌^◌, IfOk, OnOk, codes, length};
+ghost use Rattle.std.specs.String.{string_bytes};
+ghost use Rattle.std.specs.Fmt.{decimal};
+ghost use Rattle.dp_conf.specs.Levels.{cut_outside};
+ghost use Rattle.dp_vars.specs.Parts.{part};
+ghost use Rattle.dp_vars.specs.Shown.{shown};
+ghost use Rattle.dp_vars.specs.Sights as sights;
+ghost use Rattle.dp_vars.specs.Values as values;
+
+use crate::part::{Asked, part, read_asked};
+use crate::scope::{Counts, Scope};
+use crate::value::{Value, head_value};
+use dp_conf::{NoMemory, cut_outside};
+use std::alloc::Global;
+
+/// A value, and which part of it is asked for.
+#[derive(Clone, Copy)]
+pub(crate) struct Reference<'a> {
+    value: Value<'a>,
+    asked: Asked,
+}
+
+/// What a body in braces refers to.
+pub(crate) fn read_reference<'a, B, C: Counts>(
+    scope: &Scope<'a, B, C>,
+    body: &[u8],
+) -> Reference<'a>
+    ensures { length (shown result.value) < 2 ^ 64 → part result.asked (shown result.value)
+        ≡ values.body_by (sights.sight_of C.count scope.now) body.now (cut_outside 58 body.now) }
+{
+    match cut_outside(body, b':') {
+        None => Reference {
+            value: head_value(scope, body),
+            asked: Asked::Whole,
+        },
+        Some((head, tail)) => Reference {
+            value: head_value(scope, head),
+            asked: read_asked(tail),
+        },
+    }
+}
+
+/// Adds the part that is asked for of some bytes.
+fn push_part(out: &mut Vec<u8>, value: &[u8], asked: Asked) -> Result<(), NoMemory>
+    ensures ok { OnOk result (out.new.items ≡ out.old.items ++ part asked value.now) }
+    ensures small { length value.now < 2 ^ 64 }
+{
+    out.extend_from_slice(part(value, asked))
+}
+
+/// Adds what a reference stands for.
+pub(crate) fn push_reference(
+    alloc: Global,
+    out: &mut Vec<u8>,
+    reference: Reference<'_>,
+) -> Result<(), NoMemory>
+    ensures ok { OnOk result (out.new.items ≡ out.old.items ++ part reference.entry.asked (shown reference.entry.value)) }
+    ensures small { OnOk result (length (shown reference.entry.value) < 2 ^ 64) }
+{
+    match reference.value {
+        Value::Bytes(bytes) => push_part(out, bytes, reference.asked),
+        Value::Number(number) => {
+            let text = format!(in alloc; "{number}")?;
+            push_part(out, text.as_bytes(), reference.asked)
+        }
+        Value::Channel(number) => {
+            let text = format!(in alloc; "Channel/{number}")?;
+            push_part(out, text.as_bytes(), reference.asked)
+        }
+    }
+}

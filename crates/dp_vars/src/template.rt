@@ -1,0 +1,97 @@
+//! Texts that are expanded when they are used, after the Asterisk documentation's pages on variables.
+ghost use Rattle.std.specs.Prelude.{◌≡◌, ◌<◌, ◌≤◌, IfErr, IfOk};
+ghost use Rattle.dp_conf.specs.Groups.{Reading, IsReading};
+ghost use Rattle.dp_conf.specs.GroupsRead.{nesting_of};
+ghost use Rattle.dp_vars.specs.declared.template.TemplateFault.TheVariants as faults;
+ghost use Rattle.dp_vars.specs.Sights.{sight_of};
+ghost use Rattle.dp_vars.specs.Values.{expanded, expansion};
+
+use crate::expanding::Expanding;
+use crate::scope::{Counts, Scope};
+use dp_conf::{NoMemory, nesting, next_mark};
+use std::alloc::{AllocError, Global};
+use std::marker::Model;
+
+/// The greatest number of groups that may stand inside each other in a template (a choice of this program).
+pub const MOST_NESTING: usize = 32;
+
+/// Why a text is no template.
+#[derive(Clone, Copy, Debug, PartialEq, Eq)]
+pub enum TemplateFault {
+    /// More groups stand inside each other than may.
+    TooDeep,
+    /// A growth was refused.
+    NoMemory,
+}
+
+impl From<AllocError> for TemplateFault {
+    ghost from_gives = { λ _ fault. fault ≡ faults.NoMemory };
+
+    fn from(_: AllocError) -> Self {
+        TemplateFault::NoMemory
+    }
+}
+
+/// A text in which variables, functions and expressions stand in groups.
+///
+/// A contract sees it as its text.
+#[derive(Drop)]
+pub struct Template {
+    text: Vec<u8>,
+}
+
+impl Model for Template {
+    ghost use Rattle.std.specs.Prelude.{ℕ, List};
+
+    ghost Value = { List ℕ };
+
+    ghost view = { λ template. template.text.items };
+}
+
+impl Template {
+    /// The template of a text, in which at most 32 groups stand inside each other.
+    pub fn read(alloc: Global, text: &[u8]) -> Result<Self, TemplateFault>
+        ensures ok { IfOk result (λ template. (template ≡ text.now) × (nesting_of text.now ≤ MOST_NESTING)) }
+        ensures deep { IfErr result (λ fault. fault ≡ TemplateFault.TooDeep → MOST_NESTING < nesting_of text.now) }
+    {
+        let depth = nesting(alloc, text)?;
+        if depth > MOST_NESTING {
+            return Err(TemplateFault::TooDeep);
+        }
+        let text = Vec::from_slice(alloc, text)?;
+        Ok(Template { text })
+    }
+
+    /// The text as it was read.
+    fn text(&self) -> &[u8]
+        ensures { result.now ≡ self.now }
+    {
+        &self.text
+    }
+}
+
+/// The template with each group replaced by its value.
+///
+/// The body of a group is expanded first, and its value is not expanded again. `${..}` has the value of a variable or
+/// of a function, or a part of it; `$[..]` has the value of an expression. An opening without its end is plain.
+///
+/// The error comes only where a growth was refused.
+pub fn expand<B, C: Counts>(
+    alloc: Global,
+    template: &Template,
+    scope: &Scope<'_, B, C>,
+) -> Result<Vec<u8>, NoMemory>
+    // By the text's one reading.
+    ensures reading { (reading : Reading) → IsReading template.now reading
+        → IfOk result (λ bytes. bytes.items ≡ expanded (sight_of C.count scope.now) reading) }
+    // The same by a function.
+    ensures exact { IfOk result (λ bytes. bytes.items ≡ expansion (sight_of C.count scope.now) template.now) }
+{
+    let mut expanding = Expanding::new(alloc);
+    let mut rest = template.text();
+    while let Some((mark, behind)) = next_mark(rest, expanding.innermost()) {
+        expanding.take(alloc, scope, mark)?;
+        rest = behind;
+    }
+    Ok(expanding.finish())
+}

@@ -1,0 +1,92 @@
+//! A map from the names of variables to their values.
+ghost use Rattle.std.specs.Prelude.{◌≡◌, OnErr, OnOk, IfOk};
+ghost use Rattle.std.specs.FinMap as finite;
+ghost use Rattle.std.specs.Option.{option_map};
+ghost use Rattle.dp_vars.specs.Variables.{map_of};
+
+use dp_conf::{NoMemory, Text};
+use indexmap::IndexMap;
+use std::alloc::Global;
+use std::marker::Model;
+
+/// A variable's name and its value.
+#[derive(Debug, Drop)]
+pub struct Variable {
+    pub name: Text,
+    pub value: Text,
+}
+
+/// Variables with their values. Names are told apart by their bytes.
+#[derive(Drop)]
+pub(crate) struct Variables {
+    held: IndexMap<Vec<u8>, Text>,
+}
+
+impl Model for Variables {
+    ghost use Rattle.std.specs.Prelude.{ℕ, List, map};
+    ghost use Rattle.std.specs.Ordering.{nat_cmp};
+    ghost use Rattle.std.specs.Cmp.Lexicographic.{slice_cmp};
+    ghost use Rattle.std.specs.FinMap as finite;
+    ghost use Rattle.std.specs.Coded.{coded_ℕ, coded_list};
+
+    ghost Value = { finite.FinMap (slice_cmp nat_cmp) (List ℕ) };
+
+    ghost coded = { finite.code (coded_list coded_ℕ) (coded_list coded_ℕ) };
+
+    ghost view = { λ variables. finite.from_entries (map (λ entry. (entry.0.items, entry.1)) variables.held.entries) };
+}
+
+impl Variables {
+    /// No variables. It takes no memory.
+    pub(crate) fn new(alloc: Global) -> Self
+        ensures { result ≡ finite.empty }
+    {
+        Variables {
+            held: IndexMap::new(alloc),
+        }
+    }
+
+    /// The map of some variables. Of two values of one name the later stands.
+    pub(crate) fn of(alloc: Global, variables: &[Variable]) -> Result<Self, NoMemory>
+        ensures { IfOk result (λ map. map ≡ map_of variables.now) }
+    {
+        let mut map = Variables::new(alloc);
+        for variable in variables {
+            map.insert(alloc, variable.name.bytes(), variable.value.bytes())?;
+        }
+        Ok(map)
+    }
+
+    /// Whether a name has a value.
+    pub(crate) fn has(&self, name: &[u8]) -> bool
+        ensures { result ≡ finite.contains_key self.now name.now }
+    {
+        self.held.contains_key(name)
+    }
+
+    /// The value of a name, where it has one.
+    pub(crate) fn get(&self, name: &[u8]) -> Option<&[u8]>
+        ensures { option_map (λ value. value.now) result ≡ finite.get self.now name.now }
+    {
+        match self.held.get(name) {
+            Some(value) => Some(value.bytes()),
+            None => None,
+        }
+    }
+
+    /// Gives a name the value. After a refused growth all is as before.
+    pub(crate) fn insert(
+        &mut self,
+        alloc: Global,
+        name: &[u8],
+        value: &[u8],
+    ) -> Result<(), NoMemory>
+        ensures ok { OnOk result (self.new ≡ finite.insert self.old name.now value.now) }
+        ensures err { OnErr result (self.new ≡ self.old) }
+    {
+        let key = Vec::from_slice(alloc, name)?;
+        let value = Text::copy_of(alloc, value)?;
+        self.held.insert(key, value)?;
+        Ok(())
+    }
+}
