@@ -1,7 +1,9 @@
 -- Command lines, computed on the definition.
 use Rattle.std.proofs.Common.{◌≡◌, [], ◌∷◌, Some, None, codes, refl}
 use Rattle.clap.proofs.OnLiterals.{clap_on_literals}
-use Rattle.pbx.specs.CommandLine.{asked_of, joined, check, matching, run}
+use Rattle.clap.specs.Faults.{fault_of}
+use Rattle.clap.specs.declared.error.kind.ErrorKind.TheVariants as kind
+use Rattle.pbx.specs.CommandLine.{pbx_app, asked_of, joined, check, matching, run}
 
 no_command : asked_of (codes "pbx" ∷ []) ≡ Some joined
 unfolding clap_on_literals asked_of
@@ -30,3 +32,20 @@ matched_dashes = refl
 ran : asked_of (codes "pbx" ∷ codes "run" ∷ codes "a.conf" ∷ codes "b.script" ∷ []) ≡ Some (run (codes "a.conf") (codes "b.script"))
 unfolding clap_on_literals asked_of
 ran = refl
+
+-- words that are refused, and words that are not
+no_fault : fault_of pbx_app (codes "pbx" ∷ codes "check" ∷ codes "a.conf" ∷ []) ≡ []
+unfolding clap_on_literals
+no_fault = refl
+
+unknown_command : fault_of pbx_app (codes "pbx" ∷ codes "frob" ∷ []) ≡ kind.UnknownArgument ∷ kind.InvalidSubcommand ∷ []
+unfolding clap_on_literals
+unknown_command = refl
+
+extra_word : fault_of pbx_app (codes "pbx" ∷ codes "check" ∷ codes "a.conf" ∷ codes "b.conf" ∷ []) ≡ kind.UnknownArgument ∷ []
+unfolding clap_on_literals
+extra_word = refl
+
+missing_word : fault_of pbx_app (codes "pbx" ∷ codes "run" ∷ codes "a.conf" ∷ []) ≡ kind.MissingRequiredArgument ∷ []
+unfolding clap_on_literals
+missing_word = refl

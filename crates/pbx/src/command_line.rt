@@ -1,5 +1,7 @@
 //! The command line: what its words ask for.
-ghost use Rattle.std.specs.Prelude.{◌≡◌, IfOk, IfErr, Some, false, is_some, map, option_map, codes, true};
+ghost use Rattle.std.specs.Prelude.{◌≡◌, IfOk, IfErr, Some, false, is_some, map, option_map, codes, true, []};
+ghost use Rattle.clap.specs.Faults.{fault_of};
+ghost use Rattle.clap.specs.Kinds.{FailsBy};
 ghost use Rattle.clap.specs.Matches.{found_of};
 ghost use Rattle.clap.specs.Simple.{app_of, new_app, subcommand_of, subcommand_rows_of, with_rule, with_subcommand};
 ghost use Rattle.clap.specs.Takes.{takes};
@@ -332,6 +334,7 @@ fn refuse_missing(alloc: Global) -> Result<Error, NoMemory> {
 fn read_matches<'a>(alloc: Global, words: &'a [String]) -> Result<ArgMatches<'a>, Error>
     ensures command { IfOk result (λ matches. subcommand_rows_of matches ≡ subcommand_of spec.pbx_app (spec.texts words.now)) }
     ensures refused { IfErr result (λ error. takes spec.pbx_app (spec.texts words.now) ≡ true → kind_of error ≡ OutOfMemory) }
+    ensures faults { FailsBy (fault_of spec.pbx_app (spec.texts words.now)) result }
 {
     let commands = pbx_command(alloc)?;
     commands.try_get_matches_from(words)
@@ -344,6 +347,7 @@ pub fn read_words<'a>(alloc: Global, words: &'a [String]) -> Result<Request<'a>,
     ensures asked { IfOk result (λ request. spec.asked_of (spec.texts words.now) ≡ Some (spec.asked request)) }
     ensures refused { IfErr result (λ error. takes spec.pbx_app (spec.texts words.now) ≡ true
         → is_some (spec.asked_of (spec.texts words.now)) ≡ true → kind_of error ≡ OutOfMemory) }
+    ensures faultless { IfOk result (λ _. fault_of spec.pbx_app (spec.texts words.now) ≡ []) }
 {
     let matches = read_matches(alloc, words)?;
     match request_of(alloc, &matches)? {

@@ -34,9 +34,9 @@ impl Code {
             Code::Line(kind) => kind.code(),
             Code::Name(fault) => fault.code(),
             Code::Plan(kind) => kind.code(),
-            Code::ReadFailed => 7,
-            Code::TooLong => 8,
-            Code::WriteFailed => 9,
+            Code::ReadFailed => ReadFault::ReadFailed.code().unwrap(),
+            Code::TooLong => ReadFault::TooLong.code().unwrap(),
+            Code::WriteFailed => WriteFailed.code(),
             Code::BadScript => 70,
         }
     }
@@ -49,9 +49,9 @@ impl Code {
             Code::Line(kind) => kind.name(),
             Code::Name(fault) => fault.name(),
             Code::Plan(kind) => kind.name(),
-            Code::ReadFailed => "ReadFailed",
-            Code::TooLong => "TooLong",
-            Code::WriteFailed => "WriteFailed",
+            Code::ReadFailed => ReadFault::ReadFailed.name(),
+            Code::TooLong => ReadFault::TooLong.name(),
+            Code::WriteFailed => WriteFailed.name(),
             Code::BadScript => "BadScript",
         }
     }

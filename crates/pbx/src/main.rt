@@ -3,6 +3,7 @@
 
 mod command_line;
 mod fault;
+mod files;
 mod joined;
 mod program;
 mod report;
@@ -37,7 +38,7 @@ fn run_program(rt: &HostRuntime) -> Result<u8, PbxFault> {
         &words,
         &mut input,
         &mut output,
-        &mut rt.stderr(),
+        &mut Told::new(rt.stderr()),
     ))
 }
 
@@ -45,7 +46,7 @@ fn main(rt: HostRuntime) -> ExitCode {
     match run_program(&rt) {
         Ok(status) => ExitCode::from(status),
         Err(fault) => {
-            let _ = print_fault(&mut rt.stderr(), fault);
+            let _ = print_fault(&mut Told::new(rt.stderr()), fault);
             ExitCode::from(1)
         }
     }

@@ -1,145 +1,203 @@
 //! What the program does with its command line.
-ghost use Rattle.std.specs.Prelude.{◌≡◌, ◌||◌, false};
-ghost use Rattle.pbx.specs.Faults.{is_write_fault, is_write_failed};
+ghost use Rattle.std.specs.Prelude.{◌≡◌, ◌≢◌, ◌||◌, ◌++◌, [], OnOk, IfOk, decimal, codes, false};
+ghost use Rattle.std.specs.Result.{is_err};
+ghost use Rattle.std.specs.Io.KnownBytes.{Appends};
+ghost use Rattle.clap.specs.Faults.{fault_of};
+ghost use Rattle.clap.specs.Values.{kind_of};
+ghost use Rattle.pbx.specs.Codes.{code_text, fault_line};
+ghost use Rattle.pbx.specs.CommandLine.{pbx_app, texts};
+ghost use Rattle.pbx.specs.Faults.{is_write_failed};
+ghost use Rattle.pbx.specs.Files as files_spec;
+ghost use Rattle.pbx.specs.Files.{whole_text, length_reason, is_read_fault};
+ghost use Rattle.pbx.specs.Report.{check_of, match_of};
+ghost use Rattle.pbx.specs.Status.{status_after, explained_status, Prints};
 
 use crate::command_line::{Request, read_words};
 use crate::fault::{Code, PbxFault};
+use crate::files::ReadFiles;
 use crate::joined::run_joined;
 use crate::report::{check, match_one};
 use crate::run::run_script;
 use clap::Error;
 use clap::error::ErrorKind;
-use dp_conf::{ReadTold, Told, WriteTold, read_whole};
+use dp_conf::{ReadTold, WriteFailed, WriteTold, read_whole};
+use dp_plan::Priority;
+use itoa::{Buffer, Integer};
 use std::alloc::Global;
-use std::io::Write;
-use std::rt::Files;
-use std::{fs, io};
 
-/// Why a file could not be opened.
-fn opening_fault(error: &io::Error) -> PbxFault
-    ensures { is_write_fault result ≡ false }
+/// Runs the joined text of the input.
+fn serve_joined<I: ReadTold, W: WriteTold>(
+    alloc: Global,
+    input: &mut I,
+    output: &mut W,
+) -> Result<u8, PbxFault>
+    ensures serves { files_spec.RunsJoined (I.remaining input.old) (W.contents output.old) (W.contents output.new) result }
+    ensures told { W.has_failed output.new ≡ (W.has_failed output.old || is_write_failed result) }
 {
-    match error.kind() {
-        io::ErrorKind::OutOfMemory => PbxFault::NoMemory,
-        _ => PbxFault::Coded {
-            code: Code::ReadFailed,
-            line: None,
-        },
-    }
+    let text = read_whole(alloc, input)?;
+    run_joined(alloc, &text, output)
 }
 
-/// All bytes of a file.
-fn read_file<R: Files>(rt: &R, alloc: Global, path: &str) -> Result<Vec<u8>, PbxFault>
-    ensures { is_write_failed result ≡ false }
+/// Reports on the dialplan of a file.
+fn serve_check<F: ReadFiles, W: WriteTold>(
+    files: &F,
+    alloc: Global,
+    file: &str,
+    output: &mut W,
+) -> Result<u8, PbxFault>
+    ensures serves { files_spec.ReportsOn (F.bytes_at files.now file.now) check_of (W.contents output.old) (W.contents output.new) result }
+    ensures told { W.has_failed output.new ≡ (W.has_failed output.old || is_write_failed result) }
 {
-    match fs::open(rt, path) {
-        Ok(file) => {
-            let bytes = read_whole(alloc, &mut Told::new(file))?;
-            Ok(bytes)
-        }
-        Err(error) => Err(opening_fault(&error)),
-    }
+    let plan = files.read_file(alloc, file)?;
+    check(alloc, &plan, output)
+}
+
+/// Reports which entry of the dialplan of a file answers.
+fn serve_match<F: ReadFiles, W: WriteTold>(
+    files: &F,
+    alloc: Global,
+    file: &str,
+    context: &str,
+    text: &str,
+    priority: Priority,
+    output: &mut W,
+) -> Result<u8, PbxFault>
+    ensures serves { files_spec.ReportsOn (F.bytes_at files.now file.now) (λ plan. match_of plan context.now text.now priority)
+        (W.contents output.old) (W.contents output.new) result }
+    ensures told { W.has_failed output.new ≡ (W.has_failed output.old || is_write_failed result) }
+{
+    let plan = files.read_file(alloc, file)?;
+    match_one(
+        alloc,
+        &plan,
+        context.as_bytes(),
+        text.as_bytes(),
+        priority,
+        output,
+    )
+}
+
+/// Runs the script of a file on the dialplan of another.
+fn serve_run<F: ReadFiles, W: WriteTold>(
+    files: &F,
+    alloc: Global,
+    file: &str,
+    script: &str,
+    output: &mut W,
+) -> Result<u8, PbxFault>
+    ensures serves { files_spec.RunsFiles (F.bytes_at files.now file.now) (F.bytes_at files.now script.now)
+        (W.contents output.old) (W.contents output.new) result }
+    ensures told { W.has_failed output.new ≡ (W.has_failed output.old || is_write_failed result) }
+{
+    let plan = files.read_file(alloc, file)?;
+    let script = files.read_file(alloc, script)?;
+    run_script(alloc, &plan, &script, output)
 }
 
 /// Does what was asked for, and gives the status: the files are read first, and then their texts.
-fn serve<R: Files, I: ReadTold, W: WriteTold>(
-    rt: &R,
+fn serve<F: ReadFiles, I: ReadTold, W: WriteTold>(
+    files: &F,
     alloc: Global,
     request: Request<'_>,
     input: &mut I,
     output: &mut W,
 ) -> Result<u8, PbxFault>
+    ensures serves { files_spec.Serves (F.bytes_at files.now) (I.remaining input.old) request.entry
+        (W.contents output.old) (W.contents output.new) result }
     ensures told { W.has_failed output.new ≡ (W.has_failed output.old || is_write_failed result) }
 {
     match request {
-        Request::Joined => {
-            let text = read_whole(alloc, input)?;
-            run_joined(alloc, &text, output)
-        }
-        Request::Check { file } => {
-            let plan = read_file(rt, alloc, file)?;
-            check(alloc, &plan, output)
-        }
+        Request::Joined => serve_joined(alloc, input, output),
+        Request::Check { file } => serve_check(files, alloc, file, output),
         Request::Match {
             file,
             context,
             text,
             priority,
-        } => {
-            let plan = read_file(rt, alloc, file)?;
-            match_one(
-                alloc,
-                &plan,
-                context.as_bytes(),
-                text.as_bytes(),
-                priority,
-                output,
-            )
-        }
-        Request::Run { file, script } => {
-            let plan = read_file(rt, alloc, file)?;
-            let script = read_file(rt, alloc, script)?;
-            run_script(alloc, &plan, &script, output)
-        }
+        } => serve_match(files, alloc, file, context, text, priority, output),
+        Request::Run { file, script } => serve_run(files, alloc, file, script, output),
     }
 }
 
 /// Prints what stands in place of a request: help on the output, with the status 0, and a mistake on the errors, with 2.
-fn explain<W: WriteTold, E: Write>(
+fn explain<W: WriteTold, E: WriteTold>(
     alloc: Global,
     error: &Error,
     output: &mut W,
     errors: &mut E,
-) -> Result<u8, PbxFault> {
+) -> Result<u8, PbxFault>
+    ensures status { IfOk result (λ status. status ≡ explained_status (kind_of error.now)) }
+    ensures help { explained_status (kind_of error.now) ≡ 0 → errors.new ≡ errors.old }
+    ensures mistake { explained_status (kind_of error.now) ≡ 2 → output.new ≡ output.old }
+{
     if error.kind() == ErrorKind::OutOfMemory {
         return Err(PbxFault::NoMemory);
     }
     let text = format!(in alloc; "{error}")?;
     if error.use_stderr() {
-        let _ = errors.write_all(text.as_bytes());
+        let _ = errors.write_told(text.as_bytes());
         return Ok(2);
     }
     output.write_told(text.as_bytes())?;
     Ok(0)
 }
 
-/// Prints a fault.
-pub(crate) fn print_fault<E: Write>(errors: &mut E, fault: PbxFault) -> io::Result<()> {
+/// Prints a number in decimal.
+fn print_number<E: WriteTold, I: Integer>(errors: &mut E, number: I) -> Result<(), WriteFailed>
+    ensures ok { OnOk result (Appends (E.contents errors.old) (E.contents errors.new) (I.text number)) }
+    ensures told { E.has_failed errors.new ≡ (E.has_failed errors.old || is_err result) }
+{
+    let mut buffer = Buffer::new();
+    errors.write_told(buffer.format(number).as_bytes())
+}
+
+/// Prints a code with its name.
+fn print_code<E: WriteTold>(errors: &mut E, code: Code) -> Result<(), WriteFailed>
+    ensures ok { OnOk result (Appends (E.contents errors.old) (E.contents errors.new) (code_text code)) }
+    ensures told { E.has_failed errors.new ≡ (E.has_failed errors.old || is_err result) }
+{
+    errors.write_told(b"fault ")?;
+    print_number(errors, code.number())?;
+    errors.write_told(b" ")?;
+    errors.write_told(code.name().as_bytes())
+}
+
+/// Prints a code with its line.
+fn print_code_at<E: WriteTold>(errors: &mut E, code: Code, line: usize) -> Result<(), WriteFailed>
+    ensures ok { OnOk result (Appends (E.contents errors.old) (E.contents errors.new) (code_text code ++ codes " line " ++ decimal line)) }
+    ensures told { E.has_failed errors.new ≡ (E.has_failed errors.old || is_err result) }
+{
+    print_code(errors, code)?;
+    errors.write_told(b" line ")?;
+    print_number(errors, line)
+}
+
+/// Prints a fault. No memory is asked for.
+pub(crate) fn print_fault<E: WriteTold>(errors: &mut E, fault: PbxFault) -> Result<(), WriteFailed>
+    ensures ok { OnOk result (Appends (E.contents errors.old) (E.contents errors.new) (fault_line fault)) }
+    ensures told { E.has_failed errors.new ≡ (E.has_failed errors.old || is_err result) }
+{
     match fault {
         PbxFault::Coded {
             code,
             line: Some(line),
         } => {
-            let number = code.number();
-            let name = code.name();
-            writeln!(errors, "fault {number} {name} line {line}")
+            print_code_at(errors, code, line)?;
+            errors.write_told(b"\n")
         }
         PbxFault::Coded { code, line: None } => {
-            let number = code.number();
-            let name = code.name();
-            writeln!(errors, "fault {number} {name}")
+            print_code(errors, code)?;
+            errors.write_told(b"\n")
         }
-        PbxFault::NoMemory => writeln!(errors, "fault out of memory"),
+        PbxFault::NoMemory => errors.write_told(b"fault out of memory\n"),
     }
 }
 
-/// Does what the words of the command line ask for, the program's own name first among them, and gives the status: 0; 1
-/// where a fault was printed or an event was refused; 2 where the command line was refused.
-///
-/// What was asked for goes to `output`, and faults and mistakes go to `errors`; where these cannot be written, the
-/// status tells alone. `input` is read where there is no command.
-pub fn answer<R: Files, I: ReadTold, W: WriteTold, E: Write>(
-    rt: &R,
-    alloc: Global,
-    words: &[String],
-    input: &mut I,
-    output: &mut W,
-    errors: &mut E,
-) -> u8 {
-    let answered = match read_words(alloc, words) {
-        Ok(request) => serve(rt, alloc, request, input, output),
-        Err(error) => explain(alloc, &error, output, errors),
-    };
+/// The status of what was answered, where a fault is printed.
+fn finish<E: WriteTold>(errors: &mut E, answered: Result<u8, PbxFault>) -> u8
+    ensures status { result ≡ status_after answered }
+    ensures prints { E.has_failed errors.new ≡ false → Prints (E.contents errors.old) (E.contents errors.new) answered }
+{
     match answered {
         Ok(status) => status,
         Err(fault) => {
@@ -147,4 +205,26 @@ pub fn answer<R: Files, I: ReadTold, W: WriteTold, E: Write>(
             1
         }
     }
+}
+
+/// Does what the words of the command line ask for, the program's own name first among them, and gives the status: 0; 1
+/// where a fault was printed or an event was refused; 2 where the command line was refused.
+///
+/// What was asked for goes to `output`, and faults and mistakes go to `errors`; where these cannot be written, the
+/// status tells alone. `input` is read where there is no command, and never where the words have a fault.
+pub fn answer<F: ReadFiles, I: ReadTold, W: WriteTold, E: WriteTold>(
+    files: &F,
+    alloc: Global,
+    words: &[String],
+    input: &mut I,
+    output: &mut W,
+    errors: &mut E,
+) -> u8
+    ensures refused { fault_of pbx_app (texts words.now) ≢ [] → input.new ≡ input.old }
+{
+    let answered = match read_words(alloc, words) {
+        Ok(request) => serve(files, alloc, request, input, output),
+        Err(error) => explain(alloc, &error, output, errors),
+    };
+    finish(errors, answered)
 }

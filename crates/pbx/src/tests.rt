@@ -3,6 +3,7 @@ mod commands;
 mod faulty;
 mod folder;
 mod joined;
+mod large;
 mod lookups;
 mod mistakes;
 mod render;

@@ -12,7 +12,10 @@ use std::{env, fs, str};
 
 /// A command line: its words behind the program's own, where `@NAME` is a file of the folder; all that is printed on the
 /// standard output and on standard error; and the status.
-pub(super) type Row = (&'static [&'static str], &'static str, &'static str, u8);
+pub(super) type Row = Line<'static>;
+
+/// A command line, as a row has it.
+pub(super) type Line<'a> = (&'a [&'a str], &'a str, &'a str, u8);
 
 /// The files of the folder that the command lines find, beside `folder`, which is one itself, and `long`, which has one
 /// byte more than a file may have. There is none that is called `missing`.
@@ -126,13 +129,13 @@ pub(super) fn check_line<R: Files + Abort + AllocGlobal>(
     rt: &R,
     folder: &str,
     input: &[u8],
-    row: &Row,
+    row: &Line<'_>,
 ) -> Result<(), Fail> {
     let (words, want_output, want_errors, want_status) = row;
     let line = joined(rt.alloc(), words)?;
     let words = words_of(rt.alloc(), folder, words)?;
     let mut output = make_sink(rt.alloc(), 4096, None);
-    let mut errors = make_sink(rt.alloc(), 4096, None).into_inner();
+    let mut errors = make_sink(rt.alloc(), 4096, None);
     let status = answer(
         rt,
         rt.alloc(),
@@ -141,7 +144,7 @@ pub(super) fn check_line<R: Files + Abort + AllocGlobal>(
         &mut output,
         &mut errors,
     );
-    check_printed(rt, &line, &errors.held, want_errors)?;
+    check_printed(rt, &line, &errors.into_inner().held, want_errors)?;
     check_printed(rt, &line, &output.into_inner().held, want_output)?;
     check_status(rt, &line, status, *want_status);
     Ok(())

@@ -1,12 +1,25 @@
-use Rattle.std.proofs.Common.{◌≡◌, true, IfErr, subst}
+use Rattle.std.proofs.Common.{◌≡◌, true, IfErr, subst, refl}
+use Rattle.clap.proofs.OnLiterals.{clap_on_literals}
+use Rattle.clap.specs.Faults.{fault_of, is_simple_and_free}
+use Rattle.clap.specs.Kinds.{FailsBy}
 use Rattle.clap.specs.Simple.{App}
 use Rattle.clap.specs.Takes.{takes}
 use Rattle.clap.specs.Values.{kind_of}
 use Rattle.clap.specs.declared.error.kind.ErrorKind.TheVariants.{OutOfMemory}
-use Rattle.pbx.specs.CommandLine.{texts}
+use Rattle.pbx.specs.CommandLine.{texts, pbx_app}
 use Rattle.pbx.proofs.command_line.read_matches.Goals as goal
 
 pub returns-clause-refused : goal.returns-clause-refused
 returns-clause-refused c =
     let P : App → Type 0 = λ app. IfErr c.try_get_matches_from.result (λ error. takes app (texts c.args.words.now) ≡ true → kind_of error ≡ OutOfMemory) in
     subst P c.in_ok-commands.ensures c.try_get_matches_from.ensures.passes
+
+-- the program's commands are of those whose faults are told
+is_simple_pbx : is_simple_and_free pbx_app ≡ true
+unfolding clap_on_literals
+is_simple_pbx = refl
+
+pub returns-clause-faults : goal.returns-clause-faults
+returns-clause-faults c =
+    let P : App → Type 0 = λ app. is_simple_and_free app ≡ true → FailsBy (fault_of app (texts c.args.words.now)) c.try_get_matches_from.result in
+    subst P c.in_ok-commands.ensures c.try_get_matches_from.ensures.kinds is_simple_pbx
