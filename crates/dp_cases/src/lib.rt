@@ -19,3 +19,5 @@ mod pattern;
 mod plan;
 #[cfg(test)]
 mod table;
+#[cfg(test)]
+mod vars;

@@ -25,6 +25,7 @@ pub struct ChannelSeen<'a> {
 }
 
 /// What a text can see. With no channel, what a channel would give is empty (a choice of this program).
+#[derive_where(Clone, Copy)]
 pub struct Scope<'a, B, C> {
     pub channel: Option<ChannelSeen<'a>>,
     pub store: Option<&'a Store<B>>,

@@ -51,8 +51,8 @@ impl Model for Template {
 impl Template {
     /// The template of a text, in which at most 32 groups stand inside each other.
     pub fn read(alloc: Global, text: &[u8]) -> Result<Self, TemplateFault>
-        ensures ok { IfOk result (λ template. (template ≡ text.now) × (nesting_of text.now ≤ MOST_NESTING)) }
-        ensures deep { IfErr result (λ fault. fault ≡ TemplateFault.TooDeep → MOST_NESTING < nesting_of text.now) }
+        ensures ok { IfOk result (λ template. (template ≡ text.now) × (nesting_of text.now ≤ 32)) }
+        ensures deep { IfErr result (λ fault. fault ≡ TemplateFault.TooDeep → 32 < nesting_of text.now) }
     {
         let depth = nesting(alloc, text)?;
         if depth > MOST_NESTING {
@@ -68,6 +68,23 @@ impl Template {
     {
         &self.text
     }
+}
+
+/// The text with each group replaced by its value.
+fn expand_text<B, C: Counts>(
+    alloc: Global,
+    text: &[u8],
+    scope: &Scope<'_, B, C>,
+) -> Result<Vec<u8>, NoMemory>
+    ensures { IfOk result (λ bytes. bytes.items ≡ expansion (sight_of C.count scope.now) text.now) }
+{
+    let mut expanding = Expanding::new(alloc);
+    let mut rest = text;
+    while let Some((mark, behind)) = next_mark(rest, expanding.innermost()) {
+        expanding.take(alloc, scope, mark)?;
+        rest = behind;
+    }
+    Ok(expanding.finish())
 }
 
 /// The template with each group replaced by its value.
@@ -87,11 +104,6 @@ pub fn expand<B, C: Counts>(
     // The same by a function.
     ensures exact { IfOk result (λ bytes. bytes.items ≡ expansion (sight_of C.count scope.now) template.now) }
 {
-    let mut expanding = Expanding::new(alloc);
-    let mut rest = template.text();
-    while let Some((mark, behind)) = next_mark(rest, expanding.innermost()) {
-        expanding.take(alloc, scope, mark)?;
-        rest = behind;
-    }
-    Ok(expanding.finish())
+    let bytes = expand_text(alloc, template.text(), scope)?;
+    Ok(bytes)
 }

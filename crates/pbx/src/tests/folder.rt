@@ -125,7 +125,7 @@ fn check_status(rt: &impl Abort, line: &str, got: u8, want: u8) {
 }
 
 /// Asserts all that a command line prints with this standard input, and its status.
-pub(super) fn check_line<R: Files + Abort + AllocGlobal>(
+pub(super) fn check_words<R: Files + Abort + AllocGlobal>(
     rt: &R,
     folder: &str,
     input: &[u8],
@@ -148,6 +148,16 @@ pub(super) fn check_line<R: Files + Abort + AllocGlobal>(
     check_printed(rt, &line, &output.into_inner().held, want_output)?;
     check_status(rt, &line, status, *want_status);
     Ok(())
+}
+
+/// Asserts all that the command line of a row prints with this standard input, and its status.
+pub(super) fn check_line<R: Files + Abort + AllocGlobal>(
+    rt: &R,
+    folder: &str,
+    input: &[u8],
+    row: &Row,
+) -> Result<(), Fail> {
+    check_words(rt, folder, input, row)
 }
 
 /// Writes the files of the folder.

@@ -1,41 +1,14 @@
-use Rattle.std.proofs.Common.{ap, ◌∙◌, sym, subst, []}
-use Rattle.dp_conf.specs.GroupsRead.{levels}
+-- The text of a template has one reading.
+use Rattle.std.proofs.Common.{ap, ◌∙◌, sym}
 use Rattle.dp_conf.proofs.GroupsLemmas.{one_reading}
-use Rattle.dp_vars.specs.Expanding.{kinds_of, AreWritten}
 use Rattle.dp_vars.specs.Sights.{sight_of}
-use Rattle.dp_vars.specs.Values.{expanded}
-use Rattle.dp_vars.proofs.ExpandingLemmas.{come, come-mark, come-over, come-text, AreWritten-after}
+use Rattle.dp_vars.specs.Values.{expanded, expansion}
 use Rattle.dp_vars.proofs.template.expand.Goals as goal
-
-pub loop-mark-init : goal.loop-mark-init
-loop-mark-init g c = (
-  subst AreWritten (sym c.new-expanding.ensures) tt,
-  ap (λ w. come (sight_of g.C.Counts.count c.args.scope.now) w.waiting w.bytes (levels c.text-rest.result.now (kinds_of w.waiting) 0)) c.new-expanding.ensures
-      ∙ ap (λ text. come (sight_of g.C.Counts.count c.args.scope.now) [] [] (levels text [] 0)) c.text-rest.ensures
-      ∙ come-text (sight_of g.C.Counts.count c.args.scope.now) c.args.template.now,
-)
-
-pub loop-mark-preserved : goal.loop-mark-preserved
-loop-mark-preserved g c = (
-  subst AreWritten (sym c.in_ok-take.ensures) (AreWritten-after (sight_of g.C.Counts.count c.args.scope.now) c.in-Some.mark c.loop-mark.expanding c.loop-mark.invariant.0),
-  ap (λ w. come (sight_of g.C.Counts.count c.args.scope.now) w.waiting w.bytes (levels c.in-Some.behind.now (kinds_of w.waiting) 0)) c.in_ok-take.ensures
-      ∙ come-mark (sight_of g.C.Counts.count c.args.scope.now) c.in-Some.mark c.loop-mark.expanding (levels c.in-Some.behind.now)
-      ∙ ap (come (sight_of g.C.Counts.count c.args.scope.now) c.loop-mark.expanding.waiting c.loop-mark.expanding.bytes)
-      (sym (c.in-Some.ensures.marked (kinds_of c.loop-mark.expanding.waiting) (sym c.innermost.ensures)))
-      ∙ c.loop-mark.invariant.1,
-)
-
-pub returns-clause-exact : goal.returns-clause-exact
-returns-clause-exact g c =
-    c.finish.ensures ∙ sym (come-over (sight_of g.C.Counts.count c.args.scope.now) c.loop-mark.expanding.waiting c.loop-mark.expanding.bytes)
-    ∙ ap (λ rest. come (sight_of g.C.Counts.count c.args.scope.now) c.loop-mark.expanding.waiting c.loop-mark.expanding.bytes
-    (levels rest (kinds_of c.loop-mark.expanding.waiting) 0)) (sym c.in_default.ensures.marked)
-    ∙ c.loop-mark.invariant.1
 
 pub returns-clause-reading : goal.returns-clause-reading
 returns-clause-reading g c reading reads =
-    c.finish.ensures ∙ sym (come-over (sight_of g.C.Counts.count c.args.scope.now) c.loop-mark.expanding.waiting c.loop-mark.expanding.bytes)
-    ∙ ap (λ rest. come (sight_of g.C.Counts.count c.args.scope.now) c.loop-mark.expanding.waiting c.loop-mark.expanding.bytes
-    (levels rest (kinds_of c.loop-mark.expanding.waiting) 0)) (sym c.in_default.ensures.marked)
-    ∙ c.loop-mark.invariant.1
+    c.in_ok-bytes.ensures ∙ ap (expansion (sight_of g.C.Counts.count c.args.scope.now)) c.text.ensures
     ∙ ap (expanded (sight_of g.C.Counts.count c.args.scope.now)) (sym ((one_reading c.args.template.now reading).0 reads))
+
+pub returns-clause-exact : goal.returns-clause-exact
+returns-clause-exact g c = c.in_ok-bytes.ensures ∙ ap (expansion (sight_of g.C.Counts.count c.args.scope.now)) c.text.ensures

@@ -1,0 +1,73 @@
+//! Functions and their arguments.
+use crate::table::check;
+use crate::vars::Expanded;
+use std::test::Fail;
+
+const FUNCTIONS: &str = r"
+${LEN()}→0
+${LEN(abc)}→3
+${LEN( a )}→3
+${LEN(a,b)}→3
+${LEN(${CHANNEL})}→9
+${CALLERID(num)}→5551234
+${CALLERID(num):-4}→1234
+${CALLERID(name)}→
+${CALLERID()}→
+${QUEUE_WAITING_COUNT(sales)}→3
+${QUEUE_WAITING_COUNT(Sales)}→0
+${QUEUE_WAITING_COUNT()}→0
+# Names keep their case and their blanks.
+${len(x)}→
+${ LEN(x)}→
+${LEN (x)}→
+${CALLERID( num)}→
+${CALLERID(NUM)}→
+# Others are empty.
+${F(x)}→
+${(x)}→
+${(x):1}→
+# With no `)` behind the first `(` the value is empty, whatever stands behind the cut.
+${F(}→
+${LEN(abc}→
+${LEN(abc:1}→
+${)LEN(abc}→
+${)LEN(abc)}→
+# The argument ends at the last `)`, and what stands between that and the cut has no effect.
+${LEN(a)b}→1
+${LEN(a)b:0}→1
+${LEN(a)b:1}→
+${LEN(a))}→2
+${LEN((a)(b))}→6
+# A `:` inside parentheses cuts nothing.
+${LEN(a:b)}→3
+${LEN(a:b):0:1}→3
+${LEN((a):b)}→5
+# A faulty cut gives the empty text for a function too.
+${LEN(ab):x}→
+${LEN(ab):1:2:3}→
+# Globals and locals.
+global G=g ; ${GLOBAL(G)}→g
+global G=g ; set G=v ; ${G}${GLOBAL(G)}→vg
+global G=abc ; ${GLOBAL(G):1}→bc
+${GLOBAL(G)}→
+push A=1 ; ${LOCAL(A)}→1
+push A=1 ; push B=2 ; ${LOCAL(A)}${LOCAL(B)}→2
+set A=1 ; ${LOCAL(A)}→
+set A=1 ; push B=2 ; ${LOCAL(A)}→
+# A global of the name of a function is seen by its whole name alone.
+global LEN(x)=seven ; ${LEN(x)}→1
+global LEN(x)=seven ; ${GLOBAL(LEN(x))}→seven
+# A value brings its own function.
+set A=LEN(ab) ; ${${A}}→2
+set A=LEN ; ${${A}(abc)}→3
+# With no channel there is no caller.
+gone ; ${CALLERID(num)}→
+gone ; ${LEN(ab)}→2
+gone ; ${LOCAL(A)}→
+gone ; ${QUEUE_WAITING_COUNT(sales)}→3
+";
+
+#[test]
+fn functions_have_these_values(rt: HostRuntime) -> Result<(), Fail> {
+    check::<Expanded>(&rt, rt.alloc(), FUNCTIONS)
+}
