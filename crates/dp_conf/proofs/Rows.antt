@@ -1,8 +1,11 @@
 -- Texts whose items, parts and arguments are computed on the definitions themselves.
-use Rattle.std.proofs.Common.{◌≡◌, [], ◌∷◌, ◌++◌, true, false, Ok, Err, refl}
+use Rattle.std.proofs.Common.{◌≡◌, [], ◌∷◌, ◌++◌, true, false, Ok, Err, Some, None, refl}
 use Rattle.std.specs.Prelude.{codes}
 use Rattle.dp_conf.specs.Blanks.{trim}
-use Rattle.dp_conf.specs.Levels.{parts_of, arguments_of}
+use Rattle.dp_conf.specs.Groups.{Over, Plain, Group, depth_of}
+use Rattle.dp_conf.specs.GroupsRead.{levels, reading_of, nesting_of}
+use Rattle.dp_conf.specs.Levels.{parts_of, arguments_of, cut_outside}
+use Rattle.dp_conf.specs.declared.groups.GroupKind.TheVariants.{Braces, Brackets}
 use Rattle.dp_conf.specs.Lines.{opens_block, comment_of, content_of, lines_of}
 use Rattle.dp_conf.specs.declared.fault.LineKind.TheVariants.{BlockComment, NoSection, BadHeader, NoEquals, Directive, Template}
 use Rattle.dp_conf.specs.declared.lines.ConfLine.TheVariants.{Header, Pair}
@@ -70,3 +73,30 @@ lines-template = refl
 lines-directive : lines_of (codes "#include x") ≡ Err (record { line = 1; kind = Directive })
 unfolding lines_of
 lines-directive = refl
+
+-- an opening without its end is plain, and reading goes on behind it
+groups-unclosed : reading_of (codes "${a${b}") ≡ Plain 36 (Plain 123 (Plain 97 (Group Braces (Plain 98 Over) Over)))
+unfolding reading_of levels
+groups-unclosed = refl
+
+-- an opening without its end keeps those around it open too
+groups-other_end : nesting_of (codes "${a$[b}") ≡ 0
+unfolding nesting_of reading_of levels depth_of
+groups-other_end = refl
+
+groups-inside : reading_of (codes "$[${}]") ≡ Group Brackets (Group Braces Over Over) Over
+unfolding reading_of levels
+groups-inside = refl
+
+groups-nesting : nesting_of (codes "${$[${a}]}${b}") ≡ 3
+unfolding nesting_of reading_of levels depth_of
+groups-nesting = refl
+
+-- a byte is sought outside parentheses
+outside-cut : cut_outside 58 (codes "LEN(a:b):1:2") ≡ Some (codes "LEN(a:b)", codes "1:2")
+unfolding cut_outside
+outside-cut = refl
+
+outside-none : cut_outside 58 (codes "F(:1") ≡ None
+unfolding cut_outside
+outside-none = refl

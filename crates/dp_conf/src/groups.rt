@@ -60,7 +60,7 @@ fn opening(byte: u8, behind: &[u8]) -> Option<GroupKind>
 {
     match behind.first() {
         None => None,
-        Some(next) => if byte == b'$' { kind_of(*next) } else { None },
+        Some(next) => { if byte == b'$' { kind_of(*next) } else { None } }
     }
 }
 

@@ -9,7 +9,10 @@ use Rattle.dp_conf.specs.declared.groups.Mark.TheVariants.{End, Opening, Byte}
 use Rattle.dp_conf.specs.Groups.{Over, opener}
 use Rattle.dp_conf.specs.GroupsRead.{Levels, Last, Within, with_byte, with_opening, with_mark, levels, outer_of}
 use Rattle.dp_vars.specs.Sights.{Sight}
-use Rattle.dp_vars.specs.Values.{group_value, expanded, expansion}
+use Rattle.dp_conf.specs.Levels.{cut_outside}
+use Rattle.dp_conf.specs.declared.groups.GroupKind.TheVariants.{Braces, Brackets}
+use Rattle.dp_expr.specs.Expression.{expression_value}
+use Rattle.dp_vars.specs.Values.{group_value, body_by, expanded, expansion}
 use Rattle.dp_vars.specs.Expanding.{Written, kinds_of, StandIn, AreWritten, with_value, closed, after}
 use Rattle.dp_vars.specs.declared.expanding.Waiting.{Waiting}
 
@@ -19,6 +22,22 @@ StandIn-more [] size more larger stand = tt
 StandIn-more (w ∷ waiting) size more larger stand = (omega (arith, stand.0), stand.1)
 
 module _ (sight : Sight) where
+  -- a group in braces, whose value is put in its place
+  pub put-braces : (start : ℕ) (old cut new value body : List ℕ) → new ≡ cut ++ value → cut ≡ take start old
+      → value ≡ body_by sight body (cut_outside 58 body) → body ≡ drop (start + 2) old
+      → new ≡ take start old ++ group_value sight Braces (drop (start + 2) old)
+  unfolding group_value
+  put-braces start old cut new value body put kept is from =
+      put ∙ (λ i. kept i ++ (is ∙ ap (λ b. body_by sight b (cut_outside 58 b)) from) i)
+
+  -- a group in brackets, whose value is put in its place
+  pub put-brackets : (start : ℕ) (old cut new value body : List ℕ) → new ≡ cut ++ value → cut ≡ take start old
+      → value ≡ expression_value body → body ≡ drop (start + 2) old
+      → new ≡ take start old ++ group_value sight Brackets (drop (start + 2) old)
+  unfolding group_value
+  put-brackets start old cut new value body put kept is from =
+      put ∙ (λ i. kept i ++ (is ∙ ap expression_value from) i)
+
   -- the expansion of the whole, by what is written, the openings that wait in it, and the levels behind
   abbrev pub come : List Waiting → List ℕ → Levels → List ℕ
   come waiting bytes (Last rest) = bytes ++ expanded sight rest

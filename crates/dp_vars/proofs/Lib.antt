@@ -1,3 +1,4 @@
+mod Rows
 pub mod VariablesLemmas
 pub mod StoresLemmas
 pub mod PartsLemmas

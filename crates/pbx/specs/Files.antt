@@ -5,7 +5,7 @@ use Rattle.dp_conf.specs.Answers.{◌>>=◌}
 use Rattle.dp_conf.specs.Whole.{most_bytes}
 use Rattle.pbx.specs.Joined.{joined_plan, joined_script}
 use Rattle.pbx.specs.Report.{Reports, check_of, match_of}
-use Rattle.pbx.specs.Run.{Run, Writes, run_of}
+use Rattle.pbx.specs.Run.{Writes, run_of}
 use Rattle.pbx.specs.declared.command_line.Request.{Request}
 use Rattle.pbx.specs.declared.command_line.Request.TheVariants.{Joined, Check, Match, Run as run_request}
 use Rattle.pbx.specs.declared.fault.Code.TheVariants.{Line, Name, Plan, ReadFailed, TooLong, WriteFailed, BadScript}

@@ -1,7 +1,7 @@
 //! The command line: what its words ask for.
-ghost use Rattle.std.specs.Prelude.{◌≡◌, IfOk, IfErr, Some, false, is_some, map, option_map, codes, true, []};
+ghost use Rattle.std.specs.Prelude.{◌≡◌, ◌≢◌, IfOk, IfErr, Some, false, is_some, map, option_map, codes, true, []};
 ghost use Rattle.clap.specs.Faults.{fault_of};
-ghost use Rattle.clap.specs.Kinds.{FailsBy};
+ghost use Rattle.clap.specs.Kinds.{FailsBy, HasKind};
 ghost use Rattle.clap.specs.Matches.{found_of};
 ghost use Rattle.clap.specs.Simple.{app_of, new_app, subcommand_of, subcommand_rows_of, with_rule, with_subcommand};
 ghost use Rattle.clap.specs.Takes.{takes};
@@ -348,6 +348,8 @@ pub fn read_words<'a>(alloc: Global, words: &'a [String]) -> Result<Request<'a>,
     ensures refused { IfErr result (λ error. takes spec.pbx_app (spec.texts words.now) ≡ true
         → is_some (spec.asked_of (spec.texts words.now)) ≡ true → kind_of error ≡ OutOfMemory) }
     ensures faultless { IfOk result (λ _. fault_of spec.pbx_app (spec.texts words.now) ≡ []) }
+    ensures mistaken { IfErr result (λ error. fault_of spec.pbx_app (spec.texts words.now) ≢ []
+        → HasKind (fault_of spec.pbx_app (spec.texts words.now)) error) }
 {
     let matches = read_matches(alloc, words)?;
     match request_of(alloc, &matches)? {

@@ -1,0 +1,67 @@
+-- Texts that are expanded, and parts of values, computed on the definitions themselves.
+use Rattle.std.proofs.Common.{◌≡◌, [], Some, refl, if◌then◌else◌, codes}
+use Rattle.std.specs.Fmt.{digits}
+use Rattle.dp_conf.specs.GroupsRead.{levels, reading_of}
+use Rattle.dp_conf.specs.Levels.{cut_outside}
+use Rattle.dp_conf.specs.Words.{same_text}
+use Rattle.dp_vars.specs.Parts.{asked_of, part}
+use Rattle.dp_vars.specs.Sights.{Sight}
+use Rattle.dp_vars.specs.Values.{group_value, head_value, expanded, expansion}
+
+-- `X` is `abcdef`, `A` is `${X}`, the global `G` is `g`, and two wait in each queue
+sight : Sight
+sight = record {
+  variable = λ name. if same_text name (codes "X") then codes "abcdef" else (if same_text name (codes "A") then codes "${X}" else []);
+  global = λ name. if same_text name (codes "G") then codes "g" else [];
+  local = λ name. [];
+  caller = codes "5551234";
+  waiting = λ queue. 2;
+}
+
+part-from_the_end : part (asked_of (Some (codes "-2"))) (codes "abcdef") ≡ codes "ef"
+part-from_the_end = refl
+
+part-without_the_end : part (asked_of (Some (codes "1:-1"))) (codes "abcdef") ≡ codes "bcde"
+part-without_the_end = refl
+
+part-before_the_front : part (asked_of (Some (codes "-9:2"))) (codes "abcdef") ≡ codes "ab"
+part-before_the_front = refl
+
+-- minus nothing is nothing
+part-minus_nothing : part (asked_of (Some (codes "1:-0"))) (codes "abcdef") ≡ []
+part-minus_nothing = refl
+
+-- an empty offset is 0, and an empty length is none
+part-empty : part (asked_of (Some (codes ":"))) (codes "abcdef") ≡ codes "abcdef"
+part-empty = refl
+
+part-faulty : part (asked_of (Some (codes "1:2:3"))) (codes "abcdef") ≡ []
+part-faulty = refl
+
+-- numbers of any length are taken exactly
+part-far : part (asked_of (Some (codes "-9999999999999999999999999999999999999999:1"))) (codes "abcdef") ≡ codes "a"
+part-far = refl
+
+-- a part of a function's value
+row-length : expansion sight (codes "${LEN(abcdefghijkl):-1}") ≡ codes "2"
+unfolding sight reading_of levels expanded group_value head_value cut_outside digits
+row-length = refl
+
+-- what stands between the last `)` and the cut has no effect
+row-behind : expansion sight (codes "${LEN(a)b:1}|${LEN(a)b}") ≡ codes "|1"
+unfolding sight reading_of levels expanded group_value head_value cut_outside digits
+row-behind = refl
+
+-- a value is not expanded again
+row-once : expansion sight (codes "${A}${LEN(${A})}") ≡ codes "${X}4"
+unfolding sight reading_of levels expanded group_value head_value cut_outside digits
+row-once = refl
+
+-- a function with no `)` is empty, and an opening without its end is plain
+row-open : expansion sight (codes "${F(}${a${X:5}") ≡ codes "${af"
+unfolding sight reading_of levels expanded group_value head_value cut_outside digits
+row-open = refl
+
+row-functions : expansion sight (codes "${GLOBAL(G)}${CALLERID(num):-4}${CALLERID( num)}${QUEUE_WAITING_COUNT(q)}${len(x)}") ≡ codes "g12342"
+unfolding sight reading_of levels expanded group_value head_value cut_outside digits
+row-functions = refl
