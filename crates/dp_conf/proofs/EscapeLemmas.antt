@@ -22,11 +22,14 @@ comment_start-escaped previous (b ∷ text) = by (b == byte ";") refl (comment_s
   where
     one_more : 1 + length (escaped text) ≡ length (b ∷ escaped text)
     one_more = omega arith
+
     two_more : 1 + (1 + length (escaped text)) ≡ length (byte "\\" ∷ b ∷ escaped text)
     two_more = omega arith
+
     semicolon : (t : Bool) → comment_start b (escaped text) ≡ length (escaped text) → cond (t && false) 0 (1 + comment_start b (escaped text)) ≡ 1 + length (escaped text)
     semicolon true rest = ap (λ n. 1 + n) rest
     semicolon false rest = ap (λ n. 1 + n) rest
+
     by : (t : Bool) → (b == byte ";") ≡ t → comment_start b (escaped text) ≡ length (escaped text) → comment_start previous (escaped (b ∷ text)) ≡ length (escaped (b ∷ text))
     by true e rest =
         ap (comment_start previous) (escaped-semicolon b text e)
@@ -56,6 +59,7 @@ unescaped-escaped (b ∷ text) = by (eqb_tells b (byte ";")) (unescaped-escaped 
     plain : (t s : Bool) → s ≡ false → cond (t && s) (unescaped (escaped text)) (b ∷ unescaped (escaped text)) ≡ b ∷ unescaped (escaped text)
     plain true s e = ap (λ x. cond x (unescaped (escaped text)) (b ∷ unescaped (escaped text))) e
     plain false s e = refl
+
     by : ((nat_eq b (byte ";") ≡ true) × (b ≡ byte ";")) ⊎ ((nat_eq b (byte ";") ≡ false) × (b ≢ byte ";")) → unescaped (escaped text) ≡ text → starts_with nat_eq (escaped text) (byte ";" ∷ []) ≡ false → unescaped (escaped (b ∷ text)) ≡ b ∷ text
     by (inl same) rest start =
         ap unescaped (escaped-semicolon b text same.0)

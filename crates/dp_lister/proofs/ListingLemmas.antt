@@ -13,6 +13,6 @@ pub text_of-more : {X : Type 0} (f : X → List ℕ) (xs : List X) (i : ℕ) (x 
 text_of-more {X} f xs i x start so_far now within here before e =
     let first = text_of (map f (take i xs)) in
     let more : text_of (map f (take (i + 1) xs)) ≡ first ++ line_text (f x) =
-        ap (λ (ys : List X). text_of (map f ys)) (take_more xs i x within ∙ ap (λ (y : X). take i xs ++ y ∷ []) (sym here))
-        ∙ (ap text_of (map-append f (take i xs) (x ∷ [])) ∙ text_of-push (map f (take i xs)) (f x)) in
+    ap (λ (ys : List X). text_of (map f ys)) (take_more xs i x within ∙ ap (λ (y : X). take i xs ++ y ∷ []) (sym here))
+    ∙ (ap text_of (map-append f (take i xs) (x ∷ [])) ∙ text_of-push (map f (take i xs)) (f x)) in
     e ∙ (ap (λ (text : List ℕ). text ++ line_text (f x)) before ∙ (append_assoc start first (line_text (f x)) ∙ ap (λ (text : List ℕ). start ++ text) (sym more)))

@@ -42,11 +42,7 @@ fn push_globals(out: &mut Vec<u8>, globals: &[GlobalVariable]) -> Result<(), NoM
 }
 
 /// Adds a priority with its label, where it has one.
-fn push_priority(
-    out: &mut Vec<u8>,
-    priority: u32,
-    label: &Option<Text>,
-) -> Result<(), NoMemory>
+fn push_priority(out: &mut Vec<u8>, priority: u32, label: &Option<Text>) -> Result<(), NoMemory>
     ensures { OnOk result (out.new.items ≡ out.old.items ++ escaped (spec.priority_text priority label.now)) }
 {
     let mut buffer = Buffer::new();
