@@ -59,8 +59,8 @@ fn opening(byte: u8, behind: &[u8]) -> Option<GroupKind>
     ensures two { IfSome result (λ _. 0 < length behind.now) }
 {
     match behind.first() {
-        None => None,
-        Some(next) => { if byte == b'$' { kind_of(*next) } else { None } }
+        Some(next) if byte == b'$' => kind_of(*next),
+        _ => None,
     }
 }
 

@@ -1,4 +1,4 @@
-//! The global variables.
+//! The global variables, after the Asterisk documentation's page on variables.
 ghost use Rattle.std.specs.Prelude.{◌≡◌, ◌∷◌, [], OnErr, OnOk};
 ghost use Rattle.std.specs.FinMap as finite;
 ghost use Rattle.dp_vars.specs.Variables.{value_or_empty};

@@ -1,4 +1,7 @@
-//! Variables of a dialplan, after the Asterisk documentation's pages on variables.
+//! Variables of a dialplan and the texts in which they stand, after the Asterisk documentation's pages on variables.
+//!
+//! A `Store` has the variables of a channel and its frames, `Globals` what all channels share. A `Template` is a text
+//! with groups, and `expand` puts the values of a `Scope` in their places.
 #![tactic(auto)]
 
 mod expanding;

@@ -1,4 +1,4 @@
-//! The value that a body in braces stands for.
+//! The value that a body in braces stands for, after the Asterisk documentation's page on variables.
 ghost use Rattle.std.specs.Prelude.{◌≡◌, ◌++◌, ◌<◌, ◌^◌, IfOk, OnOk, codes, length};
 ghost use Rattle.std.specs.String.{string_bytes};
 ghost use Rattle.std.specs.Fmt.{decimal};

@@ -1,4 +1,4 @@
-//! The variables of a channel, and its frames.
+//! The variables of a channel, and its frames, after the Asterisk documentation's page on variables.
 ghost use Rattle.std.specs.Prelude.{◌≡◌, IfOk, OnErr, OnOk, nat_lt, length};
 ghost use Rattle.std.specs.Option.{option_map};
 ghost use Rattle.dp_vars.specs.Stores as stores;
