@@ -3,7 +3,7 @@ use Rattle.std.proofs.Common.{◌≡◌, [], ◌∷◌, Some, None, codes, refl}
 use Rattle.clap.proofs.OnLiterals.{clap_on_literals}
 use Rattle.clap.specs.Faults.{fault_of}
 use Rattle.clap.specs.declared.error.kind.ErrorKind.TheVariants as kind
-use Rattle.pbx.specs.CommandLine.{pbx_app, asked_of, joined, check, matching, run}
+use Rattle.pbx.specs.CommandLine.{pbx_app, asked_of, joined, check, listing, matching, run}
 
 no_command : asked_of (codes "pbx" ∷ []) ≡ Some joined
 unfolding clap_on_literals asked_of
@@ -12,6 +12,10 @@ no_command = refl
 checked : asked_of (codes "pbx" ∷ codes "check" ∷ codes "a.conf" ∷ []) ≡ Some (check (codes "a.conf"))
 unfolding clap_on_literals asked_of
 checked = refl
+
+listed : asked_of (codes "pbx" ∷ codes "list" ∷ codes "a.conf" ∷ []) ≡ Some (listing (codes "a.conf"))
+unfolding clap_on_literals asked_of
+listed = refl
 
 matched : asked_of (codes "pbx" ∷ codes "match" ∷ codes "a.conf" ∷ codes "main" ∷ codes "555-1234" ∷ []) ≡ Some (matching (codes "a.conf") (codes "main") (codes "555-1234") 1)
 unfolding clap_on_literals asked_of

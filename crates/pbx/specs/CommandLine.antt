@@ -8,7 +8,7 @@ use Rattle.clap.specs.Walk.{Row, Rule, first_of}
 use Rattle.dp_conf.specs.Words.{same_text}
 use Rattle.pbx.specs.Script.{number_within}
 use Rattle.pbx.specs.declared.command_line.Request.{Request}
-use Rattle.pbx.specs.declared.command_line.Request.TheVariants.{Joined, Check, Match, Run}
+use Rattle.pbx.specs.declared.command_line.Request.TheVariants.{Joined, Check, Listing, Match, Run}
 
 -- a word that has to be given
 abbrev pub required_word : List ℕ → Rule
@@ -21,6 +21,10 @@ word_or name default = record (new_rule name) { defaults = default ∷ [] }
 -- `check FILE`
 abbrev pub check_app : App
 check_app = with_rule (new_app (codes "check")) (required_word (codes "FILE"))
+
+-- `list FILE`
+abbrev pub list_app : App
+list_app = with_rule (new_app (codes "list")) (required_word (codes "FILE"))
 
 -- `match FILE CONTEXT TEXT [PRIORITY]`
 abbrev pub match_app : App
@@ -37,12 +41,14 @@ run_app =
 -- the program's commands
 abbrev pub pbx_app : App
 pbx_app =
-    with_subcommand (with_subcommand (with_subcommand (new_app (codes "pbx")) check_app.top) match_app.top) run_app.top
+    with_subcommand (with_subcommand (with_subcommand (with_subcommand (new_app (codes "pbx")) check_app.top) list_app.top)
+    match_app.top) run_app.top
 
 -- what a command line asks for, with its texts
 pub data Asked : Type 0 where
   joined : Asked
   check : List ℕ → Asked
+  listing : List ℕ → Asked
   matching : List ℕ → List ℕ → List ℕ → ℕ → Asked
   run : List ℕ → List ℕ → Asked
 
@@ -50,6 +56,7 @@ pub data Asked : Type 0 where
 abbrev pub asked : Request → Asked
 asked Joined = joined
 asked (Check file) = check file.now
+asked (Listing file) = listing file.now
 asked (Match file context text priority) = matching file.now context.now text.now priority
 asked (Run file script) = run file.now script.now
 
@@ -60,6 +67,10 @@ priority_in word = option_and_then (λ n. if nat_lt 0 n then Some n else None) (
 -- what `check` asks for, by its words
 abbrev pub check_asked : List Row → Option Asked
 check_asked words = option_map check (first_of (codes "FILE") words)
+
+-- what `list` asks for, by its words
+abbrev pub list_asked : List Row → Option Asked
+list_asked words = option_map listing (first_of (codes "FILE") words)
 
 -- what `match` asks for at a priority, by its other words
 abbrev pub match_at : List Row → ℕ → Option Asked
@@ -81,6 +92,7 @@ run_asked words =
 abbrev pub command_asked : List ℕ → List Row → Option Asked
 command_asked name words =
     if same_text name (codes "check") then check_asked words
+    else if same_text name (codes "list") then list_asked words
     else if same_text name (codes "match") then match_asked words
     else if same_text name (codes "run") then run_asked words
     else None

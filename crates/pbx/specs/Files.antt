@@ -4,10 +4,10 @@ use Rattle.std.specs.Io.KnownBytes.{Appends}
 use Rattle.dp_conf.specs.Answers.{◌>>=◌}
 use Rattle.dp_conf.specs.Whole.{most_bytes}
 use Rattle.pbx.specs.Joined.{joined_plan, joined_script}
-use Rattle.pbx.specs.Report.{Reports, check_of, match_of}
+use Rattle.pbx.specs.Report.{Reports, check_of, list_of, match_of}
 use Rattle.pbx.specs.Run.{Writes, run_of}
 use Rattle.pbx.specs.declared.command_line.Request.{Request}
-use Rattle.pbx.specs.declared.command_line.Request.TheVariants.{Joined, Check, Match, Run as run_request}
+use Rattle.pbx.specs.declared.command_line.Request.TheVariants.{Joined, Check, Listing, Match, Run as run_request}
 use Rattle.pbx.specs.declared.fault.Code.TheVariants.{Line, Name, Plan, ReadFailed, TooLong, WriteFailed, BadScript}
 use Rattle.pbx.specs.declared.fault.PbxFault.{PbxFault}
 use Rattle.pbx.specs.declared.fault.PbxFault.TheVariants.{Coded, NoMemory}
@@ -65,6 +65,7 @@ RunsFiles file script old new result =
 abbrev pub Serves : (List ℕ → Option (List ℕ)) → Option (List ℕ) → Request → Option (List ℕ) → Option (List ℕ) → Result ℕ PbxFault → Type 0
 Serves files input Joined old new result = RunsJoined input old new result
 Serves files input (Check file) old new result = ReportsOn (files file.now) check_of old new result
+Serves files input (Listing file) old new result = ReportsOn (files file.now) list_of old new result
 Serves files input (Match file context text priority) old new result =
     ReportsOn (files file.now) (λ plan. match_of plan context.now text.now priority) old new result
 Serves files input (run_request file script) old new result = RunsFiles (files file.now) (files script.now) old new result

@@ -1,9 +1,10 @@
--- What is reported of a dialplan: what it loads as, and which entry answers a call.
+-- What is reported of a dialplan: what it loads as, its listing, and which entry answers a call.
 use Rattle.std.specs.Prelude.{◌≡◌, ℕ, List, [], ◌∷◌, ◌++◌, length, sum, map, Option, None, Some, Result, Ok, Err, codes, decimal}
 use Rattle.std.specs.Io.KnownBytes.{Appends}
 use Rattle.std.specs.List.{flat_map}
 use Rattle.dp_conf.specs.Answers.{◌>>=◌}
 use Rattle.dp_conf.specs.Fronts.{AppendsFront}
+use Rattle.dp_lister.specs.Listing.{listing}
 use Rattle.dp_lookup.specs.FoundEntry.{found_entry}
 use Rattle.dp_lookup.specs.SearchOrder.{search_order}
 use Rattle.dp_plan.specs.Codes.{note_name}
@@ -38,6 +39,10 @@ check_text read = flat_map note_line read.1 ++ counts_line read.0
 -- what is reported of a text, or its fault
 unfoldable pub check_of : List ℕ → Result (List ℕ) PbxFault
 check_of plan = plan_fault (loaded plan) >>= λ read. Ok (check_text read)
+
+-- the canonical listing of the dialplan of a text, or its fault
+unfoldable pub list_of : List ℕ → Result (List ℕ) PbxFault
+list_of plan = plan_fault (loaded plan) >>= λ read. Ok (listing read.0)
 
 -- the line of an entry that was looked for, `CONTEXT,NAME,PRIORITY APP`, or `none`
 abbrev pub match_line : PlanOf → Option EntryId → List ℕ

@@ -26,6 +26,10 @@ pub enum Request<'a> {
     Check {
         file: &'a str,
     },
+    /// `list FILE`: to list a dialplan in its canonical text.
+    Listing {
+        file: &'a str,
+    },
     /// `match FILE CONTEXT TEXT [PRIORITY]`: to find the entry that answers.
     Match {
         file: &'a str,
@@ -46,6 +50,7 @@ With no command, pbx reads one text from the standard input and runs it: a dialp
 
 Examples:
   pbx check extensions.conf
+  pbx list extensions.conf
   pbx match extensions.conf main 555-1234
   pbx run extensions.conf calls.script
   pbx < joined.conf
@@ -61,6 +66,18 @@ Example:
   $ pbx check extensions.conf
   note 13 UnknownContext
   ok 1 contexts 4 entries";
+
+/// What the help of `list` says below its words.
+const LIST_NOTES: &str = "\
+Prints the dialplan in one canonical text: its global variables, and each context with its entries and its includes. Each
+priority is a number, and each name stands in its one spelling. The notes of the dialplan are not printed.
+
+Example:
+  $ pbx list extensions.conf
+  [main]
+  exten => _NXXXXXX,1,Answer()
+  exten => _NXXXXXX,2(q),Queue(support,c)
+  include => out";
 
 /// What the help of `match` says below its words.
 const MATCH_NOTES: &str = "\
@@ -151,6 +168,21 @@ fn check_command<'a>(alloc: Global) -> Result<Command<'a>, NoMemory>
     Ok(check)
 }
 
+/// The command `list`.
+fn list_command<'a>(alloc: Global) -> Result<Command<'a>, NoMemory>
+    ensures app { IfOk result (λ command. app_of command ≡ spec.list_app) }
+    ensures local { IfOk result (λ command. (fields_of command).has_globals ≡ false) }
+{
+    let list = described(
+        alloc,
+        "list",
+        "Print a dialplan in its canonical text",
+        LIST_NOTES,
+    );
+    let list = with_required(alloc, list, "FILE", DIALPLAN_HELP)?;
+    Ok(list)
+}
+
 /// The command `match`.
 fn match_command<'a>(alloc: Global) -> Result<Command<'a>, NoMemory>
     ensures app { IfOk result (λ command. app_of command ≡ spec.match_app) }
@@ -216,6 +248,7 @@ fn pbx_command<'a>(alloc: Global) -> Result<Command<'a>, NoMemory>
 {
     let pbx = bare_command(alloc)?;
     let pbx = with_command(pbx, check_command(alloc)?)?;
+    let pbx = with_command(pbx, list_command(alloc)?)?;
     let pbx = with_command(pbx, match_command(alloc)?)?;
     let pbx = with_command(pbx, run_command(alloc)?)?;
     Ok(pbx)
@@ -251,6 +284,15 @@ fn check_request<'a>(given: &ArgMatches<'a>) -> Option<Request<'a>>
     ensures { option_map spec.asked result ≡ spec.check_asked (rows_of (found_of given.now)) }
 {
     Some(Request::Check {
+        file: word_of(given, "FILE")?,
+    })
+}
+
+/// What the words of `list` ask for.
+fn list_request<'a>(given: &ArgMatches<'a>) -> Option<Request<'a>>
+    ensures { option_map spec.asked result ≡ spec.list_asked (rows_of (found_of given.now)) }
+{
+    Some(Request::Listing {
         file: word_of(given, "FILE")?,
     })
 }
@@ -304,6 +346,7 @@ fn command_request<'a>(
 {
     match name {
         "check" => Ok(check_request(given)),
+        "list" => Ok(list_request(given)),
         "match" => match_request(alloc, given),
         "run" => Ok(run_request(given)),
         _ => Ok(None),

@@ -9,14 +9,14 @@ ghost use Rattle.pbx.specs.CommandLine.{pbx_app, texts};
 ghost use Rattle.pbx.specs.Faults.{is_write_failed};
 ghost use Rattle.pbx.specs.Files as files_spec;
 ghost use Rattle.pbx.specs.Files.{whole_text, length_reason, is_read_fault};
-ghost use Rattle.pbx.specs.Report.{check_of, match_of};
+ghost use Rattle.pbx.specs.Report.{check_of, list_of, match_of};
 ghost use Rattle.pbx.specs.Status.{status_after, explained_status, Prints};
 
 use crate::command_line::{Request, read_words};
 use crate::fault::{Code, PbxFault};
 use crate::files::ReadFiles;
 use crate::joined::run_joined;
-use crate::report::{check, match_one};
+use crate::report::{check, list_plan, match_one};
 use crate::run::run_script;
 use clap::Error;
 use clap::error::ErrorKind;
@@ -50,6 +50,20 @@ fn serve_check<F: ReadFiles, W: WriteTold>(
 {
     let plan = files.read_file(alloc, file)?;
     check(alloc, &plan, output)
+}
+
+/// Lists the dialplan of a file.
+fn serve_list<F: ReadFiles, W: WriteTold>(
+    files: &F,
+    alloc: Global,
+    file: &str,
+    output: &mut W,
+) -> Result<u8, PbxFault>
+    ensures serves { files_spec.ReportsOn (F.bytes_at files.now file.now) list_of (W.contents output.old) (W.contents output.new) result }
+    ensures told { W.has_failed output.new ≡ (W.has_failed output.old || is_write_failed result) }
+{
+    let plan = files.read_file(alloc, file)?;
+    list_plan(alloc, &plan, output)
 }
 
 /// Reports which entry of the dialplan of a file answers.
@@ -109,6 +123,7 @@ fn serve<F: ReadFiles, I: ReadTold, W: WriteTold>(
     match request {
         Request::Joined => serve_joined(alloc, input, output),
         Request::Check { file } => serve_check(files, alloc, file, output),
+        Request::Listing { file } => serve_list(files, alloc, file, output),
         Request::Match {
             file,
             context,

@@ -7,6 +7,7 @@ ghost use Rattle.pbx.specs.Report as spec;
 use crate::fault::PbxFault;
 use crate::trace::{push_entry, push_number};
 use dp_conf::WriteTold;
+use dp_lister::list;
 use dp_lookup::{SearchOrder, find};
 use dp_plan::{Context, Dialplan, EntryId, NoMemory, Note, Priority, Text};
 use std::alloc::Global;
@@ -79,6 +80,20 @@ pub fn check<W: WriteTold>(alloc: Global, plan: &[u8], writer: &mut W) -> Result
 {
     let (plan, notes) = Dialplan::load(alloc, plan)?;
     let text = check_text(alloc, &plan, &notes)?;
+    writer.write_told(&text)?;
+    Ok(0)
+}
+
+/// Loads a dialplan and writes its canonical listing. The status is 0; its notes are not written.
+///
+/// A faulty dialplan has its first fault, and nothing is written. Where the write fails, what was written stays written.
+#[tactic(auto, unfolding(crate::specs::Report::list_of))]
+pub fn list_plan<W: WriteTold>(alloc: Global, plan: &[u8], writer: &mut W) -> Result<u8, PbxFault>
+    ensures writes { spec.Reports (W.contents writer.old) (W.contents writer.new) (spec.list_of plan.now) result }
+    ensures told { W.has_failed writer.new ≡ (W.has_failed writer.old || is_write_failed result) }
+{
+    let (plan, _) = Dialplan::load(alloc, plan)?;
+    let text = list(alloc, &plan)?;
     writer.write_told(&text)?;
     Ok(0)
 }

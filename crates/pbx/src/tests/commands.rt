@@ -43,6 +43,28 @@ note 9 UnknownKey\nok 1 contexts 2 entries\n",
     (&["check", "@long"], "", "fault 8 TooLong\n", 1),
 ];
 
+/// `list`.
+const LISTS: [Row; 6] = [
+    (
+        &["list", "@usual"],
+        "[globals]\nTRUNK => Line/9\n[main]\nexten => _NXXXXXX,1,Answer()\n\
+exten => _NXXXXXX,2,Playback(hello-world)\nexten => _NXXXXXX,3(q),Queue(support,c)\n\
+exten => _NXXXXXX,4,Hangup()\ninclude => out\n",
+        "",
+        0,
+    ),
+    (&["list", "@empty"], "", "", 0),
+    (
+        &["list", "@cycle"],
+        "[a]\ninclude => b\n[b]\ninclude => a\n",
+        "",
+        0,
+    ),
+    (&["list", "@faulty"], "", "fault 4 NoEquals line 2\n", 1),
+    (&["list", "@missing"], "", "fault 7 ReadFailed\n", 1),
+    (&["list", "@long"], "", "fault 8 TooLong\n", 1),
+];
+
 /// `match`.
 const MATCHES: [Row; 30] = [
     (
@@ -252,7 +274,16 @@ ran 1 main,100,2 Goto -> ready main,200,1\nran 1 main,200,1 Hangup -> ended\n",
 ];
 
 /// The examples of the manual.
-const MANUAL: [Row; 13] = [
+const MANUAL: [Row; 14] = [
+    (
+        &["list", "@sample"],
+        "[phones]\nexten => 100,1(desk),NoOp(the front desk)\nexten => 100,2,Hangup()\n\
+exten => _1XX,1,NoOp(a room)\nexten => _1XX,2,Goto(100,desk)\n\
+exten => _NXXXXXX,1,NoOp(a call to town)\nexten => _NXXXXXX,2,Hangup()\ninclude => rest\n\
+[rest]\nexten => _X.,1,NoOp(no such number)\nexten => _X.,2,Hangup()\n",
+        "",
+        0,
+    ),
     (&["check", "@sample"], "ok 2 contexts 8 entries\n", "", 0),
     (
         &["match", "@sample", "phones", "100"],
@@ -325,6 +356,11 @@ ran 2 phones,_NXXXXXX,2 Hangup -> ended\n",
 #[test]
 fn check_prints_what_a_file_loads_as(rt: HostRuntime) -> Result<(), Fail> {
     check_table(&rt, "check", process::id(rt.process()), &CHECKS)
+}
+
+#[test]
+fn list_prints_a_dialplan(rt: HostRuntime) -> Result<(), Fail> {
+    check_table(&rt, "list", process::id(rt.process()), &LISTS)
 }
 
 #[test]

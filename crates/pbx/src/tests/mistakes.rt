@@ -185,6 +185,7 @@ Usage: pbx [COMMAND]
 
 Commands:
   check  Load a dialplan, and print its notes and its counts
+  list   Print a dialplan in its canonical text
   match  Print which entry of a dialplan answers a call
   run    Run a script of events on a dialplan, and print the trace
   help   Print this message or the help of the given subcommand(s)
@@ -196,6 +197,7 @@ With no command, pbx reads one text from the standard input and runs it: a dialp
 
 Examples:
   pbx check extensions.conf
+  pbx list extensions.conf
   pbx match extensions.conf main 555-1234
   pbx run extensions.conf calls.script
   pbx < joined.conf
@@ -222,6 +224,29 @@ Example:
   $ pbx check extensions.conf
   note 13 UnknownContext
   ok 1 contexts 4 entries
+";
+
+/// What is printed where help with `list` is asked for.
+const LIST_HELP: &str = "\
+Print a dialplan in its canonical text
+
+Usage: pbx list <FILE>
+
+Arguments:
+  <FILE>  The dialplan, as extensions.conf
+
+Options:
+  -h, --help  Print help
+
+Prints the dialplan in one canonical text: its global variables, and each context with its entries and its includes. Each
+priority is a number, and each name stands in its one spelling. The notes of the dialplan are not printed.
+
+Example:
+  $ pbx list extensions.conf
+  [main]
+  exten => _NXXXXXX,1,Answer()
+  exten => _NXXXXXX,2(q),Queue(support,c)
+  include => out
 ";
 
 /// What is printed where help with `match` is asked for.
@@ -274,12 +299,13 @@ Example:
 ";
 
 /// Command lines that ask for help.
-const HELPS: [Row; 8] = [
+const HELPS: [Row; 9] = [
     (&["help"], PBX_HELP, "", 0),
     (&["-h"], PBX_HELP, "", 0),
     (&["--help"], PBX_HELP, "", 0),
     (&["help", "check"], CHECK_HELP, "", 0),
     (&["check", "-h"], CHECK_HELP, "", 0),
+    (&["list", "--help"], LIST_HELP, "", 0),
     (&["help", "match"], MATCH_HELP, "", 0),
     (&["match", "@missing", "--help"], MATCH_HELP, "", 0),
     (&["run", "--help"], RUN_HELP, "", 0),
