@@ -128,7 +128,7 @@ plan_of items = record {
   contexts = map (context_of (kept_in items) (filter_map included_in items)) (names_in items);
 }
 
--- the note on an entry, where it is dropped
+-- the note on an entry, where it is dropped: an entry that is kept has its priority or its label
 abbrev pub entry_note : ℕ → List Addition → Addition → List Note
 entry_note line kept addition =
     if is_place_taken kept addition then (record { line = line; kind = DoublePriority }) ∷ []

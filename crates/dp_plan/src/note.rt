@@ -5,9 +5,9 @@ ghost use Rattle.dp_plan.specs.Codes.{note_name};
 /// What is noted of a line.
 #[derive(Clone, Copy, Debug, PartialEq, Eq)]
 pub enum NoteKind {
-    /// An earlier line has the extension and the priority: the line is dropped (this program's choice).
+    /// An earlier line that is kept has the extension and the priority: the line is dropped (this program's choice).
     DoublePriority,
-    /// An earlier line of the extension has the label: the line is dropped (this program's choice).
+    /// An earlier line of the extension that is kept has the label: the line is dropped (this program's choice).
     DoubleLabel,
     /// No context has the name that is included: the include is kept and finds nothing (this program's choice).
     UnknownContext,
