@@ -128,7 +128,7 @@ const TABLES: &[&str] = &[
     plans::SECTIONS,
     plans::ENTRIES,
     plans::LINES,
-    plans::NOT_YET,
+    plans::GROUPS,
     plans::PRIORITIES,
     plans::APPLICATIONS,
     plans::WHOLE,

@@ -11,6 +11,7 @@ pub mod Lines
 pub mod Nest
 pub mod Numbers
 pub mod Printed
+pub mod Shallow
 pub mod Told
 pub mod Whole
 pub mod Words

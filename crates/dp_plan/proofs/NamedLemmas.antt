@@ -19,7 +19,7 @@ use Rattle.dp_pattern.specs.Spelling.{spelling}
 use Rattle.dp_pattern.specs.declared.fault.NameFault.{NameFault}
 use Rattle.dp_pattern.proofs.NameLemmas.{each_by_index, each_of}
 use Rattle.dp_plan.specs.Contexts.{PlanContext, AreNamed}
-use Rattle.dp_plan.specs.EntryLine.{has_variable, has_opening, named, name_of, name_again, written_priority, number_after, is_expanded, entry_by, entry_of, exten_rest, exten_cut, exten_entry, same_cut, same_entry, application_of}
+use Rattle.dp_plan.specs.EntryLine.{has_variable, named, name_of, name_again, written_priority, number_after, shallow_at, entry_by, entry_of, exten_rest, exten_cut, exten_entry, same_cut, same_entry, application_of}
 use Rattle.dp_plan.specs.Faults.{at_line, name_at_line}
 use Rattle.dp_plan.specs.History.{History, latest, name_in, history_of}
 use Rattle.dp_plan.specs.Items.{global_item, include_item, refused_key, other_item, entry_item, context_item, just, pair_item, line_item, items_after}
@@ -29,7 +29,7 @@ use Rattle.dp_plan.specs.Ranking.{AreApart}
 use Rattle.dp_plan.specs.declared.entry.Entry.{Entry}
 use Rattle.dp_plan.specs.declared.fault.Word.TheVariants.{CallerId, Variable, IncludeTimes}
 use Rattle.dp_plan.specs.declared.fault.PlanKind.{PlanKind}
-use Rattle.dp_plan.specs.declared.fault.PlanKind.TheVariants.{LeftOut, NotYet}
+use Rattle.dp_plan.specs.declared.fault.PlanKind.TheVariants.{LeftOut}
 use Rattle.dp_plan.specs.declared.fault.LoadFault.{LoadFault}
 use Rattle.dp_plan.specs.declared.fault.LoadFault.TheVariants.{Plan}
 use Rattle.dp_plan.specs.declared.note.Note.{Note}
@@ -246,24 +246,21 @@ then-names : {X : Type 0} (first : Result X LoadFault) (next : X → Result Entr
 then-names (Ok x) next each = each x
 then-names (Err fault) next each = tt
 
-entry_by-names : (history : History) (line : ℕ) (context : List ℕ) (name : Meaning) (priority : List ℕ) (application : Result (List ℕ × List ℕ) PlanKind) → IsName name → EntryResult (entry_by history line context name priority application)
+entry_by-names : (history : History) (line : ℕ) (context : List ℕ) (name : Meaning) (priority application : List ℕ) → IsName name → EntryResult (entry_by history line context name priority application)
 entry_by-names history line context name priority application means =
     then-names (at_line line (written_priority priority)) _ (λ written.
     then-names (at_line line (number_after (history.priority context name) written.0)) _ (λ number.
-    then-names (at_line line application) _ (λ called. means)))
+    then-names (at_line line (application_of application)) _ (λ called.
+    then-names (shallow_at line called.1) _ (λ arguments. means))))
 
-entry_of-names : (history : History) (line : ℕ) (context : List ℕ) (name : Result Meaning LoadFault) (priority : List ℕ) (application : Result (List ℕ × List ℕ) PlanKind) → NameResult name → EntryResult (entry_of history line context name priority application)
-entry_of-names history line context name priority application means = by (is_expanded application) name means
-  where
-    by : (t : Bool) (name : Result Meaning LoadFault) → NameResult name → EntryResult (cond t (Err (Plan line NotYet)) (name >>= λ meaning. entry_by history line context meaning priority application))
-    by true name means = tt
-    by false (Ok name) means = entry_by-names history line context name priority application means
-    by false (Err fault) means = tt
+entry_of-names : (history : History) (line : ℕ) (context : List ℕ) (name : Result Meaning LoadFault) (priority application : List ℕ) → NameResult name → EntryResult (entry_of history line context name priority application)
+entry_of-names history line context (Ok name) priority application means = entry_by-names history line context name priority application means
+entry_of-names history line context (Err fault) priority application means = tt
 
 exten_rest-names : (history : History) (line : ℕ) (context name : List ℕ) (cut : Option (List ℕ × List ℕ)) → AreBytes name → EntryResult (exten_rest history line context name cut)
 exten_rest-names history line context name None each = tt
 exten_rest-names history line context name (Some cut) each =
-    entry_of-names history line context (name_of line name) (trim cut.0) (application_of (trim cut.1)) (name_of-names line name each)
+    entry_of-names history line context (name_of line name) (trim cut.0) (trim cut.1) (name_of-names line name each)
 
 exten_cut-names : (history : History) (line : ℕ) (context : List ℕ) (cut : Option (List ℕ × List ℕ)) → CutBytes cut → EntryResult (exten_cut history line context cut)
 exten_cut-names history line context None each = tt
@@ -277,7 +274,7 @@ exten-names history line context value each = exten_cut-names history line conte
 same_cut-names : (history : History) (line : ℕ) (context : List ℕ) (cut : Option (List ℕ × List ℕ)) → NameOption history.name → EntryResult (same_cut history line context cut)
 same_cut-names history line context None means = then-names (name_again line history.name) _ (λ name. tt)
 same_cut-names history line context (Some cut) means =
-    entry_of-names history line context (name_again line history.name) (trim cut.0) (application_of (trim cut.1)) (name_again-names line history.name means)
+    entry_of-names history line context (name_again line history.name) (trim cut.0) (trim cut.1) (name_again-names line history.name means)
 
 same-names : (history : History) (line : ℕ) (context value : List ℕ) → NameOption history.name → EntryResult (same_entry history line context value)
 unfolding same_entry
@@ -302,11 +299,11 @@ include_item-names line context name = by (list_any (λ b. b == byte ",") name)
 
 global_item-names : (line : ℕ) (key value : List ℕ) → ItemResult (global_item line key value)
 global_item-names line [] value = tt
-global_item-names line (k ∷ key) value = by (has_opening value)
+global_item-names line (k ∷ key) value = by (shallow_at line value)
   where
-    by : (t : Bool) → ItemResult (cond t (Err (Plan line NotYet)) (Ok (Sets (record { name = k ∷ key; value = value }))))
-    by true = tt
-    by false = tt
+    by : (read : Result (List ℕ) LoadFault) → ItemResult (read >>= λ shallow. Ok (Sets (record { name = k ∷ key; value = shallow })))
+    by (Ok shallow) = tt
+    by (Err fault) = tt
 
 context_item-names : (history : History) (context : List ℕ) (line : ℕ) (key value : List ℕ) → NameOption history.name → AreBytes value → ItemResult (context_item history context line key value)
 unfolding context_item

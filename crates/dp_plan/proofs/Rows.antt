@@ -1,6 +1,8 @@
 -- Texts, lines, names, priorities and applications whose answers are computed on the definitions themselves.
-use Rattle.std.proofs.Common.{◌≡◌, [], ◌∷◌, ◌++◌, Some, None, Ok, Err, refl}
+use Rattle.std.proofs.Common.{◌≡◌, ℕ, zero, suc, List, [], ◌∷◌, ◌++◌, Some, None, Ok, Err, refl}
 use Rattle.std.specs.Prelude.{codes}
+use Rattle.dp_conf.specs.Groups.{depth_of}
+use Rattle.dp_conf.specs.GroupsRead.{levels, reading_of, nesting_of}
 use Rattle.dp_conf.specs.Lines.{lines_of}
 use Rattle.dp_conf.specs.declared.fault.ConfFault.TheVariants.{At}
 use Rattle.dp_conf.specs.declared.fault.LineKind.TheVariants.{NoEquals}
@@ -12,7 +14,7 @@ use Rattle.dp_plan.specs.EntryLine.{name_of, written_priority, number_after, app
 use Rattle.dp_plan.specs.Loaded.{loaded}
 use Rattle.dp_plan.specs.Plan.{plan_of, notes_of}
 use Rattle.dp_plan.specs.declared.fault.LoadFault.TheVariants.{Conf, Pattern, Plan}
-use Rattle.dp_plan.specs.declared.fault.PlanKind.TheVariants.{BadPriority, NoPrevious, BadLabel, BadApplication, LeftOut, NoExten, PriorityLimit, ShortLine, NotYet}
+use Rattle.dp_plan.specs.declared.fault.PlanKind.TheVariants.{BadPriority, NoPrevious, BadLabel, BadApplication, LeftOut, TooDeep, NoExten, PriorityLimit, ShortLine}
 use Rattle.dp_plan.specs.declared.fault.Word.TheVariants.{CallerId, Variable, OldForm, PriorityWord}
 use Rattle.dp_plan.specs.declared.note.NoteKind.TheVariants.{DoublePriority, DoubleLabel, UnknownContext, UnknownKey}
 use Rattle.dp_plan.specs.declared.numbering.Written.TheVariants.{Number, TooGreat, Next}
@@ -95,10 +97,25 @@ loaded-empty : loaded [] ≡ Ok (record { globals = []; contexts = [] }, [])
 unfolding loaded lines_of plan_of notes_of context_item
 loaded-empty = refl
 
--- what is not read yet is asked before the name and the priority
-loaded-not_yet : loaded (codes "[m]" ++ 10 ∷ codes "exten=a b,0,A(${X})") ≡ Err (Plan 2 NotYet)
-unfolding loaded lines_of exten_entry application_of context_item
-loaded-not_yet = refl
+-- as many groups inside each other
+nested : ℕ → List ℕ
+nested zero = []
+nested (suc depth) = codes "${" ++ (nested depth ++ codes "}")
+
+-- 33 groups inside each other are too deep, 32 are not
+loaded-too_deep : loaded (codes "[globals]" ++ 10 ∷ codes "A=" ++ nested 33) ≡ Err (Plan 2 TooDeep)
+unfolding loaded lines_of context_item nesting_of reading_of levels depth_of nested
+loaded-too_deep = refl
+
+loaded-deep : loaded (codes "[globals]" ++ 10 ∷ codes "A=" ++ nested 32)
+    ≡ Ok (record { globals = (record { name = codes "A"; value = nested 32 }) ∷ []; contexts = [] }, [])
+unfolding loaded lines_of plan_of notes_of context_item nesting_of reading_of levels depth_of nested
+loaded-deep = refl
+
+-- a malformed application has no arguments of which the depth could be asked
+loaded-bad_application : loaded (codes "[m]" ++ 10 ∷ codes "exten=s,1,A(" ++ nested 33) ≡ Err (Plan 2 BadApplication)
+unfolding loaded lines_of exten_entry name_of meaning_of spelling written_priority application_of context_item nesting_of reading_of levels depth_of nested
+loaded-bad_application = refl
 
 -- a line with one comma is short, whatever its name
 loaded-short : loaded (codes "[m]" ++ 10 ∷ codes "exten=a b,1") ≡ Err (Plan 2 ShortLine)
@@ -121,7 +138,7 @@ loaded-double : loaded (codes "[a]" ++ 10 ∷ codes "exten=s,1,A" ++ 10 ∷ code
       },
       (record { line = 4; kind = UnknownKey }) ∷ (record { line = 6; kind = DoublePriority }) ∷ [],
     )
-unfolding loaded lines_of plan_of notes_of exten_entry name_of meaning_of spelling written_priority application_of context_item
+unfolding loaded lines_of plan_of notes_of exten_entry name_of meaning_of spelling written_priority application_of context_item nesting_of reading_of levels depth_of
 loaded-double = refl
 
 -- `n` counts on behind a line that is dropped; a label is taken once; an include of a context that comes later is known
@@ -141,7 +158,7 @@ loaded-next : loaded (codes "[a]" ++ 10 ∷ codes "exten=s,1(x),A" ++ 10 ∷ cod
       },
       (record { line = 3; kind = DoubleLabel }) ∷ (record { line = 6; kind = UnknownContext }) ∷ [],
     )
-unfolding loaded lines_of plan_of notes_of exten_entry same_entry name_of meaning_of spelling written_priority application_of context_item
+unfolding loaded lines_of plan_of notes_of exten_entry same_entry name_of meaning_of spelling written_priority application_of context_item nesting_of reading_of levels depth_of
 loaded-next = refl
 
 loaded-globals : loaded (codes "[GLOBALS]" ++ 10 ∷ codes "A=1" ++ 10 ∷ codes "=2" ++ 10 ∷ codes "A=")
@@ -149,7 +166,7 @@ loaded-globals : loaded (codes "[GLOBALS]" ++ 10 ∷ codes "A=1" ++ 10 ∷ codes
       record { globals = (record { name = codes "A"; value = codes "1" }) ∷ (record { name = codes "A"; value = [] }) ∷ []; contexts = [] },
       (record { line = 3; kind = UnknownKey }) ∷ [],
     )
-unfolding loaded lines_of plan_of notes_of context_item
+unfolding loaded lines_of plan_of notes_of context_item nesting_of reading_of levels depth_of
 loaded-globals = refl
 
 -- a fault of the text comes before a fault of an earlier line

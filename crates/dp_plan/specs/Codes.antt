@@ -1,7 +1,7 @@
 -- The numbers of the faults of a dialplan and the names that are printed beside them.
 use Rattle.std.specs.Prelude.{ℕ, List, codes}
 use Rattle.dp_plan.specs.declared.fault.PlanKind.{PlanKind}
-use Rattle.dp_plan.specs.declared.fault.PlanKind.TheVariants.{BadPriority, NoPrevious, BadLabel, BadApplication, LeftOut, NoExten, PriorityLimit, ShortLine, NotYet}
+use Rattle.dp_plan.specs.declared.fault.PlanKind.TheVariants.{BadPriority, NoPrevious, BadLabel, BadApplication, LeftOut, TooDeep, NoExten, PriorityLimit, ShortLine}
 use Rattle.dp_plan.specs.declared.note.NoteKind.{NoteKind}
 use Rattle.dp_plan.specs.declared.note.NoteKind.TheVariants.{DoublePriority, DoubleLabel, UnknownContext, UnknownKey}
 
@@ -12,10 +12,10 @@ plan_code NoPrevious = 21
 plan_code BadLabel = 22
 plan_code BadApplication = 23
 plan_code (LeftOut word) = 24
+plan_code TooDeep = 25
 plan_code NoExten = 26
 plan_code PriorityLimit = 27
 plan_code ShortLine = 28
-plan_code NotYet = 29
 
 -- the printed name of a line's fault
 abbrev pub plan_name : PlanKind → List ℕ
@@ -24,10 +24,10 @@ plan_name NoPrevious = codes "NoPrevious"
 plan_name BadLabel = codes "BadLabel"
 plan_name BadApplication = codes "BadApplication"
 plan_name (LeftOut word) = codes "LeftOut"
+plan_name TooDeep = codes "TooDeep"
 plan_name NoExten = codes "NoExten"
 plan_name PriorityLimit = codes "PriorityLimit"
 plan_name ShortLine = codes "ShortLine"
-plan_name NotYet = codes "NotYet"
 
 -- the printed name of a note
 abbrev pub note_name : NoteKind → List ℕ

@@ -3,8 +3,8 @@
 -- A line is asked in this order, and its fault is the first that is met: whether a `same` has an extension before it, and
 -- whether there are commas enough; the name, from the left (`name_of`); the priority, where a word that is left out comes
 -- before what is no priority, then the label, then an `n` with no earlier line, then the limit (`written_priority`,
--- `number_after`); the application, where a comma comes before a parenthesis (`application_of`). A `${` or a `$[` in the
--- arguments, which nothing reads yet, comes before all of these, where the line has arguments.
+-- `number_after`); the application, where a comma comes before a parenthesis (`application_of`), and its arguments last
+-- (`shallow_at`).
 use Rattle.std.specs.Prelude.{ℕ, ◌+◌, Bool, false, ◌&&◌, ◌||◌, ◌==◌, nat_le, List, [], ◌∷◌, Option, Some, None, Result, Ok, Err, codes, if◌then◌else◌}
 use Rattle.std.specs.List.{list_any, list_all}
 use Rattle.std.specs.Option.{option_map}
@@ -13,6 +13,7 @@ use Rattle.dp_conf.specs.Answers.{◌>>=◌}
 use Rattle.dp_conf.specs.Blanks.{trim}
 use Rattle.dp_conf.specs.Cut.{begins_with, cut_once}
 use Rattle.dp_conf.specs.Numbers.{is_digit, number_of}
+use Rattle.dp_conf.specs.Shallow.{is_too_deep}
 use Rattle.dp_conf.specs.Words.{same_text}
 use Rattle.dp_pattern.specs.Name.{Meaning, meaning_of}
 use Rattle.dp_pattern.specs.Spelling.{spelling}
@@ -21,7 +22,7 @@ use Rattle.dp_plan.specs.History.{History}
 use Rattle.dp_plan.specs.Priority.{most_priority}
 use Rattle.dp_plan.specs.declared.fault.Word.TheVariants.{Hint, CallerId, Variable, OldForm, PriorityWord}
 use Rattle.dp_plan.specs.declared.fault.PlanKind.{PlanKind}
-use Rattle.dp_plan.specs.declared.fault.PlanKind.TheVariants.{BadPriority, NoPrevious, BadLabel, BadApplication, LeftOut, NoExten, PriorityLimit, ShortLine, NotYet}
+use Rattle.dp_plan.specs.declared.fault.PlanKind.TheVariants.{BadPriority, NoPrevious, BadLabel, BadApplication, LeftOut, TooDeep, NoExten, PriorityLimit, ShortLine}
 use Rattle.dp_plan.specs.declared.fault.LoadFault.{LoadFault}
 use Rattle.dp_plan.specs.declared.fault.LoadFault.TheVariants.{Plan}
 use Rattle.dp_plan.specs.declared.numbering.Written.{Written}
@@ -34,11 +35,6 @@ use Rattle.dp_plan.specs.declared.entry.Entry.{Entry}
 abbrev pub has_variable : List ℕ → Bool
 has_variable [] = false
 has_variable (b ∷ bs) = (b == byte "$" && begins_with (byte "{") bs) || has_variable bs
-
--- a `${` or a `$[` stands in the text
-abbrev pub has_opening : List ℕ → Bool
-has_opening [] = false
-has_opening (b ∷ bs) = (b == byte "$" && (begins_with (byte "{") bs || begins_with (byte "[") bs)) || has_opening bs
 
 -- the text without its last byte, where that is the byte
 abbrev pub without_last : ℕ → List ℕ → Option (List ℕ)
@@ -157,32 +153,31 @@ abbrev pub called_now : Result Called PlanKind → Result (List ℕ × List ℕ)
 called_now (Ok called) = Ok (called.name.now, called.arguments.now)
 called_now (Err kind) = Err kind
 
--- the arguments of the application hold variables or expressions
-abbrev pub is_expanded : Result (List ℕ × List ℕ) PlanKind → Bool
-is_expanded (Ok application) = has_opening application.1
-is_expanded (Err kind) = false
+-- a text that is expanded later, in which no more groups may stand inside each other than are read then
+abbrev pub shallow_at : ℕ → List ℕ → Result (List ℕ) LoadFault
+shallow_at line text = if is_too_deep text then Err (Plan line TooDeep) else Ok text
 
 -- ---- the line
 
 -- the entry of a name with its priority and its application
-abbrev pub entry_by : History → ℕ → List ℕ → Meaning → List ℕ → Result (List ℕ × List ℕ) PlanKind → Result Entry LoadFault
+abbrev pub entry_by : History → ℕ → List ℕ → Meaning → List ℕ → List ℕ → Result Entry LoadFault
 entry_by history line context name priority application =
     at_line line (written_priority priority) >>= λ written.
     at_line line (number_after (history.priority context name) written.0) >>= λ number.
-    at_line line application >>= λ called.
-    Ok (record { name = name; priority = number; label = written.1; application = called.0; arguments = called.1 })
+    at_line line (application_of application) >>= λ called.
+    shallow_at line called.1 >>= λ arguments.
+    Ok (record { name = name; priority = number; label = written.1; application = called.0; arguments = arguments })
 
--- the same, where the name may be faulty; arguments that are not read yet are asked first
-abbrev pub entry_of : History → ℕ → List ℕ → Result Meaning LoadFault → List ℕ → Result (List ℕ × List ℕ) PlanKind → Result Entry LoadFault
+-- the same, where the name may be faulty
+abbrev pub entry_of : History → ℕ → List ℕ → Result Meaning LoadFault → List ℕ → List ℕ → Result Entry LoadFault
 entry_of history line context name priority application =
-    if is_expanded application then Err (Plan line NotYet)
-    else name >>= λ meaning. entry_by history line context meaning priority application
+    name >>= λ meaning. entry_by history line context meaning priority application
 
 -- an `exten` line, by its name and what the second comma cut
 abbrev pub exten_rest : History → ℕ → List ℕ → List ℕ → Option (List ℕ × List ℕ) → Result Entry LoadFault
 exten_rest history line context name None = Err (Plan line ShortLine)
 exten_rest history line context name (Some cut) =
-    entry_of history line context (name_of line name) (trim cut.0) (application_of (trim cut.1))
+    entry_of history line context (name_of line name) (trim cut.0) (trim cut.1)
 
 -- by what the first comma cut
 abbrev pub exten_cut : History → ℕ → List ℕ → Option (List ℕ × List ℕ) → Result Entry LoadFault
@@ -197,7 +192,7 @@ exten_entry history line context value = exten_cut history line context (cut_onc
 abbrev pub same_cut : History → ℕ → List ℕ → Option (List ℕ × List ℕ) → Result Entry LoadFault
 same_cut history line context None = name_again line history.name >>= λ name. Err (Plan line ShortLine)
 same_cut history line context (Some cut) =
-    entry_of history line context (name_again line history.name) (trim cut.0) (application_of (trim cut.1))
+    entry_of history line context (name_again line history.name) (trim cut.0) (trim cut.1)
 
 -- the entry that the value of a `same` line writes
 unfoldable pub same_entry : History → ℕ → List ℕ → List ℕ → Result Entry LoadFault

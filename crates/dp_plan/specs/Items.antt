@@ -6,12 +6,12 @@ use Rattle.dp_conf.specs.Answers.{◌>>=◌, with_front}
 use Rattle.dp_conf.specs.Words.{same_word}
 use Rattle.dp_conf.specs.declared.lines.ConfLine.{ConfLine}
 use Rattle.dp_conf.specs.declared.lines.ConfLine.TheVariants.{Header, Pair}
-use Rattle.dp_plan.specs.EntryLine.{has_opening, exten_entry, same_entry}
+use Rattle.dp_plan.specs.EntryLine.{shallow_at, exten_entry, same_entry}
 use Rattle.dp_plan.specs.History.{History, history_of}
 use Rattle.dp_plan.specs.declared.entry.Entry.{Entry}
 use Rattle.dp_plan.specs.declared.fault.Word.TheVariants.{Switch, IgnorePat, IncludeTimes}
 use Rattle.dp_plan.specs.declared.fault.PlanKind.{PlanKind}
-use Rattle.dp_plan.specs.declared.fault.PlanKind.TheVariants.{LeftOut, NotYet}
+use Rattle.dp_plan.specs.declared.fault.PlanKind.TheVariants.{LeftOut}
 use Rattle.dp_plan.specs.declared.fault.LoadFault.{LoadFault}
 use Rattle.dp_plan.specs.declared.fault.LoadFault.TheVariants.{Plan}
 use Rattle.dp_plan.specs.declared.section.Section.{Section}
@@ -26,11 +26,11 @@ section_named name =
     else if same_word name (codes "globals") then Globals
     else Context name
 
--- a global variable; an empty key is none
+-- a global variable; an empty key is none, whatever its value
 abbrev pub global_item : ℕ → List ℕ → List ℕ → Result Item LoadFault
 global_item line [] value = Ok (Unknown line)
 global_item line (k ∷ key) value =
-    if has_opening value then Err (Plan line NotYet) else Ok (Sets (record { name = k ∷ key; value = value }))
+    shallow_at line value >>= λ shallow. Ok (Sets (record { name = k ∷ key; value = shallow }))
 
 -- an include of one context, with no times
 abbrev pub include_item : ℕ → List ℕ → List ℕ → Result Item LoadFault

@@ -1,41 +1,20 @@
 //! The application of an entry's line.
 ghost use Rattle.std.specs.Prelude.{◌≡◌, MatchOption, None, Some};
 ghost use Rattle.std.specs.Option.{option_map};
+ghost use Rattle.dp_conf.specs.Answers.{Answers};
 ghost use Rattle.dp_conf.specs.Cut as cuts;
 ghost use Rattle.dp_plan.specs.EntryLine as spec;
+ghost use Rattle.dp_plan.specs.Faults.{reason_of};
 
-use crate::fault::{PlanKind, Word};
-use dp_conf::{cut_once, trim};
-
-/// Whether a `${` or a `$[` stands in the text.
-pub(crate) fn has_opening(text: &[u8]) -> bool
-    ensures { result ≡ spec.has_opening text.now }
-{
-    let mut left = text;
-    while let Some((byte, rest)) = left.split_first() {
-        if *byte == b'$' && (rest.first() == Some(&b'{') || rest.first() == Some(&b'[')) {
-            return true;
-        }
-        left = rest;
-    }
-    false
-}
+use crate::fault::{LoadFault, PlanKind, Word};
+use dp_conf::{ShallowText, cut_once, trim};
+use std::alloc::Global;
 
 /// An application as it is called: its name and its arguments.
 #[derive(Clone, Copy)]
 pub(crate) struct Called<'a> {
     pub(crate) name: &'a [u8],
     pub(crate) arguments: &'a [u8],
-}
-
-/// Whether the arguments hold variables or expressions.
-pub(crate) fn is_expanded(called: &Result<Called<'_>, PlanKind>) -> bool
-    ensures { result ≡ spec.is_expanded (spec.called_now called.now) }
-{
-    match called {
-        Ok(called) => has_opening(called.arguments),
-        Err(_) => false,
-    }
 }
 
 /// The text without its last byte, where that is a `)`.
@@ -77,5 +56,22 @@ pub(crate) fn read_application(text: &[u8]) -> Result<Called<'_>, PlanKind>
     match arguments {
         Some(arguments) => Ok(Called { name, arguments }),
         None => Err(PlanKind::BadApplication),
+    }
+}
+
+/// A copy of a text that is expanded later, the arguments of an application or the value of a global variable.
+pub(crate) fn read_shallow(
+    alloc: Global,
+    line: usize,
+    text: &[u8],
+) -> Result<ShallowText, LoadFault>
+    ensures { Answers (λ shallow. shallow) reason_of result (spec.shallow_at line text.now) }
+{
+    match ShallowText::read(alloc, text)? {
+        Some(shallow) => Ok(shallow),
+        None => Err(LoadFault::Plan {
+            line,
+            kind: PlanKind::TooDeep,
+        }),
     }
 }

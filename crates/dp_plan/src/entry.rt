@@ -1,6 +1,6 @@
 //! The entries of a context.
 use crate::priority::Priority;
-use dp_conf::Text;
+use dp_conf::{ShallowText, Text};
 use dp_pattern::Name;
 
 /// An entry of a context: at this priority of this extension the application is run with these arguments.
@@ -14,7 +14,7 @@ pub struct Entry {
     /// The application's name, as it is written.
     pub application: Text,
     /// The bytes between the parentheses of the application, not expanded.
-    pub arguments: Text,
+    pub arguments: ShallowText,
 }
 
 /// Which entry of a dialplan is meant: the number of its context in the order of first appearance, and its own in the

@@ -6,7 +6,7 @@ ghost use Rattle.dp_plan.specs.EntryLine as spec;
 ghost use Rattle.dp_plan.specs.Faults.{reason_of, at_line};
 ghost use Rattle.dp_plan.specs.Reader.{history_in, last_priority};
 
-use crate::application::{Called, is_expanded, read_application};
+use crate::application::{read_application, read_shallow};
 use crate::entry::Entry;
 use crate::fault::{LoadFault, PlanKind};
 use crate::naming::read_name;
@@ -65,10 +65,10 @@ fn read_named(
     context: &Text,
     name: Name,
     priority: &[u8],
-    called: Result<Called<'_>, PlanKind>,
+    application: &[u8],
 ) -> Result<Entry, LoadFault>
     ensures { Answers (λ entry. entry) reason_of result
-        (spec.entry_by (history_in reader.now) line context.now name priority.now (spec.called_now called.entry)) }
+        (spec.entry_by (history_in reader.now) line context.now name priority.now application.now) }
 {
     let numbering = match read_numbering(priority) {
         Ok(numbering) => numbering,
@@ -79,13 +79,13 @@ fn read_named(
         Ok(priority) => priority,
         Err(kind) => return Err(fault(line, kind)),
     };
-    let called = match called {
+    let called = match read_application(application) {
         Ok(called) => called,
         Err(kind) => return Err(fault(line, kind)),
     };
+    let arguments = read_shallow(alloc, line, called.arguments)?;
     let label = copy_label(alloc, numbering.label)?;
     let application = Text::copy_of(alloc, called.name)?;
-    let arguments = Text::copy_of(alloc, called.arguments)?;
     Ok(Entry {
         name,
         priority,
@@ -113,12 +113,10 @@ pub(crate) fn read_exten(
     let Some((priority, application)) = cut_once(rest, b',') else {
         return Err(fault(line, PlanKind::ShortLine));
     };
-    let called = read_application(trim(application));
-    if is_expanded(&called) {
-        return Err(fault(line, PlanKind::NotYet));
-    }
     let name = read_name(alloc, line, trim(name))?;
-    let entry = read_named(alloc, reader, line, context, name, trim(priority), called)?;
+    let priority = trim(priority);
+    let application = trim(application);
+    let entry = read_named(alloc, reader, line, context, name, priority, application)?;
     Ok(entry)
 }
 
@@ -151,11 +149,9 @@ pub(crate) fn read_same(
         name_again(reader, line)?;
         return Err(fault(line, PlanKind::ShortLine));
     };
-    let called = read_application(trim(application));
-    if is_expanded(&called) {
-        return Err(fault(line, PlanKind::NotYet));
-    }
     let name = name_again(reader, line)?;
-    let entry = read_named(alloc, reader, line, context, name, trim(priority), called)?;
+    let priority = trim(priority);
+    let application = trim(application);
+    let entry = read_named(alloc, reader, line, context, name, priority, application)?;
     Ok(entry)
 }

@@ -41,18 +41,18 @@ pub enum PlanKind {
     BadApplication,
     /// The line asks for what this program leaves out.
     LeftOut(Word),
+    /// Arguments, or the value of a global variable, in which more than 32 groups stand inside each other.
+    TooDeep,
     /// A line `same` with no line `exten` since the header.
     NoExten,
     /// A priority above 2,147,483,647.
     PriorityLimit,
     /// A line `exten` with fewer than two commas, or a line `same` with none.
     ShortLine,
-    /// The line asks for what this program does not have yet.
-    NotYet,
 }
 
 impl PlanKind {
-    /// The number of the fault, 20 to 29.
+    /// The number of the fault, 20 to 28.
     pub fn code(self) -> u8
         ensures { result ≡ plan_code self }
     {
@@ -62,10 +62,10 @@ impl PlanKind {
             PlanKind::BadLabel => 22,
             PlanKind::BadApplication => 23,
             PlanKind::LeftOut(_) => 24,
+            PlanKind::TooDeep => 25,
             PlanKind::NoExten => 26,
             PlanKind::PriorityLimit => 27,
             PlanKind::ShortLine => 28,
-            PlanKind::NotYet => 29,
         }
     }
 
@@ -79,10 +79,10 @@ impl PlanKind {
             PlanKind::BadLabel => "BadLabel",
             PlanKind::BadApplication => "BadApplication",
             PlanKind::LeftOut(_) => "LeftOut",
+            PlanKind::TooDeep => "TooDeep",
             PlanKind::NoExten => "NoExten",
             PlanKind::PriorityLimit => "PriorityLimit",
             PlanKind::ShortLine => "ShortLine",
-            PlanKind::NotYet => "NotYet",
         }
     }
 }

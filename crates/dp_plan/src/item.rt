@@ -6,7 +6,7 @@ ghost use Rattle.dp_plan.specs.Faults.{reason_of};
 ghost use Rattle.dp_plan.specs.Items as spec;
 ghost use Rattle.dp_plan.specs.Reader.{history_in};
 
-use crate::application::has_opening;
+use crate::application::read_shallow;
 use crate::entry::Entry;
 use crate::entry_line::{read_exten, read_same};
 use crate::fault::{LoadFault, PlanKind, Word};
@@ -40,20 +40,14 @@ pub(crate) enum Item {
 }
 
 /// The item of a pair among the global variables.
-fn read_global(line: usize, key: &Text, value: &Text) -> Result<Item, LoadFault>
+fn read_global(alloc: Global, line: usize, key: &Text, value: &Text) -> Result<Item, LoadFault>
     ensures { Answers (λ item. item) reason_of result (spec.global_item line key.now value.now) }
 {
     if key.bytes().is_empty() {
         return Ok(Item::Unknown(line));
     }
-    if has_opening(value.bytes()) {
-        return Err(LoadFault::Plan {
-            line,
-            kind: PlanKind::NotYet,
-        });
-    }
+    let value = read_shallow(alloc, line, value.bytes())?;
     let name = key.clone()?;
-    let value = value.clone()?;
     Ok(Item::Sets(GlobalVariable { name, value }))
 }
 
@@ -148,7 +142,7 @@ fn read_pair(
     match reader.section() {
         Section::General => Ok(None),
         Section::Globals => {
-            let item = read_global(line, key, value)?;
+            let item = read_global(alloc, line, key, value)?;
             Ok(Some(item))
         }
         Section::Context(context) => {

@@ -19,7 +19,7 @@ mod reader;
 mod section;
 
 pub use context::Context;
-pub use dp_conf::{ConfFault, LineKind, NoMemory, Text};
+pub use dp_conf::{ConfFault, LineKind, NoMemory, ShallowText, Text};
 pub use dp_pattern::{Name, NameFault};
 pub use entry::{Entry, EntryId};
 pub use extension::same_names_are_equal;

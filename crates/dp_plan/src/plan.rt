@@ -17,7 +17,7 @@ use crate::fault::LoadFault;
 use crate::item::read_items;
 use crate::note::Note;
 use crate::ranking::Ranking;
-use dp_conf::{Text, read_lines};
+use dp_conf::{ShallowText, Text, read_lines};
 use indexmap::IndexSet;
 use std::alloc::Global;
 use std::marker::Model;
@@ -26,7 +26,7 @@ use std::marker::Model;
 #[derive(Debug, PartialEq, Eq, Drop)]
 pub struct GlobalVariable {
     pub name: Text,
-    pub value: Text,
+    pub value: ShallowText,
 }
 
 /// A loaded dialplan. A contract sees it as its global variables in the order of the file, and its contexts in the

@@ -15,8 +15,9 @@ mod template;
 mod value;
 mod variables;
 
+pub use dp_conf::MOST_NESTING;
 pub use globals::Globals;
 pub use scope::{ChannelSeen, Counts, Scope};
 pub use store::Store;
-pub use template::{MOST_NESTING, Template, TemplateFault, expand};
+pub use template::{Template, TemplateFault, expand};
 pub use variables::Variable;

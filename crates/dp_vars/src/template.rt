@@ -8,12 +8,9 @@ ghost use Rattle.dp_vars.specs.Values.{expanded, expansion};
 
 use crate::expanding::Expanding;
 use crate::scope::{Counts, Scope};
-use dp_conf::{NoMemory, nesting, next_mark};
+use dp_conf::{MOST_NESTING, NoMemory, nesting, next_mark};
 use std::alloc::{AllocError, Global};
 use std::marker::Model;
-
-/// The greatest number of groups that may stand inside each other in a template (a choice of this program).
-pub const MOST_NESTING: usize = 32;
 
 /// Why a text is no template.
 #[derive(Clone, Copy, Debug, PartialEq, Eq)]

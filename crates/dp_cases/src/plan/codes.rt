@@ -17,10 +17,10 @@ fn faults_have_these_codes(rt: HostRuntime) {
         (PlanKind::LeftOut(Word::Variable), 24, "LeftOut"),
         (PlanKind::LeftOut(Word::OldForm), 24, "LeftOut"),
         (PlanKind::LeftOut(Word::PriorityWord), 24, "LeftOut"),
+        (PlanKind::TooDeep, 25, "TooDeep"),
         (PlanKind::NoExten, 26, "NoExten"),
         (PlanKind::PriorityLimit, 27, "PriorityLimit"),
         (PlanKind::ShortLine, 28, "ShortLine"),
-        (PlanKind::NotYet, 29, "NotYet"),
     ];
     for (kind, code, name) in kinds {
         assert_eq!(rt; kind.code(), code);

@@ -58,10 +58,10 @@ pub(crate) const OF_A_TEXT: &str = r"
 [m]\nsame => n,A\nexten => _[,1,B\n→fault 26 line 2
 [m]\nexten => _[,1,B\nsame => n,A\n→fault 13 line 2
 [m]\ninclude => a,b\nexten => _,1,A\n→fault 24 IncludeTimes line 2
-[m]\nexten => s,1(),A\nexten => s,1,A(${X})\n→fault 22 line 2
-[m]\nexten => s,1,A(${X})\nexten => s,1(),A\n→fault 29 line 2
-[globals]\nA=${X}\n[m]\nexten => _,1,A\n→fault 29 line 2
-[m]\nexten => _,1,A\n[globals]\nA=${X}\n→fault 10 line 2
+[m]\nexten => s,1(),A\nexten => s,1,A(${${${${${${${${${${${${${${${${${${${${${${${${${${${${${${${${${}}}}}}}}}}}}}}}}}}}}}}}}}}}}}}}}})\n→fault 22 line 2
+[m]\nexten => s,1,A(${${${${${${${${${${${${${${${${${${${${${${${${${${${${${${${${${}}}}}}}}}}}}}}}}}}}}}}}}}}}}}}}}})\nexten => s,1(),A\n→fault 25 line 2
+[globals]\nA=${${${${${${${${${${${${${${${${${${${${${${${${${${${${${${${${${}}}}}}}}}}}}}}}}}}}}}}}}}}}}}}}}}\n[m]\nexten => _,1,A\n→fault 25 line 2
+[m]\nexten => _,1,A\n[globals]\nA=${${${${${${${${${${${${${${${${${${${${${${${${${${${${${${${${${}}}}}}}}}}}}}}}}}}}}}}}}}}}}}}}}}\n→fault 10 line 2
 # Lines that are dropped or noted come to no fault.
 [m]\ninclude => x\nfoo=1\nexten => s,1,A\nexten => s,1,B\nexten => s/1,1,C\n→fault 24 CallerId line 6
 # Faults of the text come first.

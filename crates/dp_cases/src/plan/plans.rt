@@ -36,10 +36,11 @@ pub(crate) const SECTIONS: &str = r"
 [globals]\nA=x\\;y\nB=x;y\n→{A=x;y}{B=x}
 [globals]\n=1\n→ note 2 UnknownKey
 [globals]\n=${X}\nA=1\n→{A=1} note 2 UnknownKey
+[globals]\n=${${${${${${${${${${${${${${${${${${${${${${${${${${${${${${${${${}}}}}}}}}}}}}}}}}}}}}}}}}}}}}}}}}\nA=1\n→{A=1} note 2 UnknownKey
 [globals]\n=\n=\n→ note 2 UnknownKey note 3 UnknownKey
-[globals]\nA=${X}\n→fault 29 line 2
-[globals]\nA=1\nB=x$[1]\n→fault 29 line 3
-[globals]\nA=$${\n→fault 29 line 2
+[globals]\nA=${X}\n→{A=${X}}
+[globals]\nA=1\nB=x$[1]\n→{A=1}{B=x$[1]}
+[globals]\nA=$${\n→{A=$${}
 [globals]\nA=$X {Y} $ {Z} ]$\n→{A=$X {Y} $ {Z} ]$}
 [globals]\n${A}=1\n→{${A}=1}
 [globals]\nexten => s,1,A\nsame=1\ninclude=2\nswitch=3\n→{exten=s,1,A}{same=1}{include=2}{switch=3}
@@ -119,34 +120,47 @@ pub(crate) const LINES: &str = r"
 [m]\nexten => {,1,A\n→[m]<{,1,A()>
 ";
 
-/// Lines whose arguments are not read yet, and some that have no such arguments.
-pub(crate) const NOT_YET: &str = r"
-# A `${` or a `$[` in arguments is asked before the other faults of its line.
-[m]\nexten => s,1,A(${X})\n→fault 29 line 2
-[m]\nexten => s,1,A(x$[1 + 1])\n→fault 29 line 2
-[m]\nexten => s,0,A(${X})\n→fault 29 line 2
-[m]\nexten => s,hint,A(${X})\n→fault 29 line 2
-[m]\nexten => s,2147483648,A($[1])\n→fault 29 line 2
-[m]\nexten => s,n,A(${X})\n→fault 29 line 2
-[m]\nexten => s,1(,A(${X})\n→fault 29 line 2
-[m]\nexten => ,1,A(${X})\n→fault 29 line 2
-[m]\nexten => _[,hint,A($[1])\n→fault 29 line 2
-[m]\nexten => ${X}/1,1,A(${X})\n→fault 29 line 2
-[m]\nsame => 1,A(${X})\n→fault 29 line 2
-[m]\nsame => n(),A(x,$[)\n→fault 29 line 2
-[m]\nexten => s,1,A\nexten => s,1,B(${X})\n→fault 29 line 3
+/// Arguments and global values that hold groups, and those in which too many stand inside each other.
+pub(crate) const GROUPS: &str = r"
+# Groups, and openings without their ends.
+[m]\nexten => s,1,A(${X})\n→[m]<s,1,A(${X})>
+[m]\nexten => s,1,A(x$[1 + 1])\n→[m]<s,1,A(x$[1 + 1])>
+[m]\nsame => n(),A(x,$[)\n→fault 26 line 2
+[m]\nexten => s,1,A(x,$[)\n→[m]<s,1,A(x,$[)>
+[m]\nexten => s,1,A\nsame => n,B(${X},${)\n→[m]<s,1,A()><s,2,B(${X},${)>
+# 32 groups may stand inside each other, and 33 may not; openings without their ends do not count.
+[m]\nexten => s,1,A(${${${${${${${${${${${${${${${${${${${${${${${${${${${${${${${${}}}}}}}}}}}}}}}}}}}}}}}}}}}}}}}})\n→[m]<s,1,A(${${${${${${${${${${${${${${${${${${${${${${${${${${${${${${${${}}}}}}}}}}}}}}}}}}}}}}}}}}}}}}}})>
+[m]\nexten => s,1,A(${${${${${${${${${${${${${${${${${${${${${${${${${${${${${${${${${}}}}}}}}}}}}}}}}}}}}}}}}}}}}}}}}})\n→fault 25 line 2
+[m]\nexten => s,1,A(${${${${${${${${${${${${${${${${${${${${${${${${${${${${${${${${${)\n→[m]<s,1,A(${${${${${${${${${${${${${${${${${${${${${${${${${${${${${${${${${)>
+[m]\nexten => s,1,A(${${${${${${${${${${${${${${${${${${${${${${${${${${${${${${${${${}}}}}}}}}}}}}}}}}}}}}}}}}}}}}}}})\n→[m]<s,1,A(${${${${${${${${${${${${${${${${${${${${${${${${${${${${${${${${${}}}}}}}}}}}}}}}}}}}}}}}}}}}}}}}})>
+[m]\nexten => s,1,A(${${${${${${${${${${${${${${${${${${${${${${${${${${${${${${${${}}}}}}}}}}}}}}}}}}}}}}}}}}}}}}}}${${${${${${${${${${${${${${${${${${${${${${${${${${${${${${${${}}}}}}}}}}}}}}}}}}}}}}}}}}}}}}}})\n→[m]<s,1,A(${${${${${${${${${${${${${${${${${${${${${${${${${${${${${${${${}}}}}}}}}}}}}}}}}}}}}}}}}}}}}}}}${${${${${${${${${${${${${${${${${${${${${${${${${${${${${${${${}}}}}}}}}}}}}}}}}}}}}}}}}}}}}}}})>
+[m]\nexten => s,1,A(x$[$[$[$[$[$[$[$[$[$[$[$[$[$[$[$[$[$[$[$[$[$[$[$[$[$[$[$[$[$[$[$[$[]]]]]]]]]]]]]]]]]]]]]]]]]]]]]]]]]y)\n→fault 25 line 2
+[m]\nexten => s,1,A\nsame => n,B(${${${${${${${${${${${${${${${${${${${${${${${${${${${${${${${${${}}}}}}}}}}}}}}}}}}}}}}}}}}}}}}}}})\n→fault 25 line 3
+[globals]\nA=${${${${${${${${${${${${${${${${${${${${${${${${${${${${${${${${}}}}}}}}}}}}}}}}}}}}}}}}}}}}}}}}\n→{A=${${${${${${${${${${${${${${${${${${${${${${${${${${${${${${${${}}}}}}}}}}}}}}}}}}}}}}}}}}}}}}}}}
+[globals]\nA=${${${${${${${${${${${${${${${${${${${${${${${${${${${${${${${${${}}}}}}}}}}}}}}}}}}}}}}}}}}}}}}}}}\n→fault 25 line 2
+[globals]\nA=1\nB=$[$[$[$[$[$[$[$[$[$[$[$[$[$[$[$[$[$[$[$[$[$[$[$[$[$[$[$[$[$[$[$[$[]]]]]]]]]]]]]]]]]]]]]]]]]]]]]]]]]\n→fault 25 line 3
+[general]\nA=${${${${${${${${${${${${${${${${${${${${${${${${${${${${${${${${${}}}}}}}}}}}}}}}}}}}}}}}}}}}}}}}}}\n→
+[m]\nfoo => ${${${${${${${${${${${${${${${${${${${${${${${${${${${${${${${${${}}}}}}}}}}}}}}}}}}}}}}}}}}}}}}}}}\n→[m] note 2 UnknownKey
+# Of a line, this is asked last.
+[m]\nexten => s,0,A(${${${${${${${${${${${${${${${${${${${${${${${${${${${${${${${${${}}}}}}}}}}}}}}}}}}}}}}}}}}}}}}}}})\n→fault 20 line 2
+[m]\nexten => s,hint,A(${${${${${${${${${${${${${${${${${${${${${${${${${${${${${${${${${}}}}}}}}}}}}}}}}}}}}}}}}}}}}}}}}})\n→fault 24 Hint line 2
+[m]\nexten => s,2147483648,A(${${${${${${${${${${${${${${${${${${${${${${${${${${${${${${${${${}}}}}}}}}}}}}}}}}}}}}}}}}}}}}}}}})\n→fault 27 line 2
+[m]\nexten => s,n,A(${${${${${${${${${${${${${${${${${${${${${${${${${${${${${${${${${}}}}}}}}}}}}}}}}}}}}}}}}}}}}}}}}})\n→fault 21 line 2
+[m]\nexten => s,1(,A(${${${${${${${${${${${${${${${${${${${${${${${${${${${${${${${${${}}}}}}}}}}}}}}}}}}}}}}}}}}}}}}}}})\n→fault 22 line 2
+[m]\nexten => ,1,A(${${${${${${${${${${${${${${${${${${${${${${${${${${${${${${${${${}}}}}}}}}}}}}}}}}}}}}}}}}}}}}}}}})\n→fault 10 line 2
+[m]\nexten => ${X}/1,1,A(${${${${${${${${${${${${${${${${${${${${${${${${${${${${${${${${${}}}}}}}}}}}}}}}}}}}}}}}}}}}}}}}}})\n→fault 24 Variable line 2
+[m]\nsame => 1,A(${${${${${${${${${${${${${${${${${${${${${${${${${${${${${${${${${}}}}}}}}}}}}}}}}}}}}}}}}}}}}}}}}})\n→fault 26 line 2
+[m]\nexten => s,1,A\nexten => s,1,B(${${${${${${${${${${${${${${${${${${${${${${${${${${${${${${${${${}}}}}}}}}}}}}}}}}}}}}}}}}}}}}}}}})\n→fault 25 line 3
 # A malformed application has no arguments, and a line with too few commas no application.
-[m]\nexten => s,1,A(${X}\n→fault 23 line 2
-[m]\nexten => s,1,(${X})\n→fault 23 line 2
-[m]\nexten => s,1,a,B(${X})\n→fault 24 OldForm line 2
-[m]\nexten => s,0,A(${X}\n→fault 20 line 2
-[m]\nexten => s,1(a,b),A(${X})\n→fault 22 line 2
-[m]\nexten => s,A(${X})\n→fault 28 line 2
-[m]\nsame => A(${X})\n→fault 26 line 2
+[m]\nexten => s,1,A(${${${${${${${${${${${${${${${${${${${${${${${${${${${${${${${${${}}}}}}}}}}}}}}}}}}}}}}}}}}}}}}}}}\n→fault 23 line 2
+[m]\nexten => s,1,(${${${${${${${${${${${${${${${${${${${${${${${${${${${${${${${${${}}}}}}}}}}}}}}}}}}}}}}}}}}}}}}}}})\n→fault 23 line 2
+[m]\nexten => s,1,a,B(${${${${${${${${${${${${${${${${${${${${${${${${${${${${${${${${${}}}}}}}}}}}}}}}}}}}}}}}}}}}}}}}}})\n→fault 24 OldForm line 2
+[m]\nexten => s,A(${${${${${${${${${${${${${${${${${${${${${${${${${${${${${${${${${}}}}}}}}}}}}}}}}}}}}}}}}}}}}}}}}})\n→fault 28 line 2
 [m]\nexten => s,1,A\nsame => A(${X})\n→fault 28 line 3
 # Such bytes elsewhere in a line.
 [m]\nexten => s,1,${A}\n→[m]<s,1,${A}()>
 [m]\nexten => s,1,A${X}(y)\n→[m]<s,1,A${X}(y)>
+[m]\nexten => s,1,${${${${${${${${${${${${${${${${${${${${${${${${${${${${${${${${${}}}}}}}}}}}}}}}}}}}}}}}}}}}}}}}}}(y)\n→[m]<s,1,${${${${${${${${${${${${${${${${${${${${${${${${${${${${${${${${${}}}}}}}}}}}}}}}}}}}}}}}}}}}}}}}}}(y)>
 [m]\nexten => s,1,A($X{Y}$)\n→[m]<s,1,A($X{Y}$)>
 [m]\nexten => s,${X},A\n→fault 20 line 2
 [m]\nexten => s,1(${x}),A\n→[m]<s,1(${x}),A()>
@@ -230,7 +244,7 @@ pub(crate) const WHOLE: &str = r"
 [m]\nexten => s,1\nexten => s,0,A\n→fault 28 line 2
 [m]\nx=1\nexten => s,1,A\nexten => s,1,B\nsame => hint,C\n→fault 24 Hint line 5
 [m]\nswitch => x\n[globals]\nA=${X}\n→fault 24 Switch line 2
-[globals]\nA=${X}\n[m]\nswitch => x\n→fault 29 line 2
+[globals]\nA=${${${${${${${${${${${${${${${${${${${${${${${${${${${${${${${${${}}}}}}}}}}}}}}}}}}}}}}}}}}}}}}}}}\n[m]\nswitch => x\n→fault 25 line 2
 # Dropped lines leave the rest as it is.
 [m]\nx=1\nexten => s,1,A\nexten => s,1,B\nsame => n,C\n→[m]<s,1,A()><s,2,C()> note 2 UnknownKey note 4 DoublePriority
 # A usual file.
@@ -253,8 +267,8 @@ fn lines_load_so(rt: HostRuntime) -> Result<(), Fail> {
 }
 
 #[test]
-fn lines_are_not_read_yet(rt: HostRuntime) -> Result<(), Fail> {
-    check::<Loads>(&rt, rt.alloc(), NOT_YET)
+fn groups_load_so(rt: HostRuntime) -> Result<(), Fail> {
+    check::<Loads>(&rt, rt.alloc(), GROUPS)
 }
 
 #[test]

@@ -32,10 +32,10 @@ const CODES: [Row; 26] = [
     (Code::Plan(PlanKind::BadApplication), 23, "BadApplication"),
     (Code::Plan(PlanKind::LeftOut(Word::Hint)), 24, "LeftOut"),
     (Code::Plan(PlanKind::LeftOut(Word::Switch)), 24, "LeftOut"),
+    (Code::Plan(PlanKind::TooDeep), 25, "TooDeep"),
     (Code::Plan(PlanKind::NoExten), 26, "NoExten"),
     (Code::Plan(PlanKind::PriorityLimit), 27, "PriorityLimit"),
     (Code::Plan(PlanKind::ShortLine), 28, "ShortLine"),
-    (Code::Plan(PlanKind::NotYet), 29, "NotYet"),
     (Code::BadScript, 70, "BadScript"),
 ];
 

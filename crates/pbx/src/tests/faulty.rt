@@ -99,12 +99,11 @@ const PLANS: [FaultRow; 28] = [
         b"[main]\nsame => 2,B\n;; script\n",
         "fault 26 NoExten line 2",
     ),
-    // What is not read yet.
+    // Too many groups inside each other.
     (
-        b"[main]\nexten => s,1,NoOp(${X})\n;; script\n",
-        "fault 29 NotYet line 2",
+        b"[globals]\nA=${${${${${${${${${${${${${${${${${${${${${${${${${${${${${${${${${}}}}}}}}}}}}}}}}}}}}}}}}}}}}}}}}}\n;; script\n",
+        "fault 25 TooDeep line 2",
     ),
-    (b"[globals]\nA=$[1]\n;; script\n", "fault 29 NotYet line 2"),
     // The text's fault before those of contexts.
     (
         b"[main]\nexten => s,0,A\nabc\n;; script\n",

@@ -1,0 +1,108 @@
+//! Texts that may be expanded: groups do not stand too deep inside each other in them.
+ghost use Rattle.std.specs.Prelude.{◌≡◌, IfOk, nat_eq, Some};
+ghost use Rattle.std.specs.Cmp.Lexicographic.{pointwise, nat_list_eq_equiv};
+ghost use Rattle.std.specs.Cmp.{partial_equiv_from_equiv};
+ghost use Rattle.bstr.specs.Show.{debug_text};
+ghost use Rattle.dp_conf.specs.Printed.{printed_text};
+
+use crate::nest::nesting;
+use crate::text::Text;
+use std::alloc::{AllocError, Global};
+use std::fmt;
+use std::marker::Model;
+
+/// The greatest number of groups that may stand inside each other in a text that is expanded (a choice of this
+/// program).
+pub const MOST_NESTING: usize = 32;
+
+/// A text of any bytes in which at most 32 groups stand inside each other, such as the arguments of an application.
+///
+/// A contract sees it as its bytes. Two texts are equal where their bytes are.
+#[derive(Drop)]
+pub struct ShallowText {
+    text: Text,
+}
+
+impl Model for ShallowText {
+    ghost use Rattle.std.specs.Prelude.{ℕ, List};
+    ghost use Rattle.dp_conf.specs.Shallow.{IsShallow};
+
+    ghost Value = { List ℕ };
+
+    ghost view = { λ shallow. shallow.text };
+
+    ghost invariant = { λ shallow. IsShallow shallow.text };
+}
+
+impl ShallowText {
+    ghost use Rattle.dp_conf.specs.Shallow.{IsShallow, unless_too_deep};
+
+    /// A text of these bytes, or None where more than 32 groups stand inside each other in them.
+    ///
+    /// The error comes only where a growth was refused.
+    pub fn read(alloc: Global, bytes: &[u8]) -> Result<Option<Self>, AllocError>
+        ensures { IfOk result (λ text. text ≡ unless_too_deep bytes.now) }
+    {
+        let depth = nesting(alloc, bytes)?;
+        if depth > MOST_NESTING {
+            return Ok(None);
+        }
+        let text = Text::copy_of(alloc, bytes)?;
+        Ok(Some(ShallowText { text }))
+    }
+
+    /// The text itself.
+    pub fn text(&self) -> &Text
+        ensures value { result.now ≡ self.now }
+        ensures shallow { IsShallow self.now }
+    {
+        &self.text
+    }
+
+    /// The bytes of the text.
+    pub fn bytes(&self) -> &[u8]
+        ensures value { result.now ≡ self.now }
+        ensures shallow { IsShallow self.now }
+    {
+        self.text.bytes()
+    }
+}
+
+impl Clone for ShallowText {
+    ghost is_clone = { λ text copy. copy ≡ text };
+
+    fn clone(&self) -> Result<ShallowText, AllocError> {
+        let text = self.text.clone()?;
+        Ok(ShallowText { text })
+    }
+}
+
+impl PartialEq for ShallowText {
+    ghost eq = { pointwise nat_eq };
+
+    ghost laws = { partial_equiv_from_equiv nat_list_eq_equiv };
+
+    fn eq(&self, other: &ShallowText) -> bool {
+        self.text() == other.text()
+    }
+}
+
+impl Eq for ShallowText {
+    ghost laws = { nat_list_eq_equiv };
+}
+
+impl fmt::Debug for ShallowText {
+    ghost debug_output = { λ text. debug_text text };
+
+    fn fmt<W: fmt::Write>(&self, f: &mut fmt::Formatter<W>) -> fmt::Result {
+        fmt::Debug::fmt(self.text(), f)
+    }
+}
+
+impl fmt::Display for ShallowText {
+    ghost output = { λ text. Some (printed_text text) };
+
+    fn fmt<W: fmt::Write>(&self, f: &mut fmt::Formatter<W>) -> fmt::Result {
+        fmt::Display::fmt(self.text(), f)
+    }
+}
