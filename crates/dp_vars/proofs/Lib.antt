@@ -4,3 +4,4 @@ pub mod StoresLemmas
 pub mod PartsLemmas
 pub mod ValuesLemmas
 pub mod ExpandingLemmas
+pub mod OpeningsLemmas

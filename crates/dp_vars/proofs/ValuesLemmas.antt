@@ -4,8 +4,7 @@ use Rattle.std.specs.Option.{option_map, option_map_or, option_or}
 use Rattle.std.specs.FinMap.{get}
 use Rattle.std.specs.Map.{lookup}
 use Rattle.dp_conf.specs.Words.{same_text}
-use Rattle.dp_vars.specs.declared.scope.ChannelSeen.{ChannelSeen}
-use Rattle.dp_vars.specs.Sights.{given_by, given_names, given_value, channel_map}
+use Rattle.dp_vars.specs.Sights.{ChannelView, given_by, given_names, given_value, channel_map}
 use Rattle.dp_vars.specs.declared.value.Given.{Given}
 use Rattle.dp_vars.specs.Values.{before_last}
 use Rattle.dp_vars.specs.Variables.{Named, first_value, value_or_empty}
@@ -48,11 +47,11 @@ lookup-map value test (e ∷ es) = by (test e.0) (lookup-map value test es)
     by false rest = rest
 
 -- what the channel gives a name
-get-channel_map : (channel : Option ChannelSeen) (name : List ℕ)
+get-channel_map : (channel : Option ChannelView) (name : List ℕ)
     → get (channel_map channel) name ≡ option_map (given_value channel) (lookup (same_text name) given_names)
 get-channel_map channel name = get-by_bytes (λ key. key) name (given_by channel) ∙ lookup-map (given_value channel) (same_text name) given_names
 
-module _ (channel : Option ChannelSeen) (stored : List Named) (globals : Named) (name : List ℕ) where
+module _ (channel : Option ChannelView) (stored : List Named) (globals : Named) (name : List ℕ) where
   -- a name that the channel gives
   pub value-given : (given : Given) → Some given ≡ lookup (same_text name) given_names
       → given_value channel given ≡ value_or_empty (channel_map channel ∷ (stored ++ globals ∷ [])) name

@@ -1,5 +1,6 @@
 pub mod Expanding
 pub mod Far
+pub mod Openings
 pub mod Parts
 pub mod Shown
 pub mod Sights

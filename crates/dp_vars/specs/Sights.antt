@@ -2,7 +2,7 @@
 use Rattle.std.specs.Prelude.{ℕ, List, [], ◌∷◌, ◌++◌, Option, Some, None, map, unwrap_or, codes}
 use Rattle.std.specs.Borrow.{Bor}
 use Rattle.std.specs.Fmt.{decimal}
-use Rattle.std.specs.Option.{option_map_or}
+use Rattle.std.specs.Option.{option_map, option_map_or}
 use Rattle.std.specs.Ordering.{nat_cmp}
 use Rattle.std.specs.Cmp.Lexicographic.{slice_cmp}
 use Rattle.std.specs.FinMap.{from_entries}
@@ -22,6 +22,24 @@ pub record Sight : Type 0 where
   pub caller : List ℕ
   pub waiting : List ℕ → ℕ
 
+-- what a channel gives to a text: its number and place, and the caller's number
+pub record ChannelView : Type 0 where
+  pub number : ℕ
+  pub context : List ℕ
+  pub extension : List ℕ
+  pub priority : ℕ
+  pub caller : List ℕ
+
+-- what is seen of a channel, by its values
+abbrev pub view_of : ChannelSeen → ChannelView
+view_of seen = record {
+  number = seen.number;
+  context = seen.context.now;
+  extension = seen.extension.now;
+  priority = seen.priority;
+  caller = seen.caller.now;
+}
+
 -- the name of a channel
 abbrev pub channel_name : ℕ → List ℕ
 channel_name number = codes "Channel/" ++ decimal number
@@ -31,47 +49,60 @@ abbrev pub given_names : List (List ℕ × Given)
 given_names = (codes "EXTEN", Exten) ∷ (codes "CONTEXT", Context) ∷ (codes "PRIORITY", Priority) ∷ (codes "CHANNEL", Channel) ∷ []
 
 -- their values; where there is no channel each of them is empty, and so no variable of that name is seen
-abbrev pub given_value : Option ChannelSeen → Given → List ℕ
+abbrev pub given_value : Option ChannelView → Given → List ℕ
 given_value None given = []
-given_value (Some channel) Exten = channel.extension.now
-given_value (Some channel) Context = channel.context.now
+given_value (Some channel) Exten = channel.extension
+given_value (Some channel) Context = channel.context
 given_value (Some channel) Priority = decimal channel.priority
 given_value (Some channel) Channel = channel_name channel.number
 
 -- the names with their values
-abbrev pub given_by : Option ChannelSeen → List (List ℕ × List ℕ)
+abbrev pub given_by : Option ChannelView → List (List ℕ × List ℕ)
 given_by channel = map (λ e. (e.0, given_value channel e.1)) given_names
 
 -- the map of those names
-abbrev pub channel_map : Option ChannelSeen → Named
+abbrev pub channel_map : Option ChannelView → Named
 channel_map channel = from_entries {R = slice_cmp nat_cmp} (given_by channel)
 
 -- the number of the caller
-abbrev pub caller_of : Option ChannelSeen → List ℕ
-caller_of channel = option_map_or (λ seen. seen.caller.now) channel []
+abbrev pub caller_of : Option ChannelView → List ℕ
+caller_of channel = option_map_or (λ seen. seen.caller) channel []
+
+-- the value behind a reference, where there is one
+abbrev pub behind : {X : Type 0} → Option (Bor X) → Option X
+behind reference = option_map (λ r. r.now) reference
 
 module _ {B : Type 0} where
   -- the maps of a store, where there is one: the locals from the innermost frame outwards, and the channel's variables
-  abbrev pub stored_maps : Option (Bor (StoreOf B)) → List Named
+  abbrev pub stored_maps : Option (StoreOf B) → List Named
   stored_maps None = []
-  stored_maps (Some store) = searched store.now
+  stored_maps (Some store) = searched store
 
   -- the local of the innermost frame alone
-  abbrev pub local_seen : Option (Bor (StoreOf B)) → List ℕ → List ℕ
+  abbrev pub local_seen : Option (StoreOf B) → List ℕ → List ℕ
   local_seen None name = []
-  local_seen (Some store) name = unwrap_or (local_in store.now name) []
+  local_seen (Some store) name = unwrap_or (local_in store name) []
+
+  -- the maps in which a name is searched: what the channel gives, those of the store, and the globals
+  abbrev pub maps_by : Option ChannelView → Option (StoreOf B) → Named → List Named
+  maps_by channel store globals = channel_map channel ∷ (stored_maps store ++ globals ∷ [])
+
+  -- what a channel, a store and the globals let see, where `waiting` says how many wait in a queue
+  abbrev pub sight_by : (List ℕ → ℕ) → Option ChannelView → Option (StoreOf B) → Named → Sight
+  sight_by waiting channel store globals = record {
+    variable = value_or_empty (maps_by channel store globals);
+    global = value_or_empty (globals ∷ []);
+    local = local_seen store;
+    caller = caller_of channel;
+    waiting = waiting;
+  }
 
 module _ {B C : Type 0} where
-  -- the maps in which a name is searched: what the channel gives, those of the store, and the globals
+  -- the maps in which a scope searches a name
   abbrev pub maps_of : Scope B C → List Named
-  maps_of scope = channel_map scope.channel ∷ (stored_maps scope.store ++ scope.globals.now ∷ [])
+  maps_of scope = maps_by (option_map view_of scope.channel) (behind scope.store) scope.globals.now
 
   -- what a scope lets see, where `count` says how many wait in a queue
   abbrev pub sight_of : (C → List ℕ → ℕ) → Scope B C → Sight
-  sight_of count scope = record {
-    variable = value_or_empty (maps_of scope);
-    global = value_or_empty (scope.globals.now ∷ []);
-    local = local_seen scope.store;
-    caller = caller_of scope.channel;
-    waiting = count scope.counts.now;
-  }
+  sight_of count scope =
+      sight_by (count scope.counts.now) (option_map view_of scope.channel) (behind scope.store) scope.globals.now

@@ -7,10 +7,11 @@ ghost use Rattle.dp_vars.specs.Parts.{part};
 ghost use Rattle.dp_vars.specs.Shown.{shown};
 ghost use Rattle.dp_vars.specs.Sights as sights;
 ghost use Rattle.dp_vars.specs.Values as values;
+ghost use Rattle.dp_vars.specs.Variables.{value_or_empty};
 
 use crate::part::{Asked, part, read_asked};
 use crate::scope::{Counts, Scope};
-use crate::value::{Value, head_value};
+use crate::value::{Value, head_value, variable};
 use dp_conf::{NoMemory, cut_outside};
 use std::alloc::Global;
 
@@ -69,4 +70,24 @@ pub(crate) fn push_reference(
             push_part(out, text.as_bytes(), reference.asked)
         }
     }
+}
+
+/// The value of a name: what the channel gives, the local of the innermost frame that has the name as one, the
+/// channel's variable, or the global; the empty text where none of them has the name.
+///
+/// The error comes only where a growth was refused.
+pub fn value_of<B, C>(
+    alloc: Global,
+    scope: &Scope<'_, B, C>,
+    name: &[u8],
+) -> Result<Vec<u8>, NoMemory>
+    ensures { IfOk result (λ value. value.items ≡ value_or_empty (sights.maps_of scope.now) name.now) }
+{
+    let mut out = Vec::new(alloc);
+    let reference = Reference {
+        value: variable(scope, name),
+        asked: Asked::Whole,
+    };
+    push_reference(alloc, &mut out, reference)?;
+    Ok(out)
 }

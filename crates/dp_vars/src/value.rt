@@ -60,7 +60,7 @@ fn given_of(name: &[u8]) -> Option<Given>
 
 /// The value of a name that a channel gives; empty where there is no channel.
 fn given_value<'a>(channel: Option<ChannelSeen<'a>>, given: Given) -> Value<'a>
-    ensures { shown result ≡ sights.given_value channel.entry given }
+    ensures { shown result ≡ sights.given_value (option_map sights.view_of channel.entry) given }
 {
     let Some(channel) = channel else {
         return Value::Bytes(b"");
@@ -76,7 +76,7 @@ fn given_value<'a>(channel: Option<ChannelSeen<'a>>, given: Given) -> Value<'a>
 /// The value that a store has for a name, where there is a store.
 fn stored<'a, B>(store: Option<&'a Store<B>>, name: &[u8]) -> Option<&'a [u8]>
     ensures { option_map (λ value. value.now) result
-        ≡ first_value (sights.stored_maps store.entry) name.now }
+        ≡ first_value (sights.stored_maps (sights.behind store.entry)) name.now }
 {
     match store {
         None => None,
@@ -85,7 +85,7 @@ fn stored<'a, B>(store: Option<&'a Store<B>>, name: &[u8]) -> Option<&'a [u8]>
 }
 
 /// The value of a name, by what the channel gives and else by the variables and the globals.
-fn variable<'a, B, C>(scope: &Scope<'a, B, C>, name: &[u8]) -> Value<'a>
+pub(crate) fn variable<'a, B, C>(scope: &Scope<'a, B, C>, name: &[u8]) -> Value<'a>
     ensures { shown result ≡ value_or_empty (sights.maps_of scope.now) name.now }
 {
     if let Some(given) = given_of(name) {
@@ -99,7 +99,7 @@ fn variable<'a, B, C>(scope: &Scope<'a, B, C>, name: &[u8]) -> Value<'a>
 
 /// The value of a local of the innermost frame alone, and the empty text where there is none.
 fn local<'a, B>(store: Option<&'a Store<B>>, name: &[u8]) -> &'a [u8]
-    ensures { result.now ≡ sights.local_seen store.entry name.now }
+    ensures { result.now ≡ sights.local_seen (sights.behind store.entry) name.now }
 {
     match store {
         None => b"",
@@ -109,7 +109,7 @@ fn local<'a, B>(store: Option<&'a Store<B>>, name: &[u8]) -> &'a [u8]
 
 /// The number of the caller, where that is asked for.
 fn caller<'a>(channel: Option<ChannelSeen<'a>>, argument: &[u8]) -> &'a [u8]
-    ensures { result.now ≡ values.caller_value (sights.caller_of channel.entry) argument.now }
+    ensures { result.now ≡ values.caller_value (sights.caller_of (option_map sights.view_of channel.entry)) argument.now }
 {
     match channel {
         Some(channel) => {

@@ -1,0 +1,37 @@
+-- A text in which nothing opens a group is its own expansion.
+use Rattle.std.proofs.Common.{◌≡◌, ℕ, false, ◌||◌, List, [], ◌∷◌, Option, Some, None, refl, ap, ◌∙◌}
+use Rattle.std.specs.Option.{is_some}
+use Rattle.dp_conf.specs.declared.groups.GroupKind.{GroupKind}
+use Rattle.dp_conf.specs.Groups.{Reading, Over, Plain, opening}
+use Rattle.dp_conf.specs.GroupsRead.{Last, mark_of, with_byte, with_mark, levels, first_level, reading_of}
+use Rattle.dp_vars.specs.Openings.{has_opening}
+use Rattle.dp_vars.specs.Sights.{Sight}
+use Rattle.dp_vars.specs.Values.{expanded, expansion}
+
+-- plain bytes alone
+plain : List ℕ → Reading
+plain [] = Over
+plain (b ∷ bs) = Plain b (plain bs)
+
+-- a byte that opens nothing
+levels-byte : (b : ℕ) (bs : List ℕ) (o : Option GroupKind) → is_some o || has_opening bs ≡ false
+    → (has_opening bs ≡ false → levels bs [] 0 ≡ Last (plain bs)) → with_mark (mark_of o b) (levels bs) 1 [] ≡ Last (plain (b ∷ bs))
+unfolding plain
+levels-byte b bs None none behind = ap (with_byte b) (behind none)
+levels-byte b bs (Some kind) none behind = absurd cc
+
+-- the levels of a text in which nothing opens a group
+levels-plain : (text : List ℕ) → has_opening text ≡ false → levels text [] 0 ≡ Last (plain text)
+unfolding plain levels has_opening
+levels-plain [] none = refl
+levels-plain (b ∷ bs) none = levels-byte b bs (opening b bs) none (levels-plain bs)
+
+expanded-plain : (sight : Sight) (text : List ℕ) → expanded sight (plain text) ≡ text
+unfolding plain expanded
+expanded-plain sight [] = refl
+expanded-plain sight (b ∷ bs) = ap (λ rest. b ∷ rest) (expanded-plain sight bs)
+
+-- such a text is its own expansion
+pub expansion-same : (sight : Sight) (text : List ℕ) → has_opening text ≡ false → expansion sight text ≡ text
+unfolding reading_of
+expansion-same sight text none = ap (λ levels. expanded sight (first_level levels)) (levels-plain text none) ∙ expanded-plain sight text

@@ -1,0 +1,9 @@
+-- Texts in which nothing opens a group.
+use Rattle.std.specs.Prelude.{ℕ, Bool, false, ◌||◌, List, [], ◌∷◌}
+use Rattle.std.specs.Option.{is_some}
+use Rattle.dp_conf.specs.Groups.{opening}
+
+-- whether `${` or `$[` stands in the text
+unfoldable pub has_opening : List ℕ → Bool
+has_opening [] = false
+has_opening (byte ∷ behind) = is_some (opening byte behind) || has_opening behind

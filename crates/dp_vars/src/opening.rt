@@ -1,0 +1,30 @@
+//! Texts in which nothing opens a group.
+ghost use Rattle.std.specs.Prelude.{◌≡◌};
+ghost use Rattle.std.specs.Option.{is_some};
+ghost use Rattle.dp_conf.specs.Groups.{opening};
+ghost use Rattle.dp_vars.specs.Openings as openings;
+
+/// Whether a byte opens a group, by the bytes behind it.
+fn opens(byte: u8, behind: &[u8]) -> bool
+    ensures { result ≡ is_some (opening byte behind.now) }
+{
+    match behind.first() {
+        Some(next) if byte == b'$' => *next == b'{' || *next == b'[',
+        _ => false,
+    }
+}
+
+/// Whether `${` or `$[` stands in the text.
+#[tactic(auto, unfolding(crate::specs::Openings::has_opening))]
+pub(crate) fn has_opening(text: &[u8]) -> bool
+    ensures { result ≡ openings.has_opening text.now }
+{
+    let mut left = text;
+    while let Some((first, behind)) = left.split_first() {
+        if opens(*first, behind) {
+            return true;
+        }
+        left = behind;
+    }
+    false
+}
