@@ -9,24 +9,28 @@ use Rattle.dp_machine.specs.declared.channel.Phase.{Phase}
 use Rattle.dp_machine.specs.declared.channel.Phase.TheVariants.{Ready as phase_ready, Ended as phase_ended}
 use Rattle.dp_machine.specs.declared.event.Event.{Event}
 use Rattle.dp_machine.specs.declared.event.Event.TheVariants.{Start, Step}
+use Rattle.dp_machine.specs.declared.shared.Shared.{Shared}
 
 not_so : (b : Bool) → not b ≡ true → b ≡ false
 not_so true e = absurd cc
 not_so false e = refl
 
 -- a step that looks for its entry is not refused
-step_at-taken : (plan : PlanOf) (c : Channel) (found : Option Located) → is_refused (step_at plan c found).reply ≡ false
-step_at-taken plan c None = refl
-step_at-taken plan c (Some found) = refl
+step_at-taken : (plan : PlanOf) (shared : Shared) (number : ℕ) (c : Channel) (found : Option Located)
+    → is_refused (step_at plan shared number c found).reply ≡ false
+step_at-taken plan shared number c None = refl
+step_at-taken plan shared number c (Some found) = refl
 
-step_in-taken : (phase : Phase) (plan : PlanOf) (c : Channel) → needs_memory_in phase plan c ≡ true → is_refused (step_in phase plan c).reply ≡ false
-step_in-taken phase_ready plan c e = step_at-taken plan c (entry_found plan c.place)
-step_in-taken phase_ended plan c e = absurd cc
+step_in-taken : (phase : Phase) (plan : PlanOf) (shared : Shared) (number : ℕ) (c : Channel) → needs_memory_in phase plan c ≡ true
+    → is_refused (step_in phase plan shared number c).reply ≡ false
+step_in-taken phase_ready plan shared number c e = step_at-taken plan shared number c (entry_found plan c.place)
+step_in-taken phase_ended plan shared number c e = absurd cc
 
-own_event-taken : (w : World) (number : ℕ) (o : Option Channel) → needs_memory_by w.plan o ≡ true → is_refused (own_event w number step_row o).1 ≡ false
+own_event-taken : (w : World) (number : ℕ) (o : Option Channel) → needs_memory_by w.plan o ≡ true
+    → is_refused (own_event w number step_row o).1 ≡ false
 unfolding step_row
 own_event-taken w number None e = absurd cc
-own_event-taken w number (Some c) e = step_in-taken c.phase w.plan c e
+own_event-taken w number (Some c) e = step_in-taken c.phase w.plan w.shared number c e
 
 event_row-taken : (w : World) (event : Event) → needs_memory w event ≡ true → is_refused (event_row w event).1 ≡ false
 event_row-taken w (Start context exten caller) e = not_so (is_refused (event_row w (Start context exten caller)).1) e

@@ -1,24 +1,27 @@
--- The world of a machine: the dialplan and the channels.
+-- The world of a machine: the dialplan, the channels, and what all channels share.
 use Rattle.std.specs.Prelude.{ℕ, ◌-◌, ◌==◌, List, [], Option, None, slice_get, slice_set, if◌then◌else◌}
 use Rattle.dp_plan.specs.Plan.{PlanOf}
+use Rattle.dp_machine.specs.Seen.{globals_of, value_seen}
 use Rattle.dp_machine.specs.declared.channel.Channel.{Channel}
+use Rattle.dp_machine.specs.declared.shared.Shared.{Shared}
 
--- the dialplan in force, and the channels by their numbers, the first of which is 1
+-- the dialplan in force, the channels by their numbers, the first of which is 1, and what they share
 pub record World : Type 0 where
   pub plan : PlanOf
   pub channels : List Channel
+  pub shared : Shared
 
 -- how many channels a world has at most
 abbrev pub most_channels : ℕ
 most_channels = 65535
 
--- the world of a dialplan and its channels
-abbrev pub world_of : PlanOf → List Channel → World
-world_of plan channels = record { plan = plan; channels = channels }
+-- the world of a dialplan, its channels and what they share
+abbrev pub world_of : PlanOf → List Channel → Shared → World
+world_of plan channels shared = record { plan = plan; channels = channels; shared = shared }
 
--- the world in which no call has come
+-- the world in which no call has come: the globals are expanded
 abbrev pub opening : PlanOf → World
-opening plan = world_of plan []
+opening plan = world_of plan [] (record { globals = globals_of plan.globals })
 
 -- the channel of a number
 abbrev pub channel_at : List Channel → ℕ → Option Channel
@@ -27,3 +30,7 @@ channel_at channels number = if number == 0 then None else slice_get channels (n
 -- the channels with the one of a number changed
 abbrev pub with_channel : List Channel → ℕ → Channel → List Channel
 with_channel channels number channel = slice_set channels (number - 1) channel
+
+-- the value of a name in the channel of a number; empty where there is none
+abbrev pub value_in : World → ℕ → List ℕ → List ℕ
+value_in w number name = value_seen w.shared number (channel_at w.channels number) name

@@ -2,6 +2,7 @@
 ghost use Rattle.std.specs.Prelude.{◌≡◌, IfOk};
 
 use dp_plan::{NoMemory, Text};
+use dp_vars::Store;
 
 /// Where a channel stands: a context, an extension as it was dialled, and a priority. The priority may be one above the
 /// greatest of an entry, where no entry can be.
@@ -35,10 +36,12 @@ pub enum Phase {
     Ended,
 }
 
-/// A channel, with the number of its caller. Channels are numbered from 1 in the order of their starts.
-#[derive(Debug, PartialEq, Eq, Drop)]
+/// A channel, with the number of its caller, its variables and its frames, each of which goes back to a place. Channels
+/// are numbered from 1 in the order of their starts.
+#[derive(Drop)]
 pub struct Channel {
     pub place: Place,
     pub phase: Phase,
     pub caller: Text,
+    pub store: Store<Place>,
 }

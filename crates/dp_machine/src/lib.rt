@@ -6,8 +6,11 @@ mod channel;
 mod event;
 mod lookup;
 mod machine;
+mod queues;
 mod refusal;
 mod reply;
+mod seen;
+mod shared;
 mod step;
 
 pub use channel::{Channel, Phase, Place};

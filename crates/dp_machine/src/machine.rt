@@ -10,32 +10,40 @@ use crate::channel::{Channel, Phase, Place};
 use crate::event::Event;
 use crate::refusal::Refusal;
 use crate::reply::Reply;
+use crate::seen::channel_value;
+use crate::shared::{Shared, expand_globals};
 use crate::step::step_channel;
 use dp_lookup::SearchOrder;
 use dp_plan::{Dialplan, NoMemory, Text};
+use dp_vars::Store;
 use std::alloc::Global;
 use std::marker::Model;
 
 /// How many channels a machine has at most.
 pub const MOST_CHANNELS: usize = 65_535;
 
-/// A machine with its dialplan and its channels. A contract sees it as its world.
-#[derive(Debug, Drop)]
+/// A machine with its dialplan, its channels and what they share. A contract sees it as its world.
+#[derive(Drop)]
 pub struct Machine {
     plan: Dialplan,
     // Look-ups search in it and take no memory.
     order: SearchOrder,
     channels: Vec<Channel>,
+    shared: Shared,
 }
 
 impl Model for Machine {
     ghost use Rattle.std.specs.Prelude.{◌≤◌, length};
     ghost use Rattle.dp_lookup.specs.SearchOrder.{context_count};
-    ghost use Rattle.dp_machine.specs.World.{World, most_channels};
+    ghost use Rattle.std.specs.Coded.{codes};
+    ghost use Rattle.dp_vars.specs.Variables.{named_code};
+    ghost use Rattle.dp_machine.specs.World.{World, most_channels, world_of};
 
     ghost Value = { World };
 
-    ghost view = { λ machine. record { plan = machine.plan; channels = machine.channels.items } };
+    ghost coded = { Prim.hlevel (codes, named_code) };
+
+    ghost view = { λ machine. world_of machine.plan machine.channels.items machine.shared };
 
     ghost invariant = { λ machine.
         (length machine.channels.items ≤ most_channels) × (context_count machine.plan ≤ machine.order.room) };
@@ -61,18 +69,18 @@ fn channel_at(channels: &[Channel], number: u32) -> Option<&Channel>
 /// A call comes in. The event is refused where all numbers of channels were given, and then takes no memory.
 #[tactic(auto, unfolding(crate::specs::Events::started))]
 fn start(
-    plan: &Dialplan,
+    alloc: Global,
     channels: &mut Vec<Channel>,
     context: Text,
     exten: Text,
     caller: Text,
 ) -> Result<Reply, NoMemory>
     requires { length channels.old.items ≤ worlds.most_channels }
-    ensures ok { IfOk result (λ reply. spec.started (worlds.world_of plan.now channels.old.items) context exten caller
-        ≡ (worlds.world_of plan.now channels.new.items, reply)) }
+    ensures ok { IfOk result (λ reply. spec.started channels.old.items context exten caller
+        ≡ record { channels = channels.new.items; reply = reply }) }
     ensures bound { length channels.new.items ≤ worlds.most_channels }
     ensures err { OnErr result (channels.new.items ≡ channels.old.items) }
-    ensures memory { OnErr result (spec.is_refused (spec.started (worlds.world_of plan.now channels.old.items) context exten caller).1 ≡ false) }
+    ensures memory { OnErr result (spec.is_refused (spec.started channels.old.items context exten caller).reply ≡ false) }
 {
     let count = channels.len();
     if count >= MOST_CHANNELS {
@@ -87,22 +95,24 @@ fn start(
         place,
         phase: Phase::Ready,
         caller,
+        store: Store::new(alloc),
     })?;
     Ok(Reply::Started(count as u32 + 1))
 }
 
-/// A channel takes its step. Only one that runs `Goto` takes memory.
+/// The channel of a number takes its step.
 fn step(
     alloc: Global,
     plan: &Dialplan,
     order: &mut SearchOrder,
     channels: &mut Vec<Channel>,
+    shared: &Shared,
     number: u32,
 ) -> Result<Reply, NoMemory>
     requires { context_count plan.now ≤ order.old.room }
     ensures room { order.new.room ≡ order.old.room }
-    ensures ok { IfOk result (λ reply. spec.own_event (worlds.world_of plan.now channels.old.items) number spec.step_row (worlds.channel_at channels.old.items number)
-        ≡ (worlds.world_of plan.now channels.new.items, reply)) }
+    ensures ok { IfOk result (λ reply. spec.own_event (worlds.world_of plan.now channels.old.items shared.now) number spec.step_row
+        (worlds.channel_at channels.old.items number) ≡ (worlds.world_of plan.now channels.new.items shared.now, reply)) }
     ensures len { length channels.new.items ≡ length channels.old.items }
     ensures err { OnErr result (channels.new.items ≡ channels.old.items) }
     ensures memory { OnErr result (spec.needs_memory_by plan.now (worlds.channel_at channels.old.items number) ≡ true) }
@@ -111,7 +121,7 @@ fn step(
         return Ok(Reply::Refused(Refusal::NoChannel));
     };
     let channel = &mut channels[index];
-    step_channel(alloc, plan, order, channel)
+    step_channel(alloc, plan, order, shared, number, channel)
 }
 
 /// Applies one event to the parts of a machine.
@@ -120,42 +130,47 @@ fn apply_to(
     plan: &Dialplan,
     order: &mut SearchOrder,
     channels: &mut Vec<Channel>,
+    shared: &Shared,
     event: Event,
 ) -> Result<Reply, NoMemory>
     requires channels { length channels.old.items ≤ worlds.most_channels }
     requires room { context_count plan.now ≤ order.old.room }
     ensures room { order.new.room ≡ order.old.room }
-    ensures ok { IfOk result (λ reply. spec.event_row (worlds.world_of plan.now channels.old.items) event
-        ≡ (worlds.world_of plan.now channels.new.items, reply)) }
+    ensures ok { IfOk result (λ reply. spec.event_row (worlds.world_of plan.now channels.old.items shared.now) event
+        ≡ (worlds.world_of plan.now channels.new.items shared.now, reply)) }
     ensures bound { length channels.new.items ≤ worlds.most_channels }
     ensures err { OnErr result (channels.new.items ≡ channels.old.items) }
-    ensures memory { OnErr result (spec.needs_memory (worlds.world_of plan.now channels.old.items) event ≡ true) }
+    ensures memory { OnErr result (spec.needs_memory (worlds.world_of plan.now channels.old.items shared.now) event ≡ true) }
 {
     match event {
         Event::Start {
             context,
             exten,
             caller,
-        } => start(plan, channels, context, exten, caller),
-        Event::Step { channel } => step(alloc, plan, order, channels, channel),
+        } => start(alloc, channels, context, exten, caller),
+        Event::Step { channel } => step(alloc, plan, order, channels, shared, channel),
     }
 }
 
 impl Machine {
-    /// A machine with this dialplan, in which no call has come.
+    /// A machine with this dialplan, in which no call has come. The globals are expanded in the order of the file; there
+    /// is no channel then, and what a channel would give is empty (a choice of this program).
     pub fn new(alloc: Global, plan: Dialplan) -> Result<Self, NoMemory>
         ensures { IfOk result (λ machine. machine ≡ worlds.opening plan) }
     {
         let order = SearchOrder::room(alloc, &plan)?;
+        let globals = expand_globals(alloc, plan.globals())?;
         Ok(Machine {
             plan,
             order,
             channels: Vec::new(alloc),
+            shared: Shared { globals },
         })
     }
 
-    /// Applies one event, and gives the reply. A refused event changes nothing. A call that comes in and a step that runs
-    /// `Goto` take memory, and nothing else does; where memory is refused the machine is as before.
+    /// Applies one event, and gives the reply. A refused event changes nothing. A call that comes in takes memory, and a
+    /// step that runs `Goto` or has arguments with `${` or `$[` in them, and nothing else does; where memory is refused
+    /// the machine is as before.
     pub fn apply(&mut self, alloc: Global, event: Event) -> Result<Reply, NoMemory>
         ensures ok { IfOk result (λ reply. spec.event_row self.old event ≡ (self.new, reply)) }
         ensures err { OnErr result (self.new ≡ self.old) }
@@ -163,7 +178,15 @@ impl Machine {
         ensures refused { OnErr result (spec.is_refused (spec.event_row self.old event).1 ≡ false) }
     {
         let plan = &self.plan;
-        apply_to(alloc, plan, &mut self.order, &mut self.channels, event)
+        let shared = &self.shared;
+        apply_to(
+            alloc,
+            plan,
+            &mut self.order,
+            &mut self.channels,
+            shared,
+            event,
+        )
     }
 
     /// Applies the events one after another, and adds the reply to each at the end of the replies. Where memory is
@@ -201,6 +224,21 @@ impl Machine {
     {
         let channel = channel_at(&self.channels, number)?;
         Some(&channel.place)
+    }
+
+    /// The value of a name in the channel of this number, as `${NAME}` there reads it: what the channel gives by the names
+    /// `EXTEN`, `CONTEXT`, `PRIORITY` and `CHANNEL`, else the local of the innermost frame that has the name as one, else
+    /// the channel's variable, else the global. It is the empty text where nothing of these has the name, and where no
+    /// channel has the number. A channel that has ended has its values still.
+    ///
+    /// The error comes only where a growth was refused.
+    pub fn value(&self, alloc: Global, channel: u32, name: &[u8]) -> Result<Vec<u8>, NoMemory>
+        ensures { IfOk result (λ value. value.items ≡ worlds.value_in self.now channel name.now) }
+    {
+        match channel_at(&self.channels, channel) {
+            Some(found) => channel_value(alloc, &self.shared, channel, found, name),
+            None => Ok(Vec::new(alloc)),
+        }
     }
 
     /// The dialplan in force.

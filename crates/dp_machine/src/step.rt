@@ -1,8 +1,9 @@
 //! The step of a channel.
 ghost use Rattle.std.specs.Prelude.{◌≡◌, ◌+◌, ◌^◌, ◌<◌, ◌≤◌, IfOk, OnErr, Some, true};
-ghost use Rattle.dp_machine.specs.Applications.{makes_texts};
+ghost use Rattle.dp_machine.specs.Applications.{row_of};
 ghost use Rattle.dp_machine.specs.Events as spec;
 ghost use Rattle.dp_machine.specs.Found.{entry_found};
+ghost use Rattle.dp_machine.specs.Seen.{arguments_seen};
 ghost use Rattle.dp_lookup.specs.SearchOrder.{context_count};
 
 use crate::application::{Move, Target, Wanted, dispatch};
@@ -10,8 +11,10 @@ use crate::channel::{Channel, Phase, Place};
 use crate::lookup::{Found, find, find_label};
 use crate::refusal::Refusal;
 use crate::reply::Reply;
+use crate::seen::expand_arguments;
+use crate::shared::Shared;
 use dp_lookup::SearchOrder;
-use dp_plan::{Dialplan, NoMemory};
+use dp_plan::{Dialplan, Entry, NoMemory};
 use std::alloc::Global;
 
 /// The priority that a target asks for, in the dialplan.
@@ -63,28 +66,42 @@ fn go(plan: &Dialplan, order: &mut SearchOrder, channel: &mut Channel, going: Op
     }
 }
 
+/// Where the channel of this number goes behind the application of an entry, whose arguments are expanded first.
+fn move_of(
+    alloc: Global,
+    shared: &Shared,
+    number: u32,
+    channel: &Channel,
+    entry: &Entry,
+) -> Result<Option<Move>, NoMemory>
+    ensures ok { IfOk result (λ going. going
+        ≡ row_of entry.now.application (arguments_seen shared.now number channel.now entry.now.arguments) channel.now.place) }
+    ensures memory { OnErr result (spec.entry_needs_memory entry.now ≡ true) }
+{
+    let arguments = expand_arguments(alloc, shared, number, channel, entry.arguments.bytes())?;
+    let going = dispatch(alloc, entry.application.bytes(), &arguments, &channel.place)?;
+    Ok(going)
+}
+
 /// Runs the entry that stands where the channel stands.
 fn run_entry(
     alloc: Global,
     plan: &Dialplan,
     order: &mut SearchOrder,
+    shared: &Shared,
+    number: u32,
     channel: &mut Channel,
     found: Found<'_>,
 ) -> Result<Reply, NoMemory>
     requires priority { channel.old.place.priority + 1 < 2 ^ 32 }
     requires room { context_count plan.now ≤ order.old.room }
     ensures room { order.new.room ≡ order.old.room }
-    ensures ok { IfOk result (λ reply. spec.step_at plan.now channel.old (Some (record { id = found.entry.id; entry = found.entry.entry.now }))
-        ≡ record { channel = channel.new; reply = reply }) }
+    ensures ok { IfOk result (λ reply. spec.step_at plan.now shared.now number channel.old (Some (record { id = found.entry.id; entry = found.entry.entry.now }))
+        ≡ record { channel = channel.new; shared = shared.now; reply = reply }) }
     ensures err { OnErr result (channel.new ≡ channel.old) }
-    ensures memory { OnErr result (makes_texts found.entry.entry.now.application ≡ true) }
+    ensures memory { OnErr result (spec.entry_needs_memory found.entry.entry.now ≡ true) }
 {
-    let going = dispatch(
-        alloc,
-        found.entry.application.bytes(),
-        found.entry.arguments.bytes(),
-        &channel.place,
-    )?;
+    let going = move_of(alloc, shared, number, channel, found.entry)?;
     go(plan, order, channel, going);
     Ok(Reply::Ran(found.id))
 }
@@ -94,11 +111,14 @@ fn step_ready(
     alloc: Global,
     plan: &Dialplan,
     order: &mut SearchOrder,
+    shared: &Shared,
+    number: u32,
     channel: &mut Channel,
 ) -> Result<Reply, NoMemory>
     requires { context_count plan.now ≤ order.old.room }
     ensures room { order.new.room ≡ order.old.room }
-    ensures ok { IfOk result (λ reply. spec.step_at plan.now channel.old (entry_found plan.now channel.old.place) ≡ record { channel = channel.new; reply = reply }) }
+    ensures ok { IfOk result (λ reply. spec.step_at plan.now shared.now number channel.old (entry_found plan.now channel.old.place)
+        ≡ record { channel = channel.new; shared = shared.now; reply = reply }) }
     ensures err { OnErr result (channel.new ≡ channel.old) }
     ensures memory { OnErr result (spec.needs_memory_at (entry_found plan.now channel.old.place) ≡ true) }
 {
@@ -106,7 +126,7 @@ fn step_ready(
         Some(found) => {
             // The entry's priority is the channel's, so that one more is a number too.
             let _ = found.entry.priority.get();
-            run_entry(alloc, plan, order, channel, found)
+            run_entry(alloc, plan, order, shared, number, channel, found)
         }
         None => {
             channel.phase = Phase::Ended;
@@ -115,22 +135,25 @@ fn step_ready(
     }
 }
 
-/// A step of a channel. Only one that runs `Goto` takes memory.
+/// A step of the channel of this number. Only one that runs `Goto`, or has arguments in which something opens a group,
+/// takes memory.
 #[tactic(auto, unfolding(crate::specs::Events::step_row))]
 pub(crate) fn step_channel(
     alloc: Global,
     plan: &Dialplan,
     order: &mut SearchOrder,
+    shared: &Shared,
+    number: u32,
     channel: &mut Channel,
 ) -> Result<Reply, NoMemory>
     requires { context_count plan.now ≤ order.old.room }
     ensures room { order.new.room ≡ order.old.room }
-    ensures ok { IfOk result (λ reply. spec.step_row plan.now channel.old ≡ record { channel = channel.new; reply = reply }) }
+    ensures ok { IfOk result (λ reply. spec.step_row plan.now shared.now number channel.old ≡ record { channel = channel.new; shared = shared.now; reply = reply }) }
     ensures err { OnErr result (channel.new ≡ channel.old) }
     ensures memory { OnErr result (spec.needs_memory_by plan.now (Some channel.old) ≡ true) }
 {
     match channel.phase {
-        Phase::Ready => step_ready(alloc, plan, order, channel),
+        Phase::Ready => step_ready(alloc, plan, order, shared, number, channel),
         Phase::Ended => Ok(Reply::Refused(Refusal::Ended)),
     }
 }

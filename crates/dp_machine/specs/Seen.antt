@@ -1,0 +1,57 @@
+-- What the texts of a channel see, and what the values of the globals see.
+use Rattle.std.specs.Prelude.{ℕ, List, [], Option, Some, None, fold}
+use Rattle.std.specs.FinMap.{empty, insert}
+use Rattle.dp_plan.specs.declared.plan.GlobalVariable.{GlobalVariable}
+use Rattle.dp_vars.specs.Sights.{ChannelView, Sight, maps_by, sight_by}
+use Rattle.dp_vars.specs.Values.{expansion}
+use Rattle.dp_vars.specs.Variables.{Named, value_or_empty}
+use Rattle.dp_machine.specs.declared.channel.Channel.{Channel}
+use Rattle.dp_machine.specs.declared.channel.Place.{Place}
+use Rattle.dp_machine.specs.declared.shared.Shared.{Shared}
+
+-- nobody waits in any queue
+abbrev pub none_waiting : List ℕ → ℕ
+none_waiting queue = 0
+
+-- what the channel of a number gives to its texts
+abbrev pub view_in : ℕ → Channel → ChannelView
+view_in number c = record {
+  number = number;
+  context = c.place.context;
+  extension = c.place.exten;
+  priority = c.place.priority;
+  caller = c.caller;
+}
+
+-- the maps in which a name is searched for the channel of a number
+abbrev pub maps_in : Shared → ℕ → Channel → List Named
+maps_in shared number c = maps_by (Some (view_in number c)) (Some c.store) shared.globals
+
+-- what the texts of the channel of a number see: its place and caller, its variables and frames, and the globals
+abbrev pub sight_in : Shared → ℕ → Channel → Sight
+sight_in shared number c = sight_by none_waiting (Some (view_in number c)) (Some c.store) shared.globals
+
+-- arguments, expanded in what the channel of a number sees
+unfoldable pub arguments_seen : Shared → ℕ → Channel → List ℕ → List ℕ
+arguments_seen shared number c arguments = expansion (sight_in shared number c) arguments
+
+-- the value of a name in the channel of a number; empty where there is no channel
+abbrev pub value_seen : Shared → ℕ → Option Channel → List ℕ → List ℕ
+value_seen shared number None name = []
+value_seen shared number (Some c) name = value_or_empty (maps_in shared number c) name
+
+-- what the value of a global sees: the globals before it, and no channel
+abbrev pub sight_of_globals : Named → Sight
+sight_of_globals globals = sight_by {B = Place} none_waiting None None globals
+
+-- the value of a global that is written so
+unfoldable pub global_value : Named → List ℕ → List ℕ
+global_value globals value = expansion (sight_of_globals globals) value
+
+-- the globals with one more
+abbrev pub with_global : Named → GlobalVariable → Named
+with_global globals variable = insert globals variable.name (global_value globals variable.value)
+
+-- the globals of a dialplan, expanded one after another; of two of one name the later stands
+unfoldable pub globals_of : List GlobalVariable → Named
+globals_of variables = fold with_global empty variables

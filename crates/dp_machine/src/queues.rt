@@ -1,0 +1,17 @@
+//! Queues, of which a machine has none.
+ghost use Rattle.std.specs.Prelude.{◌≡◌, ℕ, List};
+ghost use Rattle.dp_machine.specs.Seen as seen;
+
+use dp_vars::Counts;
+
+/// No queues: nobody waits in any.
+#[derive(Clone, Copy, Debug)]
+pub(crate) struct NoQueues;
+
+impl Counts for NoQueues {
+    ghost count = { λ _. seen.none_waiting };
+
+    fn waiting(&self, _queue: &[u8]) -> usize {
+        0
+    }
+}

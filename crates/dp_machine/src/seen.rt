@@ -1,0 +1,72 @@
+//! What the texts of a channel see.
+ghost use Rattle.std.specs.Prelude.{◌≡◌, [], IfOk, OnErr, true, Some};
+ghost use Rattle.std.specs.Cow.{cow_slice_items};
+ghost use Rattle.dp_vars.specs.Openings.{has_opening};
+ghost use Rattle.dp_vars.specs.Sights.{maps_of, sight_of};
+ghost use Rattle.dp_machine.specs.Seen as spec;
+
+use crate::channel::{Channel, Place};
+use crate::queues::NoQueues;
+use crate::shared::Shared;
+use dp_plan::NoMemory;
+use dp_vars::{ChannelSeen, Scope, expand_bytes, value_of};
+use std::alloc::Global;
+use std::borrow::CowSlice;
+
+/// What the texts of the channel of this number see.
+fn scope_of<'a>(
+    shared: &'a Shared,
+    queues: &'a NoQueues,
+    number: u32,
+    channel: &'a Channel,
+) -> Scope<'a, Place, NoQueues>
+    ensures sight { sight_of (λ _. spec.none_waiting) result ≡ spec.sight_in shared.now number channel.now }
+    ensures maps { maps_of result ≡ spec.maps_in shared.now number channel.now }
+{
+    Scope {
+        channel: Some(ChannelSeen {
+            number,
+            context: channel.place.context.bytes(),
+            extension: channel.place.exten.bytes(),
+            priority: channel.place.priority,
+            caller: channel.caller.bytes(),
+        }),
+        store: Some(&channel.store),
+        globals: &shared.globals,
+        counts: queues,
+    }
+}
+
+/// The arguments of an entry, expanded in what the channel of this number sees. Where nothing opens a group in them
+/// they are given as they are, which takes no memory.
+#[tactic(auto, unfolding(crate::specs::Seen::arguments_seen))]
+pub(crate) fn expand_arguments<'a>(
+    alloc: Global,
+    shared: &Shared,
+    number: u32,
+    channel: &Channel,
+    arguments: &'a [u8],
+) -> Result<CowSlice<'a, u8>, NoMemory>
+    ensures ok { IfOk result (λ bytes. cow_slice_items bytes ≡ spec.arguments_seen shared.now number channel.now arguments.now) }
+    ensures memory { OnErr result (has_opening arguments.now ≡ true) }
+{
+    let queues = NoQueues;
+    let scope = scope_of(shared, &queues, number, channel);
+    let bytes = expand_bytes(alloc, arguments, &scope)?;
+    Ok(bytes)
+}
+
+/// The value of a name in the channel of this number.
+pub(crate) fn channel_value(
+    alloc: Global,
+    shared: &Shared,
+    number: u32,
+    channel: &Channel,
+    name: &[u8],
+) -> Result<Vec<u8>, NoMemory>
+    ensures { IfOk result (λ value. value.items ≡ spec.value_seen shared.now number (Some channel.now) name.now) }
+{
+    let queues = NoQueues;
+    let scope = scope_of(shared, &queues, number, channel);
+    value_of(alloc, &scope, name)
+}
