@@ -4,3 +4,4 @@ mod machines;
 mod plans;
 mod render;
 mod rows;
+mod variables;
