@@ -1,4 +1,1 @@
 mod CommandLineRows
-mod JoinedLemmas
-mod ScriptLemmas
-mod StreamsLemmas

@@ -6,7 +6,7 @@ use Rattle.std.specs.declared.alloc.Global.{Global}
 use Rattle.clap.specs.Simple.{App, new_app, new_rule, with_rule, with_subcommand, subcommand_of}
 use Rattle.clap.specs.Walk.{Row, Rule, first_of}
 use Rattle.dp_conf.specs.Words.{same_text}
-use Rattle.pbx.specs.Script.{number_within}
+use Rattle.dp_commands.specs.Script.{number_within}
 use Rattle.pbx.specs.declared.command_line.Request.{Request}
 use Rattle.pbx.specs.declared.command_line.Request.TheVariants.{Joined, Check, Listing, Match, Run}
 

@@ -3,14 +3,14 @@ use Rattle.std.specs.Prelude.{◌≡◌, ◌⊎◌, ℕ, Bool, true, false, List
 use Rattle.std.specs.Io.KnownBytes.{Appends}
 use Rattle.dp_conf.specs.Answers.{◌>>=◌}
 use Rattle.dp_conf.specs.Whole.{most_bytes}
-use Rattle.pbx.specs.Joined.{joined_plan, joined_script}
-use Rattle.pbx.specs.Report.{Reports, check_of, list_of, match_of}
-use Rattle.pbx.specs.Run.{Writes, run_of}
+use Rattle.dp_commands.specs.Joined.{joined_plan, joined_script}
+use Rattle.dp_commands.specs.Report.{Reports, check_of, list_of, match_of}
+use Rattle.dp_commands.specs.Run.{Writes, run_of}
 use Rattle.pbx.specs.declared.command_line.Request.{Request}
 use Rattle.pbx.specs.declared.command_line.Request.TheVariants.{Joined, Check, Listing, Match, Run as run_request}
-use Rattle.pbx.specs.declared.fault.Code.TheVariants.{Line, Name, Plan, ReadFailed, TooLong, WriteFailed, BadScript}
-use Rattle.pbx.specs.declared.fault.PbxFault.{PbxFault}
-use Rattle.pbx.specs.declared.fault.PbxFault.TheVariants.{Coded, NoMemory}
+use Rattle.dp_commands.specs.declared.fault.Code.TheVariants.{Line, Name, Plan, ReadFailed, TooLong, WriteFailed, BadScript}
+use Rattle.dp_commands.specs.declared.fault.PbxFault.{PbxFault}
+use Rattle.dp_commands.specs.declared.fault.PbxFault.TheVariants.{Coded, NoMemory}
 
 -- all bytes of a file, where it has no more than a file may have
 abbrev pub whole_text : List ℕ → Result (List ℕ) PbxFault

@@ -1,11 +1,3 @@
-pub mod Codes
 pub mod CommandLine
-pub mod Faults
 pub mod Files
-pub mod Joined
-pub mod Report
-pub mod Run
-pub mod Script
 pub mod Status
-pub mod Stops
-pub mod Trace

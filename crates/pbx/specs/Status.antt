@@ -3,8 +3,8 @@ use Rattle.std.specs.Prelude.{ℕ, List, [], Option, Result, Ok, Err}
 use Rattle.std.specs.Io.KnownBytes.{Appends}
 use Rattle.clap.specs.declared.error.kind.ErrorKind.{ErrorKind}
 use Rattle.clap.specs.declared.error.kind.ErrorKind.TheVariants as kind
-use Rattle.pbx.specs.Codes.{fault_line}
-use Rattle.pbx.specs.declared.fault.PbxFault.{PbxFault}
+use Rattle.dp_commands.specs.Codes.{fault_line}
+use Rattle.dp_commands.specs.declared.fault.PbxFault.{PbxFault}
 
 -- the status of what was answered: that of an answer, and 1 of a fault
 abbrev pub status_after : Result ℕ PbxFault → ℕ

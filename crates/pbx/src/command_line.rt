@@ -11,9 +11,9 @@ ghost use Rattle.clap.specs.declared.builder.command.Command.TheViews.{out-Comma
 ghost use Rattle.clap.specs.declared.error.kind.ErrorKind.TheVariants.{OutOfMemory};
 ghost use Rattle.pbx.specs.CommandLine as spec;
 
-use crate::script::number_within;
 use clap::error::ErrorKind;
 use clap::{Arg, ArgMatches, Command, Error};
+use dp_commands::number_within;
 use dp_plan::{MOST_PRIORITY, NoMemory, Priority};
 use std::alloc::Global;
 

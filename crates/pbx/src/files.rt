@@ -1,10 +1,10 @@
 //! Files, read whole.
 ghost use Rattle.std.specs.Prelude.{◌≡◌, ℕ, List, Option, Some, None, IfErr, IfSome, true, false};
 ghost use Rattle.dp_conf.specs.Answers.{Answers};
-ghost use Rattle.pbx.specs.Faults.{is_write_fault};
+ghost use Rattle.dp_commands.specs.Faults.{is_write_fault};
 ghost use Rattle.pbx.specs.Files.{length_reason, whole_text, is_read_fault};
 
-use crate::fault::{Code, PbxFault};
+use dp_commands::{Code, PbxFault};
 use dp_conf::{Told, read_whole};
 use std::alloc::Global;
 use std::io::Read;

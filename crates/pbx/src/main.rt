@@ -2,19 +2,13 @@
 #![tactic(auto)]
 
 mod command_line;
-mod fault;
 mod files;
-mod joined;
 mod program;
-mod report;
-mod run;
-mod script;
 #[cfg(test)]
 mod tests;
-mod trace;
 
+pub use dp_commands::{Code, PbxFault, check, list_plan, match_one, run_joined, run_script};
 use dp_conf::Told;
-use fault::PbxFault;
 use program::{answer, print_fault};
 use std::io::ErrorKind;
 use std::process::ExitCode;

@@ -1,13 +1,4 @@
-mod codes;
 mod commands;
-mod faulty;
 mod folder;
-mod joined;
 mod large;
-mod lookups;
 mod mistakes;
-mod render;
-mod reports;
-mod rows;
-mod scripts;
-mod writers;

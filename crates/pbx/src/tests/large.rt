@@ -1,8 +1,7 @@
 //! Texts that are larger than sixteen bits count, and words that are larger than eight do.
-use crate::tests::folder::{Line, Row, check_words, make_folder};
+use crate::tests::folder::{check_line, check_table, make_folder, write_file};
 use dp_plan::NoMemory;
 use std::alloc::Global;
-use std::env::Env;
 use std::process::Abort;
 use std::rt::Files;
 use std::test::Fail;
@@ -26,84 +25,35 @@ fn contexts(alloc: Global, count: u32) -> Result<String, NoMemory> {
     Ok(all)
 }
 
-/// Writes a file of the folder.
-fn write_text<R: Files + AllocGlobal>(
-    rt: &R,
-    folder: &str,
-    name: &str,
-    text: &str,
-) -> Result<(), Fail> {
-    let path = format!(in rt.alloc(); "{folder}/{name}")?;
-    fs::write(rt, path.as_str(), text.as_bytes())?;
-    Ok(())
-}
-
-/// Asserts all that some command lines print, in a folder of their own with two more files, `plan` and `script`.
-fn check_large<R: Files + Env + Abort + AllocGlobal>(
-    rt: &R,
-    name: &str,
-    number: u32,
-    files: (&str, &str),
-    lines: &[Line<'_>],
-) -> Result<(), Fail> {
-    let folder = make_folder(rt, name, number)?;
-    write_text(rt, &folder, "plan", files.0)?;
-    write_text(rt, &folder, "script", files.1)?;
-    for line in lines {
-        check_words(rt, &folder, b"", line)?;
-    }
-    fs::remove_dir_all(rt, folder.as_str())?;
-    Ok(())
-}
-
 /// A fault in the line 70,002.
-const TALL: [Row; 4] = [
-    (&["check", "@plan"], "", "fault 4 NoEquals line 70002\n", 1),
-    (
-        &["match", "@plan", "main", "s"],
-        "",
-        "fault 4 NoEquals line 70002\n",
-        1,
-    ),
-    (
-        &["run", "@plan", "@script"],
-        "",
-        "fault 4 NoEquals line 70002\n",
-        1,
-    ),
-    (
-        &["run", "@first", "@script"],
-        "",
-        "fault 70 BadScript line 70002\n",
-        1,
-    ),
-];
+const TALL: &str = "\
+check @tall→1→→fault 4 NoEquals line 70002¶
+match @tall main s→1→→fault 4 NoEquals line 70002¶
+run @tall @tall.script→1→→fault 4 NoEquals line 70002¶
+run @first @tall.script→1→→fault 70 BadScript line 70002¶
+";
 
 /// Files of more than 70,000 bytes, which are read to their ends.
-#[test]
-fn the_line_of_a_fault_is_large(rt: HostRuntime) -> Result<(), Fail> {
+fn check_tall<R: Files + Abort + AllocGlobal>(rt: &R, folder: &str) -> Result<(), Fail> {
     let mut plan = repeated(rt.alloc(), "\n", 70_000)?;
     plan.push_str("[main]\nabc\n")?;
     let mut script = repeated(rt.alloc(), "\n", 70_000)?;
     script.push_str("step 1\njump\n")?;
-    let number = process::id(rt.process());
-    check_large(&rt, "tall", number, (&plan, &script), &TALL)
+    write_file(rt, folder, "tall", plan.as_bytes())?;
+    write_file(rt, folder, "tall.script", script.as_bytes())?;
+    check_table(rt, folder, TALL)
 }
 
-/// As many contexts as entries.
-const MANY: [Row; 1] = [(
-    &["check", "@plan"],
-    "ok 65600 contexts 65600 entries\n",
-    "",
-    0,
-)];
-
 /// 65,600 contexts and entries, in 131,200 lines.
-#[test]
-fn a_dialplan_is_large(rt: HostRuntime) -> Result<(), Fail> {
+fn check_many<R: Files + Abort + AllocGlobal>(rt: &R, folder: &str) -> Result<(), Fail> {
     let plan = contexts(rt.alloc(), 65_600)?;
-    let number = process::id(rt.process());
-    check_large(&rt, "many", number, (&plan, ""), &MANY)
+    write_file(rt, folder, "many", plan.as_bytes())?;
+    check_line(
+        rt,
+        folder,
+        "check @many",
+        "0→ok 65600 contexts 65600 entries¶→",
+    )
 }
 
 /// A dialplan with an extension of this name, and with arguments that are as long.
@@ -121,19 +71,32 @@ fn wide_script(alloc: Global, name: &str) -> Result<String, NoMemory> {
 /// What the script prints.
 fn wide_trace(alloc: Global, name: &str) -> Result<String, NoMemory> {
     format!(in alloc;
-        "started 1\nran 1 main,s,1 NoOp -> ready main,s,2\nran 1 main,s,2 Goto -> ready main,{name},1\n\
-ran 1 main,{name},1 Hangup -> ended\nstarted 2\nno entry 2 -> ended\n"
+        "0→started 1¶ran 1 main,s,1 NoOp -> ready main,s,2¶ran 1 main,s,2 Goto -> ready main,{name},1¶\
+ran 1 main,{name},1 Hangup -> ended¶started 2¶no entry 2 -> ended¶→"
     )
 }
 
 /// Arguments of 300 bytes, an extension of as many, and one of 301 that is missing.
-#[test]
-fn words_are_large(rt: HostRuntime) -> Result<(), Fail> {
+fn check_wide<R: Files + Abort + AllocGlobal>(rt: &R, folder: &str) -> Result<(), Fail> {
     let name = repeated(rt.alloc(), "1234567890", 30)?;
     let plan = wide_plan(rt.alloc(), &name)?;
     let script = wide_script(rt.alloc(), &name)?;
-    let trace = wide_trace(rt.alloc(), &name)?;
-    let lines: [Line<'_>; 1] = [(&["run", "@plan", "@script"], trace.as_str(), "", 0)];
-    let number = process::id(rt.process());
-    check_large(&rt, "wide", number, (&plan, &script), &lines)
+    let want = wide_trace(rt.alloc(), &name)?;
+    write_file(rt, folder, "wide", plan.as_bytes())?;
+    write_file(rt, folder, "wide.script", script.as_bytes())?;
+    check_line(rt, folder, "run @wide @wide.script", &want)
+}
+
+fn check_all<R: Files + Abort + AllocGlobal>(rt: &R, folder: &str) -> Result<(), Fail> {
+    check_tall(rt, folder)?;
+    check_many(rt, folder)?;
+    check_wide(rt, folder)
+}
+
+#[test]
+fn large_texts_are_served(rt: HostRuntime) -> Result<(), Fail> {
+    let folder = make_folder(&rt, "large", process::id(rt.process()))?;
+    check_all(&rt, &folder)?;
+    fs::remove_dir_all(&rt, folder.as_str())?;
+    Ok(())
 }

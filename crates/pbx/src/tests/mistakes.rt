@@ -1,181 +1,60 @@
 //! Command lines that are refused or that ask for help: all that they print, and their statuses.
-use crate::tests::folder::{Row, check_table};
-use std::process;
+use crate::tests::folder::{check_line, in_a_line};
+use std::process::Abort;
+use std::rt::Files;
 use std::test::Fail;
 
-/// The end of what is printed of each mistake.
-macro_rules! usage {
-    ($mistake:literal, $usage:literal) => {
-        concat!("error: ", $mistake, "\n\nUsage: ", $usage, "\n\nFor more information, try '--help'.\n")
-    };
+/// Command lines that are refused, each with its mistake and with the usage that is printed below it.
+const MISTAKES: &str = "\
+chekc @usual→unrecognized subcommand 'chekc'¶¶  tip: a similar subcommand exists: 'check'→pbx [COMMAND]
+dial→unrecognized subcommand 'dial'→pbx [COMMAND]
+--loud→unexpected argument '--loud' found→pbx [COMMAND]
+check→the following required arguments were not provided:¶  <FILE>→pbx check <FILE>
+check @usual more→unexpected argument 'more' found→pbx check <FILE>
+check --loud x→unexpected argument '--loud' found¶¶  tip: to pass '--loud' as a value, use '-- --loud'→pbx check <FILE>
+match @usual→the following required arguments were not provided:¶  <CONTEXT>¶  <TEXT>→pbx match <FILE> <CONTEXT> <TEXT> [PRIORITY]
+match @usual main 1 2 3→unexpected argument '3' found→pbx match <FILE> <CONTEXT> <TEXT> [PRIORITY]
+match @usual main -5→unexpected argument '-5' found¶¶  tip: to pass '-5' as a value, use '-- -5'→pbx match <FILE> <CONTEXT> <TEXT> [PRIORITY]
+match @usual main 5 0→invalid value '0' for '[PRIORITY]': a priority is a number from 1 to 2147483647→pbx match <FILE> <CONTEXT> <TEXT> [PRIORITY]
+match @usual main 5 2147483648→invalid value '2147483648' for '[PRIORITY]': a priority is a number from 1 to 2147483647→pbx match <FILE> <CONTEXT> <TEXT> [PRIORITY]
+match @usual main 5 n→invalid value 'n' for '[PRIORITY]': a priority is a number from 1 to 2147483647→pbx match <FILE> <CONTEXT> <TEXT> [PRIORITY]
+match @usual main 5 +1→invalid value '+1' for '[PRIORITY]': a priority is a number from 1 to 2147483647→pbx match <FILE> <CONTEXT> <TEXT> [PRIORITY]
+match @usual main 5 ''→invalid value '' for '[PRIORITY]': a priority is a number from 1 to 2147483647→pbx match <FILE> <CONTEXT> <TEXT> [PRIORITY]
+# The command line comes before the files.
+match @missing main 5 0→invalid value '0' for '[PRIORITY]': a priority is a number from 1 to 2147483647→pbx match <FILE> <CONTEXT> <TEXT> [PRIORITY]
+run→the following required arguments were not provided:¶  <FILE>¶  <SCRIPT>→pbx run <FILE> <SCRIPT>
+run @missing→the following required arguments were not provided:¶  <SCRIPT>→pbx run <FILE> <SCRIPT>
+run a b c→unexpected argument 'c' found→pbx run <FILE> <SCRIPT>
+--version→unexpected argument '--version' found→pbx [COMMAND]
+help dial→unrecognized subcommand 'dial'→pbx [COMMAND]
+";
+
+fn check_mistake<R: Files + Abort + AllocGlobal>(
+    rt: &R,
+    folder: &str,
+    words: &str,
+    mistake: &str,
+    usage: &str,
+) -> Result<(), Fail> {
+    let want = format!(in rt.alloc();
+        "2→→error: {mistake}¶¶Usage: {usage}¶¶For more information, try '--help'.¶"
+    )?;
+    check_line(rt, folder, words, &want)
 }
 
-/// Command lines that are refused.
-const MISTAKES: [Row; 20] = [
-    (
-        &["chekc", "@usual"],
-        "",
-        usage!(
-            "unrecognized subcommand 'chekc'\n\n  tip: a similar subcommand exists: 'check'",
-            "pbx [COMMAND]"
-        ),
-        2,
-    ),
-    (
-        &["dial"],
-        "",
-        usage!("unrecognized subcommand 'dial'", "pbx [COMMAND]"),
-        2,
-    ),
-    (
-        &["--loud"],
-        "",
-        usage!("unexpected argument '--loud' found", "pbx [COMMAND]"),
-        2,
-    ),
-    (
-        &["check"],
-        "",
-        usage!(
-            "the following required arguments were not provided:\n  <FILE>",
-            "pbx check <FILE>"
-        ),
-        2,
-    ),
-    (
-        &["check", "@usual", "more"],
-        "",
-        usage!("unexpected argument 'more' found", "pbx check <FILE>"),
-        2,
-    ),
-    (
-        &["check", "--loud", "x"],
-        "",
-        usage!(
-            "unexpected argument '--loud' found\n\n  tip: to pass '--loud' as a value, use '-- --loud'",
-            "pbx check <FILE>"
-        ),
-        2,
-    ),
-    (
-        &["match", "@usual"],
-        "",
-        usage!(
-            "the following required arguments were not provided:\n  <CONTEXT>\n  <TEXT>",
-            "pbx match <FILE> <CONTEXT> <TEXT> [PRIORITY]"
-        ),
-        2,
-    ),
-    (
-        &["match", "@usual", "main", "1", "2", "3"],
-        "",
-        usage!(
-            "unexpected argument '3' found",
-            "pbx match <FILE> <CONTEXT> <TEXT> [PRIORITY]"
-        ),
-        2,
-    ),
-    (
-        &["match", "@usual", "main", "-5"],
-        "",
-        usage!(
-            "unexpected argument '-5' found\n\n  tip: to pass '-5' as a value, use '-- -5'",
-            "pbx match <FILE> <CONTEXT> <TEXT> [PRIORITY]"
-        ),
-        2,
-    ),
-    (
-        &["match", "@usual", "main", "5", "0"],
-        "",
-        usage!(
-            "invalid value '0' for '[PRIORITY]': a priority is a number from 1 to 2147483647",
-            "pbx match <FILE> <CONTEXT> <TEXT> [PRIORITY]"
-        ),
-        2,
-    ),
-    (
-        &["match", "@usual", "main", "5", "2147483648"],
-        "",
-        usage!(
-            "invalid value '2147483648' for '[PRIORITY]': a priority is a number from 1 to 2147483647",
-            "pbx match <FILE> <CONTEXT> <TEXT> [PRIORITY]"
-        ),
-        2,
-    ),
-    (
-        &["match", "@usual", "main", "5", "n"],
-        "",
-        usage!(
-            "invalid value 'n' for '[PRIORITY]': a priority is a number from 1 to 2147483647",
-            "pbx match <FILE> <CONTEXT> <TEXT> [PRIORITY]"
-        ),
-        2,
-    ),
-    (
-        &["match", "@usual", "main", "5", "+1"],
-        "",
-        usage!(
-            "invalid value '+1' for '[PRIORITY]': a priority is a number from 1 to 2147483647",
-            "pbx match <FILE> <CONTEXT> <TEXT> [PRIORITY]"
-        ),
-        2,
-    ),
-    (
-        &["match", "@usual", "main", "5", ""],
-        "",
-        usage!(
-            "invalid value '' for '[PRIORITY]': a priority is a number from 1 to 2147483647",
-            "pbx match <FILE> <CONTEXT> <TEXT> [PRIORITY]"
-        ),
-        2,
-    ),
-    // The command line comes before the files.
-    (
-        &["match", "@missing", "main", "5", "0"],
-        "",
-        usage!(
-            "invalid value '0' for '[PRIORITY]': a priority is a number from 1 to 2147483647",
-            "pbx match <FILE> <CONTEXT> <TEXT> [PRIORITY]"
-        ),
-        2,
-    ),
-    (
-        &["run"],
-        "",
-        usage!(
-            "the following required arguments were not provided:\n  <FILE>\n  <SCRIPT>",
-            "pbx run <FILE> <SCRIPT>"
-        ),
-        2,
-    ),
-    (
-        &["run", "@missing"],
-        "",
-        usage!(
-            "the following required arguments were not provided:\n  <SCRIPT>",
-            "pbx run <FILE> <SCRIPT>"
-        ),
-        2,
-    ),
-    (
-        &["run", "a", "b", "c"],
-        "",
-        usage!("unexpected argument 'c' found", "pbx run <FILE> <SCRIPT>"),
-        2,
-    ),
-    (
-        &["--version"],
-        "",
-        usage!("unexpected argument '--version' found", "pbx [COMMAND]"),
-        2,
-    ),
-    (
-        &["help", "dial"],
-        "",
-        usage!("unrecognized subcommand 'dial'", "pbx [COMMAND]"),
-        2,
-    ),
-];
+/// Asserts all that the command lines that are refused print, and their statuses.
+pub(super) fn check_mistakes<R: Files + Abort + AllocGlobal>(
+    rt: &R,
+    folder: &str,
+) -> Result<(), Fail> {
+    for line in MISTAKES.lines() {
+        if let Some((words, rest)) = line.split_once('→') {
+            let (mistake, usage) = rest.split_once('→').unwrap_or((rest, ""));
+            check_mistake(rt, folder, words, mistake, usage)?;
+        }
+    }
+    Ok(())
+}
 
 /// What is printed where help is asked for.
 const PBX_HELP: &str = "\
@@ -298,25 +177,37 @@ Example:
   ran 1 main,100,2 Hangup -> ended
 ";
 
-/// Command lines that ask for help.
-const HELPS: [Row; 9] = [
-    (&["help"], PBX_HELP, "", 0),
-    (&["-h"], PBX_HELP, "", 0),
-    (&["--help"], PBX_HELP, "", 0),
-    (&["help", "check"], CHECK_HELP, "", 0),
-    (&["check", "-h"], CHECK_HELP, "", 0),
-    (&["list", "--help"], LIST_HELP, "", 0),
-    (&["help", "match"], MATCH_HELP, "", 0),
-    (&["match", "@missing", "--help"], MATCH_HELP, "", 0),
-    (&["run", "--help"], RUN_HELP, "", 0),
+/// Command lines that ask for help, and what is printed.
+const HELPS: [(&str, &str); 9] = [
+    ("help", PBX_HELP),
+    ("-h", PBX_HELP),
+    ("--help", PBX_HELP),
+    ("help check", CHECK_HELP),
+    ("check -h", CHECK_HELP),
+    ("list --help", LIST_HELP),
+    ("help match", MATCH_HELP),
+    ("match @missing --help", MATCH_HELP),
+    ("run --help", RUN_HELP),
 ];
 
-#[test]
-fn mistakes_are_told(rt: HostRuntime) -> Result<(), Fail> {
-    check_table(&rt, "mistakes", process::id(rt.process()), &MISTAKES)
+fn check_help<R: Files + Abort + AllocGlobal>(
+    rt: &R,
+    folder: &str,
+    words: &str,
+    help: &str,
+) -> Result<(), Fail> {
+    let help = in_a_line(rt.alloc(), help)?;
+    let want = format!(in rt.alloc(); "0→{help}→")?;
+    check_line(rt, folder, words, &want)
 }
 
-#[test]
-fn help_is_printed(rt: HostRuntime) -> Result<(), Fail> {
-    check_table(&rt, "help", process::id(rt.process()), &HELPS)
+/// Asserts all that the command lines that ask for help print, and their statuses.
+pub(super) fn check_helps<R: Files + Abort + AllocGlobal>(
+    rt: &R,
+    folder: &str,
+) -> Result<(), Fail> {
+    for (words, help) in &HELPS {
+        check_help(rt, folder, words, help)?;
+    }
+    Ok(())
 }

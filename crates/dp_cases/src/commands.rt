@@ -1,0 +1,7 @@
+mod codes;
+mod large;
+mod render;
+mod reports;
+mod runs;
+mod scripts;
+mod writers;

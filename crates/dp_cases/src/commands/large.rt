@@ -1,0 +1,99 @@
+//! Long scripts, and long chains of includes.
+use crate::commands::render::{Command, Run, Sink, check_text};
+use dp_commands::{PbxFault, match_one};
+use dp_conf::{NoMemory, Told};
+use dp_plan::Priority;
+use std::alloc::Global;
+use std::process::Abort;
+use std::test::Fail;
+
+/// A text that starts as many calls as there are numbers.
+fn many_starts(alloc: Global) -> Result<String, NoMemory> {
+    let mut text = String::new(alloc);
+    text.push_str("[main]\nexten => s,1,NoOp()\n;; script\n")?;
+    for _number in 1..65_536 {
+        text.push_str("start main s\n")?;
+    }
+    Ok(text)
+}
+
+/// The trace of that text.
+fn many_started(alloc: Global) -> Result<String, NoMemory> {
+    let mut want = String::new(alloc);
+    for number in 1..65_536 {
+        write!(want, "started {number}\n")?;
+    }
+    Ok(want)
+}
+
+/// The trace of a run in which nothing is refused, with what it ends with.
+fn with_status(alloc: Global, trace: &str) -> Result<String, NoMemory> {
+    format!(in alloc; "{trace}status 0")
+}
+
+/// After 65,535 calls each further one is refused, and the calls that are there go on.
+fn check_numbers(rt: &impl Abort, alloc: Global) -> Result<(), Fail> {
+    let mut text = many_starts(alloc)?;
+    let mut want = many_started(alloc)?;
+    check_text::<Run>(
+        rt,
+        alloc,
+        text.as_bytes(),
+        with_status(alloc, &want)?.as_bytes(),
+    )?;
+    text.push_str("start main s\nstep 65536\nstep 65535\nstart main s")?;
+    want.push_str("refused 50 NumbersSpent\nrefused 40 NoChannel\n")?;
+    want.push_str("ran 65535 main,s,1 NoOp -> ready main,s,2\nrefused 50 NumbersSpent\n")?;
+    want.push_str("status 1")?;
+    check_text::<Run>(rt, alloc, text.as_bytes(), want.as_bytes())
+}
+
+/// The greatest count is taken as it stands.
+fn check_steps(rt: &impl Abort, alloc: Global) -> Result<(), Fail> {
+    let mut want = String::new(alloc);
+    want.push_str("started 1\n")?;
+    for _step in 0..100_000 {
+        want.push_str("ran 1 main,s,1 Goto -> ready main,s,1\n")?;
+    }
+    want.push_str("status 0")?;
+    let text = b"[main]\nexten => s,1,Goto(1)\n;; script\nstart main s\nstep 1 100000\n";
+    check_text::<Run>(rt, alloc, text, want.as_bytes())
+}
+
+/// Which entry answers `77` at priority 1, from the context `c0` on.
+struct Match77;
+
+impl Command for Match77 {
+    fn serve(alloc: Global, text: &[u8], writer: &mut Told<Sink>) -> Result<u8, PbxFault> {
+        match Priority::new(1) {
+            Some(priority) => match_one(alloc, text, b"c0", b"77", priority, writer),
+            None => Ok(2),
+        }
+    }
+}
+
+/// Ten thousand contexts that each include the next one, of which the last has the extension 77.
+fn chain(alloc: Global) -> Result<String, NoMemory> {
+    let mut plan = String::new(alloc);
+    for number in 0..9_999u32 {
+        write!(plan, "[c{number}]\ninclude => c{}\n", number + 1)?;
+    }
+    plan.push_str("[c9999]\nexten => 77,1,NoOp()\n")?;
+    Ok(plan)
+}
+
+/// They are followed to the last one, also where that includes the first.
+fn check_chain(rt: &impl Abort, alloc: Global) -> Result<(), Fail> {
+    let mut plan = chain(alloc)?;
+    let want = b"c9999,77,1 NoOp\nstatus 0";
+    check_text::<Match77>(rt, alloc, plan.as_bytes(), want)?;
+    plan.push_str("include => c0\n")?;
+    check_text::<Match77>(rt, alloc, plan.as_bytes(), want)
+}
+
+#[test]
+fn large_texts_are_served(rt: HostRuntime) -> Result<(), Fail> {
+    check_numbers(&rt, rt.alloc())?;
+    check_steps(&rt, rt.alloc())?;
+    check_chain(&rt, rt.alloc())
+}

@@ -1,0 +1,127 @@
+//! Writers that fail.
+use crate::commands::render::{Check, Command, Run, Sink, check_into, make_sink};
+use dp_commands::{PbxFault, match_one};
+use dp_conf::{NoMemory, Told};
+use dp_plan::Priority;
+use std::alloc::Global;
+use std::process::Abort;
+use std::test::Fail;
+
+/// Which entry of `main` answers `23` at priority 1.
+pub(super) struct Match23;
+
+impl Command for Match23 {
+    fn serve(alloc: Global, text: &[u8], writer: &mut Told<Sink>) -> Result<u8, PbxFault> {
+        match Priority::new(1) {
+            Some(priority) => match_one(alloc, text, b"main", b"23", priority, writer),
+            None => Ok(2),
+        }
+    }
+}
+
+/// A joined text.
+const RUN: &[u8] = b"[main]\nexten => 100,1,NoOp(hello)\n\
+exten => 100,2,Goto(200,1)\nexten => 200,1,Hangup()\n;; script\nstart main 100\nstep 1 3\n";
+
+/// Its trace.
+const TRACE: &[u8] = b"started 1\nran 1 main,100,1 NoOp -> ready main,100,2\n\
+ran 1 main,100,2 Goto -> ready main,200,1\nran 1 main,200,1 Hangup -> ended\n";
+
+/// A dialplan with something to report.
+const NOTED: &[u8] = b"[main]\nexten => _NX,1,NoOp()\ninclude => out\n";
+
+/// What `check` writes of it.
+const CHECKED: &[u8] = b"note 3 UnknownContext\nok 1 contexts 1 entries\n";
+
+/// The entry that answers `23`.
+const MATCHED: &[u8] = b"main,_NX,1 NoOp\n";
+
+/// Some bytes, and others behind them.
+fn with_behind(alloc: Global, bytes: &[u8], behind: &[u8]) -> Result<Vec<u8>, NoMemory> {
+    let mut all = Vec::from_slice(alloc, bytes)?;
+    all.extend_from_slice(behind)?;
+    Ok(all)
+}
+
+/// Asserts that a command on a writer whose write k fails has written these bytes before it.
+fn check_failing<C: Command>(
+    rt: &impl Abort,
+    alloc: Global,
+    text: &[u8],
+    sink: (usize, usize),
+    written: &[u8],
+) -> Result<(), Fail> {
+    let (step, k) = sink;
+    let want = with_behind(alloc, written, b"fault 9 WriteFailed, told")?;
+    check_into::<C>(rt, alloc, text, make_sink(alloc, step, Some(k)), &want)
+}
+
+/// One byte at a time, a text is as many writes as it has bytes: where write k fails, the bytes before it were written.
+fn check_each<C: Command>(
+    rt: &impl Abort,
+    alloc: Global,
+    text: &[u8],
+    whole: &[u8],
+) -> Result<(), Fail> {
+    for k in 0..whole.len() {
+        check_failing::<C>(rt, alloc, text, (1, k), &whole[..k])?;
+    }
+    let want = with_behind(alloc, whole, b"status 0")?;
+    let writer = make_sink(alloc, 1, Some(whole.len()));
+    check_into::<C>(rt, alloc, text, writer, &want)
+}
+
+/// The lines of the trace that were written where the write of each line fails: each line is one write.
+const FRONTS: [&[u8]; 4] = [
+    b"",
+    b"started 1\n",
+    b"started 1\nran 1 main,100,1 NoOp -> ready main,100,2\n",
+    b"started 1\nran 1 main,100,1 NoOp -> ready main,100,2\n\
+ran 1 main,100,2 Goto -> ready main,200,1\n",
+];
+
+#[test]
+fn a_writer_that_fails_at_write_k(rt: HostRuntime) -> Result<(), Fail> {
+    check_each::<Run>(&rt, rt.alloc(), RUN, TRACE)?;
+    check_each::<Check>(&rt, rt.alloc(), NOTED, CHECKED)?;
+    check_each::<Match23>(&rt, rt.alloc(), NOTED, MATCHED)?;
+    for (k, front) in FRONTS.iter().enumerate() {
+        check_failing::<Run>(&rt, rt.alloc(), RUN, (4096, k), front)?;
+    }
+    Ok(())
+}
+
+/// Asserts that a command does not ask a writer that always fails.
+fn check_unasked<C: Command>(
+    rt: &impl Abort,
+    alloc: Global,
+    text: &[u8],
+    want: &[u8],
+) -> Result<(), Fail> {
+    check_into::<C>(rt, alloc, text, make_sink(alloc, 1, Some(0)), want)
+}
+
+/// Nothing is written of a faulty text, nor where nothing happens.
+#[test]
+fn a_faulty_text_asks_for_no_write(rt: HostRuntime) -> Result<(), Fail> {
+    check_unasked::<Run>(
+        &rt,
+        rt.alloc(),
+        b"[main]\nabc\n",
+        b"fault 4 NoEquals line 2",
+    )?;
+    check_unasked::<Run>(
+        &rt,
+        rt.alloc(),
+        b";; script\nstart a b\njump 1\n",
+        b"fault 70 BadScript line 2",
+    )?;
+    check_unasked::<Run>(&rt, rt.alloc(), b";; script\nstep 1 0\n", b"status 0")?;
+    check_unasked::<Check>(
+        &rt,
+        rt.alloc(),
+        b"[main]\nabc\n",
+        b"fault 4 NoEquals line 2",
+    )?;
+    check_unasked::<Match23>(&rt, rt.alloc(), b"abc\n", b"fault 2 NoSection line 1")
+}

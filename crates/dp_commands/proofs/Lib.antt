@@ -1,0 +1,3 @@
+mod JoinedLemmas
+mod ScriptLemmas
+mod StreamsLemmas

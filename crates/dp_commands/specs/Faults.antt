@@ -1,0 +1,45 @@
+-- The faults of the program beside those of its parts, and want of memory.
+use Rattle.std.specs.Prelude.{Bool, true, false, Option, Some, None, Result, Ok, Err}
+use Rattle.dp_conf.specs.declared.fault.ConfFault.TheVariants.{At, NoMemory as conf_no_memory}
+use Rattle.dp_conf.specs.declared.fault.ReadFault.{ReadFault}
+use Rattle.dp_conf.specs.declared.fault.ReadFault.TheVariants.{ReadFailed as read_failed, TooLong as read_too_long, NoMemory as read_no_memory}
+use Rattle.dp_plan.specs.declared.fault.LoadFault.{LoadFault}
+use Rattle.dp_plan.specs.declared.fault.LoadFault.TheVariants.{Conf, Pattern, Plan as load_plan, NoMemory as load_no_memory}
+use Rattle.dp_commands.specs.declared.fault.Code.TheVariants.{Line, Name, Plan, ReadFailed, TooLong, WriteFailed, BadScript}
+use Rattle.dp_commands.specs.declared.fault.PbxFault.{PbxFault}
+use Rattle.dp_commands.specs.declared.fault.PbxFault.TheVariants.{Coded, NoMemory}
+
+-- a dialplan's fault
+abbrev pub fault_of_load : LoadFault → PbxFault
+fault_of_load (Conf (At line kind)) = Coded (Line kind) (Some line)
+fault_of_load (Conf conf_no_memory) = NoMemory
+fault_of_load (Pattern line fault) = Coded (Name fault) (Some line)
+fault_of_load (load_plan line kind) = Coded (Plan kind) (Some line)
+fault_of_load load_no_memory = NoMemory
+
+-- a reader's fault
+abbrev pub fault_of_read : ReadFault → PbxFault
+fault_of_read read_failed = Coded ReadFailed None
+fault_of_read read_too_long = Coded TooLong None
+fault_of_read read_no_memory = NoMemory
+
+-- why the program ends; want of memory is no reason
+abbrev pub reason_of : PbxFault → Option PbxFault
+reason_of (Coded code line) = Some (Coded code line)
+reason_of NoMemory = None
+
+-- whether the fault is a failed write
+abbrev pub is_write_fault : PbxFault → Bool
+is_write_fault (Coded (Line kind) line) = false
+is_write_fault (Coded (Name fault) line) = false
+is_write_fault (Coded (Plan kind) line) = false
+is_write_fault (Coded ReadFailed line) = false
+is_write_fault (Coded TooLong line) = false
+is_write_fault (Coded WriteFailed line) = true
+is_write_fault (Coded BadScript line) = false
+is_write_fault NoMemory = false
+
+-- whether the call ended with a failed write
+abbrev pub is_write_failed : {X : Type 0} → Result X PbxFault → Bool
+is_write_failed (Ok x) = false
+is_write_failed (Err fault) = is_write_fault fault

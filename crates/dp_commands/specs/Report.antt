@@ -1,0 +1,68 @@
+-- What is reported of a dialplan: what it loads as, its listing, and which entry answers a call.
+use Rattle.std.specs.Prelude.{◌≡◌, ℕ, List, [], ◌∷◌, ◌++◌, length, sum, map, Option, None, Some, Result, Ok, Err, codes, decimal}
+use Rattle.std.specs.Io.KnownBytes.{Appends}
+use Rattle.std.specs.List.{flat_map}
+use Rattle.dp_conf.specs.Answers.{◌>>=◌}
+use Rattle.dp_conf.specs.Fronts.{AppendsFront}
+use Rattle.dp_lister.specs.Listing.{listing}
+use Rattle.dp_lookup.specs.FoundEntry.{found_entry}
+use Rattle.dp_lookup.specs.SearchOrder.{search_order}
+use Rattle.dp_plan.specs.Codes.{note_name}
+use Rattle.dp_plan.specs.Contexts.{PlanContext}
+use Rattle.dp_plan.specs.Loaded.{loaded}
+use Rattle.dp_plan.specs.Plan.{PlanOf}
+use Rattle.dp_plan.specs.declared.entry.EntryId.{EntryId}
+use Rattle.dp_plan.specs.declared.note.Note.{Note}
+use Rattle.dp_commands.specs.Run.{plan_fault}
+use Rattle.dp_commands.specs.Trace.{entry_text}
+use Rattle.dp_commands.specs.declared.fault.Code.TheVariants.{WriteFailed}
+use Rattle.dp_commands.specs.declared.fault.PbxFault.{PbxFault}
+use Rattle.dp_commands.specs.declared.fault.PbxFault.TheVariants.{Coded, NoMemory}
+
+-- the line of a note, `note LINE KIND`
+abbrev pub note_line : Note → List ℕ
+note_line note = codes "note " ++ decimal note.line ++ codes " " ++ note_name note.kind ++ 10 ∷ []
+
+-- how many entries the contexts have, all together
+abbrev pub entries_in : List PlanContext → ℕ
+entries_in contexts = sum (map (λ context. length context.entries) contexts)
+
+-- the line that a dialplan was loaded, `ok C contexts E entries`
+abbrev pub counts_line : PlanOf → List ℕ
+counts_line plan =
+    codes "ok " ++ decimal (length plan.contexts) ++ codes " contexts " ++ decimal (entries_in plan.contexts) ++ codes " entries\n"
+
+-- what is reported of a dialplan with its notes: the notes, and the counts
+abbrev pub check_text : PlanOf × List Note → List ℕ
+check_text read = flat_map note_line read.1 ++ counts_line read.0
+
+-- what is reported of a text, or its fault
+unfoldable pub check_of : List ℕ → Result (List ℕ) PbxFault
+check_of plan = plan_fault (loaded plan) >>= λ read. Ok (check_text read)
+
+-- the canonical listing of the dialplan of a text, or its fault
+unfoldable pub list_of : List ℕ → Result (List ℕ) PbxFault
+list_of plan = plan_fault (loaded plan) >>= λ read. Ok (listing read.0)
+
+-- the line of an entry that was looked for, `CONTEXT,NAME,PRIORITY APP`, or `none`
+abbrev pub match_line : PlanOf → Option EntryId → List ℕ
+match_line plan None = codes "none\n"
+match_line plan (Some id) = entry_text plan id ++ 10 ∷ []
+
+-- the entry of a dialplan that answers a dialled text at a priority, from a context on
+abbrev pub answering : PlanOf → List ℕ → List ℕ → ℕ → Option EntryId
+answering plan context text priority = found_entry plan (search_order plan context) text priority
+
+-- the line of the entry that answers, or the fault of the dialplan's text
+unfoldable pub match_of : List ℕ → List ℕ → List ℕ → ℕ → Result (List ℕ) PbxFault
+match_of plan context text priority =
+    plan_fault (loaded plan) >>= λ read. Ok (match_line read.0 (answering read.0 context text priority))
+
+-- what a report writes and answers, by its text or the fault in its place: all of it or, where a write fails, a front
+abbrev pub Reports : Option (List ℕ) → Option (List ℕ) → Result (List ℕ) PbxFault → Result ℕ PbxFault → Type 0
+Reports old new (Ok text) (Ok status) = Appends old new text × (status ≡ 0)
+Reports old new (Ok text) (Err (Coded code line)) = AppendsFront old new text × (code ≡ WriteFailed) × (line ≡ None)
+Reports old new (Ok text) (Err NoMemory) = Appends old new []
+Reports old new (Err fault) (Ok status) = ⊥
+Reports old new (Err fault) (Err (Coded code line)) = Appends old new [] × (fault ≡ Coded code line)
+Reports old new (Err fault) (Err NoMemory) = Appends old new []

@@ -1,0 +1,149 @@
+//! What the program ends with in place of a status, with the numbers and the names that are printed.
+ghost use Rattle.std.specs.Prelude.{◌≡◌};
+ghost use Rattle.dp_commands.specs.Codes.{code_number, code_name};
+
+use dp_conf::{ConfFault, LineKind, ReadFault, WriteFailed};
+use dp_plan::{LoadFault, NameFault, NoMemory, PlanKind};
+use std::alloc::AllocFailed;
+
+/// What a fault is.
+#[derive(Clone, Copy, Debug, PartialEq, Eq)]
+pub enum Code {
+    /// A line of the dialplan's text is refused.
+    Line(LineKind),
+    /// The name of a line is none.
+    Name(NameFault),
+    /// A line of a context or of the global variables is refused.
+    Plan(PlanKind),
+    /// A file or the standard input could not be read.
+    ReadFailed,
+    /// A file or the standard input has more than 16,777,216 bytes.
+    TooLong,
+    /// The output could not be written.
+    WriteFailed,
+    /// A line of the script is none that scripts have.
+    BadScript,
+}
+
+impl Code {
+    /// The number of the fault.
+    pub fn number(self) -> u8
+        ensures { result ≡ code_number self }
+    {
+        match self {
+            Code::Line(kind) => kind.code(),
+            Code::Name(fault) => fault.code(),
+            Code::Plan(kind) => kind.code(),
+            Code::ReadFailed => ReadFault::ReadFailed.code().unwrap(),
+            Code::TooLong => ReadFault::TooLong.code().unwrap(),
+            Code::WriteFailed => WriteFailed.code(),
+            Code::BadScript => 70,
+        }
+    }
+
+    /// The name of the fault, as it is printed beside its number.
+    pub fn name(self) -> &'static str
+        ensures { result.now ≡ code_name self }
+    {
+        match self {
+            Code::Line(kind) => kind.name(),
+            Code::Name(fault) => fault.name(),
+            Code::Plan(kind) => kind.name(),
+            Code::ReadFailed => ReadFault::ReadFailed.name(),
+            Code::TooLong => ReadFault::TooLong.name(),
+            Code::WriteFailed => WriteFailed.name(),
+            Code::BadScript => "BadScript",
+        }
+    }
+}
+
+/// A fault with its line, counted from 1 in its own text, where it has one; or want of memory.
+#[derive(Clone, Copy, Debug, PartialEq, Eq)]
+pub enum PbxFault {
+    Coded { code: Code, line: Option<usize> },
+    NoMemory,
+}
+
+impl From<LoadFault> for PbxFault {
+    ghost use Rattle.std.specs.Prelude.{◌≡◌};
+    ghost use Rattle.dp_commands.specs.Faults.{fault_of_load};
+
+    ghost from_gives = { λ load fault. fault ≡ fault_of_load load };
+
+    fn from(load: LoadFault) -> Self {
+        match load {
+            LoadFault::Conf(ConfFault::At { line, kind }) => PbxFault::Coded {
+                code: Code::Line(kind),
+                line: Some(line),
+            },
+            LoadFault::Conf(ConfFault::NoMemory) => PbxFault::NoMemory,
+            LoadFault::Pattern { line, fault } => PbxFault::Coded {
+                code: Code::Name(fault),
+                line: Some(line),
+            },
+            LoadFault::Plan { line, kind } => PbxFault::Coded {
+                code: Code::Plan(kind),
+                line: Some(line),
+            },
+            LoadFault::NoMemory => PbxFault::NoMemory,
+        }
+    }
+}
+
+impl From<ReadFault> for PbxFault {
+    ghost use Rattle.std.specs.Prelude.{◌≡◌};
+    ghost use Rattle.dp_commands.specs.Faults.{fault_of_read};
+
+    ghost from_gives = { λ read fault. fault ≡ fault_of_read read };
+
+    fn from(read: ReadFault) -> Self {
+        match read {
+            ReadFault::ReadFailed => PbxFault::Coded {
+                code: Code::ReadFailed,
+                line: None,
+            },
+            ReadFault::TooLong => PbxFault::Coded {
+                code: Code::TooLong,
+                line: None,
+            },
+            ReadFault::NoMemory => PbxFault::NoMemory,
+        }
+    }
+}
+
+impl From<WriteFailed> for PbxFault {
+    ghost use Rattle.std.specs.Prelude.{◌≡◌, None};
+    ghost use Rattle.dp_commands.specs.declared.fault.Code.TheVariants.{WriteFailed as write_failed};
+    ghost use Rattle.dp_commands.specs.declared.fault.PbxFault.TheVariants.{Coded};
+
+    ghost from_gives = { λ _ fault. fault ≡ Coded write_failed None };
+
+    fn from(_: WriteFailed) -> Self {
+        PbxFault::Coded {
+            code: Code::WriteFailed,
+            line: None,
+        }
+    }
+}
+
+impl From<NoMemory> for PbxFault {
+    ghost use Rattle.std.specs.Prelude.{◌≡◌};
+    ghost use Rattle.dp_commands.specs.declared.fault.PbxFault.TheVariants.{NoMemory};
+
+    ghost from_gives = { λ _ fault. fault ≡ NoMemory };
+
+    fn from(_: NoMemory) -> Self {
+        PbxFault::NoMemory
+    }
+}
+
+impl<T: Drop> From<AllocFailed<T>> for PbxFault {
+    ghost use Rattle.std.specs.Prelude.{◌≡◌};
+    ghost use Rattle.dp_commands.specs.declared.fault.PbxFault.TheVariants.{NoMemory};
+
+    ghost from_gives = { λ _ fault. fault ≡ NoMemory };
+
+    fn from(_: AllocFailed<T>) -> Self {
+        PbxFault::NoMemory
+    }
+}

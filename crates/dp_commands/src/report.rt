@@ -1,0 +1,153 @@
+//! Reports on a dialplan: what it loads as, and which entry answers a call.
+ghost use Rattle.std.specs.Prelude.{◌≡◌, ◌++◌, ◌||◌, IfOk, OnOk, length};
+ghost use Rattle.std.specs.List.{flat_map};
+ghost use Rattle.dp_commands.specs.Faults.{is_write_failed};
+ghost use Rattle.dp_commands.specs.Report as spec;
+
+use crate::fault::PbxFault;
+use crate::trace::{push_entry, push_number};
+use dp_conf::WriteTold;
+use dp_lister::list;
+use dp_lookup::{SearchOrder, find};
+use dp_plan::{Context, Dialplan, EntryId, NoMemory, Note, Priority, Text};
+use std::alloc::Global;
+
+/// Adds the line of a note.
+fn push_note(out: &mut Vec<u8>, note: Note) -> Result<(), NoMemory>
+    ensures { OnOk result (out.new.items ≡ out.old.items ++ spec.note_line note) }
+{
+    out.extend_from_slice(b"note ")?;
+    push_number(out, note.line)?;
+    out.extend_from_slice(b" ")?;
+    out.extend_from_slice(note.kind.name().as_bytes())?;
+    out.extend_from_slice(b"\n")?;
+    Ok(())
+}
+
+/// Adds the lines of the notes.
+fn push_notes(out: &mut Vec<u8>, notes: &[Note]) -> Result<(), NoMemory>
+    ensures { OnOk result (out.new.items ≡ out.old.items ++ flat_map spec.note_line notes.now) }
+{
+    for note in notes {
+        push_note(out, *note)?;
+    }
+    Ok(())
+}
+
+/// How many entries the contexts have, all together. No list is longer than a `usize`, so that 128 bits hold the sum.
+fn count_entries(contexts: &[Context]) -> u128
+    ensures { result ≡ spec.entries_in contexts.now }
+{
+    let mut count: u128 = 0;
+    for context in contexts {
+        count += context.entries().len() as u128;
+    }
+    count
+}
+
+/// Adds the line that a dialplan was loaded.
+fn push_counts(out: &mut Vec<u8>, plan: &Dialplan) -> Result<(), NoMemory>
+    ensures { OnOk result (out.new.items ≡ out.old.items ++ spec.counts_line plan.now) }
+{
+    out.extend_from_slice(b"ok ")?;
+    push_number(out, plan.contexts().len())?;
+    out.extend_from_slice(b" contexts ")?;
+    push_number(out, count_entries(plan.contexts()))?;
+    out.extend_from_slice(b" entries\n")?;
+    Ok(())
+}
+
+/// What is reported of a dialplan with its notes.
+fn check_text(alloc: Global, plan: &Dialplan, notes: &[Note]) -> Result<Vec<u8>, NoMemory>
+    ensures { IfOk result (λ text. text.items ≡ spec.check_text (plan.now, notes.now)) }
+{
+    let mut text = Vec::new(alloc);
+    push_notes(&mut text, notes)?;
+    push_counts(&mut text, plan)?;
+    Ok(text)
+}
+
+/// Loads a dialplan and writes what it loads as: a line `note LINE KIND` for each note, in the order of the lines, and
+/// then `ok C contexts E entries`. The status is 0. A context counts where only its header stands, and an include is no
+/// entry.
+///
+/// A faulty dialplan has its first fault, and nothing is written. All is written at once; where that write fails,
+/// what was written stays written.
+#[tactic(auto, unfolding(crate::specs::Report::check_of))]
+pub fn check<W: WriteTold>(alloc: Global, plan: &[u8], writer: &mut W) -> Result<u8, PbxFault>
+    ensures writes { spec.Reports (W.contents writer.old) (W.contents writer.new) (spec.check_of plan.now) result }
+    ensures told { W.has_failed writer.new ≡ (W.has_failed writer.old || is_write_failed result) }
+{
+    let (plan, notes) = Dialplan::load(alloc, plan)?;
+    let text = check_text(alloc, &plan, &notes)?;
+    writer.write_told(&text)?;
+    Ok(0)
+}
+
+/// Loads a dialplan and writes its canonical listing. The status is 0; its notes are not written.
+///
+/// A faulty dialplan has its first fault, and nothing is written. Where the write fails, what was written stays written.
+#[tactic(auto, unfolding(crate::specs::Report::list_of))]
+pub fn list_plan<W: WriteTold>(alloc: Global, plan: &[u8], writer: &mut W) -> Result<u8, PbxFault>
+    ensures writes { spec.Reports (W.contents writer.old) (W.contents writer.new) (spec.list_of plan.now) result }
+    ensures told { W.has_failed writer.new ≡ (W.has_failed writer.old || is_write_failed result) }
+{
+    let (plan, _) = Dialplan::load(alloc, plan)?;
+    let text = list(alloc, &plan)?;
+    writer.write_told(&text)?;
+    Ok(0)
+}
+
+/// The entry that answers a dialled text at a priority, from a context on.
+fn find_answer(
+    alloc: Global,
+    plan: &Dialplan,
+    context: &[u8],
+    text: &[u8],
+    priority: Priority,
+) -> Result<Option<EntryId>, NoMemory>
+    ensures { IfOk result (λ found. found ≡ spec.answering plan.now context.now text.now priority) }
+{
+    let context = Text::copy_of(alloc, context)?;
+    let order = SearchOrder::of(alloc, plan, &context)?;
+    Ok(find(plan, &order, text, priority.get()))
+}
+
+/// The line of an entry that was looked for.
+fn match_line(alloc: Global, plan: &Dialplan, found: Option<EntryId>) -> Result<Vec<u8>, NoMemory>
+    ensures { IfOk result (λ line. line.items ≡ spec.match_line plan.now found) }
+{
+    let mut line = Vec::new(alloc);
+    match found {
+        Some(id) => push_entry(alloc, &mut line, plan, id)?,
+        None => line.extend_from_slice(b"none")?,
+    }
+    line.push(b'\n')?;
+    Ok(line)
+}
+
+/// Loads a dialplan and writes which of its entries answers the dialled text at the priority, where a call begins in the
+/// context: `CONTEXT,NAME,PRIORITY APP` with the entry's own context and name, or `none`. The status is 0.
+///
+/// The context is searched first and then what it includes; of the names that match, the most specific one that has the
+/// priority answers (dialplan, pattern matching). A context that the dialplan lacks has no entries. A faulty dialplan
+/// has its first fault, and nothing is written. Where the write fails, what was written stays written.
+#[tactic(auto, unfolding(crate::specs::Report::match_of))]
+pub fn match_one<W: WriteTold>(
+    alloc: Global,
+    plan: &[u8],
+    context: &[u8],
+    text: &[u8],
+    priority: Priority,
+    writer: &mut W,
+) -> Result<u8, PbxFault>
+    ensures writes { spec.Reports (W.contents writer.old) (W.contents writer.new)
+        (spec.match_of plan.now context.now text.now priority) result }
+    ensures told { W.has_failed writer.new ≡ (W.has_failed writer.old || is_write_failed result) }
+{
+    let (plan, _) = Dialplan::load(alloc, plan)?;
+    let found = find_answer(alloc, &plan, context, text, priority)?;
+    let line = match_line(alloc, &plan, found)?;
+    writer.write_told(&line)?;
+    Ok(0)
+}

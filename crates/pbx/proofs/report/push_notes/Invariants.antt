@@ -1,7 +1,0 @@
-use Rattle.std.proofs.Common.{◌≡◌, ◌++◌, drop}
-use Rattle.std.specs.List.{flat_map}
-use Rattle.pbx.specs.Report.{note_line}
-use Rattle.pbx.proofs.report.push_notes.Given as goal
-
-abbrev pub invariant-loop-note : goal.invariant-loop-note
-invariant-loop-note l = l.out.items ++ flat_map note_line (drop l.note-index l.notes) ≡ l.fn.out.items ++ flat_map note_line l.notes
