@@ -1,20 +1,12 @@
 //! Worked rows. Each value is worked out by hand from the rules of expressions.
+//!
+//! A row is a text and, behind an arrow, its value, which is empty for a fault, both with the escapes of `bytes_of`.
 
+use crate::table::{bytes_of, is_heading};
 use dp_expr::{evaluate, one_tree, one_value};
 use std::alloc::{AllocError, Global};
 use std::process::Abort;
 use std::test::Fail;
-
-/// Each line is a text and, behind an arrow, its value, which is empty for a fault.
-fn assert_values(rt: &impl Abort, alloc: Global, rows: &str) -> Result<(), Fail> {
-    for row in rows.lines() {
-        match row.split_once('→') {
-            Some((text, want)) => assert_value(rt, alloc, text.as_bytes(), want.as_bytes())?,
-            None => assert!(rt; false, "no arrow in {row:?}"),
-        }
-    }
-    Ok(())
-}
 
 fn assert_value(rt: &impl Abort, alloc: Global, text: &[u8], want: &[u8]) -> Result<(), Fail> {
     let value = evaluate(alloc, text)?;
@@ -22,57 +14,40 @@ fn assert_value(rt: &impl Abort, alloc: Global, text: &[u8], want: &[u8]) -> Res
     Ok(())
 }
 
-/// That many copies of the piece behind the text.
-fn push_copies(text: &mut Vec<u8>, piece: &[u8], count: usize) -> Result<(), AllocError> {
-    for _ in 0..count {
-        text.extend_from_slice(piece)?;
+fn check_row(rt: &impl Abort, alloc: Global, text: &str, want: &str) -> Result<(), Fail> {
+    let text = bytes_of(alloc, text)?;
+    let want = bytes_of(alloc, want)?;
+    assert_value(rt, alloc, &text, &want)
+}
+
+fn check_table(rt: &impl Abort, alloc: Global, table: &str) -> Result<(), Fail> {
+    for row in table.lines() {
+        match row.split_once('→') {
+            Some((text, want)) => check_row(rt, alloc, text, want)?,
+            None => assert!(rt; is_heading(row), "no arrow in {row:?}"),
+        }
     }
     Ok(())
 }
 
-/// The operand between so many openings and closings.
-fn nested(
-    alloc: Global,
-    opening: &[u8],
-    operand: &[u8],
-    closing: &[u8],
-    count: usize,
-) -> Result<Vec<u8>, AllocError> {
-    let mut text = Vec::new(alloc);
-    push_copies(&mut text, opening, count)?;
-    text.extend_from_slice(operand)?;
-    push_copies(&mut text, closing, count)?;
-    Ok(text)
-}
-
-#[test]
-fn expressions(rt: HostRuntime) -> Result<(), Fail> {
-    assert_values(
-        &rt,
-        rt.alloc(),
-        "\
+/// Some of each kind.
+const EXPRESSIONS: &str = r#"
 9223372036854775807 + 1→
 -7 / 2→-3
 -7 % 2→-1
 1 / 0→
 (-9223372036854775807 - 1) / -1→
 (-9223372036854775807 - 1) % -1→0
-\"5\" = 5→0
+"5" = 5→0
 -9223372036854775808→
-\"\" | x→\"\"
+"" | x→""
 a & 0→0
 !0→1
-1 2→",
-    )
-}
+1 2→
+"#;
 
-/// The ends of 64 bits with a sign.
-#[test]
-fn sums(rt: HostRuntime) -> Result<(), Fail> {
-    assert_values(
-        &rt,
-        rt.alloc(),
-        "\
+/// Sums and differences, to the ends of 64 bits with a sign.
+const SUMS: &str = r#"
 1 + 1→2
 9223372036854775806 + 1→9223372036854775807
 9223372036854775807 + 0→9223372036854775807
@@ -96,19 +71,14 @@ fn sums(rt: HostRuntime) -> Result<(), Fail> {
 18446744073709551616 + 1→
 a + 1→
 1 + a→
-\"1\" + 1→
+"1" + 1→
 1.5 + 1→
-1 - \"\"→
-1x + 1→",
-    )
-}
+1 - ""→
+1x + 1→
+"#;
 
-#[test]
-fn products(rt: HostRuntime) -> Result<(), Fail> {
-    assert_values(
-        &rt,
-        rt.alloc(),
-        "\
+/// Products, to the ends of 64 bits with a sign.
+const PRODUCTS: &str = r#"
 6 * 7→42
 4611686018427387904 * 2→
 -4611686018427387904 * 2→-9223372036854775808
@@ -121,17 +91,11 @@ fn products(rt: HostRuntime) -> Result<(), Fail> {
 9223372036854775807 * 0→0
 -1 * 0→0
 -3 * -4→12
-a * 0→",
-    )
-}
+a * 0→
+"#;
 
-/// Cut toward zero.
-#[test]
-fn quotients(rt: HostRuntime) -> Result<(), Fail> {
-    assert_values(
-        &rt,
-        rt.alloc(),
-        "\
+/// Quotients are cut toward zero.
+const QUOTIENTS: &str = r#"
 7 / 2→3
 7 / -2→-3
 -7 / -2→3
@@ -148,17 +112,11 @@ fn quotients(rt: HostRuntime) -> Result<(), Fail> {
 (-9223372036854775807 - 1) / 2→-4611686018427387904
 (-9223372036854775807 - 1) / 9223372036854775807→-1
 a / 1→
-1 / a→",
-    )
-}
+1 / a→
+"#;
 
-/// With the sign of the left side.
-#[test]
-fn remainders(rt: HostRuntime) -> Result<(), Fail> {
-    assert_values(
-        &rt,
-        rt.alloc(),
-        "\
+/// Remainders have the sign of the left side.
+const REMAINDERS: &str = r#"
 7 % 2→1
 7 % -2→1
 -7 % -2→-1
@@ -173,16 +131,11 @@ fn remainders(rt: HostRuntime) -> Result<(), Fail> {
 5 % 7→5
 -6 % 3→0
 a % 2→
-2 % a→",
-    )
-}
+2 % a→
+"#;
 
-#[test]
-fn negations(rt: HostRuntime) -> Result<(), Fail> {
-    assert_values(
-        &rt,
-        rt.alloc(),
-        "\
+/// A minus sign before a number, also several.
+const NEGATIONS: &str = r#"
 -5→-5
 - 5→-5
 --5→5
@@ -195,26 +148,20 @@ fn negations(rt: HostRuntime) -> Result<(), Fail> {
 -(-9223372036854775807 - 1)→
 -(9223372036854775807)→-9223372036854775807
 -a→
--\"5\"→
+-"5"→
 -1.5→
--\"\"→",
-    )
-}
+-""→
+"#;
 
 /// What is false is the empty text and any number that is zero.
-#[test]
-fn truth(rt: HostRuntime) -> Result<(), Fail> {
-    assert_values(
-        &rt,
-        rt.alloc(),
-        "\
+const TRUTH: &str = r#"
 !1→0
 ! 1→0
 !!0→0
 !!5→1
 !a→0
-!\"\"→0
-!\"0\"→0
+!""→0
+!"0"→0
 !00→1
 !-0→1
 -!0→-1
@@ -230,7 +177,7 @@ a | b→a
 0 | 00→00
 -0 | x→x
 007 | x→007
-\"0\" | x→\"0\"
+"0" | x→"0"
 0 | 0→0
 a || b→a
 0 || b→b
@@ -244,25 +191,19 @@ a & b→a
 a & 00→0
 7 & 3→7
 a && b→a
-\"\" & a→\"\"
-a & \"\"→a
+"" & a→""
+a & ""→a
 007 & 1→007
 000000000000000000000000000000 | x→x
 000000000000000000000000000001 | x→000000000000000000000000000001
 18446744073709551616 & 1→18446744073709551616
 2 - 2 | x→x
 3 - 2 & x→1
-1 = 2 | x→x",
-    )
-}
+1 = 2 | x→x
+"#;
 
 /// A fault on a side that is not chosen is a fault of the whole.
-#[test]
-fn both_sides_count(rt: HostRuntime) -> Result<(), Fail> {
-    assert_values(
-        &rt,
-        rt.alloc(),
-        "\
+const BOTH_SIDES_COUNT: &str = r#"
 1 | 1 / 0→
 1 / 0 | 1→
 0 & 1 / 0→
@@ -274,17 +215,11 @@ fn both_sides_count(rt: HostRuntime) -> Result<(), Fail> {
 -(1 / 0)→
 1 / 0 = 1→
 a = 1 / 0→
-1 + 1 / 0→",
-    )
-}
+1 + 1 / 0→
+"#;
 
 /// As numbers if both sides are, else by bytes.
-#[test]
-fn comparisons(rt: HostRuntime) -> Result<(), Fail> {
-    assert_values(
-        &rt,
-        rt.alloc(),
-        "\
+const COMPARISONS: &str = r#"
 1 = 1→1
 1 == 1→1
 1 = 2→0
@@ -317,11 +252,11 @@ a = A→0
 a != A→1
 a <= a→1
 a >= b→0
-\"5\" < 5→1
-\"a\" = \"a\"→1
-a = \"a\"→0
-\"\" = \"\"→1
-\"\" < x→1
+"5" < 5→1
+"a" = "a"→1
+a = "a"→0
+"" = ""→1
+"" < x→1
 9223372036854775807 > 9223372036854775806→1
 9223372036854775808 > 9223372036854775807→1
 9223372036854775808 > 10→1
@@ -339,17 +274,11 @@ a = \"a\"→0
 a > -5→1
 (1 + 1) = (3 - 1)→1
 1.5 = 1.50→0
-5 - 10 = -05→1",
-    )
-}
+5 - 10 = -05→1
+"#;
 
 /// Operators group to the left, each level inside the next.
-#[test]
-fn grouping(rt: HostRuntime) -> Result<(), Fail> {
-    assert_values(
-        &rt,
-        rt.alloc(),
-        "\
+const GROUPING: &str = r#"
 1 | 0 & 0→1
 0 & 0 | 1→1
 1 & 0 | 2→2
@@ -389,20 +318,14 @@ fn grouping(rt: HostRuntime) -> Result<(), Fail> {
 -2 % 2 | 8 / -3 < -1 & !0→1
 ((1))→1
 (a)→a
-(\"a b\")→\"a b\"
+("a b")→"a b"
 !(1)→0
 -(1)→-1
-(((1) + ((2))))→3",
-    )
-}
+(((1) + ((2))))→3
+"#;
 
 /// The longest operator first; two that meet are two.
-#[test]
-fn spellings(rt: HostRuntime) -> Result<(), Fail> {
-    assert_values(
-        &rt,
-        rt.alloc(),
-        "\
+const SPELLINGS: &str = r#"
 1+1→2
 1 +1→2
 a=a→1
@@ -427,17 +350,11 @@ a!=b→1
 1 < = 1→
 1 | | 1→
 1 = = 1→
-1 <== 1→",
-    )
-}
+1 <== 1→
+"#;
 
 /// Words, quoted operands with both their quotes, and strays.
-#[test]
-fn operands(rt: HostRuntime) -> Result<(), Fail> {
-    assert_values(
-        &rt,
-        rt.alloc(),
-        "\
+const OPERANDS: &str = r#"
 a→a
 a.b_c$→a.b_c$
 #,;'[]{}@\\^`→#,;'[]{}@\\^`
@@ -445,22 +362,22 @@ SIP/100→
 9223372036854775808→9223372036854775808
 007→007
 1.5→1.5
-\"a b\"→\"a b\"
-\"a:b?~\"→\"a:b?~\"
-\"1 + 1\"→\"1 + 1\"
-\"(\"→\"(\"
-\"\"→\"\"
-\x20\"a\"  →\"a\"
-\"a\" \"b\"→
-\"a\"\"b\"→
+"a b"→"a b"
+"a:b?~"→"a:b?~"
+"1 + 1"→"1 + 1"
+"("→"("
+""→""
+\x20"a"  →"a"
+"a" "b"→
+"a""b"→
 a b→
-a\"b\"→
-\"b\"a→
-\"abc→
-abc\"→
-\"→
-1 = \"a→
-\"a\" = \"→
+a"b"→
+"b"a→
+"abc→
+abc"→
+"→
+1 = "a→
+"a" = "→
 a:b→
 a?b→
 ~a→
@@ -468,17 +385,11 @@ a?b→
 ?→
 ~→
 1 : 1→
-1 = 1 ? 2→",
-    )
-}
+1 = 1 ? 2→
+"#;
 
 /// What the grammar does not allow.
-#[test]
-fn faults(rt: HostRuntime) -> Result<(), Fail> {
-    assert_values(
-        &rt,
-        rt.alloc(),
-        "\
+const FAULTS: &str = r#"
 →
 \x20→
 \x20  →
@@ -511,125 +422,174 @@ fn faults(rt: HostRuntime) -> Result<(), Fail> {
 (a b)→
 % 2→
 / 2→
-< 2→",
-    )
-}
+< 2→
+"#;
 
-/// Nested parentheses, minus signs and `!`, up to 32 inside one another and beyond.
-#[test]
-fn hostile(rt: HostRuntime) -> Result<(), Fail> {
-    let alloc = rt.alloc();
-    for (opening, operand, closing, count, want) in [
-        ("(", "1", ")", 32, "1"),
-        ("(", "1", ")", 33, ""),
-        ("-", "1", "", 32, "1"),
-        ("-", "1", "", 33, ""),
-        ("-", "1", "", 31, "-1"),
-        ("!", "0", "", 32, "0"),
-        ("!", "0", "", 33, ""),
-        ("(-", "1", ")", 16, "1"),
-        ("(-", "1", ")", 17, ""),
-        ("-(", "1", ")", 16, "1"),
-        ("1 + (", "1", ")", 32, "33"),
-        ("1 + (", "1", ")", 33, ""),
-        ("(", "1", " + 1)", 32, "33"),
-        ("(", "1", " + 1)", 33, ""),
-        ("(", "1", ")", 100000, ""),
-        ("-", "1", "", 100000, ""),
-    ] {
-        let text = nested(
-            alloc,
-            opening.as_bytes(),
-            operand.as_bytes(),
-            closing.as_bytes(),
-            count,
-        )?;
-        assert_value(&rt, alloc, text.as_slice(), want.as_bytes())?;
+/// Words and quoted operands of bytes above 127, whose order is that of bytes.
+const HIGH_BYTES: &str = r#"
+# Of characters.
+é→é
+é = é→1
+é < z→0
+z < é→1
+"é" < é→1
+é + 1→
+!é→0
+é | 1→é
+日本 > 1→1
+# Of bytes that are no characters.
+\xFF\x80→\xFF\x80
+\xFF=\xFF→1
+\xFF>\xFE→1
+\x7F<\x80→1
+\xB2+1→
+"#;
+
+const TABLES: &[&str] = &[
+    EXPRESSIONS,
+    SUMS,
+    PRODUCTS,
+    QUOTIENTS,
+    REMAINDERS,
+    NEGATIONS,
+    TRUTH,
+    BOTH_SIDES_COUNT,
+    COMPARISONS,
+    GROUPING,
+    SPELLINGS,
+    OPERANDS,
+    FAULTS,
+    HIGH_BYTES,
+];
+
+fn check_tables(rt: &impl Abort, alloc: Global) -> Result<(), Fail> {
+    for table in TABLES {
+        check_table(rt, alloc, table)?;
     }
     Ok(())
 }
 
-/// Parentheses side by side do not stand inside one another.
+/// The values of the tables above. The laws that a text has one tree and a tree one value are called once.
 #[test]
-fn side_by_side(rt: HostRuntime) -> Result<(), Fail> {
-    let mut text = nested(rt.alloc(), b"(", b"1", b")", 32)?;
-    text.extend_from_slice(b" + ")?;
-    let other = nested(rt.alloc(), b"-", b"2", b"", 32)?;
-    text.extend_from_slice(other.as_slice())?;
-    assert_value(&rt, rt.alloc(), text.as_slice(), b"3")
+fn expressions_have_these_values(rt: HostRuntime) -> Result<(), Fail> {
+    one_tree();
+    one_value();
+    check_tables(&rt, rt.alloc())
 }
 
-/// Every byte of 32 or less is a blank.
-#[test]
-fn blanks(rt: HostRuntime) -> Result<(), Fail> {
-    let alloc = rt.alloc();
-    for blank in 0u8..33 {
-        let sum = [blank, b'1', blank, b'+', blank, blank, b'2', blank];
-        assert_value(&rt, alloc, sum.as_slice(), b"3")?;
-        assert_value(&rt, alloc, [b'1', blank, b'2'].as_slice(), b"")?;
-        assert_value(&rt, alloc, [b'a', blank, b'=', b'a'].as_slice(), b"1")?;
-        assert_value(&rt, alloc, [b'1', b'<', blank, b'=', b'1'].as_slice(), b"")?;
-        let quoted = [b'"', blank, b'"'];
-        assert_value(&rt, alloc, quoted.as_slice(), quoted.as_slice())?;
+/// That many copies of the piece behind the text.
+fn push_copies(text: &mut Vec<u8>, piece: &[u8], count: usize) -> Result<(), AllocError> {
+    for _ in 0..count {
+        text.extend_from_slice(piece)?;
     }
     Ok(())
 }
 
-/// Every byte alone is a word, but for the blanks and the marks.
-#[test]
-fn bytes_alone(rt: HostRuntime) -> Result<(), Fail> {
-    let marks = b"\"|&=<>+-*/%!():?~";
-    for byte in 0u8..=255 {
-        let text = [byte];
-        if byte > 32 && !marks.contains(&byte) {
-            assert_value(&rt, rt.alloc(), text.as_slice(), text.as_slice())?;
-        } else {
-            assert_value(&rt, rt.alloc(), text.as_slice(), b"")?;
+/// What stands behind a `{`: the copies of a piece up to the `}`, and the rest as it is.
+fn push_part(text: &mut Vec<u8>, copies: &str, rest: &str) -> Result<(), Fail> {
+    let (count, piece) = copies.split_once(' ').ok_or("no count")?;
+    let count: usize = count.parse().ok().ok_or("no number")?;
+    push_copies(text, piece.as_bytes(), count)?;
+    text.extend_from_slice(rest.as_bytes())?;
+    Ok(())
+}
+
+/// The text of a cell, in which `{COUNT PIECE}` is that many copies of the piece.
+fn repeated(alloc: Global, cell: &str) -> Result<Vec<u8>, Fail> {
+    let mut text = Vec::new(alloc);
+    for part in cell.split('{') {
+        match part.split_once('}') {
+            Some((copies, rest)) => push_part(&mut text, copies, rest)?,
+            None => text.extend_from_slice(part.as_bytes())?,
+        }
+    }
+    Ok(text)
+}
+
+/// Texts and values with `{COUNT PIECE}` for copies of a piece.
+const REPEATED: &str = r"
+# Nested parentheses, minus signs and `!`, up to 32 inside one another and beyond.
+{32 (}1{32 )}→1
+{33 (}1{33 )}→
+{32 -}1→1
+{33 -}1→
+{31 -}1→-1
+{32 !}0→0
+{33 !}0→
+{16 (-}1{16 )}→1
+{17 (-}1{17 )}→
+{16 -(}1{16 )}→1
+{32 1 + (}1{32 )}→33
+{33 1 + (}1{33 )}→
+{32 (}1{32  + 1)}→33
+{33 (}1{33  + 1)}→
+{100000 (}1{100000 )}→
+{100000 -}1→
+# Parentheses side by side do not stand inside one another.
+{32 (}1{32 )} + {32 -}2→3
+# Long texts take time in proportion.
+{100000 1 + }1→100001
+0{100000  | 0}→0
+{100000 0}7→{100000 0}7
+{100000 0}7{100000  & 1}→{100000 0}7
+";
+
+fn check_repeated(rt: &impl Abort, alloc: Global, text: &str, want: &str) -> Result<(), Fail> {
+    let text = repeated(alloc, text)?;
+    let want = repeated(alloc, want)?;
+    let value = evaluate(alloc, &text)?;
+    assert!(rt; value.as_slice() == want.as_slice());
+    Ok(())
+}
+
+fn check_all_repeated(rt: &impl Abort, alloc: Global) -> Result<(), Fail> {
+    for row in REPEATED.lines() {
+        match row.split_once('→') {
+            Some((text, want)) => check_repeated(rt, alloc, text, want)?,
+            None => assert!(rt; is_heading(row), "no arrow in {row:?}"),
         }
     }
     Ok(())
 }
 
-/// Words and quoted operands of bytes above 127, whose order is that of bytes.
 #[test]
-fn high_bytes(rt: HostRuntime) -> Result<(), Fail> {
-    let alloc = rt.alloc();
-    assert_values(
-        &rt,
-        alloc,
-        "é→é
-é = é→1
-é < z→0
-z < é→1
-\"é\" < é→1
-é + 1→
-!é→0
-é | 1→é
-日本 > 1→1",
-    )?;
-    assert_value(&rt, alloc, &[0xff, 0x80], &[0xff, 0x80])?;
-    assert_value(&rt, alloc, &[0xff, b'=', 0xff], b"1")?;
-    assert_value(&rt, alloc, &[0xff, b'>', 0xfe], b"1")?;
-    assert_value(&rt, alloc, &[0x7f, b'<', 0x80], b"1")?;
-    assert_value(&rt, alloc, &[0xb2, b'+', b'1'], b"")
+fn deep_and_long_expressions_have_these_values(rt: HostRuntime) -> Result<(), Fail> {
+    check_all_repeated(&rt, rt.alloc())
 }
 
-/// Long texts take time in proportion.
-#[test]
-fn long_texts(rt: HostRuntime) -> Result<(), Fail> {
-    let alloc = rt.alloc();
-    let sum = nested(alloc, b"1 + ", b"1", b"", 100000)?;
-    assert_value(&rt, alloc, sum.as_slice(), b"100001")?;
-    let choices = nested(alloc, b"", b"0", b" | 0", 100000)?;
-    assert_value(&rt, alloc, choices.as_slice(), b"0")?;
-    let number = nested(alloc, b"0", b"7", b"", 100000)?;
-    assert_value(&rt, alloc, number.as_slice(), number.as_slice())?;
-    let kept = nested(alloc, b"", number.as_slice(), b" & 1", 100000)?;
-    assert_value(&rt, alloc, kept.as_slice(), number.as_slice())
+/// A byte of 32 or less is a blank.
+fn check_blank(rt: &impl Abort, alloc: Global, blank: u8) -> Result<(), Fail> {
+    let sum = [blank, b'1', blank, b'+', blank, blank, b'2', blank];
+    assert_value(rt, alloc, &sum, b"3")?;
+    assert_value(rt, alloc, &[b'1', blank, b'2'], b"")?;
+    assert_value(rt, alloc, &[b'a', blank, b'=', b'a'], b"1")?;
+    assert_value(rt, alloc, &[b'1', b'<', blank, b'=', b'1'], b"")?;
+    let quoted = [b'"', blank, b'"'];
+    assert_value(rt, alloc, &quoted, &quoted)
+}
+
+/// A byte alone is a word, but for the blanks and the marks.
+fn check_alone(rt: &impl Abort, alloc: Global, byte: u8) -> Result<(), Fail> {
+    let marks = b"\"|&=<>+-*/%!():?~";
+    let text = [byte];
+    if byte > 32 && !marks.contains(&byte) {
+        assert_value(rt, alloc, &text, &text)
+    } else {
+        assert_value(rt, alloc, &text, b"")
+    }
+}
+
+fn check_bytes(rt: &impl Abort, alloc: Global) -> Result<(), Fail> {
+    for blank in 0u8..33 {
+        check_blank(rt, alloc, blank)?;
+    }
+    for byte in 0u8..=255 {
+        check_alone(rt, alloc, byte)?;
+    }
+    Ok(())
 }
 
 #[test]
-fn laws() {
-    one_tree();
-    one_value();
+fn bytes_are_blanks_marks_or_words(rt: HostRuntime) -> Result<(), Fail> {
+    check_bytes(&rt, rt.alloc())
 }

@@ -13,7 +13,8 @@ pub(crate) trait Question {
     fn answer(alloc: Global, asked: &str) -> Result<String, Fail>;
 }
 
-fn is_heading(line: &str) -> bool {
+/// Whether a line with no case is a heading.
+pub(crate) fn is_heading(line: &str) -> bool {
     line.is_empty() || line.starts_with("# ")
 }
 
@@ -39,6 +40,18 @@ pub(crate) fn check<Q: Question>(rt: &impl Abort, alloc: Global, table: &str) ->
             Some((asked, want)) => check_case::<Q>(rt, alloc, asked, want)?,
             None => assert!(rt; is_heading(line), "no answer in {line:?}"),
         }
+    }
+    Ok(())
+}
+
+/// As `check`, of one table after another.
+pub(crate) fn check_all<Q: Question>(
+    rt: &impl Abort,
+    alloc: Global,
+    tables: &[&str],
+) -> Result<(), Fail> {
+    for table in tables {
+        check::<Q>(rt, alloc, table)?;
     }
     Ok(())
 }
