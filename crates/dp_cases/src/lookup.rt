@@ -1,3 +1,4 @@
+//! Look-ups in dialplans, worked out by hand from the rules.
 mod includes;
 mod labels;
 mod large;
@@ -7,3 +8,29 @@ mod orders;
 mod priorities;
 mod render;
 mod rows;
+
+use crate::lookup::render::check;
+use std::alloc::Global;
+use std::process::Abort;
+use std::test::Fail;
+
+const TABLES: &[&str] = &[
+    rows::ROWS,
+    names::NAMES,
+    priorities::PRIORITIES,
+    includes::INCLUDES,
+    labels::LABELS,
+    more::MORE,
+];
+
+fn check_tables(rt: &impl Abort, alloc: Global) -> Result<(), Fail> {
+    for table in TABLES {
+        check(rt, alloc, table)?;
+    }
+    Ok(())
+}
+
+#[test]
+fn look_ups_have_these_answers(rt: HostRuntime) -> Result<(), Fail> {
+    check_tables(&rt, rt.alloc())
+}

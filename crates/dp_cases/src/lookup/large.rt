@@ -8,14 +8,16 @@ const CONTEXTS: usize = 10_000;
 
 const CLASSES: usize = 1_000_000;
 
-/// Contexts `c0` to `c9999`, each of which includes the next, and the last of which has the extension `77`.
-fn chain(alloc: Global) -> Result<String, NoMemory> {
+/// Contexts `c0` to `c9999`, each of which includes the next, and the last of which has the extension `77` and this line.
+fn chain(alloc: Global, last_line: &str) -> Result<Dialplan, Fail> {
     let mut text = String::new(alloc);
     for number in 1..CONTEXTS {
         write!(text, "[c{}]\ninclude => c{number}\n", number - 1)?;
     }
     text.push_str("[c9999]\nexten => 77,1,NoOp()\n")?;
-    Ok(text)
+    text.push_str(last_line)?;
+    let (plan, _) = Dialplan::load(alloc, text.as_bytes())?;
+    Ok(plan)
 }
 
 /// The entry of `77` from a context, and how long the context's order is.
@@ -49,24 +51,26 @@ fn check_contexts(
     Ok(())
 }
 
-#[test]
-fn a_chain_of_includes_is_followed(rt: HostRuntime) -> Result<(), Fail> {
-    let text = chain(rt.alloc())?;
-    let (plan, _) = Dialplan::load(rt.alloc(), text.as_bytes())?;
-    check_contexts(&rt, rt.alloc(), &plan, &[(b"c0", CONTEXTS), (b"c9999", 1)])
+fn check_chain(rt: &impl Abort, alloc: Global) -> Result<(), Fail> {
+    let plan = chain(alloc, "")?;
+    check_contexts(rt, alloc, &plan, &[(b"c0", CONTEXTS), (b"c9999", 1)])
 }
 
-#[test]
-fn a_ring_of_includes_is_followed(rt: HostRuntime) -> Result<(), Fail> {
-    let mut text = chain(rt.alloc())?;
-    text.push_str("include => c0\n")?;
-    let (plan, _) = Dialplan::load(rt.alloc(), text.as_bytes())?;
+fn check_ring(rt: &impl Abort, alloc: Global) -> Result<(), Fail> {
+    let plan = chain(alloc, "include => c0\n")?;
     let contexts: [(&[u8], usize); 3] = [
         (b"c0", CONTEXTS),
         (b"c5000", CONTEXTS),
         (b"c9999", CONTEXTS),
     ];
-    check_contexts(&rt, rt.alloc(), &plan, &contexts)
+    check_contexts(rt, alloc, &plan, &contexts)
+}
+
+/// A chain of 10,000 includes is followed to its end, and a ring of them once.
+#[test]
+fn chains_and_rings_of_includes_are_followed(rt: HostRuntime) -> Result<(), Fail> {
+    check_chain(&rt, rt.alloc())?;
+    check_ring(&rt, rt.alloc())
 }
 
 /// A dialplan with a name of 1,000,000 classes.

@@ -28,21 +28,32 @@ const ORDERS: [(&[u8], &str); 9] = [
     (b"A", ""),
 ];
 
-#[test]
-fn orders_are_depth_first(rt: HostRuntime) -> Result<(), Fail> {
-    visit_is_the_visit();
-    let (plan, _) = Dialplan::load(rt.alloc(), PLAN)?;
-    for (context, want) in ORDERS {
-        let context = Text::copy_of(rt.alloc(), context)?;
-        let order = SearchOrder::of(rt.alloc(), &plan, &context)?;
-        let mut got = String::new(rt.alloc());
-        push_order(&mut got, &plan, &order)?;
-        assert_eq!(rt; got.as_str(), want, "of {context}");
-    }
+fn check_order(
+    rt: &impl Abort,
+    alloc: Global,
+    plan: &Dialplan,
+    order: &SearchOrder,
+    want: &str,
+) -> Result<(), Fail> {
+    let mut got = String::new(alloc);
+    push_order(&mut got, plan, order)?;
+    assert_eq!(rt; got.as_str(), want);
     Ok(())
 }
 
-/// Fills the order again and again, and holds it against the one that is wanted.
+/// A new order of the context is the one that is wanted.
+fn check_new(
+    rt: &impl Abort,
+    alloc: Global,
+    plan: &Dialplan,
+    context: &Text,
+    want: &str,
+) -> Result<(), Fail> {
+    let order = SearchOrder::of(alloc, plan, context)?;
+    check_order(rt, alloc, plan, &order, want)
+}
+
+/// Fills the order again and again, and holds it, and a new one each time, against the one that is wanted.
 fn refill(
     rt: &impl Abort,
     alloc: Global,
@@ -55,27 +66,22 @@ fn refill(
         let (context, want) = ORDERS[number];
         let context = Text::copy_of(alloc, context)?;
         order.fill(plan, &context);
-        let mut got = String::new(alloc);
-        push_order(&mut got, plan, order)?;
-        assert_eq!(rt; got.as_str(), want, "of {context}");
+        check_order(rt, alloc, plan, order, want)?;
+        check_new(rt, alloc, plan, &context, want)?;
     }
     Ok(())
 }
 
-/// An order holds nothing of what stood in it before.
-#[test]
-fn an_order_is_filled_again(rt: HostRuntime) -> Result<(), Fail> {
-    let (plan, _) = Dialplan::load(rt.alloc(), PLAN)?;
-    let mut order = SearchOrder::room(rt.alloc(), &plan)?;
+fn check_orders(rt: &impl Abort, alloc: Global, plan: &Dialplan) -> Result<(), Fail> {
+    let mut order = SearchOrder::room(alloc, plan)?;
     assert_eq!(rt; order.contexts().len(), 0);
-    refill(&rt, rt.alloc(), &plan, &mut order)
+    refill(rt, alloc, plan, &mut order)
 }
 
+/// Orders are depth first, and an order that is filled again holds nothing of what stood in it before.
 #[test]
-fn an_empty_dialplan_has_empty_orders(rt: HostRuntime) -> Result<(), Fail> {
-    let (plan, _) = Dialplan::load(rt.alloc(), b"")?;
-    let context = Text::copy_of(rt.alloc(), b"main")?;
-    let order = SearchOrder::of(rt.alloc(), &plan, &context)?;
-    assert_eq!(rt; order.contexts().len(), 0);
-    Ok(())
+fn orders_are_depth_first(rt: HostRuntime) -> Result<(), Fail> {
+    visit_is_the_visit();
+    let (plan, _) = Dialplan::load(rt.alloc(), PLAN)?;
+    check_orders(&rt, rt.alloc(), &plan)
 }
