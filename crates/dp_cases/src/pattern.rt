@@ -4,9 +4,10 @@ mod order;
 mod reading;
 mod spelling;
 
-use crate::table::{Question, bytes_of};
+use crate::table::{Question, bytes_of, check_all};
 use dp_pattern::{
-    Class, Name, NoMemory, Parts, PatternFault, Tail, compare, could_match_more, matches, same,
+    Class, Name, NoMemory, Parts, PatternFault, Tail, compare, compare_classes, could_match_more,
+    matches, order_is_total, same,
 };
 use std::alloc::Global;
 use std::cmp::Ordering;
@@ -15,7 +16,8 @@ use std::test::Fail;
 /// A question of names: a word, a blank, and one or two cells with a `|` between them.
 ///
 /// `read NAME` is the name's spelling or `fault CODE`; `matches NAME|TEXT` and `goes_on NAME|TEXT` are `yes` or `no`;
-/// `order NAME|NAME` is `before`, `behind` or `same`; `parts NAME` is what the name is made of.
+/// `order NAME|NAME` is `before`, `behind` or `same`, and `copy NAME` that of a name and its clone; `parts NAME` is what
+/// the name is made of, and `classes NAME` how its first class stands to its second, and this to its clone.
 struct Names;
 
 impl Question for Names {
@@ -87,15 +89,51 @@ fn push_parts(out: &mut String, name: &Name) -> Result<(), NoMemory> {
     }
 }
 
-fn push_answer(out: &mut String, alloc: Global, word: &str, cell: &str) -> Result<(), Fail> {
-    match word {
-        "read" => push_read(out, alloc, cell)?,
-        "parts" => {
-            let name = name(alloc, cell)?;
-            push_parts(out, &name)?;
-        }
-        _ => out.push_str("no such question")?,
+/// How the first class stands to the second, by both orders of the comparison.
+fn order_of_classes(left: &Class, right: &Class) -> &'static str {
+    match (compare_classes(left, right), compare_classes(right, left)) {
+        (Ordering::Less, Ordering::Greater) => "before",
+        (Ordering::Greater, Ordering::Less) => "behind",
+        (Ordering::Equal, Ordering::Equal) => "same",
+        _ => "two answers that do not agree",
     }
+}
+
+fn push_order_of_classes(out: &mut String, first: &Class, second: &Class) -> Result<(), NoMemory> {
+    out.push_str(order_of_classes(first, second))?;
+    out.push(' ')?;
+    let copy = second.clone()?;
+    out.push_str(order_of_classes(second, &copy))
+}
+
+fn push_first_classes(out: &mut String, name: &Name) -> Result<(), NoMemory> {
+    match name.parts() {
+        Parts::Pattern([first, second, ..], _) => push_order_of_classes(out, first, second),
+        _ => out.push_str("no two classes"),
+    }
+}
+
+fn push_order_of_copy(out: &mut String, name: &Name) -> Result<(), NoMemory> {
+    let copy = name.clone()?;
+    out.push_str(order_of(name, &copy))
+}
+
+fn push_of_name(out: &mut String, word: &str, name: &Name) -> Result<(), NoMemory> {
+    match word {
+        "parts" => push_parts(out, name),
+        "classes" => push_first_classes(out, name),
+        "copy" => push_order_of_copy(out, name),
+        _ => out.push_str("no such question"),
+    }
+}
+
+fn push_answer(out: &mut String, alloc: Global, word: &str, cell: &str) -> Result<(), Fail> {
+    if word == "read" {
+        push_read(out, alloc, cell)?;
+        return Ok(());
+    }
+    let name = name(alloc, cell)?;
+    push_of_name(out, word, &name)?;
     Ok(())
 }
 
@@ -141,4 +179,25 @@ fn push_answer_of_two(
         _ => out.push_str("no such question")?,
     }
     Ok(())
+}
+
+const TABLES: &[&str] = &[
+    matching::MATCHES,
+    matching::WILDCARDS,
+    matching::GOES_ON,
+    order::IN_ORDER,
+    order::SAME,
+    order::SPECIFIC_FIRST,
+    order::CLASSES_AND_DOUBLES,
+    reading::FAULTS,
+    reading::PARTS,
+    spelling::SPELLINGS,
+    spelling::COPIES,
+];
+
+/// The answers of the tables. The law that the order of names is total is called once.
+#[test]
+fn names_have_these_answers(rt: HostRuntime) -> Result<(), Fail> {
+    order_is_total();
+    check_all::<Names>(&rt, rt.alloc(), TABLES)
 }

@@ -1,9 +1,7 @@
 //! Which texts match a name, and which could match by going on.
-use crate::pattern::Names;
-use crate::table::check;
-use std::test::Fail;
 
-const MATCHES: &str = r"
+/// Texts that match a name, and texts that do not.
+pub(super) const MATCHES: &str = r"
 # Plain names.
 matches 100|100→yes
 matches 100|1-0-0→yes
@@ -98,12 +96,8 @@ matches caf\xC3\xA9|caf\xC3\xA9→yes
 matches caf\xC3\xA9|caf\xC3\xA8→no
 ";
 
-#[test]
-fn names_match_texts(rt: HostRuntime) -> Result<(), Fail> {
-    check::<Names>(&rt, rt.alloc(), MATCHES)
-}
-
-const WILDCARDS: &str = r"
+/// What `.` and `!` match, and which of them goes on.
+pub(super) const WILDCARDS: &str = r"
 matches _1!|1→yes
 matches _1.|1→no
 matches _1!|12→yes
@@ -112,12 +106,8 @@ goes_on _1.|1→yes
 goes_on _1!|1→no
 ";
 
-#[test]
-fn wildcards(rt: HostRuntime) -> Result<(), Fail> {
-    check::<Names>(&rt, rt.alloc(), WILDCARDS)
-}
-
-const GOES_ON: &str = r"
+/// Texts that could match by going on.
+pub(super) const GOES_ON: &str = r"
 goes_on 100|→yes
 goes_on 100|1→yes
 goes_on 100|1-0-→yes
@@ -144,8 +134,3 @@ goes_on _1!|1→no
 goes_on _!|→no
 goes_on _X!|1→no
 ";
-
-#[test]
-fn texts_go_on(rt: HostRuntime) -> Result<(), Fail> {
-    check::<Names>(&rt, rt.alloc(), GOES_ON)
-}

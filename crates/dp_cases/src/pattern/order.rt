@@ -1,11 +1,7 @@
 //! The order of names, and which names are one.
-use crate::pattern::Names;
-use crate::table::check;
-use dp_pattern::order_is_total;
-use std::test::Fail;
 
 /// The first name of each pair stands before the second.
-const IN_ORDER: &str = r"
+pub(super) const IN_ORDER: &str = r"
 # Plain names by their bytes, and before patterns.
 order 100|200→before
 order 100|1000→before
@@ -48,13 +44,8 @@ order _.|_!→before
 order _1.|_1!→before
 ";
 
-#[test]
-fn names_are_in_order(rt: HostRuntime) -> Result<(), Fail> {
-    order_is_total();
-    check::<Names>(&rt, rt.alloc(), IN_ORDER)
-}
-
-const SAME: &str = r"
+/// Which names are one, and some that are not.
+pub(super) const SAME: &str = r"
 order 100|1-00→same
 order _N|_[2-9]→same
 order _n|_N→same
@@ -74,12 +65,8 @@ order _1.|_1!→before
 order _a|_A→behind
 ";
 
-#[test]
-fn names_are_one(rt: HostRuntime) -> Result<(), Fail> {
-    check::<Names>(&rt, rt.alloc(), SAME)
-}
-
-const SPECIFIC_FIRST: &str = r"
+/// The more specific name stands first.
+pub(super) const SPECIFIC_FIRST: &str = r"
 order 123|_1XX→before
 order _1XX|_X.→before
 matches 123|123→yes
@@ -93,12 +80,8 @@ matches _X.|12→yes
 matches _X.|1→no
 ";
 
-#[test]
-fn specific_first(rt: HostRuntime) -> Result<(), Fail> {
-    check::<Names>(&rt, rt.alloc(), SPECIFIC_FIRST)
-}
-
-const CLASSES_AND_DOUBLES: &str = r"
+/// Classes of one size are in the order of their members, and patterns of equal classes are one name.
+pub(super) const CLASSES_AND_DOUBLES: &str = r"
 order _[4-8]X|_NX→before
 order _[0-4]X|_[4-8]X→before
 order _NX|_[2-9]X→same
@@ -106,8 +89,3 @@ matches _[0-4]X|45→yes
 matches _[4-8]X|45→yes
 matches _NX|45→yes
 ";
-
-#[test]
-fn classes_and_doubles(rt: HostRuntime) -> Result<(), Fail> {
-    check::<Names>(&rt, rt.alloc(), CLASSES_AND_DOUBLES)
-}

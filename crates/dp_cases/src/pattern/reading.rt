@@ -1,12 +1,10 @@
 //! Texts that are no names, and what names are made of.
-use crate::pattern::{Names, name};
-use crate::table::check;
-use dp_pattern::{Class, Name, NameFault, Parts, PatternFault, compare_classes};
-use std::cmp::Ordering;
-use std::process::Abort;
+use dp_pattern::{NameFault, NoMemory, PatternFault};
+use std::alloc::Global;
 use std::test::Fail;
 
-const FAULTS: &str = r"
+/// Texts that are no names.
+pub(super) const FAULTS: &str = r"
 read →fault 10
 read -→fault 10
 read ---→fault 10
@@ -59,65 +57,52 @@ read _[ 9-0]→fault 15
 read _ [→fault 15
 ";
 
-#[test]
-fn fault_lines(rt: HostRuntime) -> Result<(), Fail> {
-    check::<Names>(&rt, rt.alloc(), FAULTS)
-}
-
-#[test]
-fn faults_have_names(rt: HostRuntime) -> Result<(), Fail> {
-    let faults = [
-        (NameFault::EmptyName, 10, "EmptyName"),
-        (NameFault::EmptySet, 11, "EmptySet"),
-        (NameFault::BadRange, 12, "BadRange"),
-        (NameFault::OpenSet, 13, "OpenSet"),
-        (NameFault::AfterWildcard, 14, "AfterWildcard"),
-        (NameFault::BadByte, 15, "BadByte"),
-    ];
-    for (fault, code, printed) in faults {
-        assert_eq!(rt; fault.code(), code);
-        assert_eq!(rt; fault.name(), printed);
-        let text = format!(in rt.alloc(); "{fault}")?;
-        assert_eq!(rt; text.as_str(), printed);
-        let whole = PatternFault::from(fault);
-        let text = format!(in rt.alloc(); "{whole}")?;
-        assert_eq!(rt; text.as_str(), printed);
-    }
-    let text = format!(in rt.alloc(); "{}", PatternFault::NoMemory)?;
-    assert_eq!(rt; text.as_str(), "out of memory");
-    Ok(())
-}
-
-const PARTS: &str = r"
+/// What names are made of. The class of five members stands before that of eight.
+pub(super) const PARTS: &str = r"
 parts 1-00→100
 parts _N[0-4]a.→[23456789][01234][a] dot
 parts _!→ bang
 parts _1-2→[1][2] end
+classes _N[0-4]a.→behind same
+";
+
+const NAME_FAULTS: [NameFault; 6] = [
+    NameFault::EmptyName,
+    NameFault::EmptySet,
+    NameFault::BadRange,
+    NameFault::OpenSet,
+    NameFault::AfterWildcard,
+    NameFault::BadByte,
+];
+
+/// The code and the name of each fault, and how it is printed, alone and as a fault of a reading.
+fn push_faults(out: &mut String) -> Result<(), NoMemory> {
+    for fault in NAME_FAULTS {
+        let whole = PatternFault::from(fault);
+        write!(out, "{} {} {fault} {whole}\n", fault.code(), fault.name())?;
+    }
+    write!(out, "{}\n", PatternFault::NoMemory)
+}
+
+fn shown(alloc: Global) -> Result<String, NoMemory> {
+    let mut out = String::new(alloc);
+    push_faults(&mut out)?;
+    Ok(out)
+}
+
+const PRINTED: &str = "\
+10 EmptyName EmptyName EmptyName
+11 EmptySet EmptySet EmptySet
+12 BadRange BadRange BadRange
+13 OpenSet OpenSet OpenSet
+14 AfterWildcard AfterWildcard AfterWildcard
+15 BadByte BadByte BadByte
+out of memory
 ";
 
 #[test]
-fn parts(rt: HostRuntime) -> Result<(), Fail> {
-    check::<Names>(&rt, rt.alloc(), PARTS)
-}
-
-fn check_classes(rt: &impl Abort, first: &Class, second: &Class) -> Result<(), Fail> {
-    assert!(rt; compare_classes(second, first) == Ordering::Less);
-    assert!(rt; compare_classes(first, second) == Ordering::Greater);
-    let copy = second.clone()?;
-    assert!(rt; compare_classes(second, &copy) == Ordering::Equal);
+fn faults_have_these_codes_and_names(rt: HostRuntime) -> Result<(), Fail> {
+    let got = shown(rt.alloc())?;
+    assert_eq!(rt; got.as_str(), PRINTED);
     Ok(())
-}
-
-fn check_pattern(rt: &impl Abort, name: &Name) -> Result<(), Fail> {
-    match name.parts() {
-        Parts::Pattern([first, second, ..], _) => check_classes(rt, first, second),
-        _ => Err("no two classes")?,
-    }
-}
-
-/// The class of five members stands before that of eight.
-#[test]
-fn classes_are_compared(rt: HostRuntime) -> Result<(), Fail> {
-    let pattern = name(rt.alloc(), "_N[0-4]a.")?;
-    check_pattern(&rt, &pattern)
 }

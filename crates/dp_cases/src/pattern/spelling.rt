@@ -1,11 +1,7 @@
 //! Canonical spellings.
-use crate::pattern::{Names, name, order_of};
-use crate::table::check;
-use dp_pattern::{Name, NoMemory};
-use std::test::Fail;
 
 /// A name has one spelling, which is read as the same name.
-const SPELLINGS: &str = r"
+pub(super) const SPELLINGS: &str = r"
 read 100→100
 order 100|100→same
 read 1-00→100
@@ -74,22 +70,9 @@ order _!|_!→same
 read _[\xFF\x80a]\xE9→_[a\xC2\x80ÿ]é
 ";
 
-#[test]
-fn spellings(rt: HostRuntime) -> Result<(), Fail> {
-    check::<Names>(&rt, rt.alloc(), SPELLINGS)
-}
-
-fn order_of_copy(name: &Name) -> Result<&'static str, NoMemory> {
-    let copy = name.clone()?;
-    Ok(order_of(name, &copy))
-}
-
-#[test]
-fn a_copy_is_the_same_name(rt: HostRuntime) -> Result<(), Fail> {
-    for text in ["100", "_NX.", "_[a-c]!"] {
-        let read = name(rt.alloc(), text)?;
-        let order = order_of_copy(&read)?;
-        assert_eq!(rt; order, "same", "{text}");
-    }
-    Ok(())
-}
+/// A copy is the same name.
+pub(super) const COPIES: &str = r"
+copy 100→same
+copy _NX.→same
+copy _[a-c]!→same
+";
