@@ -8,7 +8,7 @@ mod stores;
 ghost use Rattle.std.specs.Prelude.{◌≡◌, codes, if◌then◌else◌, ℕ, List};
 ghost use Rattle.dp_conf.specs.Words.{same_text};
 
-use crate::table::{Question, bytes_of};
+use crate::table::{Question, bytes_of, check_all};
 use dp_conf::{NoMemory, Text};
 use dp_vars::{
     ChannelSeen, Counts, Globals, Scope, Store, Template, TemplateFault, Variable, expand,
@@ -160,4 +160,17 @@ impl Question for Expanded {
         let out = shown(alloc, &world, &text)?;
         Ok(out)
     }
+}
+
+const TABLES: &[&str] = &[
+    functions::FUNCTIONS,
+    groups::GROUPS,
+    names::NAMES,
+    parts::PARTS,
+    stores::STORES,
+];
+
+#[test]
+fn texts_have_these_values(rt: HostRuntime) -> Result<(), Fail> {
+    check_all::<Expanded>(&rt, rt.alloc(), TABLES)
 }

@@ -1,9 +1,7 @@
 //! Functions and their arguments.
-use crate::table::check;
-use crate::vars::Expanded;
-use std::test::Fail;
 
-const FUNCTIONS: &str = r"
+/// Functions, with what stands between their parentheses.
+pub(super) const FUNCTIONS: &str = r"
 ${LEN()}→0
 ${LEN(abc)}→3
 ${LEN( a )}→3
@@ -66,8 +64,3 @@ gone ; ${LEN(ab)}→2
 gone ; ${LOCAL(A)}→
 gone ; ${QUEUE_WAITING_COUNT(sales)}→3
 ";
-
-#[test]
-fn functions_have_these_values(rt: HostRuntime) -> Result<(), Fail> {
-    check::<Expanded>(&rt, rt.alloc(), FUNCTIONS)
-}

@@ -1,11 +1,13 @@
 //! Groups, and openings without their ends.
 use crate::table::{Question, bytes_of, check};
-use crate::vars::{Expanded, World, shown};
+use crate::vars::{World, shown};
 use dp_conf::{NoMemory, nesting};
 use std::alloc::Global;
+use std::process::Abort;
 use std::test::Fail;
 
-const GROUPS: &str = r#"
+/// Groups inside one another, and openings without their ends.
+pub(super) const GROUPS: &str = r#"
 →
 plain, {x} [y] $ $$ }→plain, {x} [y] $ $$ }
 set A=1 ; $${A}→$1
@@ -48,11 +50,6 @@ set A$=1 ; ${A$}→1
 set A$=1 ; ${A$→${A$
 "#;
 
-#[test]
-fn groups_have_these_values(rt: HostRuntime) -> Result<(), Fail> {
-    check::<Expanded>(&rt, rt.alloc(), GROUPS)
-}
-
 /// How deep the groups of a text stand inside each other.
 struct Nesting;
 
@@ -81,11 +78,6 @@ ${${${→0
 {[}]→0
 $${a}→1
 ";
-
-#[test]
-fn groups_nest_so_deep(rt: HostRuntime) -> Result<(), Fail> {
-    check::<Nesting>(&rt, rt.alloc(), NESTING)
-}
 
 fn repeated(alloc: Global, openings: usize, ends: usize) -> Result<Vec<u8>, NoMemory> {
     let mut text = Vec::new(alloc);
@@ -128,7 +120,13 @@ const LIMIT: &str = r"
 100000 1→1 199998
 ";
 
+fn check_nesting(rt: &impl Abort, alloc: Global) -> Result<(), Fail> {
+    check::<Nesting>(rt, alloc, NESTING)?;
+    check::<Deep>(rt, alloc, LIMIT)
+}
+
+/// How deep groups stand inside each other, and the limit of that.
 #[test]
-fn nesting_limit(rt: HostRuntime) -> Result<(), Fail> {
-    check::<Deep>(&rt, rt.alloc(), LIMIT)
+fn groups_nest_so_deep(rt: HostRuntime) -> Result<(), Fail> {
+    check_nesting(&rt, rt.alloc())
 }

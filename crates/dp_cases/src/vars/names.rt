@@ -1,9 +1,7 @@
 //! Names and the order in which they are searched.
-use crate::table::check;
-use crate::vars::Expanded;
-use std::test::Fail;
 
-const NAMES: &str = r"
+/// Names, and where they are looked for.
+pub(super) const NAMES: &str = r"
 ${CONTEXT},${EXTEN},${PRIORITY},${CHANNEL}→main,100,2,Channel/7
 gone ; ${CONTEXT}${EXTEN}${PRIORITY}${CHANNEL}→
 # Names are case sensitive, and keep their blanks.
@@ -41,8 +39,3 @@ expanded N=1 ; expanded N=${N}2 ; ${N}→12
 expanded E=${EXTEN}${CHANNEL} ; ${LEN(${E})}→0
 expanded E=$[1 + 2] ; ${E}→3
 ";
-
-#[test]
-fn names_have_these_values(rt: HostRuntime) -> Result<(), Fail> {
-    check::<Expanded>(&rt, rt.alloc(), NAMES)
-}

@@ -1,9 +1,7 @@
 //! Parts of values.
-use crate::table::check;
-use crate::vars::Expanded;
-use std::test::Fail;
 
-const PARTS: &str = r"
+/// Parts of values, by an offset and a length.
+pub(super) const PARTS: &str = r"
 set X=abcdef ; ${X:-2}→ef
 set X=abcdef ; ${X:1:-1}→bcde
 set X=abcdef ; ${X:-9:2}→ab
@@ -60,8 +58,3 @@ ${CHANNEL:0:7}→Channel
 set A=X:2 ; set X=abcdef ; ${${A}}→cdef
 set A=2 ; set X=abcdef ; ${X:${A}:${A}}→cd
 ";
-
-#[test]
-fn parts_of_values(rt: HostRuntime) -> Result<(), Fail> {
-    check::<Expanded>(&rt, rt.alloc(), PARTS)
-}

@@ -1,11 +1,13 @@
 //! Variables of a channel, frames and locals.
-use crate::table::check;
-use crate::vars::{Expanded, World, push_frame};
-use dp_conf::Text;
+use crate::vars::{World, push_frame};
+use dp_conf::{NoMemory, Text};
 use dp_vars::{Globals, Store, Variable};
+use std::alloc::Global;
+use std::process::Abort;
 use std::test::Fail;
 
-const STORES: &str = r"
+/// Where a name is set, and for how long.
+pub(super) const STORES: &str = r"
 set A=1 ; set A=2 ; ${A}→2
 set A=1 ; set B=2 ; ${A}${B}→12
 # A name is set where the innermost frame has it as a local, else as the channel's variable.
@@ -30,21 +32,13 @@ push A=1 ; pop ; pop ; ${A}→
 push A=1 ; pop ; push B=2 ; ${A}→
 ";
 
-#[test]
-fn locals(rt: HostRuntime) -> Result<(), Fail> {
-    check::<Expanded>(&rt, rt.alloc(), STORES)
-}
-
-fn variable(rt: &HostRuntime, name: &[u8], value: &[u8]) -> Result<Variable, Fail> {
-    let name = Text::copy_of(rt.alloc(), name)?;
-    let value = Text::copy_of(rt.alloc(), value)?;
+fn variable(alloc: Global, name: &[u8], value: &[u8]) -> Result<Variable, NoMemory> {
+    let name = Text::copy_of(alloc, name)?;
+    let value = Text::copy_of(alloc, value)?;
     Ok(Variable { name, value })
 }
 
-#[test]
-fn frames_go_back_where_they_were_pushed(rt: HostRuntime) -> Result<(), Fail> {
-    let alloc = rt.alloc();
-    let mut store: Store<u32> = Store::new(alloc);
+fn check_frames(rt: &impl Abort, alloc: Global, store: &mut Store<u32>) -> Result<(), Fail> {
     store.push_frame(alloc, 1, &[])?;
     store.push_frame(alloc, 2, &[])?;
     assert_eq!(rt; store.pop_frame(), Some(2));
@@ -53,37 +47,70 @@ fn frames_go_back_where_they_were_pushed(rt: HostRuntime) -> Result<(), Fail> {
     Ok(())
 }
 
-#[test]
-fn the_later_of_two_locals_of_one_name_stands(rt: HostRuntime) -> Result<(), Fail> {
-    let alloc = rt.alloc();
+/// Frames go back where they were pushed.
+fn frames(rt: &impl Abort, alloc: Global) -> Result<(), Fail> {
     let mut store: Store<u32> = Store::new(alloc);
+    check_frames(rt, alloc, &mut store)
+}
+
+fn push_doubled(alloc: Global, store: &mut Store<u32>) -> Result<(), NoMemory> {
     let mut locals = Vec::new(alloc);
-    locals.push(variable(&rt, b"A", b"1")?)?;
-    locals.push(variable(&rt, b"A", b"2")?)?;
-    store.push_frame(alloc, 1, &locals)?;
+    locals.push(variable(alloc, b"A", b"1")?)?;
+    locals.push(variable(alloc, b"A", b"2")?)?;
+    store.push_frame(alloc, 1, &locals)
+}
+
+fn check_doubled(rt: &impl Abort, store: &Store<u32>) {
     assert!(rt; store.get(b"A") == Some(b"2".as_slice()), "the later value");
     assert!(rt; store.get(b"B").is_none(), "another name");
+}
+
+/// The later of two locals of one name stands.
+fn doubled(rt: &impl Abort, alloc: Global) -> Result<(), Fail> {
+    let mut store: Store<u32> = Store::new(alloc);
+    push_doubled(alloc, &mut store)?;
+    check_doubled(rt, &store);
     Ok(())
 }
 
-#[test]
-fn a_local_needs_a_frame(rt: HostRuntime) -> Result<(), Fail> {
-    let alloc = rt.alloc();
-    let mut world = World::new(alloc);
+fn check_local(rt: &impl Abort, alloc: Global, world: &mut World) -> Result<(), Fail> {
     assert!(rt; !world.store.set_local(alloc, b"A", b"1")?, "no frame");
-    push_frame(alloc, &mut world, b"B", b"2")?;
+    push_frame(alloc, world, b"B", b"2")?;
     assert!(rt; world.store.set_local(alloc, b"A", b"1")?, "a frame");
     assert!(rt; world.store.get(b"A") == Some(b"1".as_slice()), "the local");
     Ok(())
 }
 
-#[test]
-fn globals_are_read_as_they_were_put(rt: HostRuntime) -> Result<(), Fail> {
-    let alloc = rt.alloc();
-    let mut globals = Globals::new(alloc);
+/// A local needs a frame.
+fn local(rt: &impl Abort, alloc: Global) -> Result<(), Fail> {
+    let mut world = World::new(alloc);
+    check_local(rt, alloc, &mut world)
+}
+
+fn check_globals(rt: &impl Abort, alloc: Global, globals: &mut Globals) -> Result<(), Fail> {
     globals.put(alloc, b"A", b"1")?;
     globals.put(alloc, b"A", b"2")?;
     assert!(rt; globals.at(b"A") == b"2".as_slice(), "the last value");
     assert!(rt; globals.at(b"B").is_empty(), "a name without a value");
     Ok(())
+}
+
+/// Globals are read as they were put.
+fn globals(rt: &impl Abort, alloc: Global) -> Result<(), Fail> {
+    let mut globals = Globals::new(alloc);
+    check_globals(rt, alloc, &mut globals)
+}
+
+fn check_stores(rt: &impl Abort, alloc: Global) -> Result<(), Fail> {
+    frames(rt, alloc)?;
+    doubled(rt, alloc)?;
+    local(rt, alloc)?;
+    globals(rt, alloc)
+}
+
+/// Frames go back where they were pushed, the later of two locals of one name stands, a local needs a frame, and
+/// globals are read as they were put.
+#[test]
+fn stores_keep_what_is_put(rt: HostRuntime) -> Result<(), Fail> {
+    check_stores(&rt, rt.alloc())
 }
