@@ -55,11 +55,6 @@ const LISTINGS: &str = r"
 [general]\nstatic=yes\nwriteprotect=no\n\n[globals]\nTRUNK=Line/9\n\n[main]\nexten => _NXXXXXX,1,Answer()\n same => n,Playback(hello-world)\n same => n(q),Queue(support,c)\n same => n,Hangup()\ninclude => out\n→[globals]\nTRUNK => Line/9\n[main]\nexten => _NXXXXXX,1,Answer()\nexten => _NXXXXXX,2,Playback(hello-world)\nexten => _NXXXXXX,3(q),Queue(support,c)\nexten => _NXXXXXX,4,Hangup()\ninclude => out\n
 ";
 
-#[test]
-fn dialplans_list_so(rt: HostRuntime) -> Result<(), Fail> {
-    check::<Lists>(&rt, rt.alloc(), LISTINGS)
-}
-
 /// What a dialplan is, without its notes.
 fn shown_plan(alloc: Global, plan: Dialplan) -> Result<String, NoMemory> {
     shown(alloc, &Ok((plan, Vec::new(alloc))))
@@ -167,7 +162,13 @@ a;b;→a\\;b\\;
 \\→\\
 ";
 
+fn check_tables(rt: &impl Abort, alloc: Global) -> Result<(), Fail> {
+    check::<Lists>(rt, alloc, LISTINGS)?;
+    check::<Escapes>(rt, alloc, ESCAPES)
+}
+
+/// Dialplans list so, and semicolons are escaped so.
 #[test]
-fn semicolons_are_escaped(rt: HostRuntime) -> Result<(), Fail> {
-    check::<Escapes>(&rt, rt.alloc(), ESCAPES)
+fn dialplans_list_so(rt: HostRuntime) -> Result<(), Fail> {
+    check_tables(&rt, rt.alloc())
 }
