@@ -1,5 +1,5 @@
 //! Texts with their arguments, worked out by hand from the rules.
-use crate::table::{Question, bytes_of, check};
+use crate::table::{Question, bytes_of};
 use dp_conf::{NoMemory, split_args, trim};
 use std::alloc::Global;
 use std::test::Fail;
@@ -13,7 +13,7 @@ pub(super) fn push_bytes(out: &mut String, bytes: &[u8]) -> Result<(), NoMemory>
 }
 
 /// Arguments stand between bars.
-const ARGUMENTS: &str = r#"
+pub(super) const ARGUMENTS: &str = r#"
 →||
  \t →||
 a→|a|
@@ -51,7 +51,8 @@ fn push_arguments(out: &mut String, arguments: &[&[u8]]) -> Result<(), NoMemory>
     Ok(())
 }
 
-struct Arguments;
+/// The arguments of a text.
+pub(super) struct Arguments;
 
 impl Question for Arguments {
     fn answer(alloc: Global, asked: &str) -> Result<String, Fail> {
@@ -63,13 +64,8 @@ impl Question for Arguments {
     }
 }
 
-#[test]
-fn texts_have_these_arguments(rt: HostRuntime) -> Result<(), Fail> {
-    check::<Arguments>(&rt, rt.alloc(), ARGUMENTS)
-}
-
 /// Blanks are bytes of 32 or less, but the line feed.
-const TRIMMED: &str = r"
+pub(super) const TRIMMED: &str = r"
 →
  →
 \x00\x01\x09\x0B\x1F\x20→
@@ -84,7 +80,8 @@ a\r→a
 ! \x7F→! \x7F
 ";
 
-struct Trimmed;
+/// A text without the blanks at its ends.
+pub(super) struct Trimmed;
 
 impl Question for Trimmed {
     fn answer(alloc: Global, asked: &str) -> Result<String, Fail> {
@@ -93,9 +90,4 @@ impl Question for Trimmed {
         push_bytes(&mut out, trim(&text))?;
         Ok(out)
     }
-}
-
-#[test]
-fn texts_are_trimmed_so(rt: HostRuntime) -> Result<(), Fail> {
-    check::<Trimmed>(&rt, rt.alloc(), TRIMMED)
 }

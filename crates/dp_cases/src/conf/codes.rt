@@ -1,49 +1,70 @@
 //! The numbers and the printed names of the faults.
-use dp_conf::{ConfFault, LineKind, ReadFault, WriteFailed};
+use dp_conf::{ConfFault, LineKind, NoMemory, ReadFault, WriteFailed};
+use std::alloc::Global;
 use std::test::Fail;
 
-#[test]
-fn line_faults_have_these_codes(rt: HostRuntime) {
-    let kinds = [
-        (LineKind::BlockComment, 1, "BlockComment"),
-        (LineKind::NoSection, 2, "NoSection"),
-        (LineKind::BadHeader, 3, "BadHeader"),
-        (LineKind::NoEquals, 4, "NoEquals"),
-        (LineKind::Directive, 5, "Directive"),
-        (LineKind::Template, 6, "Template"),
-    ];
-    for (kind, code, name) in kinds {
-        assert_eq!(rt; kind.code(), code);
-        assert_eq!(rt; kind.name(), name);
+const KINDS: [LineKind; 6] = [
+    LineKind::BlockComment,
+    LineKind::NoSection,
+    LineKind::BadHeader,
+    LineKind::NoEquals,
+    LineKind::Directive,
+    LineKind::Template,
+];
+
+fn push_of_lines(out: &mut String) -> Result<(), NoMemory> {
+    for kind in KINDS {
+        write!(out, "{} {}\n", kind.code(), kind.name())?;
+    }
+    Ok(())
+}
+
+fn push_of_reader(out: &mut String, fault: ReadFault) -> Result<(), NoMemory> {
+    match fault.code() {
+        Some(code) => write!(out, "{code} {}\n", fault.name()),
+        None => write!(out, "none {}\n", fault.name()),
     }
 }
 
-#[test]
-fn readers_and_writers_have_these_codes(rt: HostRuntime) {
-    assert_eq!(rt; ReadFault::ReadFailed.code(), Some(7));
-    assert_eq!(rt; ReadFault::ReadFailed.name(), "ReadFailed");
-    assert_eq!(rt; ReadFault::TooLong.code(), Some(8));
-    assert_eq!(rt; ReadFault::TooLong.name(), "TooLong");
-    assert_eq!(rt; ReadFault::NoMemory.code(), None);
-    assert_eq!(rt; ReadFault::NoMemory.name(), "out of memory");
-    assert_eq!(rt; WriteFailed.code(), 9);
-    assert_eq!(rt; WriteFailed.name(), "WriteFailed");
-}
-
-#[test]
-fn faults_are_printed_so(rt: HostRuntime) -> Result<(), Fail> {
+fn push_printed(out: &mut String) -> Result<(), NoMemory> {
     let fault = ConfFault::At {
         line: 12,
         kind: LineKind::Template,
     };
-    let printed = format!(in rt.alloc();
-        "{fault}, {}, {}, {WriteFailed}",
-        ConfFault::NoMemory,
-        ReadFault::TooLong
-    )?;
-    assert_eq!(rt;
-        printed.as_str(),
-        "Template line 12, out of memory, TooLong, WriteFailed"
-    );
+    let (none, long) = (ConfFault::NoMemory, ReadFault::TooLong);
+    write!(out, "{fault}, {none}, {long}, {WriteFailed}\n")
+}
+
+/// The code and the name of each fault, each on a line, and some faults as they are printed.
+fn shown(alloc: Global) -> Result<String, NoMemory> {
+    let mut out = String::new(alloc);
+    push_of_lines(&mut out)?;
+    push_of_reader(&mut out, ReadFault::ReadFailed)?;
+    push_of_reader(&mut out, ReadFault::TooLong)?;
+    push_of_reader(&mut out, ReadFault::NoMemory)?;
+    write!(out, "{} {}\n", WriteFailed.code(), WriteFailed.name())?;
+    push_printed(&mut out)?;
+    Ok(out)
+}
+
+const FAULTS: &str = "\
+1 BlockComment
+2 NoSection
+3 BadHeader
+4 NoEquals
+5 Directive
+6 Template
+7 ReadFailed
+8 TooLong
+none out of memory
+9 WriteFailed
+Template line 12, out of memory, TooLong, WriteFailed
+";
+
+/// Faults of lines, of readers and of writers, and how faults are printed.
+#[test]
+fn faults_have_these_codes_and_names(rt: HostRuntime) -> Result<(), Fail> {
+    let got = shown(rt.alloc())?;
+    assert_eq!(rt; got.as_str(), FAULTS);
     Ok(())
 }

@@ -1,7 +1,11 @@
 //! Readers and writers that end, fail or are too long.
-use dp_conf::{MOST_BYTES, ReadFault, ReadTold, Told, WriteTold, read_whole};
+use crate::conf::args::push_bytes;
+use crate::table::{Question, check};
+use dp_conf::{MOST_BYTES, NoMemory, ReadFault, ReadTold, Told, WriteTold, read_whole};
+use std::alloc::Global;
 use std::io;
 use std::io::{Cursor, ErrorKind, Read, Write};
+use std::process::Abort;
 use std::test::Fail;
 
 /// A reader of so many bytes `x`, at most `step` at once, whose read `fails_at`, counted from 0, answers an error.
@@ -40,57 +44,134 @@ fn in_steps(left: usize, step: usize) -> Source {
     }
 }
 
-#[test]
-fn a_reader_is_read_whole(rt: HostRuntime) -> Result<(), Fail> {
+fn number_of(word: &str) -> Result<usize, Fail> {
+    let number = word.parse::<usize>().ok().ok_or("no number")?;
+    Ok(number)
+}
+
+fn kind_of(word: &str) -> Result<ErrorKind, Fail> {
+    match word {
+        "Other" => Ok(ErrorKind::Other),
+        "Interrupted" => Ok(ErrorKind::Interrupted),
+        "UnexpectedEof" => Ok(ErrorKind::UnexpectedEof),
+        _ => Err("no such kind")?,
+    }
+}
+
+/// The reader that fails at a read with an error of a kind, of `READ KIND`.
+fn failing(left: usize, step: usize, words: &str) -> Result<Source, Fail> {
+    let (turn, kind) = words.split_once(' ').ok_or("no kind")?;
+    let mut source = in_steps(left, step);
+    source.fails_at = Some(number_of(turn)?);
+    source.kind = kind_of(kind)?;
+    Ok(source)
+}
+
+/// The reader of `BYTES STEP` or of `BYTES STEP READ KIND`.
+fn source_of(words: &str) -> Result<Source, Fail> {
+    let (left, words) = words.split_once(' ').ok_or("no step")?;
+    let left = number_of(left)?;
+    match words.split_once(' ') {
+        None => Ok(in_steps(left, number_of(words)?)),
+        Some((step, words)) => failing(left, number_of(step)?, words),
+    }
+}
+
+fn push_read(out: &mut String, read: &Result<Vec<u8>, ReadFault>) -> Result<(), NoMemory> {
+    match read {
+        Ok(bytes) => write!(out, "{}", bytes.len()),
+        Err(ReadFault::NoMemory) => Err(NoMemory),
+        Err(fault) => out.push_str(fault.name()),
+    }
+}
+
+/// How many bytes are read of the reader, or the fault, and whether the reader failed.
+struct Bytes;
+
+impl Question for Bytes {
+    fn answer(alloc: Global, asked: &str) -> Result<String, Fail> {
+        let mut reader = Told::new(source_of(asked)?);
+        let read = read_whole(alloc, &mut reader);
+        let mut out = String::new(alloc);
+        push_read(&mut out, &read)?;
+        if reader.has_failed() {
+            out.push_str(", failed")?;
+        }
+        Ok(out)
+    }
+}
+
+/// Readers of so many bytes, so many at once, of which some fail at a read, counted from 0, with an error of a kind.
+const BYTES: &str = r"
+0 1→0
+20000 1→20000
+16777216 8192→16777216
+16777217 8192→TooLong
+# Five bytes, one at a time, are six reads: each of them fails once, with an error of either kind.
+5 1 0 Other→ReadFailed, failed
+5 1 1 Other→ReadFailed, failed
+5 1 2 Other→ReadFailed, failed
+5 1 3 Other→ReadFailed, failed
+5 1 4 Other→ReadFailed, failed
+5 1 5 Other→ReadFailed, failed
+5 1 0 Interrupted→ReadFailed, failed
+5 1 1 Interrupted→ReadFailed, failed
+5 1 2 Interrupted→ReadFailed, failed
+5 1 3 Interrupted→ReadFailed, failed
+5 1 4 Interrupted→ReadFailed, failed
+5 1 5 Interrupted→ReadFailed, failed
+5 1 0 UnexpectedEof→ReadFailed, failed
+5 1 1 UnexpectedEof→ReadFailed, failed
+5 1 2 UnexpectedEof→ReadFailed, failed
+5 1 3 UnexpectedEof→ReadFailed, failed
+5 1 4 UnexpectedEof→ReadFailed, failed
+5 1 5 UnexpectedEof→ReadFailed, failed
+";
+
+/// How many reads it takes to read the reader whole.
+struct Reads;
+
+impl Question for Reads {
+    fn answer(alloc: Global, asked: &str) -> Result<String, Fail> {
+        let mut reader = Told::new(source_of(asked)?);
+        let _bytes = read_whole(alloc, &mut reader)?;
+        let reads = reader.into_inner().reads;
+        Ok(format!(in alloc; "{reads}")?)
+    }
+}
+
+const READS: &str = r"
+20000 1→20001
+";
+
+fn check_text(rt: &impl Abort, alloc: Global) -> Result<(), Fail> {
     let text = b"[main]\nexten => s,1,NoOp()\n";
     let mut reader = Told::new(Cursor::new(text.as_slice()));
-    let bytes = read_whole(rt.alloc(), &mut reader)?;
-    assert_eq!(rt; bytes.as_slice(), text.as_slice());
-    assert!(rt; !reader.has_failed());
-    let mut empty = Told::new(in_steps(0, 1));
-    assert_eq!(rt; read_whole(rt.alloc(), &mut empty)?.len(), 0);
-    let mut bytewise = Told::new(in_steps(20_000, 1));
-    assert_eq!(rt; read_whole(rt.alloc(), &mut bytewise)?.len(), 20_000);
-    assert_eq!(rt; bytewise.into_inner().reads, 20_001);
+    let bytes = read_whole(alloc, &mut reader)?;
+    assert!(rt; bytes.as_slice() == text.as_slice() && !reader.has_failed());
     Ok(())
 }
 
-#[test]
-fn small_faults(rt: HostRuntime) -> Result<(), Fail> {
-    let mut longest = Told::new(in_steps(MOST_BYTES, 8192));
-    assert_eq!(rt; read_whole(rt.alloc(), &mut longest)?.len(), MOST_BYTES);
-    let mut too_long = Told::new(in_steps(MOST_BYTES + 1, 8192));
-    match read_whole(rt.alloc(), &mut too_long) {
-        Ok(_) => assert!(rt; false),
-        Err(fault) => assert_eq!(rt; fault, ReadFault::TooLong),
-    }
-    assert!(rt; !too_long.has_failed());
-    Ok(())
+fn check_buffer(rt: &impl Abort) {
+    let mut reader = Told::new(in_steps(3, 8));
+    let mut buffer = [0u8; 4];
+    let read = reader.read_told(&mut buffer);
+    assert!(rt; matches!(read, Ok(3)));
+    assert_eq!(rt; buffer, [b'x', b'x', b'x', 0]);
 }
 
-/// A reader of five bytes, one at a time, is read in six reads: each of them fails once, with an error of either kind.
+fn check_readers(rt: &impl Abort, alloc: Global) -> Result<(), Fail> {
+    assert_eq!(rt; MOST_BYTES, 16_777_216);
+    check::<Bytes>(rt, alloc, BYTES)?;
+    check::<Reads>(rt, alloc, READS)?;
+    check_buffer(rt);
+    check_text(rt, alloc)
+}
+
+/// Readers are read whole, into their buffers, up to the greatest size and up to their failure.
 #[test]
-fn a_reader_that_fails_at_read_k(rt: HostRuntime) {
-    for kind in [
-        ErrorKind::Other,
-        ErrorKind::Interrupted,
-        ErrorKind::UnexpectedEof,
-    ] {
-        for k in 0..6 {
-            let mut reader = Told::new(Source {
-                left: 5,
-                step: 1,
-                reads: 0,
-                fails_at: Some(k),
-                kind,
-            });
-            match read_whole(rt.alloc(), &mut reader) {
-                Ok(_) => assert!(rt; false, "at read {k}"),
-                Err(fault) => assert_eq!(rt; fault, ReadFault::ReadFailed, "at read {k}"),
-            }
-            assert!(rt; reader.has_failed(), "at read {k}");
-        }
-    }
+fn readers_are_read_whole(rt: HostRuntime) -> Result<(), Fail> {
+    check_readers(&rt, rt.alloc())
 }
 
 /// A writer that takes at most `step` bytes at once, and whose write `fails_at`, counted from 0, answers an error.
@@ -119,63 +200,75 @@ impl Write for Sink {
     }
 }
 
-#[test]
-fn a_writer_takes_all(rt: HostRuntime) {
-    for step in 1..9 {
-        let mut writer = Told::new(Sink {
-            held: Vec::new(rt.alloc()),
-            step,
-            writes: 0,
-            fails_at: None,
-        });
-        assert!(rt; writer.write_told(b"started").is_ok());
-        assert!(rt; writer.write_told(b"").is_ok());
-        assert!(rt; writer.write_told(b" 1").is_ok());
-        assert!(rt; !writer.has_failed());
-        assert_eq!(rt;
-            writer.into_inner().held.as_slice(),
-            b"started 1".as_slice()
-        );
-    }
-}
-
-/// Seven bytes, two at a time, are four writes: where write k fails, the bytes of those before it were written.
-#[test]
-fn a_writer_that_fails_at_write_k(rt: HostRuntime) {
-    let fronts: [&[u8]; 4] = [b"", b"st", b"star", b"starte"];
-    for (k, front) in fronts.iter().enumerate() {
-        let mut writer = Told::new(Sink {
-            held: Vec::new(rt.alloc()),
-            step: 2,
-            writes: 0,
-            fails_at: Some(k),
-        });
-        assert!(rt; writer.write_told(b"started").is_err(), "at write {k}");
-        assert!(rt; writer.has_failed(), "at write {k}");
-        assert_eq!(rt; writer.into_inner().held.as_slice(), *front, "at write {k}");
-    }
-}
-
-/// A writer that takes nothing has failed.
-#[test]
-fn a_writer_that_takes_nothing_fails(rt: HostRuntime) {
-    let mut writer = Told::new(Sink {
-        held: Vec::new(rt.alloc()),
-        step: 0,
+/// The writer of `STEP WRITE`, where `-` is no write.
+fn sink_of(alloc: Global, words: &str) -> Result<Sink, Fail> {
+    let (step, turn) = words.split_once(' ').ok_or("no write")?;
+    Ok(Sink {
+        held: Vec::new(alloc),
+        step: number_of(step)?,
         writes: 0,
-        fails_at: None,
-    });
-    assert!(rt; writer.write_told(b"x").is_err());
-    assert!(rt; writer.has_failed());
+        fails_at: turn.parse::<usize>().ok(),
+    })
 }
 
-#[test]
-fn a_told_reader_reads_into_the_buffer(rt: HostRuntime) {
-    let mut reader = Told::new(in_steps(3, 8));
-    let mut buffer = [0u8; 4];
-    match reader.read_told(&mut buffer) {
-        Ok(count) => assert_eq!(rt; count, 3),
-        Err(_) => assert!(rt; false),
+/// Whether all that stands between the bars is taken.
+fn takes_all(writer: &mut Told<Sink>, pieces: &str) -> bool {
+    let mut is_taken = true;
+    for piece in pieces.split('|') {
+        if writer.write_told(piece.as_bytes()).is_err() {
+            is_taken = false;
+        }
     }
-    assert_eq!(rt; buffer, [b'x', b'x', b'x', 0]);
+    is_taken
+}
+
+fn push_written(out: &mut String, mut writer: Told<Sink>, pieces: &str) -> Result<(), NoMemory> {
+    let is_taken = takes_all(&mut writer, pieces);
+    let has_failed = writer.has_failed();
+    push_bytes(out, &writer.into_inner().held)?;
+    if !is_taken {
+        out.push_str(", refused")?;
+    }
+    if has_failed {
+        out.push_str(", failed")?;
+    }
+    Ok(())
+}
+
+/// What a writer holds, whether it refused a text, and whether it failed.
+struct Written;
+
+impl Question for Written {
+    fn answer(alloc: Global, asked: &str) -> Result<String, Fail> {
+        let (words, pieces) = asked.split_once(':').ok_or("no text")?;
+        let writer = Told::new(sink_of(alloc, words)?);
+        let mut out = String::new(alloc);
+        push_written(&mut out, writer, pieces)?;
+        Ok(out)
+    }
+}
+
+/// Writers that take so many bytes at once, of which some fail at a write, counted from 0, and texts between bars.
+const WRITTEN: &str = r"
+# A writer takes all, in however small pieces.
+1 -:started|| 1→started 1
+2 -:started|| 1→started 1
+3 -:started|| 1→started 1
+4 -:started|| 1→started 1
+5 -:started|| 1→started 1
+6 -:started|| 1→started 1
+7 -:started|| 1→started 1
+8 -:started|| 1→started 1
+# Seven bytes, two at a time, are four writes: where write k fails, the bytes of those before it were written.
+2 0:started→, refused, failed
+2 1:started→st, refused, failed
+2 2:started→star, refused, failed
+2 3:started→starte, refused, failed
+# A writer that takes nothing has failed.
+0 -:x→, refused, failed
+";
+
+#[test]
+fn writers_take_all_or_fail(rt: HostRuntime) -> Result<(), Fail> {
+    check::<Written>(&rt, rt.alloc(), WRITTEN)
 }

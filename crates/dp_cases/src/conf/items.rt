@@ -1,6 +1,6 @@
 //! Configuration texts with their items or their fault, worked out by hand from the rules.
-use crate::table::{Question, bytes_of, check};
-use dp_conf::{ConfFault, ConfLine, NoMemory, Text, read_lines};
+use crate::table::{Question, bytes_of, check, check_all};
+use dp_conf::{ConfFault, ConfLine, NoMemory, read_lines};
 use std::alloc::Global;
 use std::process::Abort;
 use std::test::Fail;
@@ -101,6 +101,7 @@ fn shown(alloc: Global, read: &Result<Vec<ConfLine>, ConfFault>) -> Result<Strin
     Ok(out)
 }
 
+/// The items of a text, or its fault.
 struct Items;
 
 impl Question for Items {
@@ -112,11 +113,6 @@ impl Question for Items {
     }
 }
 
-#[test]
-fn texts_have_these_items(rt: HostRuntime) -> Result<(), Fail> {
-    check::<Items>(&rt, rt.alloc(), TEXTS)
-}
-
 /// Each line stands behind `[main]`.
 const FAULT_LINES: &str = r#"
 [main]\nabc→fault 4 line 2
@@ -126,21 +122,12 @@ const FAULT_LINES: &str = r#"
 a=1\n[main]→fault 2 line 1
 "#;
 
-#[test]
-fn fault_lines(rt: HostRuntime) -> Result<(), Fail> {
-    check::<Items>(&rt, rt.alloc(), FAULT_LINES)
-}
-
+/// A `\;` is a semicolon, and `;--` is refused where `;---` is a comment.
 const ESCAPED_SEMICOLONS: &str = r"
 [main]\nexten => s,1,NoOp(a\\;b\\\\;c)\n→1[main]2{exten}{s,1,NoOp(a;b\\;c)}
 [main]\n\n;-- x\n→fault 1 line 3
 [main]\n\n;--- x\n→1[main]
 ";
-
-#[test]
-fn escaped_semicolons(rt: HostRuntime) -> Result<(), Fail> {
-    check::<Items>(&rt, rt.alloc(), ESCAPED_SEMICOLONS)
-}
 
 fn have_same_items(alloc: Global, left: &[u8], right: &[u8]) -> Result<bool, Fail> {
     let left = read_lines(alloc, left)?;
@@ -148,45 +135,32 @@ fn have_same_items(alloc: Global, left: &[u8], right: &[u8]) -> Result<bool, Fai
     Ok(left == right)
 }
 
-/// Items compare by their lines, keys and values.
-#[test]
-fn items_compare(rt: HostRuntime) -> Result<(), Fail> {
-    let once = b"[m]\na=b\n[n]\n";
-    let same = have_same_items(rt.alloc(), once, b"[m]\na = b\n[n] ; x\n")?;
-    assert!(rt; same);
-    let same = have_same_items(rt.alloc(), once, b"[m]\na=c\n[n]\n")?;
-    assert!(rt; !same);
-    Ok(())
+/// Whether the texts on both sides of a bar have the same items: these compare by their lines, keys and values.
+struct Compared;
+
+impl Question for Compared {
+    fn answer(alloc: Global, asked: &str) -> Result<String, Fail> {
+        let (left, right) = asked.split_once('|').ok_or("no two texts")?;
+        let left = bytes_of(alloc, left)?;
+        let right = bytes_of(alloc, right)?;
+        let is_same = have_same_items(alloc, &left, &right)?;
+        let mut out = String::new(alloc);
+        out.push_str(if is_same { "same" } else { "other" })?;
+        Ok(out)
+    }
 }
 
-fn check_text(rt: &impl Abort, alloc: Global, text: &Text) -> Result<(), Fail> {
-    assert_eq!(rt; text.bytes(), b"a\x00\xff".as_slice());
-    let copy = text.clone()?;
-    assert!(rt; copy == *text);
-    let copy = Text::copy_of(alloc, text.bytes())?;
-    assert!(rt; copy == *text);
-    Ok(())
+const COMPARED: &str = r"
+[m]\na=b\n[n]\n|[m]\na = b\n[n] ; x\n→same
+[m]\na=b\n[n]\n|[m]\na=c\n[n]\n→other
+";
+
+fn check_items(rt: &impl Abort, alloc: Global) -> Result<(), Fail> {
+    check_all::<Items>(rt, alloc, &[TEXTS, FAULT_LINES, ESCAPED_SEMICOLONS])?;
+    check::<Compared>(rt, alloc, COMPARED)
 }
 
 #[test]
-fn a_text_keeps_its_bytes(rt: HostRuntime) -> Result<(), Fail> {
-    let text = Text::new(Vec::from_slice(rt.alloc(), b"a\x00\xff")?);
-    check_text(&rt, rt.alloc(), &text)?;
-    let empty = Text::new(Vec::new(rt.alloc()));
-    assert!(rt; empty != text);
-    assert_eq!(rt; empty.bytes().len(), 0);
-    Ok(())
-}
-
-/// A text is the key of a map.
-#[test]
-fn a_text_is_found_by_its_bytes(rt: HostRuntime) -> Result<(), Fail> {
-    let mut places = std::collections::HashMap::new(rt.alloc());
-    places.insert(Text::new(Vec::from_slice(rt.alloc(), b"main")?), 1)?;
-    places.insert(Text::new(Vec::from_slice(rt.alloc(), b"out")?), 2)?;
-    let asked = Text::new(Vec::from_slice(rt.alloc(), b"out")?);
-    assert_eq!(rt; places.get(&asked).copied(), Some(2));
-    let absent = Text::new(Vec::from_slice(rt.alloc(), b"Out")?);
-    assert_eq!(rt; places.get(&absent).copied(), None);
-    Ok(())
+fn texts_have_these_items(rt: HostRuntime) -> Result<(), Fail> {
+    check_items(&rt, rt.alloc())
 }

@@ -1,12 +1,12 @@
 //! Words, numbers and texts cut once, worked out by hand from the rules.
 use crate::conf::args::push_bytes;
-use crate::table::{Question, bytes_of, check};
+use crate::table::{Question, bytes_of};
 use dp_conf::{NoMemory, cut_once, read_number, same_word};
 use std::alloc::Global;
 use std::test::Fail;
 
 /// Whether the words on both sides of a bar are the same, asked in both orders.
-struct Words;
+pub(super) struct Words;
 
 impl Question for Words {
     fn answer(alloc: Global, asked: &str) -> Result<String, Fail> {
@@ -23,7 +23,8 @@ impl Question for Words {
     }
 }
 
-const WORDS: &str = r"
+/// Words are the same but for the case of letters of ASCII.
+pub(super) const WORDS: &str = r"
 |→same
 general|general→same
 GeNeRaL|general→same
@@ -34,12 +35,8 @@ general|globals→other
 \xC4|\xE4→other
 ";
 
-#[test]
-fn words_are_the_same_but_for_case(rt: HostRuntime) -> Result<(), Fail> {
-    check::<Words>(&rt, rt.alloc(), WORDS)
-}
-
-struct Number;
+/// The number that a text writes.
+pub(super) struct Number;
 
 impl Question for Number {
     fn answer(alloc: Global, asked: &str) -> Result<String, Fail> {
@@ -52,7 +49,8 @@ impl Question for Number {
     }
 }
 
-const NUMBERS: &str = r"
+/// Digits alone are a number, and the greatest stands for all that are greater.
+pub(super) const NUMBERS: &str = r"
 →none
 0→0
 7→7
@@ -68,11 +66,6 @@ const NUMBERS: &str = r"
 1a→none
 ";
 
-#[test]
-fn texts_write_these_numbers(rt: HostRuntime) -> Result<(), Fail> {
-    check::<Number>(&rt, rt.alloc(), NUMBERS)
-}
-
 fn push_cut(out: &mut String, cut: Option<(&[u8], &[u8])>) -> Result<(), NoMemory> {
     match cut {
         Some((before, behind)) => {
@@ -85,7 +78,7 @@ fn push_cut(out: &mut String, cut: Option<(&[u8], &[u8])>) -> Result<(), NoMemor
 }
 
 /// What stands before and behind the first comma.
-struct Cut;
+pub(super) struct Cut;
 
 impl Question for Cut {
     fn answer(alloc: Global, asked: &str) -> Result<String, Fail> {
@@ -95,7 +88,8 @@ impl Question for Cut {
     }
 }
 
-const CUTS: &str = r"
+/// A text is cut at the first such byte.
+pub(super) const CUTS: &str = r"
 →none
 ab→none
 ,→|
@@ -103,8 +97,3 @@ a,b→a|b
 a,b,c→a|b,c
  a , → a |\x20
 ";
-
-#[test]
-fn a_text_is_cut_at_the_first_such_byte(rt: HostRuntime) -> Result<(), Fail> {
-    check::<Cut>(&rt, rt.alloc(), CUTS)
-}
