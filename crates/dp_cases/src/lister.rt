@@ -1,8 +1,7 @@
 //! Listings of dialplans.
+use crate::plan::LOADED;
+use crate::plan::orders::ORDERS;
 use crate::plan::render::shown;
-use crate::plan::{
-    faults, includes, labels, manual, names, numbering, orders, plans, readers, rows,
-};
 use crate::table::{Question, bytes_of, check};
 use dp_conf::{NoMemory, escape};
 use dp_lister::list;
@@ -102,43 +101,18 @@ fn check_table(rt: &impl Abort, alloc: Global, table: &str) -> Result<(), Fail> 
     Ok(())
 }
 
-/// The tables of the loader.
-const TABLES: &[&str] = &[
-    faults::OF_A_LINE,
-    faults::OF_A_TEXT,
-    includes::INCLUDES,
-    includes::WITH_TIMES,
-    labels::LABELS,
-    labels::TAKEN,
-    labels::BAD,
-    manual::EXAMPLES,
-    names::PLAIN,
-    names::PATTERNS,
-    names::NO_NAMES,
-    names::LEFT_OUT,
-    numbering::NEXT,
-    numbering::SAME,
-    numbering::WHOLE,
-    orders::ORDERS,
-    plans::SECTIONS,
-    plans::ENTRIES,
-    plans::LINES,
-    plans::GROUPS,
-    plans::PRIORITIES,
-    plans::APPLICATIONS,
-    plans::WHOLE,
-    readers::ONE_DIALPLAN,
-    rows::FAULT_LINES,
-    rows::ESCAPED_SEMICOLONS,
-    LISTINGS,
-];
+/// The dialplans of all tables of the loader, of orders and of listings.
+fn check_listings(rt: &impl Abort, alloc: Global) -> Result<(), Fail> {
+    for table in LOADED {
+        check_table(rt, alloc, table)?;
+    }
+    check_table(rt, alloc, ORDERS)?;
+    check_table(rt, alloc, LISTINGS)
+}
 
 #[test]
 fn a_listing_loads_as_the_same_dialplan(rt: HostRuntime) -> Result<(), Fail> {
-    for table in TABLES {
-        check_table(&rt, rt.alloc(), table)?;
-    }
-    Ok(())
+    check_listings(&rt, rt.alloc())
 }
 
 /// A line says the text that it writes escaped.

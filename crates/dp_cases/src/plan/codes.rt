@@ -1,9 +1,10 @@
 //! The numbers and the printed names of faults and notes.
 use dp_plan::{ConfFault, LineKind, LoadFault, NameFault, NoteKind, PlanKind, Word};
+use std::alloc::Global;
+use std::process::Abort;
 use std::test::Fail;
 
-#[test]
-fn faults_have_these_codes(rt: HostRuntime) {
+fn faults_have_these_codes(rt: &impl Abort) {
     let kinds = [
         (PlanKind::BadPriority, 20, "BadPriority"),
         (PlanKind::NoPrevious, 21, "NoPrevious"),
@@ -29,8 +30,7 @@ fn faults_have_these_codes(rt: HostRuntime) {
 }
 
 /// The faults of names are those of the crate that reads them.
-#[test]
-fn faults_of_names_have_these_codes(rt: HostRuntime) {
+fn faults_of_names_have_these_codes(rt: &impl Abort) {
     let faults = [
         (NameFault::EmptyName, 10, "EmptyName"),
         (NameFault::EmptySet, 11, "EmptySet"),
@@ -45,8 +45,7 @@ fn faults_of_names_have_these_codes(rt: HostRuntime) {
     }
 }
 
-#[test]
-fn words_are_named_so(rt: HostRuntime) -> Result<(), Fail> {
+fn words_are_named_so(rt: &impl Abort, alloc: Global) -> Result<(), Fail> {
     let words = [
         (Word::Switch, "Switch"),
         (Word::IgnorePat, "IgnorePat"),
@@ -58,14 +57,13 @@ fn words_are_named_so(rt: HostRuntime) -> Result<(), Fail> {
         (Word::PriorityWord, "PriorityWord"),
     ];
     for (word, want) in words {
-        let printed = format!(in rt.alloc(); "{word:?}")?;
+        let printed = format!(in alloc; "{word:?}")?;
         assert_eq!(rt; printed.as_str(), want);
     }
     Ok(())
 }
 
-#[test]
-fn notes_have_these_names(rt: HostRuntime) {
+fn notes_have_these_names(rt: &impl Abort) {
     let kinds = [
         (NoteKind::DoublePriority, "DoublePriority"),
         (NoteKind::DoubleLabel, "DoubleLabel"),
@@ -77,8 +75,7 @@ fn notes_have_these_names(rt: HostRuntime) {
     }
 }
 
-#[test]
-fn faults_are_printed_so(rt: HostRuntime) -> Result<(), Fail> {
+fn faults_are_printed_so(rt: &impl Abort, alloc: Global) -> Result<(), Fail> {
     let of_text = LoadFault::Conf(ConfFault::At {
         line: 12,
         kind: LineKind::NoEquals,
@@ -91,7 +88,7 @@ fn faults_are_printed_so(rt: HostRuntime) -> Result<(), Fail> {
         line: 3,
         kind: PlanKind::LeftOut(Word::Hint),
     };
-    let printed = format!(in rt.alloc();
+    let printed = format!(in alloc;
         "{of_text}, {of_name}, {of_context}, {}",
         LoadFault::NoMemory
     )?;
@@ -103,12 +100,26 @@ fn faults_are_printed_so(rt: HostRuntime) -> Result<(), Fail> {
 }
 
 /// Want of memory is outermost, whichever call met it.
-#[test]
-fn want_of_memory_is_outermost(rt: HostRuntime) {
+fn want_of_memory_is_outermost(rt: &impl Abort) {
     assert_eq!(rt; LoadFault::from(ConfFault::NoMemory), LoadFault::NoMemory);
     let fault = ConfFault::At {
         line: 1,
         kind: LineKind::Directive,
     };
     assert_eq!(rt; LoadFault::from(fault), LoadFault::Conf(fault));
+}
+
+fn check_codes(rt: &impl Abort, alloc: Global) -> Result<(), Fail> {
+    faults_have_these_codes(rt);
+    faults_of_names_have_these_codes(rt);
+    notes_have_these_names(rt);
+    want_of_memory_is_outermost(rt);
+    words_are_named_so(rt, alloc)?;
+    faults_are_printed_so(rt, alloc)
+}
+
+/// The numbers and the names of faults, words and notes, and how faults are printed.
+#[test]
+fn faults_and_notes_have_these_codes_and_names(rt: HostRuntime) -> Result<(), Fail> {
+    check_codes(&rt, rt.alloc())
 }

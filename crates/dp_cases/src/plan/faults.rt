@@ -1,7 +1,4 @@
 //! Which of several faults is answered: of one line, and of several.
-use crate::plan::render::Loads;
-use crate::table::check;
-use std::test::Fail;
 
 /// Lines with several faults.
 pub(crate) const OF_A_LINE: &str = r"
@@ -70,13 +67,3 @@ pub(crate) const OF_A_TEXT: &str = r"
 [m]\ninclude => a,b\n#x\n→fault 5 line 3
 [m]\nexten => _,1,A(${X})\n[x](!)\n→fault 6 line 3
 ";
-
-#[test]
-fn faults_of_a_line_come_in_this_order(rt: HostRuntime) -> Result<(), Fail> {
-    check::<Loads>(&rt, rt.alloc(), OF_A_LINE)
-}
-
-#[test]
-fn faults_of_a_text_come_in_this_order(rt: HostRuntime) -> Result<(), Fail> {
-    check::<Loads>(&rt, rt.alloc(), OF_A_TEXT)
-}

@@ -1,7 +1,4 @@
 //! Includes of contexts.
-use crate::plan::render::Loads;
-use crate::table::check;
-use std::test::Fail;
 
 /// Includes that load.
 pub(crate) const INCLUDES: &str = r"
@@ -50,13 +47,3 @@ pub(crate) const WITH_TIMES: &str = r"
 [m]\nexten => s,0,A\ninclude => a,b\n→fault 20 line 2
 [m]\ninclude => a ; ,b\n→[m]{+a} note 2 UnknownContext
 ";
-
-#[test]
-fn includes_load_so(rt: HostRuntime) -> Result<(), Fail> {
-    check::<Loads>(&rt, rt.alloc(), INCLUDES)
-}
-
-#[test]
-fn includes_with_times_are_refused(rt: HostRuntime) -> Result<(), Fail> {
-    check::<Loads>(&rt, rt.alloc(), WITH_TIMES)
-}

@@ -1,7 +1,4 @@
 //! Labels of priorities: how they are read, and which are taken.
-use crate::plan::render::Loads;
-use crate::table::check;
-use std::test::Fail;
 
 /// Labels that load.
 pub(crate) const LABELS: &str = r"
@@ -100,18 +97,3 @@ pub(crate) const BAD: &str = r"
 [m]\nexten => s,2147483648(a),A\n→fault 27 line 2
 [m]\nexten => s,n(a),A\n→fault 21 line 2
 ";
-
-#[test]
-fn labels_load_so(rt: HostRuntime) -> Result<(), Fail> {
-    check::<Loads>(&rt, rt.alloc(), LABELS)
-}
-
-#[test]
-fn labels_are_taken_so(rt: HostRuntime) -> Result<(), Fail> {
-    check::<Loads>(&rt, rt.alloc(), TAKEN)
-}
-
-#[test]
-fn bad_labels_are_refused(rt: HostRuntime) -> Result<(), Fail> {
-    check::<Loads>(&rt, rt.alloc(), BAD)
-}

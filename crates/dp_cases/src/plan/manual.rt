@@ -1,7 +1,4 @@
 //! The examples of the manual, with what it says that they load as.
-use crate::plan::render::Loads;
-use crate::table::check;
-use std::test::Fail;
 
 /// Dialplans, names, patterns, priorities, labels and includes.
 pub(crate) const EXAMPLES: &str = r"
@@ -18,8 +15,3 @@ pub(crate) const EXAMPLES: &str = r"
 # Includes.
 [main]\nexten => _1XX,1,NoOp(main)\ninclude => late\ninclude => night               ; there is none\n\n[late]\nexten => 123,1,NoOp(late)\nexten => 200,1,NoOp(late)\ninclude => main\n→[main]<_1XX,1,NoOp(main)>{+late}{+night}[late]<123,1,NoOp(late)><200,1,NoOp(late)>{+main} note 4 UnknownContext
 ";
-
-#[test]
-fn examples_of_the_manual_load_so(rt: HostRuntime) -> Result<(), Fail> {
-    check::<Loads>(&rt, rt.alloc(), EXAMPLES)
-}

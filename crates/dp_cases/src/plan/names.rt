@@ -1,7 +1,4 @@
 //! Names of extensions in a dialplan: how they are spelled when they are loaded, and which are refused.
-use crate::plan::render::Loads;
-use crate::table::check;
-use std::test::Fail;
 
 /// Plain names.
 pub(crate) const PLAIN: &str = r#"
@@ -188,23 +185,3 @@ pub(crate) const LEFT_OUT: &str = r"
 [m]\nexten => s/1,hint,A(\n→fault 24 CallerId line 2
 [m]\nexten => ${x},hint,A(\n→fault 24 Variable line 2
 ";
-
-#[test]
-fn plain_names_load_so(rt: HostRuntime) -> Result<(), Fail> {
-    check::<Loads>(&rt, rt.alloc(), PLAIN)
-}
-
-#[test]
-fn patterns_load_so(rt: HostRuntime) -> Result<(), Fail> {
-    check::<Loads>(&rt, rt.alloc(), PATTERNS)
-}
-
-#[test]
-fn texts_that_are_no_names_are_refused(rt: HostRuntime) -> Result<(), Fail> {
-    check::<Loads>(&rt, rt.alloc(), NO_NAMES)
-}
-
-#[test]
-fn names_with_what_is_left_out_are_refused(rt: HostRuntime) -> Result<(), Fail> {
-    check::<Loads>(&rt, rt.alloc(), LEFT_OUT)
-}

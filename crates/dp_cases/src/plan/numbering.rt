@@ -1,7 +1,4 @@
 //! The priority `n`, and lines `same`.
-use crate::plan::render::Loads;
-use crate::table::check;
-use std::test::Fail;
 
 /// `n` is one more than the priority of the last earlier line of the context and the extension.
 pub(crate) const NEXT: &str = r"
@@ -105,18 +102,3 @@ pub(crate) const WHOLE: &str = r"
 # Lines that are dropped one after another.
 [m]\nexten => s,1,A\nexten => s,2,B\nexten => s,3,C\nexten => s,1,X\nsame => n,Y\nsame => n,Z\nsame => n,D\n→[m]<s,1,A()><s,2,B()><s,3,C()><s,4,D()> note 5 DoublePriority note 6 DoublePriority note 7 DoublePriority
 ";
-
-#[test]
-fn the_next_priority_loads_so(rt: HostRuntime) -> Result<(), Fail> {
-    check::<Loads>(&rt, rt.alloc(), NEXT)
-}
-
-#[test]
-fn lines_of_the_same_extension_load_so(rt: HostRuntime) -> Result<(), Fail> {
-    check::<Loads>(&rt, rt.alloc(), SAME)
-}
-
-#[test]
-fn whole_contexts_are_numbered_so(rt: HostRuntime) -> Result<(), Fail> {
-    check::<Loads>(&rt, rt.alloc(), WHOLE)
-}

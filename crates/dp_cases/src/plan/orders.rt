@@ -1,6 +1,7 @@
 //! The order in which a look-up asks the entries of a context.
 use crate::plan::render::ranking;
-use crate::table::{Question, bytes_of, check};
+use crate::plan::rows::RANKED;
+use crate::table::{Question, bytes_of, check_all};
 use dp_plan::Dialplan;
 use std::alloc::Global;
 use std::test::Fail;
@@ -53,7 +54,7 @@ pub(crate) const ORDERS: &str = r"
 ";
 
 /// The entries of the first context in the order in which a look-up asks them.
-pub(super) struct Ranks;
+struct Ranks;
 
 impl Question for Ranks {
     fn answer(alloc: Global, asked: &str) -> Result<String, Fail> {
@@ -66,5 +67,5 @@ impl Question for Ranks {
 
 #[test]
 fn entries_are_asked_in_this_order(rt: HostRuntime) -> Result<(), Fail> {
-    check::<Ranks>(&rt, rt.alloc(), ORDERS)
+    check_all::<Ranks>(&rt, rt.alloc(), &[ORDERS, RANKED])
 }

@@ -1,7 +1,4 @@
 //! Dialplans with what they load as, or their fault, worked out by hand from the rules.
-use crate::plan::render::Loads;
-use crate::table::check;
-use std::test::Fail;
 
 /// Sections, settings and global variables.
 pub(crate) const SECTIONS: &str = r"
@@ -250,38 +247,3 @@ pub(crate) const WHOLE: &str = r"
 # A usual file.
 [general]\nstatic=yes\n\n[globals]\nTRUNK=Line/9\n\n[main]\nexten => 100,1,NoOp(hello)\nexten => 100,2,Goto(200,1)\n\n[out]\nexten => 5,1,Hangup ; away\n\n[main]\nexten => 200,1,Hangup()\n→{TRUNK=Line/9}[main]<100,1,NoOp(hello)><100,2,Goto(200,1)><200,1,Hangup()>[out]<5,1,Hangup()>
 ";
-
-#[test]
-fn sections_load_so(rt: HostRuntime) -> Result<(), Fail> {
-    check::<Loads>(&rt, rt.alloc(), SECTIONS)
-}
-
-#[test]
-fn entries_load_so(rt: HostRuntime) -> Result<(), Fail> {
-    check::<Loads>(&rt, rt.alloc(), ENTRIES)
-}
-
-#[test]
-fn lines_load_so(rt: HostRuntime) -> Result<(), Fail> {
-    check::<Loads>(&rt, rt.alloc(), LINES)
-}
-
-#[test]
-fn groups_load_so(rt: HostRuntime) -> Result<(), Fail> {
-    check::<Loads>(&rt, rt.alloc(), GROUPS)
-}
-
-#[test]
-fn priorities_load_so(rt: HostRuntime) -> Result<(), Fail> {
-    check::<Loads>(&rt, rt.alloc(), PRIORITIES)
-}
-
-#[test]
-fn applications_load_so(rt: HostRuntime) -> Result<(), Fail> {
-    check::<Loads>(&rt, rt.alloc(), APPLICATIONS)
-}
-
-#[test]
-fn whole_texts_load_so(rt: HostRuntime) -> Result<(), Fail> {
-    check::<Loads>(&rt, rt.alloc(), WHOLE)
-}

@@ -1,8 +1,9 @@
 //! The readers of a loaded dialplan, and priorities.
-use crate::plan::render::{Loads, push_label, push_name};
-use crate::table::{Question, check};
+use crate::plan::render::{push_label, push_name};
+use crate::table::{Question, bytes_of, check};
 use dp_plan::{Context, Dialplan, Entry, EntryId, MOST_PRIORITY, NoMemory, Note, Priority, Text};
 use std::alloc::Global;
+use std::process::Abort;
 use std::test::Fail;
 
 /// Two contexts, of which the first has two sections, and the second no entry.
@@ -139,8 +140,26 @@ fn read(alloc: Global, plan: &Dialplan, asked: &str) -> Result<String, Fail> {
     Ok(out)
 }
 
-/// What the readers say of one of the dialplans above.
+fn push_notes(out: &mut String, notes: &[Note]) -> Result<(), NoMemory> {
+    for note in notes {
+        write!(out, "{} {},", note.line, note.kind.name())?;
+    }
+    Ok(())
+}
+
+/// The notes on the lines of a text.
+fn notes_of(alloc: Global, text: &[u8]) -> Result<String, Fail> {
+    let (_, notes) = Dialplan::load(alloc, text)?;
+    let mut out = String::new(alloc);
+    push_notes(&mut out, &notes)?;
+    Ok(out)
+}
+
+/// What the readers say of one of the dialplans above, and of `notes` the notes on its lines.
 fn read_of(alloc: Global, text: &[u8], asked: &str) -> Result<String, Fail> {
+    if asked == "notes" {
+        return notes_of(alloc, text);
+    }
     let (plan, _) = Dialplan::load(alloc, text)?;
     read(alloc, &plan, asked)
 }
@@ -177,6 +196,7 @@ impl Question for OfNothing {
     }
 }
 
+/// A dialplan is read by numbers and names.
 const READ_OF_PLAN: &str = r"
 # Contexts are in the order of first appearance, and global variables in that of the file.
 contexts →[main]2,0[Out]0,0
@@ -199,8 +219,11 @@ number_of mai→none
 number_of main →none
 number_of globals→none
 number_of →none
+# Notes name their lines.
+notes→7 DoublePriority,11 UnknownKey,
 ";
 
+/// Names, labels, includes and rankings are read.
 const READ_OF_NAMED: &str = r"
 # Names are read in their one spelling, and labels without the blanks at their ends.
 entry 0 0→_1XX 2(more) Second ()
@@ -237,15 +260,21 @@ ranked_at 1→<1,0>
 ranked_at 2→
 ranked_at 3→
 ranked_at 18446744073709551615→
+# Notes name their lines.
+notes→8 UnknownContext,11 UnknownContext,15 DoublePriority,16 DoubleLabel,
 ";
 
+/// The empty name is an unknown context.
 const READ_OF_EMPTY: &str = r"
 includes_at 0→{+}
 number_of →none
 includes →
 ranked →
+# Notes name their lines.
+notes→2 UnknownContext,
 ";
 
+/// An empty file has nothing.
 const READ_OF_NOTHING: &str = r"
 globals →
 contexts →
@@ -255,81 +284,39 @@ includes main→
 includes_at 0→
 ranked main→
 ranked_at 0→
+# Notes name their lines.
+notes→
 ";
 
-#[test]
-fn a_dialplan_is_read_by_numbers_and_names(rt: HostRuntime) -> Result<(), Fail> {
-    check::<OfPlan>(&rt, rt.alloc(), READ_OF_PLAN)
-}
+/// The number of the priority that is made of a number, or `none`; and of `most` the greatest of them.
+struct Limits;
 
-#[test]
-fn names_labels_includes_and_rankings_are_read(rt: HostRuntime) -> Result<(), Fail> {
-    check::<OfNamed>(&rt, rt.alloc(), READ_OF_NAMED)
-}
-
-#[test]
-fn the_empty_name_is_an_unknown_context(rt: HostRuntime) -> Result<(), Fail> {
-    check::<OfEmpty>(&rt, rt.alloc(), READ_OF_EMPTY)
-}
-
-#[test]
-fn empty_file(rt: HostRuntime) -> Result<(), Fail> {
-    check::<OfNothing>(&rt, rt.alloc(), READ_OF_NOTHING)
-}
-
-fn push_notes(out: &mut String, notes: &[Note]) -> Result<(), NoMemory> {
-    for note in notes {
-        write!(out, "{} {},", note.line, note.kind.name())?;
-    }
-    Ok(())
-}
-
-/// The notes on the lines of a text.
-fn notes_of(alloc: Global, text: &[u8]) -> Result<String, Fail> {
-    let (_, notes) = Dialplan::load(alloc, text)?;
-    let mut out = String::new(alloc);
-    push_notes(&mut out, &notes)?;
-    Ok(out)
-}
-
-#[test]
-fn notes_name_their_lines(rt: HostRuntime) -> Result<(), Fail> {
-    for (text, want) in [
-        (b"".as_slice(), ""),
-        (PLAN, "7 DoublePriority,11 UnknownKey,"),
-        (
-            NAMED,
-            "8 UnknownContext,11 UnknownContext,15 DoublePriority,16 DoubleLabel,",
-        ),
-        (EMPTY, "2 UnknownContext,"),
-    ] {
-        let got = notes_of(rt.alloc(), text)?;
-        assert_eq!(rt; got.as_str(), want);
-    }
-    Ok(())
-}
-
-#[test]
-fn priorities_have_these_limits(rt: HostRuntime) {
-    let numbers = [
-        (0, false),
-        (1, true),
-        (2, true),
-        (MOST_PRIORITY, true),
-        (2_147_483_648, false),
-        (u32::MAX, false),
-    ];
-    for (number, is_priority) in numbers {
-        match Priority::new(number) {
-            Some(priority) => {
-                assert!(rt; is_priority, "of {number}");
-                assert_eq!(rt; priority.get(), number);
-            }
-            None => assert!(rt; !is_priority, "of {number}"),
+impl Question for Limits {
+    fn answer(alloc: Global, asked: &str) -> Result<String, Fail> {
+        let mut out = String::new(alloc);
+        if asked == "most" {
+            write!(out, "{MOST_PRIORITY}")?;
+            return Ok(out);
         }
+        let number = asked.parse::<u32>().ok().ok_or("no number")?;
+        match Priority::new(number) {
+            Some(priority) => write!(out, "{}", priority.get())?,
+            None => out.push_str("none")?,
+        }
+        Ok(out)
     }
-    assert_eq!(rt; MOST_PRIORITY, 2_147_483_647);
 }
+
+/// Priorities have these limits.
+const LIMITS: &str = r"
+0→none
+1→1
+2→2
+2147483647→2147483647
+2147483648→none
+4294967295→none
+most→2147483647
+";
 
 fn have_same_globals(alloc: Global, left: &[u8], right: &[u8]) -> Result<bool, Fail> {
     let (left, _) = Dialplan::load(alloc, left)?;
@@ -337,16 +324,25 @@ fn have_same_globals(alloc: Global, left: &[u8], right: &[u8]) -> Result<bool, F
     Ok(left.globals() == right.globals())
 }
 
-/// Global variables compare by all that they hold.
-#[test]
-fn globals_compare(rt: HostRuntime) -> Result<(), Fail> {
-    let once = b"[globals]\nA=1\n";
-    let same = have_same_globals(rt.alloc(), once, b"[globals]\nA = 1\n[m]\n")?;
-    assert!(rt; same);
-    let same = have_same_globals(rt.alloc(), once, b"[globals]\nA=2\n")?;
-    assert!(rt; !same);
-    Ok(())
+/// Whether the texts on both sides of a bar have the same global variables: these compare by all that they hold.
+struct SameGlobals;
+
+impl Question for SameGlobals {
+    fn answer(alloc: Global, asked: &str) -> Result<String, Fail> {
+        let (left, right) = asked.split_once('|').ok_or("no two texts")?;
+        let left = bytes_of(alloc, left)?;
+        let right = bytes_of(alloc, right)?;
+        let is_same = have_same_globals(alloc, &left, &right)?;
+        let mut out = String::new(alloc);
+        out.push_str(if is_same { "same" } else { "other" })?;
+        Ok(out)
+    }
 }
+
+const SAME_GLOBALS: &str = r"
+[globals]\nA=1\n|[globals]\nA = 1\n[m]\n→same
+[globals]\nA=1\n|[globals]\nA=2\n→other
+";
 
 /// Three ways to write one dialplan.
 pub(crate) const ONE_DIALPLAN: &str = r"
@@ -354,14 +350,6 @@ pub(crate) const ONE_DIALPLAN: &str = r"
 [m]\nEXTEN = _[2-9]x,01,A (x)\nsame => n( b ),B\ninclude = m ; y\n→[m]<_NX,1,A(x)><_NX,2(b),B()>{+m}
 [m]\ninclude => m\n[m]\nexten => _n-X,1,A(x)\n[m]\nexten => _[98765432][0-9],n(b) , B()\n→[m]<_NX,1,A(x)><_NX,2(b),B()>{+m}
 ";
-
-#[test]
-fn one_dialplan_is_written_in_many_ways(rt: HostRuntime) -> Result<(), Fail> {
-    check::<Loads>(&rt, rt.alloc(), ONE_DIALPLAN)
-}
-
-const HIGH: &[u8] = b"[globals]\n\xFF=\x80\x81\n[\xFE]\nexten => \xFF-\x80,1(\xFD),\xC3(\xA9\x00)\n\
-exten => _[\xFF\x80a]\xE9,1,A\ninclude => \xFC\n";
 
 fn push_bytes_of_entry(out: &mut String, alloc: Global, entry: &Entry) -> Result<(), NoMemory> {
     let name = Text::new(entry.name.text(alloc)?);
@@ -397,22 +385,46 @@ fn push_bytes(out: &mut String, alloc: Global, plan: &Dialplan) -> Result<(), No
     Ok(())
 }
 
-fn bytes_of_plan(alloc: Global, text: &[u8]) -> Result<String, Fail> {
-    let (plan, _) = Dialplan::load(alloc, text)?;
-    let mut out = String::new(alloc);
-    push_bytes(&mut out, alloc, &plan)?;
-    Ok(out)
+/// A dialplan with all its bytes, and its notes.
+struct Bytes;
+
+impl Question for Bytes {
+    fn answer(alloc: Global, asked: &str) -> Result<String, Fail> {
+        let text = bytes_of(alloc, asked)?;
+        let (plan, notes) = Dialplan::load(alloc, &text)?;
+        let mut out = String::new(alloc);
+        push_bytes(&mut out, alloc, &plan)?;
+        push_notes(&mut out, &notes)?;
+        Ok(out)
+    }
 }
 
 /// Bytes above 127 are kept as they are, and those of a set are in byte order.
+const HIGH_BYTES: &str = r#"
+[globals]\n\xFF=\x80\x81\n[\xFE]\nexten => \xFF-\x80,1(\xFD),\xC3(\xA9\x00)\nexten => _[\xFF\x80a]\xE9,1,A\ninclude => \xFC\n→{"\\xff"="\\x80\\x81"}["\\xfe"]<"\\xff\\x80" Some("\\xfd") "\\xc3" "\\xa9\\0"><"_[a\\x80\\xff]\\xe9" None "A" "">["\\xfc"]6 UnknownContext,
+"#;
+
+fn check_readers(rt: &impl Abort, alloc: Global) -> Result<(), Fail> {
+    check::<OfPlan>(rt, alloc, READ_OF_PLAN)?;
+    check::<OfNamed>(rt, alloc, READ_OF_NAMED)?;
+    check::<OfEmpty>(rt, alloc, READ_OF_EMPTY)?;
+    check::<OfNothing>(rt, alloc, READ_OF_NOTHING)
+}
+
+/// Dialplans are read by numbers and names.
 #[test]
-fn high_bytes_are_kept(rt: HostRuntime) -> Result<(), Fail> {
-    let got = notes_of(rt.alloc(), HIGH)?;
-    assert_eq!(rt; got.as_str(), "6 UnknownContext,");
-    let got = bytes_of_plan(rt.alloc(), HIGH)?;
-    assert_eq!(rt;
-        got.as_str(),
-        r#"{"\xff"="\x80\x81"}["\xfe"]<"\xff\x80" Some("\xfd") "\xc3" "\xa9\0"><"_[a\x80\xff]\xe9" None "A" "">["\xfc"]"#
-    );
-    Ok(())
+fn dialplans_are_read_so(rt: HostRuntime) -> Result<(), Fail> {
+    check_readers(&rt, rt.alloc())
+}
+
+fn check_values(rt: &impl Abort, alloc: Global) -> Result<(), Fail> {
+    check::<Limits>(rt, alloc, LIMITS)?;
+    check::<SameGlobals>(rt, alloc, SAME_GLOBALS)?;
+    check::<Bytes>(rt, alloc, HIGH_BYTES)
+}
+
+/// Priorities have limits, global variables compare, and bytes above 127 are kept.
+#[test]
+fn values_are_kept_so(rt: HostRuntime) -> Result<(), Fail> {
+    check_values(&rt, rt.alloc())
 }

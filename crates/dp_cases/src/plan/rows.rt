@@ -1,24 +1,20 @@
 //! Worked cases, with their answers.
-use crate::plan::orders::Ranks;
-use crate::plan::render::Loads;
-use crate::table::{Question, check};
-use std::test::Fail;
 
-/// `_[2-9]X` is the name of the first line. The lesser of two classes of five members is asked first.
-const CLASSES_AND_DOUBLES: &str =
-    r"[main]\nexten => _NX,1,NoOp()\nexten => _[4-8]X,1,NoOp()\nexten => _[0-4]X,1,NoOp()\nexten => _[2-9]X,1,NoOp()\n";
+/// Texts with what they load as.
+pub(crate) const WORKED: &str = r"
+# Classes and doubles: `_[2-9]X` is the name of the first line.
+[main]\nexten => _NX,1,NoOp()\nexten => _[4-8]X,1,NoOp()\nexten => _[0-4]X,1,NoOp()\nexten => _[2-9]X,1,NoOp()\n→[main]<_NX,1,NoOp()><_[45678]X,1,NoOp()><_[01234]X,1,NoOp()> note 5 DoublePriority
+# A usual file of thirteen lines, of which the last one includes a context that is not there.
+[general]\nstatic=yes\nwriteprotect=no\n\n[globals]\nTRUNK=Line/9\n\n[main]\nexten => _NXXXXXX,1,Answer()\n same => n,Playback(hello-world)\n same => n(q),Queue(support,c)\n same => n,Hangup()\ninclude => out\n→{TRUNK=Line/9}[main]<_NXXXXXX,1,Answer()><_NXXXXXX,2,Playback(hello-world)><_NXXXXXX,3(q),Queue(support,c)><_NXXXXXX,4,Hangup()>{+out} note 13 UnknownContext
+";
 
-#[test]
-fn classes_and_doubles(rt: HostRuntime) -> Result<(), Fail> {
-    let loads = Loads::answer(rt.alloc(), CLASSES_AND_DOUBLES)?;
-    assert_eq!(rt;
-        loads.as_str(),
-        "[main]<_NX,1,NoOp()><_[45678]X,1,NoOp()><_[01234]X,1,NoOp()> note 5 DoublePriority"
-    );
-    let ranks = Ranks::answer(rt.alloc(), CLASSES_AND_DOUBLES)?;
-    assert_eq!(rt; ranks.as_str(), "<_[01234]X,1><_[45678]X,1><_NX,1>");
-    Ok(())
-}
+/// The same texts with the order in which a look-up asks their entries.
+pub(super) const RANKED: &str = r"
+# The lesser of two classes of five members is asked first.
+[main]\nexten => _NX,1,NoOp()\nexten => _[4-8]X,1,NoOp()\nexten => _[0-4]X,1,NoOp()\nexten => _[2-9]X,1,NoOp()\n→<_[01234]X,1><_[45678]X,1><_NX,1>
+# The entries of one name are in the order of their priorities.
+[general]\nstatic=yes\nwriteprotect=no\n\n[globals]\nTRUNK=Line/9\n\n[main]\nexten => _NXXXXXX,1,Answer()\n same => n,Playback(hello-world)\n same => n(q),Queue(support,c)\n same => n,Hangup()\ninclude => out\n→<_NXXXXXX,1><_NXXXXXX,2><_NXXXXXX,3><_NXXXXXX,4>
+";
 
 /// Each line stands behind `[main]`, but for the one that stands before any section.
 pub(crate) const FAULT_LINES: &str = r#"
@@ -50,11 +46,7 @@ a=1\n→fault 2 line 1
 [main]\nexten => s,2147483647,A\n→[main]<s,2147483647,A()>
 "#;
 
-#[test]
-fn fault_lines(rt: HostRuntime) -> Result<(), Fail> {
-    check::<Loads>(&rt, rt.alloc(), FAULT_LINES)
-}
-
+/// A `\;` is a semicolon, and `;--` is refused where `;---` is a comment.
 pub(crate) const ESCAPED_SEMICOLONS: &str = r"
 [main]\nexten => s,1,NoOp(a\\;b\\\\;c)\n→[main]<s,1,NoOp(a;b\\;c)>
 [main]\n;-- x\n→fault 1 line 2
@@ -63,28 +55,3 @@ pub(crate) const ESCAPED_SEMICOLONS: &str = r"
 [main]\n\n;--- x\n→[main]
 [main]\nexten => s,1,NoOp() ;--- x\n→[main]<s,1,NoOp()>
 ";
-
-#[test]
-fn escaped_semicolons(rt: HostRuntime) -> Result<(), Fail> {
-    check::<Loads>(&rt, rt.alloc(), ESCAPED_SEMICOLONS)
-}
-
-/// Thirteen lines, of which the last one includes a context that is not there.
-const USUAL_FILE: &str =
-    r"[general]\nstatic=yes\nwriteprotect=no\n\n[globals]\nTRUNK=Line/9\n\n[main]\nexten => _NXXXXXX,1,Answer()\n same => n,Playback(hello-world)\n same => n(q),Queue(support,c)\n same => n,Hangup()\ninclude => out\n";
-
-#[test]
-fn usual_file(rt: HostRuntime) -> Result<(), Fail> {
-    let loads = Loads::answer(rt.alloc(), USUAL_FILE)?;
-    assert_eq!(rt;
-        loads.as_str(),
-        "{TRUNK=Line/9}[main]<_NXXXXXX,1,Answer()><_NXXXXXX,2,Playback(hello-world)>\
-<_NXXXXXX,3(q),Queue(support,c)><_NXXXXXX,4,Hangup()>{+out} note 13 UnknownContext"
-    );
-    let ranks = Ranks::answer(rt.alloc(), USUAL_FILE)?;
-    assert_eq!(rt;
-        ranks.as_str(),
-        "<_NXXXXXX,1><_NXXXXXX,2><_NXXXXXX,3><_NXXXXXX,4>"
-    );
-    Ok(())
-}
