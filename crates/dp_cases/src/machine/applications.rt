@@ -304,31 +304,40 @@ fn check_all(rt: &impl Abort, alloc: Global, rows: &[Row]) -> Result<(), Fail> {
     Ok(())
 }
 
-#[test]
-fn goto_goes_to_its_target(rt: HostRuntime) -> Result<(), Fail> {
-    check_all(&rt, rt.alloc(), &TARGETS)?;
-    check_all(&rt, rt.alloc(), &PRIORITIES)?;
+fn goto_goes_to_its_target(rt: &impl Abort, alloc: Global) -> Result<(), Fail> {
+    check_all(rt, alloc, &TARGETS)?;
+    check_all(rt, alloc, &PRIORITIES)?;
     Ok(())
 }
 
-#[test]
-fn goto_without_a_target_hangs_up(rt: HostRuntime) -> Result<(), Fail> {
-    for application in NO_TARGETS {
-        check(&rt, rt.alloc(), application, ENDED, REFUSED)?;
+fn goto_without_a_target_hangs_up(rt: &impl Abort, alloc: Global) -> Result<(), Fail> {
+    for application in &NO_TARGETS {
+        check(rt, alloc, application, ENDED, REFUSED)?;
     }
     Ok(())
 }
 
-#[test]
-fn applications_are_named_in_any_case(rt: HostRuntime) -> Result<(), Fail> {
-    check_all(&rt, rt.alloc(), &NAMES)?;
+fn applications_are_named_in_any_case(rt: &impl Abort, alloc: Global) -> Result<(), Fail> {
+    check_all(rt, alloc, &NAMES)?;
     Ok(())
 }
 
-#[test]
-fn an_unknown_application_hangs_up(rt: HostRuntime) -> Result<(), Fail> {
-    for application in UNKNOWN {
-        check(&rt, rt.alloc(), application, ENDED, REFUSED)?;
+fn an_unknown_application_hangs_up(rt: &impl Abort, alloc: Global) -> Result<(), Fail> {
+    for application in &UNKNOWN {
+        check(rt, alloc, application, ENDED, REFUSED)?;
     }
     Ok(())
+}
+
+fn check_applications(rt: &impl Abort, alloc: Global) -> Result<(), Fail> {
+    goto_goes_to_its_target(rt, alloc)?;
+    goto_without_a_target_hangs_up(rt, alloc)?;
+    applications_are_named_in_any_case(rt, alloc)?;
+    an_unknown_application_hangs_up(rt, alloc)
+}
+
+/// `Goto` goes to its target and hangs up without one, names are in any case, and an unknown application hangs up.
+#[test]
+fn applications_do_so(rt: HostRuntime) -> Result<(), Fail> {
+    check_applications(&rt, rt.alloc())
 }

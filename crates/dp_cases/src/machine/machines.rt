@@ -30,10 +30,9 @@ fn check_a_new_machine_has_its_plan_and_no_channel(
     Ok(())
 }
 
-#[test]
-fn a_new_machine_has_its_plan_and_no_channel(rt: HostRuntime) -> Result<(), Fail> {
-    let machine = machine_of(rt.alloc(), PLAN)?;
-    check_a_new_machine_has_its_plan_and_no_channel(&rt, rt.alloc(), &machine)
+fn a_new_machine_has_its_plan_and_no_channel(rt: &impl Abort, alloc: Global) -> Result<(), Fail> {
+    let machine = machine_of(alloc, PLAN)?;
+    check_a_new_machine_has_its_plan_and_no_channel(rt, alloc, &machine)
 }
 
 fn check_channels_are_read_by_their_numbers(
@@ -62,10 +61,9 @@ fn check_channels_are_read_by_their_numbers(
 }
 
 /// A channel that has ended keeps its place.
-#[test]
-fn channels_are_read_by_their_numbers(rt: HostRuntime) -> Result<(), Fail> {
-    let mut machine = machine_of(rt.alloc(), PLAN)?;
-    check_channels_are_read_by_their_numbers(&rt, rt.alloc(), &mut machine)
+fn channels_are_read_by_their_numbers(rt: &impl Abort, alloc: Global) -> Result<(), Fail> {
+    let mut machine = machine_of(alloc, PLAN)?;
+    check_channels_are_read_by_their_numbers(rt, alloc, &mut machine)
 }
 
 fn check_a_run_adds_its_replies(
@@ -115,10 +113,9 @@ fn check_a_run_adds_its_replies(
 }
 
 /// The replies stand behind those that are there already, and the machine is the one behind the last event.
-#[test]
-fn a_run_adds_its_replies(rt: HostRuntime) -> Result<(), Fail> {
-    let mut machine = machine_of(rt.alloc(), PLAN)?;
-    check_a_run_adds_its_replies(&rt, rt.alloc(), &mut machine)
+fn a_run_adds_its_replies(rt: &impl Abort, alloc: Global) -> Result<(), Fail> {
+    let mut machine = machine_of(alloc, PLAN)?;
+    check_a_run_adds_its_replies(rt, alloc, &mut machine)
 }
 
 fn check_an_event_is_given_again(
@@ -154,10 +151,9 @@ fn check_an_event_is_given_again(
 }
 
 /// Where memory is refused the machine is as before, so that the event, given again, has its own reply.
-#[test]
-fn an_event_is_given_again(rt: HostRuntime) -> Result<(), Fail> {
-    let mut machine = machine_of(rt.alloc(), PLAN)?;
-    check_an_event_is_given_again(&rt, rt.alloc(), &mut machine)
+fn an_event_is_given_again(rt: &impl Abort, alloc: Global) -> Result<(), Fail> {
+    let mut machine = machine_of(alloc, PLAN)?;
+    check_an_event_is_given_again(rt, alloc, &mut machine)
 }
 
 fn check_a_run_goes_on(rt: &impl Abort, alloc: Global, machine: &mut Machine) -> Result<(), Fail> {
@@ -185,18 +181,16 @@ fn check_a_run_goes_on(rt: &impl Abort, alloc: Global, machine: &mut Machine) ->
 }
 
 /// Where memory is refused the replies say how far a run came, so that it goes on from there.
-#[test]
-fn a_run_goes_on(rt: HostRuntime) -> Result<(), Fail> {
-    let mut machine = machine_of(rt.alloc(), PLAN)?;
-    check_a_run_goes_on(&rt, rt.alloc(), &mut machine)
+fn a_run_goes_on(rt: &impl Abort, alloc: Global) -> Result<(), Fail> {
+    let mut machine = machine_of(alloc, PLAN)?;
+    check_a_run_goes_on(rt, alloc, &mut machine)
 }
 
-#[test]
-fn an_event_is_copied_whole(rt: HostRuntime) -> Result<(), Fail> {
+fn an_event_is_copied_whole(rt: &impl Abort, alloc: Global) -> Result<(), Fail> {
     let call = Event::Start {
-        context: Text::copy_of(rt.alloc(), b"main")?,
-        exten: Text::copy_of(rt.alloc(), b"2-00")?,
-        caller: Text::copy_of(rt.alloc(), b"555\xFF")?,
+        context: Text::copy_of(alloc, b"main")?,
+        exten: Text::copy_of(alloc, b"2-00")?,
+        caller: Text::copy_of(alloc, b"555\xFF")?,
     };
     match call.copy()? {
         Event::Start {
@@ -216,4 +210,28 @@ fn an_event_is_copied_whole(rt: HostRuntime) -> Result<(), Fail> {
         assert!(rt; step != call, "at {channel}");
     }
     Ok(())
+}
+
+fn check_machines(rt: &impl Abort, alloc: Global) -> Result<(), Fail> {
+    a_new_machine_has_its_plan_and_no_channel(rt, alloc)?;
+    channels_are_read_by_their_numbers(rt, alloc)?;
+    a_run_adds_its_replies(rt, alloc)?;
+    an_event_is_copied_whole(rt, alloc)
+}
+
+/// Machines and their readers, runs, and copies of events.
+#[test]
+fn machines_are_read_and_run(rt: HostRuntime) -> Result<(), Fail> {
+    check_machines(&rt, rt.alloc())
+}
+
+fn check_again(rt: &impl Abort, alloc: Global) -> Result<(), Fail> {
+    an_event_is_given_again(rt, alloc)?;
+    a_run_goes_on(rt, alloc)
+}
+
+/// What goes on where memory is refused.
+#[test]
+fn events_are_given_again(rt: HostRuntime) -> Result<(), Fail> {
+    check_again(&rt, rt.alloc())
 }

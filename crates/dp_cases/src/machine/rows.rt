@@ -23,14 +23,13 @@ fn check_first_run(rt: &impl Abort, alloc: Global, machine: &mut Machine) -> Res
     Ok(())
 }
 
-#[test]
-fn first_run(rt: HostRuntime) -> Result<(), Fail> {
+fn first_run(rt: &impl Abort, alloc: Global) -> Result<(), Fail> {
     let text = b"[main]\nexten => 100,1,NoOp(hello)\nexten => 100,2,Goto(200,1)\n\
 exten => 200,1,Hangup()\n";
-    let (plan, notes) = Dialplan::load(rt.alloc(), text)?;
+    let (plan, notes) = Dialplan::load(alloc, text)?;
     assert_eq!(rt; notes.len(), 0);
-    let mut machine = Machine::new(rt.alloc(), plan)?;
-    check_first_run(&rt, rt.alloc(), &mut machine)
+    let mut machine = Machine::new(alloc, plan)?;
+    check_first_run(rt, alloc, &mut machine)
 }
 
 fn check_refusals(rt: &impl Abort, alloc: Global, machine: &mut Machine) -> Result<(), Fail> {
@@ -62,10 +61,20 @@ fn check_refusals(rt: &impl Abort, alloc: Global, machine: &mut Machine) -> Resu
     Ok(())
 }
 
+fn refusals(rt: &impl Abort, alloc: Global) -> Result<(), Fail> {
+    let mut machine = machine_of(alloc, b"[main]\nexten => s,1,Hangup()\n")?;
+    check_refusals(rt, alloc, &mut machine)
+}
+
+fn check_rows(rt: &impl Abort, alloc: Global) -> Result<(), Fail> {
+    first_run(rt, alloc)?;
+    refusals(rt, alloc)
+}
+
+/// A call from its start to its end, and events that are refused.
 #[test]
-fn refusals(rt: HostRuntime) -> Result<(), Fail> {
-    let mut machine = machine_of(rt.alloc(), b"[main]\nexten => s,1,Hangup()\n")?;
-    check_refusals(&rt, rt.alloc(), &mut machine)
+fn first_run_and_refusals(rt: HostRuntime) -> Result<(), Fail> {
+    check_rows(&rt, rt.alloc())
 }
 
 fn check_numbers_are_spent(
