@@ -116,6 +116,11 @@ abbrev pub event_row : World → Event → World × Reply
 event_row w (Start context exten caller) = entered w (started w.channels context exten caller)
 event_row w (Step number) = own_event w number step_row (channel_at w.channels number)
 
+-- the channel that an event names, and 0, which no channel has, where it names none
+abbrev pub channel_of : Event → ℕ
+channel_of (Start context exten caller) = 0
+channel_of (Step number) = number
+
 -- whether a reply is a refusal
 abbrev pub is_refused : Reply → Bool
 is_refused (Started number) = false

@@ -1,5 +1,6 @@
 //! The events that a machine is given.
 ghost use Rattle.std.specs.Prelude.{◌≡◌, IfOk};
+ghost use Rattle.dp_machine.specs.Events.{channel_of};
 
 use dp_plan::{NoMemory, Text};
 
@@ -19,6 +20,16 @@ pub enum Event {
 }
 
 impl Event {
+    /// The number of the channel that the event names, and 0, which no channel has, where it names none.
+    pub fn channel(&self) -> u32
+        ensures { result ≡ channel_of self.now }
+    {
+        match self {
+            Event::Start { .. } => 0,
+            Event::Step { channel } => *channel,
+        }
+    }
+
     /// The same event once more.
     pub fn copy(&self) -> Result<Self, NoMemory>
         ensures { IfOk result (λ event. event ≡ self.now) }

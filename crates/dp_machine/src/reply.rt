@@ -1,4 +1,7 @@
 //! What a machine replies to an event.
+ghost use Rattle.std.specs.Prelude.{◌≡◌};
+ghost use Rattle.dp_machine.specs.Events.{is_refused};
+
 use crate::refusal::Refusal;
 use dp_plan::EntryId;
 
@@ -13,4 +16,13 @@ pub enum Reply {
     NoEntry,
     /// The event was refused, and nothing has changed.
     Refused(Refusal),
+}
+
+impl Reply {
+    /// Whether the event was refused.
+    pub fn is_refusal(self) -> bool
+        ensures { result ≡ is_refused self }
+    {
+        matches!(self, Reply::Refused(_))
+    }
 }
