@@ -1,8 +1,8 @@
+pub mod Block
 pub mod Codes
 pub mod Faults
 pub mod Joined
 pub mod Report
 pub mod Run
 pub mod Script
-pub mod Stops
 pub mod Trace

@@ -1,40 +1,72 @@
 -- What a run writes and answers.
-use Rattle.std.specs.Prelude.{◌≡◌, ℕ, ◌≤◌, Bool, List, [], length, take, Option, None, Result, Ok, Err, if◌then◌else◌}
-use Rattle.std.specs.Io.KnownBytes.{Appends}
+use Rattle.std.specs.Prelude.{◌≡◌, ℕ, ◌≤◌, ◌++◌, Bool, false, List, [], length, take, Option, None, Result, Ok, Err, if◌then◌else◌}
+use Rattle.std.specs.Io.KnownBytes.{Appends, Keeps}
 use Rattle.dp_conf.specs.Answers.{◌>>=◌}
 use Rattle.dp_conf.specs.Fronts.{AppendsFront}
 use Rattle.dp_plan.specs.Loaded.{loaded}
 use Rattle.dp_plan.specs.declared.fault.LoadFault.{LoadFault}
-use Rattle.dp_machine.specs.Replay.{world_after}
 use Rattle.dp_machine.specs.World.{World, opening}
-use Rattle.dp_machine.specs.declared.event.Event.{Event}
-use Rattle.dp_commands.specs.Faults.{fault_of_load}
-use Rattle.dp_commands.specs.Script.{script_of, events_of}
-use Rattle.dp_commands.specs.Trace.{trace_of, any_refused}
+use Rattle.dp_commands.specs.Block.{Flows}
+use Rattle.dp_commands.specs.Faults.{fault_of_load, is_write_failed}
+use Rattle.dp_commands.specs.Script.{script_of, turns_of}
+use Rattle.dp_commands.specs.Trace.{trace_of, world_past, any_refused}
 use Rattle.dp_commands.specs.declared.fault.Code.TheVariants.{WriteFailed}
 use Rattle.dp_commands.specs.declared.fault.PbxFault.{PbxFault}
 use Rattle.dp_commands.specs.declared.fault.PbxFault.TheVariants.{Coded, NoMemory}
-use Rattle.dp_commands.specs.declared.run.Stop.{Stop}
-use Rattle.dp_commands.specs.declared.run.Stop.TheVariants.{Write, Memory}
+use Rattle.dp_commands.specs.declared.script.Turn.{Turn}
 
--- the trace of the first so many events was written, and nothing else
-pub record TracesFirst (w : World) (events : List Event) (old new : Option (List ℕ)) : Type 0 where
+-- the trace of the first so many turns was written, and nothing else
+pub record TracesFirst (w : World) (turns : List Turn) (old new : Option (List ℕ)) : Type 0 where
   pub count : ℕ
-  pub within : count ≤ length events
-  pub written : Appends old new (trace_of w (take count events))
+  pub within : count ≤ length turns
+  pub written : Appends old new (trace_of w (take count turns))
 
--- what some events write where a world meets them: their trace, with whether one was refused; a front of it where a
--- write failed; the trace of the first so many of them where memory was refused
-abbrev pub Streams : World → List Event → Option (List ℕ) → Option (List ℕ) → World → Result Bool Stop → Type 0
-Streams w events old new after (Ok refused) =
-    Appends old new (trace_of w events) × (after ≡ world_after w events) × (refused ≡ any_refused w events)
-Streams w events old new after (Err Write) = AppendsFront old new (trace_of w events)
-Streams w events old new after (Err Memory) = TracesFirst w events old new
+-- the trace of the first so many turns flowed, and nothing else
+pub record FlowsFirst (w : World) (turns : List Turn) (old : Option (List ℕ)) (waited : List ℕ) (new : Option (List ℕ)) (waits : List ℕ) : Type 0 where
+  pub count : ℕ
+  pub within : count ≤ length turns
+  pub flowed : Flows old waited new waits (trace_of w (take count turns))
 
--- a run: the world that it begins with, and its events
+-- what some turns come to where a world meets them, by what was written and what waited before, and what is written and
+-- waits behind them: their trace flows, with whether one was refused; where a write failed, a front was written of what
+-- waited and the trace; and the trace of the first so many of them flows where memory was refused
+abbrev pub Streams : World → List Turn → Option (List ℕ) → List ℕ → Option (List ℕ) → List ℕ → World → Result Bool PbxFault → Type 0
+Streams w turns old waited new waits after (Ok refused) =
+    Flows old waited new waits (trace_of w turns) × (after ≡ world_past w turns) × (refused ≡ any_refused w turns)
+Streams w turns old waited new waits after (Err (Coded code line)) =
+    AppendsFront old new (waited ++ trace_of w turns) × (code ≡ WriteFailed) × (line ≡ None)
+Streams w turns old waited new waits after (Err NoMemory) = FlowsFirst w turns old waited new waits
+
+-- the status by whether a turn was refused
+abbrev pub status_by : Bool → ℕ
+status_by refused = if refused then 1 else 0
+
+-- what the end of a run writes and answers, by what waits and what the run came to
+abbrev pub Ends : Option (List ℕ) → List ℕ → Option (List ℕ) → Result Bool PbxFault → Result ℕ PbxFault → Type 0
+Ends old waits new (Ok refused) (Ok status) = Appends old new waits × (status ≡ status_by refused)
+Ends old waits new (Ok refused) (Err (Coded code line)) = AppendsFront old new waits × (code ≡ WriteFailed) × (line ≡ None)
+Ends old waits new (Ok refused) (Err NoMemory) = ⊥
+Ends old waits new (Err (Coded code line)) (Ok status) = ⊥
+Ends old waits new (Err (Coded code line)) (Err (Coded other at)) = Keeps old new × (other ≡ code) × (at ≡ line)
+Ends old waits new (Err (Coded code line)) (Err NoMemory) = ⊥
+Ends old waits new (Err NoMemory) (Ok status) = ⊥
+Ends old waits new (Err NoMemory) (Err (Coded code line)) = AppendsFront old new waits × (code ≡ WriteFailed) × (line ≡ None)
+Ends old waits new (Err NoMemory) (Err NoMemory) = Appends old new waits
+
+-- whether the write at the end of a run failed, by what the run came to: behind a failed write there is none
+abbrev pub fails_at_the_end : Result Bool PbxFault → Result ℕ PbxFault → Bool
+fails_at_the_end (Ok refused) result = is_write_failed result
+fails_at_the_end (Err (Coded code line)) result = false
+fails_at_the_end (Err NoMemory) result = is_write_failed result
+
+-- a run: the world that it begins with, and its turns
 pub record Run : Type 0 where
   pub world : World
-  pub events : List Event
+  pub turns : List Turn
+
+-- the run of these turns from a world on
+abbrev pub run_on : World → List Turn → Run
+run_on world turns = record { world = world; turns = turns }
 
 -- a dialplan that was read, or its fault
 abbrev pub plan_fault : {X : Type 0} → Result X LoadFault → Result X PbxFault
@@ -45,18 +77,18 @@ plan_fault (Err fault) = Err (fault_of_load fault)
 unfoldable pub run_of : List ℕ → List ℕ → Result Run PbxFault
 run_of plan script =
     plan_fault (loaded plan) >>= λ read. script_of script >>= λ lines.
-    Ok (record { world = opening read.0; events = events_of lines })
+    Ok (run_on (opening read.0) (turns_of lines))
 
--- the status of a run: 1 where an event was refused
+-- the status of a run: 1 where a turn was refused
 abbrev pub status_of : Run → ℕ
-status_of run = if any_refused run.world run.events then 1 else 0
+status_of run = status_by (any_refused run.world run.turns)
 
 -- what a program's run writes and answers, by the run or the fault that its texts are
 abbrev pub Writes : Option (List ℕ) → Option (List ℕ) → Result Run PbxFault → Result ℕ PbxFault → Type 0
-Writes old new (Ok run) (Ok status) = Appends old new (trace_of run.world run.events) × (status ≡ status_of run)
+Writes old new (Ok run) (Ok status) = Appends old new (trace_of run.world run.turns) × (status ≡ status_of run)
 Writes old new (Ok run) (Err (Coded code line)) =
-    AppendsFront old new (trace_of run.world run.events) × (code ≡ WriteFailed) × (line ≡ None)
-Writes old new (Ok run) (Err NoMemory) = TracesFirst run.world run.events old new
+    AppendsFront old new (trace_of run.world run.turns) × (code ≡ WriteFailed) × (line ≡ None)
+Writes old new (Ok run) (Err NoMemory) = TracesFirst run.world run.turns old new
 Writes old new (Err fault) (Ok status) = ⊥
 Writes old new (Err fault) (Err (Coded code line)) = Appends old new [] × (fault ≡ Coded code line)
 Writes old new (Err fault) (Err NoMemory) = Appends old new []

@@ -1,20 +1,20 @@
--- A script: its lines, and the events that they stand for.
-use Rattle.std.specs.Prelude.{ℕ, ◌+◌, Bool, not, ◌==◌, nat_le, List, [], ◌∷◌, length, filter, replicate, Option, Some, None, Result, Ok, Err, codes, if◌then◌else◌}
+-- A script: its lines, and the turns that they stand for.
+use Rattle.std.specs.Prelude.{ℕ, ◌+◌, Bool, true, not, ◌==◌, nat_le, List, [], ◌∷◌, length, filter, replicate, Option, Some, None, Result, Ok, Err, codes, if◌then◌else◌}
 use Rattle.std.specs.List.{slice_split, flat_map}
-use Rattle.std.specs.Option.{option_and_then}
+use Rattle.std.specs.Option.{option_and_then, option_map}
 use Rattle.dp_conf.specs.Answers.{all_of, each_after}
 use Rattle.dp_conf.specs.Blanks.{is_blank}
 use Rattle.dp_conf.specs.Cut.{begins_with}
 use Rattle.dp_conf.specs.Lines.{parts_of}
 use Rattle.dp_conf.specs.Numbers.{number_of}
 use Rattle.dp_conf.specs.Words.{same_text}
-use Rattle.dp_machine.specs.declared.event.Event.{Event}
-use Rattle.dp_machine.specs.declared.event.Event.TheVariants.{Start as event_start, Step as event_step}
+use Rattle.dp_machine.specs.declared.event.Event.TheVariants.{Start, Step}
 use Rattle.dp_commands.specs.declared.fault.Code.TheVariants.{BadScript}
 use Rattle.dp_commands.specs.declared.fault.PbxFault.{PbxFault}
 use Rattle.dp_commands.specs.declared.fault.PbxFault.TheVariants.{Coded}
 use Rattle.dp_commands.specs.declared.script.ScriptLine.{ScriptLine}
-use Rattle.dp_commands.specs.declared.script.ScriptLine.TheVariants.{Start, Step}
+use Rattle.dp_commands.specs.declared.script.Turn.{Turn}
+use Rattle.dp_commands.specs.declared.script.Turn.TheVariants.{Event, Show}
 
 -- a word has a byte
 abbrev pub is_word : List ℕ → Bool
@@ -28,35 +28,72 @@ words_of line = filter is_word (slice_split is_blank line)
 abbrev pub number_within : ℕ → List ℕ → Option ℕ
 number_within limit word = option_and_then (λ n. if nat_le n limit then Some n else None) (number_of word)
 
+-- the greatest number that a script may give a channel
+abbrev pub most_channel : ℕ
+most_channel = 4294967295
+
+-- how many times a line may take its turn
+abbrev pub most_count : ℕ
+most_count = 100000
+
+-- the number of a channel that a word writes
+abbrev pub channel_in : List ℕ → Option ℕ
+channel_in word = number_within most_channel word
+
+-- a line that takes its turn once
+abbrev pub once : Turn → ScriptLine
+once turn = record { turn = turn; count = 1 }
+
 -- so many steps of a channel
-abbrev pub steps_of : Option ℕ → Option ℕ → Option (List ScriptLine)
+abbrev pub steps_of : Option ℕ → Option ℕ → Option ScriptLine
 steps_of None count = None
 steps_of (Some channel) None = None
-steps_of (Some channel) (Some count) = Some (Step channel count ∷ [])
+steps_of (Some channel) (Some count) = Some (record { turn = Event (Step channel); count = count })
 
 -- the call of a line that begins with `start`
-abbrev pub start_line : List (List ℕ) → Option (List ScriptLine)
+abbrev pub start_line : List (List ℕ) → Option ScriptLine
 start_line [] = None
 start_line (context ∷ []) = None
-start_line (context ∷ exten ∷ []) = Some (Start context exten [] ∷ [])
-start_line (context ∷ exten ∷ caller ∷ []) = Some (Start context exten caller ∷ [])
+start_line (context ∷ exten ∷ []) = Some (once (Event (Start context exten [])))
+start_line (context ∷ exten ∷ caller ∷ []) = Some (once (Event (Start context exten caller)))
 start_line (context ∷ exten ∷ caller ∷ more ∷ words) = None
 
 -- the steps of a line that begins with `step`
-abbrev pub step_line : List (List ℕ) → Option (List ScriptLine)
+abbrev pub step_line : List (List ℕ) → Option ScriptLine
 step_line [] = None
-step_line (channel ∷ []) = steps_of (number_within 4294967295 channel) (Some 1)
-step_line (channel ∷ count ∷ []) = steps_of (number_within 4294967295 channel) (number_within 100000 count)
+step_line (channel ∷ []) = steps_of (channel_in channel) (Some 1)
+step_line (channel ∷ count ∷ []) = steps_of (channel_in channel) (number_within most_count count)
 step_line (channel ∷ count ∷ more ∷ words) = None
 
--- what a line stands for by its words: nothing where it has none or begins with `;`, and None where it is faulty
-abbrev pub line_of : List (List ℕ) → Option (List ScriptLine)
-line_of [] = Some []
-line_of (word ∷ words) =
-    if begins_with 59 word then Some []
-    else if same_text word (codes "start") then start_line words
+-- the name that is shown in a channel
+abbrev pub shown_by : Option ℕ → List ℕ → Option ScriptLine
+shown_by None name = None
+shown_by (Some channel) name = Some (once (Show channel name))
+
+-- what is shown by a line that begins with `show`
+abbrev pub show_line : List (List ℕ) → Option ScriptLine
+show_line [] = None
+show_line (channel ∷ []) = None
+show_line (channel ∷ name ∷ []) = shown_by (channel_in channel) name
+show_line (channel ∷ name ∷ more ∷ words) = None
+
+-- what a line stands for by its words, and None where it is faulty
+abbrev pub line_by : List (List ℕ) → Option ScriptLine
+line_by [] = None
+line_by (word ∷ words) =
+    if same_text word (codes "start") then start_line words
     else if same_text word (codes "step") then step_line words
+    else if same_text word (codes "show") then show_line words
     else None
+
+-- whether a line is passed over: it has no words, or begins with `;`
+abbrev pub is_skipped : List (List ℕ) → Bool
+is_skipped [] = true
+is_skipped (word ∷ words) = begins_with 59 word
+
+-- the line by its words, where it is not passed over, and None where it is faulty
+abbrev pub line_of : List (List ℕ) → Option (List ScriptLine)
+line_of words = if is_skipped words then Some [] else option_map (λ line. line ∷ []) (line_by words)
 
 -- the reading of a line at its number, or its fault
 abbrev pub numbered : ℕ → Option (List ScriptLine) → Result (List ScriptLine) PbxFault
@@ -71,11 +108,10 @@ reading_of before part = numbered (length before + 1) (line_of (words_of part))
 unfoldable pub script_of : List ℕ → Result (List ScriptLine) PbxFault
 script_of text = all_of (each_after reading_of [] (parts_of text))
 
--- the events of a line
-abbrev pub line_events : ScriptLine → List Event
-line_events (Start context exten caller) = event_start context exten caller ∷ []
-line_events (Step channel count) = replicate count (event_step channel)
+-- the turns of a line
+abbrev pub line_turns : ScriptLine → List Turn
+line_turns line = replicate line.count line.turn
 
--- the events of a script
-abbrev pub events_of : List ScriptLine → List Event
-events_of lines = flat_map line_events lines
+-- the turns of a script
+abbrev pub turns_of : List ScriptLine → List Turn
+turns_of lines = flat_map line_turns lines

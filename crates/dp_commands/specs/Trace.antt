@@ -1,6 +1,6 @@
--- The trace: one line for each event, of its reply and of its channel's state after it.
-use Rattle.std.specs.Prelude.{ℕ, Bool, List, [], ◌∷◌, ◌++◌, Option, Some, None, slice_get, codes, decimal}
-use Rattle.std.specs.List.{list_any}
+-- The trace: one line for each turn. That of an event has its reply and its channel's state after it, and that of a `show`
+-- a value.
+use Rattle.std.specs.Prelude.{ℕ, Bool, false, ◌||◌, List, [], ◌∷◌, ◌++◌, fold, Option, Some, None, is_none, slice_get, codes, decimal}
 use Rattle.std.specs.Option.{option_map}
 use Rattle.dp_pattern.specs.Spelling.{spelling}
 use Rattle.dp_plan.specs.Contexts.{PlanContext}
@@ -8,16 +8,19 @@ use Rattle.dp_plan.specs.Plan.{PlanOf}
 use Rattle.dp_plan.specs.declared.entry.Entry.{Entry}
 use Rattle.dp_plan.specs.declared.entry.EntryId.{EntryId}
 use Rattle.dp_machine.specs.Codes.{refusal_code, refusal_name}
-use Rattle.dp_machine.specs.Events.{event_row, is_refused}
-use Rattle.dp_machine.specs.Replay.{world_behind, replies_to}
-use Rattle.dp_machine.specs.World.{World, channel_at}
+use Rattle.dp_machine.specs.Events.{channel_of, event_row, is_refused}
+use Rattle.dp_machine.specs.Replay.{world_behind}
+use Rattle.dp_machine.specs.World.{World, channel_at, value_in}
 use Rattle.dp_machine.specs.declared.channel.Place.{Place}
 use Rattle.dp_machine.specs.declared.channel.Phase.{Phase}
 use Rattle.dp_machine.specs.declared.channel.Phase.TheVariants.{Ready, Ended}
 use Rattle.dp_machine.specs.declared.event.Event.{Event}
-use Rattle.dp_machine.specs.declared.event.Event.TheVariants.{Start, Step}
+use Rattle.dp_machine.specs.declared.refusal.Refusal.{Refusal}
+use Rattle.dp_machine.specs.declared.refusal.Refusal.TheVariants.{NoChannel}
 use Rattle.dp_machine.specs.declared.reply.Reply.{Reply}
 use Rattle.dp_machine.specs.declared.reply.Reply.TheVariants.{Started, Ran, NoEntry, Refused}
+use Rattle.dp_commands.specs.declared.script.Turn.{Turn}
+use Rattle.dp_commands.specs.declared.script.Turn.TheVariants.{Event as turn_event, Show}
 
 -- `CONTEXT,EXTEN,PRIORITY`
 abbrev pub place_text : List ℕ → List ℕ → ℕ → List ℕ
@@ -30,10 +33,14 @@ state_by (Some Ready) None = []
 state_by (Some Ready) (Some place) = codes "ready " ++ place_text place.context place.exten place.priority
 state_by (Some Ended) place = codes "ended"
 
+-- the phase of the channel of a number, where there is one
+abbrev pub phase_at : World → ℕ → Option Phase
+phase_at w number = option_map (λ c. c.phase) (channel_at w.channels number)
+
 -- the state of the channel of a number
 unfoldable pub state_text : World → ℕ → List ℕ
 state_text w number =
-    state_by (option_map (λ c. c.phase) (channel_at w.channels number)) (option_map (λ c. c.place) (channel_at w.channels number))
+    state_by (phase_at w number) (option_map (λ c. c.place) (channel_at w.channels number))
 
 -- an entry of a context, `CONTEXT,NAME,PRIORITY APP`, its name in the canonical spelling
 abbrev pub entry_by : PlanContext → Option Entry → List ℕ
@@ -48,29 +55,53 @@ entry_in number (Some context) = entry_by context (slice_get context.entries num
 unfoldable pub entry_text : PlanOf → EntryId → List ℕ
 entry_text plan id = entry_in id.entry (slice_get plan.contexts id.context)
 
+-- a refusal, `refused CODE NAME`
+abbrev pub refusal_text : Refusal → List ℕ
+refusal_text refusal = codes "refused " ++ decimal (refusal_code refusal) ++ codes " " ++ refusal_name refusal
+
 -- the line of a reply to an event of the channel of a number, in the world after it
 abbrev pub reply_text : World → ℕ → Reply → List ℕ
 reply_text w number (Started channel) = codes "started " ++ decimal channel
 reply_text w number (Ran id) =
     codes "ran " ++ decimal number ++ codes " " ++ entry_text w.plan id ++ codes " -> " ++ state_text w number
 reply_text w number NoEntry = codes "no entry " ++ decimal number ++ codes " -> " ++ state_text w number
-reply_text w number (Refused refusal) =
-    codes "refused " ++ decimal (refusal_code refusal) ++ codes " " ++ refusal_name refusal
-
--- the channel that an event names
-abbrev pub number_in : Event → ℕ
-number_in (Start context exten caller) = 0
-number_in (Step channel) = channel
+reply_text w number (Refused refusal) = refusal_text refusal
 
 -- the line of an event that a world meets
 unfoldable pub event_line : World → Event → List ℕ
-event_line w event = reply_text (world_behind w event) (number_in event) (event_row w event).1 ++ 10 ∷ []
+event_line w event = reply_text (world_behind w event) (channel_of event) (event_row w event).1 ++ 10 ∷ []
 
--- the trace of some events from a world on
-abbrev pub trace_of : World → List Event → List ℕ
+-- what is shown of a name, by the phase of the channel, where there is one
+abbrev pub show_by : World → ℕ → List ℕ → Option Phase → List ℕ
+show_by w number name None = refusal_text NoChannel
+show_by w number name (Some phase) = name ++ codes "=" ++ value_in w number name
+
+-- what is shown of a name in the channel of a number: `NAME=VALUE`, or the refusal where no channel has the number
+unfoldable pub show_text : World → ℕ → List ℕ → List ℕ
+show_text w number name = show_by w number name (phase_at w number)
+
+-- what a turn makes of a world, its line, and whether it is refused
+pub record Turned : Type 0 where
+  pub world : World
+  pub line : List ℕ
+  pub refused : Bool
+
+abbrev pub turned : World → Turn → Turned
+turned w (turn_event event) =
+    record { world = world_behind w event; line = event_line w event; refused = is_refused (event_row w event).1 }
+turned w (Show number name) =
+    record { world = w; line = show_text w number name ++ 10 ∷ []; refused = is_none (phase_at w number) }
+
+-- the world behind the turns
+abbrev pub world_past : World → List Turn → World
+world_past w turns = fold (λ at turn. (turned at turn).world) w turns
+
+-- the trace of some turns from a world on
+abbrev pub trace_of : World → List Turn → List ℕ
 trace_of w [] = []
-trace_of w (event ∷ events) = event_line w event ++ trace_of (world_behind w event) events
+trace_of w (turn ∷ turns) = (turned w turn).line ++ trace_of (turned w turn).world turns
 
--- whether an event was refused
-abbrev pub any_refused : World → List Event → Bool
-any_refused w events = list_any is_refused (replies_to w events)
+-- whether a turn was refused
+abbrev pub any_refused : World → List Turn → Bool
+any_refused w [] = false
+any_refused w (turn ∷ turns) = (turned w turn).refused || any_refused (turned w turn).world turns

@@ -1,6 +1,7 @@
 //! The commands of the program `pbx`, over texts and a writer: reports on a dialplan, and runs of it by a script.
 #![tactic(auto)]
 
+mod block;
 mod fault;
 mod joined;
 mod report;
@@ -12,4 +13,4 @@ pub use fault::{Code, PbxFault};
 pub use joined::run_joined;
 pub use report::{check, list_plan, match_one};
 pub use run::run_script;
-pub use script::{ScriptLine, number_within, read_script};
+pub use script::{ScriptLine, Turn, number_within, read_script};

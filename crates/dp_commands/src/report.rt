@@ -4,6 +4,7 @@ ghost use Rattle.std.specs.List.{flat_map};
 ghost use Rattle.dp_commands.specs.Faults.{is_write_failed};
 ghost use Rattle.dp_commands.specs.Report as spec;
 
+use crate::block::Block;
 use crate::fault::PbxFault;
 use crate::trace::{push_entry, push_number};
 use dp_conf::WriteTold;
@@ -13,20 +14,20 @@ use dp_plan::{Context, Dialplan, EntryId, NoMemory, Note, Priority, Text};
 use std::alloc::Global;
 
 /// Adds the line of a note.
-fn push_note(out: &mut Vec<u8>, note: Note) -> Result<(), NoMemory>
-    ensures { OnOk result (out.new.items ≡ out.old.items ++ spec.note_line note) }
+fn push_note(out: &mut Block, note: Note) -> Result<(), NoMemory>
+    ensures { OnOk result (out.new.begun ≡ out.old.begun ++ spec.note_line note) }
 {
-    out.extend_from_slice(b"note ")?;
+    out.push(b"note ")?;
     push_number(out, note.line)?;
-    out.extend_from_slice(b" ")?;
-    out.extend_from_slice(note.kind.name().as_bytes())?;
-    out.extend_from_slice(b"\n")?;
+    out.push(b" ")?;
+    out.push(note.kind.name().as_bytes())?;
+    out.push(b"\n")?;
     Ok(())
 }
 
 /// Adds the lines of the notes.
-fn push_notes(out: &mut Vec<u8>, notes: &[Note]) -> Result<(), NoMemory>
-    ensures { OnOk result (out.new.items ≡ out.old.items ++ flat_map spec.note_line notes.now) }
+fn push_notes(out: &mut Block, notes: &[Note]) -> Result<(), NoMemory>
+    ensures { OnOk result (out.new.begun ≡ out.old.begun ++ flat_map spec.note_line notes.now) }
 {
     for note in notes {
         push_note(out, *note)?;
@@ -46,22 +47,22 @@ fn count_entries(contexts: &[Context]) -> u128
 }
 
 /// Adds the line that a dialplan was loaded.
-fn push_counts(out: &mut Vec<u8>, plan: &Dialplan) -> Result<(), NoMemory>
-    ensures { OnOk result (out.new.items ≡ out.old.items ++ spec.counts_line plan.now) }
+fn push_counts(out: &mut Block, plan: &Dialplan) -> Result<(), NoMemory>
+    ensures { OnOk result (out.new.begun ≡ out.old.begun ++ spec.counts_line plan.now) }
 {
-    out.extend_from_slice(b"ok ")?;
+    out.push(b"ok ")?;
     push_number(out, plan.contexts().len())?;
-    out.extend_from_slice(b" contexts ")?;
+    out.push(b" contexts ")?;
     push_number(out, count_entries(plan.contexts()))?;
-    out.extend_from_slice(b" entries\n")?;
+    out.push(b" entries\n")?;
     Ok(())
 }
 
 /// What is reported of a dialplan with its notes.
-fn check_text(alloc: Global, plan: &Dialplan, notes: &[Note]) -> Result<Vec<u8>, NoMemory>
-    ensures { IfOk result (λ text. text.items ≡ spec.check_text (plan.now, notes.now)) }
+fn check_text(alloc: Global, plan: &Dialplan, notes: &[Note]) -> Result<Block, NoMemory>
+    ensures { IfOk result (λ text. text.begun ≡ spec.check_text (plan.now, notes.now)) }
 {
-    let mut text = Vec::new(alloc);
+    let mut text = Block::new(alloc, 0)?;
     push_notes(&mut text, notes)?;
     push_counts(&mut text, plan)?;
     Ok(text)
@@ -80,7 +81,7 @@ pub fn check<W: WriteTold>(alloc: Global, plan: &[u8], writer: &mut W) -> Result
 {
     let (plan, notes) = Dialplan::load(alloc, plan)?;
     let text = check_text(alloc, &plan, &notes)?;
-    writer.write_told(&text)?;
+    writer.write_told(text.begun())?;
     Ok(0)
 }
 
@@ -114,15 +115,15 @@ fn find_answer(
 }
 
 /// The line of an entry that was looked for.
-fn match_line(alloc: Global, plan: &Dialplan, found: Option<EntryId>) -> Result<Vec<u8>, NoMemory>
-    ensures { IfOk result (λ line. line.items ≡ spec.match_line plan.now found) }
+fn match_line(alloc: Global, plan: &Dialplan, found: Option<EntryId>) -> Result<Block, NoMemory>
+    ensures { IfOk result (λ line. line.begun ≡ spec.match_line plan.now found) }
 {
-    let mut line = Vec::new(alloc);
+    let mut line = Block::new(alloc, 0)?;
     match found {
         Some(id) => push_entry(alloc, &mut line, plan, id)?,
-        None => line.extend_from_slice(b"none")?,
+        None => line.push(b"none")?,
     }
-    line.push(b'\n')?;
+    line.push(b"\n")?;
     Ok(line)
 }
 
@@ -148,6 +149,6 @@ pub fn match_one<W: WriteTold>(
     let (plan, _) = Dialplan::load(alloc, plan)?;
     let found = find_answer(alloc, &plan, context, text, priority)?;
     let line = match_line(alloc, &plan, found)?;
-    writer.write_told(&line)?;
+    writer.write_told(line.begun())?;
     Ok(0)
 }

@@ -1,206 +1,203 @@
 //! Runs of a dialplan by a script.
-ghost use Rattle.std.specs.Prelude.{◌≡◌, ◌||◌, ◌∷◌, [], replicate, false};
+ghost use Rattle.std.specs.Prelude.{◌≡◌, ◌++◌, ◌||◌, ◌∷◌, [], IfOk, OnOk, OnErr, Ok, false};
 ghost use Rattle.std.specs.Result.{is_err};
-ghost use Rattle.std.specs.Io.KnownBytes.{Appends};
-ghost use Rattle.dp_machine.specs.Events.{event_row, is_refused};
 ghost use Rattle.dp_conf.specs.Answers.{Answers};
+ghost use Rattle.dp_conf.specs.Fronts.{AppendsFront};
+ghost use Rattle.dp_commands.specs.Block.{Flows, waiting};
 ghost use Rattle.dp_commands.specs.Faults.{is_write_failed, reason_of};
 ghost use Rattle.dp_commands.specs.Run as spec;
-ghost use Rattle.dp_commands.specs.Script.{line_events, events_of};
-ghost use Rattle.dp_commands.specs.Stops.{is_write_stop, status_by};
-ghost use Rattle.dp_commands.specs.Trace.{number_in};
+ghost use Rattle.dp_commands.specs.Script.{line_turns, turns_of};
+ghost use Rattle.dp_commands.specs.Trace.{turned};
 
-use crate::fault::{Code, PbxFault};
-use crate::script::{ScriptLine, read_script};
-use crate::trace::reply_line;
+use crate::block::{Block, ROOM};
+use crate::fault::PbxFault;
+use crate::script::{ScriptLine, Turn, read_script};
+use crate::trace::{push_line, push_show_line};
 use dp_conf::{WriteFailed, WriteTold};
-use dp_machine::{Event, Machine, Reply};
+use dp_machine::{Event, Machine};
 use dp_plan::{Dialplan, NoMemory, Text};
 use std::alloc::Global;
 
-/// Why a run stops before its end.
-#[derive(Clone, Copy, Debug, PartialEq, Eq)]
-pub(crate) enum Stop {
-    /// A write failed.
-    Write,
-    /// The allocator had no memory.
-    Memory,
-}
-
-impl From<NoMemory> for Stop {
-    ghost use Rattle.std.specs.Prelude.{◌≡◌};
-    ghost use Rattle.dp_commands.specs.declared.run.Stop.TheVariants.{Memory};
-
-    ghost from_gives = { λ _ stop. stop ≡ Memory };
-
-    fn from(_: NoMemory) -> Self {
-        Stop::Memory
-    }
-}
-
-impl From<WriteFailed> for Stop {
-    ghost use Rattle.std.specs.Prelude.{◌≡◌};
-    ghost use Rattle.dp_commands.specs.declared.run.Stop.TheVariants.{Write};
-
-    ghost from_gives = { λ _ stop. stop ≡ Write };
-
-    fn from(_: WriteFailed) -> Self {
-        Stop::Write
-    }
-}
-
-/// Whether the reply is a refusal.
-fn is_refusal(reply: Reply) -> bool
-    ensures { result ≡ is_refused reply }
-{
-    matches!(reply, Reply::Refused(_))
-}
-
-/// The number of the channel that an event names.
-fn number_of(event: &Event) -> u32
-    ensures { result ≡ number_in event.now }
-{
-    match event {
-        Event::Start { .. } => 0,
-        Event::Step { channel } => *channel,
-    }
-}
-
-/// Gives the machine one event and writes its line. It says whether the event was refused.
-fn run_event<W: WriteTold>(
+/// Gives the machine one event, and adds its line to what waits. It says whether the event was refused.
+#[tactic(auto, unfolding(crate::specs::Trace::event_line))]
+fn take_event(
     alloc: Global,
     machine: &mut Machine,
-    event: Event,
-    writer: &mut W,
-) -> Result<bool, Stop>
-    ensures streams { spec.Streams machine.old (event ∷ []) (W.contents writer.old) (W.contents writer.new) machine.new result }
-    ensures told { W.has_failed writer.new ≡ (W.has_failed writer.old || is_write_stop result) }
+    event: &Event,
+    block: &mut Block,
+) -> Result<bool, NoMemory>
+    ensures line { OnOk result (block.new.whole ≡ block.old.whole ++ (turned machine.old (Turn.Event event.now)).line) }
+    ensures world { OnOk result (machine.new ≡ (turned machine.old (Turn.Event event.now)).world) }
+    ensures refused { IfOk result (λ refused. refused ≡ (turned machine.old (Turn.Event event.now)).refused) }
+    ensures err { OnErr result (block.new.whole ≡ block.old.whole) }
 {
-    let number = number_of(&event);
-    let reply = machine.apply(alloc, event)?;
-    let line = reply_line(alloc, machine, number, reply)?;
-    writer.write_told(&line)?;
-    Ok(is_refusal(reply))
+    let copy = event.copy()?;
+    let reply = machine.apply(alloc, copy)?;
+    push_line(alloc, block, machine, event.channel(), reply)?;
+    Ok(reply.is_refusal())
 }
 
-/// Whether one of the two holds.
-fn either(a: bool, b: bool) -> bool
-    ensures { result ≡ (a || b) }
-{
-    a || b
-}
-
-/// Gives the machine so many steps of a channel, and writes their lines.
-fn run_steps<W: WriteTold>(
+/// Adds the line that shows a name in a channel to what waits. It says whether that was refused.
+fn take_show(
     alloc: Global,
-    machine: &mut Machine,
+    machine: &Machine,
     channel: u32,
-    count: u32,
-    writer: &mut W,
-) -> Result<bool, Stop>
-    ensures streams { spec.Streams machine.old (replicate count (Event.Step channel)) (W.contents writer.old) (W.contents writer.new) machine.new result }
-    ensures told { W.has_failed writer.new ≡ (W.has_failed writer.old || is_write_stop result) }
+    name: &Text,
+    block: &mut Block,
+) -> Result<bool, NoMemory>
+    ensures line { OnOk result (block.new.whole ≡ block.old.whole ++ (turned machine.now (Turn.Show channel name.now)).line) }
+    ensures refused { IfOk result (λ refused. refused ≡ (turned machine.now (Turn.Show channel name.now)).refused) }
+    ensures err { OnErr result (block.new.whole ≡ block.old.whole) }
 {
-    let mut refused = false;
-    for _step in 0..count {
-        let was_refused = run_event(alloc, machine, Event::Step { channel }, writer)?;
-        refused = either(refused, was_refused);
+    push_show_line(alloc, block, machine, channel, name.bytes())?;
+    Ok(machine.phase(channel).is_none())
+}
+
+/// Takes one turn, and adds its line to what waits. It says whether the turn was refused.
+fn take_turn(
+    alloc: Global,
+    machine: &mut Machine,
+    turn: &Turn,
+    block: &mut Block,
+) -> Result<bool, NoMemory>
+    ensures line { OnOk result (block.new.whole ≡ block.old.whole ++ (turned machine.old turn.now).line) }
+    ensures world { OnOk result (machine.new ≡ (turned machine.old turn.now).world) }
+    ensures refused { IfOk result (λ refused. refused ≡ (turned machine.old turn.now).refused) }
+    ensures err { OnErr result (block.new.whole ≡ block.old.whole) }
+{
+    match turn {
+        Turn::Event(event) => take_event(alloc, machine, event, block),
+        Turn::Show { channel, name } => take_show(alloc, machine, *channel, name, block),
     }
+}
+
+/// Writes the lines that wait where the block is full.
+fn send_full<W: WriteTold>(block: &mut Block, writer: &mut W) -> Result<(), WriteFailed>
+    ensures ok { OnOk result (Flows (W.contents writer.old) block.old.whole (W.contents writer.new) block.new.whole []) }
+    ensures err { OnErr result (AppendsFront (W.contents writer.old) (W.contents writer.new) block.old.whole) }
+    ensures told { W.has_failed writer.new ≡ (W.has_failed writer.old || is_err result) }
+{
+    if block.is_full() {
+        block.send(writer)?;
+    }
+    Ok(())
+}
+
+/// Takes one turn, and writes the lines that wait where they fill the block. It says whether the turn was refused.
+fn run_turn<W: WriteTold>(
+    alloc: Global,
+    machine: &mut Machine,
+    turn: &Turn,
+    block: &mut Block,
+    writer: &mut W,
+) -> Result<bool, PbxFault>
+    ensures streams { spec.Streams machine.old (turn.now ∷ []) (W.contents writer.old) block.old.whole (W.contents writer.new) block.new.whole machine.new result }
+    ensures told { W.has_failed writer.new ≡ (W.has_failed writer.old || is_write_failed result) }
+{
+    let refused = take_turn(alloc, machine, turn, block)?;
+    send_full(block, writer)?;
     Ok(refused)
 }
 
-/// Gives the machine the call of a line, and writes its line.
-fn run_start<W: WriteTold>(
-    alloc: Global,
-    machine: &mut Machine,
-    context: &Text,
-    exten: &Text,
-    caller: &Text,
-    writer: &mut W,
-) -> Result<bool, Stop>
-    ensures streams { spec.Streams machine.old (Event.Start context.now exten.now caller.now ∷ []) (W.contents writer.old) (W.contents writer.new) machine.new result }
-    ensures told { W.has_failed writer.new ≡ (W.has_failed writer.old || is_write_stop result) }
-{
-    let context = context.clone()?;
-    let exten = exten.clone()?;
-    let caller = caller.clone()?;
-    let event = Event::Start {
-        context,
-        exten,
-        caller,
-    };
-    run_event(alloc, machine, event, writer)
-}
-
-/// Gives the machine the events of a line, and writes their lines.
+/// Takes the turns of a line.
 fn run_line<W: WriteTold>(
     alloc: Global,
     machine: &mut Machine,
     line: &ScriptLine,
+    block: &mut Block,
     writer: &mut W,
-) -> Result<bool, Stop>
-    ensures streams { spec.Streams machine.old (line_events line.now) (W.contents writer.old) (W.contents writer.new) machine.new result }
-    ensures told { W.has_failed writer.new ≡ (W.has_failed writer.old || is_write_stop result) }
-{
-    match line {
-        ScriptLine::Start {
-            context,
-            exten,
-            caller,
-        } => run_start(alloc, machine, context, exten, caller, writer),
-        ScriptLine::Step { channel, count } => run_steps(alloc, machine, *channel, *count, writer),
-    }
-}
-
-/// Gives the machine the events of the lines, one after another, and writes their lines as it goes.
-fn run_lines<W: WriteTold>(
-    alloc: Global,
-    machine: &mut Machine,
-    lines: &[ScriptLine],
-    writer: &mut W,
-) -> Result<bool, Stop>
-    ensures streams { spec.Streams machine.old (events_of lines.now) (W.contents writer.old) (W.contents writer.new) machine.new result }
-    ensures told { W.has_failed writer.new ≡ (W.has_failed writer.old || is_write_stop result) }
+) -> Result<bool, PbxFault>
+    ensures streams { spec.Streams machine.old (line_turns line.now) (W.contents writer.old) block.old.whole (W.contents writer.new) block.new.whole machine.new result }
+    ensures told { W.has_failed writer.new ≡ (W.has_failed writer.old || is_write_failed result) }
 {
     let mut refused = false;
-    for line in lines {
-        let was_refused = run_line(alloc, machine, line, writer)?;
-        refused = either(refused, was_refused);
+    for _turn in 0..line.count {
+        refused |= run_turn(alloc, machine, &line.turn, block, writer)?;
     }
     Ok(refused)
 }
 
-/// The machine and the lines of a run: the dialplan is read first, then the script.
+/// Takes the turns of the lines, one after another, and writes their lines as it goes. It says whether one was refused.
+fn run_lines<W: WriteTold>(
+    alloc: Global,
+    machine: &mut Machine,
+    lines: &[ScriptLine],
+    block: &mut Block,
+    writer: &mut W,
+) -> Result<bool, PbxFault>
+    ensures streams { spec.Streams machine.old (turns_of lines.now) (W.contents writer.old) block.old.whole (W.contents writer.new) block.new.whole machine.new result }
+    ensures told { W.has_failed writer.new ≡ (W.has_failed writer.old || is_write_failed result) }
+{
+    let mut refused = false;
+    for line in lines {
+        refused |= run_line(alloc, machine, line, block, writer)?;
+    }
+    Ok(refused)
+}
+
+/// The machine, the lines and the empty block of a run: the dialplan is read first, then the script.
 #[tactic(auto, unfolding(crate::specs::Run::run_of))]
-fn begin(alloc: Global, plan: &[u8], script: &[u8]) -> Result<(Machine, Vec<ScriptLine>), PbxFault>
-    ensures run { Answers (λ begun. record { world = begun.0; events = events_of begun.1.items }) reason_of result
+fn begin(
+    alloc: Global,
+    plan: &[u8],
+    script: &[u8],
+) -> Result<(Machine, Vec<ScriptLine>, Block), PbxFault>
+    ensures run { Answers (λ begun. spec.run_on begun.0 (turns_of begun.1.items)) reason_of result
         (spec.run_of plan.now script.now) }
+    ensures empty { IfOk result (λ begun. begun.2 ≡ waiting [] []) }
     ensures quiet { is_write_failed result ≡ false }
 {
     let (plan, _) = Dialplan::load(alloc, plan)?;
     let lines = read_script(alloc, script)?;
-    Ok((Machine::new(alloc, plan)?, lines))
+    let machine = Machine::new(alloc, plan)?;
+    let block = Block::new(alloc, ROOM)?;
+    Ok((machine, lines, block))
 }
 
-/// The status of a run by what it came to.
-fn status_of(ran: Result<bool, Stop>) -> Result<u8, PbxFault>
-    ensures { result ≡ status_by ran }
+/// Ends a run by what it came to: the lines that wait are written, unless a write has failed. The status is 1 where a
+/// turn was refused, else 0.
+fn end<W: WriteTold>(
+    block: &mut Block,
+    writer: &mut W,
+    ran: Result<bool, PbxFault>,
+) -> Result<u8, PbxFault>
+    ensures ends { spec.Ends (W.contents writer.old) block.old.whole (W.contents writer.new) ran result }
+    ensures told { W.has_failed writer.new ≡ (W.has_failed writer.old || spec.fails_at_the_end ran result) }
 {
     match ran {
-        Ok(true) => Ok(1),
-        Ok(false) => Ok(0),
-        Err(Stop::Write) => Err(PbxFault::Coded {
-            code: Code::WriteFailed,
-            line: None,
-        }),
-        Err(Stop::Memory) => Err(PbxFault::NoMemory),
+        Ok(refused) => {
+            block.send(writer)?;
+            Ok(u8::from(refused))
+        }
+        Err(PbxFault::NoMemory) => {
+            block.send(writer)?;
+            Err(PbxFault::NoMemory)
+        }
+        Err(PbxFault::Coded { code, line }) => Err(PbxFault::Coded { code, line }),
     }
 }
 
-/// Runs a script on a dialplan, and writes the trace as it goes. The status is 1 where an event was refused, else 0.
+/// Takes the turns of all lines, and writes all of their lines. Nothing waits before.
+fn run_all<W: WriteTold>(
+    alloc: Global,
+    machine: &mut Machine,
+    lines: &[ScriptLine],
+    block: &mut Block,
+    writer: &mut W,
+) -> Result<u8, PbxFault>
+    requires { block.old.whole ≡ [] }
+    ensures writes { spec.Writes (W.contents writer.old) (W.contents writer.new) (Ok (spec.run_on machine.old (turns_of lines.now))) result }
+    ensures told { W.has_failed writer.new ≡ (W.has_failed writer.old || is_write_failed result) }
+{
+    let ran = run_lines(alloc, machine, lines, block, writer);
+    end(block, writer, ran)
+}
+
+/// Runs a script on a dialplan, and writes the trace as it goes, a block of lines at a time. The status is 1 where a turn
+/// was refused, else 0.
 ///
-/// Both texts are read before the first event; the fault of the dialplan is answered first. Where memory is refused
-/// or a write fails, what was written stays written.
+/// Both texts are read before the first event; the fault of the dialplan is answered first. Where memory is refused the
+/// lines of the turns before are written. Where memory is refused or a write fails, what was written stays written.
 pub fn run_script<W: WriteTold>(
     alloc: Global,
     plan: &[u8],
@@ -210,7 +207,6 @@ pub fn run_script<W: WriteTold>(
     ensures writes { spec.Writes (W.contents writer.old) (W.contents writer.new) (spec.run_of plan.now script.now) result }
     ensures told { W.has_failed writer.new ≡ (W.has_failed writer.old || is_write_failed result) }
 {
-    let (mut machine, lines) = begin(alloc, plan, script)?;
-    let ran = run_lines(alloc, &mut machine, &lines, writer);
-    status_of(ran)
+    let (mut machine, lines, mut block) = begin(alloc, plan, script)?;
+    run_all(alloc, &mut machine, &lines, &mut block, writer)
 }

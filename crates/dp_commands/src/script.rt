@@ -1,29 +1,33 @@
-//! Scripts: the events that a person writes down.
-ghost use Rattle.std.specs.Prelude.{◌≡◌, ◌+◌, ◌++◌, [], ◌∷◌, IfOk, OnOk, map, false};
-ghost use Rattle.std.specs.Option.{option_map, option_to_list};
+//! Scripts: the turns that a person writes down.
+ghost use Rattle.std.specs.Prelude.{◌≡◌, ◌+◌, ◌++◌, ◌∷◌, [], IfOk, OnOk, map, false};
+ghost use Rattle.std.specs.Option.{option_to_list};
 ghost use Rattle.dp_conf.specs.Answers.{Answers};
+ghost use Rattle.dp_commands.specs.Faults.{is_write_failed, reason_of};
 ghost use Rattle.dp_commands.specs.Script as spec;
-ghost use Rattle.dp_commands.specs.Faults.{reason_of, is_write_failed};
 
 use crate::fault::{Code, PbxFault};
 use dp_conf::{first_part, is_blank, read_number};
+use dp_machine::Event;
 use dp_plan::{NoMemory, Text};
 use std::alloc::Global;
 
-/// One line of a script.
+/// How many times a line may take its turn.
+const MOST_COUNT: u32 = 100_000;
+
+/// What a line of a script asks for.
 #[derive(Debug, PartialEq, Eq, Drop)]
-pub enum ScriptLine {
-    /// `start CONTEXT EXTEN [CALLER]`: a call comes in. The caller is empty unless given.
-    Start {
-        context: Text,
-        exten: Text,
-        caller: Text,
-    },
-    /// `step CH [COUNT]`: the channel takes so many steps, 1 unless given.
-    Step {
-        channel: u32,
-        count: u32,
-    },
+pub enum Turn {
+    /// An event of the machine.
+    Event(Event),
+    /// `show CH NAME`: the value of a name in a channel is printed. It is no event, and changes nothing.
+    Show { channel: u32, name: Text },
+}
+
+/// One line of a script: a turn, and how many times it is taken.
+#[derive(Debug, PartialEq, Eq, Drop)]
+pub struct ScriptLine {
+    pub turn: Turn,
+    pub count: u32,
 }
 
 /// The words of a line, between its blanks.
@@ -46,9 +50,16 @@ pub fn number_within(limit: u32, word: &[u8]) -> Option<u32>
     Some(number as u32)
 }
 
-/// The call of a line that begins with `start`, by the words behind.
+/// The number of a channel that a word writes.
+fn read_channel(word: &[u8]) -> Option<u32>
+    ensures { result ≡ spec.channel_in word.now }
+{
+    number_within(u32::MAX, word)
+}
+
+/// `start CONTEXT EXTEN [CALLER]`, by the words behind `start`: a call comes in. The caller is empty unless given.
 fn read_start(alloc: Global, words: &[&[u8]]) -> Result<Option<ScriptLine>, NoMemory>
-    ensures { IfOk result (λ line. option_map (λ l. l ∷ []) line ≡ spec.start_line (map (λ word. word.now) words.now)) }
+    ensures { IfOk result (λ line. line ≡ spec.start_line (map (λ word. word.now) words.now)) }
 {
     let (context, exten, caller) = match words {
         [context, exten] => (*context, *exten, b"".as_slice()),
@@ -58,59 +69,85 @@ fn read_start(alloc: Global, words: &[&[u8]]) -> Result<Option<ScriptLine>, NoMe
     let context = Text::copy_of(alloc, context)?;
     let exten = Text::copy_of(alloc, exten)?;
     let caller = Text::copy_of(alloc, caller)?;
-    Ok(Some(ScriptLine::Start {
+    let turn = Turn::Event(Event::Start {
         context,
         exten,
         caller,
-    }))
+    });
+    Ok(Some(ScriptLine { turn, count: 1 }))
 }
 
-/// The steps of a line that begins with `step`, by the words behind.
+/// `step CH [COUNT]`, by the words behind `step`: the channel takes so many steps, 1 unless given.
 fn read_step(words: &[&[u8]]) -> Option<ScriptLine>
-    ensures { option_map (λ l. l ∷ []) result ≡ spec.step_line (map (λ word. word.now) words.now) }
+    ensures { result ≡ spec.step_line (map (λ word. word.now) words.now) }
 {
     let (channel, count) = match words {
-        [channel] => (number_within(u32::MAX, channel)?, 1),
-        [channel, count] => (
-            number_within(u32::MAX, channel)?,
-            number_within(100_000, count)?,
-        ),
+        [channel] => (read_channel(channel)?, 1),
+        [channel, count] => (read_channel(channel)?, number_within(MOST_COUNT, count)?),
         _ => return None,
     };
-    Some(ScriptLine::Step { channel, count })
+    let turn = Turn::Event(Event::Step { channel });
+    Some(ScriptLine { turn, count })
+}
+
+/// `show CH NAME`, by the words behind `show`.
+fn read_show(alloc: Global, words: &[&[u8]]) -> Result<Option<ScriptLine>, NoMemory>
+    ensures { IfOk result (λ line. line ≡ spec.show_line (map (λ word. word.now) words.now)) }
+{
+    let (channel, name) = match words {
+        [channel, name] => (read_channel(channel), *name),
+        _ => return Ok(None),
+    };
+    let Some(channel) = channel else {
+        return Ok(None);
+    };
+    let name = Text::copy_of(alloc, name)?;
+    let turn = Turn::Show { channel, name };
+    Ok(Some(ScriptLine { turn, count: 1 }))
+}
+
+/// Whether a line is passed over: it has no words, or begins with `;`.
+fn is_skipped(words: &[&[u8]]) -> bool
+    ensures { result ≡ spec.is_skipped (map (λ word. word.now) words.now) }
+{
+    match words.first() {
+        Some(word) => word.first() == Some(&b';'),
+        None => true,
+    }
 }
 
 /// What a line stands for by its words, or None where it is faulty.
-fn read_words(alloc: Global, words: &[&[u8]]) -> Result<Option<Option<ScriptLine>>, NoMemory>
-    ensures { IfOk result (λ line. option_map option_to_list line ≡ spec.line_of (map (λ word. word.now) words.now)) }
+fn read_words(alloc: Global, words: &[&[u8]]) -> Result<Option<ScriptLine>, NoMemory>
+    ensures { IfOk result (λ line. line ≡ spec.line_by (map (λ word. word.now) words.now)) }
 {
     let Some((word, rest)) = words.split_first() else {
-        return Ok(Some(None));
+        return Ok(None);
     };
-    if word.first() == Some(&b';') {
-        return Ok(Some(None));
+    if *word == b"start".as_slice() {
+        let line = read_start(alloc, rest)?;
+        return Ok(line);
     }
-    let line = if *word == b"start".as_slice() {
-        read_start(alloc, rest)?
-    } else if *word == b"step".as_slice() {
-        read_step(rest)
-    } else {
-        None
-    };
-    match line {
-        Some(line) => Ok(Some(Some(line))),
-        None => Ok(None),
+    if *word == b"step".as_slice() {
+        return Ok(read_step(rest));
     }
+    if *word == b"show".as_slice() {
+        let line = read_show(alloc, rest)?;
+        return Ok(line);
+    }
+    Ok(None)
 }
 
-/// What the line of this number stands for.
+/// What the line of this number stands for, or None where it is passed over.
 fn read_line(alloc: Global, line: usize, part: &[u8]) -> Result<Option<ScriptLine>, PbxFault>
     ensures line { Answers option_to_list reason_of result (spec.numbered line (spec.line_of (spec.words_of part.now))) }
     ensures quiet { is_write_failed result ≡ false }
 {
     let words = words(alloc, part)?;
+    if is_skipped(&words) {
+        return Ok(None);
+    }
     match read_words(alloc, &words)? {
-        Some(item) => Ok(item),
+        Some(item) => Ok(Some(item)),
         None => Err(PbxFault::Coded {
             code: Code::BadScript,
             line: Some(line),

@@ -1,44 +1,45 @@
 //! The lines of a trace.
-ghost use Rattle.std.specs.Prelude.{◌≡◌, ◌++◌, ◌∷◌, [], IfOk, OnOk, Some, codes, decimal};
-ghost use Rattle.dp_machine.specs.Codes.{refusal_code, refusal_name};
+ghost use Rattle.std.specs.Prelude.{◌≡◌, ◌++◌, ◌∷◌, [], IfOk, OnOk, OnErr, Some, codes};
+ghost use Rattle.dp_pattern.specs.Spelling.{spelling};
+ghost use Rattle.dp_machine.specs.World.{value_in};
 ghost use Rattle.dp_commands.specs.Trace as spec;
 
+use crate::block::Block;
 use dp_machine::{EntryId, Machine, Phase, Place, Refusal, Reply};
+use dp_pattern::{Name, Parts};
 use dp_plan::{Context, Dialplan, Entry, NoMemory};
 use itoa::{Buffer, Integer};
 use std::alloc::Global;
 
 /// Adds a number in decimal.
-pub(crate) fn push_number<I: Integer>(out: &mut Vec<u8>, number: I) -> Result<(), NoMemory>
-    ensures { OnOk result (out.new.items ≡ out.old.items ++ I.text number) }
+pub(crate) fn push_number<I: Integer>(out: &mut Block, number: I) -> Result<(), NoMemory>
+    ensures kept { out.new.whole ≡ out.old.whole }
+    ensures ok { OnOk result (out.new.begun ≡ out.old.begun ++ I.text number) }
 {
     let mut buffer = Buffer::new();
-    out.extend_from_slice(buffer.format(number).as_bytes())?;
+    out.push(buffer.format(number).as_bytes())?;
     Ok(())
 }
 
 /// Adds `CONTEXT,EXTEN,PRIORITY`.
-fn push_place(
-    out: &mut Vec<u8>,
-    context: &[u8],
-    exten: &[u8],
-    priority: u32,
-) -> Result<(), NoMemory>
-    ensures { OnOk result (out.new.items ≡ out.old.items ++ spec.place_text context.now exten.now priority) }
+fn push_place(out: &mut Block, context: &[u8], exten: &[u8], priority: u32) -> Result<(), NoMemory>
+    ensures kept { out.new.whole ≡ out.old.whole }
+    ensures ok { OnOk result (out.new.begun ≡ out.old.begun ++ spec.place_text context.now exten.now priority) }
 {
-    out.extend_from_slice(context)?;
-    out.extend_from_slice(b",")?;
-    out.extend_from_slice(exten)?;
-    out.extend_from_slice(b",")?;
+    out.push(context)?;
+    out.push(b",")?;
+    out.push(exten)?;
+    out.push(b",")?;
     push_number(out, priority)?;
     Ok(())
 }
 
 /// Adds the state of a channel that is ready.
-fn push_ready(out: &mut Vec<u8>, place: &Place) -> Result<(), NoMemory>
-    ensures { OnOk result (out.new.items ≡ out.old.items ++ spec.state_by (Some Phase.Ready) (Some place.now)) }
+fn push_ready(out: &mut Block, place: &Place) -> Result<(), NoMemory>
+    ensures kept { out.new.whole ≡ out.old.whole }
+    ensures ok { OnOk result (out.new.begun ≡ out.old.begun ++ spec.state_by (Some Phase.Ready) (Some place.now)) }
 {
-    out.extend_from_slice(b"ready ")?;
+    out.push(b"ready ")?;
     push_place(
         out,
         place.context.bytes(),
@@ -50,13 +51,27 @@ fn push_ready(out: &mut Vec<u8>, place: &Place) -> Result<(), NoMemory>
 
 /// Adds the state of the channel of this number.
 #[tactic(auto, unfolding(crate::specs::Trace::state_text))]
-fn push_state(out: &mut Vec<u8>, machine: &Machine, number: u32) -> Result<(), NoMemory>
-    ensures { OnOk result (out.new.items ≡ out.old.items ++ spec.state_text machine.now number) }
+fn push_state(out: &mut Block, machine: &Machine, number: u32) -> Result<(), NoMemory>
+    ensures kept { out.new.whole ≡ out.old.whole }
+    ensures ok { OnOk result (out.new.begun ≡ out.old.begun ++ spec.state_text machine.now number) }
 {
     match (machine.phase(number), machine.place(number)) {
         (Some(Phase::Ready), Some(place)) => push_ready(out, place)?,
-        (Some(Phase::Ended), _) => out.extend_from_slice(b"ended")?,
+        (Some(Phase::Ended), _) => out.push(b"ended")?,
         _ => {}
+    }
+    Ok(())
+}
+
+/// Adds the canonical spelling of a name. That of a plain name takes no memory of its own.
+#[tactic(auto, unfolding(dp_pattern::specs::Spelling::spelling))]
+fn push_name(alloc: Global, out: &mut Block, name: &Name) -> Result<(), NoMemory>
+    ensures kept { out.new.whole ≡ out.old.whole }
+    ensures ok { OnOk result (out.new.begun ≡ out.old.begun ++ spelling name.now) }
+{
+    match name.parts() {
+        Parts::Plain(text) => out.push(text)?,
+        Parts::Pattern(..) => out.push(&name.text(alloc)?)?,
     }
     Ok(())
 }
@@ -64,16 +79,20 @@ fn push_state(out: &mut Vec<u8>, machine: &Machine, number: u32) -> Result<(), N
 /// Adds an entry of a context, `CONTEXT,NAME,PRIORITY APP`, its name in the canonical spelling.
 fn push_entry_of(
     alloc: Global,
-    out: &mut Vec<u8>,
+    out: &mut Block,
     context: &Context,
     entry: &Entry,
 ) -> Result<(), NoMemory>
-    ensures { OnOk result (out.new.items ≡ out.old.items ++ spec.entry_by context.now (Some entry.now)) }
+    ensures kept { out.new.whole ≡ out.old.whole }
+    ensures ok { OnOk result (out.new.begun ≡ out.old.begun ++ spec.entry_by context.now (Some entry.now)) }
 {
-    let spelling = entry.name.text(alloc)?;
-    push_place(out, context.name().bytes(), &spelling, entry.priority.get())?;
-    out.extend_from_slice(b" ")?;
-    out.extend_from_slice(entry.application.bytes())?;
+    out.push(context.name().bytes())?;
+    out.push(b",")?;
+    push_name(alloc, out, &entry.name)?;
+    out.push(b",")?;
+    push_number(out, entry.priority.get())?;
+    out.push(b" ")?;
+    out.push(entry.application.bytes())?;
     Ok(())
 }
 
@@ -81,11 +100,12 @@ fn push_entry_of(
 #[tactic(auto, unfolding(crate::specs::Trace::entry_text))]
 pub(crate) fn push_entry(
     alloc: Global,
-    out: &mut Vec<u8>,
+    out: &mut Block,
     plan: &Dialplan,
     id: EntryId,
 ) -> Result<(), NoMemory>
-    ensures { OnOk result (out.new.items ≡ out.old.items ++ spec.entry_text plan.now id) }
+    ensures kept { out.new.whole ≡ out.old.whole }
+    ensures ok { OnOk result (out.new.begun ≡ out.old.begun ++ spec.entry_text plan.now id) }
 {
     let Some(context) = plan.contexts().get(id.context) else {
         return Ok(());
@@ -98,38 +118,41 @@ pub(crate) fn push_entry(
 }
 
 /// Adds ` -> ` and the state of the channel of this number.
-fn push_behind(out: &mut Vec<u8>, machine: &Machine, number: u32) -> Result<(), NoMemory>
-    ensures { OnOk result (out.new.items ≡ out.old.items ++ codes " -> " ++ spec.state_text machine.now number) }
+fn push_behind(out: &mut Block, machine: &Machine, number: u32) -> Result<(), NoMemory>
+    ensures kept { out.new.whole ≡ out.old.whole }
+    ensures ok { OnOk result (out.new.begun ≡ out.old.begun ++ codes " -> " ++ spec.state_text machine.now number) }
 {
-    out.extend_from_slice(b" -> ")?;
+    out.push(b" -> ")?;
     push_state(out, machine, number)?;
     Ok(())
 }
 
 /// Adds the line of a refusal.
-fn push_refused(out: &mut Vec<u8>, refusal: Refusal) -> Result<(), NoMemory>
-    ensures { OnOk result (out.new.items ≡ out.old.items ++ (codes "refused " ++ decimal (refusal_code refusal) ++ codes " " ++ refusal_name refusal)) }
+fn push_refused(out: &mut Block, refusal: Refusal) -> Result<(), NoMemory>
+    ensures kept { out.new.whole ≡ out.old.whole }
+    ensures ok { OnOk result (out.new.begun ≡ out.old.begun ++ spec.refusal_text refusal) }
 {
-    out.extend_from_slice(b"refused ")?;
+    out.push(b"refused ")?;
     push_number(out, u32::from(refusal.code()))?;
-    out.extend_from_slice(b" ")?;
-    out.extend_from_slice(refusal.name().as_bytes())?;
+    out.push(b" ")?;
+    out.push(refusal.name().as_bytes())?;
     Ok(())
 }
 
 /// Adds the line of a step that ran an entry.
 fn push_ran(
     alloc: Global,
-    out: &mut Vec<u8>,
+    out: &mut Block,
     machine: &Machine,
     number: u32,
     id: EntryId,
 ) -> Result<(), NoMemory>
-    ensures { OnOk result (out.new.items ≡ out.old.items ++ spec.reply_text machine.now number (Reply.Ran id)) }
+    ensures kept { out.new.whole ≡ out.old.whole }
+    ensures ok { OnOk result (out.new.begun ≡ out.old.begun ++ spec.reply_text machine.now number (Reply.Ran id)) }
 {
-    out.extend_from_slice(b"ran ")?;
+    out.push(b"ran ")?;
     push_number(out, number)?;
-    out.extend_from_slice(b" ")?;
+    out.push(b" ")?;
     push_entry(alloc, out, machine.plan(), id)?;
     push_behind(out, machine, number)?;
     Ok(())
@@ -138,21 +161,22 @@ fn push_ran(
 /// Adds the line of a reply to an event of the channel of this number, with the machine behind the event.
 fn push_reply(
     alloc: Global,
-    out: &mut Vec<u8>,
+    out: &mut Block,
     machine: &Machine,
     number: u32,
     reply: Reply,
 ) -> Result<(), NoMemory>
-    ensures { OnOk result (out.new.items ≡ out.old.items ++ spec.reply_text machine.now number reply) }
+    ensures kept { out.new.whole ≡ out.old.whole }
+    ensures ok { OnOk result (out.new.begun ≡ out.old.begun ++ spec.reply_text machine.now number reply) }
 {
     match reply {
         Reply::Started(channel) => {
-            out.extend_from_slice(b"started ")?;
+            out.push(b"started ")?;
             push_number(out, channel)?;
         }
         Reply::Ran(id) => push_ran(alloc, out, machine, number, id)?,
         Reply::NoEntry => {
-            out.extend_from_slice(b"no entry ")?;
+            out.push(b"no entry ")?;
             push_number(out, number)?;
             push_behind(out, machine, number)?;
         }
@@ -161,18 +185,74 @@ fn push_reply(
     Ok(())
 }
 
-/// The line of a reply to an event of the channel of this number, with its line feed and with the machine behind the
-/// event.
-pub(crate) fn reply_line(
+/// Adds the line of a reply to what waits, by the channel that the event names and the machine behind the event. Where
+/// memory is refused the whole lines stay as they were.
+pub(crate) fn push_line(
     alloc: Global,
+    block: &mut Block,
     machine: &Machine,
     number: u32,
     reply: Reply,
-) -> Result<Vec<u8>, NoMemory>
-    ensures { IfOk result (λ line. line.items ≡ spec.reply_text machine.now number reply ++ 10 ∷ []) }
+) -> Result<(), NoMemory>
+    ensures ok { OnOk result (block.new.whole ≡ block.old.whole ++ (spec.reply_text machine.now number reply ++ 10 ∷ [])) }
+    ensures err { OnErr result (block.new.whole ≡ block.old.whole) }
 {
-    let mut line = Vec::new(alloc);
-    push_reply(alloc, &mut line, machine, number, reply)?;
-    line.push(b'\n')?;
-    Ok(line)
+    block.begin_line();
+    push_reply(alloc, block, machine, number, reply)?;
+    block.end_line()?;
+    Ok(())
+}
+
+/// Adds the value of a name in a channel, `NAME=VALUE`.
+fn push_value(
+    alloc: Global,
+    out: &mut Block,
+    machine: &Machine,
+    channel: u32,
+    name: &[u8],
+) -> Result<(), NoMemory>
+    ensures kept { out.new.whole ≡ out.old.whole }
+    ensures ok { OnOk result (out.new.begun ≡ out.old.begun ++ (name.now ++ codes "=" ++ value_in machine.now channel name.now)) }
+{
+    let value = machine.value(alloc, channel, name)?;
+    out.push(name)?;
+    out.push(b"=")?;
+    out.push(&value)?;
+    Ok(())
+}
+
+/// Adds the value of a name in a channel, or the refusal where no channel has the number.
+#[tactic(auto, unfolding(crate::specs::Trace::show_text))]
+fn push_show(
+    alloc: Global,
+    out: &mut Block,
+    machine: &Machine,
+    channel: u32,
+    name: &[u8],
+) -> Result<(), NoMemory>
+    ensures kept { out.new.whole ≡ out.old.whole }
+    ensures ok { OnOk result (out.new.begun ≡ out.old.begun ++ spec.show_text machine.now channel name.now) }
+{
+    match machine.phase(channel) {
+        Some(_) => push_value(alloc, out, machine, channel, name)?,
+        None => push_refused(out, Refusal::NoChannel)?,
+    }
+    Ok(())
+}
+
+/// Adds the line that shows a name in a channel to what waits. Where memory is refused the whole lines stay as they were.
+pub(crate) fn push_show_line(
+    alloc: Global,
+    block: &mut Block,
+    machine: &Machine,
+    channel: u32,
+    name: &[u8],
+) -> Result<(), NoMemory>
+    ensures ok { OnOk result (block.new.whole ≡ block.old.whole ++ (spec.show_text machine.now channel name.now ++ 10 ∷ [])) }
+    ensures err { OnErr result (block.new.whole ≡ block.old.whole) }
+{
+    block.begin_line();
+    push_show(alloc, block, machine, channel, name)?;
+    block.end_line()?;
+    Ok(())
 }

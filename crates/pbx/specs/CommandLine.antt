@@ -7,6 +7,7 @@ use Rattle.clap.specs.Simple.{App, new_app, new_rule, with_rule, with_subcommand
 use Rattle.clap.specs.Walk.{Row, Rule, first_of}
 use Rattle.dp_conf.specs.Words.{same_text}
 use Rattle.dp_commands.specs.Script.{number_within}
+use Rattle.dp_plan.specs.Priority.{most_priority}
 use Rattle.pbx.specs.declared.command_line.Request.{Request}
 use Rattle.pbx.specs.declared.command_line.Request.TheVariants.{Joined, Check, Listing, Match, Run}
 
@@ -60,9 +61,9 @@ asked (Listing file) = listing file.now
 asked (Match file context text priority) = matching file.now context.now text.now priority
 asked (Run file script) = run file.now script.now
 
--- the priority that a word writes: digits, and a number from 1 to 2147483647
+-- the priority that a word writes: digits, and a number from 1 to the greatest priority
 abbrev pub priority_in : List ℕ → Option ℕ
-priority_in word = option_and_then (λ n. if nat_lt 0 n then Some n else None) (number_within 2147483647 word)
+priority_in word = option_and_then (λ n. if nat_lt 0 n then Some n else None) (number_within most_priority word)
 
 -- what `check` asks for, by its words
 abbrev pub check_asked : List Row → Option Asked

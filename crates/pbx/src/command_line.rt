@@ -91,7 +91,8 @@ Example:
 /// What the help of `run` says below its words.
 const RUN_NOTES: &str = "\
 A script has one event a line: `start CONTEXT EXTEN [CALLER]` for a call that comes in, and `step CHANNEL [COUNT]` for
-steps of a channel. Channels are numbered from 1 as they start. Prints a line for each event.
+steps of a channel. `show CHANNEL NAME` prints a variable. Channels are numbered from 1 as they start. Prints a line for
+each event.
 
 Example:
   $ cat calls.script

@@ -1,10 +1,11 @@
 //! Long scripts, and long chains of includes.
-use crate::commands::render::{Command, Run, Sink, check_text};
+use crate::commands::render::{Command, Run, Sink, check_into, check_text, make_sink};
 use dp_commands::{PbxFault, match_one};
 use dp_conf::{NoMemory, Told};
 use dp_plan::Priority;
 use std::alloc::Global;
 use std::process::Abort;
+use std::str;
 use std::test::Fail;
 
 /// A text that starts as many calls as there are numbers.
@@ -48,16 +49,50 @@ fn check_numbers(rt: &impl Abort, alloc: Global) -> Result<(), Fail> {
     check_text::<Run>(rt, alloc, text.as_bytes(), want.as_bytes())
 }
 
-/// The greatest count is taken as it stands.
-fn check_steps(rt: &impl Abort, alloc: Global) -> Result<(), Fail> {
+/// A text of which the trace has a line for a call, and so many lines of 38 bytes.
+const LOOP: &[u8] = b"[main]\nexten => s,1,Goto(1)\n;; script\nstart main s\nstep 1 100000\n";
+
+/// The front of its trace with so many steps, and what is wanted behind it.
+fn loop_trace(alloc: Global, steps: u32, behind: &str) -> Result<String, NoMemory> {
     let mut want = String::new(alloc);
     want.push_str("started 1\n")?;
-    for _step in 0..100_000 {
+    for _step in 0..steps {
         want.push_str("ran 1 main,s,1 Goto -> ready main,s,1\n")?;
     }
-    want.push_str("status 0")?;
-    let text = b"[main]\nexten => s,1,Goto(1)\n;; script\nstart main s\nstep 1 100000\n";
-    check_text::<Run>(rt, alloc, text, want.as_bytes())
+    want.push_str(behind)?;
+    Ok(want)
+}
+
+/// Asserts that so many steps are written whole where the write k of a writer that takes all fails.
+fn check_block(rt: &impl Abort, alloc: Global, k: usize, steps: u32) -> Result<(), Fail> {
+    let want = loop_trace(alloc, steps, "fault 9 WriteFailed, told")?;
+    let writer = make_sink(alloc, usize::MAX, Some(k));
+    check_into::<Run>(rt, alloc, LOOP, writer, want.as_bytes())
+}
+
+/// The greatest count is taken as it stands. The lines go out in blocks: the first is full behind 1,617 steps, and each
+/// further one behind 1,617 more.
+fn check_steps(rt: &impl Abort, alloc: Global) -> Result<(), Fail> {
+    let want = loop_trace(alloc, 100_000, "status 0")?;
+    check_text::<Run>(rt, alloc, LOOP, want.as_bytes())?;
+    check_block(rt, alloc, 1, 1_617)?;
+    check_block(rt, alloc, 2, 3_234)
+}
+
+/// A dialplan with an extension of this name, and a call to it.
+fn wide_run(alloc: Global, name: &str) -> Result<String, NoMemory> {
+    format!(in alloc; "[main]\nexten => {name},1,NoOp()\n;; script\nstart main {name}\nstep 1\n")
+}
+
+/// A line is longer than a block.
+fn check_wide(rt: &impl Abort, alloc: Global) -> Result<(), Fail> {
+    let name = vec![in alloc; b'7'; 70_000]?;
+    let name = str::from_utf8(&name)?;
+    let text = wide_run(alloc, name)?;
+    let want = format!(in alloc;
+        "started 1\nran 1 main,{name},1 NoOp -> ready main,{name},2\nstatus 0"
+    )?;
+    check_text::<Run>(rt, alloc, text.as_bytes(), want.as_bytes())
 }
 
 /// Which entry answers `77` at priority 1, from the context `c0` on.
@@ -95,5 +130,6 @@ fn check_chain(rt: &impl Abort, alloc: Global) -> Result<(), Fail> {
 fn large_texts_are_served(rt: HostRuntime) -> Result<(), Fail> {
     check_numbers(&rt, rt.alloc())?;
     check_steps(&rt, rt.alloc())?;
+    check_wide(&rt, rt.alloc())?;
     check_chain(&rt, rt.alloc())
 }

@@ -11,6 +11,23 @@ const ROWS: &str = r"
 [main]\nexten => 100,1,NoOp(hello)\nexten => 100,2,Goto(200,1)\nexten => 200,1,Hangup()\n;; script\nstart main 100\nstep 1 3\n→started 1\nran 1 main,100,1 NoOp -> ready main,100,2\nran 1 main,100,2 Goto -> ready main,200,1\nran 1 main,200,1 Hangup -> ended\nstatus 0
 # refusals
 [main]\nexten => s,1,Hangup()\n;; script\nstep 1\nstart main s\nstep 1\nstep 1\n→refused 40 NoChannel\nstarted 1\nran 1 main,s,1 Hangup -> ended\nrefused 49 Ended\nstatus 1
+# globals-expanded
+[globals]\nN=200\nM=${N}1\n[main]\nexten => 100,1,Goto(${N},1)\nexten => 200,1,NoOp()\n;; script\nstart main 100\nstep 1 2\nshow 1 M\nshow 1 EXTEN\n→started 1\nran 1 main,100,1 Goto -> ready main,200,1\nran 1 main,200,1 NoOp -> ready main,200,2\nM=2001\nEXTEN=200\nstatus 0
+";
+
+/// Values that are shown.
+const SHOWS: &str = r"
+# A channel that is not there counts for the status, and the script goes on.
+;; script\nshow 1 M\n→refused 40 NoChannel\nstatus 1
+;; script\nshow 0 M\nstart main s\nshow 1 M\nshow 2 M\n→refused 40 NoChannel\nstarted 1\nM=\nrefused 40 NoChannel\nstatus 1
+# What the channel gives, also behind its end. It changes nothing.
+[main]\nexten => s,1,Hangup()\n;; script\nstart main s\nshow 1 CONTEXT\nshow 1 EXTEN\nshow 1 PRIORITY\nshow 1 CHANNEL\nstep 1\nshow 1 PRIORITY\n→started 1\nCONTEXT=main\nEXTEN=s\nPRIORITY=1\nCHANNEL=Channel/1\nran 1 main,s,1 Hangup -> ended\nPRIORITY=1\nstatus 0
+[main]\nexten => s,1,NoOp()\nexten => s,2,NoOp()\n;; script\nstart main s\nstart main 2-00\nstep 1\nshow 1 PRIORITY\nshow 2 EXTEN\nstep 1\n→started 1\nstarted 2\nran 1 main,s,1 NoOp -> ready main,s,2\nPRIORITY=2\nEXTEN=2-00\nran 1 main,s,2 NoOp -> ready main,s,3\nstatus 0
+# Global variables, of which the last value stands; names have their case, and may be those of functions.
+[globals]\nM=1\nM=2\nEXTEN=9\nLEN(x)=7\n;; script\nstart main s\nshow 1 M\nshow 1 m\nshow 1 EXTEN\nshow 1 LEN(x)\n→started 1\nM=2\nm=\nEXTEN=s\nLEN(x)=7\nstatus 0
+[globals]\nM=\xFF=\n;; script\nstart main s\nshow 1 M\nshow 1 M=\n→started 1\nM=\xFF=\nM==\nstatus 0
+# A line that is none.
+;; script\nstart main s\nshow 1\n→fault 70 BadScript line 2
 ";
 
 /// Where the dialplan ends and the script begins.
@@ -204,6 +221,7 @@ const FAULTY_SCRIPTS: &str = r"
 /// The tables of joined texts.
 const TABLES: &[&str] = &[
     ROWS,
+    SHOWS,
     SEPARATORS,
     CALLS,
     WORDS,

@@ -1,12 +1,13 @@
 //! Scripts with their lines or their fault, worked out by hand from the rules.
 use crate::commands::render::push_fault;
 use crate::table::{Question, bytes_of, check};
-use dp_commands::{PbxFault, ScriptLine, read_script};
+use dp_commands::{PbxFault, ScriptLine, Turn, read_script};
 use dp_conf::NoMemory;
+use dp_machine::Event;
 use std::alloc::Global;
 use std::test::Fail;
 
-/// Lines as `start{CONTEXT}{EXTEN}{CALLER}` and `step{CH}{COUNT}`, one after another.
+/// Lines as `start{CONTEXT}{EXTEN}{CALLER}`, `step{CH}{COUNT}` and `show{CH}{NAME}`, one after another.
 const LINES: &str = r"
 # Nothing to read.
 →
@@ -33,7 +34,13 @@ step 4294967295 1→step{4294967295}{1}
 step 01 007→step{1}{7}
 step 00000000004294967295 0000100000→step{4294967295}{100000}
 \tstep\x0B2\x0C3\x1F\r→step{2}{3}
+# Values.
+show 1 M→show{1}{M}
+show 0 LEN(x)→show{0}{LEN(x)}
+ show\t07  ;\r\n→show{7}{;}
+show 4294967295 show→show{4294967295}{show}
 # Several lines.
+show 1 A\nstep 1\nshow 2 A→show{1}{A}step{1}{1}show{2}{A}
 start a b\n\n; x\nstep 1 2\nstart a c d\nstep 2→start{a}{b}{}step{1}{2}start{a}{c}{d}step{2}{1}
 step 1\nstep 1\nstep 1\n→step{1}{1}step{1}{1}step{1}{1}
 ";
@@ -77,6 +84,16 @@ step 1 ;→fault 70 BadScript line 1
 step 1 100001→fault 70 BadScript line 1
 step 1 4294967297→fault 70 BadScript line 1
 step 1 18446744073709551617→fault 70 BadScript line 1
+# No channel, no name, and too many words.
+show→fault 70 BadScript line 1
+show 1→fault 70 BadScript line 1
+show M→fault 70 BadScript line 1
+show M 1→fault 70 BadScript line 1
+show +1 M→fault 70 BadScript line 1
+show 4294967296 M→fault 70 BadScript line 1
+show 1 M 2→fault 70 BadScript line 1
+show 1 M ;→fault 70 BadScript line 1
+Show 1 M→fault 70 BadScript line 1
 # The first faulty line.
 \njump→fault 70 BadScript line 2
 step 1\n\n;x\n\r\nstart a\n→fault 70 BadScript line 5
@@ -86,13 +103,22 @@ start a\nb\n→fault 70 BadScript line 1
 ";
 
 fn push_line(out: &mut String, line: &ScriptLine) -> Result<(), NoMemory> {
-    match line {
-        ScriptLine::Start {
-            context,
-            exten,
-            caller,
-        } => write!(out, "start{{{context}}}{{{exten}}}{{{caller}}}"),
-        ScriptLine::Step { channel, count } => write!(out, "step{{{channel}}}{{{count}}}"),
+    match (&line.turn, line.count) {
+        (
+            Turn::Event(
+                Event::Start {
+                    context,
+                    exten,
+                    caller,
+                },
+            ),
+            1,
+        ) => write!(out, "start{{{context}}}{{{exten}}}{{{caller}}}"),
+        (Turn::Event(Event::Step { channel }), count) => {
+            write!(out, "step{{{channel}}}{{{count}}}")
+        }
+        (Turn::Show { channel, name }, 1) => write!(out, "show{{{channel}}}{{{name}}}"),
+        _ => out.push_str("a turn that is taken more than once"),
     }
 }
 

@@ -165,7 +165,8 @@ Options:
   -h, --help  Print help
 
 A script has one event a line: `start CONTEXT EXTEN [CALLER]` for a call that comes in, and `step CHANNEL [COUNT]` for
-steps of a channel. Channels are numbered from 1 as they start. Prints a line for each event.
+steps of a channel. `show CHANNEL NAME` prints a variable. Channels are numbered from 1 as they start. Prints a line for
+each event.
 
 Example:
   $ cat calls.script

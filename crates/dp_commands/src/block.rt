@@ -1,0 +1,107 @@
+//! The block in which lines wait until they are written.
+ghost use Rattle.std.specs.Prelude.{◌≡◌, ◌++◌, ◌||◌, ◌∷◌, [], IfOk, OnOk, OnErr};
+ghost use Rattle.std.specs.Io.KnownBytes.{Appends};
+ghost use Rattle.std.specs.Result.{is_err};
+ghost use Rattle.dp_conf.specs.Fronts.{AppendsFront};
+
+use dp_conf::{WriteFailed, WriteTold};
+use dp_plan::NoMemory;
+use std::alloc::Global;
+use std::marker::Model;
+
+/// How many bytes a block of a run has room for.
+pub(crate) const ROOM: usize = 65_536;
+
+/// A block is full where fewer bytes than these are left of its room. A line that is longer than what is left makes it
+/// grow.
+const LEAST_LEFT: usize = 4_096;
+
+/// Bytes that wait to be written: whole lines, and what is begun behind them.
+#[derive(Debug, Drop)]
+pub(crate) struct Block {
+    bytes: Vec<u8>,
+    // How many of the bytes are whole lines.
+    whole: usize,
+}
+
+impl Model for Block {
+    ghost use Rattle.std.specs.Prelude.{◌≤◌, length, take, drop};
+    ghost use Rattle.dp_commands.specs.Block.{Waiting};
+
+    ghost Value = { Waiting };
+
+    ghost view = { λ block. record { whole = take block.whole block.bytes.items; begun = drop block.whole block.bytes.items } };
+
+    ghost invariant = { λ block. block.whole ≤ length block.bytes.items };
+}
+
+impl Block {
+    ghost use Rattle.std.specs.Prelude.{◌≡◌, ◌++◌, ◌||◌, ◌∷◌, [], IfOk, OnOk, OnErr};
+    ghost use Rattle.dp_commands.specs.Block.{waiting};
+
+    /// A block in which nothing waits, with room for so many bytes.
+    pub(crate) fn new(alloc: Global, room: usize) -> Result<Self, NoMemory>
+        ensures { IfOk result (λ block. block ≡ waiting [] []) }
+    {
+        let bytes = Vec::with_capacity(alloc, room)?;
+        Ok(Block { bytes, whole: 0 })
+    }
+
+    /// Adds bytes to what is begun.
+    pub(crate) fn push(&mut self, bytes: &[u8]) -> Result<(), NoMemory>
+        ensures kept { self.new.whole ≡ self.old.whole }
+        ensures ok { OnOk result (self.new.begun ≡ self.old.begun ++ bytes.now) }
+    {
+        self.bytes.extend_from_slice(bytes)?;
+        Ok(())
+    }
+
+    /// What is begun.
+    pub(crate) fn begun(&self) -> &[u8]
+        ensures { result.now ≡ self.now.begun }
+    {
+        &self.bytes[self.whole..]
+    }
+
+    /// Begins a line: what was begun is dropped.
+    pub(crate) fn begin_line(&mut self)
+        ensures { self.new ≡ waiting self.old.whole [] }
+    {
+        self.bytes.truncate(self.whole);
+    }
+
+    /// What is begun is whole.
+    fn close_line(&mut self)
+        ensures { self.new ≡ waiting (self.old.whole ++ self.old.begun) [] }
+    {
+        self.whole = self.bytes.len();
+    }
+
+    /// Ends the line that is begun.
+    pub(crate) fn end_line(&mut self) -> Result<(), NoMemory>
+        ensures ok { OnOk result (self.new ≡ waiting (self.old.whole ++ (self.old.begun ++ 10 ∷ [])) []) }
+        ensures err { OnErr result (self.new.whole ≡ self.old.whole) }
+    {
+        self.push(b"\n")?;
+        self.close_line();
+        Ok(())
+    }
+
+    /// Whether the block has hardly room for a line more.
+    pub(crate) fn is_full(&self) -> bool {
+        self.whole > ROOM - LEAST_LEFT
+    }
+
+    /// Writes the whole lines. Nothing waits behind that; where the write fails, a front of the lines was written.
+    pub(crate) fn send<W: WriteTold>(&mut self, writer: &mut W) -> Result<(), WriteFailed>
+        ensures empty { self.new ≡ waiting [] [] }
+        ensures ok { OnOk result (Appends (W.contents writer.old) (W.contents writer.new) self.old.whole) }
+        ensures err { OnErr result (AppendsFront (W.contents writer.old) (W.contents writer.new) self.old.whole) }
+        ensures told { W.has_failed writer.new ≡ (W.has_failed writer.old || is_err result) }
+    {
+        let sent = writer.write_told(&self.bytes[..self.whole]);
+        self.bytes.clear();
+        self.whole = 0;
+        sent
+    }
+}
