@@ -8,3 +8,4 @@ pub mod ToldLemmas
 mod TrimLemmas
 pub mod GroupsLemmas
 pub mod NestLemmas
+pub mod TextLemmas

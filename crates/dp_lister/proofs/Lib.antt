@@ -1,1 +1,2 @@
+pub mod LinesAgain
 pub mod ListingLemmas

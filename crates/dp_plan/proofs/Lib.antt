@@ -1,4 +1,5 @@
 mod ApartLemmas
+pub mod Canonical
 mod ChangedLemmas
 mod DraftLemmas
 mod EntryLemmas
