@@ -213,3 +213,22 @@ trim-blank_behind b text t =
 -- a blank before a trimmed text
 pub trim-blank_before : (text : List ℕ) → IsTrimmed text → trim (32 ∷ text) ≡ text
 trim-blank_before text t = trim-trimmed text t
+
+-- a text of which no byte is a blank
+pub trimmed-firm : (text : List ℕ) → AllByRecursion (λ b. is_blank b ≡ false) text → IsTrimmed text
+trimmed-firm text a = record { begins = firm text a; ends = whole text a }
+  where
+    firm : (text : List ℕ) → AllByRecursion (λ b. is_blank b ≡ false) text → BeginsFirm text
+    firm [] a = tt
+    firm (b ∷ text) a = a.0
+
+    whole : (text : List ℕ) → AllByRecursion (λ b. is_blank b ≡ false) text → trim_end text ≡ text
+    whole [] a = refl
+    whole (b ∷ text) a = ap (before_kept b) (whole text a.1) ∙ before_kept-firm b text a.0
+
+-- a text between two bytes that are no blanks
+pub trimmed-between : (b : ℕ) (text : List ℕ) (last : ℕ) → is_blank b ≡ false → is_blank last ≡ false → IsTrimmed ((b ∷ text) ++ last ∷ [])
+trimmed-between b text last firm closed = record {
+  begins = firm;
+  ends = trim_end-behind (b ∷ text) last [] (before_kept-firm last [] closed);
+}

@@ -2,6 +2,7 @@ mod ApartLemmas
 pub mod Canonical
 mod ChangedLemmas
 mod DraftLemmas
+pub mod EntryAgain
 mod EntryLemmas
 mod HistoryLemmas
 mod ItemsLemmas

@@ -1,0 +1,240 @@
+-- The line of an entry is read as the entry again.
+use Rattle.std.proofs.Common.{◌≡◌, ℕ, ◌+◌, ◌-◌, ◌*◌, ◌<◌, ◌≤◌, ◌^◌, Bool, true, false, cond, ◌&&◌, ◌||◌, ◌==◌, eqb, nat_le, List, [], ◌∷◌, ◌++◌, fold, length, Option, Some, None, Result, Ok, Err, codes, decimal, refl, ap, ◌∙◌, sym, subst, arith, append_assoc, append-nil}
+use Rattle.std.specs.List.{AllByRecursion, list_any, list_all}
+use Rattle.std.specs.Char.{digit_value}
+use Rattle.std.specs.Str.Parse.{AllDigits, digits_value_after, digits_value}
+use Rattle.std.proofs.lemmas.Bool.Decides.{nat_tests}
+use Rattle.std.proofs.lemmas.Fmt.{decimal_is_IsNumeral}
+use Rattle.std.proofs.lemmas.Str.{digit_value_digit}
+use Rattle.std.proofs.lemmas.Str.Parse.{digit_from_value}
+use Rattle.dp_conf.specs.Answers.{◌>>=◌}
+use Rattle.dp_conf.specs.Blanks.{is_blank, trim}
+use Rattle.dp_conf.specs.Cut.{cut_once}
+use Rattle.dp_conf.specs.Numbers.{is_digit, with_digit, digits_number, number_of}
+use Rattle.dp_conf.specs.Words.{same_text}
+use Rattle.dp_conf.proofs.TextLemmas.{Avoids, each-append, each-weaker, any-none, none-any, IsTrimmed, trim-trimmed, trimmed-firm, trimmed-between, cut_once-here, cut_once-nowhere}
+use Rattle.dp_pattern.specs.Name.{Meaning, is_bad, meaning_of, IsName}
+use Rattle.dp_pattern.specs.Spelling.{spelling}
+use Rattle.dp_pattern.proofs.SpelledBytes.{spells_cleanly}
+use Rattle.dp_pattern.proofs.SpellingLemmas.{spelled_again}
+use Rattle.dp_plan.specs.EntryLine.{has_variable, has_opening, without_last, named, name_of, is_priority_word, written_number, written_of, before_label, is_no_label, label_within, label_of, number_after, written_priority, called_with, application_parts, application_by, application_of, is_expanded, entry_by, entry_of, exten_rest, exten_cut, exten_entry}
+use Rattle.dp_plan.specs.Faults.{at_line, name_at_line}
+use Rattle.dp_plan.specs.History.{History}
+use Rattle.dp_plan.specs.Priority.{IsPriority, most_priority}
+use Rattle.dp_plan.specs.declared.fault.Word.TheVariants.{Hint, CallerId, Variable, OldForm, PriorityWord}
+use Rattle.dp_plan.specs.declared.fault.PlanKind.{PlanKind}
+use Rattle.dp_plan.specs.declared.fault.PlanKind.TheVariants.{BadPriority, BadLabel, LeftOut, NotYet}
+use Rattle.dp_plan.specs.declared.fault.LoadFault.{LoadFault}
+use Rattle.dp_plan.specs.declared.fault.LoadFault.TheVariants.{Plan}
+use Rattle.dp_plan.specs.declared.numbering.Written.{Written}
+use Rattle.dp_plan.specs.declared.numbering.Written.TheVariants.{Number, TooGreat, Next}
+use Rattle.dp_plan.specs.declared.entry.Entry.{Entry}
+use Rattle.dp_plan.proofs.Canonical.{HasFirst, IsExtension, IsLabel, IsLabelled, IsApplication, IsEntry}
+use Rattle.dp_plan.proofs.EntryLemmas.{without_last-found}
+
+-- ---- the value of the line
+
+abbrev pub label_text : Option (List ℕ) → List ℕ
+label_text None = []
+label_text (Some label) = 40 ∷ (label ++ 41 ∷ [])
+
+abbrev pub priority_text : ℕ → Option (List ℕ) → List ℕ
+priority_text priority label = decimal priority ++ label_text label
+
+abbrev pub application_text : List ℕ → List ℕ → List ℕ
+application_text name arguments = name ++ 40 ∷ (arguments ++ 41 ∷ [])
+
+abbrev pub entry_text : Entry → List ℕ
+entry_text entry =
+    spelling entry.name ++ 44 ∷ (priority_text entry.priority entry.label ++ 44 ∷ application_text entry.application entry.arguments)
+
+-- ---- decimals
+
+-- a digit
+record IsDigit (b : ℕ) : Type 0 where
+  low : 48 ≤ b
+  high : b ≤ 57
+
+-- digits that write a number
+record Writes (text : List ℕ) (number : ℕ) : Type 0 where
+  first : ℕ
+  rest : List ℕ
+  is : text ≡ first ∷ rest
+  digits : AllByRecursion IsDigit (first ∷ rest)
+  value : digits_number (first ∷ rest) ≡ number
+
+digits_are : (text : List ℕ) → AllDigits 10 text → AllByRecursion IsDigit text
+digits_are [] a = tt
+digits_are (b ∷ text) a =
+    let range = digit_from_value b a.0 in
+    (record { low = omega arith; high = omega arith }, digits_are text a.1)
+
+fold-digits : (number : ℕ) (text : List ℕ) → AllDigits 10 text → fold with_digit number text ≡ digits_value_after 10 number text
+fold-digits number [] a = refl
+fold-digits number (b ∷ text) a =
+    let worth : digit_value b + 48 ≡ b = digit_value_digit b (digit_from_value b a.0) in
+    let same : with_digit number b ≡ number * 10 + digit_value b = omega arith in
+    ap (λ n. fold with_digit n text) same ∙ fold-digits (number * 10 + digit_value b) text a.1
+
+decimal-writes : (number : ℕ) → number < 2 ^ 64 → Writes (decimal number) number
+decimal-writes number small = by (decimal number) (decimal_is_IsNumeral number small).0.0 (decimal_is_IsNumeral number small).0.1 (decimal_is_IsNumeral number small).1
+  where
+    by : (text : List ℕ) → 0 < length text → AllDigits 10 text → digits_value 10 text ≡ number → Writes text number
+    by [] some a e = absurd (omega arith)
+    by (b ∷ text) some a e = record {
+      first = b;
+      rest = text;
+      is = refl;
+      digits = digits_are (b ∷ text) a;
+      value = fold-digits 0 (b ∷ text) a ∙ e;
+    }
+
+digits-avoid : (byte : ℕ) → byte < 48 → (text : List ℕ) → AllByRecursion IsDigit text → Avoids byte text
+digits-avoid byte below text digits = each-weaker IsDigit (λ b. (b == byte) ≡ false) (λ b d. let low = d.low in grind (arith, nat_tests)) text digits
+
+digits-firm : (text : List ℕ) → AllByRecursion IsDigit text → AllByRecursion (λ b. is_blank b ≡ false) text
+digits-firm text digits = each-weaker IsDigit (λ b. is_blank b ≡ false) (λ b d. let low = d.low in grind (arith, nat_tests)) text digits
+
+all-digits : (text : List ℕ) → AllByRecursion IsDigit text → list_all is_digit text ≡ true
+all-digits [] digits = refl
+all-digits (b ∷ text) digits =
+    let low = digits.0.low in
+    let high = digits.0.high in
+    let digit : is_digit b ≡ true = grind (arith, nat_tests) in
+    ap (λ t. t && list_all is_digit text) digit ∙ all-digits text digits.1
+
+-- ---- the priority
+
+other_text : (a : ℕ) (as_ : List ℕ) (b : ℕ) (bs : List ℕ) → eqb a b ≡ false → same_text (a ∷ as_) (b ∷ bs) ≡ false
+other_text a as_ b bs e = ap (λ t. t && same_text as_ bs) e
+
+four_false : (a b c d : Bool) → a ≡ false → b ≡ false → c ≡ false → d ≡ false → (((a || b) || c) || d) ≡ false
+four_false a b c d e f g h = λ i. ((e i || f i) || g i) || h i
+
+written_of-digits : (first : ℕ) (rest : List ℕ) (number : ℕ) → AllByRecursion IsDigit (first ∷ rest) → digits_number (first ∷ rest) ≡ number → IsPriority number → written_of (first ∷ rest) ≡ Ok (Number number)
+written_of-digits first rest number digits value priority =
+    let high = digits.0.high in
+    let positive = priority.0 in
+    let within = priority.1 in
+    let no_h : eqb first 104 ≡ false = grind (arith, nat_tests) in
+    let no_n : eqb first 110 ≡ false = grind (arith, nat_tests) in
+    let no_s : eqb first 115 ≡ false = grind (arith, nat_tests) in
+    let no_word : is_priority_word (first ∷ rest) ≡ false =
+    four_false (same_text (first ∷ rest) (codes "next")) (same_text (first ∷ rest) (codes "s")) (same_text (first ∷ rest) (codes "same")) (list_any (λ b. b == 43) (first ∷ rest))
+    (other_text first rest 110 (101 ∷ 120 ∷ 116 ∷ []) no_n) (other_text first rest 115 [] no_s) (other_text first rest 115 (97 ∷ 109 ∷ 101 ∷ []) no_s)
+    (any-none (λ b. b == 43) (first ∷ rest) (digits-avoid 43 (omega arith) (first ∷ rest) digits)) in
+    let no_zero : (number == 0) ≡ false = grind (arith, nat_tests) in
+    let fits : nat_le number most_priority ≡ true = grind (arith, nat_tests) in
+    let text : List ℕ = first ∷ rest in
+    let numbered : Result Written PlanKind = written_number (number_of text) in
+    ap (λ t. cond {A = Result Written PlanKind} t (Err (LeftOut Hint)) (cond (is_priority_word text) (Err (LeftOut PriorityWord)) (cond (same_text text (codes "n")) (Ok Next) numbered))) (other_text first rest 104 (105 ∷ 110 ∷ 116 ∷ []) no_h)
+    ∙ (ap (λ t. cond {A = Result Written PlanKind} t (Err (LeftOut PriorityWord)) (cond (same_text text (codes "n")) (Ok Next) numbered)) no_word
+    ∙ (ap (λ t. cond {A = Result Written PlanKind} t (Ok Next) numbered) (other_text first rest 110 [] no_n)
+    ∙ (ap (λ t. written_number (cond t (Some (digits_number text)) None)) (all-digits text digits)
+    ∙ (ap (λ n. written_number (Some n)) value
+    ∙ (ap (λ t. cond {A = Result Written PlanKind} t (Err BadPriority) (cond (nat_le number most_priority) (Ok (Number number)) (Ok TooGreat))) no_zero
+    ∙ ap (λ t. cond {A = Result Written PlanKind} t (Ok (Number number)) (Ok TooGreat)) fits)))))
+
+-- a priority with its label, where it has one, is read as it is
+written_priority-again : (priority : ℕ) (label : Option (List ℕ)) → IsPriority priority → IsLabelled label → written_priority (priority_text priority label) ≡ Ok (Number priority, label)
+unfolding written_priority
+written_priority-again priority None fine labelled =
+    let digits = decimal-writes priority (omega (arith, fine.1)) in
+    let text : decimal priority ++ [] ≡ digits.first ∷ digits.rest = append-nil (decimal priority) ∙ digits.is in
+    ap written_priority text
+    ∙ (ap (λ (cut : Option (List ℕ × List ℕ)). written_of (before_label (digits.first ∷ digits.rest) cut) >>= λ written. label_of cut >>= λ l. Ok (written, l)) (cut_once-nowhere 40 (digits.first ∷ digits.rest) (digits-avoid 40 (omega arith) (digits.first ∷ digits.rest) digits.digits))
+    ∙ ap (λ (w : Result Written PlanKind). w >>= λ written. Ok (written, None)) (written_of-digits digits.first digits.rest priority digits.digits digits.value fine))
+written_priority-again priority (Some label) fine labelled =
+    let digits = decimal-writes priority (omega (arith, fine.1)) in
+    let front : List ℕ = digits.first ∷ digits.rest in
+    let written : written_of (trim (digits.first ∷ digits.rest)) ≡ Ok (Number priority) =
+    ap written_of (trim-trimmed (digits.first ∷ digits.rest) (trimmed-firm (digits.first ∷ digits.rest) (digits-firm (digits.first ∷ digits.rest) digits.digits)))
+    ∙ written_of-digits digits.first digits.rest priority digits.digits digits.value fine in
+    ap (λ (text : List ℕ). written_priority (text ++ 40 ∷ (label ++ 41 ∷ []))) digits.is
+    ∙ (ap (λ (cut : Option (List ℕ × List ℕ)). written_of (before_label ((digits.first ∷ digits.rest) ++ 40 ∷ (label ++ 41 ∷ [])) cut) >>= λ written. label_of cut >>= λ l. Ok (written, l)) (cut_once-here 40 (digits.first ∷ digits.rest) (label ++ 41 ∷ []) (digits-avoid 40 (omega arith) (digits.first ∷ digits.rest) digits.digits))
+    ∙ (ap (λ (w : Result Written PlanKind). w >>= λ written. label_of (Some (digits.first ∷ digits.rest, label ++ 41 ∷ [])) >>= λ l. Ok (written, l)) written
+    ∙ ap (λ (r : Result (List ℕ) PlanKind). (r >>= λ l. Ok (Some l)) >>= λ l. Ok (Number priority, l)) (within label labelled)))
+  where
+    within : (label : List ℕ) → IsLabel label → label_within (without_last 41 (label ++ 41 ∷ [])) ≡ Ok label
+    within label l =
+        ap label_within (without_last-found 41 label 41 refl)
+        ∙ (ap (λ (text : List ℕ). cond {A = Result (List ℕ) PlanKind} (is_no_label text) (Err BadLabel) (Ok text)) (trim-trimmed label l.trimmed)
+        ∙ ap (λ t. cond {A = Result (List ℕ) PlanKind} t (Err BadLabel) (Ok label)) l.labels)
+
+priority_text-trimmed : (priority : ℕ) (label : Option (List ℕ)) → IsPriority priority → IsTrimmed (priority_text priority label)
+priority_text-trimmed priority None fine =
+    let digits = decimal-writes priority (omega (arith, fine.1)) in
+    subst IsTrimmed (sym (append-nil (decimal priority) ∙ digits.is)) (trimmed-firm (digits.first ∷ digits.rest) (digits-firm (digits.first ∷ digits.rest) digits.digits))
+priority_text-trimmed priority (Some label) fine =
+    let digits = decimal-writes priority (omega (arith, fine.1)) in
+    let firm = digits-firm (digits.first ∷ digits.rest) digits.digits in
+    subst (λ (text : List ℕ). IsTrimmed (text ++ 40 ∷ (label ++ 41 ∷ []))) (sym digits.is)
+    (subst IsTrimmed (append_assoc (digits.first ∷ digits.rest) (40 ∷ label) (41 ∷ [])) (trimmed-between digits.first (digits.rest ++ 40 ∷ label) 41 firm.0 refl))
+
+no_comma : (priority : ℕ) (label : Option (List ℕ)) → IsPriority priority → IsLabelled label → Avoids 44 (priority_text priority label)
+no_comma priority label fine labelled =
+    let digits = decimal-writes priority (omega (arith, fine.1)) in
+    each-append (λ b. (b == 44) ≡ false) (decimal priority) (label_text label) (subst (Avoids 44) (sym digits.is) (digits-avoid 44 (omega arith) (digits.first ∷ digits.rest) digits.digits)) (by label labelled)
+  where
+    by : (label : Option (List ℕ)) → IsLabelled label → Avoids 44 (label_text label)
+    by None l = tt
+    by (Some label) l = (refl, each-append (λ b. (b == 44) ≡ false) label (41 ∷ []) l.no_comma (refl, tt))
+
+-- ---- the application
+
+application_of-again : (name arguments : List ℕ) → IsApplication name → application_of (application_text name arguments) ≡ Ok (name, arguments)
+unfolding application_of
+application_of-again name arguments fine =
+    ap (λ (cut : Option (List ℕ × List ℕ)). application_by (application_parts (application_text name arguments) cut)) (cut_once-here 40 name (arguments ++ 41 ∷ []) fine.no_opening)
+    ∙ (ap (λ (inside : Option (List ℕ)). application_by (name, inside)) (without_last-found 41 arguments 41 refl)
+    ∙ (ap (λ t. cond {A = Result (List ℕ × List ℕ) PlanKind} t (Err (LeftOut OldForm)) (called_with (trim name) (Some arguments))) (any-none (λ b. b == 44) name fine.no_comma)
+    ∙ (ap (λ (n : List ℕ). called_with n (Some arguments)) (trim-trimmed name fine.trimmed ∙ fine.some.is)
+    ∙ ap (λ (n : List ℕ). Ok (n, arguments)) (sym fine.some.is))))
+
+application_text-trimmed : (name arguments : List ℕ) → IsApplication name → IsTrimmed (application_text name arguments)
+application_text-trimmed name arguments fine =
+    let first = fine.some.first in
+    let rest = fine.some.rest in
+    let firm = (subst IsTrimmed fine.some.is fine.trimmed).begins in
+    subst (λ (n : List ℕ). IsTrimmed (application_text n arguments)) (sym fine.some.is)
+    (subst IsTrimmed (append_assoc (fine.some.first ∷ fine.some.rest) (40 ∷ arguments) (41 ∷ [])) (trimmed-between fine.some.first (fine.some.rest ++ 40 ∷ arguments) 41 firm refl))
+
+-- ---- the name
+
+fine_byte : (b : ℕ) → is_bad b ≡ false → is_blank b ≡ false
+fine_byte b e = grind (arith, nat_tests)
+
+-- no byte of a spelling is a blank
+pub spelling-firm : (name : Meaning) → IsName name → AllByRecursion (λ b. is_blank b ≡ false) (spelling name)
+spelling-firm name known =
+    each-weaker (λ b. is_bad b ≡ false) (λ b. is_blank b ≡ false) fine_byte (spelling name) (none-any is_bad (spelling name) (spells_cleanly.fine name known))
+
+name_of-again : (line : ℕ) (name : Meaning) → IsExtension name → name_of line (spelling name) ≡ Ok name
+unfolding name_of
+name_of-again line name fine =
+    let slash : list_any (λ b. b == 47) (spelling name) ≡ false = any-none (λ b. b == 47) (spelling name) fine.no_slash in
+    let rest : Result Meaning LoadFault = name_at_line line (meaning_of (spelling name)) >>= λ n. named line n in
+    ap (λ t. cond {A = Result Meaning LoadFault} t (Err (Plan line (LeftOut Variable))) (cond (list_any (λ b. b == 47) (spelling name)) (Err (Plan line (LeftOut CallerId))) rest)) fine.no_variable
+    ∙ (ap (λ t. cond {A = Result Meaning LoadFault} t (Err (Plan line (LeftOut CallerId))) rest) slash
+    ∙ (ap (λ (r : Result Meaning _). name_at_line line r >>= λ n. named line n) (spelled_again name fine.known)
+    ∙ ap (λ t. cond {A = Result Meaning LoadFault} t (Err (Plan line (LeftOut Variable))) (Ok name)) fine.no_variable))
+
+-- ---- the entry
+
+entry_of-again : (history : History) (line : ℕ) (context : List ℕ) (entry : Entry) → IsEntry entry → entry_of history line context (Ok entry.name) (priority_text entry.priority entry.label) (Ok (entry.application, entry.arguments)) ≡ Ok entry
+entry_of-again history line context entry fine =
+    let application : Result (List ℕ × List ℕ) PlanKind = Ok (entry.application, entry.arguments) in
+    ap (λ t. cond {A = Result Entry LoadFault} t (Err (Plan line NotYet)) (entry_by history line context entry.name (priority_text entry.priority entry.label) (Ok (entry.application, entry.arguments)))) fine.accepted
+    ∙ ap (λ (w : Result (Written × Option (List ℕ)) PlanKind). at_line line w >>= λ written. at_line line (number_after (history.priority context entry.name) written.0) >>= λ number. at_line line application >>= λ called. Ok (record { name = entry.name; priority = number; label = written.1; application = called.0; arguments = called.1 })) (written_priority-again entry.priority entry.label fine.priority fine.label)
+
+-- the value of an entry's line is read as the entry
+pub exten_entry-again : (history : History) (line : ℕ) (context : List ℕ) (entry : Entry) → IsEntry entry → exten_entry history line context (entry_text entry) ≡ Ok entry
+unfolding exten_entry
+exten_entry-again history line context entry fine =
+    let p : List ℕ = priority_text entry.priority entry.label in
+    let a : List ℕ = application_text entry.application entry.arguments in
+    ap (exten_cut history line context) (cut_once-here 44 (spelling entry.name) (priority_text entry.priority entry.label ++ 44 ∷ application_text entry.application entry.arguments) fine.name.no_comma)
+    ∙ (ap (exten_rest history line context (trim (spelling entry.name))) (cut_once-here 44 (priority_text entry.priority entry.label) (application_text entry.application entry.arguments) (no_comma entry.priority entry.label fine.priority fine.label))
+    ∙ ((λ i. entry_of history line context (name_of line (trim-trimmed (spelling entry.name) (trimmed-firm (spelling entry.name) (spelling-firm entry.name fine.name.known)) i)) (trim-trimmed p (priority_text-trimmed entry.priority entry.label fine.priority) i) (application_of (trim-trimmed a (application_text-trimmed entry.application entry.arguments fine.application) i)))
+    ∙ ((λ i. entry_of history line context (name_of-again line entry.name fine.name i) (priority_text entry.priority entry.label) (application_of-again entry.application entry.arguments fine.application i))
+    ∙ entry_of-again history line context entry fine)))
