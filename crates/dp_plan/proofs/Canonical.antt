@@ -1,7 +1,9 @@
 -- What is known of each part of a dialplan that loads, so that a line can say the part again.
-use Rattle.std.proofs.Common.{◌≡◌, ℕ, ◌==◌, Bool, false, List, [], ◌∷◌, ◌++◌, map, codes, Option, Some, None}
-use Rattle.std.specs.List.{AllByRecursion}
+use Rattle.std.proofs.Common.{◌≡◌, ℕ, ◌+◌, ◌==◌, Bool, false, List, [], ◌∷◌, ◌++◌, map, codes, decimal, Option, Some, None}
+use Rattle.std.specs.List.{AllByRecursion, flat_map}
 use Rattle.dp_conf.specs.Words.{same_word}
+use Rattle.dp_conf.specs.declared.lines.ConfLine.{ConfLine}
+use Rattle.dp_conf.specs.declared.lines.ConfLine.TheVariants.{Header, Pair}
 use Rattle.dp_conf.proofs.TextLemmas.{Avoids, IsTrimmed}
 use Rattle.dp_pattern.specs.Name.{Meaning, IsName}
 use Rattle.dp_pattern.specs.Spelling.{spelling}
@@ -114,3 +116,51 @@ pub record IsCanonical (plan : PlanOf) : Type 0 where
   pub globals : AllByRecursion IsGlobal plan.globals
   pub contexts : AllByRecursion IsContext plan.contexts
   pub names : IsFresh is_named [] (map (λ context. context.name) plan.contexts)
+
+-- ---- the lines that say a dialplan
+
+-- the value of an entry's line: the name, the priority with its label, and the application
+abbrev pub label_text : Option (List ℕ) → List ℕ
+label_text None = []
+label_text (Some label) = 40 ∷ (label ++ 41 ∷ [])
+
+abbrev pub priority_text : ℕ → Option (List ℕ) → List ℕ
+priority_text priority label = decimal priority ++ label_text label
+
+abbrev pub application_text : List ℕ → List ℕ → List ℕ
+application_text name arguments = name ++ 40 ∷ (arguments ++ 41 ∷ [])
+
+abbrev pub entry_text : Entry → List ℕ
+entry_text entry =
+    spelling entry.name ++ 44 ∷ (priority_text entry.priority entry.label ++ 44 ∷ application_text entry.application entry.arguments)
+
+-- the lines, by their numbers
+abbrev pub header_of : List ℕ → ℕ → ConfLine
+header_of name line = Header line name
+
+abbrev pub global_of : GlobalVariable → ℕ → ConfLine
+global_of global line = Pair line global.name global.value
+
+abbrev pub exten_of : Entry → ℕ → ConfLine
+exten_of entry line = Pair line (codes "exten") (entry_text entry)
+
+abbrev pub include_of : List ℕ → ℕ → ConfLine
+include_of name line = Pair line (codes "include") name
+
+abbrev pub lines_of_globals : List GlobalVariable → List (ℕ → ConfLine)
+lines_of_globals [] = []
+lines_of_globals (global ∷ globals) = header_of (codes "globals") ∷ map global_of (global ∷ globals)
+
+abbrev pub lines_of_context : PlanContext → List (ℕ → ConfLine)
+lines_of_context context = header_of context.name ∷ (map exten_of context.entries ++ map include_of context.includes)
+
+abbrev pub lines_of_contexts : List PlanContext → List (ℕ → ConfLine)
+lines_of_contexts contexts = flat_map lines_of_context contexts
+
+abbrev pub numbered_lines : ℕ → List (ℕ → ConfLine) → List ConfLine
+numbered_lines n [] = []
+numbered_lines n (line ∷ lines) = line (n + 1) ∷ numbered_lines (n + 1) lines
+
+-- the lines of a dialplan
+abbrev pub canonical_lines : PlanOf → List ConfLine
+canonical_lines plan = numbered_lines 0 (lines_of_globals plan.globals ++ lines_of_contexts plan.contexts)

@@ -29,24 +29,8 @@ use Rattle.dp_plan.specs.declared.fault.LoadFault.TheVariants.{Plan}
 use Rattle.dp_plan.specs.declared.numbering.Written.{Written}
 use Rattle.dp_plan.specs.declared.numbering.Written.TheVariants.{Number, TooGreat, Next}
 use Rattle.dp_plan.specs.declared.entry.Entry.{Entry}
-use Rattle.dp_plan.proofs.Canonical.{HasFirst, IsExtension, IsLabel, IsLabelled, IsApplication, IsEntry}
+use Rattle.dp_plan.proofs.Canonical.{HasFirst, IsExtension, IsLabel, IsLabelled, IsApplication, IsEntry, label_text, priority_text, application_text, entry_text}
 use Rattle.dp_plan.proofs.EntryLemmas.{without_last-found}
-
--- ---- the value of the line
-
-abbrev pub label_text : Option (List ℕ) → List ℕ
-label_text None = []
-label_text (Some label) = 40 ∷ (label ++ 41 ∷ [])
-
-abbrev pub priority_text : ℕ → Option (List ℕ) → List ℕ
-priority_text priority label = decimal priority ++ label_text label
-
-abbrev pub application_text : List ℕ → List ℕ → List ℕ
-application_text name arguments = name ++ 40 ∷ (arguments ++ 41 ∷ [])
-
-abbrev pub entry_text : Entry → List ℕ
-entry_text entry =
-    spelling entry.name ++ 44 ∷ (priority_text entry.priority entry.label ++ 44 ∷ application_text entry.application entry.arguments)
 
 -- ---- decimals
 

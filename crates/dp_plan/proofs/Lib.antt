@@ -5,8 +5,10 @@ mod DraftLemmas
 pub mod EntryAgain
 mod EntryLemmas
 mod HistoryLemmas
+mod ItemsAgain
 mod ItemsLemmas
 mod LoadedLemmas
 mod NamedLemmas
+pub mod PlanAgain
 pub mod RankingLemmas
 mod Rows
