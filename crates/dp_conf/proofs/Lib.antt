@@ -2,6 +2,7 @@ pub mod AnswersLemmas
 mod CutLemmas
 pub mod EscapeLemmas
 mod LevelLemmas
+pub mod LinesKnown
 mod LinesLemmas
 mod Rows
 pub mod ToldLemmas

@@ -1,5 +1,5 @@
 -- Texts that have none of a byte, trimmed texts, and texts that are cut at a byte.
-use Rattle.std.proofs.Common.{◌≡◌, ℕ, zero, suc, ◌+◌, ◌<◌, Bool, true, false, cond, not, ◌||◌, ◌==◌, eqb, List, [], ◌∷◌, ◌++◌, length, take, drop, get_or, Option, Some, None, refl, ap, ◌∙◌, sym, subst, arith, ltb, ltb-true, true-eqb}
+use Rattle.std.proofs.Common.{◌≡◌, ℕ, zero, suc, ◌+◌, ◌<◌, Bool, true, false, cond, not, ◌||◌, ◌==◌, eqb, List, [], ◌∷◌, ◌++◌, length, take, drop, get_or, Option, Some, None, refl, ap, ◌∙◌, sym, subst, arith, ltb, ltb-true, ltb-false}
 use Rattle.std.specs.List.{AllByRecursion, list_any, position_or_len, before_first, after_first}
 use Rattle.std.proofs.lemmas.List.Elements.{recursion_from_All, All-from_get_or}
 use Rattle.std.proofs.lemmas.List.Sums.{split_at_first, fails_before_first, passes_at_first}
@@ -129,7 +129,7 @@ pub record IsTrimmed (text : List ℕ) : Type 0 where
   pub begins : BeginsFirm text
   pub ends : trim_end text ≡ text
 
-trim_start-firm : (text : List ℕ) → BeginsFirm text → trim_start text ≡ text
+pub trim_start-firm : (text : List ℕ) → BeginsFirm text → trim_start text ≡ text
 trim_start-firm [] f = refl
 trim_start-firm (b ∷ text) f = ap (λ t. cond t (trim_start text) (b ∷ text)) f
 
@@ -144,7 +144,7 @@ firm-trim_start (b ∷ text) = by (is_blank b) refl (firm-trim_start text) where
   by true e rest = rest
   by false e rest = e
 
-before_kept-firm : (b : ℕ) (kept : List ℕ) → is_blank b ≡ false → before_kept b kept ≡ b ∷ kept
+pub before_kept-firm : (b : ℕ) (kept : List ℕ) → is_blank b ≡ false → before_kept b kept ≡ b ∷ kept
 before_kept-firm b [] e = ap (λ t. cond t [] (b ∷ [])) e
 before_kept-firm b (k ∷ kept) e = refl
 
@@ -232,3 +232,20 @@ trimmed-between b text last firm closed = record {
   begins = firm;
   ends = trim_end-behind (b ∷ text) last [] (before_kept-firm last [] closed);
 }
+
+-- ---- bytes of texts that are cut
+
+nowhere_by : (byte : ℕ) (text : List ℕ) → (t : Bool) → ltb (position_or_len (λ b. eqb b byte) text) (length text) ≡ t → cond {A = Option (List ℕ × List ℕ)} t (Some (before_first (λ b. eqb b byte) text, after_first (λ b. eqb b byte) text)) None ≡ None → Avoids byte text
+nowhere_by byte text true l e = absurd cc
+nowhere_by byte text false l e =
+    recursion_from_All (λ b. eqb b byte ≡ false) text (All-from_get_or (λ b. eqb b byte ≡ false) text 0 (λ i h. fails_before_first (λ b. eqb b byte) text i 0 (omega (arith, ltb-false _ _ l))))
+
+-- a text that is not cut does not have the byte
+pub cut_once-none : (byte : ℕ) (text : List ℕ) → cut_once byte text ≡ None → Avoids byte text
+cut_once-none byte text e = nowhere_by byte text (ltb (position_or_len (λ b. eqb b byte) text) (length text)) refl e
+
+pub each-cut_front : (P : ℕ → Type 0) (byte : ℕ) (text front rest : List ℕ) → IsCut byte text front rest → AllByRecursion P text → AllByRecursion P front
+each-cut_front P byte text front rest cut a = each-front P front (byte ∷ rest) (subst (AllByRecursion P) cut.whole a)
+
+pub each-cut_rest : (P : ℕ → Type 0) (byte : ℕ) (text front rest : List ℕ) → IsCut byte text front rest → AllByRecursion P text → AllByRecursion P rest
+each-cut_rest P byte text front rest cut a = (each-rest P front (byte ∷ rest) (subst (AllByRecursion P) cut.whole a)).1
