@@ -2,7 +2,8 @@ mod ApartLemmas
 pub mod Canonical
 mod ChangedLemmas
 mod DraftLemmas
-pub mod EntryAgain
+mod EntryAgain
+mod EntryKnown
 mod EntryLemmas
 mod HistoryLemmas
 mod ItemsAgain
