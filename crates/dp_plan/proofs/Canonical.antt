@@ -1,6 +1,7 @@
 -- What is known of each part of a dialplan that loads, so that a line can say the part again.
 use Rattle.std.proofs.Common.{◌≡◌, ℕ, ◌+◌, ◌==◌, Bool, false, List, [], ◌∷◌, ◌++◌, map, codes, decimal, Option, Some, None}
 use Rattle.std.specs.List.{AllByRecursion, flat_map}
+use Rattle.dp_conf.specs.Shallow.{is_too_deep}
 use Rattle.dp_conf.specs.Words.{same_word}
 use Rattle.dp_conf.specs.declared.lines.ConfLine.{ConfLine}
 use Rattle.dp_conf.specs.declared.lines.ConfLine.TheVariants.{Header, Pair}
@@ -8,7 +9,7 @@ use Rattle.dp_conf.proofs.TextLemmas.{Avoids, IsTrimmed}
 use Rattle.dp_pattern.specs.Name.{Meaning, IsName}
 use Rattle.dp_pattern.specs.Spelling.{spelling}
 use Rattle.dp_plan.specs.Contexts.{PlanContext}
-use Rattle.dp_plan.specs.EntryLine.{has_variable, has_opening, is_no_label}
+use Rattle.dp_plan.specs.EntryLine.{has_variable, is_no_label}
 use Rattle.dp_plan.specs.Plan.{PlanOf, Addition, is_taken, is_named}
 use Rattle.dp_plan.specs.Priority.{IsPriority}
 use Rattle.dp_plan.specs.declared.entry.Entry.{Entry}
@@ -53,7 +54,7 @@ pub record IsContextName (name : List ℕ) : Type 0 where
 pub record IsGlobal (global : GlobalVariable) : Type 0 where
   pub name : IsKey global.name
   pub value : IsValue global.value
-  pub accepted : has_opening global.value ≡ false
+  pub accepted : is_too_deep global.value ≡ false
 
 -- the name of an extension
 pub record IsExtension (name : Meaning) : Type 0 where
@@ -88,7 +89,7 @@ pub record IsEntry (entry : Entry) : Type 0 where
   pub label : IsLabelled entry.label
   pub application : IsApplication entry.application
   pub one_line : Avoids 10 entry.arguments
-  pub accepted : has_opening entry.arguments ≡ false
+  pub accepted : is_too_deep entry.arguments ≡ false
 
 -- the name that an include has
 pub record IsIncluded (name : List ℕ) : Type 0 where

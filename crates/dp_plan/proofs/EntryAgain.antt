@@ -11,19 +11,20 @@ use Rattle.dp_conf.specs.Answers.{◌>>=◌}
 use Rattle.dp_conf.specs.Blanks.{is_blank, trim}
 use Rattle.dp_conf.specs.Cut.{cut_once}
 use Rattle.dp_conf.specs.Numbers.{is_digit, with_digit, digits_number, number_of}
+use Rattle.dp_conf.specs.Shallow.{is_too_deep}
 use Rattle.dp_conf.specs.Words.{same_text}
 use Rattle.dp_conf.proofs.TextLemmas.{Avoids, each-append, each-weaker, any-none, none-any, IsTrimmed, trim-trimmed, trimmed-firm, trimmed-between, cut_once-here, cut_once-nowhere}
 use Rattle.dp_pattern.specs.Name.{Meaning, is_bad, meaning_of, IsName}
 use Rattle.dp_pattern.specs.Spelling.{spelling}
 use Rattle.dp_pattern.proofs.SpelledBytes.{spells_cleanly}
 use Rattle.dp_pattern.proofs.SpellingLemmas.{spelled_again}
-use Rattle.dp_plan.specs.EntryLine.{has_variable, has_opening, without_last, named, name_of, is_priority_word, written_number, written_of, before_label, is_no_label, label_within, label_of, number_after, written_priority, called_with, application_parts, application_by, application_of, is_expanded, entry_by, entry_of, exten_rest, exten_cut, exten_entry}
+use Rattle.dp_plan.specs.EntryLine.{has_variable, without_last, named, name_of, is_priority_word, written_number, written_of, before_label, is_no_label, label_within, label_of, number_after, written_priority, called_with, application_parts, application_by, application_of, shallow_at, entry_by, entry_of, exten_rest, exten_cut, exten_entry}
 use Rattle.dp_plan.specs.Faults.{at_line, name_at_line}
 use Rattle.dp_plan.specs.History.{History}
 use Rattle.dp_plan.specs.Priority.{IsPriority, most_priority}
 use Rattle.dp_plan.specs.declared.fault.Word.TheVariants.{Hint, CallerId, Variable, OldForm, PriorityWord}
 use Rattle.dp_plan.specs.declared.fault.PlanKind.{PlanKind}
-use Rattle.dp_plan.specs.declared.fault.PlanKind.TheVariants.{BadPriority, BadLabel, LeftOut, NotYet}
+use Rattle.dp_plan.specs.declared.fault.PlanKind.TheVariants.{BadPriority, BadLabel, LeftOut, TooDeep}
 use Rattle.dp_plan.specs.declared.fault.LoadFault.{LoadFault}
 use Rattle.dp_plan.specs.declared.fault.LoadFault.TheVariants.{Plan}
 use Rattle.dp_plan.specs.declared.numbering.Written.{Written}
@@ -205,11 +206,15 @@ name_of-again line name fine =
 
 -- ---- the entry
 
-entry_of-again : (history : History) (line : ℕ) (context : List ℕ) (entry : Entry) → IsEntry entry → entry_of history line context (Ok entry.name) (priority_text entry.priority entry.label) (Ok (entry.application, entry.arguments)) ≡ Ok entry
-entry_of-again history line context entry fine =
-    let application : Result (List ℕ × List ℕ) PlanKind = Ok (entry.application, entry.arguments) in
-    ap (λ t. cond {A = Result Entry LoadFault} t (Err (Plan line NotYet)) (entry_by history line context entry.name (priority_text entry.priority entry.label) (Ok (entry.application, entry.arguments)))) fine.accepted
-    ∙ ap (λ (w : Result (Written × Option (List ℕ)) PlanKind). at_line line w >>= λ written. at_line line (number_after (history.priority context entry.name) written.0) >>= λ number. at_line line application >>= λ called. Ok (record { name = entry.name; priority = number; label = written.1; application = called.0; arguments = called.1 })) (written_priority-again entry.priority entry.label fine.priority fine.label)
+shallow-again : (line : ℕ) (text : List ℕ) → is_too_deep text ≡ false → shallow_at line text ≡ Ok text
+shallow-again line text accepted = ap (λ t. cond {A = Result (List ℕ) LoadFault} t (Err (Plan line TooDeep)) (Ok text)) accepted
+
+entry_by-again : (history : History) (line : ℕ) (context : List ℕ) (entry : Entry) → IsEntry entry → entry_by history line context entry.name (priority_text entry.priority entry.label) (application_text entry.application entry.arguments) ≡ Ok entry
+entry_by-again history line context entry fine =
+    let text : List ℕ = application_text entry.application entry.arguments in
+    ap (λ (w : Result (Written × Option (List ℕ)) PlanKind). at_line line w >>= λ written. at_line line (number_after (history.priority context entry.name) written.0) >>= λ number. at_line line (application_of text) >>= λ called. shallow_at line called.1 >>= λ arguments. Ok (record { name = entry.name; priority = number; label = written.1; application = called.0; arguments = arguments })) (written_priority-again entry.priority entry.label fine.priority fine.label)
+    ∙ (ap (λ (c : Result (List ℕ × List ℕ) PlanKind). at_line line c >>= λ called. shallow_at line called.1 >>= λ arguments. Ok (record { name = entry.name; priority = entry.priority; label = entry.label; application = called.0; arguments = arguments })) (application_of-again entry.application entry.arguments fine.application)
+    ∙ ap (λ (r : Result (List ℕ) LoadFault). r >>= λ arguments. Ok (record { name = entry.name; priority = entry.priority; label = entry.label; application = entry.application; arguments = arguments })) (shallow-again line entry.arguments fine.accepted))
 
 -- the value of an entry's line is read as the entry
 pub exten_entry-again : (history : History) (line : ℕ) (context : List ℕ) (entry : Entry) → IsEntry entry → exten_entry history line context (entry_text entry) ≡ Ok entry
@@ -219,6 +224,6 @@ exten_entry-again history line context entry fine =
     let a : List ℕ = application_text entry.application entry.arguments in
     ap (exten_cut history line context) (cut_once-here 44 (spelling entry.name) (priority_text entry.priority entry.label ++ 44 ∷ application_text entry.application entry.arguments) fine.name.no_comma)
     ∙ (ap (exten_rest history line context (trim (spelling entry.name))) (cut_once-here 44 (priority_text entry.priority entry.label) (application_text entry.application entry.arguments) (no_comma entry.priority entry.label fine.priority fine.label))
-    ∙ ((λ i. entry_of history line context (name_of line (trim-trimmed (spelling entry.name) (trimmed-firm (spelling entry.name) (spelling-firm entry.name fine.name.known)) i)) (trim-trimmed p (priority_text-trimmed entry.priority entry.label fine.priority) i) (application_of (trim-trimmed a (application_text-trimmed entry.application entry.arguments fine.application) i)))
-    ∙ ((λ i. entry_of history line context (name_of-again line entry.name fine.name i) (priority_text entry.priority entry.label) (application_of-again entry.application entry.arguments fine.application i))
-    ∙ entry_of-again history line context entry fine)))
+    ∙ ((λ i. entry_of history line context (name_of line (trim-trimmed (spelling entry.name) (trimmed-firm (spelling entry.name) (spelling-firm entry.name fine.name.known)) i)) (trim-trimmed p (priority_text-trimmed entry.priority entry.label fine.priority) i) (trim-trimmed a (application_text-trimmed entry.application entry.arguments fine.application) i))
+    ∙ ((λ i. entry_of history line context (name_of-again line entry.name fine.name i) (priority_text entry.priority entry.label) (application_text entry.application entry.arguments))
+    ∙ entry_by-again history line context entry fine)))

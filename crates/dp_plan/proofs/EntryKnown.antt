@@ -8,6 +8,7 @@ use Rattle.dp_conf.specs.Answers.{◌>>=◌}
 use Rattle.dp_conf.specs.Blanks.{trim}
 use Rattle.dp_conf.specs.Cut.{cut_once}
 use Rattle.dp_conf.specs.Numbers.{number_of}
+use Rattle.dp_conf.specs.Shallow.{is_too_deep}
 use Rattle.dp_conf.specs.Words.{same_text}
 use Rattle.dp_conf.proofs.LinesKnown.{IsLineByte, AreLineBytes}
 use Rattle.dp_conf.proofs.TextLemmas.{each-weaker, each-trim, Avoids, none-any, IsCut, cut_once-is, cut_once-none, each-cut_front, each-cut_rest, IsTrimmed, trimmed-trim}
@@ -16,13 +17,13 @@ use Rattle.dp_pattern.specs.Spelling.{spelling, is_own}
 use Rattle.dp_pattern.specs.declared.fault.NameFault.{NameFault}
 use Rattle.dp_pattern.proofs.NameLemmas.{each_of}
 use Rattle.dp_pattern.proofs.SpelledBytes.{spells_cleanly}
-use Rattle.dp_plan.specs.EntryLine.{has_variable, has_opening, without_last, named, name_of, name_again, is_priority_word, written_number, written_of, before_label, is_no_label, label_within, label_of, number_after, written_priority, called_with, application_parts, application_by, application_of, is_expanded, entry_by, entry_of, exten_rest, exten_cut, exten_entry, same_cut, same_entry}
+use Rattle.dp_plan.specs.EntryLine.{has_variable, without_last, named, name_of, name_again, is_priority_word, written_number, written_of, before_label, is_no_label, label_within, label_of, number_after, written_priority, called_with, application_parts, application_by, application_of, shallow_at, entry_by, entry_of, exten_rest, exten_cut, exten_entry, same_cut, same_entry}
 use Rattle.dp_plan.specs.Faults.{at_line, name_at_line}
 use Rattle.dp_plan.specs.History.{History}
 use Rattle.dp_plan.specs.Priority.{IsPriority, most_priority}
 use Rattle.dp_plan.specs.declared.fault.Word.TheVariants.{Hint, CallerId, Variable, OldForm, PriorityWord}
 use Rattle.dp_plan.specs.declared.fault.PlanKind.{PlanKind}
-use Rattle.dp_plan.specs.declared.fault.PlanKind.TheVariants.{BadPriority, NoPrevious, BadLabel, BadApplication, LeftOut, PriorityLimit, ShortLine, NotYet}
+use Rattle.dp_plan.specs.declared.fault.PlanKind.TheVariants.{BadPriority, NoPrevious, BadLabel, BadApplication, LeftOut, TooDeep, PriorityLimit, ShortLine}
 use Rattle.dp_plan.specs.declared.fault.LoadFault.{LoadFault}
 use Rattle.dp_plan.specs.declared.fault.LoadFault.TheVariants.{Plan}
 use Rattle.dp_plan.specs.declared.numbering.Written.{Written}
@@ -30,7 +31,7 @@ use Rattle.dp_plan.specs.declared.numbering.Written.TheVariants.{Number, TooGrea
 use Rattle.dp_plan.specs.declared.entry.Entry.{Entry}
 use Rattle.dp_plan.proofs.Canonical.{HasFirst, IsExtension, IsLabel, IsLabelled, IsApplication, IsEntry}
 
-one_line : (text : List ℕ) → AreLineBytes text → Avoids 10 text
+pub one_line : (text : List ℕ) → AreLineBytes text → Avoids 10 text
 one_line text bytes = each-weaker IsLineByte (λ b. (b == 10) ≡ false) (λ b line. line.1) text bytes
 
 small : (text : List ℕ) → AreLineBytes text → AllByRecursion (λ b. b < 256) text
@@ -230,63 +231,56 @@ application_of-known text called line e = by (cut_once 40 text) refl e
 
 -- ---- the entry
 
-entry_by-known : (history : History) (line : ℕ) (context : List ℕ) (name : Meaning) (priority : List ℕ) (called : List ℕ × List ℕ) (entry : Entry) → IsExtension name → AreLineBytes priority → Avoids 44 priority → IsCalled called → has_opening called.1 ≡ false → entry_by history line context name priority (Ok called) ≡ Ok entry → IsEntry entry
-entry_by-known history line context name priority called entry extension bytes avoids application accepted e = by (written_priority priority) refl e
+pub shallow-known : (line : ℕ) (text arguments : List ℕ) → shallow_at line text ≡ Ok arguments → (text ≡ arguments) × (is_too_deep arguments ≡ false)
+shallow-known line text arguments e = by (is_too_deep text) refl e
   where
-    make : Written × Option (List ℕ) → ℕ → Entry
-    make written number = record { name = name; priority = number; label = written.1; application = called.0; arguments = called.1 }
+    by : (t : Bool) → is_too_deep text ≡ t → cond {A = Result (List ℕ) LoadFault} t (Err (Plan line TooDeep)) (Ok text) ≡ Ok arguments → (text ≡ arguments) × (is_too_deep arguments ≡ false)
+    by true deep e = absurd cc
+    by false deep e =
+        let same : text ≡ arguments = cc in (same, subst (λ (t : List ℕ). is_too_deep t ≡ false) same deep)
 
-    second : (written : Written × Option (List ℕ)) → IsPriorityText written → (n : Result ℕ PlanKind) → number_after (history.priority context name) written.0 ≡ n → (at_line line n >>= λ number. Ok (record { name = name; priority = number; label = written.1; application = called.0; arguments = called.1 })) ≡ Ok entry → IsEntry entry
-    second written fine (Err kind) r e = absurd cc
-    second written fine (Ok number) r e =
-        let same : (let made : Entry = record { name = name; priority = number; label = written.1; application = called.0; arguments = called.1 } in made ≡ entry) = cc in
+entry_by-known : (history : History) (line : ℕ) (context : List ℕ) (name : Meaning) (priority application : List ℕ) (entry : Entry) → IsExtension name → AreLineBytes priority → Avoids 44 priority → Avoids 10 application → entry_by history line context name priority application ≡ Ok entry → IsEntry entry
+entry_by-known history line context name priority application entry extension bytes avoids application_line e = by (written_priority priority) refl e
+  where
+    fourth : (written : Written × Option (List ℕ)) → IsPriorityText written → (number : ℕ) → number_after (history.priority context name) written.0 ≡ Ok number → (called : List ℕ × List ℕ) → IsCalled called → (a : Result (List ℕ) LoadFault) → shallow_at line called.1 ≡ a → (a >>= λ arguments. Ok (record { name = name; priority = number; label = written.1; application = called.0; arguments = arguments })) ≡ Ok entry → IsEntry entry
+    fourth written fine number r called calls (Err fault) shallow e = absurd cc
+    fourth written fine number r called calls (Ok arguments) shallow e =
+        let given = shallow-known line called.1 arguments shallow in
+        let same : (let made : Entry = record { name = name; priority = number; label = written.1; application = called.0; arguments = arguments } in made ≡ entry) = cc in
         subst IsEntry same (record {
           name = extension;
           priority = number_after-known (history.priority context name) written.0 number fine.number r;
           label = fine.label;
-          application = application.name;
-          one_line = application.one_line;
-          accepted = accepted;
+          application = calls.name;
+          one_line = subst (Avoids 10) given.0 calls.one_line;
+          accepted = given.1;
         })
 
-    by : (w : Result (Written × Option (List ℕ)) PlanKind) → written_priority priority ≡ w → (at_line line w >>= λ written. at_line line (number_after (history.priority context name) written.0) >>= λ number. Ok (record { name = name; priority = number; label = written.1; application = called.0; arguments = called.1 })) ≡ Ok entry → IsEntry entry
+    third : (written : Written × Option (List ℕ)) → IsPriorityText written → (number : ℕ) → number_after (history.priority context name) written.0 ≡ Ok number → (c : Result (List ℕ × List ℕ) PlanKind) → application_of application ≡ c → (at_line line c >>= λ called. shallow_at line called.1 >>= λ arguments. Ok (record { name = name; priority = number; label = written.1; application = called.0; arguments = arguments })) ≡ Ok entry → IsEntry entry
+    third written fine number r (Err kind) c e = absurd cc
+    third written fine number r (Ok called) c e = fourth written fine number r called (application_of-known application called application_line c) (shallow_at line called.1) refl e
+
+    second : (written : Written × Option (List ℕ)) → IsPriorityText written → (n : Result ℕ PlanKind) → number_after (history.priority context name) written.0 ≡ n → (at_line line n >>= λ number. at_line line (application_of application) >>= λ called. shallow_at line called.1 >>= λ arguments. Ok (record { name = name; priority = number; label = written.1; application = called.0; arguments = arguments })) ≡ Ok entry → IsEntry entry
+    second written fine (Err kind) r e = absurd cc
+    second written fine (Ok number) r e = third written fine number r (application_of application) refl e
+
+    by : (w : Result (Written × Option (List ℕ)) PlanKind) → written_priority priority ≡ w → (at_line line w >>= λ written. at_line line (number_after (history.priority context name) written.0) >>= λ number. at_line line (application_of application) >>= λ called. shallow_at line called.1 >>= λ arguments. Ok (record { name = name; priority = number; label = written.1; application = called.0; arguments = arguments })) ≡ Ok entry → IsEntry entry
     by (Err kind) w e = absurd cc
     by (Ok written) w e = second written (written_priority-known priority written bytes avoids w) (number_after (history.priority context name) written.0) refl e
 
--- an application that has a fault makes no entry
-entry_by-fault : (history : History) (line : ℕ) (context : List ℕ) (name : Meaning) (priority : List ℕ) (kind : PlanKind) (entry : Entry) → entry_by history line context name priority (Err kind) ≡ Ok entry → ⊥
-entry_by-fault history line context name priority kind entry e = by (written_priority priority) e
-  where
-    second : (n : Result ℕ PlanKind) → (at_line line n >>= λ number. let fault : Result Entry LoadFault = Err (Plan line kind) in fault) ≡ Ok entry → ⊥
-    second (Err k) e = cc
-    second (Ok number) e = cc
-
-    by : (w : Result (Written × Option (List ℕ)) PlanKind) → (at_line line w >>= λ written. at_line line (number_after (history.priority context name) written.0) >>= λ number. let fault : Result Entry LoadFault = Err (Plan line kind) in fault) ≡ Ok entry → ⊥
-    by (Err k) e = cc
-    by (Ok written) e = second (number_after (history.priority context name) written.0) e
-
-entry_of-known : (history : History) (line : ℕ) (context : List ℕ) (name : Result Meaning LoadFault) (priority : List ℕ) (application : Result (List ℕ × List ℕ) PlanKind) (entry : Entry) → ((n : Meaning) → name ≡ Ok n → IsExtension n) → AreLineBytes priority → Avoids 44 priority → ((called : List ℕ × List ℕ) → application ≡ Ok called → IsCalled called) → entry_of history line context name priority application ≡ Ok entry → IsEntry entry
-entry_of-known history line context (Err fault) priority (Err kind) entry names bytes avoids calls e = absurd cc
-entry_of-known history line context (Ok name) priority (Err kind) entry names bytes avoids calls e = absurd (entry_by-fault history line context name priority kind entry e)
-entry_of-known history line context (Err fault) priority (Ok called) entry names bytes avoids calls e = by (has_opening called.1) e
-  where
-    by : (t : Bool) → cond {A = Result Entry LoadFault} t (Err (Plan line NotYet)) (Err fault) ≡ Ok entry → IsEntry entry
-    by true e = absurd cc
-    by false e = absurd cc
-entry_of-known history line context (Ok name) priority (Ok called) entry names bytes avoids calls e = by (has_opening called.1) refl e
-  where
-    by : (t : Bool) → has_opening called.1 ≡ t → cond {A = Result Entry LoadFault} t (Err (Plan line NotYet)) (entry_by history line context name priority (Ok called)) ≡ Ok entry → IsEntry entry
-    by true accepted e = absurd cc
-    by false accepted e = entry_by-known history line context name priority called entry (names name refl) bytes avoids (calls called refl) accepted e
+entry_of-known : (history : History) (line : ℕ) (context : List ℕ) (name : Result Meaning LoadFault) (priority application : List ℕ) (entry : Entry) → ((n : Meaning) → name ≡ Ok n → IsExtension n) → AreLineBytes priority → Avoids 44 priority → Avoids 10 application → entry_of history line context name priority application ≡ Ok entry → IsEntry entry
+entry_of-known history line context (Err fault) priority application entry names bytes avoids application_line e = absurd cc
+entry_of-known history line context (Ok name) priority application entry names bytes avoids application_line e =
+    entry_by-known history line context name priority application entry (names name refl) bytes avoids application_line e
 
 exten_rest-known : (history : History) (line : ℕ) (context name rest : List ℕ) (cut : Option (List ℕ × List ℕ)) (entry : Entry) → AreLineBytes name → Avoids 44 name → AreLineBytes rest → cut_once 44 rest ≡ cut → exten_rest history line context name cut ≡ Ok entry → IsEntry entry
 exten_rest-known history line context name rest None entry name_bytes name_avoids bytes c e = absurd cc
 exten_rest-known history line context name rest (Some cut) entry name_bytes name_avoids bytes c e =
     let is = cut_once-is 44 rest cut.0 cut.1 c in
-    entry_of-known history line context (name_of line name) (trim cut.0) (application_of (trim cut.1)) entry
+    entry_of-known history line context (name_of line name) (trim cut.0) (trim cut.1) entry
     (λ n read. name_of-known line name n name_bytes name_avoids read)
     (each-trim IsLineByte cut.0 (each-cut_front IsLineByte 44 rest cut.0 cut.1 is bytes)) (each-trim (λ b. (b == 44) ≡ false) cut.0 is.avoids)
-    (λ called read. application_of-known (trim cut.1) called (one_line (trim cut.1) (each-trim IsLineByte cut.1 (each-cut_rest IsLineByte 44 rest cut.0 cut.1 is bytes))) read) e
+    (one_line (trim cut.1) (each-trim IsLineByte cut.1 (each-cut_rest IsLineByte 44 rest cut.0 cut.1 is bytes))) e
 
 exten_cut-known : (history : History) (line : ℕ) (context value : List ℕ) (cut : Option (List ℕ × List ℕ)) (entry : Entry) → AreLineBytes value → cut_once 44 value ≡ cut → exten_cut history line context cut ≡ Ok entry → IsEntry entry
 exten_cut-known history line context value None entry bytes c e = absurd cc
@@ -318,10 +312,10 @@ same_cut-known : (history : History) (line : ℕ) (context value : List ℕ) (cu
 same_cut-known history line context value None entry last bytes c e = absurd (same_short line history.name entry e)
 same_cut-known history line context value (Some cut) entry last bytes c e =
     let is = cut_once-is 44 value cut.0 cut.1 c in
-    entry_of-known history line context (name_again line history.name) (trim cut.0) (application_of (trim cut.1)) entry
+    entry_of-known history line context (name_again line history.name) (trim cut.0) (trim cut.1) entry
     (λ n read. name_again-known line history.name n last read)
     (each-trim IsLineByte cut.0 (each-cut_front IsLineByte 44 value cut.0 cut.1 is bytes)) (each-trim (λ b. (b == 44) ≡ false) cut.0 is.avoids)
-    (λ called read. application_of-known (trim cut.1) called (one_line (trim cut.1) (each-trim IsLineByte cut.1 (each-cut_rest IsLineByte 44 value cut.0 cut.1 is bytes))) read) e
+    (one_line (trim cut.1) (each-trim IsLineByte cut.1 (each-cut_rest IsLineByte 44 value cut.0 cut.1 is bytes))) e
 
 -- the entry of a `same` line
 pub same_entry-known : (history : History) (line : ℕ) (context value : List ℕ) (entry : Entry) → IsLastName history.name → AreLineBytes value → same_entry history line context value ≡ Ok entry → IsEntry entry

@@ -9,13 +9,13 @@ use Rattle.dp_conf.specs.declared.lines.ConfLine.{ConfLine}
 use Rattle.dp_conf.specs.declared.lines.ConfLine.TheVariants.{Header, Pair}
 use Rattle.dp_conf.proofs.TextLemmas.{any-none}
 use Rattle.dp_plan.specs.Contexts.{PlanContext}
-use Rattle.dp_plan.specs.EntryLine.{has_opening, exten_entry}
+use Rattle.dp_plan.specs.EntryLine.{shallow_at, exten_entry}
 use Rattle.dp_plan.specs.History.{History, latest, section_in, history_of}
 use Rattle.dp_plan.specs.Items.{section_named, global_item, include_item, entry_item, context_item, just, pair_item, line_item, items_after}
 use Rattle.dp_plan.specs.Plan.{PlanOf}
 use Rattle.dp_plan.specs.declared.entry.Entry.{Entry}
 use Rattle.dp_plan.specs.declared.fault.Word.TheVariants.{IncludeTimes}
-use Rattle.dp_plan.specs.declared.fault.PlanKind.TheVariants.{LeftOut, NotYet}
+use Rattle.dp_plan.specs.declared.fault.PlanKind.TheVariants.{LeftOut, TooDeep}
 use Rattle.dp_plan.specs.declared.fault.LoadFault.{LoadFault}
 use Rattle.dp_plan.specs.declared.fault.LoadFault.TheVariants.{Plan}
 use Rattle.dp_plan.specs.declared.item.Item.{Item}
@@ -93,7 +93,7 @@ section_named-context name fine =
 global_item-again : (line : ℕ) (global : GlobalVariable) → IsGlobal global → global_item line global.name global.value ≡ Ok (Sets global)
 global_item-again line global fine =
     ap (λ (key : List ℕ). global_item line key global.value) fine.name.is
-    ∙ (ap (λ t. cond {A = Result Item LoadFault} t (Err (Plan line NotYet)) (Ok (Sets (record { name = fine.name.first ∷ fine.name.rest; value = global.value })))) fine.accepted
+    ∙ (ap (λ t. (cond {A = Result (List ℕ) LoadFault} t (Err (Plan line TooDeep)) (Ok global.value)) >>= λ shallow. Ok (Sets (record { name = fine.name.first ∷ fine.name.rest; value = shallow }))) fine.accepted
     ∙ ap (λ (key : List ℕ). Ok (Sets (record { name = key; value = global.value }))) (sym fine.name.is))
 
 exten_item-again : (history : History) (context : List ℕ) (line : ℕ) (entry : Entry) → IsEntry entry → context_item history context line (codes "exten") (entry_text entry) ≡ Ok (Adds line context entry)

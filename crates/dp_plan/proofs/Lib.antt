@@ -7,6 +7,7 @@ mod EntryKnown
 mod EntryLemmas
 mod HistoryLemmas
 mod ItemsAgain
+mod ItemsKnown
 mod ItemsLemmas
 mod LoadedLemmas
 mod NamedLemmas
