@@ -12,5 +12,6 @@ mod ItemsLemmas
 mod LoadedLemmas
 mod NamedLemmas
 pub mod PlanAgain
+pub mod PlanKnown
 pub mod RankingLemmas
 mod Rows
