@@ -1,2 +1,3 @@
 pub mod LinesAgain
+pub mod ListingAgain
 pub mod ListingLemmas

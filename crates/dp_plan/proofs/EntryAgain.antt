@@ -13,7 +13,7 @@ use Rattle.dp_conf.specs.Cut.{cut_once}
 use Rattle.dp_conf.specs.Numbers.{is_digit, with_digit, digits_number, number_of}
 use Rattle.dp_conf.specs.Shallow.{is_too_deep}
 use Rattle.dp_conf.specs.Words.{same_text}
-use Rattle.dp_conf.proofs.TextLemmas.{Avoids, each-append, each-weaker, any-none, none-any, IsTrimmed, trim-trimmed, trimmed-firm, trimmed-between, cut_once-here, cut_once-nowhere}
+use Rattle.dp_conf.proofs.TextLemmas.{Avoids, each-append, each-weaker, any-none, none-any, IsTrimmed, trim-trimmed, trimmed-firm, trimmed-between, BeginsFirm, trim_end-behind, cut_once-here, cut_once-nowhere}
 use Rattle.dp_pattern.specs.Name.{Meaning, is_bad, meaning_of, IsName}
 use Rattle.dp_pattern.specs.Spelling.{spelling}
 use Rattle.dp_pattern.proofs.SpelledBytes.{spells_cleanly}
@@ -30,7 +30,7 @@ use Rattle.dp_plan.specs.declared.fault.LoadFault.TheVariants.{Plan}
 use Rattle.dp_plan.specs.declared.numbering.Written.{Written}
 use Rattle.dp_plan.specs.declared.numbering.Written.TheVariants.{Number, TooGreat, Next}
 use Rattle.dp_plan.specs.declared.entry.Entry.{Entry}
-use Rattle.dp_plan.proofs.Canonical.{HasFirst, IsExtension, IsLabel, IsLabelled, IsApplication, IsEntry, label_text, priority_text, application_text, entry_text}
+use Rattle.dp_plan.proofs.Canonical.{HasFirst, IsExtension, IsLabel, IsLabelled, IsApplication, IsEntry, IsValue, label_text, priority_text, application_text, entry_text}
 use Rattle.dp_plan.proofs.EntryLemmas.{without_last-found}
 
 -- ---- decimals
@@ -227,3 +227,42 @@ exten_entry-again history line context entry fine =
     ∙ ((λ i. entry_of history line context (name_of line (trim-trimmed (spelling entry.name) (trimmed-firm (spelling entry.name) (spelling-firm entry.name fine.name.known)) i)) (trim-trimmed p (priority_text-trimmed entry.priority entry.label fine.priority) i) (trim-trimmed a (application_text-trimmed entry.application entry.arguments fine.application) i))
     ∙ ((λ i. entry_of history line context (name_of-again line entry.name fine.name i) (priority_text entry.priority entry.label) (application_text entry.application entry.arguments))
     ∙ entry_by-again history line context entry fine)))
+
+-- ---- the value of the line
+
+spelling-one_line : (name : Meaning) → IsName name → Avoids 10 (spelling name)
+spelling-one_line name known =
+    each-weaker (λ b. is_bad b ≡ false) (λ b. (b == 10) ≡ false) (λ b e. grind (arith, nat_tests)) (spelling name) (none-any is_bad (spelling name) (spells_cleanly.fine name known))
+
+priority_text-one_line : (priority : ℕ) (label : Option (List ℕ)) → IsPriority priority → IsLabelled label → Avoids 10 (priority_text priority label)
+priority_text-one_line priority label fine labelled =
+    let digits = decimal-writes priority (omega (arith, fine.1)) in
+    each-append (λ b. (b == 10) ≡ false) (decimal priority) (label_text label) (subst (Avoids 10) (sym digits.is) (digits-avoid 10 (omega arith) (digits.first ∷ digits.rest) digits.digits)) (by label labelled)
+  where
+    by : (label : Option (List ℕ)) → IsLabelled label → Avoids 10 (label_text label)
+    by None l = tt
+    by (Some label) l = (refl, each-append (λ b. (b == 10) ≡ false) label (41 ∷ []) l.one_line (refl, tt))
+
+firm-before : (text rest : List ℕ) → AllByRecursion (λ b. is_blank b ≡ false) text → BeginsFirm (text ++ 44 ∷ rest)
+firm-before [] rest firm = refl
+firm-before (b ∷ text) rest firm = firm.0
+
+-- the value of an entry's line is trimmed and one line
+pub entry_text-value : (entry : Entry) → IsEntry entry → IsValue (entry_text entry)
+entry_text-value entry fine =
+    let arguments : List ℕ = entry.arguments ++ 41 ∷ [] in
+    let application : List ℕ = application_text entry.application entry.arguments in
+    let priority : List ℕ = priority_text entry.priority entry.label in
+    let closed = trim_end-behind (40 ∷ entry.arguments) 41 [] refl in
+    let called = trim_end-behind (44 ∷ entry.application) 40 (entry.arguments ++ 41 ∷ []) closed in
+    let numbered = trim_end-behind (44 ∷ priority_text entry.priority entry.label) 44 (application_text entry.application entry.arguments) called in
+    record {
+      trimmed = record {
+        begins = firm-before (spelling entry.name) (priority_text entry.priority entry.label ++ 44 ∷ application_text entry.application entry.arguments) (spelling-firm entry.name fine.name.known);
+        ends = trim_end-behind (spelling entry.name) 44 (priority_text entry.priority entry.label ++ 44 ∷ application_text entry.application entry.arguments) numbered;
+      };
+      one_line = each-append (λ b. (b == 10) ≡ false) (spelling entry.name) (44 ∷ (priority_text entry.priority entry.label ++ 44 ∷ application_text entry.application entry.arguments)) (spelling-one_line entry.name fine.name.known)
+      (refl, each-append (λ b. (b == 10) ≡ false) (priority_text entry.priority entry.label) (44 ∷ application_text entry.application entry.arguments) (priority_text-one_line entry.priority entry.label fine.priority fine.label)
+      (refl, each-append (λ b. (b == 10) ≡ false) entry.application (40 ∷ (entry.arguments ++ 41 ∷ [])) fine.application.one_line
+      (refl, each-append (λ b. (b == 10) ≡ false) entry.arguments (41 ∷ []) fine.one_line (refl, tt))));
+    }

@@ -2,7 +2,7 @@ mod ApartLemmas
 pub mod Canonical
 mod ChangedLemmas
 mod DraftLemmas
-mod EntryAgain
+pub mod EntryAgain
 mod EntryKnown
 mod EntryLemmas
 mod HistoryLemmas
