@@ -4,4 +4,4 @@
 mod listing;
 
 pub use dp_plan::{Dialplan, NoMemory};
-pub use listing::list;
+pub use listing::{list, listings_load_again};

@@ -1,7 +1,9 @@
 //! The canonical listing of a dialplan.
 ghost use Rattle.std.specs.Prelude.{◌≡◌, ◌++◌, [], ◌∷◌, IfOk, OnOk, map};
 ghost use Rattle.dp_conf.specs.Escape.{escaped};
+ghost use Rattle.dp_lister.specs.Again.{IsLoaded, LoadsAs};
 ghost use Rattle.dp_lister.specs.Listing as spec;
+ghost use Rattle.dp_plan.specs.Plan.{PlanOf};
 
 use dp_conf::{Text, push_escaped};
 use dp_plan::{Context, Dialplan, Entry, GlobalVariable, NoMemory};
@@ -149,14 +151,9 @@ fn push_contexts(alloc: Global, out: &mut Vec<u8>, contexts: &[Context]) -> Resu
     Ok(())
 }
 
-/// The canonical listing of a dialplan: its global variables, if it has any, below `[globals]`, and each context with its
-/// entries and then its includes, all in the order of the file. A name of an extension stands in its canonical spelling,
-/// each priority as a number, each application with parentheses, and each `;` as `\;`. That there is one such text is
-/// this program's own choice.
-///
-/// The error comes only where a growth was refused.
+/// The lines of the global variables and of the contexts.
 #[tactic(auto, unfolding(crate::specs::Listing::listing))]
-pub fn list(alloc: Global, plan: &Dialplan) -> Result<Vec<u8>, NoMemory>
+fn listing_of(alloc: Global, plan: &Dialplan) -> Result<Vec<u8>, NoMemory>
     ensures { IfOk result (λ text. text.items ≡ spec.listing plan.now) }
 {
     let mut out = Vec::new(alloc);
@@ -164,3 +161,26 @@ pub fn list(alloc: Global, plan: &Dialplan) -> Result<Vec<u8>, NoMemory>
     push_contexts(alloc, &mut out, plan.contexts())?;
     Ok(out)
 }
+
+/// The canonical listing of a dialplan: its global variables, if it has any, below `[globals]`, and each context with its
+/// entries and then its includes, all in the order of the file. A name of an extension stands in its canonical spelling,
+/// each priority as a number, each application with parentheses, and each `;` as `\;`. That there is one such text is
+/// this program's own choice.
+///
+/// The listing of a dialplan that was loaded loads as this dialplan again, with no note but `UnknownContext`.
+///
+/// The error comes only where a growth was refused.
+pub fn list(alloc: Global, plan: &Dialplan) -> Result<Vec<u8>, NoMemory>
+    ensures listing { IfOk result (λ text. text.items ≡ spec.listing plan.now) }
+    ensures again { IsLoaded plan.now → IfOk result (λ text. LoadsAs plan.now text.items) }
+{
+    let text = listing_of(alloc, plan)?;
+    Ok(text)
+}
+
+/// The listing of each dialplan that some text loads as loads as this dialplan again, with no note but
+/// `UnknownContext`: the same global variables, contexts, entries and includes, each name by what it means. It does
+/// nothing.
+pub fn listings_load_again()
+    ensures { (plan : PlanOf) → IsLoaded plan → LoadsAs plan (spec.listing plan) }
+{}
