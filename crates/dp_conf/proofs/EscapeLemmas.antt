@@ -9,14 +9,14 @@ use Rattle.dp_conf.specs.Escape.{escaped}
 use Rattle.dp_conf.specs.Lines.{comment_start, unescaped, content_of, line_feed}
 
 -- one byte more of an escaped text: a semicolon, or another byte
-escaped-semicolon : (b : ℕ) (text : List ℕ) → (b == byte ";") ≡ true → escaped (b ∷ text) ≡ byte "\\" ∷ b ∷ escaped text
+pub escaped-semicolon : (b : ℕ) (text : List ℕ) → (b == byte ";") ≡ true → escaped (b ∷ text) ≡ byte "\\" ∷ b ∷ escaped text
 escaped-semicolon b text e = ap (λ t. cond t (byte "\\" ∷ b ∷ []) (b ∷ []) ++ escaped text) e
 
-escaped-other : (b : ℕ) (text : List ℕ) → (b == byte ";") ≡ false → escaped (b ∷ text) ≡ b ∷ escaped text
+pub escaped-other : (b : ℕ) (text : List ℕ) → (b == byte ";") ≡ false → escaped (b ∷ text) ≡ b ∷ escaped text
 escaped-other b text e = ap (λ t. cond t (byte "\\" ∷ b ∷ []) (b ∷ []) ++ escaped text) e
 
 -- no `;` of an escaped text begins a comment
-comment_start-escaped : (previous : ℕ) (text : List ℕ) → comment_start previous (escaped text) ≡ length (escaped text)
+pub comment_start-escaped : (previous : ℕ) (text : List ℕ) → comment_start previous (escaped text) ≡ length (escaped text)
 comment_start-escaped previous [] = refl
 comment_start-escaped previous (b ∷ text) = by (b == byte ";") refl (comment_start-escaped b text)
   where

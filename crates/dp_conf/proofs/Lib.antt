@@ -1,6 +1,7 @@
 pub mod AnswersLemmas
 mod CutLemmas
 pub mod EscapeLemmas
+mod EscapeParts
 mod LevelLemmas
 pub mod LinesKnown
 mod LinesLemmas

@@ -1,19 +1,18 @@
 //! The text of a line that says what it is given.
-ghost use Rattle.std.specs.Prelude.{◌≡◌, ◌++◌, IfOk, OnOk};
+ghost use Rattle.std.specs.Prelude.{◌≡◌, ◌++◌, IfOk, OnOk, codes};
 ghost use Rattle.dp_conf.specs.Blanks.{trim};
 ghost use Rattle.dp_conf.specs.Escape as spec;
 ghost use Rattle.dp_conf.specs.Lines.{content_of};
 
+use crate::cut::cut_once;
 use std::alloc::{AllocError, Global};
 
-/// Adds a byte as a line writes it.
-fn push_byte(out: &mut Vec<u8>, byte: u8) -> Result<(), AllocError>
-    ensures { OnOk result (out.new.items ≡ out.old.items ++ spec.escaped_byte byte) }
+/// Adds a part of a text with no `;`, and the `;` behind it as a line writes it.
+fn push_part(out: &mut Vec<u8>, part: &[u8]) -> Result<(), AllocError>
+    ensures { OnOk result (out.new.items ≡ out.old.items ++ (part.now ++ codes "\\;")) }
 {
-    if byte == b';' {
-        out.push(b'\\')?;
-    }
-    out.push(byte)?;
+    out.extend_from_slice(part)?;
+    out.extend_from_slice(b"\\;")?;
     Ok(())
 }
 
@@ -21,9 +20,12 @@ fn push_byte(out: &mut Vec<u8>, byte: u8) -> Result<(), AllocError>
 pub fn push_escaped(out: &mut Vec<u8>, text: &[u8]) -> Result<(), AllocError>
     ensures { OnOk result (out.new.items ≡ out.old.items ++ spec.escaped text.now) }
 {
-    for byte in text {
-        push_byte(out, *byte)?;
+    let mut left = text;
+    while let Some((part, rest)) = cut_once(left, b';') {
+        push_part(out, part)?;
+        left = rest;
     }
+    out.extend_from_slice(left)?;
     Ok(())
 }
 

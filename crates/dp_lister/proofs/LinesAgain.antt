@@ -15,42 +15,12 @@ use Rattle.dp_conf.specs.declared.fault.LineKind.{LineKind}
 use Rattle.dp_conf.specs.declared.fault.LineKind.TheVariants.{BlockComment, NoSection, Directive}
 use Rattle.dp_conf.specs.declared.lines.ConfLine.{ConfLine}
 use Rattle.dp_conf.specs.declared.lines.ConfLine.TheVariants.{Header, Pair}
-use Rattle.dp_conf.proofs.EscapeLemmas.{content_of-escaped}
+use Rattle.dp_conf.proofs.EscapeLemmas.{escaped-semicolon, escaped-other, comment_start-escaped, content_of-escaped}
 use Rattle.dp_lister.specs.Listing.{header_line, line_text, text_of}
 use Rattle.dp_plan.proofs.Canonical.{HasFirst, IsKey, IsValue, IsHeaderName}
 use Rattle.dp_conf.proofs.TextLemmas.{Avoids, each-append, IsTrimmed, trim-trimmed, trim_end-behind, trim_end-blank, firm-behind, trim-blank_behind, trim-blank_before, cut_once-here}
 
 -- ---- a line that is written
-
-escaped-semicolon : (b : ℕ) (text : List ℕ) → (b == byte ";") ≡ true → escaped (b ∷ text) ≡ byte "\\" ∷ b ∷ escaped text
-escaped-semicolon b text e = ap (λ t. cond t (byte "\\" ∷ b ∷ []) (b ∷ []) ++ escaped text) e
-
-escaped-other : (b : ℕ) (text : List ℕ) → (b == byte ";") ≡ false → escaped (b ∷ text) ≡ b ∷ escaped text
-escaped-other b text e = ap (λ t. cond t (byte "\\" ∷ b ∷ []) (b ∷ []) ++ escaped text) e
-
--- no `;` of an escaped text begins a comment
-comment_start-escaped : (previous : ℕ) (text : List ℕ) → comment_start previous (escaped text) ≡ length (escaped text)
-comment_start-escaped previous [] = refl
-comment_start-escaped previous (b ∷ text) = by (b == byte ";") refl (comment_start-escaped b text)
-  where
-    one_more : 1 + length (escaped text) ≡ length (b ∷ escaped text)
-    one_more = omega arith
-
-    two_more : 1 + (1 + length (escaped text)) ≡ length (byte "\\" ∷ b ∷ escaped text)
-    two_more = omega arith
-
-    semicolon : (t : Bool) → comment_start b (escaped text) ≡ length (escaped text) → cond (t && false) 0 (1 + comment_start b (escaped text)) ≡ 1 + length (escaped text)
-    semicolon true rest = ap (λ n. 1 + n) rest
-    semicolon false rest = ap (λ n. 1 + n) rest
-
-    by : (t : Bool) → (b == byte ";") ≡ t → comment_start b (escaped text) ≡ length (escaped text) → comment_start previous (escaped (b ∷ text)) ≡ length (escaped (b ∷ text))
-    by true e rest =
-        ap (comment_start previous) (escaped-semicolon b text e)
-        ∙ (ap (λ n. 1 + n) (semicolon (b == byte ";") rest) ∙ (two_more ∙ ap length (sym (escaped-semicolon b text e))))
-    by false e rest =
-        ap (comment_start previous) (escaped-other b text e)
-        ∙ (ap (λ t. cond (t && not (previous == byte "\\")) 0 (1 + comment_start b (escaped text))) e
-        ∙ (ap (λ n. 1 + n) rest ∙ (one_more ∙ ap length (sym (escaped-other b text e)))))
 
 drop-all : {X : Type 0} (xs : List X) → drop (length xs) xs ≡ []
 drop-all [] = refl
