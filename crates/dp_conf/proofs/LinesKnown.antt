@@ -1,16 +1,16 @@
 -- What is known of each line of a text that is read without a fault.
 use Rattle.std.proofs.Common.{◌≡◌, ℕ, ◌+◌, ◌<◌, Bool, true, false, cond, ◌&&◌, ◌==◌, nat_eq, List, [], ◌∷◌, ◌++◌, length, take, drop, Option, Some, None, Result, Ok, Err, codes, refl, ap, ◌∙◌, sym, subst}
-use Rattle.std.specs.List.{AllByRecursion, list_any, slice_split, onto_first, starts_with}
+use Rattle.std.specs.List.{AllByRecursion, list_any, onto_first, starts_with}
 use Rattle.std.specs.Str.{byte}
 use Rattle.dp_conf.specs.Answers.{◌>>=◌, with_front, all_of, each_after}
 use Rattle.dp_conf.specs.Blanks.{is_blank, trim, trim_start, trim_end}
 use Rattle.dp_conf.specs.Cut.{cut_once}
-use Rattle.dp_conf.specs.Lines.{LineFault, byte_order_mark, without_mark, line_feed, parts_of, comment_start, comment_of, opens_block, unescaped, content_of, header_by, header_of, behind_sign, pair_of, item_of, part_item, opens_section, at_line, reading_of, lines_of}
+use Rattle.dp_conf.specs.Lines.{byte_order_mark, without_mark, line_feed, parts_of, comment_start, comment_of, opens_block, unescaped, content_of, header_by, header_of, behind_sign, pair_of, item_of, part_item, opens_section, at_line, reading_of, lines_of}
 use Rattle.dp_conf.specs.declared.fault.LineKind.{LineKind}
 use Rattle.dp_conf.specs.declared.fault.LineKind.TheVariants.{BlockComment, NoSection, Directive}
 use Rattle.dp_conf.specs.declared.lines.ConfLine.{ConfLine}
 use Rattle.dp_conf.specs.declared.lines.ConfLine.TheVariants.{Header, Pair}
-use Rattle.dp_conf.proofs.TextLemmas.{each-append, each-take, each-drop, each-trim, Avoids, IsCut, cut_once-is, each-cut_front, each-cut_rest, IsTrimmed, trimmed-trim, trim_start-firm, before_kept-firm}
+use Rattle.dp_conf.proofs.TextLemmas.{each-append, each-take, each-drop, each-trim, Avoids, cut_once-is, each-cut_front, each-cut_rest, IsTrimmed, trimmed-trim, trim_start-firm, before_kept-firm}
 
 -- a byte of a line
 abbrev pub IsLineByte : ℕ → Type 0
@@ -116,14 +116,17 @@ pair_of-known line b bs None items header directive firm bytes c e = absurd cc
 pair_of-known line b bs (Some cut) items header directive firm bytes c e =
     let is = cut_once-is 61 (b ∷ bs) cut.0 cut.1 c in
     let same : Pair line (trim cut.0) (trim (behind_sign cut.1)) ∷ [] ≡ items = cc in
-    subst (AllByRecursion IsKnownLine) same (record {
-      begins = begins_pair b bs cut.0 cut.1 header directive firm is.whole;
-      key_trimmed = trimmed-trim cut.0;
-      no_sign = each-trim (λ b. (b == 61) ≡ false) cut.0 is.avoids;
-      key_bytes = each-trim IsLineByte cut.0 (each-cut_front IsLineByte 61 (b ∷ bs) cut.0 cut.1 is bytes);
-      value_trimmed = trimmed-trim (behind_sign cut.1);
-      value_bytes = each-trim IsLineByte (behind_sign cut.1) (behind_sign-bytes cut.1 (each-cut_rest IsLineByte 61 (b ∷ bs) cut.0 cut.1 is bytes));
-    }, tt)
+    subst (AllByRecursion IsKnownLine) same (
+      record {
+        begins = begins_pair b bs cut.0 cut.1 header directive firm is.whole;
+        key_trimmed = trimmed-trim cut.0;
+        no_sign = each-trim (λ b. (b == 61) ≡ false) cut.0 is.avoids;
+        key_bytes = each-trim IsLineByte cut.0 (each-cut_front IsLineByte 61 (b ∷ bs) cut.0 cut.1 is bytes);
+        value_trimmed = trimmed-trim (behind_sign cut.1);
+        value_bytes = each-trim IsLineByte (behind_sign cut.1) (behind_sign-bytes cut.1 (each-cut_rest IsLineByte 61 (b ∷ bs) cut.0 cut.1 is bytes));
+      },
+      tt,
+    )
 
 item_of-known : (in_section : Bool) (line : ℕ) (content : List ℕ) (items : List ConfLine) → IsTrimmed content → AreLineBytes content → item_of in_section line content ≡ Ok items → AllByRecursion IsKnownLine items
 item_of-known in_section line [] items trimmed bytes e =
