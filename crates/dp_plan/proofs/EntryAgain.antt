@@ -1,5 +1,5 @@
 -- The line of an entry is read as the entry again.
-use Rattle.std.proofs.Common.{◌≡◌, ℕ, ◌+◌, ◌-◌, ◌*◌, ◌<◌, ◌≤◌, ◌^◌, Bool, true, false, cond, ◌&&◌, ◌||◌, ◌==◌, eqb, nat_le, List, [], ◌∷◌, ◌++◌, fold, length, Option, Some, None, Result, Ok, Err, codes, decimal, refl, ap, ◌∙◌, sym, subst, arith, append_assoc, append-nil}
+use Rattle.std.proofs.Common.{◌≡◌, ℕ, ◌+◌, ◌*◌, ◌<◌, ◌≤◌, ◌^◌, Bool, true, false, cond, ◌&&◌, ◌||◌, ◌==◌, eqb, nat_le, List, [], ◌∷◌, ◌++◌, fold, length, Option, Some, None, Result, Ok, Err, codes, decimal, refl, ap, ◌∙◌, sym, subst, arith, append_assoc, append-nil}
 use Rattle.std.specs.List.{AllByRecursion, list_any, list_all}
 use Rattle.std.specs.Char.{digit_value}
 use Rattle.std.specs.Str.Parse.{AllDigits, digits_value_after, digits_value}
@@ -9,7 +9,6 @@ use Rattle.std.proofs.lemmas.Str.{digit_value_digit}
 use Rattle.std.proofs.lemmas.Str.Parse.{digit_from_value}
 use Rattle.dp_conf.specs.Answers.{◌>>=◌}
 use Rattle.dp_conf.specs.Blanks.{is_blank, trim}
-use Rattle.dp_conf.specs.Cut.{cut_once}
 use Rattle.dp_conf.specs.Numbers.{is_digit, with_digit, digits_number, number_of}
 use Rattle.dp_conf.specs.Shallow.{is_too_deep}
 use Rattle.dp_conf.specs.Words.{same_text}
@@ -18,7 +17,7 @@ use Rattle.dp_pattern.specs.Name.{Meaning, is_bad, meaning_of, IsName}
 use Rattle.dp_pattern.specs.Spelling.{spelling}
 use Rattle.dp_pattern.proofs.SpelledBytes.{spells_cleanly}
 use Rattle.dp_pattern.proofs.SpellingLemmas.{spelled_again}
-use Rattle.dp_plan.specs.EntryLine.{has_variable, without_last, named, name_of, is_priority_word, written_number, written_of, before_label, is_no_label, label_within, label_of, number_after, written_priority, called_with, application_parts, application_by, application_of, shallow_at, entry_by, entry_of, exten_rest, exten_cut, exten_entry}
+use Rattle.dp_plan.specs.EntryLine.{without_last, named, name_of, is_priority_word, written_number, written_of, before_label, is_no_label, label_within, label_of, number_after, written_priority, called_with, application_parts, application_by, application_of, shallow_at, entry_by, entry_of, exten_rest, exten_cut, exten_entry}
 use Rattle.dp_plan.specs.Faults.{at_line, name_at_line}
 use Rattle.dp_plan.specs.History.{History}
 use Rattle.dp_plan.specs.Priority.{IsPriority, most_priority}
@@ -30,7 +29,7 @@ use Rattle.dp_plan.specs.declared.fault.LoadFault.TheVariants.{Plan}
 use Rattle.dp_plan.specs.declared.numbering.Written.{Written}
 use Rattle.dp_plan.specs.declared.numbering.Written.TheVariants.{Number, TooGreat, Next}
 use Rattle.dp_plan.specs.declared.entry.Entry.{Entry}
-use Rattle.dp_plan.proofs.Canonical.{HasFirst, IsExtension, IsLabel, IsLabelled, IsApplication, IsEntry, IsValue, label_text, priority_text, application_text, entry_text}
+use Rattle.dp_plan.proofs.Canonical.{IsExtension, IsLabel, IsLabelled, IsApplication, IsEntry, IsValue, label_text, priority_text, application_text, entry_text}
 use Rattle.dp_plan.proofs.EntryLemmas.{without_last-found}
 
 -- ---- decimals
@@ -261,8 +260,12 @@ entry_text-value entry fine =
         begins = firm-before (spelling entry.name) (priority_text entry.priority entry.label ++ 44 ∷ application_text entry.application entry.arguments) (spelling-firm entry.name fine.name.known);
         ends = trim_end-behind (spelling entry.name) 44 (priority_text entry.priority entry.label ++ 44 ∷ application_text entry.application entry.arguments) numbered;
       };
-      one_line = each-append (λ b. (b == 10) ≡ false) (spelling entry.name) (44 ∷ (priority_text entry.priority entry.label ++ 44 ∷ application_text entry.application entry.arguments)) (spelling-one_line entry.name fine.name.known)
-      (refl, each-append (λ b. (b == 10) ≡ false) (priority_text entry.priority entry.label) (44 ∷ application_text entry.application entry.arguments) (priority_text-one_line entry.priority entry.label fine.priority fine.label)
-      (refl, each-append (λ b. (b == 10) ≡ false) entry.application (40 ∷ (entry.arguments ++ 41 ∷ [])) fine.application.one_line
-      (refl, each-append (λ b. (b == 10) ≡ false) entry.arguments (41 ∷ []) fine.one_line (refl, tt))));
+      one_line = each-append (λ b. (b == 10) ≡ false) (spelling entry.name) (44 ∷ (priority_text entry.priority entry.label ++ 44 ∷ application_text entry.application entry.arguments)) (spelling-one_line entry.name fine.name.known) (
+        refl,
+        each-append (λ b. (b == 10) ≡ false) (priority_text entry.priority entry.label) (44 ∷ application_text entry.application entry.arguments) (priority_text-one_line entry.priority entry.label fine.priority fine.label) (
+          refl,
+          each-append (λ b. (b == 10) ≡ false) entry.application (40 ∷ (entry.arguments ++ 41 ∷ [])) fine.application.one_line
+              (refl, each-append (λ b. (b == 10) ≡ false) entry.arguments (41 ∷ []) fine.one_line (refl, tt)),
+        ),
+      );
     }

@@ -1,5 +1,5 @@
 -- What is known of each entry of a line that is read.
-use Rattle.std.proofs.Common.{◌≡◌, ℕ, ◌+◌, ◌<◌, ◌≤◌, Bool, true, false, cond, ◌&&◌, ◌||◌, ◌==◌, nat_le, List, [], ◌∷◌, ◌++◌, Option, Some, None, Result, Ok, Err, Contains, codes, refl, ap, ◌∙◌, sym, subst, arith, true≢false}
+use Rattle.std.proofs.Common.{◌≡◌, ℕ, ◌+◌, ◌<◌, ◌≤◌, Bool, true, false, cond, ◌==◌, nat_le, List, [], ◌∷◌, Option, Some, None, Result, Ok, Err, Contains, codes, refl, ap, ◌∙◌, sym, subst, arith, true≢false}
 use Rattle.std.specs.List.{AllByRecursion, list_any}
 use Rattle.std.specs.Option.{option_map}
 use Rattle.std.proofs.lemmas.Bool.Decides.{nat_tests}
@@ -12,7 +12,7 @@ use Rattle.dp_conf.specs.Shallow.{is_too_deep}
 use Rattle.dp_conf.specs.Words.{same_text}
 use Rattle.dp_conf.proofs.LinesKnown.{IsLineByte, AreLineBytes}
 use Rattle.dp_conf.proofs.TextLemmas.{each-weaker, each-trim, Avoids, none-any, IsCut, cut_once-is, cut_once-none, each-cut_front, each-cut_rest, IsTrimmed, trimmed-trim}
-use Rattle.dp_pattern.specs.Name.{Meaning, meaning_of, IsName}
+use Rattle.dp_pattern.specs.Name.{Meaning, meaning_of}
 use Rattle.dp_pattern.specs.Spelling.{spelling, is_own}
 use Rattle.dp_pattern.specs.declared.fault.NameFault.{NameFault}
 use Rattle.dp_pattern.proofs.NameLemmas.{each_of}
@@ -23,13 +23,13 @@ use Rattle.dp_plan.specs.History.{History}
 use Rattle.dp_plan.specs.Priority.{IsPriority, most_priority}
 use Rattle.dp_plan.specs.declared.fault.Word.TheVariants.{Hint, CallerId, Variable, OldForm, PriorityWord}
 use Rattle.dp_plan.specs.declared.fault.PlanKind.{PlanKind}
-use Rattle.dp_plan.specs.declared.fault.PlanKind.TheVariants.{BadPriority, NoPrevious, BadLabel, BadApplication, LeftOut, TooDeep, PriorityLimit, ShortLine}
+use Rattle.dp_plan.specs.declared.fault.PlanKind.TheVariants.{BadPriority, BadLabel, LeftOut, TooDeep, PriorityLimit, ShortLine}
 use Rattle.dp_plan.specs.declared.fault.LoadFault.{LoadFault}
 use Rattle.dp_plan.specs.declared.fault.LoadFault.TheVariants.{Plan}
 use Rattle.dp_plan.specs.declared.numbering.Written.{Written}
 use Rattle.dp_plan.specs.declared.numbering.Written.TheVariants.{Number, TooGreat, Next}
 use Rattle.dp_plan.specs.declared.entry.Entry.{Entry}
-use Rattle.dp_plan.proofs.Canonical.{HasFirst, IsExtension, IsLabel, IsLabelled, IsApplication, IsEntry}
+use Rattle.dp_plan.proofs.Canonical.{IsExtension, IsLabel, IsLabelled, IsApplication, IsEntry}
 
 pub one_line : (text : List ℕ) → AreLineBytes text → Avoids 10 text
 one_line text bytes = each-weaker IsLineByte (λ b. (b == 10) ≡ false) (λ b line. line.1) text bytes
@@ -165,9 +165,10 @@ label_of-known text (Some cut) label bytes avoids c e = by (label_within (withou
     is = cut_once-is 40 text cut.0 cut.1 c
 
     within : (inner : List ℕ) → without_last 41 cut.1 ≡ Some inner → AreLineBytes inner × Avoids 44 inner
-    within inner w =
-        (each-without_last IsLineByte 41 cut.1 inner (each-cut_rest IsLineByte 40 text cut.0 cut.1 is bytes) w,
-         each-without_last (λ b. (b == 44) ≡ false) 41 cut.1 inner (each-cut_rest (λ b. (b == 44) ≡ false) 40 text cut.0 cut.1 is avoids) w)
+    within inner w = (
+      each-without_last IsLineByte 41 cut.1 inner (each-cut_rest IsLineByte 40 text cut.0 cut.1 is bytes) w,
+      each-without_last (λ b. (b == 44) ≡ false) 41 cut.1 inner (each-cut_rest (λ b. (b == 44) ≡ false) 40 text cut.0 cut.1 is avoids) w,
+    )
 
     by : (r : Result (List ℕ) PlanKind) → label_within (without_last 41 cut.1) ≡ r → (r >>= λ l. Ok (Some l)) ≡ Ok label → IsLabelled label
     by (Err kind) r e = absurd cc

@@ -1,6 +1,6 @@
 -- The lines that say a dialplan are read as its items.
-use Rattle.std.proofs.Common.{◌≡◌, ℕ, ◌+◌, ◌==◌, Bool, true, false, cond, List, [], ◌∷◌, ◌++◌, map, Option, Some, None, Result, Ok, Err, codes, refl, ap, ◌∙◌, sym, subst, append_assoc}
-use Rattle.std.specs.List.{AllByRecursion, list_any, flat_map}
+use Rattle.std.proofs.Common.{◌≡◌, ℕ, ◌+◌, ◌==◌, cond, List, [], ◌∷◌, ◌++◌, map, Result, Ok, Err, codes, refl, ap, ◌∙◌, sym, subst, append_assoc}
+use Rattle.std.specs.List.{AllByRecursion, flat_map}
 use Rattle.std.specs.Option.{option_or, unwrap_or}
 use Rattle.std.proofs.lemmas.List.{map-append}
 use Rattle.dp_conf.specs.Answers.{◌>>=◌, with_front}
@@ -9,9 +9,8 @@ use Rattle.dp_conf.specs.declared.lines.ConfLine.{ConfLine}
 use Rattle.dp_conf.specs.declared.lines.ConfLine.TheVariants.{Header, Pair}
 use Rattle.dp_conf.proofs.TextLemmas.{any-none}
 use Rattle.dp_plan.specs.Contexts.{PlanContext}
-use Rattle.dp_plan.specs.EntryLine.{shallow_at, exten_entry}
 use Rattle.dp_plan.specs.History.{History, latest, section_in, history_of}
-use Rattle.dp_plan.specs.Items.{section_named, global_item, include_item, entry_item, context_item, just, pair_item, line_item, items_after}
+use Rattle.dp_plan.specs.Items.{section_named, global_item, entry_item, context_item, just, pair_item, line_item, items_after}
 use Rattle.dp_plan.specs.Plan.{PlanOf}
 use Rattle.dp_plan.specs.declared.entry.Entry.{Entry}
 use Rattle.dp_plan.specs.declared.fault.Word.TheVariants.{IncludeTimes}
@@ -23,7 +22,7 @@ use Rattle.dp_plan.specs.declared.item.Item.TheVariants.{Begins, Sets, Adds, Inc
 use Rattle.dp_plan.specs.declared.plan.GlobalVariable.{GlobalVariable}
 use Rattle.dp_plan.specs.declared.section.Section.{Section}
 use Rattle.dp_plan.specs.declared.section.Section.TheVariants.{General, Globals, Context}
-use Rattle.dp_plan.proofs.Canonical.{IsContextName, IsGlobal, IsEntry, IsIncluded, IsContext, IsCanonical, entry_text, header_of, global_of, exten_of, include_of, lines_of_globals, lines_of_context, lines_of_contexts, numbered_lines, canonical_lines}
+use Rattle.dp_plan.proofs.Canonical.{IsContextName, IsGlobal, IsEntry, IsIncluded, IsContext, IsCanonical, entry_text, header_of, lines_of_globals, lines_of_context, lines_of_contexts, numbered_lines, canonical_lines}
 use Rattle.dp_plan.proofs.EntryAgain.{exten_entry-again}
 use Rattle.dp_plan.proofs.HistoryLemmas.{latest-push}
 
@@ -206,10 +205,12 @@ stand-includes context (name ∷ names) rest fine behind = ((refl, fine.0), stan
 
 stand-contexts : (section : Section) (contexts : List PlanContext) → AllByRecursion IsContext contexts → AllStand section (items_of_contexts contexts)
 stand-contexts section [] fine = tt
-stand-contexts section (context ∷ contexts) fine =
-    (fine.0.name, subst (AllStand (Context context.name)) (sym (append_assoc (map (λ e. Adds 0 context.name e) context.entries) (map (λ i. Includes 0 context.name i) context.includes) (items_of_contexts contexts)))
-    (stand-entries context.name context.entries (map (λ i. Includes 0 context.name i) context.includes ++ items_of_contexts contexts) fine.0.entries
-    (stand-includes context.name context.includes (items_of_contexts contexts) fine.0.includes (stand-contexts (Context context.name) contexts fine.1))))
+stand-contexts section (context ∷ contexts) fine = (
+  fine.0.name,
+  subst (AllStand (Context context.name)) (sym (append_assoc (map (λ e. Adds 0 context.name e) context.entries) (map (λ i. Includes 0 context.name i) context.includes) (items_of_contexts contexts)))
+      (stand-entries context.name context.entries (map (λ i. Includes 0 context.name i) context.includes ++ items_of_contexts contexts) fine.0.entries
+      (stand-includes context.name context.includes (items_of_contexts contexts) fine.0.includes (stand-contexts (Context context.name) contexts fine.1))),
+)
 
 stand-plan : (globals : List GlobalVariable) (contexts : List PlanContext) → AllByRecursion IsGlobal globals → AllByRecursion IsContext contexts → AllStand General (items_of_globals globals ++ items_of_contexts contexts)
 stand-plan [] contexts globals fine = stand-contexts General contexts fine

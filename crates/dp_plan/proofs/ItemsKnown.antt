@@ -1,13 +1,13 @@
 -- What is known of each item of lines that are read.
-use Rattle.std.proofs.Common.{◌≡◌, ℕ, ◌+◌, Bool, true, false, cond, ◌||◌, ◌==◌, List, [], ◌∷◌, ◌++◌, Option, Some, None, Result, Ok, Err, codes, refl, ap, ◌∙◌, sym, subst}
+use Rattle.std.proofs.Common.{◌≡◌, ℕ, Bool, true, false, cond, ◌==◌, List, [], ◌∷◌, ◌++◌, Option, Some, None, Result, Ok, Err, codes, refl, ◌∙◌, subst}
 use Rattle.std.specs.List.{AllByRecursion, list_any}
 use Rattle.std.specs.Option.{option_or, unwrap_or, option_flatten}
 use Rattle.dp_conf.specs.Answers.{◌>>=◌, with_front}
 use Rattle.dp_conf.specs.Words.{same_word}
 use Rattle.dp_conf.specs.declared.lines.ConfLine.{ConfLine}
 use Rattle.dp_conf.specs.declared.lines.ConfLine.TheVariants.{Header, Pair}
-use Rattle.dp_conf.proofs.LinesKnown.{IsLineByte, AreLineBytes, IsHeader, IsPair, IsKnownLine}
-use Rattle.dp_conf.proofs.TextLemmas.{each-append, each-weaker, none-any, Avoids, IsTrimmed}
+use Rattle.dp_conf.proofs.LinesKnown.{IsHeader, IsPair, IsKnownLine}
+use Rattle.dp_conf.proofs.TextLemmas.{each-append, none-any}
 use Rattle.dp_pattern.specs.Name.{Meaning}
 use Rattle.dp_plan.specs.EntryLine.{shallow_at, exten_entry, same_entry}
 use Rattle.dp_plan.specs.History.{History, latest, section_in, name_in, history_of}
@@ -15,7 +15,7 @@ use Rattle.dp_plan.specs.Items.{section_named, global_item, include_item, refuse
 use Rattle.dp_plan.specs.declared.entry.Entry.{Entry}
 use Rattle.dp_plan.specs.declared.fault.Word.TheVariants.{IncludeTimes}
 use Rattle.dp_plan.specs.declared.fault.PlanKind.{PlanKind}
-use Rattle.dp_plan.specs.declared.fault.PlanKind.TheVariants.{LeftOut, TooDeep}
+use Rattle.dp_plan.specs.declared.fault.PlanKind.TheVariants.{LeftOut}
 use Rattle.dp_plan.specs.declared.fault.LoadFault.{LoadFault}
 use Rattle.dp_plan.specs.declared.fault.LoadFault.TheVariants.{Plan}
 use Rattle.dp_plan.specs.declared.item.Item.{Item}
@@ -23,7 +23,7 @@ use Rattle.dp_plan.specs.declared.item.Item.TheVariants.{Begins, Sets, Adds, Inc
 use Rattle.dp_plan.specs.declared.plan.GlobalVariable.{GlobalVariable}
 use Rattle.dp_plan.specs.declared.section.Section.{Section}
 use Rattle.dp_plan.specs.declared.section.Section.TheVariants.{General, Globals, Context}
-use Rattle.dp_plan.proofs.Canonical.{HasFirst, IsKey, IsValue, IsHeaderName, IsContextName, IsGlobal, IsExtension, IsEntry, IsIncluded}
+use Rattle.dp_plan.proofs.Canonical.{IsValue, IsHeaderName, IsContextName, IsGlobal, IsEntry, IsIncluded}
 use Rattle.dp_plan.proofs.EntryKnown.{one_line, shallow-known, IsLastName, exten_entry-known, same_entry-known}
 
 abbrev pub IsFineSection : Section → Type 0

@@ -1,5 +1,5 @@
 -- The items of a dialplan make the dialplan again, with no note but on includes of unknown contexts.
-use Rattle.std.proofs.Common.{◌≡◌, ℕ, ◌+◌, Bool, true, false, cond, ◌&&◌, ◌||◌, List, [], ◌∷◌, ◌++◌, map, Option, Some, None, Result, Ok, refl, ap, ap₂, ◌∙◌, ◌==◌, sym, subst, append_assoc, append-nil}
+use Rattle.std.proofs.Common.{◌≡◌, ℕ, ◌+◌, Bool, true, false, cond, ◌&&◌, ◌||◌, List, [], ◌∷◌, ◌++◌, map, Option, Some, None, Ok, refl, ap, ap₂, ◌∙◌, ◌==◌, sym, subst, append_assoc, append-nil}
 use Rattle.std.specs.List.{AllByRecursion, list_any, filter, filter_map, cons_option, flat_map}
 use Rattle.std.specs.Cmp.Lexicographic.{nat_list_eq_equiv}
 use Rattle.std.proofs.Math.Seq.{append_snoc}
@@ -14,13 +14,12 @@ use Rattle.dp_plan.specs.Extensions.{same_name}
 use Rattle.dp_plan.specs.Loaded.{loaded}
 use Rattle.dp_plan.specs.Plan.{PlanOf, Addition, Inclusion, of_one_extension, same_place, same_label, shares_label, is_place_taken, is_label_taken, is_taken, is_named, kept_by, added_in, included_in, context_in, global_in, kept_in, names_in, context_of, plan_of, entry_note, include_note, note_of, notes_of}
 use Rattle.dp_plan.specs.declared.entry.Entry.{Entry}
-use Rattle.dp_plan.specs.declared.fault.LoadFault.{LoadFault}
 use Rattle.dp_plan.specs.declared.item.Item.{Item}
 use Rattle.dp_plan.specs.declared.item.Item.TheVariants.{Begins, Sets, Adds, Includes, Unknown}
 use Rattle.dp_plan.specs.declared.note.Note.{Note}
 use Rattle.dp_plan.specs.declared.note.NoteKind.TheVariants.{DoublePriority, DoubleLabel, UnknownContext}
 use Rattle.dp_plan.specs.declared.plan.GlobalVariable.{GlobalVariable}
-use Rattle.dp_plan.specs.declared.section.Section.TheVariants.{Globals, Context}
+use Rattle.dp_plan.specs.declared.section.Section.TheVariants.{Globals}
 use Rattle.dp_plan.proofs.Canonical.{IsFresh, additions_of, IsContext, IsCanonical, canonical_lines}
 use Rattle.dp_plan.proofs.DraftLemmas.{more_by, kept_by-filter_map}
 use Rattle.dp_plan.proofs.ItemsAgain.{with_line, numbered, items_of_globals, items_of_context, items_of_contexts, items_of, items_after-canonical}
@@ -197,10 +196,10 @@ names-again before (context ∷ contexts) fresh =
     let known : is_named (before ++ context.name ∷ []) context.name ≡ true = last_named before context.name in
     ap (λ t. cond {A = List (List ℕ)} t (kept_by is_named before ((es ++ is) ++ rest)) (context.name ∷ kept_by is_named (before ++ context.name ∷ []) ((es ++ is) ++ rest))) fresh.0
     ∙ ap (λ (names : List (List ℕ)). context.name ∷ names)
-      (ap (kept_by is_named (before ++ context.name ∷ [])) (append_assoc es is rest)
-      ∙ (kept-repeats (before ++ context.name ∷ []) context.name context.entries (is ++ rest) known
-      ∙ (kept-repeats (before ++ context.name ∷ []) context.name context.includes rest known
-      ∙ names-again (before ++ context.name ∷ []) contexts fresh.1)))
+    (ap (kept_by is_named (before ++ context.name ∷ [])) (append_assoc es is rest)
+    ∙ (kept-repeats (before ++ context.name ∷ []) context.name context.entries (is ++ rest) known
+    ∙ (kept-repeats (before ++ context.name ∷ []) context.name context.includes rest known
+    ∙ names-again (before ++ context.name ∷ []) contexts fresh.1)))
 
 -- ---- entries that are all kept
 
@@ -243,9 +242,10 @@ filter-push name first second y e =
 -- what stands in other contexts takes nothing of these
 pub fresh-local : (name : List ℕ) (ys first second : List Addition) → AllByRecursion (λ y. is_of name y ≡ true) ys → filter (is_of name) first ≡ filter (is_of name) second → IsFresh is_taken first ys → IsFresh is_taken second ys
 fresh-local name [] first second here e fresh = tt
-fresh-local name (y ∷ ys) first second here e fresh =
-    (taken-local name second y here.0 ∙ (ap (λ (before : List Addition). is_taken before y) (sym e) ∙ (sym (taken-local name first y here.0) ∙ fresh.0)),
-     fresh-local name ys (first ++ y ∷ []) (second ++ y ∷ []) here.1 (filter-push name first second y e) fresh.1)
+fresh-local name (y ∷ ys) first second here e fresh = (
+  taken-local name second y here.0 ∙ (ap (λ (before : List Addition). is_taken before y) (sym e) ∙ (sym (taken-local name first y here.0) ∙ fresh.0)),
+  fresh-local name ys (first ++ y ∷ []) (second ++ y ∷ []) here.1 (filter-push name first second y e) fresh.1,
+)
 
 fresh-append : {X : Type 0} (taken : List X → X → Bool) (before ys zs : List X) → IsFresh taken before ys → IsFresh taken (before ++ ys) zs → IsFresh taken before (ys ++ zs)
 fresh-append taken before [] zs first second = subst (λ (b : List _). IsFresh taken b zs) (append-nil before) second

@@ -1,26 +1,22 @@
 -- What is known of each dialplan that a text loads as.
-use Rattle.std.proofs.Common.{◌≡◌, ℕ, ◌<◌, Bool, true, false, cond, ◌&&◌, ◌==◌, List, [], ◌∷◌, ◌++◌, map, Option, Some, None, Result, Ok, Err, refl, ap, ◌∙◌, sym, subst, append-nil}
+use Rattle.std.proofs.Common.{◌≡◌, ℕ, ◌<◌, Bool, true, false, cond, List, [], ◌∷◌, ◌++◌, map, Option, Some, None, Result, Ok, Err, refl, ap, ◌∙◌, sym, subst, append-nil}
 use Rattle.std.specs.List.{AllByRecursion, filter, filter_map, cons_option}
 use Rattle.std.proofs.lemmas.List.Elements.{filter-append}
 use Rattle.std.proofs.lemmas.Slice.Eq.{bytes_eq-Decides}
-use Rattle.dp_conf.specs.Answers.{◌>>=◌}
 use Rattle.dp_conf.specs.Lines.{LineFault, lines_of}
 use Rattle.dp_conf.specs.Words.{same_text}
 use Rattle.dp_conf.specs.declared.lines.ConfLine.{ConfLine}
 use Rattle.dp_conf.proofs.LinesKnown.{lines_of-known}
-use Rattle.dp_plan.specs.Contexts.{PlanContext}
-use Rattle.dp_plan.specs.Faults.{text_fault}
 use Rattle.dp_plan.specs.Items.{items_after}
 use Rattle.dp_plan.specs.Loaded.{loaded}
-use Rattle.dp_plan.specs.Plan.{PlanOf, Addition, Inclusion, is_taken, is_named, kept_by, added_in, included_in, section_name, context_in, global_in, kept_in, names_in, context_of, plan_of, notes_of}
-use Rattle.dp_plan.specs.declared.entry.Entry.{Entry}
+use Rattle.dp_plan.specs.Plan.{PlanOf, Addition, Inclusion, is_taken, is_named, kept_by, added_in, included_in, context_in, global_in, kept_in, names_in, context_of, plan_of, notes_of}
 use Rattle.dp_plan.specs.declared.fault.LoadFault.{LoadFault}
 use Rattle.dp_plan.specs.declared.item.Item.{Item}
 use Rattle.dp_plan.specs.declared.item.Item.TheVariants.{Begins, Sets, Adds, Includes, Unknown}
 use Rattle.dp_plan.specs.declared.note.Note.{Note}
 use Rattle.dp_plan.specs.declared.plan.GlobalVariable.{GlobalVariable}
 use Rattle.dp_plan.specs.declared.section.Section.TheVariants.{General, Globals, Context}
-use Rattle.dp_plan.proofs.Canonical.{IsFresh, IsContextName, IsGlobal, IsEntry, IsIncluded, additions_of, IsContext, IsCanonical}
+use Rattle.dp_plan.proofs.Canonical.{IsFresh, IsContextName, IsGlobal, IsEntry, IsIncluded, IsContext, IsCanonical}
 use Rattle.dp_plan.proofs.DraftLemmas.{names-contexts}
 use Rattle.dp_plan.proofs.ItemsKnown.{IsFine, items_after-known}
 use Rattle.dp_plan.proofs.LoadedLemmas.{of_items, of_lines}
@@ -159,10 +155,10 @@ plan_of-known items fine =
     record {
       globals = each-filter_map IsFine IsGlobal global_in global-known items fine;
       contexts = contexts-known (kept_in items) (filter_map included_in items) (names_in items)
-      (each-kept IsFineAddition is_taken [] (filter_map added_in items) (each-filter_map IsFine IsFineAddition added_in added-known items fine))
-      (each-filter_map IsFine IsFineInclusion included_in included-known items fine)
-      (fresh-kept is_taken [] (filter_map added_in items))
-      (each-kept IsContextName is_named [] (filter_map context_in items) (each-filter_map IsFine IsContextName context_in name-known items fine));
+          (each-kept IsFineAddition is_taken [] (filter_map added_in items) (each-filter_map IsFine IsFineAddition added_in added-known items fine))
+          (each-filter_map IsFine IsFineInclusion included_in included-known items fine)
+          (fresh-kept is_taken [] (filter_map added_in items))
+          (each-kept IsContextName is_named [] (filter_map context_in items) (each-filter_map IsFine IsContextName context_in name-known items fine));
       names = subst (IsFresh is_named []) (sym (names-contexts (kept_in items) (filter_map included_in items) (names_in items))) (fresh-kept is_named [] (filter_map context_in items));
     }
 
