@@ -4,7 +4,7 @@ pub mod EscapeLemmas
 mod EscapeParts
 mod LevelLemmas
 pub mod LinesKnown
-mod LinesLemmas
+pub mod LinesLemmas
 mod Rows
 pub mod ToldLemmas
 mod TrimLemmas

@@ -1,14 +1,15 @@
 -- The readings of lines, by the number of lines before them and by whether a section has begun.
-use Rattle.std.proofs.Common.{◌≡◌, ℕ, ◌+◌, ◌<◌, ◌≤◌, drop, nat_eq, MatchOption, IfSome, Bool, true, false, ◌||◌, eqb, cond, List, [], ◌∷◌, ◌++◌, Option, Some, None, Result, Ok, Err, Bor, length, refl, ap, ◌∙◌, sym, arith}
+use Rattle.std.proofs.Common.{◌≡◌, ℕ, ◌+◌, ◌<◌, ◌≤◌, drop, nat_eq, MatchOption, IfSome, Bool, true, false, ◌||◌, ◌&&◌, eqb, cond, List, [], ◌∷◌, ◌++◌, Option, Some, None, Result, Ok, Err, Bor, length, refl, ap, ◌∙◌, sym, arith}
 use Rattle.std.specs.List.{list_any, starts_with}
 use Rattle.std.proofs.lemmas.List.Folds.{list_any-append}
 use Rattle.std.proofs.lemmas.List.{length-append, length-drop}
 use Rattle.std.proofs.Math.Bool.{or-false}
-use Rattle.dp_conf.specs.Answers.{with_front, all_of, each_after}
+use Rattle.dp_conf.specs.Answers.{◌>>=◌, with_front, all_of, each_after}
 use Rattle.dp_conf.proofs.AnswersLemmas.{all_of-Ok, all_of-Err}
 use Rattle.dp_conf.specs.Blanks.{trim, trim_start}
+use Rattle.dp_conf.specs.Borrowed.{content_read, added_line}
 use Rattle.dp_conf.specs.Cut.{begins_with, cut_once}
-use Rattle.dp_conf.specs.Lines.{LineFault, without_mark, comment_of, opens_block, content_of, header_by, header_of, behind_sign, pair_of, item_of, is_header, at_line, part_item, opens_section, reading_of, parts_of}
+use Rattle.dp_conf.specs.Lines.{LineFault, without_mark, comment_of, unescaped, opens_block, content_of, header_by, header_of, behind_sign, pair_of, item_of, is_header, at_line, part_item, opens_section, reading_of, parts_of}
 use Rattle.dp_conf.specs.declared.fault.LineKind.{LineKind}
 use Rattle.dp_conf.specs.declared.fault.LineKind.TheVariants.{BlockComment, NoSection, Directive}
 use Rattle.dp_conf.specs.declared.lines.ConfLine.{ConfLine}
@@ -129,3 +130,50 @@ pub readings_from-fault : (text part : List ℕ) (behind : Option (Bor (List ℕ
 readings_from-fault text part behind in_section line items fault cut read =
     ap (λ (parts : List (List ℕ)). with_front items (all_of (readings_from in_section line parts))) cut
     ∙ all_of-Err items fault (at_line (line + 1) (part_item in_section (line + 1) part)) (readings_from (in_section || opens_section part) (line + 1) (parts_left behind)) read
+
+-- a text with no `\` is written as it is
+pub unescaped-plain : (text : List ℕ) → list_any (λ b. eqb b 92) text ≡ false → unescaped text ≡ text
+unescaped-plain [] e = refl
+unescaped-plain (b ∷ text) e = by (eqb b 92) (unescaped-plain text) e
+  where
+    by : (t : Bool) → (list_any (λ b. eqb b 92) text ≡ false → unescaped text ≡ text) → (t || list_any (λ b. eqb b 92) text) ≡ false → cond (t && starts_with nat_eq text (59 ∷ [])) (unescaped text) (b ∷ unescaped text) ≡ b ∷ text
+    by true later e = absurd cc
+    by false later e = ap (λ (bs : List ℕ). b ∷ bs) (later e)
+
+-- a part is read by its content
+part_by_content : (blocked in_section : Bool) (line : ℕ) (content : List ℕ) → at_line line (cond blocked (Err BlockComment) (item_of in_section line content)) ≡ (at_line line (cond {A = Result (List ℕ) LineKind} blocked (Err BlockComment) (Ok content)) >>= λ c. at_line line (item_of in_section line c))
+part_by_content true in_section line content = refl
+part_by_content false in_section line content = refl
+
+pub part_item-content : (in_section : Bool) (line : ℕ) (part : List ℕ) → at_line line (part_item in_section line part) ≡ (at_line line (content_read part) >>= λ c. at_line line (item_of in_section line c))
+part_item-content in_section line part = part_by_content (opens_block (comment_of part)) in_section line (content_of part)
+
+-- a part whose content is a block comment
+pub part_item-refused : (in_section : Bool) (line : ℕ) (part : List ℕ) (fault : LineFault) → at_line line (content_read part) ≡ Err fault → at_line line (part_item in_section line part) ≡ Err fault
+part_item-refused in_section line part fault e =
+    part_item-content in_section line part ∙ ap (λ (r : Result (List ℕ) LineFault). r >>= λ c. at_line line (item_of in_section line c)) e
+
+-- a part whose content was read
+pub part_item-read : (in_section : Bool) (line : ℕ) (part content : List ℕ) → at_line line (content_read part) ≡ Ok content → at_line line (part_item in_section line part) ≡ at_line line (item_of in_section line content)
+part_item-read in_section line part content e =
+    part_item-content in_section line part ∙ ap (λ (r : Result (List ℕ) LineFault). r >>= λ c. at_line line (item_of in_section line c)) e
+
+-- the items so far with those of a reading, and whether a section has begun behind them
+abbrev added_by : Bool → List ConfLine → Result (List ConfLine) LineFault → Result (Bool × List ConfLine) LineFault
+added_by in_section items read = read >>= λ item. Ok (in_section || list_any is_header item, items ++ item)
+
+-- one turn that adds the item of the first part to the items so far
+pub readings_from-added : (text part : List ℕ) (behind : Option (Bor (List ℕ))) (in_section : Bool) (line : ℕ) (items more : List ConfLine) (begun : Bool)
+    → parts_of text ≡ part ∷ parts_left behind
+    → added_line items in_section (line + 1) part ≡ Ok (begun, more)
+    → with_front items (all_of (readings_from in_section line (parts_of text))) ≡ with_front more (all_of (readings_from begun (line + 1) (parts_left behind)))
+readings_from-added text part behind in_section line items more begun cut added = by (at_line (line + 1) (part_item in_section (line + 1) part)) refl added
+  where
+    by : (read : Result (List ConfLine) LineFault) → at_line (line + 1) (part_item in_section (line + 1) part) ≡ read → added_by in_section items read ≡ Ok (begun, more) → with_front items (all_of (readings_from in_section line (parts_of text))) ≡ with_front more (all_of (readings_from begun (line + 1) (parts_left behind)))
+    by (Ok item) read e =
+        let made : Bool × List ConfLine = (in_section || list_any is_header item, items ++ item) in
+        let given : Bool × List ConfLine = (begun, more) in
+        let same : made ≡ given = cc in
+        readings_from-turn text part behind in_section line items item cut read
+        ∙ ap (λ (p : Bool × List ConfLine). with_front p.1 (all_of (readings_from p.0 (line + 1) (parts_left behind)))) same
+    by (Err fault) read e = absurd cc

@@ -1,5 +1,6 @@
 pub mod Answers
 pub mod Blanks
+pub mod Borrowed
 pub mod Codes
 pub mod Cut
 pub mod Escape

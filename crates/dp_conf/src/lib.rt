@@ -17,7 +17,9 @@ pub use cut::{cut_once, cut_outside, first_part, is_blank, split_args, trim};
 pub use escaping::{escape, push_escaped};
 pub use fault::{ConfFault, LineKind, ReadFault, WriteFailed};
 pub use groups::{GroupKind, Mark, next_mark, one_reading};
-pub use lines::{ConfLine, read_lines};
+pub use lines::{
+    ConfLine, Content, Line, has_begun, read_content, read_line, read_lines, without_mark,
+};
 pub use nest::nesting;
 pub use shallow::{MOST_NESTING, ShallowText};
 pub use std::alloc::AllocError as NoMemory;

@@ -3,6 +3,8 @@ ghost use Rattle.std.specs.Prelude.{◌≡◌, ◌+◌, ◌++◌, ◌∷◌, [],
 ghost use Rattle.std.specs.Option.{option_to_list};
 ghost use Rattle.std.specs.List.{list_any};
 ghost use Rattle.dp_conf.specs.Answers.{Answers};
+ghost use Rattle.dp_conf.specs.Blanks.{trim as trim_spec};
+ghost use Rattle.dp_conf.specs.Borrowed as borrowed;
 ghost use Rattle.dp_conf.specs.Cut as cut;
 ghost use Rattle.dp_conf.specs.Lines as spec;
 
@@ -20,8 +22,48 @@ pub enum ConfLine {
     Pair { line: usize, key: Text, value: Text },
 }
 
+/// One item of a configuration text, with the number of its line, as its texts stand in the line.
+#[derive(Clone, Copy)]
+pub enum Line<'a> {
+    /// A section's header, `[name]`, by its name without blanks at its ends.
+    Header {
+        line: usize,
+        name: &'a [u8],
+    },
+    /// A line `key = value` or `key => value`, without blanks at the ends of both.
+    Pair {
+        line: usize,
+        key: &'a [u8],
+        value: &'a [u8],
+    },
+}
+
+/// What a line says before its comment.
+#[derive(Drop)]
+pub enum Content<'a> {
+    /// The bytes of the line itself.
+    AsWritten(&'a [u8]),
+    /// The bytes of a line that has a `\`, with each `\;` written `;`.
+    Unescaped(Vec<u8>),
+}
+
+impl Content<'_> {
+    ghost use Rattle.std.specs.Prelude.{◌≡◌};
+    ghost use Rattle.dp_conf.specs.Borrowed as borrowed;
+
+    /// The bytes without the blanks at their ends.
+    pub fn bytes(&self) -> &[u8]
+        ensures { result.now ≡ borrowed.content_now self.now }
+    {
+        match self {
+            Content::AsWritten(text) => trim(text),
+            Content::Unescaped(bytes) => trim(bytes.as_slice()),
+        }
+    }
+}
+
 /// The text without the byte order mark at its front.
-fn without_mark(text: &[u8]) -> &[u8]
+pub fn without_mark(text: &[u8]) -> &[u8]
     ensures { result.now ≡ spec.without_mark text.now }
 {
     if text.starts_with(b"\xEF\xBB\xBF") {
@@ -68,9 +110,37 @@ fn unescape(alloc: Global, bytes: &[u8]) -> Result<Vec<u8>, AllocError>
     Ok(plain)
 }
 
+/// What stands before a comment, with each `\;` written `;`. It takes no memory where there is no `\`.
+fn plain_text(alloc: Global, before: &[u8]) -> Result<Content<'_>, AllocError>
+    ensures { IfOk result (λ content. borrowed.content_now content ≡ trim_spec (spec.unescaped before.now)) }
+{
+    if !before.contains(&b'\\') {
+        return Ok(Content::AsWritten(before));
+    }
+    let plain = unescape(alloc, before)?;
+    Ok(Content::Unescaped(plain))
+}
+
+/// What a line says: what stands before its comment, without the blanks at its ends and with each `\;` written `;`.
+///
+/// A block comment is refused. It takes memory only for a line with a `\`.
+pub fn read_content(alloc: Global, line: usize, part: &[u8]) -> Result<Content<'_>, ConfFault>
+    ensures { Answers borrowed.content_now spec.line_fault result (spec.at_line line (borrowed.content_read part.now)) }
+{
+    let (before, comment) = part.split_at(comment_start(part));
+    if opens_block(comment) {
+        return Err(ConfFault::At {
+            line,
+            kind: LineKind::BlockComment,
+        });
+    }
+    let content = plain_text(alloc, before)?;
+    Ok(content)
+}
+
 /// The header of a section, by what stands behind its `[`.
-fn read_header(alloc: Global, line: usize, inside: &[u8]) -> Result<ConfLine, ConfFault>
-    ensures { Answers (λ item. item ∷ []) spec.line_fault result
+fn read_header(line: usize, inside: &[u8]) -> Result<Line<'_>, ConfFault>
+    ensures { Answers (λ item. borrowed.line_now item ∷ []) spec.line_fault result
         (spec.at_line line (spec.header_of line (cut.cut_once 93 inside.now))) }
 {
     let Some((name, behind)) = cut_once(inside, b']') else {
@@ -87,10 +157,7 @@ fn read_header(alloc: Global, line: usize, inside: &[u8]) -> Result<ConfLine, Co
         });
     }
     match trim_start(behind).first() {
-        None => {
-            let name = Text::copy_of(alloc, name)?;
-            Ok(ConfLine::Header { line, name })
-        }
+        None => Ok(Line::Header { line, name }),
         Some(b'(') => Err(ConfFault::At {
             line,
             kind: LineKind::Template,
@@ -113,8 +180,8 @@ fn behind_sign(text: &[u8]) -> &[u8]
 }
 
 /// A key and a value, by the content of their line.
-fn read_pair(alloc: Global, line: usize, content: &[u8]) -> Result<ConfLine, ConfFault>
-    ensures { Answers (λ item. item ∷ []) spec.line_fault result
+fn read_pair(line: usize, content: &[u8]) -> Result<Line<'_>, ConfFault>
+    ensures { Answers (λ item. borrowed.line_now item ∷ []) spec.line_fault result
         (spec.at_line line (spec.pair_of line (cut.cut_once 61 content.now))) }
 {
     let Some((key, value)) = cut_once(content, b'=') else {
@@ -123,25 +190,27 @@ fn read_pair(alloc: Global, line: usize, content: &[u8]) -> Result<ConfLine, Con
             kind: LineKind::NoEquals,
         });
     };
-    let key = Text::copy_of(alloc, trim(key))?;
-    let value = Text::copy_of(alloc, trim(behind_sign(value)))?;
-    Ok(ConfLine::Pair { line, key, value })
+    let key = trim(key);
+    let value = trim(behind_sign(value));
+    Ok(Line::Pair { line, key, value })
 }
 
-/// The item of a line, by its content, where it has one.
-fn read_content(
-    alloc: Global,
+/// The item of a line, by its content, where it has one: whether a section has begun says if a pair may stand there.
+///
+/// A line is refused, in this order, for a bad header, a template, a directive, a pair before any header, and a missing
+/// `=`: see [`LineKind`].
+pub fn read_line(
     line: usize,
     in_section: bool,
     content: &[u8],
-) -> Result<Option<ConfLine>, ConfFault>
-    ensures { Answers option_to_list spec.line_fault result
+) -> Result<Option<Line<'_>>, ConfFault>
+    ensures { Answers borrowed.lines_now spec.line_fault result
         (spec.at_line line (spec.item_of in_section line content.now)) }
 {
     match content.split_first() {
         None => Ok(None),
         Some((b'[', inside)) => {
-            let header = read_header(alloc, line, inside)?;
+            let header = read_header(line, inside)?;
             Ok(Some(header))
         }
         Some((b'#', _)) => Err(ConfFault::At {
@@ -149,7 +218,7 @@ fn read_content(
             kind: LineKind::Directive,
         }),
         Some(_) if in_section => {
-            let pair = read_pair(alloc, line, content)?;
+            let pair = read_pair(line, content)?;
             Ok(Some(pair))
         }
         Some(_) => Err(ConfFault::At {
@@ -159,48 +228,64 @@ fn read_content(
     }
 }
 
-/// The item of a line, where it has one.
-fn read_part(
-    alloc: Global,
-    line: usize,
-    in_section: bool,
-    part: &[u8],
-) -> Result<Option<ConfLine>, ConfFault>
-    ensures { Answers option_to_list spec.line_fault result
-        (spec.at_line line (spec.part_item in_section line part.now)) }
-{
-    let (before, comment) = part.split_at(comment_start(part));
-    if opens_block(comment) {
-        return Err(ConfFault::At {
-            line,
-            kind: LineKind::BlockComment,
-        });
-    }
-    let plain = unescape(alloc, before)?;
-    let content = trim(plain.as_slice());
-    let item = read_content(alloc, line, in_section, content)?;
-    Ok(item)
-}
-
 /// Whether a section has begun behind this item.
-fn has_begun(in_section: bool, item: &Option<ConfLine>) -> bool
-    ensures { result ≡ (in_section || list_any spec.is_header (option_to_list item.now)) }
+pub fn has_begun(in_section: bool, item: Option<Line<'_>>) -> bool
+    ensures { result ≡ (in_section || list_any spec.is_header (borrowed.lines_now item.entry)) }
 {
     match item {
-        Some(ConfLine::Header { .. }) => true,
-        Some(ConfLine::Pair { .. }) => in_section,
+        Some(Line::Header { .. }) => true,
+        Some(Line::Pair { .. }) => in_section,
         None => in_section,
     }
 }
 
+/// The item with texts of its own.
+fn keep_line(alloc: Global, item: Line<'_>) -> Result<ConfLine, AllocError>
+    ensures { IfOk result (λ kept. kept ≡ borrowed.line_now item.entry) }
+{
+    match item {
+        Line::Header { line, name } => {
+            let name = Text::copy_of(alloc, name)?;
+            Ok(ConfLine::Header { line, name })
+        }
+        Line::Pair { line, key, value } => {
+            let key = Text::copy_of(alloc, key)?;
+            let value = Text::copy_of(alloc, value)?;
+            Ok(ConfLine::Pair { line, key, value })
+        }
+    }
+}
+
 /// Adds the item at the end, where there is one.
-fn push_item(lines: &mut Vec<ConfLine>, item: Option<ConfLine>) -> Result<(), AllocError>
-    ensures { OnOk result (lines.new.items ≡ lines.old.items ++ option_to_list item) }
+fn push_line(
+    alloc: Global,
+    lines: &mut Vec<ConfLine>,
+    item: Option<Line<'_>>,
+) -> Result<(), AllocError>
+    ensures { OnOk result (lines.new.items ≡ lines.old.items ++ borrowed.lines_now item.entry) }
 {
     if let Some(item) = item {
-        lines.push(item)?;
+        let kept = keep_line(alloc, item)?;
+        lines.push(kept)?;
     }
     Ok(())
+}
+
+/// Reads one line behind the others, and says whether a section has begun behind it.
+fn add_line(
+    alloc: Global,
+    lines: &mut Vec<ConfLine>,
+    line: usize,
+    in_section: bool,
+    part: &[u8],
+) -> Result<bool, ConfFault>
+    ensures { Answers (λ begun. (begun, lines.new.items)) spec.line_fault result
+        (borrowed.added_line lines.old.items in_section line part.now) }
+{
+    let content = read_content(alloc, line, part)?;
+    let item = read_line(line, in_section, content.bytes())?;
+    push_line(alloc, lines, item)?;
+    Ok(has_begun(in_section, item))
 }
 
 /// The items of a configuration text in order, with the numbers of their lines, or the fault of its first faulty line.
@@ -221,9 +306,7 @@ pub fn read_lines(alloc: Global, text: &[u8]) -> Result<Vec<ConfLine>, ConfFault
     while let Some(left) = rest {
         let (part, behind) = first_part(left);
         line += 1;
-        let item = read_part(alloc, line, in_section, part)?;
-        in_section = has_begun(in_section, &item);
-        push_item(&mut lines, item)?;
+        in_section = add_line(alloc, &mut lines, line, in_section, part)?;
         rest = behind;
     }
     Ok(lines)

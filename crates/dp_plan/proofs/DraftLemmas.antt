@@ -15,13 +15,15 @@ use Rattle.dp_conf.proofs.AnswersLemmas.{each_after-push, snoc_from}
 use Rattle.dp_plan.specs.Contexts.{PlanContext, with_entry, with_include}
 use Rattle.dp_plan.specs.Extensions.{extension_of}
 use Rattle.dp_plan.specs.Plan.{Addition, Inclusion, of_one_extension, shares_label, same_place, is_place_taken, is_label_taken, is_taken, is_named, kept_by, added_in, included_in, context_in, global_in, kept_in, names_in, context_of, entry_note, include_note, note_of, notes_of}
-use Rattle.dp_plan.specs.Draft.{Drafted, nothing, same_slot, same_marked, slot_of, label_of, with_name, with_context, changed_at, changed_context, is_marked, with_note, with_addition, with_inclusion, added}
+use Rattle.dp_plan.specs.Draft.{Drafted, nothing, same_slot, same_marked, slot_of, label_of, with_context, changed_at, changed_context, is_marked, with_note, with_addition, with_inclusion, added, settled}
 use Rattle.dp_plan.specs.declared.draft.Slot.{Slot}
 use Rattle.dp_plan.specs.declared.draft.Label.{Label}
 use Rattle.dp_plan.specs.declared.entry.Entry.{Entry}
 use Rattle.dp_plan.specs.declared.plan.GlobalVariable.{GlobalVariable}
 use Rattle.dp_plan.specs.declared.note.Note.{Note}
-use Rattle.dp_plan.specs.declared.note.NoteKind.TheVariants.{DoublePriority, DoubleLabel, UnknownContext, UnknownKey}
+use Rattle.dp_plan.specs.declared.remark.Remark.{Remark}
+use Rattle.dp_plan.specs.declared.remark.Remark.TheVariants.{Noted, Asks}
+use Rattle.dp_plan.specs.declared.note.NoteKind.TheVariants.{DoublePriority, DoubleLabel, UnknownKey}
 use Rattle.dp_plan.specs.declared.section.Section.TheVariants.{General, Globals, Context}
 use Rattle.dp_plan.specs.declared.item.Item.{Item}
 use Rattle.dp_plan.specs.declared.item.Item.TheVariants.{Begins, Sets, Adds, Includes, Unknown}
@@ -73,21 +75,49 @@ kept_by-option taken xs (Some x) = kept_by-push taken [] xs x
 pub kept_by-filter_map : {X Y : Type 0} (taken : List Y → Y → Bool) (h : X → Option Y) (xs : List X) (x : X) → kept_by taken [] (filter_map h (xs ++ x ∷ [])) ≡ more_by taken (kept_by taken [] (filter_map h xs)) (h x)
 kept_by-filter_map taken h xs x = ap (kept_by taken []) (filter_map-append h xs (x ∷ [])) ∙ kept_by-option taken (filter_map h xs) (h x)
 
--- the notes of the items, where these are the names of all contexts
-abbrev pub notes_with : List (List ℕ) → List Item → List Note
-notes_with known items = flat_map (λ notes. notes) (each_after (note_of known) [] items)
+-- what is remarked of an item, by the items before it
+abbrev pub remark_of : List Item → Item → List Remark
+remark_of before (Begins section) = []
+remark_of before (Sets global) = []
+remark_of before (Adds line context entry) =
+    map Noted (entry_note line (kept_in before) (record { context = context; entry = entry }))
+remark_of before (Includes line context name) = Asks line name ∷ []
+remark_of before (Unknown line) = Noted (record { line = line; kind = UnknownKey }) ∷ []
 
--- one more item's note goes last
-notes_with-push : (known : List (List ℕ)) (items : List Item) (x : Item) → notes_with known (items ++ x ∷ []) ≡ notes_with known items ++ note_of known items x
-notes_with-push known items x =
-    ap (flat_map (λ (notes : List Note). notes)) (each_after-push (note_of known) [] items x)
-    ∙ (flat_map-append (λ (notes : List Note). notes) (each_after (note_of known) [] items) (note_of known items x ∷ [])
-    ∙ ap (λ (more : List Note). flat_map (λ (notes : List Note). notes) (each_after (note_of known) [] items) ++ more) (append-nil (note_of known items x)))
+-- the remarks of the items
+abbrev pub remarks_in : List Item → List Remark
+remarks_in items = flat_map (λ remarks. remarks) (each_after remark_of [] items)
 
--- the notes of the items are those with the names of all their contexts
-pub notes_of-is : (items : List Item) → notes_with (names_in items) items ≡ notes_of items
+-- one more item's remark goes last
+remarks_in-push : (items : List Item) (x : Item) → remarks_in (items ++ x ∷ []) ≡ remarks_in items ++ remark_of items x
+remarks_in-push items x =
+    ap (flat_map (λ (remarks : List Remark). remarks)) (each_after-push remark_of [] items x)
+    ∙ (flat_map-append (λ (remarks : List Remark). remarks) (each_after remark_of [] items) (remark_of items x ∷ [])
+    ∙ ap (λ (more : List Remark). flat_map (λ (remarks : List Remark). remarks) (each_after remark_of [] items) ++ more) (append-nil (remark_of items x)))
+
+-- remarks that are notes are those notes
+settled-noted : (names : List (List ℕ)) (notes : List Note) → flat_map (settled names) (map Noted notes) ≡ notes
+settled-noted names [] = refl
+settled-noted names (note ∷ notes) = ap (λ (ns : List Note). note ∷ ns) (settled-noted names notes)
+
+-- the remarks of an item come to its notes
+settled-one : (names : List (List ℕ)) (before : List Item) (x : Item) → flat_map (settled names) (remark_of before x) ≡ note_of names before x
+settled-one names before (Begins section) = refl
+settled-one names before (Sets global) = refl
+settled-one names before (Adds line context entry) = settled-noted names (entry_note line (kept_in before) (record { context = context; entry = entry }))
+settled-one names before (Includes line context name) = append-nil (include_note line names name)
+settled-one names before (Unknown line) = refl
+
+settled-each : (names : List (List ℕ)) (before items : List Item) → flat_map (settled names) (flat_map (λ remarks. remarks) (each_after remark_of before items)) ≡ flat_map (λ notes. notes) (each_after (note_of names) before items)
+settled-each names before [] = refl
+settled-each names before (x ∷ items) =
+    flat_map-append (settled names) (remark_of before x) (flat_map (λ remarks. remarks) (each_after remark_of (before ++ x ∷ []) items))
+    ∙ (λ i. settled-one names before x i ++ settled-each names (before ++ x ∷ []) items i)
+
+-- the remarks of the items come to their notes
+pub settled-notes : (items : List Item) → flat_map (settled (names_in items)) (remarks_in items) ≡ notes_of items
 unfolding notes_of
-notes_of-is items = refl
+settled-notes items = settled-each (names_in items) [] items
 
 -- the slot and the label of an addition
 abbrev slot_in : Addition → Slot
@@ -96,20 +126,20 @@ slot_in a = slot_of a.context a.entry
 abbrev label_in : Addition → Option Label
 label_in a = label_of a.context a.entry
 
--- a draft by its global variables, its names, what is kept, its includes, and its notes
-abbrev pub drafted : List GlobalVariable → List (List ℕ) → List Addition → List Inclusion → List Note → Drafted
-drafted globals names kept included notes = record {
+-- a draft by its global variables, its names, what is kept, its includes, and its remarks
+abbrev pub drafted : List GlobalVariable → List (List ℕ) → List Addition → List Inclusion → List Remark → Drafted
+drafted globals names kept included remarks = record {
   globals = globals;
   names = names;
   contexts = map (context_of kept included) names;
   taken = map slot_in kept;
   labels = filter_map label_in kept;
-  notes = notes;
+  remarks = remarks;
 }
 
 -- the draft that the items say
-abbrev pub drafted_in : List (List ℕ) → List Item → Drafted
-drafted_in known items = drafted (filter_map global_in items) (names_in items) (kept_in items) (filter_map included_in items) (notes_with known items)
+abbrev pub drafted_in : List Item → Drafted
+drafted_in items = drafted (filter_map global_in items) (names_in items) (kept_in items) (filter_map included_in items) (remarks_in items)
 
 -- every context of what is kept, and of what is included, has its name among the names
 abbrev pub IsAllNamed : List (List ℕ) → List Addition → List Inclusion → Type 0
@@ -195,15 +225,15 @@ IsAllNamed-more names kept included name named = IsAllNamed-append names (cond (
 -- ---- contexts that begin
 
 -- the draft with a context that is new or there already
-with_context-is : (globals : List GlobalVariable) (names : List (List ℕ)) (kept : List Addition) (included : List Inclusion) (notes : List Note) (name : List ℕ) → IsAllNamed names kept included → with_context (drafted globals names kept included notes) name ≡ drafted globals (more_by is_named names (Some name)) kept included notes
-with_context-is globals names kept included notes name named = by (is_named names name) refl where
+with_context-is : (globals : List GlobalVariable) (names : List (List ℕ)) (kept : List Addition) (included : List Inclusion) (remarks : List Remark) (name : List ℕ) → IsAllNamed names kept included → with_context (drafted globals names kept included remarks) name ≡ drafted globals (more_by is_named names (Some name)) kept included remarks
+with_context-is globals names kept included remarks name named = by (is_named names name) refl where
   before : Drafted
-  before = drafted globals names kept included notes
+  before = drafted globals names kept included remarks
 
-  by : (t : Bool) → is_named names name ≡ t → cond t before (record before { names = names ++ name ∷ []; contexts = map (context_of kept included) names ++ (record { name = name; entries = []; includes = [] }) ∷ [] }) ≡ drafted globals (names ++ cond t [] (name ∷ [])) kept included notes
-  by true e = ap (λ (ns : List (List ℕ)). drafted globals ns kept included notes) (sym (append-nil names))
+  by : (t : Bool) → is_named names name ≡ t → cond t before (record before { names = names ++ name ∷ []; contexts = map (context_of kept included) names ++ (record { name = name; entries = []; includes = [] }) ∷ [] }) ≡ drafted globals (names ++ cond t [] (name ∷ [])) kept included remarks
+  by true e = ap (λ (ns : List (List ℕ)). drafted globals ns kept included remarks) (sym (append-nil names))
   by false e =
-      let last : List PlanContext → Drafted = λ contexts. record { globals = globals; names = names ++ name ∷ []; contexts = contexts; taken = map slot_in kept; labels = filter_map label_in kept; notes = notes } in
+      let last : List PlanContext → Drafted = λ contexts. record { globals = globals; names = names ++ name ∷ []; contexts = contexts; taken = map slot_in kept; labels = filter_map label_in kept; remarks = remarks } in
       ap last
       (ap (λ (c : PlanContext). map (context_of kept included) names ++ c ∷ []) (sym (context_of-absent names kept included name e named))
       ∙ sym (map-append (context_of kept included) names (name ∷ [])))
@@ -305,11 +335,11 @@ list-cons (Some x) = refl
 
 -- ---- one more entry or include
 
-with_addition-is : (globals : List GlobalVariable) (names : List (List ℕ)) (kept : List Addition) (included : List Inclusion) (notes : List Note) (line : ℕ) (a : Addition) → IsDistinct names → with_addition (drafted globals names kept included notes) line a.context a.entry ≡ drafted globals names (more_by is_taken kept (Some a)) included (notes ++ entry_note line kept a)
-with_addition-is globals names kept included notes line a distinct =
+with_addition-is : (globals : List GlobalVariable) (names : List (List ℕ)) (kept : List Addition) (included : List Inclusion) (remarks : List Remark) (line : ℕ) (a : Addition) → IsDistinct names → with_addition (drafted globals names kept included remarks) line a.context a.entry ≡ drafted globals names (more_by is_taken kept (Some a)) included (remarks ++ map Noted (entry_note line kept a))
+with_addition-is globals names kept included remarks line a distinct =
     (λ i. choose (is_slot_taken-is kept a i) (is_marked-is before kept a refl i)) ∙ by (is_place_taken kept a) (is_label_taken kept a) where
       before : Drafted
-      before = drafted globals names kept included notes
+      before = drafted globals names kept included remarks
 
       choose : Bool → Bool → Drafted
       choose p l = cond p (with_note before line DoublePriority) (cond l (with_note before line DoubleLabel) (record before {
@@ -318,78 +348,62 @@ with_addition-is globals names kept included notes line a distinct =
         labels = filter_map label_in kept ++ option_to_list (label_of a.context a.entry);
       }))
 
-      note : Bool → Bool → List Note
-      note p l = cond p ((record { line = line; kind = DoublePriority }) ∷ []) (cond l ((record { line = line; kind = DoubleLabel }) ∷ []) [])
+      remark : Bool → Bool → List Remark
+      remark p l = map Noted (cond p ((record { line = line; kind = DoublePriority }) ∷ []) (cond l ((record { line = line; kind = DoubleLabel }) ∷ []) []))
 
-      by : (p l : Bool) → choose p l ≡ drafted globals names (kept ++ cond (p || l) [] (a ∷ [])) included (notes ++ note p l)
-      by true l = ap (λ (ks : List Addition). drafted globals names ks included (notes ++ note true true)) (sym (append-nil kept))
-      by false true = ap (λ (ks : List Addition). drafted globals names ks included (notes ++ note false true)) (sym (append-nil kept))
+      by : (p l : Bool) → choose p l ≡ drafted globals names (kept ++ cond (p || l) [] (a ∷ [])) included (remarks ++ remark p l)
+      by true l = ap (λ (ks : List Addition). drafted globals names ks included (remarks ++ remark true true)) (sym (append-nil kept))
+      by false true = ap (λ (ks : List Addition). drafted globals names ks included (remarks ++ remark false true)) (sym (append-nil kept))
       by false false = λ i. record {
         globals = globals;
         names = names;
         contexts = sym (contexts-entry kept included a names distinct) i;
         taken = sym (map-append slot_in kept (a ∷ [])) i;
         labels = (ap (λ (ls : List Label). filter_map label_in kept ++ ls) (list-cons (label_in a)) ∙ sym (filter_map-append label_in kept (a ∷ []))) i;
-        notes = sym (append-nil notes) i;
+        remarks = sym (append-nil remarks) i;
       }
 
-with_inclusion-is : (known : List (List ℕ)) (globals : List GlobalVariable) (names : List (List ℕ)) (kept : List Addition) (included : List Inclusion) (notes : List Note) (line : ℕ) (k : Inclusion) → IsDistinct names → with_inclusion known (drafted globals names kept included notes) line k.context k.name ≡ drafted globals names kept (included ++ k ∷ []) (notes ++ include_note line known k.name)
-with_inclusion-is known globals names kept included notes line k distinct = by (is_named known k.name) where
-  before : Drafted
-  before = drafted globals names kept included notes
-
-  after : Drafted
-  after = record before { contexts = changed_context before (with_include k.name) k.context }
-
-  by : (t : Bool) → cond t after (with_note after line UnknownContext) ≡ drafted globals names kept (included ++ k ∷ []) (notes ++ cond t [] ((record { line = line; kind = UnknownContext }) ∷ []))
-  by true = λ i. record {
-    globals = globals;
-    names = names;
-    contexts = sym (contexts-include kept included k names distinct) i;
-    taken = map slot_in kept;
-    labels = filter_map label_in kept;
-    notes = sym (append-nil notes) i;
-  }
-  by false = λ i. record {
-    globals = globals;
-    names = names;
-    contexts = sym (contexts-include kept included k names distinct) i;
-    taken = map slot_in kept;
-    labels = filter_map label_in kept;
-    notes = notes ++ (record { line = line; kind = UnknownContext }) ∷ [];
-  }
+with_inclusion-is : (globals : List GlobalVariable) (names : List (List ℕ)) (kept : List Addition) (included : List Inclusion) (remarks : List Remark) (line : ℕ) (k : Inclusion) → IsDistinct names → with_inclusion (drafted globals names kept included remarks) line k.context k.name ≡ drafted globals names kept (included ++ k ∷ []) (remarks ++ Asks line k.name ∷ [])
+with_inclusion-is globals names kept included remarks line k distinct = λ i. record {
+  globals = globals;
+  names = names;
+  contexts = sym (contexts-include kept included k names distinct) i;
+  taken = map slot_in kept;
+  labels = filter_map label_in kept;
+  remarks = remarks ++ Asks line k.name ∷ [];
+}
 
 -- ---- one more item
 
 -- one more item, by the parts of the draft
-added-is : (known : List (List ℕ)) (globals : List GlobalVariable) (names : List (List ℕ)) (kept : List Addition) (included : List Inclusion) (notes : List Note) (x : Item) → IsAllNamed names kept included → IsDistinct names
+added-is : (globals : List GlobalVariable) (names : List (List ℕ)) (kept : List Addition) (included : List Inclusion) (remarks : List Remark) (x : Item) → IsAllNamed names kept included → IsDistinct names
     → (before : List Item) → kept_in before ≡ kept
-    → added known (drafted globals names kept included notes) x ≡ drafted (globals ++ cons_option (global_in x) []) (more_by is_named names (context_in x)) (more_by is_taken kept (added_in x)) (included ++ cons_option (included_in x) []) (notes ++ note_of known before x)
-added-is known globals names kept included notes (Begins General) named distinct before same =
-    λ i. drafted (sym (append-nil globals) i) names kept (sym (append-nil included) i) (sym (append-nil notes) i)
-added-is known globals names kept included notes (Begins Globals) named distinct before same =
-    λ i. drafted (sym (append-nil globals) i) names kept (sym (append-nil included) i) (sym (append-nil notes) i)
-added-is known globals names kept included notes (Begins (Context name)) named distinct before same =
-    with_context-is globals names kept included notes name named
-    ∙ (λ i. drafted (sym (append-nil globals) i) (more_by is_named names (Some name)) kept (sym (append-nil included) i) (sym (append-nil notes) i))
-added-is known globals names kept included notes (Sets global) named distinct before same =
-    λ i. drafted (globals ++ global ∷ []) names kept (sym (append-nil included) i) (sym (append-nil notes) i)
-added-is known globals names kept included notes (Adds line context entry) named distinct before same =
+    → added (drafted globals names kept included remarks) x ≡ drafted (globals ++ cons_option (global_in x) []) (more_by is_named names (context_in x)) (more_by is_taken kept (added_in x)) (included ++ cons_option (included_in x) []) (remarks ++ remark_of before x)
+added-is globals names kept included remarks (Begins General) named distinct before same =
+    λ i. drafted (sym (append-nil globals) i) names kept (sym (append-nil included) i) (sym (append-nil remarks) i)
+added-is globals names kept included remarks (Begins Globals) named distinct before same =
+    λ i. drafted (sym (append-nil globals) i) names kept (sym (append-nil included) i) (sym (append-nil remarks) i)
+added-is globals names kept included remarks (Begins (Context name)) named distinct before same =
+    with_context-is globals names kept included remarks name named
+    ∙ (λ i. drafted (sym (append-nil globals) i) (more_by is_named names (Some name)) kept (sym (append-nil included) i) (sym (append-nil remarks) i))
+added-is globals names kept included remarks (Sets global) named distinct before same =
+    λ i. drafted (globals ++ global ∷ []) names kept (sym (append-nil included) i) (sym (append-nil remarks) i)
+added-is globals names kept included remarks (Adds line context entry) named distinct before same =
     let a : Addition = record { context = context; entry = entry } in
-    ap (λ (d : Drafted). with_addition d line context entry) (with_context-is globals names kept included notes context named)
-    ∙ (with_addition-is globals (more_by is_named names (Some context)) kept included notes line a (IsDistinct-more names context distinct)
-    ∙ (λ i. drafted (sym (append-nil globals) i) (more_by is_named names (Some context)) (more_by is_taken kept (Some a)) (sym (append-nil included) i) (notes ++ entry_note line (sym same i) a)))
-added-is known globals names kept included notes (Includes line context name) named distinct before same =
+    ap (λ (d : Drafted). with_addition d line context entry) (with_context-is globals names kept included remarks context named)
+    ∙ (with_addition-is globals (more_by is_named names (Some context)) kept included remarks line a (IsDistinct-more names context distinct)
+    ∙ (λ i. drafted (sym (append-nil globals) i) (more_by is_named names (Some context)) (more_by is_taken kept (Some a)) (sym (append-nil included) i) (remarks ++ map Noted (entry_note line (sym same i) a))))
+added-is globals names kept included remarks (Includes line context name) named distinct before same =
     let k : Inclusion = record { context = context; name = name } in
-    ap (λ (d : Drafted). with_inclusion known d line context name) (with_context-is globals names kept included notes context named)
-    ∙ (with_inclusion-is known globals (more_by is_named names (Some context)) kept included notes line k (IsDistinct-more names context distinct)
-    ∙ (λ i. drafted (sym (append-nil globals) i) (more_by is_named names (Some context)) kept (included ++ k ∷ []) (notes ++ include_note line known name)))
-added-is known globals names kept included notes (Unknown line) named distinct before same =
-    λ i. drafted (sym (append-nil globals) i) names kept (sym (append-nil included) i) (notes ++ (record { line = line; kind = UnknownKey }) ∷ [])
+    ap (λ (d : Drafted). with_inclusion d line context name) (with_context-is globals names kept included remarks context named)
+    ∙ (with_inclusion-is globals (more_by is_named names (Some context)) kept included remarks line k (IsDistinct-more names context distinct)
+    ∙ (λ i. drafted (sym (append-nil globals) i) (more_by is_named names (Some context)) kept (included ++ k ∷ []) (remarks ++ Asks line name ∷ [])))
+added-is globals names kept included remarks (Unknown line) named distinct before same =
+    λ i. drafted (sym (append-nil globals) i) names kept (sym (append-nil included) i) (remarks ++ Noted (record { line = line; kind = UnknownKey }) ∷ [])
 
 -- what the items make of a draft, and what stays true of its names
-pub record Makes (known : List (List ℕ)) (items : List Item) : Type 0 where
-  pub draft : fold (added known) nothing items ≡ drafted_in known items
+pub record Makes (items : List Item) : Type 0 where
+  pub draft : fold added nothing items ≡ drafted_in items
   pub named : IsAllNamed (names_in items) (kept_in items) (filter_map included_in items)
   pub distinct : IsDistinct (names_in items)
 
@@ -423,19 +437,19 @@ distinct-option : (names : List (List ℕ)) (o : Option (List ℕ)) → IsDistin
 distinct-option names None distinct = distinct
 distinct-option names (Some name) distinct = IsDistinct-more names name distinct
 
-Makes-push : (known : List (List ℕ)) (items : List Item) (x : Item) → Makes known items → Makes known (items ++ x ∷ [])
-Makes-push known items x makes =
+Makes-push : (items : List Item) (x : Item) → Makes items → Makes (items ++ x ∷ [])
+Makes-push items x makes =
     let globals : filter_map global_in (items ++ x ∷ []) ≡ filter_map global_in items ++ cons_option (global_in x) [] = filter_map-append global_in items (x ∷ []) in
     let included : filter_map included_in (items ++ x ∷ []) ≡ filter_map included_in items ++ cons_option (included_in x) [] = filter_map-append included_in items (x ∷ []) in
     let names : names_in (items ++ x ∷ []) ≡ more_by is_named (names_in items) (context_in x) = kept_by-filter_map is_named context_in items x in
     let kept : kept_in (items ++ x ∷ []) ≡ more_by is_taken (kept_in items) (added_in x) = kept_by-filter_map is_taken added_in items x in
-    let notes = notes_with-push known items x in
+    let remarks = remarks_in-push items x in
     record {
       draft =
-          fold-append (added known) nothing items (x ∷ [])
-          ∙ (ap (λ (d : Drafted). added known d x) makes.draft
-          ∙ (added-is known (filter_map global_in items) (names_in items) (kept_in items) (filter_map included_in items) (notes_with known items) x makes.named makes.distinct items refl
-          ∙ (λ i. drafted (sym globals i) (sym names i) (sym kept i) (sym included i) (sym notes i))));
+          fold-append added nothing items (x ∷ [])
+          ∙ (ap (λ (d : Drafted). added d x) makes.draft
+          ∙ (added-is (filter_map global_in items) (names_in items) (kept_in items) (filter_map included_in items) (remarks_in items) x makes.named makes.distinct items refl
+          ∙ (λ i. drafted (sym globals i) (sym names i) (sym kept i) (sym included i) (sym remarks i))));
       named =
           subst (IsAllNamed (names_in (items ++ x ∷ [])) (kept_in (items ++ x ∷ []))) (sym included)
           (subst (λ (ks : List Addition). IsAllNamed (names_in (items ++ x ∷ [])) ks (filter_map included_in items ++ cons_option (included_in x) [])) (sym kept)
@@ -445,20 +459,10 @@ Makes-push known items x makes =
     }
 
 -- the items make the draft that they say
-pub Makes-all : (known : List (List ℕ)) (items : List Item) → Makes known items
-Makes-all known items = snoc_from (Makes known) (Makes-push known) [] items (record { draft = refl; named = (refl, refl); distinct = tt })
+pub Makes-all : (items : List Item) → Makes items
+Makes-all items = snoc_from Makes Makes-push [] items (record { draft = refl; named = (refl, refl); distinct = tt })
 
 -- the names of the contexts are the names
 pub names-contexts : (kept : List Addition) (included : List Inclusion) (names : List (List ℕ)) → map (λ (c : PlanContext). c.name) (map (context_of kept included) names) ≡ names
 names-contexts kept included [] = refl
 names-contexts kept included (n ∷ names) = ap (λ (ns : List (List ℕ)). n ∷ ns) (names-contexts kept included names)
-
--- one more item's context goes to the names
-pub names_in-push : (items : List Item) (x : Item) → names_in (items ++ x ∷ []) ≡ with_name (names_in items) (context_in x)
-names_in-push items x = kept_by-filter_map is_named context_in items x ∙ by (context_in x) where
-  by : (o : Option (List ℕ)) → more_by is_named (names_in items) o ≡ with_name (names_in items) o
-  by None = refl
-  by (Some name) = inner (is_named (names_in items) name) where
-    inner : (t : Bool) → (names_in items ++ cond t [] (name ∷ [])) ≡ cond t (names_in items) (names_in items ++ name ∷ [])
-    inner true = append-nil (names_in items)
-    inner false = refl

@@ -8,8 +8,8 @@ mod EntryLemmas
 mod HistoryLemmas
 mod ItemsAgain
 mod ItemsKnown
-mod ItemsLemmas
 mod LoadedLemmas
+mod LoadingLemmas
 mod NamedLemmas
 pub mod PlanAgain
 pub mod PlanKnown

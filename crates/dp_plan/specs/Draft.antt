@@ -6,31 +6,33 @@ use Rattle.std.specs.Option.{option_to_list, option_map}
 use Rattle.dp_conf.specs.Words.{same_text}
 use Rattle.dp_plan.specs.Contexts.{PlanContext, with_entry, with_include}
 use Rattle.dp_plan.specs.Extensions.{extension_of, same_extension}
-use Rattle.dp_plan.specs.Plan.{is_named}
+use Rattle.dp_plan.specs.Plan.{is_named, include_note}
 use Rattle.dp_plan.specs.declared.draft.Slot.{Slot}
 use Rattle.dp_plan.specs.declared.draft.Label.{Label}
+use Rattle.dp_plan.specs.declared.remark.Remark.{Remark}
+use Rattle.dp_plan.specs.declared.remark.Remark.TheVariants.{Noted, Asks}
 use Rattle.dp_plan.specs.declared.entry.Entry.{Entry}
 use Rattle.dp_plan.specs.declared.plan.GlobalVariable.{GlobalVariable}
 use Rattle.dp_plan.specs.declared.note.Note.{Note}
 use Rattle.dp_plan.specs.declared.note.NoteKind.{NoteKind}
-use Rattle.dp_plan.specs.declared.note.NoteKind.TheVariants.{DoublePriority, DoubleLabel, UnknownContext, UnknownKey}
+use Rattle.dp_plan.specs.declared.note.NoteKind.TheVariants.{DoublePriority, DoubleLabel, UnknownKey}
 use Rattle.dp_plan.specs.declared.section.Section.{Section}
 use Rattle.dp_plan.specs.declared.section.Section.TheVariants.{General, Globals, Context}
 use Rattle.dp_plan.specs.declared.item.Item.{Item}
 use Rattle.dp_plan.specs.declared.item.Item.TheVariants.{Begins, Sets, Adds, Includes, Unknown}
 
--- the global variables, the contexts with their names, the places and labels that are taken, and the notes so far
+-- the global variables, the contexts with their names, the places and labels that are taken, and the remarks so far
 pub record Drafted : Type 0 where
   pub globals : List GlobalVariable
   pub names : List (List ℕ)
   pub contexts : List PlanContext
   pub taken : List Slot
   pub labels : List Label
-  pub notes : List Note
+  pub remarks : List Remark
 
 -- nothing so far
 abbrev pub nothing : Drafted
-nothing = record { globals = []; names = []; contexts = []; taken = []; labels = []; notes = [] }
+nothing = record { globals = []; names = []; contexts = []; taken = []; labels = []; remarks = [] }
 
 -- two slots are the same place
 abbrev pub same_slot : Slot → Slot → Bool
@@ -88,7 +90,7 @@ with_label d (Some label) = if is_marked d (Some label) then d else record d { l
 
 -- the draft with one more note
 abbrev pub with_note : Drafted → ℕ → NoteKind → Drafted
-with_note d line kind = record d { notes = d.notes ++ (record { line = line; kind = kind }) ∷ [] }
+with_note d line kind = record d { remarks = d.remarks ++ Noted (record { line = line; kind = kind }) ∷ [] }
 
 -- the context of the name, which is there already, is changed
 abbrev pub changed_context : Drafted → (PlanContext → PlanContext) → List ℕ → List PlanContext
@@ -115,11 +117,12 @@ with_addition d line context entry =
       labels = d.labels ++ option_to_list (label_of context entry);
     }
 
--- the draft with the include in its context, which is there already; a name that is not known is noted
-abbrev pub with_inclusion : List (List ℕ) → Drafted → ℕ → List ℕ → List ℕ → Drafted
-with_inclusion known d line context name =
-    if is_named known name then record d { contexts = changed_context d (with_include name) context }
-    else with_note (record d { contexts = changed_context d (with_include name) context }) line UnknownContext
+-- the draft with the include in its context, which is there already; whether its name is known shows in the end
+abbrev pub with_inclusion : Drafted → ℕ → List ℕ → List ℕ → Drafted
+with_inclusion d line context name = record d {
+  contexts = changed_context d (with_include name) context;
+  remarks = d.remarks ++ Asks line name ∷ [];
+}
 
 -- the draft with the context of a section, where it is one
 abbrev pub with_section : Drafted → Section → Drafted
@@ -127,10 +130,15 @@ with_section d General = d
 with_section d Globals = d
 with_section d (Context name) = with_context d name
 
--- the draft with one more item, where the names of all contexts are known
-abbrev pub added : List (List ℕ) → Drafted → Item → Drafted
-added known d (Begins section) = with_section d section
-added known d (Sets global) = record d { globals = d.globals ++ global ∷ [] }
-added known d (Adds line context entry) = with_addition (with_context d context) line context entry
-added known d (Includes line context name) = with_inclusion known (with_context d context) line context name
-added known d (Unknown line) = with_note d line UnknownKey
+-- the draft with one more item
+abbrev pub added : Drafted → Item → Drafted
+added d (Begins section) = with_section d section
+added d (Sets global) = record d { globals = d.globals ++ global ∷ [] }
+added d (Adds line context entry) = with_addition (with_context d context) line context entry
+added d (Includes line context name) = with_inclusion (with_context d context) line context name
+added d (Unknown line) = with_note d line UnknownKey
+
+-- the note of a remark, by the names of all contexts
+abbrev pub settled : List (List ℕ) → Remark → List Note
+settled names (Noted note) = note ∷ []
+settled names (Asks line name) = include_note line names name

@@ -7,6 +7,7 @@ pub mod Faults
 pub mod History
 pub mod Items
 pub mod Loaded
+pub mod Loading
 pub mod Lookup
 pub mod Plan
 pub mod Priority

@@ -1,11 +1,10 @@
 //! A dialplan in the making.
 ghost use Rattle.std.specs.Prelude.{◌≡◌, ◌++◌, ◌<◌, [], ◌∷◌, OnOk, IfOk, Some, length, fold, map};
-ghost use Rattle.std.specs.List.{All, position_or_len};
-ghost use Rattle.std.specs.Option.{option_copied};
+ghost use Rattle.std.specs.List.{All, flat_map, position_or_len};
+ghost use Rattle.std.specs.Option.{option_copied, option_to_list};
 ghost use Rattle.dp_plan.specs.Contexts.{with_entry, with_include};
 ghost use Rattle.dp_plan.specs.Draft as spec;
 ghost use Rattle.dp_conf.specs.Words.{same_text};
-ghost use Rattle.dp_plan.specs.Plan as plans;
 ghost use Rattle.dp_plan.specs.Ranking.{AreApart};
 
 use crate::context::Context;
@@ -16,6 +15,7 @@ use crate::note::{Note, NoteKind};
 use crate::plan::{Dialplan, GlobalVariable};
 use crate::priority::Priority;
 use crate::ranking::rank_contexts;
+use crate::remark::{Remark, settle};
 use crate::section::Section;
 use dp_conf::{NoMemory, Text};
 use indexmap::IndexSet;
@@ -44,7 +44,7 @@ pub(crate) struct Draft {
     contexts: Vec<Context>,
     taken: IndexSet<Slot>,
     labels: IndexSet<Label>,
-    notes: Vec<Note>,
+    remarks: Vec<Remark>,
 }
 
 impl Model for Draft {
@@ -59,7 +59,7 @@ impl Model for Draft {
       contexts = draft.contexts.items;
       taken = draft.taken.keys;
       labels = draft.labels.keys;
-      notes = draft.notes.items;
+      remarks = draft.remarks.items;
     } };
 
     ghost invariant = { λ draft. length draft.names.keys ≡ length draft.contexts.items };
@@ -110,7 +110,7 @@ fn claim_of(alloc: Global, context: &Text, entry: &Entry) -> Result<Claim, NoMem
 
 impl Draft {
     /// A draft of nothing.
-    fn new(alloc: Global) -> Self
+    pub(crate) fn new(alloc: Global) -> Self
         ensures { result ≡ spec.nothing }
     {
         Draft {
@@ -119,7 +119,7 @@ impl Draft {
             contexts: Vec::new(alloc),
             taken: IndexSet::new(alloc),
             labels: IndexSet::new(alloc),
-            notes: Vec::new(alloc),
+            remarks: Vec::new(alloc),
         }
     }
 
@@ -143,7 +143,7 @@ impl Draft {
     fn note(&mut self, line: usize, kind: NoteKind) -> Result<(), NoMemory>
         ensures { OnOk result (self.new ≡ spec.with_note self.old line kind) }
     {
-        self.notes.push(Note { line, kind })?;
+        self.remarks.push(Remark::Noted(Note { line, kind }))?;
         Ok(())
     }
 
@@ -256,24 +256,21 @@ impl Draft {
         }
     }
 
-    /// Adds an include to its context, with a note where the name is not among those of all contexts.
+    /// Adds an include to its context. Whether its name is one of a context shows in the end.
     fn add_include(
         &mut self,
         alloc: Global,
-        known: &IndexSet<Text>,
         line: usize,
         context: Text,
         name: Text,
     ) -> Result<(), NoMemory>
         ensures { OnOk result (self.new
-            ≡ spec.with_inclusion known.now.keys (spec.with_context self.old context) line context name) }
+            ≡ spec.with_inclusion (spec.with_context self.old context) line context name) }
     {
-        let is_known = known.contains(&name);
+        let copy = name.clone()?;
         let place = self.open(alloc, context)?;
-        self.push_include(place, name)?;
-        if !is_known {
-            self.note(line, NoteKind::UnknownContext)?;
-        }
+        self.push_include(place, copy)?;
+        self.remarks.push(Remark::Asks { line, name })?;
         Ok(())
     }
 
@@ -295,9 +292,9 @@ impl Draft {
         Ok(())
     }
 
-    /// Adds what an item says, where the names of all contexts are known.
-    fn add(&mut self, alloc: Global, known: &IndexSet<Text>, item: Item) -> Result<(), NoMemory>
-        ensures { OnOk result (self.new ≡ spec.added known.now.keys self.old item) }
+    /// Adds what an item says.
+    fn add(&mut self, alloc: Global, item: Item) -> Result<(), NoMemory>
+        ensures { OnOk result (self.new ≡ spec.added self.old item) }
     {
         match item {
             Item::Begins(section) => self.begin(alloc, section),
@@ -311,85 +308,49 @@ impl Draft {
                 line,
                 context,
                 name,
-            } => self.add_include(alloc, known, line, context, name),
+            } => self.add_include(alloc, line, context, name),
             Item::Unknown(line) => self.note(line, NoteKind::UnknownKey),
         }
     }
 
+    /// Adds what an item says, where there is one.
+    pub(crate) fn add_item(&mut self, alloc: Global, item: Option<Item>) -> Result<(), NoMemory>
+        ensures { OnOk result (self.new ≡ fold spec.added self.old (option_to_list item)) }
+    {
+        match item {
+            None => Ok(()),
+            Some(item) => self.add(alloc, item),
+        }
+    }
+
+    /// The notes that the remarks come to.
+    fn notes(&self, alloc: Global) -> Result<Vec<Note>, NoMemory>
+        ensures { IfOk result (λ notes. notes.items ≡ flat_map (spec.settled self.now.names) self.now.remarks) }
+    {
+        let notes = settle(alloc, &self.names, &self.remarks)?;
+        Ok(notes)
+    }
+
     /// The dialplan of the draft, and its notes.
-    fn into_plan(self, alloc: Global) -> Result<(Dialplan, Vec<Note>), NoMemory>
+    pub(crate) fn into_plan(self, alloc: Global) -> Result<(Dialplan, Vec<Note>), NoMemory>
         requires names { self.names ≡ map (λ context. context.name) self.contexts }
         requires apart { All (λ context. AreApart context.entries) self.contexts }
         ensures plan { IfOk result (λ made. made.0 ≡ record { globals = self.globals; contexts = self.contexts }) }
-        ensures notes { IfOk result (λ made. made.1.items ≡ self.notes) }
+        ensures notes { IfOk result (λ made. made.1.items ≡ flat_map (spec.settled self.names) self.remarks) }
     {
         let rankings = rank_contexts(alloc, &self.contexts)?;
+        let notes = self.notes(alloc)?;
         let Draft {
             globals,
             names,
             contexts,
             taken: _,
             labels: _,
-            notes,
+            remarks: _,
         } = self;
         Ok((
             Dialplan::of_parts(globals, names, contexts, rankings),
             notes,
         ))
     }
-}
-
-/// The context's name to which an item belongs, where it belongs to one.
-fn context_in(item: &Item) -> Option<&Text>
-    ensures { option_copied result ≡ plans.context_in item.now }
-{
-    match item {
-        Item::Begins(Section::Context(name)) => Some(name),
-        Item::Adds { context, .. } | Item::Includes { context, .. } => Some(context),
-        Item::Begins(Section::General | Section::Globals) | Item::Sets(_) | Item::Unknown(_) =>
-            None,
-    }
-}
-
-/// Adds a copy of the name, where there is one and it is not there already.
-fn insert_name(names: &mut IndexSet<Text>, name: Option<&Text>) -> Result<(), NoMemory>
-    ensures { OnOk result (names.new.keys ≡ spec.with_name names.old.keys (option_copied name.entry)) }
-{
-    if let Some(name) = name {
-        names.insert(name.clone()?)?;
-    }
-    Ok(())
-}
-
-/// The names of the contexts of some items, in the order of first appearance.
-fn names_of(alloc: Global, items: &[Item]) -> Result<IndexSet<Text>, NoMemory>
-    ensures { IfOk result (λ names. names.keys ≡ plans.names_in items.now) }
-{
-    let mut names = IndexSet::new(alloc);
-    for item in items {
-        insert_name(&mut names, context_in(item))?;
-    }
-    Ok(names)
-}
-
-/// The draft of some items.
-fn draft_of(alloc: Global, known: &IndexSet<Text>, items: Vec<Item>) -> Result<Draft, NoMemory>
-    ensures { IfOk result (λ draft. draft ≡ fold (spec.added known.now.keys) spec.nothing items.items) }
-{
-    let mut draft = Draft::new(alloc);
-    for item in items {
-        draft.add(alloc, known, item)?;
-    }
-    Ok(draft)
-}
-
-/// The dialplan of some items, and the notes on their lines.
-pub(crate) fn read_draft(alloc: Global, items: Vec<Item>) -> Result<(Dialplan, Vec<Note>), NoMemory>
-    ensures plan { IfOk result (λ read. read.0 ≡ plans.plan_of items.items) }
-    ensures notes { IfOk result (λ read. read.1.items ≡ plans.notes_of items.items) }
-{
-    let known = names_of(alloc, &items)?;
-    let draft = draft_of(alloc, &known, items)?;
-    let read = draft.into_plan(alloc)?;
-    Ok(read)
 }

@@ -1,7 +1,8 @@
 //! The items of a dialplan's lines.
-ghost use Rattle.std.specs.Prelude.{◌≡◌, ◌++◌, [], ◌∷◌, IfOk, OnOk};
+ghost use Rattle.std.specs.Prelude.{◌≡◌, IfOk};
 ghost use Rattle.std.specs.Option.{option_to_list};
 ghost use Rattle.dp_conf.specs.Answers.{Answers};
+ghost use Rattle.dp_conf.specs.Borrowed.{line_now};
 ghost use Rattle.dp_plan.specs.Faults.{reason_of};
 ghost use Rattle.dp_plan.specs.Items as spec;
 ghost use Rattle.dp_plan.specs.Reader.{history_in};
@@ -13,7 +14,7 @@ use crate::fault::{LoadFault, PlanKind, Word};
 use crate::plan::GlobalVariable;
 use crate::reader::Reader;
 use crate::section::Section;
-use dp_conf::{ConfLine, NoMemory, Text, same_word};
+use dp_conf::{Line, NoMemory, Text, same_word};
 use std::alloc::Global;
 
 /// What a line of a dialplan does.
@@ -40,14 +41,14 @@ pub(crate) enum Item {
 }
 
 /// The item of a pair among the global variables.
-fn read_global(alloc: Global, line: usize, key: &Text, value: &Text) -> Result<Item, LoadFault>
+fn read_global(alloc: Global, line: usize, key: &[u8], value: &[u8]) -> Result<Item, LoadFault>
     ensures { Answers (λ item. item) reason_of result (spec.global_item line key.now value.now) }
 {
-    if key.bytes().is_empty() {
+    if key.is_empty() {
         return Ok(Item::Unknown(line));
     }
-    let value = read_shallow(alloc, line, value.bytes())?;
-    let name = key.clone()?;
+    let value = read_shallow(alloc, line, value)?;
+    let name = Text::copy_of(alloc, key)?;
     Ok(Item::Sets(GlobalVariable { name, value }))
 }
 
@@ -64,17 +65,17 @@ fn added(context: &Text, line: usize, entry: Entry) -> Result<Item, NoMemory>
 }
 
 /// The item of an include's line.
-fn read_include(context: &Text, line: usize, name: &Text) -> Result<Item, LoadFault>
+fn read_include(alloc: Global, context: &Text, line: usize, name: &[u8]) -> Result<Item, LoadFault>
     ensures { Answers (λ item. item) reason_of result (spec.include_item line context.now name.now) }
 {
-    if name.bytes().contains(&b',') {
+    if name.contains(&b',') {
         return Err(LoadFault::Plan {
             line,
             kind: PlanKind::LeftOut(Word::IncludeTimes),
         });
     }
     let context = context.clone()?;
-    let name = name.clone()?;
+    let name = Text::copy_of(alloc, name)?;
     Ok(Item::Includes {
         line,
         context,
@@ -102,27 +103,27 @@ fn read_context_pair(
     reader: &Reader,
     context: &Text,
     line: usize,
-    key: &Text,
-    value: &Text,
+    key: &[u8],
+    value: &[u8],
 ) -> Result<Item, LoadFault>
     ensures { Answers (λ item. item) reason_of result
         (spec.context_item (history_in reader.now) context.now line key.now value.now) }
 {
-    if same_word(key.bytes(), b"exten") {
-        let entry = read_exten(alloc, reader, line, context, value.bytes())?;
+    if same_word(key, b"exten") {
+        let entry = read_exten(alloc, reader, line, context, value)?;
         let item = added(context, line, entry)?;
         return Ok(item);
     }
-    if same_word(key.bytes(), b"same") {
-        let entry = read_same(alloc, reader, line, context, value.bytes())?;
+    if same_word(key, b"same") {
+        let entry = read_same(alloc, reader, line, context, value)?;
         let item = added(context, line, entry)?;
         return Ok(item);
     }
-    if same_word(key.bytes(), b"include") {
-        let item = read_include(context, line, value)?;
+    if same_word(key, b"include") {
+        let item = read_include(alloc, context, line, value)?;
         return Ok(item);
     }
-    match refused_key(key.bytes()) {
+    match refused_key(key) {
         Some(kind) => Err(LoadFault::Plan { line, kind }),
         None => Ok(Item::Unknown(line)),
     }
@@ -133,8 +134,8 @@ fn read_pair(
     alloc: Global,
     reader: &Reader,
     line: usize,
-    key: &Text,
-    value: &Text,
+    key: &[u8],
+    value: &[u8],
 ) -> Result<Option<Item>, LoadFault>
     ensures { Answers option_to_list reason_of result
         (spec.pair_item (history_in reader.now) reader.now.section line key.now value.now) }
@@ -153,41 +154,21 @@ fn read_pair(
 }
 
 /// The item of a line, where it has one.
-fn read_line(alloc: Global, reader: &Reader, line: &ConfLine) -> Result<Option<Item>, LoadFault>
-    ensures { Answers option_to_list reason_of result (spec.line_item (history_in reader.now) line.now) }
+pub(crate) fn read_item(
+    alloc: Global,
+    reader: &Reader,
+    line: Line<'_>,
+) -> Result<Option<Item>, LoadFault>
+    ensures { Answers option_to_list reason_of result (spec.line_item (history_in reader.now) (line_now line.entry)) }
 {
     match line {
-        ConfLine::Header { line: _, name } => {
-            let section = Section::named(name)?;
+        Line::Header { line: _, name } => {
+            let section = Section::named(alloc, name)?;
             Ok(Some(Item::Begins(section)))
         }
-        ConfLine::Pair { line, key, value } => {
-            let item = read_pair(alloc, reader, *line, key, value)?;
+        Line::Pair { line, key, value } => {
+            let item = read_pair(alloc, reader, line, key, value)?;
             Ok(item)
         }
     }
-}
-
-/// Adds the item at the end, where there is one.
-fn push_item(items: &mut Vec<Item>, item: Option<Item>) -> Result<(), NoMemory>
-    ensures { OnOk result (items.new.items ≡ items.old.items ++ option_to_list item) }
-{
-    if let Some(item) = item {
-        items.push(item)?;
-    }
-    Ok(())
-}
-
-/// The items of a dialplan's lines, or the fault of the first line that has one.
-pub(crate) fn read_items(alloc: Global, lines: &[ConfLine]) -> Result<Vec<Item>, LoadFault>
-    ensures { Answers (λ items. items.items) reason_of result (spec.items_after [] lines.now) }
-{
-    let mut items = Vec::new(alloc);
-    let mut reader = Reader::new(alloc);
-    for line in lines {
-        let item = read_line(alloc, &reader, line)?;
-        reader.remember(alloc, item.as_ref())?;
-        push_item(&mut items, item)?;
-    }
-    Ok(items)
 }

@@ -9,6 +9,7 @@ mod entry_line;
 mod extension;
 mod fault;
 mod item;
+mod loading;
 mod naming;
 mod note;
 mod numbering;
@@ -16,6 +17,7 @@ mod plan;
 mod priority;
 mod ranking;
 mod reader;
+mod remark;
 mod section;
 
 pub use context::Context;

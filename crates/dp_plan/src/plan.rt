@@ -11,13 +11,12 @@ ghost use Rattle.dp_plan.specs.Ranking.{AreRanked, AreApart};
 ghost use Rattle.dp_plan.specs.declared.note.Note.{Note};
 
 use crate::context::Context;
-use crate::draft::read_draft;
 use crate::entry::{Entry, EntryId};
 use crate::fault::LoadFault;
-use crate::item::read_items;
+use crate::loading::read_draft;
 use crate::note::Note;
 use crate::ranking::Ranking;
-use dp_conf::{ShallowText, Text, read_lines};
+use dp_conf::{ShallowText, Text};
 use indexmap::IndexSet;
 use std::alloc::Global;
 use std::marker::Model;
@@ -67,9 +66,8 @@ impl Dialplan {
     pub fn load(alloc: Global, text: &[u8]) -> Result<(Self, Vec<Note>), LoadFault>
         ensures { Answers (λ read. (read.0, read.1.items)) reason_of result (loaded text.now) }
     {
-        let lines = read_lines(alloc, text)?;
-        let items = read_items(alloc, &lines)?;
-        let read = read_draft(alloc, items)?;
+        let draft = read_draft(alloc, text)?;
+        let read = draft.into_plan(alloc)?;
         Ok(read)
     }
 

@@ -3,6 +3,7 @@ ghost use Rattle.std.specs.Prelude.{◌≡◌, IfOk};
 ghost use Rattle.dp_plan.specs.Items.{section_named};
 
 use dp_conf::{NoMemory, Text, same_word};
+use std::alloc::Global;
 
 /// What the lines of a section are read as.
 #[derive(Debug, Drop)]
@@ -17,16 +18,16 @@ pub(crate) enum Section {
 
 impl Section {
     /// The section of a header, by its name: `general` and `globals` in any case are none of the contexts.
-    pub(crate) fn named(name: &Text) -> Result<Self, NoMemory>
+    pub(crate) fn named(alloc: Global, name: &[u8]) -> Result<Self, NoMemory>
         ensures { IfOk result (λ section. section ≡ section_named name.now) }
     {
-        if same_word(name.bytes(), b"general") {
+        if same_word(name, b"general") {
             return Ok(Section::General);
         }
-        if same_word(name.bytes(), b"globals") {
+        if same_word(name, b"globals") {
             return Ok(Section::Globals);
         }
-        let name = name.clone()?;
+        let name = Text::copy_of(alloc, name)?;
         Ok(Section::Context(name))
     }
 }

@@ -1,21 +1,27 @@
-use Rattle.std.proofs.Common.{Ok, sym, ◌∙◌}
+use Rattle.std.proofs.Common.{Ok, sym, ap, ◌∙◌}
 use Rattle.std.proofs.lemmas.Result.{err_from_is_err_and}
-use Rattle.dp_plan.proofs.LoadedLemmas.{loaded-text_fault, loaded-line_fault, loaded-plan}
+use Rattle.dp_conf.proofs.AnswersLemmas.{Refuses-passed_on}
+use Rattle.dp_plan.specs.Faults.{reason_of}
+use Rattle.dp_plan.specs.Loaded.{loaded}
+use Rattle.dp_plan.specs.Loading.{drafted_of}
+use Rattle.dp_plan.proofs.LoadingLemmas.{plan_of_draft, loaded-drafted, drafted-fit}
 use Rattle.dp_plan.proofs.plan.Dialplan.load.Goals as goal
 
-pub returns-in_err-lines : goal.returns-in_err-lines
-returns-in_err-lines c =
+pub returns-in_err-draft : goal.returns-in_err-draft
+returns-in_err-draft c =
+    let text = c.args.text.now in
     let p = err_from_is_err_and c.from_residual.result c.from_residual.ensures.1 in
-    rw (p.1, p.2) (loaded-text_fault c.args.text.now c.in_err-lines.field-0.0 c.in_err-lines.ensures)
+    rw (p.1, p.2) (Refuses-passed_on (reason_of c.in_err-draft.field-0.0) (drafted_of text) (loaded text)
+    (λ fault e. sym (loaded-drafted text) ∙ ap plan_of_draft e) c.in_err-draft.ensures)
 
-pub returns-in_err-items : goal.returns-in_err-items
-returns-in_err-items c =
-    let p = err_from_is_err_and c.from_residual-in_err-items.result c.from_residual-in_err-items.ensures.1 in
-    let read = rw c.deref.ensures.value at c.in_err-items.ensures in
-    rw (p.1, p.2) (loaded-line_fault c.args.text.now c.in_ok-lines.lines.items c.in_err-items.field-0.0 c.in_ok-lines.ensures read)
+pub into_plan-requires-clause-names : goal.into_plan-requires-clause-names
+into_plan-requires-clause-names c = (drafted-fit c.args.text.now c.in_ok-draft.draft c.in_ok-draft.ensures).names
+
+pub into_plan-requires-clause-apart : goal.into_plan-requires-clause-apart
+into_plan-requires-clause-apart c = (drafted-fit c.args.text.now c.in_ok-draft.draft c.in_ok-draft.ensures).apart
 
 pub returns : goal.returns
 returns c =
-    let read = rw c.deref.ensures.value at c.in_ok-items.ensures in
-    loaded-plan c.args.text.now c.in_ok-lines.lines.items c.in_ok-items.items.items c.in_ok-lines.ensures read
-    ∙ (λ i. Ok (sym c.in_ok-read.ensures.plan i, sym c.in_ok-read.ensures.notes i))
+    sym (loaded-drafted c.args.text.now)
+    ∙ (ap plan_of_draft c.in_ok-draft.ensures
+    ∙ (λ i. Ok (sym c.in_ok-read.ensures.plan i, sym c.in_ok-read.ensures.notes i)))

@@ -1,0 +1,7 @@
+use Rattle.std.proofs.Common.{◌≡◌, take}
+use Rattle.std.specs.List.{flat_map}
+use Rattle.dp_plan.specs.Draft.{settled}
+use Rattle.dp_plan.proofs.remark.settle.Given as goal
+
+abbrev pub invariant-loop-remark : goal.invariant-loop-remark
+invariant-loop-remark l = l.notes.items ≡ flat_map (settled l.names.keys) (take l.remark-index l.remarks)
