@@ -1,7 +1,5 @@
 //! What the texts of a channel see.
-ghost use Rattle.std.specs.Prelude.{◌≡◌, [], IfOk, OnErr, true, Some};
-ghost use Rattle.std.specs.Cow.{cow_slice_items};
-ghost use Rattle.dp_vars.specs.Openings.{has_opening};
+ghost use Rattle.std.specs.Prelude.{◌≡◌, [], IfOk, Some};
 ghost use Rattle.dp_vars.specs.Sights.{maps_of, sight_of};
 ghost use Rattle.dp_machine.specs.Seen as spec;
 
@@ -9,9 +7,8 @@ use crate::channel::{Channel, Place};
 use crate::queues::NoQueues;
 use crate::shared::Shared;
 use dp_plan::NoMemory;
-use dp_vars::{ChannelSeen, Scope, expand_bytes, value_of};
+use dp_vars::{ChannelSeen, Scope, expand_text, value_of};
 use std::alloc::Global;
-use std::borrow::CowSlice;
 
 /// What the texts of the channel of this number see.
 fn scope_of<'a>(
@@ -37,22 +34,20 @@ fn scope_of<'a>(
     }
 }
 
-/// The arguments of an entry, expanded in what the channel of this number sees. Where nothing opens a group in them
-/// they are given as they are, which takes no memory.
+/// The arguments of an entry, expanded in what the channel of this number sees.
 #[tactic(auto, unfolding(crate::specs::Seen::arguments_seen))]
-pub(crate) fn expand_arguments<'a>(
+pub(crate) fn expand_arguments(
     alloc: Global,
     shared: &Shared,
     number: u32,
     channel: &Channel,
-    arguments: &'a [u8],
-) -> Result<CowSlice<'a, u8>, NoMemory>
-    ensures ok { IfOk result (λ bytes. cow_slice_items bytes ≡ spec.arguments_seen shared.now number channel.now arguments.now) }
-    ensures memory { OnErr result (has_opening arguments.now ≡ true) }
+    arguments: &[u8],
+) -> Result<Vec<u8>, NoMemory>
+    ensures { IfOk result (λ bytes. bytes.items ≡ spec.arguments_seen shared.now number channel.now arguments.now) }
 {
     let queues = NoQueues;
     let scope = scope_of(shared, &queues, number, channel);
-    let bytes = expand_bytes(alloc, arguments, &scope)?;
+    let bytes = expand_text(alloc, arguments, &scope)?;
     Ok(bytes)
 }
 

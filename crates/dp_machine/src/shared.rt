@@ -1,15 +1,13 @@
 //! What all channels share.
 ghost use Rattle.std.specs.Prelude.{◌≡◌, IfOk, OnOk};
-ghost use Rattle.std.specs.Cow.{cow_slice_items};
 ghost use Rattle.dp_vars.specs.Sights.{sight_of};
 ghost use Rattle.dp_machine.specs.Seen as seen;
 
 use crate::channel::Place;
 use crate::queues::NoQueues;
 use dp_plan::{GlobalVariable, NoMemory};
-use dp_vars::{Globals, Scope, expand_bytes};
+use dp_vars::{Globals, Scope, expand_text};
 use std::alloc::Global;
-use std::borrow::CowSlice;
 
 /// What all channels share: the global variables.
 #[derive(Drop)]
@@ -31,16 +29,12 @@ fn scope_of_globals<'a>(globals: &'a Globals, queues: &'a NoQueues) -> Scope<'a,
 
 /// The value of a global that is written so.
 #[tactic(auto, unfolding(crate::specs::Seen::global_value))]
-fn expand_global<'a>(
-    alloc: Global,
-    globals: &Globals,
-    value: &'a [u8],
-) -> Result<CowSlice<'a, u8>, NoMemory>
-    ensures { IfOk result (λ bytes. cow_slice_items bytes ≡ seen.global_value globals.now value.now) }
+fn expand_global(alloc: Global, globals: &Globals, value: &[u8]) -> Result<Vec<u8>, NoMemory>
+    ensures { IfOk result (λ bytes. bytes.items ≡ seen.global_value globals.now value.now) }
 {
     let queues = NoQueues;
     let scope = scope_of_globals(globals, &queues);
-    let bytes = expand_bytes(alloc, value, &scope)?;
+    let bytes = expand_text(alloc, value, &scope)?;
     Ok(bytes)
 }
 

@@ -15,6 +15,7 @@ use crate::seen::expand_arguments;
 use crate::shared::Shared;
 use dp_lookup::SearchOrder;
 use dp_plan::{Dialplan, Entry, NoMemory};
+use dp_vars::has_opening;
 use std::alloc::Global;
 
 /// The priority that a target asks for, in the dialplan.
@@ -67,6 +68,24 @@ fn go(plan: &Dialplan, order: &mut SearchOrder, channel: &mut Channel, going: Op
 }
 
 /// Where the channel of this number goes behind the application of an entry, whose arguments are expanded first.
+fn move_expanded(
+    alloc: Global,
+    shared: &Shared,
+    number: u32,
+    channel: &Channel,
+    entry: &Entry,
+) -> Result<Option<Move>, NoMemory>
+    ensures { IfOk result (λ going. going
+        ≡ row_of entry.now.application (arguments_seen shared.now number channel.now entry.now.arguments) channel.now.place) }
+{
+    let arguments = expand_arguments(alloc, shared, number, channel, entry.arguments.bytes())?;
+    let going = dispatch(alloc, entry.application.bytes(), &arguments, &channel.place)?;
+    Ok(going)
+}
+
+/// Where the channel of this number goes behind the application of an entry. Arguments in which nothing opens a group
+/// are taken as they stand, and then only `Goto` takes memory.
+#[tactic(auto, unfolding(crate::specs::Seen::arguments_seen))]
 fn move_of(
     alloc: Global,
     shared: &Shared,
@@ -78,8 +97,11 @@ fn move_of(
         ≡ row_of entry.now.application (arguments_seen shared.now number channel.now entry.now.arguments) channel.now.place) }
     ensures memory { OnErr result (spec.entry_needs_memory entry.now ≡ true) }
 {
-    let arguments = expand_arguments(alloc, shared, number, channel, entry.arguments.bytes())?;
-    let going = dispatch(alloc, entry.application.bytes(), &arguments, &channel.place)?;
+    let arguments = entry.arguments.bytes();
+    if has_opening(arguments) {
+        return move_expanded(alloc, shared, number, channel, entry);
+    }
+    let going = dispatch(alloc, entry.application.bytes(), arguments, &channel.place)?;
     Ok(going)
 }
 

@@ -1,7 +1,7 @@
 //! Variables of a dialplan and the texts in which they stand, after the Asterisk documentation's pages on variables.
 //!
 //! A `Store` has the variables of a channel and its frames, `Globals` what all channels share. A `Template` is a text
-//! with groups, and `expand` puts the values of a `Scope` in their places; `expand_bytes` does so with any text, and
+//! with groups, and `expand` puts the values of a `Scope` in their places; `expand_text` does so with any text, and
 //! `value_of` is the value of one name.
 #![tactic(auto)]
 
@@ -19,8 +19,9 @@ mod variables;
 
 pub use dp_conf::MOST_NESTING;
 pub use globals::Globals;
+pub use opening::has_opening;
 pub use reference::value_of;
 pub use scope::{ChannelSeen, Counts, Scope};
 pub use store::Store;
-pub use template::{Template, TemplateFault, expand, expand_bytes};
+pub use template::{Template, TemplateFault, expand, expand_text};
 pub use variables::Variable;

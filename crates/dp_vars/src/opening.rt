@@ -1,8 +1,10 @@
 //! Texts in which nothing opens a group.
-ghost use Rattle.std.specs.Prelude.{◌≡◌};
+ghost use Rattle.std.specs.Prelude.{◌≡◌, false};
 ghost use Rattle.std.specs.Option.{is_some};
 ghost use Rattle.dp_conf.specs.Groups.{opening};
 ghost use Rattle.dp_vars.specs.Openings as openings;
+ghost use Rattle.dp_vars.specs.Sights.{Sight};
+ghost use Rattle.dp_vars.specs.Values.{expansion};
 
 /// Whether a byte opens a group, by the bytes behind it.
 fn opens(byte: u8, behind: &[u8]) -> bool
@@ -14,9 +16,9 @@ fn opens(byte: u8, behind: &[u8]) -> bool
     }
 }
 
-/// Whether `${` or `$[` stands in the text.
+/// Whether an opening stands in the text.
 #[tactic(auto, unfolding(crate::specs::Openings::has_opening))]
-pub(crate) fn has_opening(text: &[u8]) -> bool
+fn holds_opening(text: &[u8]) -> bool
     ensures { result ≡ openings.has_opening text.now }
 {
     let mut left = text;
@@ -27,4 +29,14 @@ pub(crate) fn has_opening(text: &[u8]) -> bool
         left = behind;
     }
     false
+}
+
+/// Whether `${` or `$[` stands in the text. Where nothing opens a group, the text is its own expansion.
+///
+/// It takes no memory.
+pub fn has_opening(text: &[u8]) -> bool
+    ensures opening { result ≡ openings.has_opening text.now }
+    ensures same { result ≡ false → (sight : Sight) → expansion sight text.now ≡ text.now }
+{
+    holds_opening(text)
 }

@@ -1,19 +1,15 @@
 //! Texts that are expanded when they are used, after the Asterisk documentation's pages on variables.
-ghost use Rattle.std.specs.Prelude.{◌≡◌, ◌<◌, ◌≤◌, IfErr, IfOk, OnErr, true};
-ghost use Rattle.std.specs.Cow.{cow_slice_items};
+ghost use Rattle.std.specs.Prelude.{◌≡◌, ◌<◌, ◌≤◌, IfErr, IfOk};
 ghost use Rattle.dp_conf.specs.Groups.{Reading, IsReading};
 ghost use Rattle.dp_conf.specs.GroupsRead.{nesting_of};
 ghost use Rattle.dp_vars.specs.declared.template.TemplateFault.TheVariants as faults;
-ghost use Rattle.dp_vars.specs.Openings as openings;
 ghost use Rattle.dp_vars.specs.Sights.{sight_of};
 ghost use Rattle.dp_vars.specs.Values.{expanded, expansion};
 
 use crate::expanding::Expanding;
-use crate::opening::has_opening;
 use crate::scope::{Counts, Scope};
 use dp_conf::{MOST_NESTING, NoMemory, nesting, next_mark};
 use std::alloc::{AllocError, Global};
-use std::borrow::CowSlice;
 use std::marker::Model;
 
 /// Why a text is no template.
@@ -71,8 +67,11 @@ impl Template {
     }
 }
 
-/// The text with each group replaced by its value.
-fn expand_text<B, C: Counts>(
+/// A text with each group replaced by its value, as `expand` does with a template, however deep groups stand inside
+/// each other.
+///
+/// The error comes only where a growth was refused.
+pub fn expand_text<B, C: Counts>(
     alloc: Global,
     text: &[u8],
     scope: &Scope<'_, B, C>,
@@ -107,23 +106,4 @@ pub fn expand<B, C: Counts>(
 {
     let bytes = expand_text(alloc, template.text(), scope)?;
     Ok(bytes)
-}
-
-/// A text with each group replaced by its value, as `expand` does with a template, however deep groups stand inside
-/// each other. A text in which nothing opens a group is given as it is, with no copy.
-///
-/// The error comes only where a growth was refused, and never where nothing opens a group.
-pub fn expand_bytes<'a, B, C: Counts>(
-    alloc: Global,
-    text: &'a [u8],
-    scope: &Scope<'_, B, C>,
-) -> Result<CowSlice<'a, u8>, NoMemory>
-    ensures ok { IfOk result (λ bytes. cow_slice_items bytes ≡ expansion (sight_of C.count scope.now) text.now) }
-    ensures memory { OnErr result (openings.has_opening text.now ≡ true) }
-{
-    if !has_opening(text) {
-        return Ok(CowSlice::Borrowed(text));
-    }
-    let bytes = expand_text(alloc, text, scope)?;
-    Ok(CowSlice::Owned(bytes))
 }
