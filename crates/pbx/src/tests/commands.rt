@@ -98,7 +98,7 @@ run @first @folder→1→→fault 7 ReadFailed¶
 
 /// The examples of the manual.
 const MANUAL: &str = "\
-list @sample→0→[phones]¶exten => 100,1(desk),NoOp(the front desk)¶exten => 100,2,Hangup()¶exten => _1XX,1,NoOp(a room)¶exten => _1XX,2,Goto(100,desk)¶exten => _NXXXXXX,1,NoOp(a call to town)¶exten => _NXXXXXX,2,Hangup()¶include => rest¶[rest]¶exten => _X.,1,NoOp(no such number)¶exten => _X.,2,Hangup()¶→
+list @sample→0→[globals]¶DESK => 100¶[phones]¶exten => 100,1(desk),NoOp(the front desk)¶exten => 100,2,Hangup()¶exten => _1XX,1,NoOp(a room)¶exten => _1XX,2,Goto(${DESK},desk)¶exten => _NXXXXXX,1,NoOp(a call to town)¶exten => _NXXXXXX,2,Hangup()¶include => rest¶[rest]¶exten => _X.,1,NoOp(no such number)¶exten => _X.,2,Hangup()¶→
 check @sample→0→ok 2 contexts 8 entries¶→
 match @sample phones 100→0→phones,100,1 NoOp¶→
 match @sample phones 123→0→phones,_1XX,1 NoOp¶→

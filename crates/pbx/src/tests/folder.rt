@@ -13,7 +13,7 @@ use std::{env, fs, str};
 /// byte more than a file may have. There is none that is called `missing`. A `¶` is a line feed.
 const FILES: &str = "\
 # What the manual has as sample/extensions.conf and sample/calls.script, and its example of patterns.
-sample→; The telephones of a small house.¶[phones]¶exten => 100,1(desk),NoOp(the front desk)¶same => n,Hangup()¶exten => _1XX,1,NoOp(a room)¶same => n,Goto(100,desk)             ; nobody is in: to the front desk¶exten => _NXXXXXX,1,NoOp(a call to town)¶ same => n,Hangup()¶include => rest¶¶[rest]¶exten => _X.,1,NoOp(no such number)¶ same => n,Hangup()¶
+sample→; The telephones of a small house.¶[globals]¶DESK=100¶¶[phones]¶exten => 100,1(desk),NoOp(the front desk)¶same => n,Hangup()¶exten => _1XX,1,NoOp(a room)¶same => n,Goto(${DESK},desk)         ; nobody is in: to the front desk¶exten => _NXXXXXX,1,NoOp(a call to town)¶ same => n,Hangup()¶include => rest¶¶[rest]¶exten => _X.,1,NoOp(no such number)¶ same => n,Hangup()¶
 sample.script→; Room 123 is called, and then a number in town.¶start phones 123¶step 1 4¶start phones 555-1234¶step 2 2¶
 calls→[calls]¶exten => 123,1,NoOp(one)¶exten => _1XX,1,NoOp(three)¶exten => _X.,1,NoOp(any)¶exten => _X.,2,NoOp(two)¶
 usual→[general]¶static=yes¶writeprotect=no¶¶[globals]¶TRUNK=Line/9¶¶[main]¶exten => _NXXXXXX,1,Answer()¶ same => n,Playback(hello-world)¶ same => n(q),Queue(support,c)¶same => n,Hangup()¶include => out¶
