@@ -1,5 +1,5 @@
 //! What the texts of a channel see.
-ghost use Rattle.std.specs.Prelude.{◌≡◌, [], IfOk, Some};
+ghost use Rattle.std.specs.Prelude.{◌≡◌, IfOk, Some};
 ghost use Rattle.dp_vars.specs.Sights.{maps_of, sight_of};
 ghost use Rattle.dp_machine.specs.Seen as spec;
 

@@ -118,7 +118,8 @@ fn run_entry(
     requires priority { channel.old.place.priority + 1 < 2 ^ 32 }
     requires room { context_count plan.now ≤ order.old.room }
     ensures room { order.new.room ≡ order.old.room }
-    ensures ok { IfOk result (λ reply. spec.step_at plan.now shared.now number channel.old (Some (record { id = found.entry.id; entry = found.entry.entry.now }))
+    ensures ok { IfOk result (λ reply. spec.step_at plan.now shared.now number channel.old
+        (Some (record { id = found.entry.id; entry = found.entry.entry.now }))
         ≡ record { channel = channel.new; shared = shared.now; reply = reply }) }
     ensures err { OnErr result (channel.new ≡ channel.old) }
     ensures memory { OnErr result (spec.entry_needs_memory found.entry.entry.now ≡ true) }
@@ -170,7 +171,8 @@ pub(crate) fn step_channel(
 ) -> Result<Reply, NoMemory>
     requires { context_count plan.now ≤ order.old.room }
     ensures room { order.new.room ≡ order.old.room }
-    ensures ok { IfOk result (λ reply. spec.step_row plan.now shared.now number channel.old ≡ record { channel = channel.new; shared = shared.now; reply = reply }) }
+    ensures ok { IfOk result (λ reply. spec.step_row plan.now shared.now number channel.old
+        ≡ record { channel = channel.new; shared = shared.now; reply = reply }) }
     ensures err { OnErr result (channel.new ≡ channel.old) }
     ensures memory { OnErr result (spec.needs_memory_by plan.now (Some channel.old) ≡ true) }
 {
