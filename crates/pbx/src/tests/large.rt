@@ -89,7 +89,6 @@ fn check_wide<R: Files + Abort + AllocGlobal>(rt: &R, folder: &str) -> Result<()
 
 fn check_all<R: Files + Abort + AllocGlobal>(rt: &R, folder: &str) -> Result<(), Fail> {
     check_tall(rt, folder)?;
-    check_many(rt, folder)?;
     check_wide(rt, folder)
 }
 
@@ -97,6 +96,14 @@ fn check_all<R: Files + Abort + AllocGlobal>(rt: &R, folder: &str) -> Result<(),
 fn large_texts_are_served(rt: HostRuntime) -> Result<(), Fail> {
     let folder = make_folder(&rt, "large", process::id(rt.process()))?;
     check_all(&rt, &folder)?;
+    fs::remove_dir_all(&rt, folder.as_str())?;
+    Ok(())
+}
+
+#[test]
+fn many_contexts_are_counted(rt: HostRuntime) -> Result<(), Fail> {
+    let folder = make_folder(&rt, "many", process::id(rt.process()))?;
+    check_many(&rt, &folder)?;
     fs::remove_dir_all(&rt, folder.as_str())?;
     Ok(())
 }
