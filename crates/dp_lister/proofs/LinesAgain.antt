@@ -1,23 +1,22 @@
 -- The lines that are written for items are read as headers and pairs again.
-use Rattle.std.proofs.Common.{◌≡◌, ◌≢◌, ℕ, ◌+◌, ◌⊎◌, inl, inr, Bool, true, false, not, cond, ◌&&◌, ◌||◌, ◌==◌, nat_eq, List, [], ◌∷◌, ◌++◌, map, length, take, drop, Option, Some, None, Result, Ok, Err, codes, refl, ap, ◌∙◌, sym, subst, arith, append_assoc, length-append}
-use Rattle.std.specs.List.{AllByRecursion, list_any, starts_with}
+use Rattle.std.proofs.Common.{◌≡◌, ℕ, ◌+◌, Bool, true, false, cond, ◌||◌, ◌==◌, List, [], ◌∷◌, ◌++◌, map, length, drop, Result, Ok, Err, codes, refl, ap, ◌∙◌, sym, subst, append_assoc, length-append}
+use Rattle.std.specs.List.{AllByRecursion, list_any}
 use Rattle.std.specs.Str.{byte}
-use Rattle.std.proofs.lemmas.Bool.Decides.{eqb_tells, nat_tests}
 use Rattle.std.proofs.lemmas.List.Elements.{All-from_recursion}
 use Rattle.std.proofs.lemmas.List.Splits.{slice_split_at}
 use Rattle.std.proofs.lemmas.List.Folds.{list_any-append}
 use Rattle.dp_conf.specs.Answers.{with_front, all_of, each_after}
-use Rattle.dp_conf.specs.Blanks.{is_blank, before_kept, trim, trim_start, trim_end}
+use Rattle.dp_conf.specs.Blanks.{is_blank, before_kept, trim, trim_end}
 use Rattle.dp_conf.specs.Cut.{begins_with, cut_once}
-use Rattle.dp_conf.specs.Escape.{escaped, escaped_byte}
-use Rattle.dp_conf.specs.Lines.{LineFault, without_mark, line_feed, parts_of, comment_start, comment_of, opens_block, content_of, header_by, header_of, behind_sign, pair_of, item_of, part_item, opens_section, at_line, reading_of, lines_of}
+use Rattle.dp_conf.specs.Escape.{escaped}
+use Rattle.dp_conf.specs.Lines.{LineFault, line_feed, parts_of, comment_of, opens_block, content_of, header_by, header_of, pair_of, item_of, part_item, opens_section, at_line, reading_of, lines_of}
 use Rattle.dp_conf.specs.declared.fault.LineKind.{LineKind}
-use Rattle.dp_conf.specs.declared.fault.LineKind.TheVariants.{BlockComment, NoSection, Directive}
+use Rattle.dp_conf.specs.declared.fault.LineKind.TheVariants.{BlockComment, Directive}
 use Rattle.dp_conf.specs.declared.lines.ConfLine.{ConfLine}
 use Rattle.dp_conf.specs.declared.lines.ConfLine.TheVariants.{Header, Pair}
 use Rattle.dp_conf.proofs.EscapeLemmas.{escaped-semicolon, escaped-other, comment_start-escaped, content_of-escaped}
-use Rattle.dp_lister.specs.Listing.{header_line, line_text, text_of}
-use Rattle.dp_plan.proofs.Canonical.{HasFirst, IsKey, IsValue, IsHeaderName}
+use Rattle.dp_lister.specs.Listing.{header_line, text_of}
+use Rattle.dp_plan.proofs.Canonical.{IsKey, IsValue, IsHeaderName}
 use Rattle.dp_conf.proofs.TextLemmas.{Avoids, each-append, IsTrimmed, trim-trimmed, trim_end-behind, trim_end-blank, firm-behind, trim-blank_behind, trim-blank_before, cut_once-here}
 
 -- ---- a line that is written
@@ -51,7 +50,7 @@ pub header_reads : (in_section : Bool) (line : ℕ) (name : List ℕ) → IsHead
 header_reads in_section line name fine =
     ap (item_of in_section line) (trim-header name)
     ∙ subst (λ (n : List ℕ). header_of line (cut_once 93 (n ++ 93 ∷ [])) ≡ Ok (Header line n ∷ [])) (sym fine.some.is)
-      (header_of-name line fine.some.first fine.some.rest (subst IsTrimmed fine.some.is fine.trimmed) (subst (Avoids 93) fine.some.is fine.no_end))
+    (header_of-name line fine.some.first fine.some.rest (subst IsTrimmed fine.some.is fine.trimmed) (subst (Avoids 93) fine.some.is fine.no_end))
 
 -- ---- a pair
 

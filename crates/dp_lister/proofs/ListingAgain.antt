@@ -1,5 +1,5 @@
 -- The listing of a dialplan that loads is read as the dialplan again.
-use Rattle.std.proofs.Common.{◌≡◌, ℕ, ◌+◌, ◌<◌, ◌==◌, Bool, true, false, List, [], ◌∷◌, ◌++◌, map, Option, Some, None, Ok, codes, decimal, refl, ap, ◌∙◌, sym, subst, append_assoc}
+use Rattle.std.proofs.Common.{◌≡◌, ℕ, ◌+◌, ◌<◌, ◌==◌, true, false, List, [], ◌∷◌, ◌++◌, map, Option, Some, None, Ok, codes, decimal, refl, ap, ◌∙◌, sym, subst, append_assoc}
 use Rattle.std.specs.List.{AllByRecursion, flat_map}
 use Rattle.std.proofs.lemmas.List.{map-append}
 use Rattle.std.proofs.lemmas.List.Elements.{All-from_recursion}
@@ -12,7 +12,6 @@ use Rattle.dp_pattern.proofs.NameLemmas.{each_by_index}
 use Rattle.dp_plan.specs.Contexts.{PlanContext}
 use Rattle.dp_plan.specs.Plan.{PlanOf}
 use Rattle.dp_plan.specs.declared.entry.Entry.{Entry}
-use Rattle.dp_plan.specs.declared.note.NoteKind.TheVariants.{UnknownContext}
 use Rattle.dp_plan.specs.declared.plan.GlobalVariable.{GlobalVariable}
 use Rattle.dp_plan.proofs.Canonical as canonical
 use Rattle.dp_plan.proofs.Canonical.{IsKey, IsValue, IsHeaderName, IsGlobal, IsEntry, IsIncluded, IsContext, IsCanonical, entry_text, header_of, global_of, exten_of, include_of, lines_of_globals, lines_of_context, lines_of_contexts, numbered_lines, canonical_lines}
@@ -20,7 +19,7 @@ use Rattle.dp_plan.proofs.EntryAgain.{entry_text-value}
 use Rattle.dp_plan.proofs.PlanAgain.{IsOnUnknown, canonical_notes, canonical_notes-only, loaded-canonical}
 use Rattle.dp_plan.proofs.PlanKnown.{loaded-known}
 use Rattle.dp_lister.specs.Again.{IsLoaded, LoadsAs}
-use Rattle.dp_lister.specs.Listing.{global_line, global_lines, label_text, priority_text, application_text, behind_name, entry_line, include_line, header_line, context_lines, plan_lines, text_of, listing}
+use Rattle.dp_lister.specs.Listing.{global_line, global_lines, label_text, application_text, behind_name, entry_line, include_line, header_line, context_lines, text_of, listing}
 use Rattle.dp_lister.proofs.LinesAgain.{header_reads, pair_line, pair_reads, ReadsAs, ReadAs, conf_lines, lines_of-written, lines_of-nothing}
 
 -- a line beside what it is read as

@@ -130,7 +130,6 @@ written_priority-again priority None fine labelled =
     ∙ ap (λ (w : Result Written PlanKind). w >>= λ written. Ok (written, None)) (written_of-digits digits.first digits.rest priority digits.digits digits.value fine))
 written_priority-again priority (Some label) fine labelled =
     let digits = decimal-writes priority (omega (arith, fine.1)) in
-    let front : List ℕ = digits.first ∷ digits.rest in
     let written : written_of (trim (digits.first ∷ digits.rest)) ≡ Ok (Number priority) =
     ap written_of (trim-trimmed (digits.first ∷ digits.rest) (trimmed-firm (digits.first ∷ digits.rest) (digits-firm (digits.first ∷ digits.rest) digits.digits)))
     ∙ written_of-digits digits.first digits.rest priority digits.digits digits.value fine in
@@ -177,8 +176,6 @@ application_of-again name arguments fine =
 
 application_text-trimmed : (name arguments : List ℕ) → IsApplication name → IsTrimmed (application_text name arguments)
 application_text-trimmed name arguments fine =
-    let first = fine.some.first in
-    let rest = fine.some.rest in
     let firm = (subst IsTrimmed fine.some.is fine.trimmed).begins in
     subst (λ (n : List ℕ). IsTrimmed (application_text n arguments)) (sym fine.some.is)
     (subst IsTrimmed (append_assoc (fine.some.first ∷ fine.some.rest) (40 ∷ arguments) (41 ∷ [])) (trimmed-between fine.some.first (fine.some.rest ++ 40 ∷ arguments) 41 firm refl))
@@ -249,9 +246,6 @@ firm-before (b ∷ text) rest firm = firm.0
 -- the value of an entry's line is trimmed and one line
 pub entry_text-value : (entry : Entry) → IsEntry entry → IsValue (entry_text entry)
 entry_text-value entry fine =
-    let arguments : List ℕ = entry.arguments ++ 41 ∷ [] in
-    let application : List ℕ = application_text entry.application entry.arguments in
-    let priority : List ℕ = priority_text entry.priority entry.label in
     let closed = trim_end-behind (40 ∷ entry.arguments) 41 [] refl in
     let called = trim_end-behind (44 ∷ entry.application) 40 (entry.arguments ++ 41 ∷ []) closed in
     let numbered = trim_end-behind (44 ∷ priority_text entry.priority entry.label) 44 (application_text entry.application entry.arguments) called in

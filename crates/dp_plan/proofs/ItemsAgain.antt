@@ -171,8 +171,6 @@ say_globals (global ∷ globals) = ap (λ (lines : List (ℕ → ConfLine)). hea
 
 say_context : (context : PlanContext) → map (λ x line. say line x) (items_of_context context) ≡ lines_of_context context
 say_context context =
-    let adds : List Item = map (λ e. Adds 0 context.name e) context.entries in
-    let includes : List Item = map (λ i. Includes 0 context.name i) context.includes in
     ap (λ (lines : List (ℕ → ConfLine)). header_of context.name ∷ lines)
     (map-append (λ x line. say line x) (map (λ e. Adds 0 context.name e) context.entries) (map (λ i. Includes 0 context.name i) context.includes)
     ∙ (λ k. map-after (λ x line. say line x) (λ e. Adds 0 context.name e) context.entries k ++ map-after (λ x line. say line x) (λ i. Includes 0 context.name i) context.includes k))

@@ -326,8 +326,6 @@ includes-back name (k ∷ names) = ap (λ (ks : List (List ℕ)). k ∷ ks) (inc
 contexts-again : (named : List (List ℕ)) (added : List Addition) (included : List Inclusion) (contexts : List PlanContext) → Absent (λ (a : Addition). a.context) named added → Absent (λ (i : Inclusion). i.context) named included → IsFresh is_named named (map name_of contexts) → map (context_of (added ++ flat_map additions_of contexts) (included ++ flat_map inclusions_of contexts)) (map name_of contexts) ≡ contexts
 contexts-again named added included [] absent_a absent_i names = refl
 contexts-again named added included (context ∷ contexts) absent_a absent_i names =
-    let all_a : List Addition = added ++ (additions_of context ++ flat_map additions_of contexts) in
-    let all_i : List Inclusion = included ++ (inclusions_of context ++ flat_map inclusions_of contexts) in
     let apart = fresh-apart (named ++ context.name ∷ []) context.name contexts (λ other e. same_text-symm other context.name (unnamed named context.name other e).1) names.1 in
     let own_a = of-context (λ (a : Addition). a.context) additions_of (λ c. key-additions c.name c.entries) added context contexts (absent_a context.name names.0) apart in
     let own_i = of-context (λ (i : Inclusion). i.context) inclusions_of (λ c. key-inclusions c.name c.includes) included context contexts (absent_i context.name names.0) apart in
@@ -428,7 +426,6 @@ notes-only names before (Begins section ∷ xs) known fresh =
 notes-only names before (Sets global ∷ xs) known fresh =
     notes-only names (before ++ Sets global ∷ []) xs known.1 (subst (λ (kept : List Addition). IsFresh is_taken kept (filter_map added_in xs)) (sym (kept_in-none before (Sets global) refl)) fresh)
 notes-only names before (Adds line context entry ∷ xs) known fresh =
-    let a : Addition = record { context = context; entry = entry } in
     subst (λ (notes : List Note). AllByRecursion IsOnUnknown (notes ++ notes_behind names (before ++ Adds line context entry ∷ []) xs)) (sym (entry_note-none line (kept_in before) (record { context = context; entry = entry }) fresh.0))
     (notes-only names (before ++ Adds line context entry ∷ []) xs known.1 (subst (λ (kept : List Addition). IsFresh is_taken kept (filter_map added_in xs)) (sym (kept_in-some before (Adds line context entry) (record { context = context; entry = entry }) refl fresh.0)) fresh.1))
 notes-only names before (Includes line context name ∷ xs) known fresh =

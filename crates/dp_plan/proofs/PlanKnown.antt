@@ -150,8 +150,6 @@ name-known (Unknown line) name fine e = absurd cc
 plan_of-known : (items : List Item) → AllByRecursion IsFine items → IsCanonical (plan_of items)
 unfolding plan_of
 plan_of-known items fine =
-    let kept : List Addition = kept_in items in
-    let included : List Inclusion = filter_map included_in items in
     record {
       globals = each-filter_map IsFine IsGlobal global_in global-known items fine;
       contexts = contexts-known (kept_in items) (filter_map included_in items) (names_in items)
