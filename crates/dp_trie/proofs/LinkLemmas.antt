@@ -1,0 +1,81 @@
+-- The ends of nodes: where a jump from end to end of deeper nodes comes to.
+use Rattle.std.proofs.Common.{◌≡◌, ℕ, suc, ◌+◌, ◌-◌, ◌<◌, ◌≤◌, Bool, true, false, cond, List, [], ◌∷◌, length, drop, set, get_or, Option, Some, None, inl, inr, arith, refl, sym, ap, subst, ◌∙◌, get_or-set_other, get_or-set_same, length-set}
+use Rattle.std.specs.Prelude.{slice_get, slice_index, nat_lt}
+use Rattle.std.proofs.lemmas.Bool.{ltb-true, ltb-false, lt-ltb, le-ltb, cases_eq}
+use Rattle.std.proofs.lemmas.Option.{slice_get_within}
+use Rattle.dp_trie.specs.Tree.{skipped, IsEnd, IsEndOf, AreLinkedFrom, AreLinked}
+use Rattle.dp_trie.specs.declared.node.Node.{Node}
+use Rattle.dp_trie.proofs.TreeLemmas.{drop-get, drop-end}
+
+-- what passes over deeper nodes passes over those that they pass over
+skip-skipped : (depth deeper : ℕ) (nodes : List Node) → depth ≤ deeper → skipped depth (skipped deeper nodes) ≡ skipped depth nodes
+skip-skipped depth deeper [] few = refl
+skip-skipped depth deeper (node ∷ nodes) few = by (nat_lt deeper node.depth) refl (skip-skipped depth deeper nodes few)
+  where
+    by : (b : Bool) → nat_lt deeper node.depth ≡ b → skipped depth (skipped deeper nodes) ≡ skipped depth nodes → skipped depth (cond b (skipped deeper nodes) (node ∷ nodes)) ≡ skipped depth (node ∷ nodes)
+    by true e rest =
+        let below = ltb-true deeper node.depth e in
+        rest ∙ ap (λ b. cond b (skipped depth nodes) (node ∷ nodes)) (sym (lt-ltb depth node.depth (omega (arith, below, few))))
+    by false e rest = refl
+
+skip-deeper : (depth : ℕ) (node : Node) (nodes : List Node) → depth < node.depth → skipped depth (node ∷ nodes) ≡ skipped depth nodes
+skip-deeper depth node nodes below = ap (λ b. cond b (skipped depth nodes) (node ∷ nodes)) (lt-ltb depth node.depth below)
+
+skip-higher : (depth : ℕ) (node : Node) (nodes : List Node) → node.depth ≤ depth → skipped depth (node ∷ nodes) ≡ node ∷ nodes
+skip-higher depth node nodes above = ap (λ b. cond b (skipped depth nodes) (node ∷ nodes)) (le-ltb depth node.depth above)
+
+-- a jump over a deeper node passes over no more
+pub end-jump : (nodes : List Node) (depth place end : ℕ) (node : Node) → slice_get nodes end ≡ Some node → depth < node.depth → IsEnd nodes end node.depth place → skipped depth (drop place nodes) ≡ skipped depth (drop end nodes)
+end-jump nodes depth place end node here below is_end =
+    ap (skipped depth) is_end.behind
+    ∙ (skip-skipped depth node.depth (drop (end + 1) nodes) (omega (arith, below))
+    ∙ (sym (skip-deeper depth node (drop (end + 1) nodes) below)
+    ∙ ap (skipped depth) (sym (drop-get nodes end node here))))
+
+-- a node that is no deeper is the end
+pub end-found : (nodes : List Node) (depth place end : ℕ) (node : Node) → place < end → slice_get nodes end ≡ Some node → node.depth ≤ depth → skipped depth (drop end nodes) ≡ skipped depth (drop (place + 1) nodes) → IsEnd nodes place depth end
+end-found nodes depth place end node later here above same = record {
+  later = later;
+  within = (let inside = slice_get_within nodes end node here in omega (arith, inside));
+  behind = drop-get nodes end node here ∙ (sym (skip-higher depth node (drop (end + 1) nodes) above) ∙ (ap (skipped depth) (sym (drop-get nodes end node here)) ∙ same));
+}
+
+-- and so is the end of all nodes
+pub end-last : (nodes : List Node) (depth place end : ℕ) → place < end → end ≤ length nodes → slice_get nodes end ≡ None → skipped depth (drop end nodes) ≡ skipped depth (drop (place + 1) nodes) → IsEnd nodes place depth end
+end-last nodes depth place end later within none same = record {
+  later = later;
+  within = within;
+  behind = drop-end nodes end none ∙ (ap (skipped depth) (sym (drop-end nodes end none)) ∙ same);
+}
+
+-- an end is that of the node's depth
+pub end_by : (nodes : List Node) (place end depth : ℕ) (node : Node) → slice_get nodes place ≡ Some node → node.depth ≡ depth → IsEnd nodes place depth end → IsEndOf nodes place end
+end_by nodes place end depth node here same is_end other there =
+    let one : node ≡ other = (let both : Some node ≡ Some other = sym here ∙ there in cc) in
+    subst (λ (n : Node). IsEnd nodes place n.depth end) one (subst (λ d. IsEnd nodes place d end) (sym same) is_end)
+
+-- one end more
+pub linked-set : (nodes : List Node) (ends : List ℕ) (place end : ℕ) → place < length ends → AreLinkedFrom (place + 1) nodes ends → IsEndOf nodes place end → AreLinkedFrom place nodes (set ends place end)
+linked-set nodes ends place end within linked is_end = record {
+  count = length-set ends place end ∙ linked.count;
+  each = each;
+}
+  where
+    each : (k : ℕ) → place ≤ k → IsEndOf nodes k (slice_index (set ends place end) k)
+    each k few = elim (cases_eq k place) [
+      | inl same ↦ subst (λ j. IsEndOf nodes j (slice_index (set ends place end) j)) (sym same) (subst (IsEndOf nodes place) (sym (get_or-set_same ends place end 0 within)) is_end)
+      | inr other ↦ subst (IsEndOf nodes k) (sym (get_or-set_other ends place k end 0 other)) (linked.each k (omega (arith, few, other)))
+    ]
+
+pub linked-start : (nodes : List Node) (ends : List ℕ) → length ends ≡ length nodes → AreLinkedFrom (length nodes) nodes ends
+linked-start nodes ends count = record {
+  count = count;
+  each = λ k few node here. (let inside = slice_get_within nodes k node here in absurd (omega (arith, inside, few)));
+}
+
+pub linked-end : (nodes : List Node) (ends : List ℕ) (place : ℕ) → place ≤ 0 → AreLinkedFrom place nodes ends → AreLinked nodes ends
+linked-end nodes ends place none linked = record { count = linked.count; each = λ k. linked.each k (omega (arith, none)) }
+
+-- the last of the first so many and those behind it
+pub linked-before : (nodes : List Node) (ends : List ℕ) (place : ℕ) → 0 < place → AreLinkedFrom place nodes ends → AreLinkedFrom (place - 1 + 1) nodes ends
+linked-before nodes ends place some linked = subst (λ p. AreLinkedFrom p nodes ends) (let e : place ≡ place - 1 + 1 = omega (arith, some) in e) linked

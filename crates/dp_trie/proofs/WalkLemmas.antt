@@ -1,0 +1,103 @@
+-- How far the classes of a path take the digits: what a node that is entered, and one that is not, says of all below it.
+use Rattle.std.proofs.Common.{◌≡◌, ℕ, zero, suc, ◌+◌, ◌<◌, ◌≤◌, Bool, true, false, cond, ◌==◌, true≢false, List, [], ◌∷◌, ◌++◌, length, take, drop, Option, Some, None, arith, refl, sym, ap, ◌∙◌}
+use Rattle.std.specs.Prelude.{slice_get, nat_lt}
+use Rattle.std.specs.Option.{option_map_or}
+use Rattle.std.proofs.lemmas.Bool.{ltb-true, ltb-false, lt-ltb, le-ltb}
+use Rattle.std.proofs.Math.Dec.{eqb-zero-suc, eqb-suc-suc}
+use Rattle.dp_pattern.specs.Name.{is_one_of}
+use Rattle.dp_pattern.specs.Walk.{Walked, Refused, Short, Behind, walked, tail_allows, is_match, goes_on}
+use Rattle.dp_pattern.specs.declared.tail.Tail.{Tail}
+use Rattle.dp_pattern.specs.declared.tail.Tail.TheVariants.{End, Dot, Bang}
+use Rattle.dp_trie.specs.Asked.{fits}
+use Rattle.dp_trie.specs.Tree.{takes, allows}
+
+-- the walk may still come to something below
+abbrev pub is_alive : Bool → Walked → Bool
+is_alive more Refused = false
+is_alive more Short = more
+is_alive more (Behind digits) = true
+
+-- the digits are taken by all classes of the path
+abbrev pub alive : Bool → List (List ℕ) → List ℕ → Bool
+alive more path digits = is_alive more (walked path digits)
+
+-- a class below a path that takes the digits takes one more exactly where the test says so
+pub alive-push : (more : Bool) (path : List (List ℕ)) (class digits : List ℕ) → alive more path digits ≡ true → alive more (path ++ class ∷ []) digits ≡ takes more digits class (length path)
+alive-push more [] class [] on = refl
+alive-push more [] class (d ∷ digits) on = by (is_one_of class d)
+  where
+    by : (b : Bool) → is_alive more (cond b (Behind digits) Refused) ≡ b
+    by true = refl
+    by false = refl
+alive-push more (c ∷ path) class [] on = refl
+alive-push more (c ∷ path) class (d ∷ digits) on = by (is_one_of c d) on (alive-push more path class digits)
+  where
+    by : (b : Bool) → is_alive more (cond b (walked path digits) Refused) ≡ true → (alive more path digits ≡ true → alive more (path ++ class ∷ []) digits ≡ takes more digits class (length path)) → is_alive more (cond b (walked (path ++ class ∷ []) digits) Refused) ≡ takes more digits class (length path)
+    by true on rest = rest on
+    by false on rest = absurd (true≢false (sym on))
+
+-- what begins a path that takes the digits takes them too
+pub alive-take : (more : Bool) (n : ℕ) (path : List (List ℕ)) (digits : List ℕ) → alive more path digits ≡ true → alive more (take n path) digits ≡ true
+alive-take more zero path digits on = refl
+alive-take more (suc n) [] digits on = on
+alive-take more (suc n) (c ∷ path) [] on = on
+alive-take more (suc n) (c ∷ path) (d ∷ digits) on = by (is_one_of c d) on (alive-take more n path digits)
+  where
+    by : (b : Bool) → is_alive more (cond b (walked path digits) Refused) ≡ true → (alive more path digits ≡ true → alive more (take n path) digits ≡ true) → is_alive more (cond b (walked (take n path) digits) Refused) ≡ true
+    by true on rest = rest on
+    by false on rest = on
+
+-- where a walk comes to nothing, no tail fits
+dead_fits : (more : Bool) (tail : Tail) (w : Walked) → is_alive more w ≡ false → fits more tail w ≡ false
+dead_fits true End Refused dead = refl
+dead_fits true Dot Refused dead = refl
+dead_fits true Bang Refused dead = refl
+dead_fits false tail Refused dead = refl
+dead_fits true tail Short dead = absurd (true≢false dead)
+dead_fits false tail Short dead = refl
+dead_fits more tail (Behind digits) dead = absurd (true≢false dead)
+
+-- a path that begins with one that does not take the digits fits under no tail
+pub dead-fits : (more : Bool) (tail : Tail) (n : ℕ) (path : List (List ℕ)) (digits : List ℕ) → alive more (take n path) digits ≡ false → fits more tail (walked path digits) ≡ false
+dead-fits more tail n path digits dead = dead_fits more tail (walked path digits) (whole (alive more path digits) refl)
+  where
+    whole : (b : Bool) → alive more path digits ≡ b → alive more path digits ≡ false
+    whole true on = absurd (true≢false (sym (alive-take more n path digits on) ∙ dead))
+    whole false off = off
+
+-- ---- comparisons, which do not compute at variables
+
+lt_suc : (m n : ℕ) → nat_lt m n ≡ nat_lt (suc m) (suc n)
+lt_suc m n = by (nat_lt m n) refl
+  where
+    by : (b : Bool) → nat_lt m n ≡ b → b ≡ nat_lt (suc m) (suc n)
+    by true e = let below = ltb-true m n e in sym (lt-ltb (suc m) (suc n) (omega (arith, below)))
+    by false e = let above = ltb-false m n e in sym (le-ltb (suc m) (suc n) (omega (arith, above)))
+
+-- behind a path that takes the digits a tail fits exactly where the counts say so
+pub fits-allows : (more : Bool) (tail : Tail) (path : List (List ℕ)) (digits : List ℕ) → alive more path digits ≡ true → fits more tail (walked path digits) ≡ allows more tail (length path) (length digits)
+fits-allows false End [] [] on = refl
+fits-allows false End [] (d ∷ digits) on = sym (eqb-zero-suc (length digits))
+fits-allows false Dot [] [] on = refl
+fits-allows false Dot [] (d ∷ digits) on = sym (lt-ltb 0 (suc (length digits)) (omega arith))
+fits-allows false Bang [] digits on = refl
+fits-allows true End [] digits on = sym (le-ltb (length digits) 0 (omega arith))
+fits-allows true Dot [] digits on = refl
+fits-allows true Bang [] digits on = refl
+fits-allows false tail (c ∷ path) [] on = absurd (true≢false (sym on))
+fits-allows true End (c ∷ path) [] on = sym (lt-ltb 0 (suc (length path)) (omega arith))
+fits-allows true Dot (c ∷ path) [] on = refl
+fits-allows true Bang (c ∷ path) [] on = refl
+fits-allows more tail (c ∷ path) (d ∷ digits) on = by (is_one_of c d) on (fits-allows more tail path digits)
+  where
+    same : (more : Bool) (tail : Tail) (m n : ℕ) → allows more tail m n ≡ allows more tail (suc m) (suc n)
+    same false End m n = sym (eqb-suc-suc m n)
+    same false Dot m n = lt_suc m n
+    same false Bang m n = refl
+    same true End m n = lt_suc n m
+    same true Dot m n = refl
+    same true Bang m n = refl
+
+    by : (b : Bool) → is_alive more (cond b (walked path digits) Refused) ≡ true → (alive more path digits ≡ true → fits more tail (walked path digits) ≡ allows more tail (length path) (length digits)) → fits more tail (cond b (walked path digits) Refused) ≡ allows more tail (suc (length path)) (suc (length digits))
+    by true on rest = rest on ∙ same more tail (length path) (length digits)
+    by false on rest = absurd (true≢false (sym on))

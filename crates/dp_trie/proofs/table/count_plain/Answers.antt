@@ -1,0 +1,13 @@
+use Rattle.std.proofs.Common.{◌∙◌, refl, sym, subst}
+use Rattle.std.proofs.lemmas.Option.{slice_get_read}
+use Rattle.dp_pattern.specs.Name.{Meaning}
+use Rattle.dp_trie.specs.Ranked.{IsPattern, IsPlain}
+use Rattle.dp_trie.proofs.BuildLemmas.{patterns-behind, plain-more}
+use Rattle.dp_trie.proofs.table.count_plain.Goals as goal
+
+pub returns-then-not-is_plain-clause-pattern : goal.returns-then-not-is_plain-clause-pattern
+returns-then-not-is_plain-clause-pattern c =
+    let found = c.in-Some.ensures.lookup.3 in
+    let here = slice_get_read c.args.ranked.now _ c.loop-one.count c.in-Some.one.now refl found.0 (found.1 c.in-Some.one.now) in
+    patterns-behind c.args.ranked.now c.loop-one.count c.in-Some.one.now c.requires here
+    (subst IsPattern c.name_of.ensures (c.if-not-is_plain.ensures.pattern refl))

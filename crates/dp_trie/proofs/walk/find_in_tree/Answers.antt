@@ -1,0 +1,43 @@
+use Rattle.std.proofs.Common.{sym, ◌∙◌, ap, refl, arith, length, ◌-◌, ◌<◌}
+use Rattle.std.specs.Prelude.{slice_index}
+use Rattle.std.proofs.lemmas.Option.{slice_get_read, slice_get_within}
+use Rattle.dp_pattern.specs.Dashes.{undashed}
+use Rattle.dp_trie.specs.Asked.{is_more, wants}
+use Rattle.dp_trie.proofs.TreeLemmas.{after-enter, after-fail, after-hold}
+use Rattle.dp_trie.proofs.walk.find_in_tree.Goals as goal
+
+pub returns-in-Holds-clause-hit : goal.returns-in-Holds-clause-hit
+returns-in-Holds-clause-hit c =
+    let found = c.in-Some.ensures.lookup.3 in
+    let here = slice_get_read c.args.nodes.now _ c.loop-node.place c.in-Some.node.now refl found.0 (found.1 c.in-Some.node.now) in
+    let hold = after-hold c.args.held.now (is_more c.args.question) (wants c.args.question) (undashed c.args.digits.text.now) c.args.nodes.now c.loop-node.place c.loop-node.count c.loop-node.invariant c.in-Some.node.now here c.in-Holds.hit (sym c.in-Holds.ensures) in
+    hold.found
+
+pub returns-in-Holds-clause-least : goal.returns-in-Holds-clause-least
+returns-in-Holds-clause-least c =
+    let found = c.in-Some.ensures.lookup.3 in
+    let here = slice_get_read c.args.nodes.now _ c.loop-node.place c.in-Some.node.now refl found.0 (found.1 c.in-Some.node.now) in
+    let hold = after-hold c.args.held.now (is_more c.args.question) (wants c.args.question) (undashed c.args.digits.text.now) c.args.nodes.now c.loop-node.place c.loop-node.count c.loop-node.invariant c.in-Some.node.now here c.in-Holds.hit (sym c.in-Holds.ensures) in
+    hold.least
+
+pub loop-node-preserved-in-Enters : goal.loop-node-preserved-in-Enters
+loop-node-preserved-in-Enters c =
+    let found = c.in-Some.ensures.lookup.3 in
+    let here = slice_get_read c.args.nodes.now _ c.loop-node.place c.in-Some.node.now refl found.0 (found.1 c.in-Some.node.now) in
+    after-enter c.args.held.now (is_more c.args.question) (wants c.args.question) (undashed c.args.digits.text.now) c.args.nodes.now c.loop-node.place c.loop-node.count c.loop-node.invariant c.in-Some.node.now here (sym c.in-Enters.ensures)
+
+pub loop-node-preserved : goal.loop-node-preserved
+loop-node-preserved c =
+    let found = c.in-Some.ensures.lookup.3 in
+    let here = slice_get_read c.args.nodes.now _ c.loop-node.place c.in-Some.node.now refl found.0 (found.1 c.in-Some.node.now) in
+    after-fail c.args.held.now (is_more c.args.question) (wants c.args.question) (undashed c.args.digits.text.now) c.args.nodes.now c.loop-node.place c.loop-node.count c.loop-node.invariant c.in-Some.node.now here
+    (slice_index c.args.ends.now c.loop-node.place) (c.requires.linked.each c.loop-node.place c.in-Some.node.now here) (sym c.in-Fails.ensures)
+
+pub loop-node-smaller : goal.loop-node-smaller
+loop-node-smaller c =
+    let found = c.in-Some.ensures.lookup.3 in
+    let here = slice_get_read c.args.nodes.now _ c.loop-node.place c.in-Some.node.now refl found.0 (found.1 c.in-Some.node.now) in
+    let later = (c.requires.linked.each c.loop-node.place c.in-Some.node.now here).later in
+    let inside = slice_get_within c.args.nodes.now c.loop-node.place c.in-Some.node.now here in
+    let less : length c.args.nodes.now - slice_index c.args.ends.now c.loop-node.place < length c.args.nodes.now - c.loop-node.place = omega (arith, later, inside) in
+    less

@@ -1,0 +1,47 @@
+-- What a look-up asks of an entry: of its name by the digits of the text, and of its priority and label.
+use Rattle.std.specs.Prelude.{ℕ, Bool, true, false, ◌&&◌, ◌==◌, List, Option, Some, if◌then◌else◌}
+use Rattle.dp_pattern.specs.Name.{Meaning}
+use Rattle.dp_pattern.specs.Walk.{Walked, walked, classes_of, tail_of, is_match, goes_on}
+use Rattle.dp_pattern.specs.declared.tail.Tail.{Tail}
+use Rattle.dp_plan.specs.Plan.{shares_label}
+use Rattle.dp_trie.specs.Known.{Known}
+use Rattle.dp_trie.specs.declared.node.Held.{Held}
+use Rattle.dp_trie.specs.declared.question.Hit.{Hit}
+use Rattle.dp_trie.specs.declared.question.Question.{Question}
+use Rattle.dp_trie.specs.declared.question.Question.TheVariants.{Priority, Label, More}
+
+-- a test of a priority and a label
+abbrev pub Wanted : Type 0
+Wanted = ℕ → Option (List ℕ) → Bool
+
+-- whether the walk is one that is asked for: of a name that goes on, or else of one that matches
+abbrev pub fits : Bool → Tail → Walked → Bool
+fits more tail walk = if more then goes_on tail walk else is_match tail walk
+
+-- whether the entry is one that is asked for
+abbrev pub asked : Bool → Wanted → List ℕ → Known → Bool
+asked more wanted digits known =
+    fits more (tail_of known.name) (walked (classes_of known.name) digits) && wanted known.priority known.label
+
+-- whether the question is which names go on
+abbrev pub is_more : Question → Bool
+is_more (Priority number) = false
+is_more (Label text) = false
+is_more More = true
+
+-- what the question asks of a priority and a label
+abbrev pub wants : Question → Wanted
+wants (Priority number) priority label = priority == number
+wants (Label text) priority label = shares_label label (Some text.now)
+wants More priority label = priority == 1
+
+-- whether what is held of an entry is what is wanted
+abbrev pub holds : Wanted → Held → Bool
+holds wanted held = wanted held.priority held.label
+
+-- what a look-up hands on
+abbrev pub hit_held : Held → Hit
+hit_held held = record { id = held.id; priority = held.priority }
+
+abbrev pub hit_of : Known → Hit
+hit_of known = record { id = known.id; priority = known.priority }

@@ -1,0 +1,5 @@
+pub mod Asked
+pub mod Known
+pub mod Names
+pub mod Ranked
+pub mod Tree

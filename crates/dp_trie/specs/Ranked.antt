@@ -1,0 +1,40 @@
+-- The entries of a context in their order, while a trie is built.
+use Rattle.std.specs.Prelude.{◌≡◌, ℕ, ◌<◌, ◌≤◌, List, length, map, slice_get, slice_range, Some}
+use Rattle.std.specs.List.{AllByRecursion}
+use Rattle.dp_pattern.specs.Name.{Meaning, Plain, Pattern}
+use Rattle.dp_trie.specs.Known.{Known, known_of}
+use Rattle.dp_trie.specs.declared.node.Held.{Held}
+use Rattle.dp_trie.specs.declared.ranked.Ranked.{Ranked}
+
+-- what is kept of an entry beside its number
+abbrev pub known_now : Ranked → Known
+known_now ranked = known_of ranked.id ranked.entry.now
+
+-- what is held of an entry beside its name
+abbrev pub hold_of : Known → Held
+hold_of known = record { id = known.id; priority = known.priority; label = known.label }
+
+-- the name is a pattern
+abbrev pub IsPattern : Meaning → Type 0
+IsPattern (Plain text) = ⊥
+IsPattern (Pattern classes tail) = Unit {0}
+
+-- the name is plain
+abbrev pub IsPlain : Meaning → Type 0
+IsPlain (Plain text) = Unit {0}
+IsPlain (Pattern classes tail) = ⊥
+
+-- each entry has that name
+abbrev pub AreNamed : Meaning → List Known → Type 0
+AreNamed name known = AllByRecursion (λ one. one.name ≡ name) known
+
+-- the entries from one place up to another are all that have the name of the first, among those behind it
+pub record IsGroup (known : List Known) (from until : ℕ) (name : Meaning) : Type 0 where
+  pub later : from < until
+  pub within : until ≤ length known
+  pub same : AreNamed name (slice_range known from until)
+
+-- behind an entry of a pattern there are no others
+abbrev pub ArePlainFirst : List Known → Type 0
+ArePlainFirst known =
+    (i j : ℕ) (a b : Known) → i < j → slice_get known i ≡ Some a → slice_get known j ≡ Some b → IsPattern a.name → IsPattern b.name

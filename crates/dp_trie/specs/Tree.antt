@@ -1,0 +1,141 @@
+-- A tree of patterns: the entries that its nodes stand for, and what a walk does at a node.
+use Rattle.std.specs.Prelude.{◌≡◌, ℕ, suc, ◌+◌, ◌<◌, ◌≤◌, Bool, true, false, ◌==◌, nat_lt, List, [], ◌∷◌, ◌++◌, length, take, drop, map, slice_get, slice_index, slice_range, Option, None, Some, if◌then◌else◌}
+use Rattle.std.specs.List.{find}
+use Rattle.std.specs.Option.{option_map_or}
+use Rattle.dp_pattern.specs.Name.{Meaning, Pattern, is_one_of}
+use Rattle.dp_pattern.specs.declared.tail.Tail.{Tail}
+use Rattle.dp_pattern.specs.declared.tail.Tail.TheVariants.{End, Dot, Bang}
+use Rattle.dp_trie.specs.Asked.{Wanted, holds, hit_held}
+use Rattle.dp_trie.specs.Known.{Known}
+use Rattle.dp_trie.specs.declared.node.Held.{Held}
+use Rattle.dp_trie.specs.declared.node.Leaf as leaves
+use Rattle.dp_trie.specs.declared.node.Node.{Node}
+use Rattle.dp_trie.specs.declared.node.Step.{Step}
+use Rattle.dp_trie.specs.declared.node.Step.TheVariants.{Class, Leaf}
+use Rattle.dp_trie.specs.declared.walk.Visit.{Visit}
+use Rattle.dp_trie.specs.declared.walk.Visit.TheVariants.{Enters, Fails, Holds}
+
+-- what is held of an entry, with its name
+abbrev pub known_held : Meaning → Held → Known
+known_held name held = record { name = name; priority = held.priority; label = held.label; id = held.id }
+
+-- the entries of a node below these classes: a leaf has those of one pattern
+abbrev pub own : List Held → List (List ℕ) → Step → List Known
+own held path (Class class) = []
+own held path (Leaf leaf) = map (known_held (Pattern path leaf.tail)) (slice_range held leaf.from leaf.until)
+
+-- the classes behind a node that stands below these classes
+abbrev pub path_below : List (List ℕ) → Step → List (List ℕ)
+path_below path (Class class) = path ++ class ∷ []
+path_below path (Leaf leaf) = path
+
+-- the classes behind a node, of which those above it are the first
+abbrev pub path_after : List (List ℕ) → Node → List (List ℕ)
+path_after path node = path_below (take node.depth path) node.step
+
+-- the entries of the nodes from some place on, where these classes stand behind the node before
+abbrev pub known_from : List Held → List (List ℕ) → List Node → List Known
+known_from held path [] = []
+known_from held path (node ∷ nodes) = own held (take node.depth path) node.step ++ known_from held (path_after path node) nodes
+
+-- the classes behind the last of the nodes
+abbrev pub path_end : List (List ℕ) → List Node → List (List ℕ)
+path_end path [] = path
+path_end path (node ∷ nodes) = path_end (path_after path node) nodes
+
+-- ---- the form of a tree
+
+-- the nodes from the first on that is no deeper
+abbrev pub skipped : ℕ → List Node → List Node
+skipped depth [] = []
+skipped depth (node ∷ nodes) = if nat_lt depth node.depth then skipped depth nodes else node ∷ nodes
+
+-- how many classes stand behind a node of some depth
+abbrev pub depth_below : ℕ → Step → ℕ
+depth_below depth (Class class) = suc depth
+depth_below depth (Leaf leaf) = depth
+
+-- each node is at most as deep as there are classes behind the node before
+abbrev pub IsRooted : ℕ → List Node → Type 0
+IsRooted depth [] = Unit {0}
+IsRooted depth (node ∷ nodes) = (node.depth ≤ depth) × IsRooted (depth_below node.depth node.step) nodes
+
+-- the place behind all that stands below a node of some depth
+pub record IsEnd (nodes : List Node) (place depth end : ℕ) : Type 0 where
+  pub later : place < end
+  pub within : end ≤ length nodes
+  pub behind : drop end nodes ≡ skipped depth (drop (place + 1) nodes)
+
+-- the end of the node at a place
+abbrev pub IsEndOf : List Node → ℕ → ℕ → Type 0
+IsEndOf nodes place end = (node : Node) → slice_get nodes place ≡ Some node → IsEnd nodes place node.depth end
+
+-- beside each node from some place on stands its end
+pub record AreLinkedFrom (first : ℕ) (nodes : List Node) (ends : List ℕ) : Type 0 where
+  pub count : length ends ≡ length nodes
+  pub each : (place : ℕ) → first ≤ place → IsEndOf nodes place (slice_index ends place)
+
+-- beside each node stands its end
+pub record AreLinked (nodes : List Node) (ends : List ℕ) : Type 0 where
+  pub count : length ends ≡ length nodes
+  pub each : (place : ℕ) → IsEndOf nodes place (slice_index ends place)
+
+-- a leaf has entries among so many
+abbrev pub IsRange : ℕ → Step → Type 0
+IsRange count (Class class) = Unit {0}
+IsRange count (Leaf leaf) = (leaf.from ≤ leaf.until) × (leaf.until ≤ count)
+
+-- each leaf has
+abbrev pub AreRanges : ℕ → List Node → Type 0
+AreRanges count nodes = (place : ℕ) (node : Node) → slice_get nodes place ≡ Some node → IsRange count node.step
+
+-- the nodes are a tree over what is held
+pub record IsTree (held : List Held) (nodes : List Node) (ends : List ℕ) : Type 0 where
+  pub linked : AreLinked nodes ends
+  pub rooted : IsRooted 0 nodes
+  pub ranges : AreRanges (length held) nodes
+
+-- ---- the nodes of one pattern more
+
+-- the nodes of classes stand behind others, from a place of the pattern up to a depth
+pub record Reaches (old new : List Node) (classes : List (List ℕ)) (from depth : ℕ) : Type 0 where
+  pub known : (held : List Held) → known_from held [] new ≡ known_from held [] old
+  pub path : take depth (path_end [] new) ≡ take depth classes
+  pub long : depth ≤ length (path_end [] new)
+  pub rooted : IsRooted 0 old → IsRooted 0 new
+  pub ranges : (count : ℕ) → AreRanges count old → AreRanges count new
+  pub size : length new + from ≡ length old + depth
+
+-- the nodes of a pattern and its leaf stand behind others
+pub record Pushes (old new : List Node) (classes : List (List ℕ)) (leaf : leaves.Leaf) : Type 0 where
+  pub known : (held : List Held) → known_from held [] new ≡ known_from held [] old ++ own held classes (Leaf leaf)
+  pub path : path_end [] new ≡ classes
+  pub rooted : IsRooted 0 old → IsRooted 0 new
+  pub ranges : (count : ℕ) → AreRanges count old → IsRange count (Leaf leaf) → AreRanges count new
+  pub size : length new ≤ length old + length classes + 1
+
+-- ---- a step of a walk
+
+-- whether the class takes the digit of a number; where the digits have ended, names that go on are still below
+abbrev pub takes : Bool → List ℕ → List ℕ → ℕ → Bool
+takes more digits class number = option_map_or (is_one_of class) (slice_get digits number) more
+
+-- whether the tail allows what is left behind so many of so many digits, for a match or for going on
+abbrev pub allows : Bool → Tail → ℕ → ℕ → Bool
+allows false End number count = number == count
+allows false Dot number count = nat_lt number count
+allows false Bang number count = true
+allows true End number count = nat_lt count number
+allows true Dot number count = true
+allows true Bang number count = false
+
+abbrev pub hold_or_pass : Option Held → Visit
+hold_or_pass None = Enters
+hold_or_pass (Some held) = Holds (hit_held held)
+
+-- what a walk does at a node
+abbrev pub step_visit : List Held → Bool → Wanted → List ℕ → ℕ → Step → Visit
+step_visit held more wanted digits depth (Class class) = if takes more digits class depth then Enters else Fails
+step_visit held more wanted digits depth (Leaf leaf) =
+    if allows more leaf.tail depth (length digits)
+    then hold_or_pass (find (holds wanted) (slice_range held leaf.from leaf.until)) else Enters

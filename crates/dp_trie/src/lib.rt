@@ -1,0 +1,20 @@
+//! Look-up in a dialplan through tries: for each context its plain names in order, and its patterns as a tree in which
+//! patterns share what they begin with.
+//!
+//! What is found is what `dp_lookup` finds, after the Asterisk documentation's pages on the dialplan and on pattern
+//! matching.
+#![tactic(auto)]
+
+mod build;
+mod digits;
+mod link;
+mod node;
+mod plain;
+mod question;
+mod ranked;
+mod table;
+mod trie;
+mod walk;
+
+pub use dp_lookup::{Dialplan, EntryId, NoMemory, SearchOrder};
+pub use trie::Trie;

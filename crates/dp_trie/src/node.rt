@@ -1,0 +1,34 @@
+//! The nodes of a tree of patterns.
+use dp_lookup::EntryId;
+use dp_lookup::Text;
+use dp_pattern::{Class, Tail};
+
+/// What a look-up reads of an entry beside its name.
+#[derive(Debug, Drop)]
+pub(crate) struct Held {
+    pub(crate) id: EntryId,
+    pub(crate) priority: u32,
+    pub(crate) label: Option<Text>,
+}
+
+/// The end of a pattern: its tail, and which of the entries that are held are its own, from one place up to another.
+#[derive(Clone, Copy, Debug)]
+pub(crate) struct Leaf {
+    pub(crate) tail: Tail,
+    pub(crate) from: usize,
+    pub(crate) until: usize,
+}
+
+/// What stands at a node: a class that takes one more digit, or the end of a pattern.
+#[derive(Debug, Drop)]
+pub(crate) enum Step {
+    Class(Class),
+    Leaf(Leaf),
+}
+
+/// A node of a tree. So many classes stand above it; the nodes stand in the order in which a walk meets them.
+#[derive(Debug, Drop)]
+pub(crate) struct Node {
+    pub(crate) depth: usize,
+    pub(crate) step: Step,
+}

@@ -1,0 +1,72 @@
+//! What a look-up asks of an entry.
+ghost use Rattle.std.specs.Prelude.{◌≡◌, ◌↔◌, Some, IsTrue};
+ghost use Rattle.std.specs.List as lists;
+ghost use Rattle.std.specs.Option.{option_map};
+ghost use Rattle.dp_trie.specs.Asked.{is_more, wants, holds, hit_held};
+
+use crate::node::Held;
+use dp_lookup::EntryId;
+
+/// What an entry is asked for, beside a text.
+#[derive(Clone, Copy)]
+pub(crate) enum Question<'a> {
+    /// That it matches the text and has this priority.
+    Priority(u32),
+    /// That it matches the text and has this label.
+    Label(&'a [u8]),
+    /// That it has priority 1 and its name goes on from the text.
+    More,
+}
+
+/// What a look-up hands on of the entry that it finds.
+#[derive(Clone, Copy)]
+pub(crate) struct Hit {
+    pub(crate) id: EntryId,
+    pub(crate) priority: u32,
+}
+
+/// Whether the question is which names go on from the text.
+pub(crate) fn is_more(question: Question<'_>) -> bool
+    ensures { result ≡ is_more question.entry }
+{
+    match question {
+        Question::Priority(_) | Question::Label(_) => false,
+        Question::More => true,
+    }
+}
+
+/// Whether the entry has this label.
+fn has_label(held: &Held, label: &[u8]) -> bool
+    ensures { IsTrue result ↔ (held.now.label ≡ Some label.now) }
+{
+    match &held.label {
+        Some(own) => own.bytes() == label,
+        None => false,
+    }
+}
+
+/// Whether the entry is one that the question asks for, where its name is.
+pub(crate) fn is_wanted(question: Question<'_>, held: &Held) -> bool
+    ensures { result ≡ holds (wants question.entry) held.now }
+{
+    match question {
+        Question::Priority(priority) => held.priority == priority,
+        Question::Label(label) => has_label(held, label),
+        Question::More => held.priority == 1,
+    }
+}
+
+/// The first of these entries that the question asks for.
+pub(crate) fn first_wanted(question: Question<'_>, held: &[Held]) -> Option<Hit>
+    ensures { result ≡ option_map hit_held (lists.find (holds (wants question.entry)) held.now) }
+{
+    for entry in held {
+        if is_wanted(question, entry) {
+            return Some(Hit {
+                id: entry.id,
+                priority: entry.priority,
+            });
+        }
+    }
+    None
+}

@@ -1,0 +1,178 @@
+//! A dialplan as tries.
+ghost use Rattle.std.specs.Prelude.{◌≡◌, ◌≤◌, is_some, sum_by, find, IfOk, MatchOption};
+ghost use Rattle.std.specs.Option.{option_map};
+ghost use Rattle.dp_lookup.specs.FoundEntry.{found_entry, found_label, goes_on_more};
+ghost use Rattle.dp_pattern.specs.Dashes.{undashed};
+ghost use Rattle.dp_plan.specs.Plan.{PlanOf};
+ghost use Rattle.dp_trie.specs.Asked.{is_more, wants, asked, hit_of};
+ghost use Rattle.dp_trie.specs.Known.{Keeps, FindsPattern, class_count, kept_at, nodes_at, most_nodes, found_first};
+
+use crate::digits::Digits;
+use crate::question::{Hit, Question};
+use crate::table::Table;
+use crate::walk::Counted;
+use dp_lookup::{Dialplan, EntryId, NoMemory, SearchOrder};
+use std::alloc::Global;
+use std::marker::Model;
+
+/// A dialplan as tries: for each of its contexts the plain names in order, and the patterns as a tree.
+///
+/// A contract sees it as what it keeps of the dialplan that it was built from: of each context its entries, each with what
+/// its name means, its priority, its label and its number, in the order in which a look-up asks them; and how many nodes
+/// its tree has.
+#[derive(Debug, Drop)]
+pub struct Trie {
+    tables: Vec<Table>,
+}
+
+impl Model for Trie {
+    ghost use Rattle.std.specs.Prelude.{List};
+    ghost use Rattle.dp_trie.specs.Known.{KeptContext};
+
+    ghost Value = { List KeptContext };
+
+    ghost view = { λ trie. trie.tables.items };
+}
+
+/// The first entry of the context of a number that the question asks for; none where there is no such context.
+fn find_at(tables: &[Table], number: usize, question: Question<'_>, digits: Digits<'_>) -> Counted
+    ensures hit { result.hit ≡ option_map hit_of
+        (find (asked (is_more question.entry) (wants question.entry) (undashed digits.entry.text.now)) (kept_at tables.now number)) }
+    ensures most { result.count ≤ nodes_at tables.now number }
+    ensures least { MatchOption
+        (find (asked (is_more question.entry) (wants question.entry) (undashed digits.entry.text.now)) (kept_at tables.now number))
+        (Unit {0}) (λ known. class_count known.name ≤ result.count) }
+{
+    match tables.get(number) {
+        Some(table) => table.find(question, digits),
+        None => Counted {
+            hit: None,
+            count: 0,
+        },
+    }
+}
+
+/// The first entry that the question asks for, in the first of the contexts of these numbers that has such an entry.
+fn find_first(tables: &[Table], order: &[usize], question: Question<'_>, digits: Digits<'_>) -> Counted
+    ensures hit { result.hit ≡ option_map hit_of
+        (found_first tables.now (asked (is_more question.entry) (wants question.entry) (undashed digits.entry.text.now)) order.now) }
+    ensures most { result.count ≤ sum_by (nodes_at tables.now) order.now }
+    ensures least { MatchOption
+        (found_first tables.now (asked (is_more question.entry) (wants question.entry) (undashed digits.entry.text.now)) order.now)
+        (Unit {0}) (λ known. class_count known.name ≤ result.count) }
+{
+    let mut count: usize = 0;
+    for number in order {
+        let found = find_at(tables, *number, question, digits);
+        count = count.saturating_add(found.count);
+        if found.hit.is_some() {
+            return Counted {
+                hit: found.hit,
+                count,
+            };
+        }
+    }
+    Counted { hit: None, count }
+}
+
+/// The same by the text.
+fn look_up(tables: &[Table], order: &SearchOrder, question: Question<'_>, text: &[u8]) -> Counted
+    ensures hit { result.hit ≡ option_map hit_of
+        (found_first tables.now (asked (is_more question.entry) (wants question.entry) (undashed text.now)) order.now.contexts) }
+    ensures most { result.count ≤ sum_by (nodes_at tables.now) order.now.contexts }
+    ensures least { MatchOption
+        (found_first tables.now (asked (is_more question.entry) (wants question.entry) (undashed text.now)) order.now.contexts)
+        (Unit {0}) (λ known. class_count known.name ≤ result.count) }
+{
+    find_first(tables, order.contexts(), question, Digits::of(text))
+}
+
+/// The number of the entry that was found.
+fn id_of(hit: Option<Hit>) -> Option<EntryId>
+    ensures { result ≡ option_map (λ h. h.id) hit }
+{
+    match hit {
+        Some(hit) => Some(hit.id),
+        None => None,
+    }
+}
+
+/// The priority of the entry that was found.
+fn priority_of(hit: Option<Hit>) -> Option<u32>
+    ensures { result ≡ option_map (λ h. h.priority) hit }
+{
+    match hit {
+        Some(hit) => Some(hit.priority),
+        None => None,
+    }
+}
+
+impl Trie {
+    /// The tries of a dialplan.
+    pub fn build(alloc: Global, plan: &Dialplan) -> Result<Self, NoMemory>
+        ensures { IfOk result (λ trie. Keeps plan.now trie) }
+    {
+        let count = plan.contexts().len();
+        let mut tables = Vec::with_capacity(alloc, count)?;
+        for number in 0..count {
+            let table = Table::build(alloc, plan, number)?;
+            tables.push(table)?;
+        }
+        Ok(Trie { tables })
+    }
+
+    /// How many nodes the tree of the context of this number has, 0 where there is no such context: at most one, and for
+    /// each entry of a pattern as many as it has classes and one.
+    pub fn nodes(&self, context: usize) -> usize
+        ensures value { result ≡ nodes_at self.now context }
+        ensures most { result ≤ most_nodes (kept_at self.now context) }
+    {
+        match self.tables.get(context) {
+            Some(table) => table.nodes(),
+            None => 0,
+        }
+    }
+
+    /// The entry of the order's contexts that matches the dialled text and has the priority, as `dp_lookup::find` gives
+    /// it, and how many nodes were entered. Each entry into a node raises that count by one. It takes no memory.
+    pub fn find_counted(
+        &self,
+        order: &SearchOrder,
+        text: &[u8],
+        priority: u32,
+    ) -> (Option<EntryId>, usize)
+        ensures found { (plan : PlanOf) → Keeps plan self.now → result.0 ≡ found_entry plan order.now.contexts text.now priority }
+        ensures most { result.1 ≤ sum_by (nodes_at self.now) order.now.contexts }
+        ensures least { (plan : PlanOf) → Keeps plan self.now → FindsPattern plan result.0 result.1 }
+    {
+        let found = look_up(&self.tables, order, Question::Priority(priority), text);
+        (id_of(found.hit), found.count)
+    }
+
+    /// The entry of the order's contexts that matches the dialled text and has the priority, as `dp_lookup::find` gives
+    /// it. It takes no memory.
+    pub fn find(&self, order: &SearchOrder, text: &[u8], priority: u32) -> Option<EntryId>
+        ensures { (plan : PlanOf) → Keeps plan self.now → result ≡ found_entry plan order.now.contexts text.now priority }
+    {
+        let (found, _count) = self.find_counted(order, text, priority);
+        found
+    }
+
+    /// The priority of the entry of the order's contexts that matches the dialled text and has the label, as
+    /// `dp_lookup::find_label` gives it. It takes no memory.
+    pub fn find_label(&self, order: &SearchOrder, text: &[u8], label: &[u8]) -> Option<u32>
+        ensures { (plan : PlanOf) → Keeps plan self.now → result ≡ found_label plan order.now.contexts text.now label.now }
+    {
+        let found = look_up(&self.tables, order, Question::Label(label), text);
+        priority_of(found.hit)
+    }
+
+    /// Whether some ending of one or more bytes other than `-` makes the dialled text match an entry of priority 1 whose
+    /// name does not end with `!`, as `dp_lookup::could_be_more` says. It takes no memory.
+    pub fn more(&self, order: &SearchOrder, text: &[u8]) -> bool
+        ensures { (plan : PlanOf) → Keeps plan self.now → result ≡ goes_on_more plan order.now.contexts text.now }
+    {
+        let found = look_up(&self.tables, order, Question::More, text);
+        found.hit.is_some()
+    }
+}

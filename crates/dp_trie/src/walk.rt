@@ -1,0 +1,126 @@
+//! The walk through a tree of patterns. It takes no memory, and no call of it stands inside another.
+ghost use Rattle.std.specs.Prelude.{◌≡◌, ◌≤◌, length, slice_index, MatchOption, [], find};
+ghost use Rattle.std.specs.Option.{option_map};
+ghost use Rattle.dp_pattern.specs.Walk.{classes_of};
+ghost use Rattle.dp_trie.specs.Asked.{is_more, wants, asked, hit_of};
+ghost use Rattle.dp_pattern.specs.Dashes.{undashed};
+ghost use Rattle.dp_trie.specs.Tree.{takes, allows, step_visit, known_from, IsRange, IsTree};
+
+use crate::digits::Digits;
+use crate::node::{Held, Leaf, Node, Step};
+use crate::question::{Hit, Question, first_wanted, is_more};
+use dp_pattern::{Class, Tail};
+
+/// What a walk does at a node.
+#[derive(Clone, Copy)]
+pub(crate) enum Visit {
+    /// It enters the node and goes on behind it.
+    Enters,
+    /// It goes on behind all that stands below the node.
+    Fails,
+    /// It enters the node, which holds what was asked for.
+    Holds(Hit),
+}
+
+/// What a walk finds, and how many nodes it entered.
+#[derive(Clone, Copy)]
+pub(crate) struct Counted {
+    pub(crate) hit: Option<Hit>,
+    pub(crate) count: usize,
+}
+
+/// Whether the class takes the digit of this number. Where the digits have ended, it does if names that go on are asked
+/// for.
+fn takes(class: &Class, number: usize, digits: Digits<'_>, more: bool) -> bool
+    ensures { result ≡ takes more (undashed digits.entry.text.now) class.now number }
+{
+    match digits.at(number) {
+        Some(digit) => class.has(digit),
+        None => more,
+    }
+}
+
+/// Whether the tail allows what is left behind so many of the digits.
+pub(crate) fn allows(tail: Tail, number: usize, count: usize, more: bool) -> bool
+    ensures { result ≡ allows more tail number count }
+{
+    match (more, tail) {
+        (false, Tail::End) => number == count,
+        (false, Tail::Dot) => number < count,
+        (false, Tail::Bang) => true,
+        (true, Tail::End) => count < number,
+        (true, Tail::Dot) => true,
+        (true, Tail::Bang) => false,
+    }
+}
+
+/// What a walk does at a leaf.
+fn visit_leaf(
+    leaf: Leaf,
+    depth: usize,
+    held: &[Held],
+    question: Question<'_>,
+    digits: Digits<'_>,
+) -> Visit
+    requires { IsRange (length held.now) (Step.Leaf leaf) }
+    ensures { result ≡ step_visit held.now (is_more question.entry) (wants question.entry) (undashed digits.entry.text.now) depth
+        (Step.Leaf leaf) }
+{
+    if !allows(leaf.tail, depth, digits.count(), is_more(question)) {
+        return Visit::Enters;
+    }
+    match first_wanted(question, &held[leaf.from..leaf.until]) {
+        Some(hit) => Visit::Holds(hit),
+        None => Visit::Enters,
+    }
+}
+
+/// What a walk does at a node.
+fn visit_node(node: &Node, held: &[Held], question: Question<'_>, digits: Digits<'_>) -> Visit
+    requires { IsRange (length held.now) node.now.step }
+    ensures { result ≡ step_visit held.now (is_more question.entry) (wants question.entry) (undashed digits.entry.text.now)
+        node.now.depth node.now.step }
+{
+    match &node.step {
+        Step::Class(class) if takes(class, node.depth, digits, is_more(question)) => Visit::Enters,
+        Step::Class(_) => Visit::Fails,
+        Step::Leaf(leaf) => visit_leaf(*leaf, node.depth, held, question, digits),
+    }
+}
+
+/// The first entry of a tree that the question asks for, in the order in which a walk meets them. A node that fails ends
+/// the walk below it alone.
+pub(crate) fn find_in_tree(
+    nodes: &[Node],
+    ends: &[usize],
+    held: &[Held],
+    question: Question<'_>,
+    digits: Digits<'_>,
+) -> Counted
+    requires { IsTree held.now nodes.now ends.now }
+    ensures hit { result.hit ≡ option_map hit_of
+        (find (asked (is_more question.entry) (wants question.entry) (undashed digits.entry.text.now)) (known_from held.now [] nodes.now)) }
+    ensures most { result.count ≤ length nodes.now }
+    ensures least { MatchOption
+        (find (asked (is_more question.entry) (wants question.entry) (undashed digits.entry.text.now)) (known_from held.now [] nodes.now))
+        (Unit {0}) (λ known. length (classes_of known.name) ≤ result.count) }
+{
+    let mut place = 0;
+    let mut count = 0;
+    while let Some(node) = nodes.get(place) {
+        match visit_node(node, held, question, digits) {
+            Visit::Holds(hit) => {
+                return Counted {
+                    hit: Some(hit),
+                    count: count + 1,
+                };
+            }
+            Visit::Enters => {
+                place += 1;
+                count += 1;
+            }
+            Visit::Fails => place = ends[place],
+        }
+    }
+    Counted { hit: None, count }
+}
