@@ -11,11 +11,10 @@ use Rattle.dp_pattern.specs.declared.tail.Tail.{Tail}
 use Rattle.dp_trie.specs.Known.{Known, most_added}
 use Rattle.dp_trie.specs.Names.{own_plain, known_plain, ArePlainRanges}
 use Rattle.dp_trie.specs.Ranked.{known_now, hold_of, AreNamed, IsGroup, IsPlain, IsPattern, ArePlainFirst}
-use Rattle.dp_trie.specs.Tree.{known_held, own, path_below, path_after, path_end, known_from, depth_below, IsRooted, IsRange, AreRanges, Reaches, Pushes}
+use Rattle.dp_trie.specs.Tree.{known_held, own, path_after, path_end, known_from, depth_below, IsRooted, IsRange, AreRanges, Reaches, Pushes}
 use Rattle.dp_trie.specs.declared.node.Held.{Held}
 use Rattle.dp_trie.specs.declared.node.Leaf as leaf
 use Rattle.dp_trie.specs.declared.node.Node.{Node}
-use Rattle.dp_trie.specs.declared.node.Step.{Step}
 use Rattle.dp_trie.specs.declared.node.Step.TheVariants.{Class, Leaf}
 use Rattle.dp_trie.specs.declared.plain.PlainName.{PlainName}
 use Rattle.dp_trie.specs.declared.ranked.Ranked.{Ranked}

@@ -1,6 +1,6 @@
 -- What is found among the entries that are kept is what a look-up in the dialplan finds.
-use Rattle.std.proofs.Common.{◌≡◌, ℕ, zero, suc, ◌+◌, ◌<◌, ◌≤◌, Bool, true, false, cond, List, [], ◌∷◌, ◌++◌, length, map, take, drop, get_or, Option, Some, None, MatchOption, inl, inr, arith, refl, sym, ap, subst, ◌∙◌, Less, Greater, nat_cmp, ◌⊎◌, add-one, length-append}
-use Rattle.std.specs.Prelude.{slice_get, filter_map, All, find, sum_by, is_some}
+use Rattle.std.proofs.Common.{◌≡◌, ℕ, zero, suc, ◌+◌, ◌<◌, ◌≤◌, Bool, true, false, cond, List, [], ◌∷◌, ◌++◌, length, map, take, drop, Option, Some, None, MatchOption, inl, inr, arith, refl, sym, ap, subst, ◌∙◌, Less, Greater, nat_cmp, ◌⊎◌, add-one, length-append}
+use Rattle.std.specs.Prelude.{slice_get, filter_map, find, sum_by, is_some}
 use Rattle.std.specs.List.{AllByRecursion, range_with_len, cons_option}
 use Rattle.std.specs.Option.{option_and_then, option_map, option_map_or, option_or}
 use Rattle.std.specs.Ordering.{ordering_then}
@@ -8,16 +8,16 @@ use Rattle.std.proofs.lemmas.List.Elements.{recursion_from_All, All-map}
 use Rattle.std.proofs.lemmas.List.Sums.{sum_by-append, sum_by-take-drop}
 use Rattle.std.proofs.lemmas.List.FromFn.{length-map-range_with_len, get_or-map-range_with_len}
 use Rattle.std.proofs.lemmas.List.Sorted.{All-permutation}
-use Rattle.std.proofs.lemmas.Option.{slice_get_cases, slice_get_past, slice_get_within, same_Some}
+use Rattle.std.proofs.lemmas.Option.{slice_get_cases, slice_get_past, same_Some}
 use Rattle.dp_pattern.specs.Name.{Meaning, Plain, Pattern}
 use Rattle.dp_pattern.specs.Order.{name_cmp}
 use Rattle.dp_plan.specs.Contexts.{PlanContext}
 use Rattle.dp_plan.specs.Lookup.{entry_at, IsRankedAt}
 use Rattle.dp_plan.specs.Plan.{PlanOf}
-use Rattle.dp_plan.specs.Ranking.{entry_cmp, ids_of, ranked_entry, IsRanking}
+use Rattle.dp_plan.specs.Ranking.{ids_of, ranked_entry, IsRanking}
 use Rattle.dp_plan.specs.declared.entry.Entry.{Entry}
 use Rattle.dp_plan.specs.declared.entry.EntryId.{EntryId}
-use Rattle.dp_lookup.specs.FoundEntry.{passes, passing, least, found_by, priority_at}
+use Rattle.dp_lookup.specs.FoundEntry.{passes, found_by, priority_at}
 use Rattle.dp_lookup.proofs.RankedLemmas.{first_is_least}
 use Rattle.dp_trie.specs.Known.{Known, KeptContext, known_of, known_at, KeepsEntries, Keeps, class_count, kept_at, found_first, FindsPattern}
 use Rattle.dp_trie.specs.Asked.{hit_of}
@@ -39,9 +39,9 @@ record IsThere (plan : PlanOf) (id : EntryId) : Type 0 where
 there_in : (plan : PlanOf) (number : ℕ) (context : PlanContext) (k : ℕ) → slice_get plan.contexts number ≡ Some context → k < length context.entries → IsThere plan (id_at number k)
 there_in plan number context k here within = elim (slice_get_cases context.entries k).1 [
   | inl some ↦ record {
-      known = known_of (id_at number k) some.0;
-      there = ap (option_map (known_of (id_at number k))) (ap (option_and_then (λ (c : PlanContext). slice_get c.entries k)) here ∙ some.2);
-    }
+    known = known_of (id_at number k) some.0;
+    there = ap (option_map (known_of (id_at number k))) (ap (option_and_then (λ (c : PlanContext). slice_get c.entries k)) here ∙ some.2);
+  }
   | inr past ↦ (let few = past.0 in absurd (omega (arith, few, within)))
 ]
 
@@ -50,10 +50,10 @@ all_there plan number context ids here ranking =
     recursion_from_All (IsThere plan) ids
     (All-permutation (IsThere plan) (ids_of number context.entries) ids ranking.whole
     (λ k d below.
-        let size = length-map-range_with_len (id_at number) 0 (length context.entries) in
-        let within : k < length context.entries = omega (arith, size, below) in
-        subst (IsThere plan) (sym (get_or-map-range_with_len (id_at number) 0 (length context.entries) k k d within (omega arith)))
-        (there_in plan number context k here within)))
+    let size = length-map-range_with_len (id_at number) 0 (length context.entries) in
+    let within : k < length context.entries = omega (arith, size, below) in
+    subst (IsThere plan) (sym (get_or-map-range_with_len (id_at number) 0 (length context.entries) k k d within (omega arith)))
+    (there_in plan number context k here within)))
 
 -- what is kept of numbers that are all there
 record AreKept (plan : PlanOf) (ids : List EntryId) : Type 0 where
@@ -135,7 +135,7 @@ plain_first plan number known keeps i j a b before at_i at_j pattern = by (slice
         let entry = entry_of_known plan one.id one (each_at (λ (x : Known). known_at plan x.id ≡ Some x) known k one keeps.each here) in
         let mine : one.id.context ≡ number = each_at (λ (id : EntryId). id.context ≡ number) ids k one.id (all_here number context ids ranking) id_here in
         let there : slice_get context.entries one.id.entry ≡ Some entry.0 =
-            sym (ap (option_and_then (λ (c : PlanContext). slice_get c.entries one.id.entry)) (ap (slice_get plan.contexts) mine ∙ e)) ∙ entry.1 in
+        sym (ap (option_and_then (λ (c : PlanContext). slice_get c.entries one.id.entry)) (ap (slice_get plan.contexts) mine ∙ e)) ∙ entry.1 in
         (entry.0, ap (option_and_then (λ (id : EntryId). slice_get context.entries id.entry)) id_here ∙ there, entry.2)
 
     by : (o : Option PlanContext) → slice_get plan.contexts number ≡ o → MatchOption o (ids ≡ []) (λ (context : PlanContext). IsRanking number context.entries ids) → IsPattern b.name

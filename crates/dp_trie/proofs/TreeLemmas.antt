@@ -1,25 +1,23 @@
 -- A walk through a tree of patterns finds the first of its entries that is asked for.
-use Rattle.std.proofs.Common.{◌≡◌, ℕ, zero, suc, ◌+◌, ◌<◌, ◌≤◌, Bool, true, false, cond, ◌&&◌, true≢false, List, [], ◌∷◌, ◌++◌, length, map, take, drop, Option, Some, None, MatchOption, arith, refl, sym, ap, subst, ◌∙◌, add-one, length-append}
-use Rattle.std.specs.Prelude.{slice_get, slice_index, slice_range, nat_lt}
+use Rattle.std.proofs.Common.{◌≡◌, ℕ, zero, suc, ◌+◌, ◌<◌, ◌≤◌, Bool, true, false, cond, ◌&&◌, List, [], ◌∷◌, ◌++◌, length, map, take, drop, Option, Some, None, MatchOption, arith, refl, sym, ap, subst, ◌∙◌, add-one, length-append}
+use Rattle.std.specs.Prelude.{slice_get, slice_range, nat_lt}
 use Rattle.std.specs.List.{find}
 use Rattle.std.specs.Option.{option_map, option_or}
 use Rattle.std.proofs.lemmas.Bool.{ltb-true, ltb-false}
 use Rattle.std.proofs.lemmas.List.{length-take, take-append-le}
 use Rattle.std.proofs.lemmas.List.Folds.{find-append}
 use Rattle.std.proofs.lemmas.Option.{slice_get_within}
-use Rattle.dp_pattern.specs.Name.{Meaning, Pattern}
+use Rattle.dp_pattern.specs.Name.{Pattern}
 use Rattle.dp_pattern.specs.Walk.{walked, classes_of}
-use Rattle.dp_pattern.specs.declared.tail.Tail.{Tail}
 use Rattle.dp_trie.specs.Asked.{Wanted, fits, asked, holds, hit_held, hit_of}
 use Rattle.dp_trie.specs.Known.{Known}
-use Rattle.dp_trie.specs.Tree.{known_held, own, path_below, path_after, known_from, skipped, depth_below, IsRooted, IsEnd, AreLinked, takes, allows, hold_or_pass, step_visit}
+use Rattle.dp_trie.specs.Tree.{known_held, own, path_below, path_after, known_from, skipped, depth_below, IsRooted, IsEnd, takes, allows, hold_or_pass, step_visit}
 use Rattle.dp_trie.specs.declared.node.Held.{Held}
 use Rattle.dp_trie.specs.declared.node.Leaf as leaf
 use Rattle.dp_trie.specs.declared.node.Node.{Node}
 use Rattle.dp_trie.specs.declared.node.Step.{Step}
 use Rattle.dp_trie.specs.declared.node.Step.TheVariants.{Class, Leaf}
 use Rattle.dp_trie.specs.declared.question.Hit.{Hit}
-use Rattle.dp_trie.specs.declared.walk.Visit.{Visit}
 use Rattle.dp_trie.specs.declared.walk.Visit.TheVariants.{Enters, Fails, Holds}
 use Rattle.dp_trie.proofs.WalkLemmas.{alive, alive-push, alive-take, dead-fits, fits-allows}
 
@@ -156,8 +154,8 @@ module _ (held : List Held) (more : Bool) (wanted : Wanted) (digits : List ℕ) 
       let long = length-append path (class ∷ []) in
       let front : take depth (path ++ class ∷ []) ≡ path = ap (λ n. take n (path ++ class ∷ [])) (sym size) ∙ take-front path class in
       let dead : alive more (take (suc depth) (path ++ class ∷ [])) digits ≡ false =
-          ap (λ p. alive more p digits) (take-all (suc depth) (path ++ class ∷ []) (omega (arith, long, size)))
-          ∙ (alive-push more path class digits on ∙ (ap (takes more digits class) size ∙ refused (takes more digits class depth) e)) in
+      ap (λ p. alive more p digits) (take-all (suc depth) (path ++ class ∷ []) (omega (arith, long, size)))
+      ∙ (alive-push more path class digits on ∙ (ap (takes more digits class) size ∙ refused (takes more digits class depth) e)) in
       skip depth nodes (path ++ class ∷ []) (omega (arith, long, size)) dead
       ∙ ap (λ p. found_from p (skipped depth nodes)) front
     where

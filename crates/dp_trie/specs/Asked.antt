@@ -1,6 +1,5 @@
 -- What a look-up asks of an entry: of its name by the digits of the text, and of its priority and label.
 use Rattle.std.specs.Prelude.{ℕ, Bool, true, false, ◌&&◌, ◌==◌, List, Option, Some, if◌then◌else◌}
-use Rattle.dp_pattern.specs.Name.{Meaning}
 use Rattle.dp_pattern.specs.Walk.{Walked, walked, classes_of, tail_of, is_match, goes_on}
 use Rattle.dp_pattern.specs.declared.tail.Tail.{Tail}
 use Rattle.dp_plan.specs.Plan.{shares_label}

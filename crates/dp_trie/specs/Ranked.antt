@@ -1,5 +1,5 @@
 -- The entries of a context in their order, while a trie is built.
-use Rattle.std.specs.Prelude.{◌≡◌, ℕ, ◌<◌, ◌≤◌, List, length, map, slice_get, slice_range, Some}
+use Rattle.std.specs.Prelude.{◌≡◌, ℕ, ◌<◌, ◌≤◌, List, length, slice_get, slice_range, Some}
 use Rattle.std.specs.List.{AllByRecursion}
 use Rattle.dp_pattern.specs.Name.{Meaning, Plain, Pattern}
 use Rattle.dp_trie.specs.Known.{Known, known_of}

@@ -1,6 +1,5 @@
 //! The nodes of a tree of patterns.
-use dp_lookup::EntryId;
-use dp_lookup::Text;
+use dp_lookup::{EntryId, Text};
 use dp_pattern::{Class, Tail};
 
 /// What a look-up reads of an entry beside its name.

@@ -9,7 +9,6 @@ ghost use Rattle.dp_trie.specs.Names.{own_plain, known_plain, ArePlainRanges};
 ghost use Rattle.dp_trie.specs.Ranked.{known_now, hold_of, IsPlain};
 ghost use Rattle.dp_trie.specs.Tree.{takes};
 
-
 use crate::digits::Digits;
 use crate::node::Held;
 use crate::question::{Hit, Question, first_wanted, is_more};
@@ -50,7 +49,12 @@ fn fits_plain(name: &[u8], digits: Digits<'_>, more: bool) -> bool
 }
 
 /// The first entry of one plain name that the question asks for.
-fn find_own(plain: &PlainName, held: &[Held], question: Question<'_>, digits: Digits<'_>) -> Option<Hit>
+fn find_own(
+    plain: &PlainName,
+    held: &[Held],
+    question: Question<'_>,
+    digits: Digits<'_>,
+) -> Option<Hit>
     requires from { plain.now.from ≤ plain.now.until }
     requires until { plain.now.until ≤ length held.now }
     ensures { result ≡ option_map hit_of

@@ -50,7 +50,7 @@ impl Model for Table {
         ArePlainRanges (length table.plain.items) table.names.items
         × IsTree table.held.items table.nodes.items table.ends.items
         × (length table.nodes.items
-            ≤ most_nodes (known_plain table.plain.items table.names.items ++ known_from table.held.items [] table.nodes.items)) };
+        ≤ most_nodes (known_plain table.plain.items table.names.items ++ known_from table.held.items [] table.nodes.items)) };
 }
 
 /// Whether the name is plain.
@@ -115,11 +115,11 @@ fn find_in_parts(
     requires tree { IsTree held.now nodes.now ends.now }
     ensures hit { result.hit ≡ option_map hit_of
         (find (asked (is_more question.entry) (wants question.entry) (undashed digits.entry.text.now))
-            (known_plain plain.now names.now ++ known_from held.now [] nodes.now)) }
+        (known_plain plain.now names.now ++ known_from held.now [] nodes.now)) }
     ensures most { result.count ≤ length nodes.now }
     ensures least { MatchOption
         (find (asked (is_more question.entry) (wants question.entry) (undashed digits.entry.text.now))
-            (known_plain plain.now names.now ++ known_from held.now [] nodes.now))
+        (known_plain plain.now names.now ++ known_from held.now [] nodes.now))
         (Unit {0}) (λ known. class_count known.name ≤ result.count) }
 {
     match find_plain(names, plain, question, digits) {

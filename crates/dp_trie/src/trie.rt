@@ -53,7 +53,12 @@ fn find_at(tables: &[Table], number: usize, question: Question<'_>, digits: Digi
 }
 
 /// The first entry that the question asks for, in the first of the contexts of these numbers that has such an entry.
-fn find_first(tables: &[Table], order: &[usize], question: Question<'_>, digits: Digits<'_>) -> Counted
+fn find_first(
+    tables: &[Table],
+    order: &[usize],
+    question: Question<'_>,
+    digits: Digits<'_>,
+) -> Counted
     ensures hit { result.hit ≡ option_map hit_of
         (found_first tables.now (asked (is_more question.entry) (wants question.entry) (undashed digits.entry.text.now)) order.now) }
     ensures most { result.count ≤ sum_by (nodes_at tables.now) order.now }

@@ -1,4 +1,4 @@
-use Rattle.std.proofs.Common.{refl, sym, subst, ◌∙◌, map}
+use Rattle.std.proofs.Common.{sym, subst, map}
 use Rattle.dp_pattern.specs.Name.{Meaning}
 use Rattle.dp_trie.specs.Ranked.{known_now, IsGroup}
 use Rattle.dp_trie.proofs.BuildLemmas.{built-push}

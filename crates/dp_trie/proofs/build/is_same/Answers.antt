@@ -1,5 +1,4 @@
-use Rattle.std.proofs.Common.{◌∙◌, sym, ap}
-use Rattle.std.specs.Prelude.{◌↔◌, IsTrue}
+use Rattle.std.proofs.Common.{sym}
 use Rattle.dp_pattern.specs.Order.{class_cmp}
 use Rattle.dp_pattern.proofs.OrderLemmas.{is_eq-Equal, classes_equal, class_cmp-same}
 use Rattle.dp_trie.proofs.build.is_same.Goals as goal

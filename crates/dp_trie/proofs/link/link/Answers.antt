@@ -1,5 +1,4 @@
-use Rattle.std.proofs.Common.{◌≤◌, arith, length, subst, ◌-◌}
-use Rattle.dp_trie.specs.Tree.{AreLinkedFrom}
+use Rattle.std.proofs.Common.{arith, ◌-◌}
 use Rattle.dp_trie.proofs.LinkLemmas.{linked-end, linked-set, linked-before}
 use Rattle.dp_trie.proofs.link.link.Goals as goal
 

@@ -1,4 +1,4 @@
-use Rattle.std.proofs.Common.{◌∙◌, sym, ap, ◌≡◌, true, false}
+use Rattle.std.proofs.Common.{◌∙◌, sym, ap}
 use Rattle.dp_pattern.specs.Dashes.{undashed}
 use Rattle.dp_pattern.specs.Walk.{walked, singles}
 use Rattle.dp_pattern.specs.declared.tail.Tail.TheVariants.{End}

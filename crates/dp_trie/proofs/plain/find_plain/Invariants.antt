@@ -1,5 +1,5 @@
 use Rattle.std.proofs.Common.{◌≡◌, drop}
-use Rattle.std.specs.List.{find, AllByRecursion}
+use Rattle.std.specs.List.{find}
 use Rattle.dp_pattern.specs.Dashes.{undashed}
 use Rattle.dp_trie.specs.Asked.{is_more, wants, asked}
 use Rattle.dp_trie.specs.Names.{known_plain}

@@ -1,4 +1,4 @@
-use Rattle.std.proofs.Common.{◌∙◌, refl, sym, ap, arith, ◌≡◌, length}
+use Rattle.std.proofs.Common.{◌∙◌, sym, ap, arith, ◌≡◌, length}
 use Rattle.dp_pattern.specs.Dashes.{undashed}
 use Rattle.dp_pattern.specs.declared.tail.Tail.TheVariants.{End}
 use Rattle.dp_trie.specs.Tree.{allows}

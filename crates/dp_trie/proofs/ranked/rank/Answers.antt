@@ -1,4 +1,4 @@
-use Rattle.std.proofs.Common.{◌∙◌, ◌≡◌, refl, sym, ap, subst, arith, length, take, List, ◌++◌, ◌∷◌, [], map, get_or}
+use Rattle.std.proofs.Common.{◌∙◌, sym, ap, subst, arith, List, ◌++◌, ◌∷◌, [], map, get_or}
 use Rattle.std.specs.Prelude.{filter_map}
 use Rattle.std.proofs.lemmas.List.{take_all}
 use Rattle.std.proofs.lemmas.Option.{slice_get-get_or}

@@ -1,8 +1,7 @@
-use Rattle.std.proofs.Common.{◌∙◌, refl, sym, subst}
+use Rattle.std.proofs.Common.{refl, subst}
 use Rattle.std.proofs.lemmas.Option.{slice_get_read}
-use Rattle.dp_pattern.specs.Name.{Meaning}
-use Rattle.dp_trie.specs.Ranked.{IsPattern, IsPlain}
-use Rattle.dp_trie.proofs.BuildLemmas.{patterns-behind, plain-more}
+use Rattle.dp_trie.specs.Ranked.{IsPattern}
+use Rattle.dp_trie.proofs.BuildLemmas.{patterns-behind}
 use Rattle.dp_trie.proofs.table.count_plain.Goals as goal
 
 pub returns-then-not-is_plain-clause-pattern : goal.returns-then-not-is_plain-clause-pattern

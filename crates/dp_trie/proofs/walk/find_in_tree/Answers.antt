@@ -1,4 +1,4 @@
-use Rattle.std.proofs.Common.{sym, ◌∙◌, ap, refl, arith, length, ◌-◌, ◌<◌}
+use Rattle.std.proofs.Common.{sym, refl, arith, length, ◌-◌, ◌<◌}
 use Rattle.std.specs.Prelude.{slice_index}
 use Rattle.std.proofs.lemmas.Option.{slice_get_read, slice_get_within}
 use Rattle.dp_pattern.specs.Dashes.{undashed}

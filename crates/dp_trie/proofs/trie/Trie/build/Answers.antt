@@ -1,4 +1,3 @@
-use Rattle.std.proofs.Common.{refl}
 use Rattle.dp_trie.proofs.KeepLemmas.{keeps-push}
 use Rattle.dp_trie.proofs.trie.Trie.build.Goals as goal
 

@@ -1,4 +1,4 @@
-use Rattle.std.proofs.Common.{◌≡◌, ℕ, List, ◌∙◌, refl, sym, ap}
+use Rattle.std.proofs.Common.{List, ◌∙◌, refl, sym, ap}
 use Rattle.std.specs.Option.{option_map, option_and_then}
 use Rattle.dp_lookup.specs.FoundEntry.{found_label, has_label, priority_at}
 use Rattle.dp_pattern.specs.Dashes.{undashed}

@@ -1,4 +1,4 @@
-use Rattle.std.proofs.Common.{◌≡◌, ℕ, List, ◌∙◌, refl, sym, ap}
+use Rattle.std.proofs.Common.{List, ◌∙◌, refl, sym, ap}
 use Rattle.std.specs.Prelude.{is_some}
 use Rattle.std.specs.Option.{option_map}
 use Rattle.dp_lookup.specs.FoundEntry.{goes_on_more, begins_later}
