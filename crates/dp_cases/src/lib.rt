@@ -22,4 +22,6 @@ mod plan;
 #[cfg(test)]
 mod table;
 #[cfg(test)]
+mod trie;
+#[cfg(test)]
 mod vars;

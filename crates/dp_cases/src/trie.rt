@@ -1,0 +1,4 @@
+mod agreement;
+mod large;
+mod render;
+mod rows;

@@ -1,0 +1,98 @@
+//! Generated dialplans, of which the tries and the look-up in the dialplan are asked the same questions.
+use dp_lookup::{Text, could_be_more, find, find_label};
+use dp_trie::{Dialplan, NoMemory, SearchOrder, Trie};
+use std::alloc::Global;
+use std::process::Abort;
+use std::test::Fail;
+
+/// The next number of a fixed sequence (a linear congruence), in which the upper bits vary most.
+fn next(seed: &mut u32) -> u32 {
+    *seed = seed.wrapping_mul(1_664_525).wrapping_add(1_013_904_223);
+    *seed >> 16
+}
+
+const CLASSES: [&str; 6] = ["1", "2", "X", "N", "[12]", "[1-3]"];
+
+const TAILS: [&str; 4] = ["", "", ".", "!"];
+
+const DIGITS: [u8; 5] = *b"1234-";
+
+/// Adds a name of a few classes, or of a few digits.
+fn push_name(text: &mut String, seed: &mut u32) -> Result<(), NoMemory> {
+    let count = 1 + next(seed) % 3;
+    if next(seed) % 3 == 0 {
+        for _ in 0..count {
+            write!(text, "{}", 1 + next(seed) % 3)?;
+        }
+        return Ok(());
+    }
+    text.push('_')?;
+    for _ in 0..count {
+        text.push_str(CLASSES[next(seed) as usize % CLASSES.len()])?;
+    }
+    text.push_str(TAILS[next(seed) as usize % TAILS.len()])
+}
+
+/// A dialplan of two contexts, of which the first includes the second.
+fn plan_text(alloc: Global, seed: &mut u32) -> Result<String, NoMemory> {
+    let mut text = String::new(alloc);
+    for context in 0..2 {
+        write!(text, "[c{context}]\ninclude => c1\n")?;
+        for _ in 0..20 {
+            text.push_str("exten => ")?;
+            push_name(&mut text, seed)?;
+            let priority = 1 + next(seed) % 3;
+            write!(text, ",{priority}(l{}),NoOp()\n", next(seed) % 4)?;
+        }
+    }
+    Ok(text)
+}
+
+/// A text of at most five bytes.
+fn push_text(text: &mut Vec<u8>, seed: &mut u32) -> Result<(), NoMemory> {
+    text.clear();
+    for _ in 0..next(seed) % 6 {
+        text.push(DIGITS[next(seed) as usize % DIGITS.len()])?;
+    }
+    Ok(())
+}
+
+/// Whether the tries and the look-up in the dialplan give the same answers of a text.
+fn agree(plan: &Dialplan, trie: &Trie, order: &SearchOrder, text: &[u8], number: u32) -> bool {
+    let label: &[u8] = if number == 1 { b"l1" } else { b"l2" };
+    trie.find(order, text, number) == find(plan, order, text, number)
+        && trie.find_label(order, text, label) == find_label(plan, order, text, label)
+        && trie.more(order, text) == could_be_more(plan, order, text)
+}
+
+/// Asks a generated dialplan, and holds each count against its bound.
+fn check_plan(rt: &impl Abort, alloc: Global, seed: &mut u32) -> Result<(), Fail> {
+    let text = plan_text(alloc, seed)?;
+    let (plan, _) = Dialplan::load(alloc, text.as_bytes())?;
+    let trie = Trie::build(alloc, &plan)?;
+    let context = Text::copy_of(alloc, b"c0")?;
+    let order = SearchOrder::of(alloc, &plan, &context)?;
+    let mut asked = Vec::new(alloc);
+    for turn in 0..112 {
+        push_text(&mut asked, seed)?;
+        let number = 1 + turn % 3;
+        assert!(rt;
+            agree(&plan, &trie, &order, &asked, number),
+            "{text} {asked:?} {number}"
+        );
+        let (_, count) = trie.find_counted(&order, &asked, number);
+        let nodes = trie.nodes(0).saturating_add(trie.nodes(1));
+        assert!(rt; count <= nodes, "{text} {asked:?} {number}");
+    }
+    Ok(())
+}
+
+/// Thirty dialplans, of each of which 336 questions are asked.
+#[test]
+fn tries_agree_with_the_look_up_in_the_dialplan(rt: HostRuntime) -> Result<(), Fail> {
+    let mut seed = 1;
+    for _ in 0..30 {
+        check_plan(&rt, rt.alloc(), &mut seed)?;
+    }
+    Ok(())
+}

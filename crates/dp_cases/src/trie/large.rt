@@ -1,0 +1,57 @@
+//! A long name.
+use dp_lookup::{Text, find};
+use dp_trie::{Dialplan, EntryId, NoMemory, SearchOrder, Trie};
+use std::alloc::Global;
+use std::process::Abort;
+use std::test::Fail;
+
+const CLASSES: usize = 1_000_000;
+
+/// A dialplan with a name of 1,000,000 classes.
+fn long_name(alloc: Global) -> Result<Dialplan, Fail> {
+    let mut text = String::new(alloc);
+    text.push_str("[main]\nexten => _")?;
+    for _ in 0..CLASSES {
+        text.push('X')?;
+    }
+    text.push_str(",1,NoOp()\n")?;
+    let (plan, _) = Dialplan::load(alloc, text.as_bytes())?;
+    Ok(plan)
+}
+
+/// The entry of so many digits, as the trie and as the look-up in the dialplan find it.
+fn find_digits(
+    alloc: Global,
+    plan: &Dialplan,
+    trie: &Trie,
+    order: &SearchOrder,
+    count: usize,
+) -> Result<(Option<EntryId>, Option<EntryId>), NoMemory> {
+    let digits = vec![in alloc; b'7'; count]?;
+    Ok((trie.find(order, &digits, 1), find(plan, order, &digits, 1)))
+}
+
+/// The only entry of the only context.
+const ONLY: EntryId = EntryId {
+    context: 0,
+    entry: 0,
+};
+
+fn check_digits(rt: &impl Abort, alloc: Global, plan: &Dialplan) -> Result<(), Fail> {
+    let trie = Trie::build(alloc, plan)?;
+    let context = Text::copy_of(alloc, b"main")?;
+    let order = SearchOrder::of(alloc, plan, &context)?;
+    let found = find_digits(alloc, plan, &trie, &order, CLASSES)?;
+    assert_eq!(rt; found, (Some(ONLY), Some(ONLY)));
+    let found = find_digits(alloc, plan, &trie, &order, CLASSES - 1)?;
+    assert_eq!(rt; found, (None, None));
+    assert_eq!(rt; trie.nodes(0), CLASSES + 1);
+    Ok(())
+}
+
+/// A name of 1,000,000 classes is matched by as many digits, and not by one fewer.
+#[test]
+fn a_long_name_is_matched(rt: HostRuntime) -> Result<(), Fail> {
+    let plan = long_name(rt.alloc())?;
+    check_digits(&rt, rt.alloc(), &plan)
+}

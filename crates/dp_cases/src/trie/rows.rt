@@ -1,0 +1,86 @@
+//! Worked cases, with their answers.
+use crate::trie::render::check;
+use dp_trie::{Dialplan, Trie};
+use std::test::Fail;
+
+#[test]
+fn rows_of_one_context(rt: HostRuntime) -> Result<(), Fail> {
+    let text = b"[main]\nexten => _X.,1,any\nexten => _1XX,1,three\nexten => 123,1,exact\n";
+    let asked = "\
+find 123,1→main exact
+find 1-23,1→main exact
+find 124,1→main three
+find 12-4,1→main three
+find 12,1→main any
+find 1,1→none
+more →more
+more 12→more
+more 123→more
+more a→no more";
+    check(&rt, rt.alloc(), text, b"main", asked)?;
+    let text = b"[main]\nexten => s,1,WaitExten(5)\nexten => _1!,1,bang\nexten => _1.,1,dot\n";
+    let asked = "\
+find 1,1→main bang
+find 12,1→main dot
+more 1→more";
+    check(&rt, rt.alloc(), text, b"main", asked)?;
+    let text = b"[main]\nexten => s,1,WaitExten(5)\nexten => _1!,1,bang\n";
+    let asked = "\
+find 1,1→main bang
+find 12,1→main bang
+more →more
+more 1→no more";
+    check(&rt, rt.alloc(), text, b"main", asked)?;
+    let text = b"[main]\nexten => 123,1,one\nexten => _X.,1,other\nexten => _X.,2,two\n";
+    let asked = "\
+find 123,1→main one
+find 123,2→main two
+find 123,3→none
+more 12→more
+more 1234→more";
+    check(&rt, rt.alloc(), text, b"main", asked)
+}
+
+/// The count is at most the number of the tree's nodes, and at least that of the classes of a pattern that is found.
+#[test]
+fn counted_trie(rt: HostRuntime) -> Result<(), Fail> {
+    let text = b"[main]\nexten => _1X,1,two\nexten => _1.,2,more\n";
+    let asked = "\
+find 15,1→main two
+find 15,2→main more
+find 155,1→none
+find 155,2→main more
+count 15,1→3
+count 2,1→0
+count ,1→0";
+    check(&rt, rt.alloc(), text, b"main", asked)?;
+    let (plan, _) = Dialplan::load(rt.alloc(), text)?;
+    let trie = Trie::build(rt.alloc(), &plan)?;
+    assert_eq!(rt; (trie.nodes(0), trie.nodes(1)), (4, 0));
+    Ok(())
+}
+
+#[test]
+fn rows_of_several_contexts(rt: HostRuntime) -> Result<(), Fail> {
+    let text = b"[a]\ninclude => b\nexten => 5,1,own\nexten => _X,4(out),any\n[b]\ninclude => a\n\
+exten => 5,1,first\nexten => _X,2(out),second\nexten => 678,1,far\n";
+    let asked = "\
+find 5,1→a own
+find 5,2→b second
+find 5,4→a any
+find 77,1→none
+label 5,out→4
+label 5,Out→none
+label 6,out→4
+more 5→no more
+more 6→more
+more 67→more
+more 678→no more";
+    check(&rt, rt.alloc(), text, b"a", asked)?;
+    let asked = "\
+find 5,1→b first
+find 5,4→a any
+label 5,out→2";
+    check(&rt, rt.alloc(), text, b"b", asked)?;
+    check(&rt, rt.alloc(), text, b"c", "find 5,1→none")
+}
