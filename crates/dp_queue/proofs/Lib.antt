@@ -1,0 +1,5 @@
+pub mod AgentLemmas
+pub mod ChangeLemmas
+pub mod GoodLemmas
+pub mod OfferLemmas
+pub mod WaitingLemmas

@@ -1,0 +1,71 @@
+-- The agents of all queues, and what each of them does.
+use Rattle.std.specs.Prelude.{ℕ, Bool, true, false, ◌==◌, List, length, map, Option, slice_get, if◌then◌else◌}
+use Rattle.std.specs.List.{list_any, position}
+use Rattle.std.specs.Option.{option_map, unwrap_or}
+use Rattle.dp_conf.specs.Words.{same_text}
+use Rattle.dp_queue.specs.declared.agent.Agent.{Agent}
+use Rattle.dp_queue.specs.declared.agent.AgentState.{AgentState}
+use Rattle.dp_queue.specs.declared.agent.AgentState.TheVariants.{Idle, Ringing, Talking}
+use Rattle.dp_queue.specs.Changes.{changed_at}
+
+-- the agent is of this name
+abbrev pub is_named : List ℕ → Agent → Bool
+is_named name agent = same_text agent.name name
+
+-- the number of the agent of a name, and the next number where there is none
+abbrev pub agent_number : List Agent → List ℕ → ℕ
+agent_number agents name = unwrap_or (position (is_named name) agents) (length agents)
+
+-- the state of the agent of a number; one that is not known is idle
+abbrev pub state_at : List Agent → ℕ → AgentState
+state_at agents number = unwrap_or (option_map (λ agent. agent.state) (slice_get agents number)) Idle
+
+-- the state of an agent that is free
+abbrev pub is_idle : AgentState → Bool
+is_idle Idle = true
+is_idle (Ringing queue channel) = false
+is_idle (Talking queue channel) = false
+
+-- the state of an agent that rings for the channel
+abbrev pub rings_for : ℕ → AgentState → Bool
+rings_for c Idle = false
+rings_for c (Ringing queue channel) = channel == c
+rings_for c (Talking queue channel) = false
+
+-- the state of an agent that talks with the channel
+abbrev pub talks_with : ℕ → AgentState → Bool
+talks_with c Idle = false
+talks_with c (Ringing queue channel) = false
+talks_with c (Talking queue channel) = channel == c
+
+-- some agent rings for the channel
+abbrev pub is_rung : List Agent → ℕ → Bool
+is_rung agents c = list_any (λ agent. rings_for c agent.state) agents
+
+-- some agent talks with the channel
+abbrev pub is_talking : List Agent → ℕ → Bool
+is_talking agents c = list_any (λ agent. talks_with c agent.state) agents
+
+-- the number of the agent that talks with the channel, and the next number where there is none
+abbrev pub talker : List Agent → ℕ → ℕ
+talker agents c = unwrap_or (position (λ agent. talks_with c agent.state) agents) (length agents)
+
+-- the agent in another state
+abbrev pub with_state : AgentState → Agent → Agent
+with_state state agent = record agent { state = state }
+
+-- the agents with the one of a number in another state
+abbrev pub with_state_at : ℕ → AgentState → List Agent → List Agent
+with_state_at number state agents = changed_at (with_state state) number agents
+
+-- the state of an agent behind the end of the channel's waiting
+abbrev pub freed_state : ℕ → AgentState → AgentState
+freed_state c state = if rings_for c state then Idle else state
+
+-- the agent, idle if it rang for the channel
+abbrev pub freed : ℕ → Agent → Agent
+freed c agent = with_state (freed_state c agent.state) agent
+
+-- the agents of which those that ring for the channel become idle
+abbrev pub all_freed : ℕ → List Agent → List Agent
+all_freed c agents = map (freed c) agents

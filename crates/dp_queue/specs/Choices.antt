@@ -1,0 +1,83 @@
+-- The members of a queue that an offer may ring, and those of them that a strategy chooses.
+use Rattle.std.specs.Prelude.{ℕ, ◌+◌, Bool, false, not, ◌&&◌, ◌==◌, nat_lt, List, [], ◌∷◌, ◌++◌, take, drop, fold, Option, Some, None, slice_get, if◌then◌else◌}
+use Rattle.std.specs.List.{filter, find, position}
+use Rattle.std.specs.Option.{option_map, option_to_list, unwrap_or}
+use Rattle.dp_queue.specs.Agents.{is_idle}
+use Rattle.dp_queue.specs.Members.{is_agent}
+use Rattle.dp_queue.specs.declared.agent.Agent.{Agent}
+use Rattle.dp_queue.specs.declared.choice.Key.{Key}
+use Rattle.dp_queue.specs.declared.choice.Key.TheVariants.{Penalty, Last, Calls}
+use Rattle.dp_queue.specs.declared.member.Member.{Member}
+use Rattle.dp_queue.specs.declared.settings.Strategy.{Strategy}
+use Rattle.dp_queue.specs.declared.settings.Strategy.TheVariants.{RingAll, Linear, LeastRecent, FewestCalls, RrMemory}
+
+-- the agent of a number is idle
+abbrev pub is_idle_at : List Agent → ℕ → Bool
+is_idle_at agents number = unwrap_or (option_map (λ agent. is_idle agent.state) (slice_get agents number)) false
+
+-- a member that an offer may ring: it is not paused, and its agent is idle
+abbrev pub is_eligible : List Agent → Member → Bool
+is_eligible agents member = not member.is_paused && is_idle_at agents member.agent
+
+-- such a member of this penalty
+abbrev pub is_candidate : List Agent → ℕ → Member → Bool
+is_candidate agents penalty member = is_eligible agents member && member.penalty == penalty
+
+-- the one of two that has less, and the first where they have the same
+abbrev pub lesser : (Member → ℕ) → Option Member → Member → Option Member
+lesser f None member = Some member
+lesser f (Some best) member = Some (if nat_lt (f member) (f best) then member else best)
+
+-- the first of the members that have the least
+abbrev pub first_least : (Member → ℕ) → List Member → Option Member
+first_least f members = fold (lesser f) None members
+
+-- the least penalty of the members that an offer may ring
+abbrev pub least_penalty : List Agent → List Member → Option ℕ
+least_penalty agents members =
+    option_map (λ member. member.penalty) (first_least (λ member. member.penalty) (filter (is_eligible agents) members))
+
+-- the members turned round to begin behind the one at a place
+abbrev pub turned_at : Option ℕ → List Member → List Member
+turned_at None members = members
+turned_at (Some place) members = drop (place + 1) members ++ take (place + 1) members
+
+-- the members turned round to begin behind the one chosen last; as they are where none was, or where it is no member
+abbrev pub turned : Option ℕ → List Member → List Member
+turned None members = members
+turned (Some last) members = turned_at (position (is_agent last) members) members
+
+-- the members that a strategy chooses of the candidates, by the one that was chosen last
+abbrev pub chosen : Strategy → Option ℕ → (Member → Bool) → List Member → List Member
+chosen RingAll last test members = filter test members
+chosen Linear last test members = option_to_list (find test members)
+chosen LeastRecent last test members = option_to_list (first_least (λ member. member.last) (filter test members))
+chosen FewestCalls last test members = option_to_list (first_least (λ member. member.calls) (filter test members))
+chosen RrMemory last test members = option_to_list (find test (turned last members))
+
+-- the agent of the member that was chosen, and the one before where none was
+abbrev pub remembered : Option ℕ → Option Member → Option ℕ
+remembered last None = last
+remembered last (Some member) = Some member.agent
+
+-- the agent that is remembered as the one chosen last
+abbrev pub last_behind : Strategy → Option ℕ → (Member → Bool) → List Member → Option ℕ
+last_behind RingAll last test members = last
+last_behind Linear last test members = last
+last_behind LeastRecent last test members = last
+last_behind FewestCalls last test members = last
+last_behind RrMemory last test members = remembered last (find test (turned last members))
+
+-- what members are compared by
+abbrev pub rank : Key → Member → ℕ
+rank Penalty member = member.penalty
+rank Last member = member.last
+rank Calls member = member.calls
+
+-- the one member that a strategy chooses; `ringall` chooses none alone
+abbrev pub picked : Strategy → Option ℕ → (Member → Bool) → List Member → Option Member
+picked RingAll last test members = None
+picked Linear last test members = find test members
+picked LeastRecent last test members = first_least (λ member. member.last) (filter test members)
+picked FewestCalls last test members = first_least (λ member. member.calls) (filter test members)
+picked RrMemory last test members = find test (turned last members)

@@ -1,0 +1,29 @@
+-- The faults of a file of queues beside those of its text, and want of memory.
+use Rattle.std.specs.Prelude.{ℕ, Option, Some, None, Result, Ok, Err}
+use Rattle.dp_conf.specs.Lines.{LineFault}
+use Rattle.dp_conf.specs.declared.fault.ConfFault.{ConfFault}
+use Rattle.dp_conf.specs.declared.fault.ConfFault.TheVariants.{At, NoMemory as conf_no_memory}
+use Rattle.dp_queue.specs.declared.fault.QueueKind.{QueueKind}
+use Rattle.dp_queue.specs.declared.fault.QueueFault.{QueueFault}
+use Rattle.dp_queue.specs.declared.fault.QueueFault.TheVariants.{Conf, Queue, NoMemory}
+
+-- want of memory is outermost
+abbrev pub fault_of_conf : ConfFault → QueueFault
+fault_of_conf (At line kind) = Conf (At line kind)
+fault_of_conf conf_no_memory = NoMemory
+
+-- why a file of queues is refused; want of memory is no reason
+abbrev pub reason_of : QueueFault → Option QueueFault
+reason_of (Conf fault) = Some (Conf fault)
+reason_of (Queue line kind) = Some (Queue line kind)
+reason_of NoMemory = None
+
+-- a faulty line of the text, as a fault of the queues
+abbrev pub text_fault : {X : Type 0} → Result X LineFault → Result X QueueFault
+text_fault (Ok x) = Ok x
+text_fault (Err fault) = Err (Conf (At fault.line fault.kind))
+
+-- the fault of a line, at its number
+abbrev pub at_line : {X : Type 0} → ℕ → Result X QueueKind → Result X QueueFault
+at_line line (Ok x) = Ok x
+at_line line (Err kind) = Err (Queue line kind)

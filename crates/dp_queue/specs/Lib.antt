@@ -1,0 +1,12 @@
+pub mod Agents
+pub mod Calls
+pub mod Changes
+pub mod Codes
+pub mod Faults
+pub mod Good
+pub mod Joining
+pub mod Members
+pub mod Choices
+pub mod Offers
+pub mod Queues
+pub mod Seats

@@ -1,0 +1,125 @@
+//! The agents that answer the calls of queues.
+ghost use Rattle.std.specs.Prelude.{◌≡◌, ◌<◌, vec_len};
+ghost use Rattle.std.specs.List.{position};
+ghost use Rattle.dp_queue.specs.Agents as spec;
+
+use dp_conf::Text;
+
+/// What an agent does. An agent has one state over all queues; queues and channels are numbers.
+#[derive(Clone, Copy, Debug, PartialEq, Eq)]
+pub enum AgentState {
+    Idle,
+    /// A call that waits in the queue is offered to it.
+    Ringing { queue: usize, channel: u32 },
+    /// It has answered a call of the queue.
+    Talking { queue: usize, channel: u32 },
+}
+
+/// An agent, named by its interface, with case.
+#[derive(Debug, PartialEq, Eq, Drop)]
+pub struct Agent {
+    pub name: Text,
+    pub state: AgentState,
+}
+
+/// The number of the agent of this name.
+fn find_agent(agents: &[Agent], name: &[u8]) -> Option<usize>
+    ensures { result ≡ position (spec.is_named name.now) agents.now }
+{
+    agents.iter().position(|agent| agent.name.bytes() == name)
+}
+
+/// The number of the agent of this name; the number of the agents where there is none.
+pub(crate) fn agent_number(agents: &[Agent], name: &[u8]) -> usize
+    ensures { result ≡ spec.agent_number agents.now name.now }
+{
+    find_agent(agents, name).unwrap_or(agents.len())
+}
+
+/// The state of the agent of a number; idle where there is none.
+pub(crate) fn state_at(agents: &[Agent], number: usize) -> AgentState
+    ensures { result ≡ spec.state_at agents.now number }
+{
+    match agents.get(number) {
+        Some(agent) => agent.state,
+        None => AgentState::Idle,
+    }
+}
+
+/// Whether an agent in this state rings for the channel.
+pub(crate) fn rings_for(state: AgentState, channel: u32) -> bool
+    ensures { result ≡ spec.rings_for channel state }
+{
+    match state {
+        AgentState::Ringing {
+            queue: _,
+            channel: other,
+        } => other == channel,
+        AgentState::Idle | AgentState::Talking { .. } => false,
+    }
+}
+
+/// Whether an agent in this state talks with the channel.
+fn talks_with(state: AgentState, channel: u32) -> bool
+    ensures { result ≡ spec.talks_with channel state }
+{
+    match state {
+        AgentState::Talking {
+            queue: _,
+            channel: other,
+        } => other == channel,
+        AgentState::Idle | AgentState::Ringing { .. } => false,
+    }
+}
+
+/// Whether some agent rings for the channel.
+pub(crate) fn is_rung(agents: &[Agent], channel: u32) -> bool
+    ensures { result ≡ spec.is_rung agents.now channel }
+{
+    agents.iter().any(|agent| rings_for(agent.state, channel))
+}
+
+/// The number of the agent that talks with the channel.
+fn find_talker(agents: &[Agent], channel: u32) -> Option<usize>
+    ensures { result ≡ position (λ agent. spec.talks_with channel agent.state) agents.now }
+{
+    agents
+        .iter()
+        .position(|agent| talks_with(agent.state, channel))
+}
+
+/// The number of the agent that talks with the channel; the number of the agents where there is none.
+pub(crate) fn talker(agents: &[Agent], channel: u32) -> usize
+    ensures { result ≡ spec.talker agents.now channel }
+{
+    find_talker(agents, channel).unwrap_or(agents.len())
+}
+
+/// Puts the agent of a number into a state.
+pub(crate) fn set_state(agents: &mut Vec<Agent>, number: usize, state: AgentState)
+    requires { number < vec_len agents.old }
+    ensures { agents.new.items ≡ spec.with_state_at number state agents.old.items }
+{
+    let agent = &mut agents[number];
+    agent.state = state;
+}
+
+/// The state of an agent behind the end of a channel's waiting.
+fn freed(state: AgentState, channel: u32) -> AgentState
+    ensures { result ≡ spec.freed_state channel state }
+{
+    if rings_for(state, channel) {
+        AgentState::Idle
+    } else {
+        state
+    }
+}
+
+/// Makes the agents idle that ring for the channel.
+pub(crate) fn free_all(agents: &mut [Agent], channel: u32)
+    ensures { agents.new ≡ spec.all_freed channel agents.old }
+{
+    for agent in agents.iter_mut() {
+        agent.state = freed(agent.state, channel);
+    }
+}

@@ -1,0 +1,107 @@
+//! What agents do with the calls that are offered to them.
+ghost use Rattle.std.specs.Prelude.{◌≡◌, ◌<◌, vec_len};
+ghost use Rattle.dp_queue.specs.Agents.{state_at};
+ghost use Rattle.dp_queue.specs.Calls as spec;
+ghost use Rattle.dp_queue.specs.Changes.{changed_at};
+
+use crate::agent::{AgentState, agent_number, is_rung, set_state, state_at, talker};
+use crate::call::Call;
+use crate::joining::unseat;
+use crate::member::one_more;
+use crate::queue::Queue;
+use crate::queues::Queues;
+use crate::seat::{Seat, put_seat};
+
+/// Counts a finished call for the member of a queue that is the agent of a number.
+fn finish_at(queues: &mut Vec<Queue>, number: usize, agent: usize, count: u64)
+    requires { number < vec_len queues.old }
+    ensures { queues.new.items ≡ changed_at (spec.finished_queue agent count) number queues.old.items }
+{
+    let queue = &mut queues[number];
+    queue.finish(agent, count);
+}
+
+impl Queues {
+    /// The agent of this interface answers the call that it rings for: the call leaves the waiting list, the agent and
+    /// the channel talk, and the other agents that ring for it become idle. None where the agent does not ring.
+    pub fn answer(&mut self, agent: &[u8]) -> Option<Call>
+        ensures { spec.answer_row self.old agent.now ≡ (self.new, result) }
+    {
+        let number = agent_number(&self.agents, agent);
+        match state_at(&self.agents, number) {
+            AgentState::Ringing { queue, channel } => {
+                unseat(
+                    &mut self.queues,
+                    &mut self.agents,
+                    &mut self.seats,
+                    queue,
+                    channel,
+                );
+                set_state(
+                    &mut self.agents,
+                    number,
+                    AgentState::Talking { queue, channel },
+                );
+                Some(Call {
+                    queue,
+                    agent: number,
+                    channel,
+                })
+            }
+            AgentState::Idle | AgentState::Talking { .. } => None,
+        }
+    }
+
+    /// The agent of this interface declines the call that it rings for, and is idle. False where it does not ring.
+    pub fn decline(&mut self, agent: &[u8]) -> bool
+        ensures { spec.decline_row self.old agent.now ≡ (self.new, result) }
+    {
+        let number = agent_number(&self.agents, agent);
+        match state_at(&self.agents, number) {
+            AgentState::Ringing { queue, channel } => {
+                set_state(&mut self.agents, number, AgentState::Idle);
+                let is_rung = is_rung(&self.agents, channel);
+                put_seat(&mut self.seats, channel, Some(Seat { queue, is_rung }));
+                true
+            }
+            AgentState::Idle | AgentState::Talking { .. } => false,
+        }
+    }
+
+    /// Ends the talk of the agent of a number, where it talks.
+    fn end_talk_of(&mut self, number: usize) -> Option<Call>
+        ensures { spec.done_row_at self.old number (state_at self.old.agents number) ≡ (self.new, result) }
+    {
+        match state_at(&self.agents, number) {
+            AgentState::Talking { queue, channel } => {
+                set_state(&mut self.agents, number, AgentState::Idle);
+                let finished = one_more(self.finished);
+                self.finished = finished;
+                finish_at(&mut self.queues, queue, number, finished);
+                Some(Call {
+                    queue,
+                    agent: number,
+                    channel,
+                })
+            }
+            AgentState::Idle | AgentState::Ringing { .. } => None,
+        }
+    }
+
+    /// The agent of this interface is done with the call that it talks with: it is idle, one more call is finished, and
+    /// its member record in the queue, if it is still there, counts the call. None where the agent does not talk.
+    pub fn done(&mut self, agent: &[u8]) -> Option<Call>
+        ensures { spec.done_row self.old agent.now ≡ (self.new, result) }
+    {
+        let number = agent_number(&self.agents, agent);
+        self.end_talk_of(number)
+    }
+
+    /// The talk of a channel ends, as by [`Queues::done`] of the agent that talks with it. None where it does not talk.
+    pub fn end_talk(&mut self, channel: u32) -> Option<Call>
+        ensures { spec.end_talk_row self.old channel ≡ (self.new, result) }
+    {
+        let number = talker(&self.agents, channel);
+        self.end_talk_of(number)
+    }
+}

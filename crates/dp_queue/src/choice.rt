@@ -1,0 +1,181 @@
+//! Which members of a queue an offer rings, after the Asterisk documentation's page on the strategies of queues.
+ghost use Rattle.std.specs.Prelude.{◌≡◌, ◌+◌, ◌<◌, ◌++◌, length, take, drop, if◌then◌else◌};
+ghost use Rattle.std.specs.List.{filter, find};
+ghost use Rattle.std.specs.Option.{option_copied};
+ghost use Rattle.dp_queue.specs.Choices as spec;
+
+use crate::agent::{Agent, AgentState};
+use crate::member::{Member, place_of};
+use crate::settings::Strategy;
+
+/// What members are compared by.
+#[derive(Clone, Copy, Debug, PartialEq, Eq)]
+pub(crate) enum Key {
+    Penalty,
+    Last,
+    Calls,
+}
+
+/// The number of a member that is compared.
+fn rank(key: Key, member: &Member) -> u64
+    ensures { result ≡ spec.rank key member.now }
+{
+    match key {
+        Key::Penalty => u64::from(member.penalty),
+        Key::Last => member.last,
+        Key::Calls => member.calls,
+    }
+}
+
+/// Whether the agent of a number is idle.
+pub(crate) fn is_idle_at(agents: &[Agent], number: usize) -> bool
+    ensures { result ≡ spec.is_idle_at agents.now number }
+{
+    match agents.get(number) {
+        Some(agent) => agent.state == AgentState::Idle,
+        None => false,
+    }
+}
+
+/// Whether an offer may ring the member.
+fn is_eligible(agents: &[Agent], member: &Member) -> bool
+    ensures { result ≡ spec.is_eligible agents.now member.now }
+{
+    !member.is_paused && is_idle_at(agents, member.agent)
+}
+
+/// Whether an offer may ring the member, and it has this penalty.
+pub(crate) fn is_candidate(agents: &[Agent], penalty: u32, member: &Member) -> bool
+    ensures { result ≡ spec.is_candidate agents.now penalty member.now }
+{
+    is_eligible(agents, member) && member.penalty == penalty
+}
+
+/// The one of two that has less, and the first where they have the same.
+fn lesser<'a>(key: Key, best: Option<&'a Member>, member: &'a Member) -> Option<&'a Member>
+    ensures { option_copied result ≡ spec.lesser (spec.rank key) (option_copied best.entry) member.now }
+{
+    match best {
+        None => Some(member),
+        Some(other) => {
+            if rank(key, member) < rank(key, other) {
+                Some(member)
+            } else {
+                Some(other)
+            }
+        }
+    }
+}
+
+/// The better one of two, where the second may be chosen at all.
+fn better<'a>(
+    key: Key,
+    is_allowed: bool,
+    best: Option<&'a Member>,
+    member: &'a Member,
+) -> Option<&'a Member>
+    ensures { option_copied result ≡ (if is_allowed then spec.lesser (spec.rank key) (option_copied best.entry) member.now else option_copied best.entry) }
+{
+    if is_allowed {
+        lesser(key, best, member)
+    } else {
+        best
+    }
+}
+
+/// The least penalty of the members that an offer may ring.
+pub(crate) fn least_penalty(agents: &[Agent], members: &[Member]) -> Option<u32>
+    ensures { result ≡ spec.least_penalty agents.now members.now }
+{
+    let mut best: Option<&Member> = None;
+    let mut left = members;
+    while let Some((member, rest)) = left.split_first() {
+        best = better(Key::Penalty, is_eligible(agents, member), best, member);
+        left = rest;
+    }
+    match best {
+        Some(member) => Some(member.penalty),
+        None => None,
+    }
+}
+
+/// The first of the candidates that have the least.
+fn first_least<'a>(
+    key: Key,
+    agents: &[Agent],
+    penalty: u32,
+    members: &'a [Member],
+) -> Option<&'a Member>
+    ensures { option_copied result ≡ spec.first_least (spec.rank key) (filter (spec.is_candidate agents.now penalty) members.now) }
+{
+    let mut best: Option<&Member> = None;
+    let mut left = members;
+    while let Some((member, rest)) = left.split_first() {
+        best = better(key, is_candidate(agents, penalty, member), best, member);
+        left = rest;
+    }
+    best
+}
+
+/// The first of the candidates.
+fn first<'a>(agents: &[Agent], penalty: u32, members: &'a [Member]) -> Option<&'a Member>
+    ensures { option_copied result ≡ find (spec.is_candidate agents.now penalty) members.now }
+{
+    members
+        .iter()
+        .find(|member| is_candidate(agents, penalty, member))
+}
+
+/// The first of the candidates behind a place, going round.
+fn next_behind<'a>(
+    agents: &[Agent],
+    penalty: u32,
+    members: &'a [Member],
+    place: usize,
+) -> Option<&'a Member>
+    requires { place < length members.now }
+    ensures { option_copied result ≡ find (spec.is_candidate agents.now penalty) (drop (place + 1) members.now ++ take (place + 1) members.now) }
+{
+    let (front, back) = members.split_at(place + 1);
+    match first(agents, penalty, back) {
+        Some(member) => Some(member),
+        None => first(agents, penalty, front),
+    }
+}
+
+/// The first of the candidates behind the one that was chosen last, going round.
+fn next_in_turn<'a>(
+    agents: &[Agent],
+    penalty: u32,
+    last: Option<usize>,
+    members: &'a [Member],
+) -> Option<&'a Member>
+    ensures { option_copied result ≡ find (spec.is_candidate agents.now penalty) (spec.turned last members.now) }
+{
+    match last {
+        None => first(agents, penalty, members),
+        Some(agent) => match place_of(members, agent) {
+            None => first(agents, penalty, members),
+            Some(place) => next_behind(agents, penalty, members, place),
+        },
+    }
+}
+
+/// The one candidate that a strategy chooses; `ringall` chooses none alone.
+pub(crate) fn picked<'a>(
+    strategy: Strategy,
+    last: Option<usize>,
+    agents: &[Agent],
+    penalty: u32,
+    members: &'a [Member],
+) -> Option<&'a Member>
+    ensures { option_copied result ≡ spec.picked strategy last (spec.is_candidate agents.now penalty) members.now }
+{
+    match strategy {
+        Strategy::RingAll => None,
+        Strategy::Linear => first(agents, penalty, members),
+        Strategy::LeastRecent => first_least(Key::Last, agents, penalty, members),
+        Strategy::FewestCalls => first_least(Key::Calls, agents, penalty, members),
+        Strategy::RrMemory => next_in_turn(agents, penalty, last, members),
+    }
+}

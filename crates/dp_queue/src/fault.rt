@@ -1,0 +1,144 @@
+//! What a file of queues and an offer are refused for, with the numbers and the names that are printed.
+ghost use Rattle.std.specs.Prelude.{◌≡◌, ◌++◌, Some, codes, decimal};
+ghost use Rattle.dp_conf.specs.Codes.{conf_fault_text};
+ghost use Rattle.dp_queue.specs.Codes.{queue_code, queue_name, offer_code, offer_name, queue_fault_text};
+
+use dp_conf::{ConfFault, NoMemory};
+use std::alloc::AllocFailed;
+use std::error::Error;
+use std::fmt;
+
+/// Why a line of a queue is refused.
+#[derive(Clone, Copy, Debug, PartialEq, Eq)]
+pub enum QueueKind {
+    /// A `strategy` that is none.
+    BadStrategy,
+    /// A `maxlen` or a member's penalty that is no number up to 2,147,483,647.
+    BadNumber,
+    /// A `strategy`, `joinempty` or `leavewhenempty` that this program leaves out.
+    LeftOut,
+    /// A second section of one name.
+    DoubleQueue,
+}
+
+impl QueueKind {
+    /// The number of the fault, 30 to 33.
+    pub fn code(self) -> u8
+        ensures { result ≡ queue_code self }
+    {
+        match self {
+            QueueKind::BadStrategy => 30,
+            QueueKind::BadNumber => 31,
+            QueueKind::LeftOut => 32,
+            QueueKind::DoubleQueue => 33,
+        }
+    }
+
+    /// The name of the fault, as it is printed beside its number.
+    pub fn name(self) -> &'static str
+        ensures { result.now ≡ queue_name self }
+    {
+        match self {
+            QueueKind::BadStrategy => "BadStrategy",
+            QueueKind::BadNumber => "BadNumber",
+            QueueKind::LeftOut => "LeftOut",
+            QueueKind::DoubleQueue => "DoubleQueue",
+        }
+    }
+}
+
+/// Why a file of queues did not load. Want of memory is always `NoMemory`, and never within `Conf`.
+#[derive(Clone, Copy, Debug, PartialEq, Eq)]
+pub enum QueueFault {
+    /// A line of the text is refused, whatever its section.
+    Conf(ConfFault),
+    /// A line of a queue is refused; lines are counted from 1.
+    Queue { line: usize, kind: QueueKind },
+    /// The allocator had no memory.
+    NoMemory,
+}
+
+impl From<ConfFault> for QueueFault {
+    ghost use Rattle.dp_queue.specs.Faults.{fault_of_conf};
+    ghost use Rattle.std.specs.Prelude.{◌≡◌};
+
+    ghost from_gives = { λ conf fault. fault ≡ fault_of_conf conf };
+
+    fn from(conf: ConfFault) -> Self {
+        match conf {
+            ConfFault::At { line, kind } => QueueFault::Conf(ConfFault::At { line, kind }),
+            ConfFault::NoMemory => QueueFault::NoMemory,
+        }
+    }
+}
+
+impl From<NoMemory> for QueueFault {
+    ghost use Rattle.std.specs.Prelude.{◌≡◌};
+    ghost use Rattle.dp_queue.specs.declared.fault.QueueFault.TheVariants.{NoMemory};
+
+    ghost from_gives = { λ _ fault. fault ≡ NoMemory };
+
+    fn from(_: NoMemory) -> Self {
+        QueueFault::NoMemory
+    }
+}
+
+impl<T: Drop> From<AllocFailed<T>> for QueueFault {
+    ghost use Rattle.std.specs.Prelude.{◌≡◌};
+    ghost use Rattle.dp_queue.specs.declared.fault.QueueFault.TheVariants.{NoMemory};
+
+    ghost from_gives = { λ _ fault. fault ≡ NoMemory };
+
+    fn from(_: AllocFailed<T>) -> Self {
+        QueueFault::NoMemory
+    }
+}
+
+impl fmt::Display for QueueFault {
+    ghost output = { λ fault. Some (queue_fault_text fault) };
+
+    fn fmt<W: fmt::Write>(&self, f: &mut fmt::Formatter<W>) -> fmt::Result {
+        match self {
+            QueueFault::Conf(fault) => fmt::Display::fmt(fault, f),
+            QueueFault::Queue { line, kind } => write!(f, "{} line {line}", kind.name()),
+            QueueFault::NoMemory => f.write_str("out of memory"),
+        }
+    }
+}
+
+impl Error for QueueFault {}
+
+/// Why nothing is offered.
+#[derive(Clone, Copy, Debug, PartialEq, Eq)]
+pub enum OfferFault {
+    /// There is no queue of that name.
+    NoQueue,
+    /// No call waits for which no agent rings.
+    NobodyWaiting,
+    /// No member is without a pause whose agent is idle.
+    NoMember,
+}
+
+impl OfferFault {
+    /// The number of the refusal, 44 to 46.
+    pub fn code(self) -> u8
+        ensures { result ≡ offer_code self }
+    {
+        match self {
+            OfferFault::NoQueue => 44,
+            OfferFault::NobodyWaiting => 45,
+            OfferFault::NoMember => 46,
+        }
+    }
+
+    /// The name of the refusal, as it is printed beside its number.
+    pub fn name(self) -> &'static str
+        ensures { result.now ≡ offer_name self }
+    {
+        match self {
+            OfferFault::NoQueue => "NoQueue",
+            OfferFault::NobodyWaiting => "NobodyWaiting",
+            OfferFault::NoMember => "NoMember",
+        }
+    }
+}

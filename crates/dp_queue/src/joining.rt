@@ -1,0 +1,130 @@
+//! How calls join queues and leave them, after the Asterisk documentation's page on the application `Queue`.
+ghost use Rattle.std.specs.Prelude.{◌≡◌, ◌<◌, ℕ, IfOk, OnOk, OnErr, None, Some, false, length, vec_len};
+ghost use Rattle.dp_queue.specs.Agents.{all_freed, is_talking};
+ghost use Rattle.dp_queue.specs.Changes.{changed_at};
+ghost use Rattle.dp_queue.specs.Joining as spec;
+ghost use Rattle.dp_queue.specs.Seats.{seat_at, ReplacesSeat};
+
+use crate::agent::{Agent, free_all};
+use crate::join::Join;
+use crate::queue::{Queue, queue_number};
+use crate::queues::Queues;
+use crate::seat::{Seat, make_room, put_seat, seat_at};
+use dp_conf::NoMemory;
+use std::alloc::Global;
+
+/// What a call that asks to join the queue of a name is told.
+fn join_answer(queues: &[Queue], name: &[u8]) -> Join
+    ensures answer { result ≡ spec.would_join queues.now name.now }
+    ensures within { spec.IsWithin (length queues.now) result }
+{
+    match queue_number(queues, name) {
+        None => Join::Unknown,
+        Some(number) => queues[number].join_answer(number),
+    }
+}
+
+/// Puts a channel behind those that wait in a queue.
+fn sit(
+    queues: &mut Vec<Queue>,
+    seats: &mut Vec<Option<Seat>>,
+    number: usize,
+    channel: u32,
+) -> Result<(), NoMemory>
+    requires { number < vec_len queues.old }
+    ensures ok { OnOk result (queues.new.items ≡ changed_at (spec.with_caller channel) number queues.old.items) }
+    ensures seated { OnOk result (ReplacesSeat channel (Some (record { queue = number; is_rung = false })) seats.old.items seats.new.items) }
+    ensures err { OnErr result (queues.new.items ≡ queues.old.items) }
+    ensures same { OnErr result ((c : ℕ) → seat_at seats.new.items c ≡ seat_at seats.old.items c) }
+{
+    make_room(seats, channel)?;
+    let queue = &mut queues[number];
+    queue.push_caller(channel)?;
+    put_seat(
+        seats,
+        channel,
+        Some(Seat {
+            queue: number,
+            is_rung: false,
+        }),
+    );
+    Ok(())
+}
+
+/// Takes a channel out of the queue in which it waits. The agents that ring for it become idle.
+pub(crate) fn unseat(
+    queues: &mut Vec<Queue>,
+    agents: &mut Vec<Agent>,
+    seats: &mut Vec<Option<Seat>>,
+    number: usize,
+    channel: u32,
+)
+    requires queue { number < vec_len queues.old }
+    requires seat { channel < vec_len seats.old }
+    ensures queues { queues.new.items ≡ changed_at (spec.without_caller channel) number queues.old.items }
+    ensures agents { agents.new.items ≡ all_freed channel agents.old.items }
+    ensures seats { ReplacesSeat channel None seats.old.items seats.new.items }
+{
+    let queue = &mut queues[number];
+    queue.remove_caller(channel);
+    free_all(agents, channel);
+    put_seat(seats, channel, None);
+}
+
+impl Queues {
+    /// What a call that asks to join the queue of this name would be told. It takes no memory.
+    pub fn would_join(&self, queue: &[u8]) -> Join
+        ensures { result ≡ spec.would_join self.now.queues queue.now }
+    {
+        join_answer(&self.queues, queue)
+    }
+
+    /// A call asks to join the queue of this name, in any ASCII case, and is the last that waits there unless it is told
+    /// otherwise. It is told first that the queue is too empty, by `joinempty`, and then that it is full.
+    pub fn join(&mut self, _alloc: Global, queue: &[u8], channel: u32) -> Result<Join, NoMemory>
+        requires nowhere { spec.waits_in self.old.queues channel ≡ None }
+        requires silent { is_talking self.old.agents channel ≡ false }
+        ensures ok { IfOk result (λ join. spec.join_row self.old queue.now channel ≡ (self.new, join)) }
+        ensures err { OnErr result (self.new ≡ self.old) }
+    {
+        match join_answer(&self.queues, queue) {
+            Join::Joined(number) => {
+                sit(&mut self.queues, &mut self.seats, number, channel)?;
+                Ok(Join::Joined(number))
+            }
+            Join::Unknown => Ok(Join::Unknown),
+            Join::Empty => Ok(Join::Empty),
+            Join::Full => Ok(Join::Full),
+        }
+    }
+
+    /// A call leaves the queue in which it waits, and the agents that ring for it become idle. Whether it waited.
+    pub fn leave(&mut self, channel: u32) -> bool
+        ensures { spec.leave_row self.old channel ≡ (self.new, result) }
+    {
+        match seat_at(&self.seats, channel) {
+            None => false,
+            Some(seat) => {
+                unseat(
+                    &mut self.queues,
+                    &mut self.agents,
+                    &mut self.seats,
+                    seat.queue,
+                    channel,
+                );
+                true
+            }
+        }
+    }
+
+    /// Whether the calls that wait in the queue of this number are to leave it, since it is too empty, by
+    /// `leavewhenempty`; false where there is no such queue.
+    pub fn should_leave(&self, queue: usize) -> bool
+        ensures { result ≡ spec.should_leave self.now queue }
+    {
+        match self.queues.get(queue) {
+            None => false,
+            Some(queue) => queue.should_leave(),
+        }
+    }
+}

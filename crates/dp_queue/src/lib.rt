@@ -1,0 +1,30 @@
+//! The call queues of an exchange, after the Asterisk documentation's pages on queues.
+#![tactic(auto)]
+
+mod agent;
+mod answering;
+mod call;
+mod change;
+mod choice;
+mod fault;
+mod join;
+mod joining;
+mod member;
+mod membership;
+mod offer;
+mod queue;
+mod queues;
+mod seat;
+mod settings;
+
+pub use agent::{Agent, AgentState};
+pub use call::Call;
+pub use change::{Added, Removed};
+pub use dp_conf::{NoMemory, Text};
+pub use fault::{OfferFault, QueueFault, QueueKind};
+pub use join::Join;
+pub use member::Member;
+pub use offer::Offered;
+pub use queue::Queue;
+pub use queues::Queues;
+pub use settings::{EmptyRule, Settings, Strategy};

@@ -1,0 +1,128 @@
+//! A member of a queue.
+ghost use Rattle.std.specs.Prelude.{◌≡◌, ◌++◌, ◌∷◌, [], map, OnOk, OnErr, IfSome, ◌<◌, length};
+ghost use Rattle.std.specs.List.{find, list_any, position};
+ghost use Rattle.std.specs.Option.{option_copied};
+ghost use Rattle.dp_queue.specs.Calls as calls;
+ghost use Rattle.dp_queue.specs.Changes.{without, one_more};
+ghost use Rattle.dp_queue.specs.Members as spec;
+
+/// A member of a queue, and what the queue knows of it.
+#[derive(Clone, Copy, Debug, PartialEq, Eq)]
+pub struct Member {
+    /// The number of its agent.
+    pub agent: usize,
+    pub penalty: u32,
+    pub is_paused: bool,
+    /// Whether an application added it, and not the file.
+    pub is_dynamic: bool,
+    /// How many calls of the queue it has finished.
+    pub calls: u64,
+    /// The count of finished calls of all queues at its last one; 0 where there was none.
+    pub last: u64,
+}
+
+/// A member that has finished no call.
+pub(crate) fn new_member(agent: usize, penalty: u32, is_dynamic: bool) -> Member
+    ensures { result ≡ spec.new_member agent penalty is_dynamic }
+{
+    Member {
+        agent,
+        penalty,
+        is_paused: false,
+        is_dynamic,
+        calls: 0,
+        last: 0,
+    }
+}
+
+/// Whether some member is not paused.
+pub(crate) fn has_active(members: &[Member]) -> bool
+    ensures { result ≡ spec.has_active members.now }
+{
+    members.iter().any(|member| !member.is_paused)
+}
+
+/// Whether some member is this agent.
+pub(crate) fn has_agent(members: &[Member], agent: usize) -> bool
+    ensures { result ≡ list_any (spec.is_agent agent) members.now }
+{
+    members.iter().any(|member| member.agent == agent)
+}
+
+/// The member that is this agent.
+pub(crate) fn find_agent(members: &[Member], agent: usize) -> Option<&Member>
+    ensures { option_copied result ≡ find (spec.is_agent agent) members.now }
+{
+    members.iter().find(|member| member.agent == agent)
+}
+
+/// Where the member that is this agent stands.
+pub(crate) fn place_of(members: &[Member], agent: usize) -> Option<usize>
+    ensures place { result ≡ position (spec.is_agent agent) members.now }
+    ensures within { IfSome result (λ place. place < length members.now) }
+{
+    members.iter().position(|member| member.agent == agent)
+}
+
+/// Takes the member out that is this agent.
+pub(crate) fn take_member(members: &mut Vec<Member>, agent: usize)
+    ensures { members.new.items ≡ without (spec.is_agent agent) members.old.items }
+{
+    if let Some(place) = place_of(members, agent) {
+        let _member = members.remove(place);
+    }
+}
+
+/// The member, paused or not paused if it is the agent.
+fn paused_member(member: Member, agent: usize, is_paused: bool) -> Member
+    ensures { result ≡ spec.paused_member agent is_paused member }
+{
+    if member.agent == agent {
+        Member {
+            is_paused,
+            ..member
+        }
+    } else {
+        member
+    }
+}
+
+/// Pauses the member that is this agent, or ends its pause.
+pub(crate) fn pause_member(members: &mut [Member], agent: usize, is_paused: bool)
+    ensures { members.new ≡ map (spec.paused_member agent is_paused) members.old }
+{
+    for member in members.iter_mut() {
+        *member = paused_member(*member, agent, is_paused);
+    }
+}
+
+/// One more; the greatest count stays.
+pub(crate) fn one_more(count: u64) -> u64
+    ensures { result ≡ one_more count }
+{
+    count.saturating_add(1)
+}
+
+/// The member behind the end of a call of the agent.
+fn finished_member(member: Member, agent: usize, count: u64) -> Member
+    ensures { result ≡ calls.finished_member agent count member }
+{
+    if member.agent == agent {
+        Member {
+            calls: one_more(member.calls),
+            last: count,
+            ..member
+        }
+    } else {
+        member
+    }
+}
+
+/// Counts a finished call for the member that is this agent.
+pub(crate) fn finish_call(members: &mut [Member], agent: usize, count: u64)
+    ensures { members.new ≡ map (calls.finished_member agent count) members.old }
+{
+    for member in members.iter_mut() {
+        *member = finished_member(*member, agent, count);
+    }
+}

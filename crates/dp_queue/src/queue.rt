@@ -1,0 +1,226 @@
+//! A call queue.
+ghost use Rattle.std.specs.Prelude.{◌≡◌, ◌==◌, OnOk, OnErr, IfSome, ◌<◌, length};
+ghost use Rattle.std.specs.List.{find, position};
+ghost use Rattle.std.specs.Option.{option_copied};
+ghost use Rattle.std.specs.VecDeque.{deque_len};
+ghost use Rattle.dp_queue.specs.Changes.{without};
+ghost use Rattle.dp_queue.specs.Calls as calls;
+ghost use Rattle.dp_queue.specs.Joining as joining;
+ghost use Rattle.dp_queue.specs.Members as members;
+ghost use Rattle.dp_queue.specs.Queues as spec;
+
+use crate::join::Join;
+use crate::member::{
+    Member, find_agent, finish_call, has_active, has_agent, pause_member, take_member,
+};
+use crate::settings::{EmptyRule, Settings};
+use dp_conf::{NoMemory, Text, same_word};
+use std::alloc::Global;
+use std::collections::VecDeque;
+use std::marker::Model;
+
+/// A queue: its name as its section writes it, its settings, its members in the order in which they came, and the
+/// channels that wait, the first of them first. A contract sees it as these, with the agent that `rrmemory` chose last.
+#[derive(Debug, Drop)]
+pub struct Queue {
+    name: Text,
+    settings: Settings,
+    members: Vec<Member>,
+    waiting: VecDeque<u32>,
+    last: Option<usize>,
+}
+
+impl Model for Queue {
+    ghost use Rattle.dp_queue.specs.Queues.{QueueOf};
+
+    ghost Value = { QueueOf };
+
+    ghost view = { λ queue. record {
+      name = queue.name;
+      settings = queue.settings;
+      members = queue.members.items;
+      waiting = queue.waiting.items;
+      last = queue.last;
+    } };
+}
+
+/// Whether a queue of these members is too empty to join.
+fn refuses_join(rule: EmptyRule, members: &[Member]) -> bool
+    ensures { result ≡ joining.refuses_join rule members.now }
+{
+    match rule {
+        EmptyRule::Yes => false,
+        EmptyRule::No | EmptyRule::Strict => !has_active(members),
+        EmptyRule::Loose => members.is_empty(),
+    }
+}
+
+/// Whether a queue of these members is too empty to stay.
+fn refuses_stay(rule: EmptyRule, members: &[Member]) -> bool
+    ensures { result ≡ joining.refuses_stay rule members.now }
+{
+    match rule {
+        EmptyRule::No => false,
+        EmptyRule::Yes | EmptyRule::Strict => !has_active(members),
+        EmptyRule::Loose => members.is_empty(),
+    }
+}
+
+/// Where a channel stands in a waiting list.
+fn place_of(waiting: &VecDeque<u32>, channel: u32) -> Option<usize>
+    ensures place { result ≡ position (λ d. d == channel) waiting.now.items }
+    ensures within { IfSome result (λ place. place < deque_len waiting.now) }
+{
+    waiting.iter().position(|other| *other == channel)
+}
+
+/// Takes a channel out of a waiting list.
+fn take_out(waiting: &mut VecDeque<u32>, channel: u32)
+    ensures { waiting.new.items ≡ without (λ d. d == channel) waiting.old.items }
+{
+    if let Some(place) = place_of(waiting, channel) {
+        let _channel = waiting.remove(place);
+    }
+}
+
+impl Queue {
+    /// The queue's name, as its section writes it.
+    pub fn name(&self) -> &Text
+        ensures { result.now ≡ self.now.name }
+    {
+        &self.name
+    }
+
+    /// The queue's settings.
+    pub fn settings(&self) -> &Settings
+        ensures { result.now ≡ self.now.settings }
+    {
+        &self.settings
+    }
+
+    /// The queue's members in the order in which they came.
+    pub fn members(&self) -> &[Member]
+        ensures { result.now ≡ self.now.members }
+    {
+        &self.members
+    }
+
+    /// The channels that wait, the first of them first.
+    pub fn waiting(&self) -> &VecDeque<u32>
+        ensures { result.now.items ≡ self.now.waiting }
+    {
+        &self.waiting
+    }
+
+    /// What a call that asks to join is told.
+    pub(crate) fn join_answer(&self, number: usize) -> Join
+        ensures { result ≡ joining.join_answer number self.now }
+    {
+        if refuses_join(self.settings.joinempty, &self.members) {
+            return Join::Empty;
+        }
+        let maxlen = self.settings.maxlen as usize;
+        if maxlen > 0 && maxlen <= self.waiting.len() {
+            return Join::Full;
+        }
+        Join::Joined(number)
+    }
+
+    /// Whether the calls that wait are to leave, since the queue is too empty.
+    pub(crate) fn should_leave(&self) -> bool
+        ensures { result ≡ joining.refuses_stay self.now.settings.leavewhenempty self.now.members }
+    {
+        refuses_stay(self.settings.leavewhenempty, &self.members)
+    }
+
+    /// Adds a call behind the others.
+    pub(crate) fn push_caller(&mut self, channel: u32) -> Result<(), NoMemory>
+        ensures ok { OnOk result (self.new ≡ joining.with_caller channel self.old) }
+        ensures err { OnErr result (self.new ≡ self.old) }
+    {
+        self.waiting.push_back(channel)?;
+        Ok(())
+    }
+
+    /// Takes a call out.
+    pub(crate) fn remove_caller(&mut self, channel: u32)
+        ensures { self.new ≡ joining.without_caller channel self.old }
+    {
+        take_out(&mut self.waiting, channel);
+    }
+
+    /// How many calls wait.
+    pub fn waiting_count(&self) -> usize
+        ensures { result ≡ length self.now.waiting }
+    {
+        self.waiting.len()
+    }
+
+    /// The number of the agent that `rrmemory` chose last.
+    pub(crate) fn last(&self) -> Option<usize>
+        ensures { result ≡ self.now.last }
+    {
+        self.last
+    }
+
+    /// Remembers the agent that `rrmemory` chose.
+    pub(crate) fn set_last(&mut self, last: Option<usize>)
+        ensures { self.new ≡ record self.old { last = last } }
+    {
+        self.last = last;
+    }
+
+    /// Whether the agent of a number is a member.
+    pub(crate) fn has_member(&self, agent: usize) -> bool
+        ensures { result ≡ members.has_member agent self.now }
+    {
+        has_agent(&self.members, agent)
+    }
+
+    /// The member that is the agent of a number.
+    pub(crate) fn find_member(&self, agent: usize) -> Option<&Member>
+        ensures { option_copied result ≡ find (members.is_agent agent) self.now.members }
+    {
+        find_agent(&self.members, agent)
+    }
+
+    /// Adds a member behind the others.
+    pub(crate) fn push_member(&mut self, member: Member) -> Result<(), NoMemory>
+        ensures ok { OnOk result (self.new ≡ members.with_member member self.old) }
+        ensures err { OnErr result (self.new ≡ self.old) }
+    {
+        self.members.push(member)?;
+        Ok(())
+    }
+
+    /// Takes the member out that is the agent of a number.
+    pub(crate) fn remove_member(&mut self, agent: usize)
+        ensures { self.new ≡ members.without_member agent self.old }
+    {
+        take_member(&mut self.members, agent);
+    }
+
+    /// Pauses the member that is the agent of a number, or ends its pause.
+    pub(crate) fn pause(&mut self, agent: usize, is_paused: bool)
+        ensures { self.new ≡ members.paused_queue agent is_paused self.old }
+    {
+        pause_member(&mut self.members, agent, is_paused);
+    }
+
+    /// Counts a finished call for the member that is the agent of a number.
+    pub(crate) fn finish(&mut self, agent: usize, count: u64)
+        ensures { self.new ≡ calls.finished_queue agent count self.old }
+    {
+        finish_call(&mut self.members, agent, count);
+    }
+}
+
+/// The number of the queue of this name, in any ASCII case.
+pub(crate) fn queue_number(queues: &[Queue], name: &[u8]) -> Option<usize>
+    ensures number { result ≡ spec.queue_number queues.now name.now }
+    ensures within { IfSome result (λ number. number < length queues.now) }
+{
+    queues
+        .iter()
+        .position(|queue| same_word(queue.name().bytes(), name))
+}

@@ -1,0 +1,98 @@
+//! The queues of an exchange with their agents.
+ghost use Rattle.std.specs.Prelude.{◌≡◌, ◌<◌, ℕ, List, length, vec_len, IfSome};
+ghost use Rattle.dp_queue.specs.Good.{IsGood};
+ghost use Rattle.dp_queue.specs.Joining.{waits_in, waiting_count};
+ghost use Rattle.dp_queue.specs.Queues as spec;
+ghost use Rattle.dp_queue.specs.Seats.{seat_at};
+
+use crate::agent::Agent;
+use crate::queue::{Queue, queue_number};
+use crate::seat::{Seat, seat_at};
+use dp_vars::Counts;
+use std::marker::Model;
+
+/// The queues of an exchange, with the agents that are their members and the count of finished calls.
+///
+/// A contract sees the queues in the order of the file, the agents in the order in which they were first named, which
+/// are never dropped, and the count of finished calls of all queues, which stays at its greatest value.
+#[derive(Debug, Drop)]
+pub struct Queues {
+    pub(crate) queues: Vec<Queue>,
+    pub(crate) agents: Vec<Agent>,
+    // By the number of a channel where it waits, so that no call walks over the waiting lists of all queues.
+    pub(crate) seats: Vec<Option<Seat>>,
+    pub(crate) finished: u64,
+}
+
+impl Model for Queues {
+    ghost use Rattle.dp_queue.specs.Good.{AreLinked};
+    ghost use Rattle.dp_queue.specs.Queues.{QueuesOf};
+    ghost use Rattle.dp_queue.specs.Seats.{AreSeated};
+
+    ghost Value = { QueuesOf };
+
+    ghost view = { λ q. record { queues = q.queues.items; agents = q.agents.items; finished = q.finished } };
+
+    ghost invariant = { λ q. AreLinked q.queues.items q.agents.items × AreSeated q.seats.items q.queues.items q.agents.items };
+}
+
+impl Queues {
+    /// The queues in the order of the file; the number of a queue is its place.
+    pub fn queues(&self) -> &[Queue]
+        ensures { result.now ≡ self.now.queues }
+    {
+        &self.queues
+    }
+
+    /// The agents in the order in which they were first named; the number of an agent is its place.
+    pub fn agents(&self) -> &[Agent]
+        ensures { result.now ≡ self.now.agents }
+    {
+        &self.agents
+    }
+
+    /// How many calls of all queues are finished.
+    pub fn finished(&self) -> u64
+        ensures { result ≡ self.now.finished }
+    {
+        self.finished
+    }
+
+    /// The number of the queue of this name, in any ASCII case.
+    pub fn number_of(&self, queue: &[u8]) -> Option<usize>
+        ensures number { result ≡ spec.queue_number self.now.queues queue.now }
+        ensures within { IfSome result (λ number. number < length self.now.queues) }
+    {
+        queue_number(&self.queues, queue)
+    }
+
+    /// The number of the queue in which the channel waits.
+    pub fn waits_in(&self, channel: u32) -> Option<usize>
+        ensures { result ≡ waits_in self.now.queues channel }
+    {
+        match seat_at(&self.seats, channel) {
+            Some(seat) => Some(seat.queue),
+            None => None,
+        }
+    }
+
+    /// What is known of all queues: a channel waits at most once, the channel of an agent that rings waits in the queue
+    /// that the agent names, one that an agent talks with waits nowhere, and no two agents talk with one channel. It
+    /// does nothing.
+    pub fn are_good(&self)
+        ensures { IsGood self.now }
+    {
+        let _queues = &self.queues;
+    }
+}
+
+impl Counts for Queues {
+    ghost count = { λ q queue. waiting_count q.queues queue };
+
+    fn waiting(&self, queue: &[u8]) -> usize {
+        match queue_number(&self.queues, queue) {
+            None => 0,
+            Some(number) => self.queues[number].waiting_count(),
+        }
+    }
+}
