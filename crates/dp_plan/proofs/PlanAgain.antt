@@ -8,9 +8,11 @@ use Rattle.std.proofs.lemmas.List.Folds.{list_any-append}
 use Rattle.dp_conf.specs.Answers.{each_after}
 use Rattle.dp_conf.specs.Lines.{lines_of}
 use Rattle.dp_conf.specs.Words.{same_text}
+use Rattle.dp_conf.specs.declared.lines.ConfLine.{ConfLine}
 use Rattle.dp_conf.proofs.TextLemmas.{each-append, either-false}
 use Rattle.dp_plan.specs.Contexts.{PlanContext}
 use Rattle.dp_plan.specs.Extensions.{same_name}
+use Rattle.dp_plan.specs.Items.{items_after}
 use Rattle.dp_plan.specs.Loaded.{loaded}
 use Rattle.dp_plan.specs.Plan.{PlanOf, Addition, Inclusion, of_one_extension, same_place, same_label, shares_label, is_place_taken, is_label_taken, is_taken, is_named, kept_by, added_in, included_in, context_in, global_in, kept_in, names_in, context_of, plan_of, entry_note, include_note, note_of, notes_of}
 use Rattle.dp_plan.specs.declared.entry.Entry.{Entry}
@@ -23,7 +25,7 @@ use Rattle.dp_plan.specs.declared.section.Section.TheVariants.{Globals}
 use Rattle.dp_plan.proofs.Canonical.{IsFresh, additions_of, IsContext, IsCanonical, canonical_lines}
 use Rattle.dp_plan.proofs.DraftLemmas.{more_by, kept_by-filter_map}
 use Rattle.dp_plan.proofs.ItemsAgain.{with_line, numbered, items_of_globals, items_of_context, items_of_contexts, items_of, items_after-canonical}
-use Rattle.dp_plan.proofs.LoadedLemmas.{loaded-plan}
+use Rattle.dp_plan.proofs.LoadedLemmas.{of_items, of_lines}
 
 -- ---- what the items give, whatever their lines
 
@@ -444,9 +446,14 @@ canonical_notes-only plan fine =
     (known-numbered 0 (items_of plan) (each-append IsKnown (items_of_globals plan.globals) (items_of_contexts plan.contexts) (known-globals plan.globals) (known-contexts plan.contexts)))
     (subst (IsFresh is_taken []) (sym (additions-are plan)) (fresh-additions plan.contexts [] [] (λ name e. refl) fine.names fine.contexts))
 
+-- with no fault the dialplan is that of the items
+loaded-items : (text : List ℕ) (lines : List ConfLine) (xs : List Item) → lines_of text ≡ Ok lines → items_after [] lines ≡ Ok xs → loaded text ≡ Ok (plan_of xs, notes_of xs)
+unfolding loaded
+loaded-items text lines xs read e = ap of_lines read ∙ ap of_items e
+
 -- a text with the lines of a dialplan loads as the dialplan
 pub loaded-canonical : (text : List ℕ) (plan : PlanOf) → IsCanonical plan → lines_of text ≡ Ok (canonical_lines plan) → loaded text ≡ Ok (plan, canonical_notes plan)
 unfolding canonical_notes
 loaded-canonical text plan fine read =
-    loaded-plan text (canonical_lines plan) (items plan) read (items_after-canonical plan fine)
+    loaded-items text (canonical_lines plan) (items plan) read (items_after-canonical plan fine)
     ∙ (λ i. Ok (plan_of-items plan fine i, notes_of (items plan)))
