@@ -1,5 +1,6 @@
 -- A text cut at a byte, and its parts between line feeds.
-use Rattle.std.proofs.Common.{◌≡◌, ℕ, ◌+◌, ◌-◌, ◌<◌, Bool, true, false, cond, eqb, List, [], ◌∷◌, Option, Some, None, length, take, drop, refl, ap, ◌∙◌, sym, arith, MatchOption, ltb}
+use Rattle.std.proofs.Common.{◌≡◌, ℕ, ◌+◌, ◌-◌, ◌<◌, Bool, true, false, cond, eqb, List, [], ◌∷◌, ◌++◌, Option, Some, None, length, take, drop, refl, ap, ◌∙◌, sym, arith, MatchOption, ltb}
+use Rattle.std.specs.Option.{option_map_or}
 use Rattle.std.specs.List.{position_or_len, before_first, after_first}
 use Rattle.std.proofs.lemmas.List.Sums.{position_or_len_is, fails_before_first}
 use Rattle.std.proofs.lemmas.List.Elements.{All-from_get_or}
@@ -7,7 +8,7 @@ use Rattle.std.proofs.lemmas.List.Splits.{slice_split_first, slice_split_none}
 use Rattle.std.proofs.lemmas.List.{take_all, length-drop}
 use Rattle.std.proofs.lemmas.Bool.{false_from_ne_true, ltb-true, ltb-false}
 use Rattle.bstr.specs.Find.{IsFirstByte, is_byte}
-use Rattle.dp_conf.specs.Cut.{cut_once}
+use Rattle.dp_conf.specs.Cut.{before_last, cut_once}
 use Rattle.dp_conf.specs.Lines.{parts_of}
 
 -- what a search for the byte answered is where it first stands
@@ -80,3 +81,28 @@ length-cut_by byte xs part rest false l e = absurd cc
 -- what stands behind a cut is shorter
 pub length-cut_once : (byte : ℕ) (xs part rest : List ℕ) → cut_once byte xs ≡ Some (part, rest) → length rest < length xs
 length-cut_once byte xs part rest e = length-cut_by byte xs part rest (ltb (place_of byte xs) (length xs)) refl e
+
+-- a front of which a test is computed before or behind one more byte
+placed : (b : Bool) (f : ℕ) (front : List ℕ) (o other : Option (List ℕ))
+    → option_map_or (λ before. Some (f ∷ before)) (cond b (Some front) o) other ≡ cond b (Some (f ∷ front)) (option_map_or (λ before. Some (f ∷ before)) o other)
+placed true f front o other = refl
+placed false f front o other = refl
+
+before_last-push : (byte : ℕ) (front : List ℕ) (last : ℕ)
+    → before_last byte (front ++ last ∷ []) ≡ cond (eqb last byte) (Some front) (before_last byte front)
+before_last-push byte [] last = refl
+before_last-push byte (f ∷ front) last =
+    ap (λ o. option_map_or (λ before. Some (f ∷ before)) o (cond (eqb f byte) (Some []) None)) (before_last-push byte front last)
+    ∙ placed (eqb last byte) f front (before_last byte front) (cond (eqb f byte) (Some []) None)
+
+-- the last byte is such a byte
+pub before_last-found : (byte : ℕ) (text front : List ℕ) (last : ℕ) → text ≡ front ++ last ∷ [] → eqb last byte ≡ true
+    → Some front ≡ before_last byte text
+before_last-found byte text front last cut is =
+    ap (λ b. cond b (Some front) (before_last byte front)) (sym is) ∙ sym (before_last-push byte front last) ∙ ap (before_last byte) (sym cut)
+
+-- the last byte is another
+pub before_last-passed : (byte : ℕ) (text front : List ℕ) (last : ℕ) → text ≡ front ++ last ∷ [] → eqb last byte ≡ false
+    → before_last byte front ≡ before_last byte text
+before_last-passed byte text front last cut is =
+    ap (λ b. cond b (Some front) (before_last byte front)) (sym is) ∙ sym (before_last-push byte front last) ∙ ap (before_last byte) (sym cut)

@@ -1,5 +1,6 @@
 //! How a text is cut: blanks off its ends, at a byte, into lines, and into arguments.
 ghost use Rattle.std.specs.Prelude.{◌≡◌, ◌+◌, ◌^◌, ◌<◌, IfOk, IfSome, MatchOption, Some, None, [], ◌∷◌, length, map};
+ghost use Rattle.std.specs.Option.{option_map};
 ghost use Rattle.dp_conf.specs.Blanks as blanks;
 ghost use Rattle.dp_conf.specs.Cut as cuts;
 ghost use Rattle.dp_conf.specs.Levels as levels;
@@ -59,6 +60,20 @@ pub fn cut_once(text: &[u8], byte: u8) -> Option<(&[u8], &[u8])>
         None => None,
         Some(at) => Some((&text[..at], &text[at + 1..])),
     }
+}
+
+/// What stands before the last such byte of the text, or None where there is none.
+pub fn before_last(text: &[u8], byte: u8) -> Option<&[u8]>
+    ensures { option_map (λ front. front.now) result ≡ cuts.before_last byte text.now }
+{
+    let mut left = text;
+    while let Some((last, front)) = left.split_last() {
+        if *last == byte {
+            return Some(front);
+        }
+        left = front;
+    }
+    None
 }
 
 /// The first part of the text between its line feeds, and what stands behind it, where more parts come.

@@ -5,3 +5,4 @@ pub mod PartsLemmas
 pub mod ValuesLemmas
 pub mod ExpandingLemmas
 pub mod OpeningsLemmas
+pub mod PoppedLemmas

@@ -1,4 +1,4 @@
--- The values of names, by the maps in which they are searched, and cuts at the last byte of a kind.
+-- The values of names, by the maps in which they are searched.
 use Rattle.std.proofs.Common.{◌≡◌, ℕ, Bool, true, false, cond, eqb, List, [], ◌∷◌, ◌++◌, Option, Some, None, unwrap_or, map, refl, sym, ap, ◌∙◌}
 use Rattle.std.specs.Option.{option_map, option_map_or, option_or}
 use Rattle.std.specs.FinMap.{get}
@@ -6,34 +6,9 @@ use Rattle.std.specs.Map.{lookup}
 use Rattle.dp_conf.specs.Words.{same_text}
 use Rattle.dp_vars.specs.Sights.{ChannelView, given_by, given_names, given_value, channel_map}
 use Rattle.dp_vars.specs.declared.value.Given.{Given}
-use Rattle.dp_vars.specs.Values.{before_last}
 use Rattle.dp_vars.specs.Variables.{Named, first_value, value_or_empty}
 use Rattle.dp_vars.proofs.StoresLemmas.{first_value-append}
 use Rattle.dp_vars.proofs.VariablesLemmas.{get-by_bytes}
-
-placed : (b : Bool) (f : ℕ) (front : List ℕ) (o other : Option (List ℕ))
-    → option_map_or (λ before. Some (f ∷ before)) (cond b (Some front) o) other ≡ cond b (Some (f ∷ front)) (option_map_or (λ before. Some (f ∷ before)) o other)
-placed true f front o other = refl
-placed false f front o other = refl
-
-before_last-push : (byte : ℕ) (front : List ℕ) (last : ℕ)
-    → before_last byte (front ++ last ∷ []) ≡ cond (eqb last byte) (Some front) (before_last byte front)
-before_last-push byte [] last = refl
-before_last-push byte (f ∷ front) last =
-    ap (λ o. option_map_or (λ before. Some (f ∷ before)) o (cond (eqb f byte) (Some []) None)) (before_last-push byte front last)
-    ∙ placed (eqb last byte) f front (before_last byte front) (cond (eqb f byte) (Some []) None)
-
--- the last byte is such a byte
-pub before_last-found : (byte : ℕ) (text front : List ℕ) (last : ℕ) → text ≡ front ++ last ∷ [] → eqb last byte ≡ true
-    → Some front ≡ before_last byte text
-before_last-found byte text front last cut is =
-    ap (λ b. cond b (Some front) (before_last byte front)) (sym is) ∙ sym (before_last-push byte front last) ∙ ap (before_last byte) (sym cut)
-
--- the last byte is another
-pub before_last-passed : (byte : ℕ) (text front : List ℕ) (last : ℕ) → text ≡ front ++ last ∷ [] → eqb last byte ≡ false
-    → before_last byte front ≡ before_last byte text
-before_last-passed byte text front last cut is =
-    ap (λ b. cond b (Some front) (before_last byte front)) (sym is) ∙ sym (before_last-push byte front last) ∙ ap (before_last byte) (sym cut)
 
 -- a look-up among values that are computed from what is found
 lookup-map : {X Y : Type 0} (value : X → Y) (test : List ℕ → Bool) (entries : List (List ℕ × X))

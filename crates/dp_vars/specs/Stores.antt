@@ -75,3 +75,8 @@ module _ {B : Type 0} where
   -- the store without its innermost frame
   abbrev pub without_frame : StoreOf B → StoreOf B
   without_frame store = record store { frames = take (length store.frames - 1) store.frames }
+
+  -- the store without its innermost frame and with a name set then, and where that frame goes back to; with no frame nothing
+  abbrev pub popped_setting : StoreOf B → List ℕ → List ℕ → Option (Frame B) → StoreOf B × Option B
+  popped_setting store name value None = (store, None)
+  popped_setting store name value (Some frame) = (set (without_frame store) name value, Some frame.back)

@@ -2,7 +2,7 @@
 use Rattle.std.specs.Prelude.{ℕ, ◌==◌, List, [], ◌∷◌, ◌++◌, Option, Some, None, length, codes, if◌then◌else◌}
 use Rattle.std.specs.Fmt.{decimal}
 use Rattle.std.specs.Option.{option_map_or}
-use Rattle.dp_conf.specs.Cut.{cut_once}
+use Rattle.dp_conf.specs.Cut.{before_last, cut_once}
 use Rattle.dp_conf.specs.Groups.{Reading, Over, Plain, Group}
 use Rattle.dp_conf.specs.GroupsRead.{reading_of}
 use Rattle.dp_conf.specs.Levels.{cut_outside}
@@ -14,11 +14,6 @@ use Rattle.dp_vars.specs.Parts.{asked_of, part}
 use Rattle.dp_vars.specs.Sights.{Sight}
 use Rattle.dp_vars.specs.declared.value.Function.{Function}
 use Rattle.dp_vars.specs.declared.value.Function.TheVariants.{Global, Local, Len, CallerId, QueueWaitingCount}
-
--- what stands before the last such byte, where there is one
-abbrev pub before_last : ℕ → List ℕ → Option (List ℕ)
-before_last byte [] = None
-before_last byte (b ∷ bs) = option_map_or (λ front. Some (b ∷ front)) (before_last byte bs) (if b == byte then Some [] else None)
 
 -- the functions by their names
 abbrev pub function_of : List ℕ → Option Function

@@ -115,4 +115,24 @@ impl<B> Store<B> {
         drop(locals);
         Some(back)
     }
+    /// Drops the innermost frame and then sets a name, as `pop_frame` and then `set` do, and answers where the frame goes
+    /// back to; None with no frame, where it changes nothing. After a refused growth all is as before.
+    pub fn pop_frame_setting(
+        &mut self,
+        alloc: Global,
+        name: &[u8],
+        value: &[u8],
+    ) -> Result<Option<B>, NoMemory>
+        ensures ok { IfOk result (λ back. stores.popped_setting self.old name.now value.now (stores.innermost self.old.frames) ≡ (self.new, back)) }
+        ensures err { OnErr result (self.new ≡ self.old) }
+    {
+        let Some((_, outer)) = self.frames.split_last() else {
+            return Ok(None);
+        };
+        match frame::holder(outer, name) {
+            Some(place) => frame::set_at(&mut self.frames, place, alloc, name, value)?,
+            None => self.variables.insert(alloc, name, value)?,
+        }
+        Ok(self.pop_frame())
+    }
 }

@@ -2,6 +2,7 @@
 ghost use Rattle.std.specs.Prelude.{◌≡◌, [], ◌∷◌, MatchOption, None, Some, unwrap_or};
 ghost use Rattle.std.specs.Option.{option_map, option_map_or};
 ghost use Rattle.std.specs.Map.{lookup};
+ghost use Rattle.dp_conf.specs.Cut as cuts;
 ghost use Rattle.dp_conf.specs.Words.{same_text};
 ghost use Rattle.dp_vars.specs.Shown.{shown};
 ghost use Rattle.dp_vars.specs.Sights as sights;
@@ -11,7 +12,7 @@ ghost use Rattle.dp_vars.specs.Variables.{first_value, value_or_empty};
 
 use crate::scope::{ChannelSeen, Counts, Scope};
 use crate::store::Store;
-use dp_conf::cut_once;
+use dp_conf::{before_last, cut_once};
 
 /// A value as it was found, of which no copy is made.
 #[derive(Clone, Copy)]
@@ -159,23 +160,9 @@ fn function_value<'a, B, C: Counts>(
     }
 }
 
-/// What stands before the last such byte.
-fn before_last(text: &[u8], byte: u8) -> Option<&[u8]>
-    ensures { option_map (λ front. front.now) result ≡ values.before_last byte text.now }
-{
-    let mut left = text;
-    while let Some((last, front)) = left.split_last() {
-        if *last == byte {
-            return Some(front);
-        }
-        left = front;
-    }
-    None
-}
-
 /// The value of a function by its name and by what stands behind the `(`.
 fn called<'a, B, C: Counts>(scope: &Scope<'a, B, C>, name: &[u8], behind: &[u8]) -> Value<'a>
-    ensures { shown result ≡ values.called (sights.sight_of C.count scope.now) name.now (values.before_last 41 behind.now) }
+    ensures { shown result ≡ values.called (sights.sight_of C.count scope.now) name.now (cuts.before_last 41 behind.now) }
 {
     match (function_of(name), before_last(behind, b')')) {
         (Some(function), Some(argument)) => function_value(scope, function, argument),

@@ -1,7 +1,7 @@
 use Rattle.std.proofs.Common.{◌∙◌, eqb, ◌≡◌, true, false}
 use Rattle.std.proofs.Common.{rules, tests}
-use Rattle.dp_vars.proofs.ValuesLemmas.{before_last-found, before_last-passed}
-use Rattle.dp_vars.proofs.value.before_last.Goals as goal
+use Rattle.dp_conf.proofs.CutLemmas.{before_last-found, before_last-passed}
+use Rattle.dp_conf.proofs.cut.before_last.Goals as goal
 
 pub returns-then-last-byte : goal.returns-then-last-byte
 returns-then-last-byte c =

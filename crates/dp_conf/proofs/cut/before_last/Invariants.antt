@@ -1,6 +1,6 @@
 use Rattle.std.proofs.Common.{◌≡◌, length}
-use Rattle.dp_vars.specs.Values.{before_last}
-use Rattle.dp_vars.proofs.value.before_last.Given as goal
+use Rattle.dp_conf.specs.Cut.{before_last}
+use Rattle.dp_conf.proofs.cut.before_last.Given as goal
 
 abbrev pub invariant-loop-last : goal.invariant-loop-last
 invariant-loop-last l = before_last l.byte l.left ≡ before_last l.byte l.text

@@ -1,0 +1,40 @@
+-- Tables put together from applications.
+use Rattle.std.specs.Prelude.{◌≡◌, ℕ, Bool, true, false, List, Option, Some, None, if◌then◌else◌}
+use Rattle.std.proofs.Common.{subst}
+use Rattle.std.proofs.lemmas.Option.{none-some, same_Some}
+use Rattle.dp_conf.specs.Words.{same_word}
+use Rattle.dp_app.specs.Laws.{IsLawful, IsLawfulRow}
+use Rattle.dp_app.specs.Rows.{Row, Rows}
+use Rattle.dp_app.specs.declared.touch.Touch.{Touch}
+
+-- the table with no name
+abbrev pub no_rows : Rows
+no_rows name = None
+
+-- the touch of a name that the table lacks
+abbrev pub no_touch : List ℕ → Touch
+no_touch name = record { variables = false; frames = false; globals = false; caller = false; members = false; waiting = false }
+
+-- a table with one more application, by its name in any ASCII case
+abbrev pub with_row : List ℕ → Row → Rows → Rows
+with_row title meaning rows name = if same_word name title then Some meaning else rows name
+
+-- the touches of such a table
+abbrev pub with_touch : List ℕ → Touch → (List ℕ → Touch) → List ℕ → Touch
+with_touch title touch touches name = if same_word name title then touch else touches name
+
+-- the table with no name is lawful
+pub no_rows_lawful : IsLawful no_touch no_rows
+no_rows_lawful name row h = absurd (none-some row h)
+
+-- a lawful row is the row that is told, with its touch
+lawful_by : (b : Bool) (touch : Touch) (meaning : Row) (touches : Touch) (rows : Option Row) (row : Row) → IsLawfulRow touch meaning →
+    ((r : Row) → rows ≡ Some r → IsLawfulRow touches r) → (if b then Some meaning else rows) ≡ Some row → IsLawfulRow (if b then touch else touches) row
+lawful_by true touch meaning touches rows row lawful_row lawful h = subst (λ r. IsLawfulRow touch r) (same_Some meaning row h) lawful_row
+lawful_by false touch meaning touches rows row lawful_row lawful h = lawful row h
+
+-- a lawful table with one more lawful application is lawful
+pub with_row_lawful : (title : List ℕ) (touch : Touch) (meaning : Row) (touches : List ℕ → Touch) (rows : Rows) →
+    IsLawfulRow touch meaning → IsLawful touches rows → IsLawful (with_touch title touch touches) (with_row title meaning rows)
+with_row_lawful title touch meaning touches rows lawful_row lawful name row h =
+    lawful_by (same_word name title) touch meaning (touches name) (rows name) row lawful_row (lawful name) h

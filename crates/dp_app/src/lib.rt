@@ -1,0 +1,19 @@
+//! What an application of a dialplan is, after the Asterisk documentation's application reference: a row from its
+//! arguments and a cell to the cell behind it and to where the channel goes, under laws that every table keeps.
+#![tactic(auto)]
+
+mod application;
+mod cell;
+mod going;
+mod phase;
+mod place;
+mod table;
+mod touch;
+
+pub use application::{AppTable, Application};
+pub use cell::Cell;
+pub use going::{Move, Parts, Target};
+pub use phase::Phase;
+pub use place::Place;
+pub use table::{NoApps, With};
+pub use touch::Touch;

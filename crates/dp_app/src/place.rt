@@ -1,0 +1,27 @@
+//! Where a channel stands, after the Asterisk documentation's page on dialplans.
+ghost use Rattle.std.specs.Prelude.{◌≡◌, IfOk};
+
+use dp_conf::{NoMemory, Text};
+
+/// Where a channel stands: a context, an extension as it was dialled, and a priority. The priority may be one above the
+/// greatest of an entry, where no entry can be.
+#[derive(Debug, PartialEq, Eq, Drop)]
+pub struct Place {
+    pub context: Text,
+    pub exten: Text,
+    pub priority: u32,
+}
+
+impl Clone for Place {
+    ghost is_clone = { λ place copy. copy ≡ place };
+
+    fn clone(&self) -> Result<Self, NoMemory> {
+        let context = self.context.clone()?;
+        let exten = self.exten.clone()?;
+        Ok(Place {
+            context,
+            exten,
+            priority: self.priority,
+        })
+    }
+}

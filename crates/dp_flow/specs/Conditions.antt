@@ -1,0 +1,52 @@
+-- Conditions, and choices between two sides.
+use Rattle.std.specs.Prelude.{ℕ, Bool, true, false, not, ◌||◌, ◌==◌, List, [], ◌∷◌, Option, Some, None, length, if◌then◌else◌}
+use Rattle.std.specs.List.{list_all}
+use Rattle.std.specs.Option.{option_and_then}
+use Rattle.dp_conf.specs.Blanks.{trim}
+use Rattle.dp_conf.specs.Cut.{cut_once}
+use Rattle.dp_conf.specs.Levels.{cut_outside}
+
+-- zeros alone
+abbrev pub all_zeros : List ℕ → Bool
+all_zeros text = list_all (λ digit. digit == 48) text
+
+-- one or more zeros
+abbrev pub is_zeros : List ℕ → Bool
+is_zeros [] = false
+is_zeros (b ∷ bs) = all_zeros (b ∷ bs)
+
+-- the text without one minus sign at its front
+abbrev pub unsigned : List ℕ → List ℕ
+unsigned [] = []
+unsigned (b ∷ bs) = if b == 45 then bs else b ∷ bs
+
+-- the text is empty, or a whole number that is zero, however long
+abbrev pub is_false : List ℕ → Bool
+is_false [] = true
+is_false (b ∷ bs) = is_zeros (unsigned (b ∷ bs))
+
+-- a condition holds if it is not false without the blanks at its ends
+unfoldable pub holds : List ℕ → Bool
+holds condition = not (is_false (trim condition))
+
+-- a side of a choice; one of blanks alone is as if it were not there
+abbrev pub present_by : List ℕ → List ℕ → Option (List ℕ)
+present_by side [] = None
+present_by side (b ∷ bs) = Some side
+
+-- the side that is taken, if it is there: the first if the condition holds, else the second
+abbrev pub side_of : Bool → List ℕ → Option (List ℕ × List ℕ) → Option (List ℕ)
+side_of true sides None = Some sides
+side_of false sides None = None
+side_of true sides (Some cut) = Some cut.0
+side_of false sides (Some cut) = Some cut.1
+
+-- a choice by its condition and its sides
+abbrev pub chosen_by : Option (List ℕ × List ℕ) → Option (List ℕ)
+chosen_by None = None
+chosen_by (Some cut) = option_and_then (λ side. present_by side (trim side)) (side_of (holds cut.0) cut.1 (cut_outside 58 cut.1))
+
+-- the side that `CONDITION?SIDE:SIDE` takes: the condition ends at the first `?`, and the first side at the first `:` outside
+-- parentheses
+unfoldable pub chosen : List ℕ → Option (List ℕ)
+chosen arguments = chosen_by (cut_once 63 arguments)

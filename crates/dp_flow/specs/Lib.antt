@@ -1,0 +1,5 @@
+pub mod Conditions
+pub mod Jumps
+pub mod Lawful
+pub mod Plain
+pub mod Touches

@@ -1,0 +1,68 @@
+//! Conditions, and choices between two sides.
+ghost use Rattle.std.specs.Prelude.{◌≡◌};
+ghost use Rattle.std.specs.Option.{option_map};
+ghost use Rattle.dp_conf.specs.Blanks.{trim};
+ghost use Rattle.dp_flow.specs.Conditions as spec;
+
+use dp_conf::{cut_once, cut_outside, trim};
+
+/// Whether all digits of a text are zeros.
+fn all_zeros(text: &[u8]) -> bool
+    ensures { result ≡ spec.all_zeros text.now }
+{
+    text.iter().all(|byte| *byte == b'0')
+}
+
+/// Whether the text is one or more zeros.
+fn is_zeros(text: &[u8]) -> bool
+    ensures { result ≡ spec.is_zeros text.now }
+{
+    match text {
+        [] => false,
+        _ => all_zeros(text),
+    }
+}
+
+/// The text without one minus sign at its front.
+fn unsigned(text: &[u8]) -> &[u8]
+    ensures { result.now ≡ spec.unsigned text.now }
+{
+    match text.split_first() {
+        Some((b'-', rest)) => rest,
+        _ => text,
+    }
+}
+
+/// Whether a condition holds: without its blanks it is neither empty nor a whole number that is zero, however long (a
+/// choice of this program).
+#[tactic(auto, unfolding(crate::specs::Conditions::holds))]
+fn holds(condition: &[u8]) -> bool
+    ensures { result ≡ spec.holds condition.now }
+{
+    let text = trim(condition);
+    !text.is_empty() && !is_zeros(unsigned(text))
+}
+
+/// The side of a choice, where there is more in it than blanks.
+fn present(side: &[u8]) -> Option<&[u8]>
+    ensures { option_map (λ s. s.now) result ≡ spec.present_by side.now (trim side.now) }
+{
+    if trim(side).is_empty() {
+        return None;
+    }
+    Some(side)
+}
+
+/// The side of `CONDITION?SIDE:SIDE` that is taken, where it is there.
+#[tactic(auto, unfolding(crate::specs::Conditions::chosen))]
+pub(crate) fn chosen(arguments: &[u8]) -> Option<&[u8]>
+    ensures { option_map (λ s. s.now) result ≡ spec.chosen arguments.now }
+{
+    let (condition, sides) = cut_once(arguments, b'?')?;
+    match (holds(condition), cut_outside(sides, b':')) {
+        (true, None) => present(sides),
+        (false, None) => None,
+        (true, Some((first, _))) => present(first),
+        (false, Some((_, second))) => present(second),
+    }
+}

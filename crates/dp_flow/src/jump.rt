@@ -1,0 +1,81 @@
+//! The applications that jump, after the Asterisk documentation's pages on `Goto` and `GotoIf`.
+ghost use Rattle.std.specs.Prelude.{◌≡◌, IfOk};
+ghost use Rattle.dp_flow.specs.Jumps as spec;
+
+use crate::choice::chosen;
+use dp_app::{Application, Cell, Move, Parts, Target, Touch};
+use dp_conf::{NoMemory, split_args};
+use std::alloc::Global;
+
+/// A jump to a target by its text.
+fn jump_to(alloc: Global, target: &[u8]) -> Result<Move, NoMemory>
+    ensures { IfOk result (λ going. going ≡ spec.jump_to target.now) }
+{
+    let parts = split_args(alloc, target)?;
+    let parts = Parts::of(alloc, &parts)?;
+    Ok(Move::Jump(Target::Parts(parts)))
+}
+
+/// `Goto([[context,]extension,]priority)`: the channel goes to the target.
+pub struct Goto;
+
+impl Application for Goto {
+    ghost use Rattle.std.specs.Prelude.{codes};
+    ghost use Rattle.dp_flow.specs.Jumps.{goto_row};
+    ghost use Rattle.dp_flow.specs.Lawful.{goto_lawful};
+    ghost use Rattle.dp_flow.specs.Touches.{nothing};
+
+    ghost meaning = { goto_row };
+
+    ghost title = { codes "Goto" };
+
+    ghost TOUCH = { nothing };
+
+    ghost lawful = { goto_lawful };
+
+    const TOUCH: Touch = Touch::NOTHING;
+
+    fn name() -> &'static [u8] {
+        b"Goto"
+    }
+
+    fn apply(alloc: Global, arguments: &[u8], _cell: &mut Cell) -> Result<Move, NoMemory> {
+        let going = jump_to(alloc, arguments)?;
+        Ok(going)
+    }
+}
+
+/// `GotoIf(condition?[target][:target])`: the channel goes to the target on the side that is taken. A side that is not there,
+/// or of blanks alone, is the next priority.
+pub struct GotoIf;
+
+impl Application for GotoIf {
+    ghost use Rattle.std.specs.Prelude.{codes};
+    ghost use Rattle.dp_flow.specs.Jumps.{goto_if_row};
+    ghost use Rattle.dp_flow.specs.Lawful.{goto_if_lawful};
+    ghost use Rattle.dp_flow.specs.Touches.{nothing};
+
+    ghost meaning = { goto_if_row };
+
+    ghost title = { codes "GotoIf" };
+
+    ghost TOUCH = { nothing };
+
+    ghost lawful = { goto_if_lawful };
+
+    const TOUCH: Touch = Touch::NOTHING;
+
+    fn name() -> &'static [u8] {
+        b"GotoIf"
+    }
+
+    fn apply(alloc: Global, arguments: &[u8], _cell: &mut Cell) -> Result<Move, NoMemory> {
+        match chosen(arguments) {
+            None => Ok(Move::Next),
+            Some(side) => {
+                let going = jump_to(alloc, side)?;
+                Ok(going)
+            }
+        }
+    }
+}
