@@ -39,7 +39,7 @@ module _ {B : Type 0} where
   popped : (variables : Named) (outer : List (Frame B)) (frame : Frame B) (name value : List ℕ) (after : StoreOf B)
       → set (record { variables = variables; frames = outer }) name value ≡ after
       → popped_setting (record { variables = variables; frames = outer ++ frame ∷ [] }) name value (innermost (outer ++ frame ∷ []))
-          ≡ (after, option_map (λ f. f.back) (Some frame))
+      ≡ (after, option_map (λ f. f.back) (Some frame))
   popped variables outer frame name value after is =
       ap (popped_setting (record { variables = variables; frames = outer ++ frame ∷ [] }) name value) (innermost-push outer frame)
       ∙ ap (λ frames. (set (record { variables = variables; frames = frames }) name value, Some frame.back)) (front-push outer frame)
@@ -50,26 +50,30 @@ module _ {B : Type 0} where
       → frames ≡ outer ++ frame ∷ [] → place < length outer → Some place ≡ holder name outer
       → changed ≡ changed_at (with_local name value) place frames
       → popped_setting (record { variables = variables; frames = frames }) name value (innermost frames)
-          ≡ (without_frame (record { variables = variables; frames = changed }), option_map (λ f. f.back) (innermost changed))
+      ≡ (without_frame (record { variables = variables; frames = changed }), option_map (λ f. f.back) (innermost changed))
   popped-held variables frames outer changed frame name value place cut within held is =
       let pushed : changed ≡ changed_at (with_local name value) place outer ++ frame ∷ [] =
-          is ∙ ap (changed_at (with_local name value) place) cut ∙ changed_at-front (with_local name value) place outer frame within in
+      is ∙ ap (changed_at (with_local name value) place) cut ∙ changed_at-front (with_local name value) place outer frame within in
       ap (λ fs. popped_setting (record { variables = variables; frames = fs }) name value (innermost fs)) cut
       ∙ popped variables outer frame name value (record { variables = variables; frames = changed_at (with_local name value) place outer })
-          (sym (set-held variables outer name value place _ held refl))
-      ∙ (λ i. (record { variables = variables; frames = sym (front-push (changed_at (with_local name value) place outer) frame) i },
-               option_map (λ f. f.back) (sym (innermost-push (changed_at (with_local name value) place outer) frame) i)))
+      (sym (set-held variables outer name value place _ held refl))
+      ∙ (λ i. (
+        record { variables = variables; frames = sym (front-push (changed_at (with_local name value) place outer) frame) i },
+        option_map (λ f. f.back) (sym (innermost-push (changed_at (with_local name value) place outer) frame) i),
+      ))
       ∙ ap (λ fs. (without_frame (record { variables = variables; frames = fs }), option_map (λ f. f.back) (innermost fs))) (sym pushed)
 
   -- the variable is set
   pub popped-variable : (variables changed : Named) (frames outer : List (Frame B)) (frame : Frame B) (name value : List ℕ)
       → frames ≡ outer ++ frame ∷ [] → None ≡ holder name outer → changed ≡ insert variables name value
       → popped_setting (record { variables = variables; frames = frames }) name value (innermost frames)
-          ≡ (without_frame (record { variables = changed; frames = frames }), option_map (λ f. f.back) (innermost frames))
+      ≡ (without_frame (record { variables = changed; frames = frames }), option_map (λ f. f.back) (innermost frames))
   popped-variable variables changed frames outer frame name value cut absent is =
       ap (λ fs. popped_setting (record { variables = variables; frames = fs }) name value (innermost fs)) cut
       ∙ popped variables outer frame name value (record { variables = changed; frames = outer })
-          (sym (set-variable variables outer name value changed absent is))
-      ∙ (λ i. (record { variables = changed; frames = sym (front-push outer frame) i },
-               option_map (λ f. f.back) (sym (innermost-push outer frame) i)))
+      (sym (set-variable variables outer name value changed absent is))
+      ∙ (λ i. (
+        record { variables = changed; frames = sym (front-push outer frame) i },
+        option_map (λ f. f.back) (sym (innermost-push outer frame) i),
+      ))
       ∙ ap (λ fs. (without_frame (record { variables = changed; frames = fs }), option_map (λ f. f.back) (innermost fs))) (sym cut)
