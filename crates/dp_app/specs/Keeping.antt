@@ -5,7 +5,7 @@ use Rattle.std.proofs.Math.Seq.{take-length}
 use Rattle.dp_queue.specs.Queues.{QueuesOf}
 use Rattle.dp_vars.specs.Stores.{StoreOf}
 use Rattle.dp_app.specs.Laws.{IsGoing, IsLawfulRow, KeepsQueues, KeepsStore, KeepsUntouched, MayGo, waiting_after, waiting_lists}
-use Rattle.dp_app.specs.Rows.{Outcome, Row}
+use Rattle.dp_app.specs.Rows.{Row}
 use Rattle.dp_app.specs.declared.cell.Cell.{Cell}
 use Rattle.dp_app.specs.declared.going.Move.{Move}
 use Rattle.dp_app.specs.declared.going.Move.TheVariants.{Next, Jump, Park, Hang}

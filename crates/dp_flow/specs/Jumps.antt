@@ -1,20 +1,11 @@
 -- Jumps to targets.
-use Rattle.std.specs.Prelude.{ℕ, ◌+◌, ◌-◌, List, [], ◌∷◌, ◌++◌, Option, Some, None, length, slice_get, slice_set, codes}
-use Rattle.std.specs.Fmt.{decimal}
-use Rattle.std.specs.Option.{option_map, option_and_then}
-use Rattle.dp_conf.specs.Blanks.{trim}
-use Rattle.dp_conf.specs.Cut.{cut_once, before_last}
+use Rattle.std.specs.Prelude.{ℕ, List, Option, Some, None}
 use Rattle.dp_conf.specs.Levels.{arguments_of}
-use Rattle.dp_vars.specs.Stores.{StoreOf, innermost, popped_setting, with_frame, without_frame}
-use Rattle.dp_vars.specs.declared.frame.Frame.{Frame}
-use Rattle.dp_vars.specs.declared.variables.Variable.{Variable}
 use Rattle.dp_app.specs.Rows.{Outcome, Row}
 use Rattle.dp_app.specs.declared.cell.Cell.{Cell}
 use Rattle.dp_app.specs.declared.going.Move.{Move}
-use Rattle.dp_app.specs.declared.going.Move.TheVariants.{Next, Jump, Hang}
-use Rattle.dp_app.specs.declared.going.Target.{Target}
-use Rattle.dp_app.specs.declared.going.Target.TheVariants.{To, Existing, Parts}
-use Rattle.dp_app.specs.declared.place.Place.{Place}
+use Rattle.dp_app.specs.declared.going.Move.TheVariants.{Next, Jump}
+use Rattle.dp_app.specs.declared.going.Target.TheVariants.{Parts}
 use Rattle.dp_flow.specs.Conditions.{chosen}
 
 -- the cell stays as it is

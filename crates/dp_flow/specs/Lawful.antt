@@ -1,5 +1,5 @@
 -- Each row keeps the laws of rows with its touch.
-use Rattle.std.specs.Prelude.{◌≡◌, ℕ, Bool, true, false, List, Option, Some, None, refl}
+use Rattle.std.specs.Prelude.{ℕ, List, Option, Some, None, refl}
 use Rattle.dp_app.specs.Keeping.{cell_kept, going_lawful}
 use Rattle.dp_app.specs.Laws.{IsGoing, IsLawfulRow}
 use Rattle.dp_app.specs.declared.cell.Cell.{Cell}

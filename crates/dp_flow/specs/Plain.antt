@@ -1,5 +1,4 @@
 -- The rows of applications that leave the cell as it is.
-use Rattle.std.specs.Prelude.{ℕ, List}
 use Rattle.dp_app.specs.Rows.{Row}
 use Rattle.dp_app.specs.declared.going.Move.TheVariants.{Next, Hang}
 use Rattle.dp_flow.specs.Jumps.{stays}

@@ -1,13 +1,11 @@
 -- The agents behind a change of states.
-use Rattle.std.proofs.Common.{◌≡◌, ◌≢◌, ℕ, zero, suc, ◌<◌, ◌==◌, Bool, true, false, ◌||◌, List, [], ◌∷◌, map, Option, Some, None, refl, sym, length, ap, ◌∙◌, arith, if◌then◌else◌, slice_get, subst}
+use Rattle.std.proofs.Common.{◌≡◌, ℕ, zero, suc, ◌<◌, Bool, true, false, ◌||◌, List, [], ◌∷◌, Option, refl, length, ap, ◌∙◌, arith}
 use Rattle.std.specs.Option.{option_map, unwrap_or}
-use Rattle.std.specs.List.{list_any}
-use Rattle.dp_queue.specs.Agents.{state_at, rings_for, talks_with, is_idle, is_rung, with_state, with_state_at, freed_state, freed, all_freed}
-use Rattle.dp_queue.specs.Changes.{changed_at}
+use Rattle.dp_queue.specs.Agents.{state_at, rings_for, is_idle, is_rung, with_state, with_state_at, freed_state, all_freed}
 use Rattle.dp_queue.specs.declared.agent.Agent.{Agent}
 use Rattle.dp_queue.specs.declared.agent.AgentState.{AgentState}
-use Rattle.dp_queue.specs.declared.agent.AgentState.TheVariants.{Idle, Ringing, Talking}
-use Rattle.dp_queue.proofs.ChangeLemmas.{slice_get-changed_same, slice_get-changed_other}
+use Rattle.dp_queue.specs.declared.agent.AgentState.TheVariants.{Idle}
+use Rattle.dp_queue.proofs.ChangeLemmas.{slice_get-changed_other}
 
 -- the agent of the number is in the new state
 pub state_at-same : (n : ℕ) (s : AgentState) (agents : List Agent) → n < length agents → state_at (with_state_at n s agents) n ≡ s

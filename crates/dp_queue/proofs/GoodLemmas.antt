@@ -1,12 +1,12 @@
 -- Waiting lists and agents stay linked, and seats stay those of the waiting lists, behind each change.
-use Rattle.std.proofs.Common.{◌≡◌, ℕ, zero, suc, ◌+◌, ◌<◌, ◌≤◌, ◌==◌, Bool, true, false, ◌||◌, List, [], ◌∷◌, ◌++◌, map, Option, Some, None, refl, sym, length, ap, ◌∙◌, arith, if◌then◌else◌, slice_get, subst, nat_lt}
+use Rattle.std.proofs.Common.{◌≡◌, ℕ, zero, suc, ◌+◌, ◌<◌, ◌≤◌, ◌==◌, Bool, true, false, ◌||◌, List, [], ◌∷◌, ◌++◌, Option, Some, None, refl, sym, length, ap, ◌∙◌, arith, if◌then◌else◌, subst, nat_lt}
 use Rattle.std.proofs.lemmas.List.{length-map}
 use Rattle.std.proofs.lemmas.Option.{same_Some, none-some}
-use Rattle.std.specs.Option.{option_map, unwrap_or}
+use Rattle.std.specs.Option.{option_map}
 use Rattle.dp_queue.specs.Agents.{agent_number, state_at, is_idle, is_rung, is_talking, rings_for, talks_with, with_state_at, freed_state, all_freed}
 use Rattle.dp_queue.specs.Changes.{changed_at}
 use Rattle.dp_queue.specs.Good.{IsRight, AreLinked}
-use Rattle.dp_queue.specs.Joining.{has_caller, waits_in, times_waiting, with_caller, without_caller}
+use Rattle.dp_queue.specs.Joining.{waits_in, times_waiting, with_caller, without_caller}
 use Rattle.dp_queue.specs.Members.{with_agent}
 use Rattle.dp_queue.specs.Queues.{QueueOf}
 use Rattle.dp_queue.specs.Seats.{seat_at, seat_in, AreSeated, ReplacesSeat}
@@ -14,9 +14,9 @@ use Rattle.dp_queue.specs.declared.agent.Agent.{Agent}
 use Rattle.dp_queue.specs.declared.agent.AgentState.{AgentState}
 use Rattle.dp_queue.specs.declared.agent.AgentState.TheVariants.{Idle, Ringing, Talking}
 use Rattle.dp_queue.specs.declared.seat.Seat.{Seat}
-use Rattle.dp_queue.proofs.AgentLemmas.{state_at-same, state_at-other, state_at-freed, state_at-within, is_rung-same, is_rung-set}
+use Rattle.dp_queue.proofs.AgentLemmas.{state_at-same, state_at-other, state_at-freed, state_at-within, is_rung-same}
 use Rattle.dp_queue.proofs.ChangeLemmas.{length-changed_at}
-use Rattle.dp_queue.proofs.WaitingLemmas.{waits_in-joined, times-joined, times-none, waits_in-left, waits_in-within, times-left, waits_in-same, times-same, lines, lines-changed_at}
+use Rattle.dp_queue.proofs.WaitingLemmas.{waits_in-joined, times-joined, times-none, waits_in-left, waits_in-within, times-left, waits_in-same, times-same, lines}
 use borrow.Author.Tests.{eqb-true, eq-eqb}
 
 -- cases of a test, with what it says

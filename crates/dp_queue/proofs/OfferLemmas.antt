@@ -1,26 +1,26 @@
 -- What an offer asks for, and the agents that come to ring.
-use Rattle.std.proofs.Common.{◌≡◌, ℕ, zero, suc, ◌+◌, ◌<◌, ◌≤◌, ◌==◌, nat_lt, Bool, true, false, not, ◌&&◌, ◌||◌, List, [], ◌∷◌, ◌++◌, Option, Some, None, Result, Ok, Err, refl, sym, length, ap, ◌∙◌, arith, if◌then◌else◌, slice_get, subst, fold}
-use Rattle.std.proofs.lemmas.Option.{same_Some, none-some}
+use Rattle.std.proofs.Common.{◌≡◌, ℕ, zero, suc, ◌+◌, ◌<◌, ◌==◌, nat_lt, Bool, true, false, not, ◌&&◌, ◌||◌, List, [], ◌∷◌, ◌++◌, Option, Some, None, Result, Ok, refl, sym, length, ap, ◌∙◌, arith, if◌then◌else◌, slice_get, subst, fold}
+use Rattle.std.proofs.lemmas.Option.{same_Some}
 use Rattle.std.proofs.lemmas.Bool.{lt-ltb}
-use Rattle.std.specs.Option.{option_map, unwrap_or}
+use Rattle.std.specs.Option.{option_map}
 use Rattle.std.specs.List.{filter, find, list_any}
-use Rattle.dp_queue.specs.Agents.{state_at, is_idle, is_rung, rings_for, talks_with, with_state_at}
+use Rattle.dp_queue.specs.Agents.{state_at, is_idle, is_rung, rings_for, with_state_at}
 use Rattle.dp_queue.specs.Choices.{is_idle_at, is_candidate, least_penalty}
 use Rattle.dp_queue.specs.Good.{AreLinked}
-use Rattle.dp_queue.specs.Joining.{has_caller, waits_in, times_waiting}
+use Rattle.dp_queue.specs.Joining.{has_caller, waits_in}
 use Rattle.dp_queue.specs.Offers.{Rung, with_ring, with_candidate, rung_of, chosen_of, asked_at, asked_in, asked_by, asked_for}
 use Rattle.dp_queue.specs.Queues.{QueueOf}
-use Rattle.dp_queue.specs.Seats.{AreSeated, ReplacesSeat, seat_at, seat_in, is_unrung, is_unrung_in}
+use Rattle.dp_queue.specs.Seats.{AreSeated, ReplacesSeat, seat_in, is_unrung, is_unrung_in}
 use Rattle.dp_queue.specs.declared.agent.Agent.{Agent}
 use Rattle.dp_queue.specs.declared.agent.AgentState.{AgentState}
 use Rattle.dp_queue.specs.declared.agent.AgentState.TheVariants.{Idle, Ringing, Talking}
 use Rattle.dp_queue.specs.declared.member.Member.{Member}
 use Rattle.dp_queue.specs.declared.offer.Asked.{Asked}
 use Rattle.dp_queue.specs.declared.seat.Seat.{Seat}
-use Rattle.dp_queue.proofs.AgentLemmas.{state_at-same, is_rung-same, is_rung-set}
+use Rattle.dp_queue.proofs.AgentLemmas.{is_rung-same, is_rung-set}
 use Rattle.dp_queue.proofs.GoodLemmas.{AreKept, linked-set, seated-replaced, kept-same}
 use Rattle.dp_queue.proofs.WaitingLemmas.{lines, times-none, times-at, waits_in-at}
-use borrow.Author.Tests.{eqb-true, eq-eqb}
+use borrow.Author.Tests.{eq-eqb}
 
 -- an agent that is idle is known
 pub idle-within : (as' : List Agent) (a : ℕ) → is_idle_at as' a ≡ true → a < length as'

@@ -1,5 +1,5 @@
 -- The agents of all queues, and what each of them does.
-use Rattle.std.specs.Prelude.{ℕ, Bool, true, false, ◌==◌, List, length, map, Option, slice_get, if◌then◌else◌}
+use Rattle.std.specs.Prelude.{ℕ, Bool, true, false, ◌==◌, List, length, map, slice_get, if◌then◌else◌}
 use Rattle.std.specs.List.{list_any, position}
 use Rattle.std.specs.Option.{option_map, unwrap_or}
 use Rattle.dp_conf.specs.Words.{same_text}

@@ -1,5 +1,5 @@
 -- The members of a queue that an offer may ring, and those of them that a strategy chooses.
-use Rattle.std.specs.Prelude.{ℕ, ◌+◌, Bool, false, not, ◌&&◌, ◌==◌, nat_lt, List, [], ◌∷◌, ◌++◌, take, drop, fold, Option, Some, None, slice_get, if◌then◌else◌}
+use Rattle.std.specs.Prelude.{ℕ, ◌+◌, Bool, false, not, ◌&&◌, ◌==◌, nat_lt, List, ◌++◌, take, drop, fold, Option, Some, None, slice_get, if◌then◌else◌}
 use Rattle.std.specs.List.{filter, find, position}
 use Rattle.std.specs.Option.{option_map, option_to_list, unwrap_or}
 use Rattle.dp_queue.specs.Agents.{is_idle}

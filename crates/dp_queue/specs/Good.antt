@@ -1,5 +1,5 @@
 -- What is true of the waiting lists and the agents at all times.
-use Rattle.std.specs.Prelude.{◌≡◌, ℕ, ◌≤◌, ◌<◌, true, List, length, Option, Some, None}
+use Rattle.std.specs.Prelude.{◌≡◌, ℕ, ◌≤◌, ◌<◌, true, List, length, Some, None}
 use Rattle.dp_queue.specs.Agents.{state_at, talks_with}
 use Rattle.dp_queue.specs.Joining.{waits_in, times_waiting}
 use Rattle.dp_queue.specs.Queues.{QueueOf, QueuesOf}

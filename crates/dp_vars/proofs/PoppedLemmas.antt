@@ -1,10 +1,10 @@
 -- A name that is set below the innermost frame, which is dropped then.
-use Rattle.std.proofs.Common.{◌≡◌, ◌<◌, ◌-◌, ℕ, zero, suc, List, [], ◌∷◌, ◌++◌, Option, Some, None, refl, sym, ap, ◌∙◌, length, take, slice_get, arith}
+use Rattle.std.proofs.Common.{◌≡◌, ◌<◌, ◌-◌, ℕ, zero, suc, List, [], ◌∷◌, ◌++◌, Some, None, refl, sym, ap, ◌∙◌, length, take, slice_get, arith}
 use Rattle.std.proofs.lemmas.List.{length-append}
 use Rattle.std.specs.Option.{option_map}
 use Rattle.std.specs.FinMap.{insert}
 use Rattle.dp_vars.specs.Variables.{Named}
-use Rattle.dp_vars.specs.Stores.{StoreOf, holder, changed_at, innermost, popped_setting, set, set_in, with_local, without_frame}
+use Rattle.dp_vars.specs.Stores.{StoreOf, holder, changed_at, innermost, popped_setting, set, with_local, without_frame}
 use Rattle.dp_vars.specs.declared.frame.Frame.{Frame}
 use Rattle.dp_vars.proofs.StoresLemmas.{set-held, set-variable}
 

@@ -1,6 +1,6 @@
 -- The values of names, by the maps in which they are searched.
-use Rattle.std.proofs.Common.{◌≡◌, ℕ, Bool, true, false, cond, eqb, List, [], ◌∷◌, ◌++◌, Option, Some, None, unwrap_or, map, refl, sym, ap, ◌∙◌}
-use Rattle.std.specs.Option.{option_map, option_map_or, option_or}
+use Rattle.std.proofs.Common.{◌≡◌, ℕ, Bool, true, false, cond, List, [], ◌∷◌, ◌++◌, Option, Some, None, unwrap_or, map, refl, sym, ap, ◌∙◌}
+use Rattle.std.specs.Option.{option_map, option_or}
 use Rattle.std.specs.FinMap.{get}
 use Rattle.std.specs.Map.{lookup}
 use Rattle.dp_conf.specs.Words.{same_text}

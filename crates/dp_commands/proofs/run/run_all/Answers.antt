@@ -1,4 +1,4 @@
-use Rattle.std.proofs.Common.{List, ℕ, Ok, subst}
+use Rattle.std.proofs.Common.{List, ℕ, subst}
 use Rattle.dp_commands.specs.Run.{Streams, run_on}
 use Rattle.dp_commands.specs.Script.{turns_of}
 use Rattle.dp_commands.proofs.StreamsLemmas.{Writes-ends, told-ends}

@@ -1,7 +1,7 @@
-use Rattle.std.proofs.Common.{◌≡◌, length, List, fold}
+use Rattle.std.proofs.Common.{◌≡◌, length, fold}
 use Rattle.std.specs.List.{filter}
 use Rattle.std.specs.Option.{option_copied}
-use Rattle.dp_queue.specs.Choices.{is_eligible, is_candidate, rank, lesser, first_least}
+use Rattle.dp_queue.specs.Choices.{is_eligible, lesser, first_least}
 use Rattle.dp_queue.specs.declared.member.Member.{Member}
 use Rattle.dp_queue.proofs.choice.least_penalty.Given as goal
 

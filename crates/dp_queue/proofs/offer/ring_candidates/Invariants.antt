@@ -1,5 +1,5 @@
 use Rattle.std.proofs.Common.{◌≡◌, ◌≤◌, ◌+◌, length, fold}
-use Rattle.dp_queue.specs.Offers.{Rung, with_candidate}
+use Rattle.dp_queue.specs.Offers.{with_candidate}
 use Rattle.dp_queue.proofs.offer.ring_candidates.Given as goal
 
 abbrev pub invariant-loop-member : goal.invariant-loop-member

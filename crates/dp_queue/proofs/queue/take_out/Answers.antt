@@ -1,5 +1,4 @@
-use Rattle.std.proofs.Common.{◌==◌, sym, ◌∙◌, arith}
-use Rattle.std.proofs.lemmas.Grind.{common_steps}
+use Rattle.std.proofs.Common.{◌==◌, sym, ◌∙◌}
 use Rattle.dp_queue.proofs.ChangeLemmas.{remove-at_position, without-no_position, OnSome-some}
 use Rattle.dp_queue.proofs.queue.take_out.Goals as goal
 

@@ -1,4 +1,4 @@
-use Rattle.std.proofs.Common.{ap, sym, ◌∙◌, ◌<◌, length, arith}
+use Rattle.std.proofs.Common.{ap, ◌∙◌, length, arith}
 use Rattle.dp_queue.specs.Agents.{is_talking}
 use Rattle.dp_queue.specs.Joining.{waits_in}
 use Rattle.dp_queue.specs.Queues.{QueuesOf}
