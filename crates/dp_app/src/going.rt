@@ -1,5 +1,5 @@
 //! Where a channel goes behind an application.
-ghost use Rattle.std.specs.Prelude.{◌≡◌, IfOk, map};
+ghost use Rattle.std.specs.Prelude.{◌≡◌, ◌++◌, [], ◌∷◌, IfOk, map};
 
 use crate::phase::Phase;
 use crate::place::Place;
@@ -32,6 +32,16 @@ impl Parts {
             texts.push(text)?;
         }
         Ok(Parts { parts: texts })
+    }
+
+    /// The parts with one more behind them, as texts of their own.
+    pub fn with_last(alloc: Global, front: &[&[u8]], last: &[u8]) -> Result<Self, NoMemory>
+        ensures { IfOk result (λ made. made ≡ map (λ part. part.now) front.now ++ last.now ∷ []) }
+    {
+        let mut parts = Parts::of(alloc, front)?;
+        let last = Text::copy_of(alloc, last)?;
+        parts.parts.push(last)?;
+        Ok(parts)
     }
 
     /// The parts in their order.

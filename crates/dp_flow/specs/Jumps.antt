@@ -1,11 +1,18 @@
--- Jumps to targets.
-use Rattle.std.specs.Prelude.{ℕ, List, Option, Some, None}
+-- Jumps to targets, subroutines and their ends.
+use Rattle.std.specs.Prelude.{ℕ, ◌+◌, ◌-◌, List, [], ◌∷◌, ◌++◌, Option, Some, None, length, slice_get, take, codes}
+use Rattle.std.specs.Fmt.{decimal}
+use Rattle.std.specs.Option.{option_map, option_and_then}
+use Rattle.dp_conf.specs.Blanks.{trim}
+use Rattle.dp_conf.specs.Cut.{cut_once, before_last}
 use Rattle.dp_conf.specs.Levels.{arguments_of}
+use Rattle.dp_vars.specs.Stores.{StoreOf, innermost, popped_setting, with_frame, without_frame}
+use Rattle.dp_vars.specs.declared.variables.Variable.{Variable}
 use Rattle.dp_app.specs.Rows.{Outcome, Row}
 use Rattle.dp_app.specs.declared.cell.Cell.{Cell}
 use Rattle.dp_app.specs.declared.going.Move.{Move}
-use Rattle.dp_app.specs.declared.going.Move.TheVariants.{Next, Jump}
-use Rattle.dp_app.specs.declared.going.Target.TheVariants.{Parts}
+use Rattle.dp_app.specs.declared.going.Move.TheVariants.{Next, Jump, Hang}
+use Rattle.dp_app.specs.declared.going.Target.TheVariants.{To, Existing, Parts}
+use Rattle.dp_app.specs.declared.place.Place.{Place}
 use Rattle.dp_flow.specs.Conditions.{chosen}
 
 -- the cell stays as it is
@@ -28,3 +35,76 @@ jump_if (Some side) = jump_to side
 -- the row of `GotoIf`
 abbrev pub goto_if_row : Row
 goto_if_row arguments cell = stays cell (jump_if (chosen arguments))
+
+-- the priority of a subroutine, and the arguments for it
+pub record Called : Type 0 where
+  pub priority : List ℕ
+  pub arguments : List (List ℕ)
+
+-- the arguments between a target's parentheses; there is none between `()`
+abbrev pub inner_arguments : List ℕ → List (List ℕ)
+inner_arguments [] = []
+inner_arguments (b ∷ bs) = arguments_of (b ∷ bs)
+
+-- the last part of a subroutine's target, by its first `(`: the arguments end at the last `)` behind it, without which there
+-- is no target
+abbrev pub called_by : List ℕ → Option (List ℕ × List ℕ) → Option Called
+called_by part None = Some (record { priority = part; arguments = [] })
+called_by part (Some cut) =
+    option_map (λ inside. record { priority = trim cut.0; arguments = inner_arguments inside }) (before_last 41 cut.1)
+
+-- the last part of a subroutine's target
+abbrev pub called : List (List ℕ) → Option Called
+called parts = option_and_then (λ part. called_by part (cut_once 40 part)) (slice_get parts (length parts - 1))
+
+-- the locals of a subroutine: `ARG1`, `ARG2` and so on, from a number on
+abbrev pub numbered : ℕ → List (List ℕ) → List Variable
+numbered number [] = []
+numbered number (value ∷ values) = record { name = codes "ARG" ++ decimal number; value = value } ∷ numbered (number + 1) values
+
+-- the place behind a place
+abbrev pub place_after : Place → Place
+place_after place = record { context = place.context; exten = place.exten; priority = place.priority + 1 }
+
+-- a subroutine is entered, by the parts before the last one: a frame is pushed that goes back to the place behind this one
+abbrev pub entered : Cell → List (List ℕ) → Option Called → Outcome
+entered cell front None = stays cell Hang
+entered cell front (Some c) = record {
+  cell = record cell { store = with_frame cell.store (place_after cell.place) (numbered 1 c.arguments) };
+  next = Jump (Existing (front ++ c.priority ∷ []));
+}
+
+-- a subroutine is entered by its target's parts
+abbrev pub gosub_parts : List (List ℕ) → Cell → Outcome
+gosub_parts parts cell = entered cell (take (length parts - 1) parts) (called parts)
+
+-- the row of `Gosub`
+unfoldable pub gosub_row : Row
+gosub_row arguments cell = gosub_parts (arguments_of arguments) cell
+
+-- a subroutine is entered by the side that is taken, where one is
+abbrev pub gosub_if : Option (List ℕ) → Cell → Outcome
+gosub_if None cell = stays cell Next
+gosub_if (Some side) cell = gosub_row side cell
+
+-- the row of `GosubIf`
+unfoldable pub gosub_if_row : Row
+gosub_if_row arguments cell = gosub_if (chosen arguments) cell
+
+-- the channel goes back to a place, where there is one
+abbrev pub back_to : Option Place → Move
+back_to None = Hang
+back_to (Some place) = Jump (To place)
+
+-- the end of a subroutine, by the store and the place that its frame leaves
+abbrev pub returned : Cell → StoreOf Place × Option Place → Outcome
+returned cell popped = record { cell = record cell { store = popped.0 }; next = back_to popped.1 }
+
+-- the row of `Return`: the innermost frame goes, and then the value is set
+unfoldable pub return_row : Row
+return_row arguments cell =
+    returned cell (popped_setting cell.store (codes "GOSUB_RETVAL") arguments (innermost cell.store.frames))
+
+-- the row of `StackPop`
+abbrev pub stack_pop_row : Row
+stack_pop_row arguments cell = record { cell = record cell { store = without_frame cell.store }; next = Next }

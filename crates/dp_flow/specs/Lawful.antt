@@ -1,14 +1,25 @@
 -- Each row keeps the laws of rows with its touch.
-use Rattle.std.specs.Prelude.{ℕ, List, Option, Some, None, refl}
-use Rattle.dp_app.specs.Keeping.{cell_kept, going_lawful}
-use Rattle.dp_app.specs.Laws.{IsGoing, IsLawfulRow}
+use Rattle.std.specs.Prelude.{◌≡◌, ℕ, Bool, true, false, List, [], ◌∷◌, ◌-◌, length, take, Option, Some, None, codes, refl, if◌then◌else◌}
+use Rattle.std.specs.FinMap.{insert}
+use Rattle.dp_conf.specs.Blanks.{trim}
+use Rattle.dp_conf.specs.Cut.{cut_once}
+use Rattle.dp_conf.specs.Levels.{arguments_of}
+use Rattle.dp_conf.specs.Words.{same_text}
+use Rattle.dp_vars.specs.Stores.{innermost, popped_setting, set, set_local, with_frame, without_frame}
+use Rattle.dp_vars.specs.declared.frame.Frame.{Frame}
+use Rattle.dp_app.specs.Keeping.{cell_kept, going_lawful, store_kept}
+use Rattle.dp_app.specs.Laws.{IsGoing, IsLawfulRow, KeepsUntouched}
 use Rattle.dp_app.specs.declared.cell.Cell.{Cell}
+use Rattle.dp_app.specs.declared.place.Place.{Place}
 use Rattle.dp_app.specs.declared.going.Move.{Move}
 use Rattle.dp_app.specs.declared.going.Move.TheVariants.{Next, Hang}
 use Rattle.dp_flow.specs.Conditions.{chosen}
 use Rattle.dp_flow.specs.Jumps as jumps
 use Rattle.dp_flow.specs.Plain as plain
-use Rattle.dp_flow.specs.Touches.{nothing}
+use Rattle.dp_flow.specs.Jumps.{Called}
+use Rattle.dp_flow.specs.Settings as settings
+use Rattle.dp_flow.specs.StoreKept.{dropped_kept, pushed_kept, set_kept, set_local_kept, with_caller_kept, with_globals_kept, with_store_kept}
+use Rattle.dp_flow.specs.Touches.{nothing, settable, the_frames, variables_and_frames}
 
 -- a row that leaves the cell as it is and parks the channel nowhere
 staying : (move_of : List ℕ → Cell → Move) → ((arguments : List ℕ) (cell : Cell) → IsGoing (move_of arguments cell))
@@ -35,3 +46,135 @@ next_lawful = staying (λ arguments cell. Next) (λ arguments cell. tt)
 -- a row that ends the call
 pub hangup_lawful : IsLawfulRow nothing plain.hangup_row
 hangup_lawful = staying (λ arguments cell. Hang) (λ arguments cell. tt)
+
+-- the parts before the last one
+abbrev front_of : List (List ℕ) → List (List ℕ)
+front_of parts = take (length parts - 1) parts
+
+-- a subroutine that is entered pushes a frame at most
+entered_kept : (cell : Cell) (parts : List (List ℕ)) (o : Option Called) → KeepsUntouched the_frames cell (jumps.entered cell parts o).cell
+entered_kept cell parts None = cell_kept the_frames cell
+entered_kept cell parts (Some c) =
+    with_store_kept the_frames cell (with_frame cell.store (jumps.place_after cell.place) (jumps.numbered 1 c.arguments))
+    (pushed_kept the_frames cell.store (jumps.place_after cell.place) (jumps.numbered 1 c.arguments) refl)
+
+entered_same : (cell : Cell) (parts : List (List ℕ)) (o : Option Called) → (jumps.entered cell parts o).cell.queues ≡ cell.queues
+entered_same cell parts None = refl
+entered_same cell parts (Some c) = refl
+
+entered_going : (cell : Cell) (parts : List (List ℕ)) (o : Option Called) → IsGoing (jumps.entered cell parts o).next
+entered_going cell parts None = tt
+entered_going cell parts (Some c) = tt
+
+-- the row of `Gosub`
+pub gosub_lawful : IsLawfulRow the_frames jumps.gosub_row
+unfolding jumps.gosub_row
+gosub_lawful = going_lawful the_frames jumps.gosub_row
+    (λ arguments cell. entered_kept cell (front_of (arguments_of arguments)) (jumps.called (arguments_of arguments)))
+    (λ arguments cell. entered_same cell (front_of (arguments_of arguments)) (jumps.called (arguments_of arguments)))
+    (λ arguments cell. entered_going cell (front_of (arguments_of arguments)) (jumps.called (arguments_of arguments)))
+
+gosub_if_kept : (cell : Cell) (side : Option (List ℕ)) → KeepsUntouched the_frames cell (jumps.gosub_if side cell).cell
+gosub_if_kept cell None = cell_kept the_frames cell
+gosub_if_kept cell (Some side) = gosub_lawful.keeps side cell
+
+gosub_if_same : (cell : Cell) (side : Option (List ℕ)) → (jumps.gosub_if side cell).cell.queues ≡ cell.queues
+unfolding jumps.gosub_row
+gosub_if_same cell None = refl
+gosub_if_same cell (Some side) = entered_same cell (front_of (arguments_of side)) (jumps.called (arguments_of side))
+
+gosub_if_going : (cell : Cell) (side : Option (List ℕ)) → IsGoing (jumps.gosub_if side cell).next
+unfolding jumps.gosub_row
+gosub_if_going cell None = tt
+gosub_if_going cell (Some side) = entered_going cell (front_of (arguments_of side)) (jumps.called (arguments_of side))
+
+-- the row of `GosubIf`
+pub gosub_if_lawful : IsLawfulRow the_frames jumps.gosub_if_row
+unfolding jumps.gosub_if_row
+gosub_if_lawful = going_lawful the_frames jumps.gosub_if_row
+    (λ arguments cell. gosub_if_kept cell (chosen arguments))
+    (λ arguments cell. gosub_if_same cell (chosen arguments))
+    (λ arguments cell. gosub_if_going cell (chosen arguments))
+
+-- the end of a subroutine, by the frame that goes
+module _ (cell : Cell) (value : List ℕ) where
+  return_kept : (o : Option (Frame Place))
+      → KeepsUntouched variables_and_frames cell (jumps.returned cell (popped_setting cell.store (codes "GOSUB_RETVAL") value o)).cell
+  return_kept None = with_store_kept variables_and_frames cell cell.store (store_kept variables_and_frames cell.store)
+  return_kept (Some frame) =
+      with_store_kept variables_and_frames cell (set (without_frame cell.store) (codes "GOSUB_RETVAL") value)
+      (set_kept variables_and_frames cell.store (without_frame cell.store) (codes "GOSUB_RETVAL") value refl
+      (dropped_kept variables_and_frames cell.store refl))
+
+  return_same : (o : Option (Frame Place)) → (jumps.returned cell (popped_setting cell.store (codes "GOSUB_RETVAL") value o)).cell.queues ≡ cell.queues
+  return_same None = refl
+  return_same (Some frame) = refl
+
+  return_going : (o : Option (Frame Place)) → IsGoing (jumps.returned cell (popped_setting cell.store (codes "GOSUB_RETVAL") value o)).next
+  return_going None = tt
+  return_going (Some frame) = tt
+
+-- the row of `Return`
+pub return_lawful : IsLawfulRow variables_and_frames jumps.return_row
+unfolding jumps.return_row
+return_lawful = going_lawful variables_and_frames jumps.return_row
+    (λ arguments cell. return_kept cell arguments (innermost cell.store.frames))
+    (λ arguments cell. return_same cell arguments (innermost cell.store.frames))
+    (λ arguments cell. return_going cell arguments (innermost cell.store.frames))
+
+-- the row of `StackPop`
+pub stack_pop_lawful : IsLawfulRow the_frames jumps.stack_pop_row
+stack_pop_lawful = going_lawful the_frames jumps.stack_pop_row
+    (λ arguments cell. with_store_kept the_frames cell (without_frame cell.store) (dropped_kept the_frames cell.store refl))
+    (λ arguments cell. refl) (λ arguments cell. tt)
+
+-- what a name that is set leaves of a cell
+record SetsOnly (before after : Cell) : Type 0 where
+  keeps : KeepsUntouched settable before after
+  same : after.queues ≡ before.queues
+
+module _ (cell : Cell) (argument value : List ℕ) where
+  caller_only : (b : Bool) → SetsOnly cell (if b then record cell { caller = value } else cell)
+  caller_only true = record { keeps = with_caller_kept settable cell value refl; same = refl }
+  caller_only false = record { keeps = cell_kept settable cell; same = refl }
+
+  function_only : (g l c n : Bool) → SetsOnly cell
+      (if g then record cell { globals = insert cell.globals argument value }
+      else if l then record cell { store = set_local cell.store argument value }
+      else if c then (if n then record cell { caller = value } else cell)
+      else cell)
+  function_only true l c n = record { keeps = with_globals_kept settable cell (insert cell.globals argument value) refl; same = refl }
+  function_only false true c n =
+      record { keeps = with_store_kept settable cell (set_local cell.store argument value) (set_local_kept settable cell.store argument value refl); same = refl }
+  function_only false false true n = caller_only n
+  function_only false false false n = record { keeps = cell_kept settable cell; same = refl }
+
+  variable_only : (name : List ℕ) → SetsOnly cell (settings.with_variable cell name value)
+  variable_only [] = record { keeps = cell_kept settable cell; same = refl }
+  variable_only (b ∷ bs) = record {
+    keeps = with_store_kept settable cell (set cell.store (b ∷ bs) value)
+        (set_kept settable cell.store cell.store (b ∷ bs) value refl (store_kept settable cell.store));
+    same = refl;
+  }
+
+called_only : (cell : Cell) (function value : List ℕ) (o : Option (List ℕ)) → SetsOnly cell (settings.with_called cell function o value)
+called_only cell function value None = record { keeps = cell_kept settable cell; same = refl }
+called_only cell function value (Some argument) =
+    function_only cell argument value (same_text function (codes "GLOBAL")) (same_text function (codes "LOCAL"))
+    (same_text function (codes "CALLERID")) (same_text argument (codes "num"))
+
+name_only : (cell : Cell) (name value : List ℕ) (o : Option (List ℕ × List ℕ)) → SetsOnly cell (settings.with_name cell name o value)
+name_only cell name value None = variable_only cell [] value name
+name_only cell name value (Some cut) = called_only cell cut.0 value (settings.argument_of cut.1)
+
+pair_only : (cell : Cell) (o : Option (List ℕ × List ℕ)) → SetsOnly cell (settings.with_pair cell o)
+pair_only cell None = record { keeps = cell_kept settable cell; same = refl }
+pair_only cell (Some cut) = name_only cell (trim cut.0) cut.1 (cut_once 40 (trim cut.0))
+
+-- the row of `Set`
+pub set_lawful : IsLawfulRow settable settings.set_row
+unfolding settings.set_row
+set_lawful = going_lawful settable settings.set_row
+    (λ arguments cell. (pair_only cell (cut_once 61 arguments)).keeps)
+    (λ arguments cell. (pair_only cell (cut_once 61 arguments)).same)
+    (λ arguments cell. tt)

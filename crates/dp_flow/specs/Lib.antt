@@ -1,5 +1,8 @@
+pub mod Calls
 pub mod Conditions
 pub mod Jumps
 pub mod Lawful
 pub mod Plain
+pub mod Settings
+pub mod StoreKept
 pub mod Touches

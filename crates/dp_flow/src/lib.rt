@@ -1,10 +1,16 @@
-//! The applications of the flow of a call, after the Asterisk documentation's application reference: jumps, and those that
-//! media is left out of.
+//! The applications of the flow of a call, after the Asterisk documentation's application reference: jumps, subroutines,
+//! variables, and those that media is left out of.
 #![tactic(auto)]
 
 mod choice;
+mod gosub;
 mod jump;
+mod noop;
 mod plain;
+mod setting;
 
+pub use gosub::{Gosub, GosubIf, Return, StackPop};
 pub use jump::{Goto, GotoIf};
-pub use plain::{Answer, Hangup, NoOp, Playback, Verbose};
+pub use noop::NoOp;
+pub use plain::{Answer, Hangup, Playback, Verbose};
+pub use setting::Set;

@@ -1,0 +1,55 @@
+-- The row of `Set`.
+use Rattle.std.specs.Prelude.{ℕ, ◌+◌, ◌==◌, List, [], ◌∷◌, Option, Some, None, length, codes, if◌then◌else◌}
+use Rattle.std.specs.FinMap.{insert}
+use Rattle.std.specs.Option.{option_and_then}
+use Rattle.dp_conf.specs.Blanks.{trim}
+use Rattle.dp_conf.specs.Cut.{before_last, cut_once}
+use Rattle.dp_conf.specs.Words.{same_text}
+use Rattle.dp_vars.specs.Stores.{set, set_local}
+use Rattle.dp_app.specs.Rows.{Row}
+use Rattle.dp_app.specs.declared.cell.Cell.{Cell}
+use Rattle.dp_app.specs.declared.going.Move.TheVariants.{Next}
+
+-- what stands before a `)`, if that is the last byte
+abbrev pub closed : List ℕ → List ℕ → Option (List ℕ)
+closed behind front = if length front + 1 == length behind then Some front else None
+
+-- the argument of a function by what stands behind its `(`: the `)` has to be the last byte
+abbrev pub argument_of : List ℕ → Option (List ℕ)
+argument_of behind = option_and_then (closed behind) (before_last 41 behind)
+
+-- a function of an argument is set; names of other functions have no effect
+abbrev pub with_function : Cell → List ℕ → List ℕ → List ℕ → Cell
+with_function cell function argument value =
+    if same_text function (codes "GLOBAL") then record cell { globals = insert cell.globals argument value }
+    else if same_text function (codes "LOCAL") then record cell { store = set_local cell.store argument value }
+    else if same_text function (codes "CALLERID") then (if same_text argument (codes "num") then record cell { caller = value } else cell)
+    else cell
+
+-- a function is set, where it has an argument
+abbrev pub with_called : Cell → List ℕ → Option (List ℕ) → List ℕ → Cell
+with_called cell function None value = cell
+with_called cell function (Some argument) value = with_function cell function argument value
+
+-- a variable is set; the empty name has no effect
+abbrev pub with_variable : Cell → List ℕ → List ℕ → Cell
+with_variable cell [] value = cell
+with_variable cell (b ∷ bs) value = record cell { store = set cell.store (b ∷ bs) value }
+
+-- a name is set, by its first `(`: with one it is a function
+abbrev pub with_name : Cell → List ℕ → Option (List ℕ × List ℕ) → List ℕ → Cell
+with_name cell name None value = with_variable cell name value
+with_name cell name (Some cut) value = with_called cell cut.0 (argument_of cut.1) value
+
+-- a name is set
+abbrev pub with_value : Cell → List ℕ → List ℕ → Cell
+with_value cell name value = with_name cell name (cut_once 40 name) value
+
+-- what stands before the first `=` is the name, and what stands behind it the value; with no `=` there is no effect
+abbrev pub with_pair : Cell → Option (List ℕ × List ℕ) → Cell
+with_pair cell None = cell
+with_pair cell (Some cut) = with_value cell (trim cut.0) cut.1
+
+-- the row of `Set`
+unfoldable pub set_row : Row
+set_row arguments cell = record { cell = with_pair cell (cut_once 61 arguments); next = Next }

@@ -1,0 +1,285 @@
+//! Subroutines, after the Asterisk documentation's pages on `Gosub`, `GosubIf`, `Return` and `StackPop`.
+ghost use Rattle.std.specs.Prelude.{◌≡◌, ◌+◌, ◌++◌, ◌≤◌, ◌<◌, ◌^◌, [], ◌∷◌, Some, IfOk, OnOk, OnErr, codes, length, map};
+ghost use Rattle.std.specs.Fmt.{decimal};
+ghost use Rattle.std.specs.Option.{option_map};
+ghost use Rattle.dp_conf.specs.Cut.{cut_once};
+ghost use Rattle.dp_app.specs.Laws.{most_priority};
+ghost use Rattle.dp_flow.specs.Calls as calls;
+ghost use Rattle.dp_flow.specs.Jumps as spec;
+
+use crate::choice::chosen;
+use dp_app::{Application, Cell, Move, Parts, Place, Target, Touch};
+use dp_conf::{NoMemory, Text, before_last, cut_once, split_args, trim};
+use dp_vars::Variable;
+use itoa::Buffer;
+use std::alloc::Global;
+
+/// The priority of a subroutine, and the text of the arguments for it, where it has some.
+#[derive(Clone, Copy)]
+struct Called<'a> {
+    priority: &'a [u8],
+    arguments: &'a [u8],
+}
+
+/// The last part of a subroutine's target. Its arguments stand between its first `(` and its last `)`, and with no `)` it is
+/// no target (a choice of this program).
+fn called_by(part: &[u8]) -> Option<Called<'_>>
+    ensures { option_map calls.called_now result ≡ spec.called_by part.now (cut_once 40 part.now) }
+{
+    match cut_once(part, b'(') {
+        None => Some(Called {
+            priority: part,
+            arguments: b"",
+        }),
+        Some((priority, behind)) => {
+            let arguments = before_last(behind, b')')?;
+            Some(Called {
+                priority: trim(priority),
+                arguments,
+            })
+        }
+    }
+}
+
+/// `ARG` and the number.
+fn argument_name(alloc: Global, number: usize) -> Result<Text, NoMemory>
+    ensures { IfOk result (λ name. name ≡ codes "ARG" ++ decimal number) }
+{
+    let mut name = Vec::from_slice(alloc, b"ARG")?;
+    let mut buffer = Buffer::new();
+    name.extend_from_slice(buffer.format(number).as_bytes())?;
+    Ok(Text::new(name))
+}
+
+/// Adds the local of a number.
+fn push_local(
+    alloc: Global,
+    locals: &mut Vec<Variable>,
+    number: usize,
+    value: &[u8],
+) -> Result<(), NoMemory>
+    ensures { OnOk result (locals.new.items ≡ locals.old.items ++ spec.numbered number (value.now ∷ [])) }
+{
+    let name = argument_name(alloc, number)?;
+    let value = Text::copy_of(alloc, value)?;
+    locals.push(Variable { name, value })?;
+    Ok(())
+}
+
+/// The locals of a subroutine by its arguments' text: `ARG1`, `ARG2` and so on.
+fn locals_of(alloc: Global, arguments: &[u8]) -> Result<Vec<Variable>, NoMemory>
+    ensures { IfOk result (λ locals. locals.items ≡ spec.numbered 1 (spec.inner_arguments arguments.now)) }
+{
+    let mut locals = Vec::new(alloc);
+    if arguments.is_empty() {
+        return Ok(locals);
+    }
+    let values = split_args(alloc, arguments)?;
+    let mut number: usize = 0;
+    for value in &values {
+        number += 1;
+        push_local(alloc, &mut locals, number, value)?;
+    }
+    Ok(locals)
+}
+
+/// The place behind a place.
+fn place_after(place: &Place) -> Result<Place, NoMemory>
+    requires { place.now.priority ≤ most_priority }
+    ensures { IfOk result (λ after. after ≡ spec.place_after place.now) }
+{
+    let mut after = place.clone()?;
+    after.priority += 1;
+    Ok(after)
+}
+
+/// A subroutine is entered, by the parts of its target, of which the last one is apart. After a refused growth the cell is
+/// as before.
+fn enter(
+    alloc: Global,
+    front: &[&[u8]],
+    called: Called<'_>,
+    cell: &mut Cell,
+) -> Result<Move, NoMemory>
+    requires { cell.old.place.priority ≤ most_priority }
+    ensures ok { IfOk result (λ going. spec.entered cell.old (map (λ part. part.now) front.now) (Some (calls.called_now called.entry)) ≡ record { cell = cell.new; next = going }) }
+    ensures err { OnErr result (cell.new ≡ cell.old) }
+{
+    let target = Parts::with_last(alloc, front, called.priority)?;
+    let locals = locals_of(alloc, called.arguments)?;
+    let back = place_after(&cell.place)?;
+    cell.store.push_frame(alloc, back, &locals)?;
+    Ok(Move::Jump(Target::Existing(target)))
+}
+
+/// A subroutine is entered by the parts of its target. After a refused growth the cell is as before.
+fn enter_by_parts(alloc: Global, parts: &[&[u8]], cell: &mut Cell) -> Result<Move, NoMemory>
+    requires { cell.old.place.priority ≤ most_priority }
+    ensures ok { IfOk result (λ going. spec.gosub_parts (map (λ part. part.now) parts.now) cell.old ≡ record { cell = cell.new; next = going }) }
+    ensures err { OnErr result (cell.new ≡ cell.old) }
+{
+    let Some((last, front)) = parts.split_last() else {
+        return Ok(Move::Hang);
+    };
+    let Some(called) = called_by(last) else {
+        return Ok(Move::Hang);
+    };
+    let going = enter(alloc, front, called, cell)?;
+    Ok(going)
+}
+
+/// A subroutine is entered by the text of its target. After a refused growth the cell is as before.
+#[tactic(auto, unfolding(crate::specs::Jumps::gosub_row))]
+fn enter_by_text(alloc: Global, target: &[u8], cell: &mut Cell) -> Result<Move, NoMemory>
+    requires { cell.old.place.priority ≤ most_priority }
+    ensures ok { IfOk result (λ going. spec.gosub_row target.now cell.old ≡ record { cell = cell.new; next = going }) }
+    ensures err { OnErr result (cell.new ≡ cell.old) }
+{
+    let parts = split_args(alloc, target)?;
+    let going = enter_by_parts(alloc, &parts, cell)?;
+    Ok(going)
+}
+
+/// `Gosub([[context,]extension,]priority[(arguments)])`: a frame is pushed that goes back to the place behind this one, with
+/// the arguments as its locals `ARG1`, `ARG2` and so on, and the channel goes to the target if an entry is found there.
+pub struct Gosub;
+
+impl Application for Gosub {
+    ghost use Rattle.std.specs.Prelude.{codes};
+    ghost use Rattle.dp_flow.specs.Jumps.{gosub_row};
+    ghost use Rattle.dp_flow.specs.Lawful.{gosub_lawful};
+    ghost use Rattle.dp_flow.specs.Touches.{the_frames};
+
+    ghost meaning = { gosub_row };
+
+    ghost title = { codes "Gosub" };
+
+    ghost TOUCH = { the_frames };
+
+    ghost lawful = { gosub_lawful };
+
+    const TOUCH: Touch = Touch {
+        frames: true,
+        ..Touch::NOTHING
+    };
+
+    fn name() -> &'static [u8] {
+        b"Gosub"
+    }
+
+    fn apply(alloc: Global, arguments: &[u8], cell: &mut Cell) -> Result<Move, NoMemory> {
+        let going = enter_by_text(alloc, arguments, cell)?;
+        Ok(going)
+    }
+}
+
+/// `GosubIf(condition?[target][:target])`: `Gosub` of the side that is taken. A side that is not there, or of blanks alone, is
+/// the next priority.
+pub struct GosubIf;
+
+impl Application for GosubIf {
+    ghost use Rattle.std.specs.Prelude.{codes};
+    ghost use Rattle.dp_flow.specs.Jumps.{gosub_if_row};
+    ghost use Rattle.dp_flow.specs.Lawful.{gosub_if_lawful};
+    ghost use Rattle.dp_flow.specs.Touches.{the_frames};
+
+    ghost meaning = { gosub_if_row };
+
+    ghost title = { codes "GosubIf" };
+
+    ghost TOUCH = { the_frames };
+
+    ghost lawful = { gosub_if_lawful };
+
+    const TOUCH: Touch = Touch {
+        frames: true,
+        ..Touch::NOTHING
+    };
+
+    fn name() -> &'static [u8] {
+        b"GosubIf"
+    }
+
+    #[tactic(auto, unfolding(crate::specs::Jumps::gosub_if_row))]
+    fn apply(alloc: Global, arguments: &[u8], cell: &mut Cell) -> Result<Move, NoMemory> {
+        match chosen(arguments) {
+            None => Ok(Move::Next),
+            Some(side) => {
+                let going = enter_by_text(alloc, side, cell)?;
+                Ok(going)
+            }
+        }
+    }
+}
+
+/// `Return([value])`: the innermost frame goes, `GOSUB_RETVAL` is set to the value, and the channel goes back to the frame's
+/// place. With no frame the call ends.
+pub struct Return;
+
+impl Application for Return {
+    ghost use Rattle.std.specs.Prelude.{codes};
+    ghost use Rattle.dp_flow.specs.Jumps.{return_row};
+    ghost use Rattle.dp_flow.specs.Lawful.{return_lawful};
+    ghost use Rattle.dp_flow.specs.Touches.{variables_and_frames};
+
+    ghost meaning = { return_row };
+
+    ghost title = { codes "Return" };
+
+    ghost TOUCH = { variables_and_frames };
+
+    ghost lawful = { return_lawful };
+
+    const TOUCH: Touch = Touch {
+        variables: true,
+        frames: true,
+        ..Touch::NOTHING
+    };
+
+    fn name() -> &'static [u8] {
+        b"Return"
+    }
+
+    #[tactic(auto, unfolding(crate::specs::Jumps::return_row))]
+    fn apply(alloc: Global, arguments: &[u8], cell: &mut Cell) -> Result<Move, NoMemory> {
+        match cell
+            .store
+            .pop_frame_setting(alloc, b"GOSUB_RETVAL", arguments)?
+        {
+            None => Ok(Move::Hang),
+            Some(place) => Ok(Move::Jump(Target::To(place))),
+        }
+    }
+}
+
+/// `StackPop()`: the innermost frame goes, where there is one, and the channel goes on.
+pub struct StackPop;
+
+impl Application for StackPop {
+    ghost use Rattle.std.specs.Prelude.{codes};
+    ghost use Rattle.dp_flow.specs.Jumps.{stack_pop_row};
+    ghost use Rattle.dp_flow.specs.Lawful.{stack_pop_lawful};
+    ghost use Rattle.dp_flow.specs.Touches.{the_frames};
+
+    ghost meaning = { stack_pop_row };
+
+    ghost title = { codes "StackPop" };
+
+    ghost TOUCH = { the_frames };
+
+    ghost lawful = { stack_pop_lawful };
+
+    const TOUCH: Touch = Touch {
+        frames: true,
+        ..Touch::NOTHING
+    };
+
+    fn name() -> &'static [u8] {
+        b"StackPop"
+    }
+
+    fn apply(_alloc: Global, _arguments: &[u8], cell: &mut Cell) -> Result<Move, NoMemory> {
+        let _back = cell.store.pop_frame();
+        Ok(Move::Next)
+    }
+}
