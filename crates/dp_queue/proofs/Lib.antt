@@ -2,4 +2,5 @@ pub mod AgentLemmas
 pub mod ChangeLemmas
 pub mod GoodLemmas
 pub mod OfferLemmas
+pub mod RestLemmas
 pub mod WaitingLemmas

@@ -3,10 +3,13 @@ pub mod Calls
 pub mod Changes
 pub mod Codes
 pub mod Faults
+pub mod File
 pub mod Good
 pub mod Joining
+pub mod Keys
 pub mod Members
 pub mod Choices
 pub mod Offers
 pub mod Queues
+pub mod Rest
 pub mod Seats

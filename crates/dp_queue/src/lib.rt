@@ -7,6 +7,7 @@ mod call;
 mod change;
 mod choice;
 mod fault;
+mod file;
 mod join;
 mod joining;
 mod member;
@@ -15,6 +16,7 @@ mod offer;
 mod queue;
 mod queues;
 mod seat;
+mod setting;
 mod settings;
 
 pub use agent::{Agent, AgentState};

@@ -100,7 +100,7 @@ fn is_member(queues: &[Queue], agent: usize) -> bool
 }
 
 /// Whether the agent of a number is a member of the queue of a number.
-fn is_member_at(queues: &[Queue], number: usize, agent: usize) -> bool
+pub(crate) fn is_member_at(queues: &[Queue], number: usize, agent: usize) -> bool
     ensures { result ≡ spec.is_member_at queues.now number agent }
 {
     match queues.get(number) {

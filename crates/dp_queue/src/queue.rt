@@ -5,6 +5,7 @@ ghost use Rattle.std.specs.Option.{option_copied};
 ghost use Rattle.std.specs.VecDeque.{deque_len};
 ghost use Rattle.dp_queue.specs.Changes.{without};
 ghost use Rattle.dp_queue.specs.Calls as calls;
+ghost use Rattle.dp_queue.specs.File as file;
 ghost use Rattle.dp_queue.specs.Joining as joining;
 ghost use Rattle.dp_queue.specs.Members as members;
 ghost use Rattle.dp_queue.specs.Queues as spec;
@@ -13,6 +14,7 @@ use crate::join::Join;
 use crate::member::{
     Member, find_agent, finish_call, has_active, has_agent, pause_member, take_member,
 };
+use crate::setting::{Setting, put_setting, usual_settings};
 use crate::settings::{EmptyRule, Settings};
 use dp_conf::{NoMemory, Text, same_word};
 use std::alloc::Global;
@@ -84,6 +86,26 @@ fn take_out(waiting: &mut VecDeque<u32>, channel: u32)
 }
 
 impl Queue {
+    /// A queue of this name of which nothing is said.
+    pub(crate) fn new(alloc: Global, name: Text) -> Self
+        ensures { result ≡ file.queue_named name }
+    {
+        Queue {
+            name,
+            settings: usual_settings(alloc),
+            members: Vec::new(alloc),
+            waiting: VecDeque::new(alloc),
+            last: None,
+        }
+    }
+
+    /// Changes one of the settings.
+    pub(crate) fn set(&mut self, setting: Setting)
+        ensures { self.new ≡ file.with_queue_setting setting self.old }
+    {
+        put_setting(&mut self.settings, setting);
+    }
+
     /// The queue's name, as its section writes it.
     pub fn name(&self) -> &Text
         ensures { result.now ≡ self.now.name }

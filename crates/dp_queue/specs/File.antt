@@ -1,0 +1,120 @@
+-- The queues of a file: each line changes what the lines before it made.
+use Rattle.std.specs.Prelude.{ℕ, Bool, false, ◌||◌, ◌==◌, List, [], ◌∷◌, ◌++◌, length, Option, Some, None, Result, Ok, Err, codes, slice_get, if◌then◌else◌}
+use Rattle.std.specs.Option.{unwrap_or}
+use Rattle.dp_conf.specs.Answers.{◌>>=◌}
+use Rattle.dp_conf.specs.Levels.{arguments_of}
+use Rattle.dp_conf.specs.Lines.{lines_of}
+use Rattle.dp_conf.specs.Words.{same_word}
+use Rattle.dp_conf.specs.declared.lines.ConfLine.{ConfLine}
+use Rattle.dp_conf.specs.declared.lines.ConfLine.TheVariants.{Header, Pair}
+use Rattle.dp_queue.specs.Agents.{agent_number}
+use Rattle.dp_queue.specs.Changes.{changed_at}
+use Rattle.dp_queue.specs.Faults.{text_fault, at_line}
+use Rattle.dp_queue.specs.Keys.{number_in, setting_of, usual, with_setting}
+use Rattle.dp_queue.specs.Members.{is_member_at, with_member_at}
+use Rattle.dp_queue.specs.Queues.{QueueOf, QueuesOf, queue_number}
+use Rattle.dp_queue.specs.declared.fault.QueueFault.{QueueFault}
+use Rattle.dp_queue.specs.declared.fault.QueueKind.{QueueKind}
+use Rattle.dp_queue.specs.declared.fault.QueueKind.TheVariants.{DoubleQueue}
+use Rattle.dp_queue.specs.declared.setting.Setting.{Setting}
+
+-- what some lines made, and the number of the queue whose section they end in; none in `[general]`
+pub record FileOf : Type 0 where
+  pub section : Option ℕ
+  pub made : QueuesOf
+
+-- before the first line
+abbrev pub unread : FileOf
+unread = record { section = None; made = record { queues = []; agents = []; finished = 0 } }
+
+-- a queue of which nothing is said
+abbrev pub queue_named : List ℕ → QueueOf
+queue_named name = record { name = name; settings = usual; members = []; waiting = []; last = None }
+
+-- the section of a new queue begins
+abbrev pub with_queue : FileOf → List ℕ → FileOf
+with_queue file name = record {
+  section = Some (length file.made.queues);
+  made = record file.made { queues = file.made.queues ++ queue_named name ∷ [] };
+}
+
+-- a header of a queue, by the number of the queue that has its name already
+abbrev pub begun_by : FileOf → List ℕ → Option ℕ → Result FileOf QueueKind
+begun_by file name None = Ok (with_queue file name)
+begun_by file name (Some number) = Err DoubleQueue
+
+-- behind a header; `[general]` in any case is no queue
+abbrev pub begun : FileOf → List ℕ → Result FileOf QueueKind
+begun file name =
+    if same_word name (codes "general") then Ok (record file { section = None })
+    else begun_by file name (queue_number file.made.queues name)
+
+-- an argument; one that is not there is empty
+abbrev pub argument_at : List (List ℕ) → ℕ → List ℕ
+argument_at arguments place = unwrap_or (slice_get arguments place) []
+
+-- the penalty of a member; an empty one is 0
+abbrev pub penalty_in : List ℕ → Result ℕ QueueKind
+penalty_in [] = Ok 0
+penalty_in (b ∷ bs) = number_in (b ∷ bs)
+
+-- the penalty of a member, by the arguments of its line
+abbrev pub penalty_of : List (List ℕ) → Result ℕ QueueKind
+penalty_of arguments = penalty_in (argument_at arguments 1)
+
+-- a member of the file is passed over where its name is empty, and where it is a member of the queue already
+abbrev pub is_passed_over : QueuesOf → ℕ → List ℕ → Bool
+is_passed_over q number name = length name == 0 || is_member_at q.queues number (agent_number q.agents name)
+
+-- the queues with a member of the file
+abbrev pub with_named : QueuesOf → ℕ → List ℕ → ℕ → QueuesOf
+with_named q number name penalty =
+    if is_passed_over q number name then q else with_member_at q number name penalty false
+
+-- the queues behind a member's line, by its arguments: the name, and the penalty
+abbrev pub membered : QueuesOf → ℕ → List (List ℕ) → Result QueuesOf QueueKind
+membered q number arguments =
+    penalty_of arguments >>= λ penalty. Ok (with_named q number (argument_at arguments 0) penalty)
+
+-- the queue with one of its settings changed
+abbrev pub with_queue_setting : Setting → QueueOf → QueueOf
+with_queue_setting setting queue = record queue { settings = with_setting setting queue.settings }
+
+-- the queues with a setting of the queue of a number changed
+abbrev pub with_setting_at : QueuesOf → ℕ → Setting → QueuesOf
+with_setting_at q number setting = record q { queues = changed_at (with_queue_setting setting) number q.queues }
+
+-- the queues behind a line of another key
+abbrev pub set : QueuesOf → ℕ → List ℕ → List ℕ → Result QueuesOf QueueKind
+set q number key value = setting_of key value >>= λ setting. Ok (with_setting_at q number setting)
+
+-- the queues behind a pair in the section of the queue of a number
+abbrev pub paired : QueuesOf → ℕ → List ℕ → List ℕ → Result QueuesOf QueueKind
+paired q number key value =
+    if same_word key (codes "member") then membered q number (arguments_of value) else set q number key value
+
+-- the section stays
+abbrev pub with_made : FileOf → QueuesOf → FileOf
+with_made file made = record file { made = made }
+
+abbrev pub made_in : FileOf → Result QueuesOf QueueKind → Result FileOf QueueKind
+made_in file made = made >>= λ q. Ok (with_made file q)
+
+-- behind a pair, by its section; what stands in `[general]` is not read
+abbrev pub behind_pair : FileOf → Option ℕ → List ℕ → List ℕ → Result FileOf QueueKind
+behind_pair file None key value = Ok file
+behind_pair file (Some number) key value = made_in file (paired file.made number key value)
+
+-- behind one more line, or the line's fault
+abbrev pub behind_line : FileOf → ConfLine → Result FileOf QueueFault
+behind_line file (Header line name) = at_line line (begun file name)
+behind_line file (Pair line key value) = at_line line (behind_pair file file.section key value)
+
+-- behind some lines, or the fault of the first that has one
+abbrev pub behind_lines : FileOf → List ConfLine → Result FileOf QueueFault
+behind_lines file [] = Ok file
+behind_lines file (line ∷ lines) = behind_line file line >>= λ next. behind_lines next lines
+
+-- the queues of a file: the faults of its text come before those of queues
+unfoldable pub loaded : List ℕ → Result QueuesOf QueueFault
+loaded text = text_fault (lines_of text) >>= λ lines. behind_lines unread lines >>= λ file. Ok file.made

@@ -1,0 +1,285 @@
+//! How a file of queues is read, after the Asterisk documentation's page on that file.
+ghost use Rattle.std.specs.Prelude.{◌≡◌, ◌<◌, ◌++◌, ◌∷◌, [], Ok, IfOk, length, map, vec_len};
+ghost use Rattle.dp_conf.specs.Answers.{Answers};
+ghost use Rattle.dp_conf.specs.Levels.{arguments_of};
+ghost use Rattle.dp_queue.specs.Changes.{changed_at};
+ghost use Rattle.dp_queue.specs.Faults.{at_line, reason_of};
+ghost use Rattle.dp_queue.specs.File as spec;
+ghost use Rattle.dp_queue.specs.Rest.{IsAtRest};
+
+use crate::agent::{Agent, agent_number};
+use crate::fault::{QueueFault, QueueKind};
+use crate::membership::{add_member, is_member_at};
+use crate::queue::{Queue, queue_number};
+use crate::queues::Queues;
+use crate::setting::{Setting, at_line, read_limited, read_setting};
+use dp_conf::{ConfLine, NoMemory, Text, read_lines, same_word, split_args};
+use std::alloc::Global;
+use std::marker::Model;
+
+/// What some lines made, and the number of the queue whose section they end in, where that is one.
+#[derive(Drop)]
+struct File {
+    section: Option<usize>,
+    queues: Vec<Queue>,
+    agents: Vec<Agent>,
+}
+
+impl Model for File {
+    ghost use Rattle.std.specs.Prelude.{◌<◌, IfSome, length};
+    ghost use Rattle.dp_queue.specs.File.{FileOf};
+
+    ghost Value = { FileOf };
+
+    ghost view = { λ file. record {
+      section = file.section;
+      made = record { queues = file.queues.items; agents = file.agents.items; finished = 0 };
+    } };
+
+    ghost invariant = { λ file. IfSome file.section (λ number. number < length file.queues.items) };
+}
+
+/// The penalty of a member, empty where none is written.
+fn read_penalty(text: &[u8]) -> Result<u32, QueueKind>
+    ensures { result ≡ spec.penalty_in text.now }
+{
+    if text.is_empty() {
+        return Ok(0);
+    }
+    read_limited(text)
+}
+
+/// The argument at a place, empty where there is none.
+fn argument_at<'a>(arguments: &[&'a [u8]], place: usize) -> &'a [u8]
+    ensures { result.now ≡ spec.argument_at (map (λ argument. argument.now) arguments.now) place }
+{
+    match arguments.get(place) {
+        Some(argument) => argument,
+        None => b"",
+    }
+}
+
+/// The penalty of a member, by the arguments of its line.
+fn penalty_of(arguments: &[&[u8]]) -> Result<u32, QueueKind>
+    ensures { result ≡ spec.penalty_of (map (λ argument. argument.now) arguments.now) }
+{
+    read_penalty(argument_at(arguments, 1))
+}
+
+/// Changes a setting of the queue of a number.
+fn set_at(queues: &mut Vec<Queue>, number: usize, setting: Setting)
+    requires { number < vec_len queues.old }
+    ensures { queues.new.items ≡ changed_at (spec.with_queue_setting setting) number queues.old.items }
+{
+    let queue = &mut queues[number];
+    queue.set(setting);
+}
+
+/// Whether a member of the file is passed over: its name is empty, or it is a member of the queue already.
+fn is_passed_over(queues: &[Queue], agents: &[Agent], number: usize, name: &[u8]) -> bool
+    ensures { result ≡ spec.is_passed_over (record { queues = queues.now; agents = agents.now; finished = 0 }) number name.now }
+{
+    name.is_empty() || is_member_at(queues, number, agent_number(agents, name))
+}
+
+impl File {
+    /// Before the first line.
+    fn new(alloc: Global) -> Self
+        ensures { result ≡ spec.unread }
+    {
+        File {
+            section: None,
+            queues: Vec::new(alloc),
+            agents: Vec::new(alloc),
+        }
+    }
+
+    /// Begins the section of a queue that is new.
+    fn push_queue(&mut self, alloc: Global, name: &[u8]) -> Result<(), NoMemory>
+        ensures { IfOk result (λ done. spec.with_queue self.old name.now ≡ self.new) }
+    {
+        let name = Text::copy_of(alloc, name)?;
+        let number = self.queues.len();
+        self.queues.push(Queue::new(alloc, name))?;
+        self.section = Some(number);
+        Ok(())
+    }
+
+    /// Goes behind a header.
+    fn begin(&mut self, alloc: Global, line: usize, name: &[u8]) -> Result<(), QueueFault>
+        ensures { Answers (λ done. self.new) reason_of result (at_line line (spec.begun self.old name.now)) }
+    {
+        if same_word(name, b"general") {
+            self.section = None;
+            return Ok(());
+        }
+        if queue_number(&self.queues, name).is_some() {
+            return Err(QueueFault::Queue {
+                line,
+                kind: QueueKind::DoubleQueue,
+            });
+        }
+        self.push_queue(alloc, name)?;
+        Ok(())
+    }
+
+    /// Makes the agent of a name a member of the queue of a number, unless the name is empty or it is one already.
+    fn add_named(
+        &mut self,
+        alloc: Global,
+        number: usize,
+        name: &[u8],
+        penalty: u32,
+    ) -> Result<(), NoMemory>
+        requires { number < length self.old.made.queues }
+        ensures { IfOk result (λ done. spec.with_made self.old (spec.with_named self.old.made number name.now penalty) ≡ self.new) }
+    {
+        if is_passed_over(&self.queues, &self.agents, number, name) {
+            return Ok(());
+        }
+        add_member(
+            alloc,
+            &mut self.queues,
+            &mut self.agents,
+            number,
+            name,
+            penalty,
+            false,
+        )?;
+        Ok(())
+    }
+
+    /// Goes behind a member's line in the section of the queue of a number, by its arguments.
+    fn take_arguments(
+        &mut self,
+        alloc: Global,
+        line: usize,
+        number: usize,
+        arguments: &[&[u8]],
+    ) -> Result<(), QueueFault>
+        requires { number < length self.old.made.queues }
+        ensures { Answers (λ done. self.new) reason_of result (at_line line (spec.made_in self.old
+            (spec.membered self.old.made number (map (λ argument. argument.now) arguments.now)))) }
+    {
+        let penalty = at_line(line, penalty_of(arguments))?;
+        self.add_named(alloc, number, argument_at(arguments, 0), penalty)?;
+        Ok(())
+    }
+
+    /// Goes behind a member's line in the section of the queue of a number.
+    fn take_member(
+        &mut self,
+        alloc: Global,
+        line: usize,
+        number: usize,
+        value: &[u8],
+    ) -> Result<(), QueueFault>
+        requires { number < length self.old.made.queues }
+        ensures { Answers (λ done. self.new) reason_of result
+            (at_line line (spec.made_in self.old (spec.membered self.old.made number (arguments_of value.now)))) }
+    {
+        let arguments = split_args(alloc, value)?;
+        self.take_arguments(alloc, line, number, &arguments)
+    }
+
+    /// Goes behind another pair in the section of the queue of a number.
+    fn take_setting(
+        &mut self,
+        alloc: Global,
+        line: usize,
+        number: usize,
+        key: &[u8],
+        value: &[u8],
+    ) -> Result<(), QueueFault>
+        requires { number < length self.old.made.queues }
+        ensures { Answers (λ done. self.new) reason_of result
+            (at_line line (spec.made_in self.old (spec.set self.old.made number key.now value.now))) }
+    {
+        let setting = read_setting(alloc, line, key, value)?;
+        set_at(&mut self.queues, number, setting);
+        Ok(())
+    }
+
+    /// Goes behind a pair.
+    fn take_pair(
+        &mut self,
+        alloc: Global,
+        line: usize,
+        key: &[u8],
+        value: &[u8],
+    ) -> Result<(), QueueFault>
+        ensures { Answers (λ done. self.new) reason_of result
+            (at_line line (spec.behind_pair self.old self.old.section key.now value.now)) }
+    {
+        match self.section {
+            None => Ok(()),
+            Some(number) => {
+                if same_word(key, b"member") {
+                    return self.take_member(alloc, line, number, value);
+                }
+                self.take_setting(alloc, line, number, key, value)
+            }
+        }
+    }
+
+    /// Goes behind a line.
+    fn take(&mut self, alloc: Global, line: &ConfLine) -> Result<(), QueueFault>
+        ensures { Answers (λ done. self.new) reason_of result (spec.behind_line self.old line.now) }
+    {
+        match line {
+            ConfLine::Header { line, name } => self.begin(alloc, *line, name.bytes()),
+            ConfLine::Pair { line, key, value } => {
+                self.take_pair(alloc, *line, key.bytes(), value.bytes())
+            }
+        }
+    }
+
+    /// The queues that the lines made.
+    fn into_queues(self, alloc: Global) -> Queues
+        requires { IsAtRest self.made }
+        ensures { result ≡ self.made }
+    {
+        let File {
+            section: _,
+            queues,
+            agents,
+        } = self;
+        Queues {
+            queues,
+            agents,
+            seats: Vec::new(alloc),
+            finished: 0,
+        }
+    }
+}
+
+/// What some lines make.
+fn read_file(alloc: Global, lines: &[ConfLine]) -> Result<File, QueueFault>
+    ensures { Answers (λ file. file) reason_of result (spec.behind_lines spec.unread lines.now) }
+{
+    let mut file = File::new(alloc);
+    let mut left = lines;
+    while let Some((line, rest)) = left.split_first() {
+        file.take(alloc, line)?;
+        left = rest;
+    }
+    Ok(file)
+}
+
+impl Queues {
+    /// Loads the queues of a file.
+    ///
+    /// A section is a queue, and `[general]` in any ASCII case is ignored. A repeated key takes its last value, but each
+    /// `member` adds a member, unless it is one already. A fault of the text is answered first, as `QueueFault::Conf`;
+    /// then the fault of the first faulty line of a queue, as `QueueFault::Queue`: see [`QueueKind`]. Nobody waits in the
+    /// queues, and their agents are idle.
+    #[tactic(auto, unfolding(crate::specs::File::loaded))]
+    pub fn load(alloc: Global, text: &[u8]) -> Result<Self, QueueFault>
+        ensures loaded { Answers (λ queues. queues) reason_of result (spec.loaded text.now) }
+        ensures rest { IfOk result IsAtRest }
+    {
+        let lines = read_lines(alloc, text)?;
+        let file = read_file(alloc, &lines)?;
+        Ok(file.into_queues(alloc))
+    }
+}
