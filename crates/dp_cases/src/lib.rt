@@ -20,6 +20,8 @@ mod pattern;
 #[cfg(test)]
 mod plan;
 #[cfg(test)]
+mod queues;
+#[cfg(test)]
 mod table;
 #[cfg(test)]
 mod trie;
