@@ -1,5 +1,6 @@
 //! Queues, how they load and what their calls answer, worked out by hand from the rules.
 mod files;
+mod manual;
 mod offers;
 mod render;
 mod rows;
@@ -64,5 +65,9 @@ fn files_load_so(rt: HostRuntime) -> Result<(), Fail> {
 
 #[test]
 fn steps_answer_so(rt: HostRuntime) -> Result<(), Fail> {
-    check_all::<Acts>(&rt, rt.alloc(), &[rows::WORKED, offers::OFFERS])
+    check_all::<Acts>(
+        &rt,
+        rt.alloc(),
+        &[rows::WORKED, offers::OFFERS, manual::OFFERS],
+    )
 }

@@ -1,9 +1,10 @@
 //! Files of queues, with what they load as or their fault.
-use crate::queues::rows;
+use crate::queues::{manual, rows};
 
 /// The tables of files.
 pub(super) const TABLES: &[&str] = &[
     rows::FILE_FAULTS,
+    manual::FILE,
     KEYS,
     MEMBERS,
     LAST_VALUES,
