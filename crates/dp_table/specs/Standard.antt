@@ -1,0 +1,57 @@
+-- The table of the applications that this program has.
+use Rattle.std.specs.Prelude.{ℕ, List, codes}
+use Rattle.dp_app.specs.Laws.{IsLawful, IsLawfulRow}
+use Rattle.dp_app.specs.Rows.{Row, Rows}
+use Rattle.dp_app.specs.Tables.{no_rows, no_rows_lawful, no_touch, with_row, with_row_lawful, with_touch}
+use Rattle.dp_app.specs.declared.touch.Touch.{Touch}
+use Rattle.dp_flow.specs.Jumps.{goto_row, goto_if_row, gosub_row, gosub_if_row, return_row, stack_pop_row}
+use Rattle.dp_flow.specs.Lawful.{goto_lawful, goto_if_lawful, gosub_lawful, gosub_if_lawful, hangup_lawful, next_lawful, return_lawful, set_lawful, stack_pop_lawful}
+use Rattle.dp_flow.specs.Plain.{hangup_row, next_row}
+use Rattle.dp_flow.specs.Settings.{set_row}
+use Rattle.dp_flow.specs.Touches.{nothing, settable, the_frames, variables_and_frames}
+
+-- a table: the row of each name, what each may change, and that each row keeps the laws with that
+pub record Table : Type 0 where
+  pub touches : List ℕ → Touch
+  pub rows : Rows
+  pub lawful : IsLawful touches rows
+
+-- the table with no name
+abbrev pub no_table : Table
+no_table = record { touches = no_touch; rows = no_rows; lawful = no_rows_lawful }
+
+-- a table with one more application: its name, what it may change, its row, and that the row keeps the laws
+abbrev pub with_application : (title : List ℕ) (touch : Touch) (row : Row) → IsLawfulRow touch row → Table → Table
+with_application title touch row lawful table = record {
+  touches = with_touch title touch table.touches;
+  rows = with_row title row table.rows;
+  lawful = with_row_lawful title touch row table.touches table.rows lawful table.lawful;
+}
+
+-- the table of this program
+unfoldable pub standard_table : Table
+standard_table =
+    with_application (codes "Goto") nothing goto_row goto_lawful
+    (with_application (codes "GotoIf") nothing goto_if_row goto_if_lawful
+    (with_application (codes "Gosub") the_frames gosub_row gosub_lawful
+    (with_application (codes "GosubIf") the_frames gosub_if_row gosub_if_lawful
+    (with_application (codes "Return") variables_and_frames return_row return_lawful
+    (with_application (codes "StackPop") the_frames stack_pop_row stack_pop_lawful
+    (with_application (codes "Set") settable set_row set_lawful
+    (with_application (codes "Hangup") nothing hangup_row hangup_lawful
+    (with_application (codes "Answer") nothing next_row next_lawful
+    (with_application (codes "NoOp") nothing next_row next_lawful
+    (with_application (codes "Verbose") nothing next_row next_lawful
+    (with_application (codes "Playback") nothing next_row next_lawful no_table)))))))))))
+
+-- the row of each of its names
+abbrev pub standard_rows : Rows
+standard_rows = standard_table.rows
+
+-- what the application of each of its names may change
+abbrev pub standard_touches : List ℕ → Touch
+standard_touches = standard_table.touches
+
+-- each of its rows keeps the laws
+pub standard_lawful : IsLawful standard_touches standard_rows
+standard_lawful = standard_table.lawful

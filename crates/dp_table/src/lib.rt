@@ -1,0 +1,6 @@
+//! The applications of this program as one table.
+#![tactic(auto)]
+
+mod standard;
+
+pub use standard::StandardApps;

@@ -1,0 +1,45 @@
+//! The table of the applications that this program has, after the Asterisk documentation's application reference.
+ghost use Rattle.std.specs.Prelude.{◌≡◌};
+
+use dp_app::{AppTable, Cell, Move, NoApps, With};
+use dp_conf::NoMemory;
+use dp_flow::{
+    Answer, Gosub, GosubIf, Goto, GotoIf, Hangup, NoOp, Playback, Return, Set, StackPop, Verbose,
+};
+use std::alloc::Global;
+
+/// The applications that play or print nothing here, and go on.
+type Silent = With<Answer, With<NoOp, With<Verbose, With<Playback, NoApps>>>>;
+
+/// Those and the ones that set variables and that end the call.
+type Plain = With<Set, With<Hangup, Silent>>;
+
+/// Those and the ones that enter and leave subroutines.
+type Calling = With<Gosub, With<GosubIf, With<Return, With<StackPop, Plain>>>>;
+
+/// Those and the ones that jump.
+type Jumping = With<Goto, With<GotoIf, Calling>>;
+
+/// The applications that this program has. A name that is not among them ends the call that reaches it.
+pub struct StandardApps;
+
+impl AppTable for StandardApps {
+    ghost use Rattle.dp_table.specs.Standard.{standard_rows, standard_touches, standard_lawful};
+
+    ghost rows = { standard_rows };
+
+    ghost touches = { standard_touches };
+
+    ghost lawful = { standard_lawful };
+
+    #[tactic(auto, unfolding(crate::specs::Standard::standard_table))]
+    fn dispatch(
+        alloc: Global,
+        name: &[u8],
+        arguments: &[u8],
+        cell: &mut Cell,
+    ) -> Result<Option<Move>, NoMemory> {
+        let going = Jumping::dispatch(alloc, name, arguments, cell)?;
+        Ok(going)
+    }
+}
