@@ -1,5 +1,5 @@
 -- Each row keeps the laws of rows with its touch.
-use Rattle.std.specs.Prelude.{◌≡◌, ℕ, Bool, true, false, List, [], ◌∷◌, ◌-◌, length, take, Option, Some, None, codes, refl, if◌then◌else◌}
+use Rattle.std.specs.Prelude.{◌≡◌, ℕ, Bool, true, false, List, [], ◌∷◌, ◌-◌, length, map, take, Option, Some, None, codes, refl, if◌then◌else◌}
 use Rattle.std.specs.FinMap.{insert}
 use Rattle.dp_conf.specs.Blanks.{trim}
 use Rattle.dp_conf.specs.Cut.{cut_once}
@@ -8,8 +8,10 @@ use Rattle.dp_conf.specs.Words.{same_text}
 use Rattle.dp_vars.specs.Stores.{innermost, popped_setting, set, set_local, with_frame, without_frame}
 use Rattle.dp_vars.specs.declared.frame.Frame.{Frame}
 use Rattle.dp_app.specs.Keeping.{cell_kept, going_lawful, store_kept}
-use Rattle.dp_app.specs.Laws.{IsGoing, IsLawfulRow, KeepsUntouched}
+use Rattle.dp_app.specs.Laws.{IsGoing, IsLawfulRow, KeepsUntouched, MayGo, MayPark, waiting_after, waiting_parked}
 use Rattle.dp_app.specs.declared.cell.Cell.{Cell}
+use Rattle.dp_app.specs.declared.phase.Phase.{Phase}
+use Rattle.dp_app.specs.declared.phase.Phase.TheVariants.{Digits, Pause}
 use Rattle.dp_app.specs.declared.place.Place.{Place}
 use Rattle.dp_app.specs.declared.going.Move.{Move}
 use Rattle.dp_app.specs.declared.going.Move.TheVariants.{Next, Hang}
@@ -20,6 +22,7 @@ use Rattle.dp_flow.specs.Jumps.{Called}
 use Rattle.dp_flow.specs.Settings as settings
 use Rattle.dp_flow.specs.StoreKept.{dropped_kept, pushed_kept, set_kept, set_local_kept, with_caller_kept, with_globals_kept, with_store_kept}
 use Rattle.dp_flow.specs.Touches.{nothing, settable, the_frames, variables_and_frames}
+use Rattle.dp_flow.specs.Waiting as waits
 
 -- a row that leaves the cell as it is and parks the channel nowhere
 staying : (move_of : List ℕ → Cell → Move) → ((arguments : List ℕ) (cell : Cell) → IsGoing (move_of arguments cell))
@@ -178,3 +181,41 @@ set_lawful = going_lawful settable settings.set_row
     (λ arguments cell. (pair_only cell (cut_once 61 arguments)).keeps)
     (λ arguments cell. (pair_only cell (cut_once 61 arguments)).same)
     (λ arguments cell. tt)
+
+false_is_true : false ≡ true → ⊥
+false_is_true e = cc
+
+-- a wait in a phase in which a channel may be parked, and which leaves the waiting lists
+module _ (phase : Phase) (may : (count : ℕ) → MayPark count phase)
+    (leaves : (lists : List (List ℕ)) (number : ℕ) → lists ≡ waiting_parked lists number phase) where
+  parked_parks : (count : ℕ) (b : Bool) → MayGo count (waits.parked phase b)
+  parked_parks count true = tt
+  parked_parks count false = may count
+
+  parked_waits : (lists : List (List ℕ)) (number : ℕ) (b : Bool) → lists ≡ waiting_after lists number (waits.parked phase b)
+  parked_waits lists number true = refl
+  parked_waits lists number false = leaves lists number
+
+  parked_closes : (b : Bool) → b ≡ true → IsGoing (waits.parked phase b)
+  parked_closes true closing = tt
+  parked_closes false closing = absurd (false_is_true closing)
+
+  parked_lawful : IsLawfulRow nothing (λ arguments cell. jumps.stays cell (waits.parked phase cell.is_closing))
+  parked_lawful = record {
+    keeps = λ arguments cell. cell_kept nothing cell;
+    parks = λ arguments cell. parked_parks (length cell.queues.queues) cell.is_closing;
+    waits = λ arguments cell. parked_waits (map (λ queue. queue.waiting) cell.queues.queues) cell.number cell.is_closing;
+    closes = λ arguments cell closing. parked_closes cell.is_closing closing;
+  }
+
+-- the row of `Wait`
+pub wait_lawful : IsLawfulRow nothing waits.wait_row
+wait_lawful = parked_lawful Pause (λ count. tt) (λ lists number. refl)
+
+-- the row of `WaitExten`
+pub wait_exten_lawful : IsLawfulRow nothing waits.wait_exten_row
+wait_exten_lawful = parked_lawful (Digits [] false) (λ count. refl) (λ lists number. refl)
+
+-- the row of `Background`
+pub background_lawful : IsLawfulRow nothing waits.background_row
+background_lawful = parked_lawful (Digits [] true) (λ count. refl) (λ lists number. refl)

@@ -6,3 +6,4 @@ pub mod Plain
 pub mod Settings
 pub mod StoreKept
 pub mod Touches
+pub mod Waiting

@@ -1,5 +1,5 @@
 //! The applications of the flow of a call, after the Asterisk documentation's application reference: jumps, subroutines,
-//! variables, and those that media is left out of.
+//! variables, waits, and those that media is left out of.
 #![tactic(auto)]
 
 mod choice;
@@ -8,9 +8,11 @@ mod jump;
 mod noop;
 mod plain;
 mod setting;
+mod waiting;
 
 pub use gosub::{Gosub, GosubIf, Return, StackPop};
 pub use jump::{Goto, GotoIf};
 pub use noop::NoOp;
 pub use plain::{Answer, Hangup, Playback, Verbose};
 pub use setting::Set;
+pub use waiting::{Background, Wait, WaitExten};
