@@ -5,10 +5,11 @@ use Rattle.dp_app.specs.Rows.{Row, Rows}
 use Rattle.dp_app.specs.Tables.{no_rows, no_rows_lawful, no_touch, with_row, with_row_lawful, with_touch}
 use Rattle.dp_app.specs.declared.touch.Touch.{Touch}
 use Rattle.dp_flow.specs.Jumps.{goto_row, goto_if_row, gosub_row, gosub_if_row, return_row, stack_pop_row}
-use Rattle.dp_flow.specs.Lawful.{goto_lawful, goto_if_lawful, gosub_lawful, gosub_if_lawful, hangup_lawful, next_lawful, return_lawful, set_lawful, stack_pop_lawful}
+use Rattle.dp_flow.specs.Lawful.{goto_lawful, goto_if_lawful, gosub_lawful, gosub_if_lawful, hangup_lawful, next_lawful, return_lawful, set_lawful, stack_pop_lawful, wait_lawful, wait_exten_lawful, background_lawful}
 use Rattle.dp_flow.specs.Plain.{hangup_row, next_row}
 use Rattle.dp_flow.specs.Settings.{set_row}
 use Rattle.dp_flow.specs.Touches.{nothing, settable, the_frames, variables_and_frames}
+use Rattle.dp_flow.specs.Waiting.{background_row, wait_row, wait_exten_row}
 
 -- a table: the row of each name, what each may change, and that each row keeps the laws with that
 pub record Table : Type 0 where
@@ -42,7 +43,10 @@ standard_table =
     (with_application (codes "Answer") nothing next_row next_lawful
     (with_application (codes "NoOp") nothing next_row next_lawful
     (with_application (codes "Verbose") nothing next_row next_lawful
-    (with_application (codes "Playback") nothing next_row next_lawful no_table)))))))))))
+    (with_application (codes "Playback") nothing next_row next_lawful
+    (with_application (codes "Wait") nothing wait_row wait_lawful
+    (with_application (codes "WaitExten") nothing wait_exten_row wait_exten_lawful
+    (with_application (codes "Background") nothing background_row background_lawful no_table))))))))))))))
 
 -- the row of each of its names
 abbrev pub standard_rows : Rows

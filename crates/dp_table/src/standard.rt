@@ -4,12 +4,16 @@ ghost use Rattle.std.specs.Prelude.{◌≡◌};
 use dp_app::{AppTable, Cell, Move, NoApps, With};
 use dp_conf::NoMemory;
 use dp_flow::{
-    Answer, Gosub, GosubIf, Goto, GotoIf, Hangup, NoOp, Playback, Return, Set, StackPop, Verbose,
+    Answer, Background, Gosub, GosubIf, Goto, GotoIf, Hangup, NoOp, Playback, Return, Set,
+    StackPop, Verbose, Wait, WaitExten,
 };
 use std::alloc::Global;
 
-/// The applications that play or print nothing here, and go on.
-type Silent = With<Answer, With<NoOp, With<Verbose, With<Playback, NoApps>>>>;
+/// The applications that wait.
+type Waiting = With<Wait, With<WaitExten, With<Background, NoApps>>>;
+
+/// Those and the ones that play or print nothing here, and go on.
+type Silent = With<Answer, With<NoOp, With<Verbose, With<Playback, Waiting>>>>;
 
 /// Those and the ones that set variables and that end the call.
 type Plain = With<Set, With<Hangup, Silent>>;
