@@ -6,3 +6,4 @@ pub mod ValuesLemmas
 pub mod ExpandingLemmas
 pub mod OpeningsLemmas
 pub mod PoppedLemmas
+pub mod ReplacedLemmas

@@ -2,6 +2,7 @@ pub mod Expanding
 pub mod Far
 pub mod Openings
 pub mod Parts
+pub mod Replaced
 pub mod Shown
 pub mod Sights
 pub mod Stores

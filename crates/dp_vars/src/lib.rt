@@ -22,6 +22,6 @@ pub use globals::Globals;
 pub use opening::has_opening;
 pub use reference::value_of;
 pub use scope::{ChannelSeen, Counts, Scope};
-pub use store::Store;
+pub use store::{Replaced, Store};
 pub use template::{Template, TemplateFault, expand, expand_text};
 pub use variables::Variable;

@@ -1,11 +1,13 @@
 //! The variables of a channel, and its frames, after the Asterisk documentation's page on variables.
-ghost use Rattle.std.specs.Prelude.{◌≡◌, IfOk, OnErr, OnOk, nat_lt, length};
+ghost use Rattle.std.specs.Prelude.{◌≡◌, ℕ, List, IfOk, OnErr, OnOk, nat_lt, length};
 ghost use Rattle.std.specs.Option.{option_map};
+ghost use Rattle.dp_vars.specs.Replaced as spec;
 ghost use Rattle.dp_vars.specs.Stores as stores;
+ghost use Rattle.dp_vars.specs.Stores.{StoreOf};
 
 use crate::frame::{self, Frame};
 use crate::variables::{Variable, Variables};
-use dp_conf::NoMemory;
+use dp_conf::{NoMemory, Text};
 use std::alloc::Global;
 use std::marker::Model;
 
@@ -17,6 +19,27 @@ use std::marker::Model;
 pub struct Store<B> {
     variables: Variables,
     frames: Vec<Frame<B>>,
+}
+
+/// What a name had before it was set, and where it was set: among the locals of the frame at a place, or among the
+/// channel's variables.
+#[derive(Debug, Drop)]
+pub struct Replaced {
+    place: Option<usize>,
+    value: Option<Text>,
+}
+
+/// A copy of a text, where there is one.
+fn copied(alloc: Global, text: Option<&[u8]>) -> Result<Option<Text>, NoMemory>
+    ensures { IfOk result (λ copy. copy ≡ option_map (λ bytes. bytes.now) text.entry) }
+{
+    match text {
+        None => Ok(None),
+        Some(bytes) => {
+            let copy = Text::copy_of(alloc, bytes)?;
+            Ok(Some(copy))
+        }
+    }
 }
 
 impl<B> Model for Store<B> {
@@ -115,6 +138,7 @@ impl<B> Store<B> {
         drop(locals);
         Some(back)
     }
+
     /// Drops the innermost frame and then sets a name, as `pop_frame` and then `set` do, and answers where the frame goes
     /// back to; None with no frame, where it changes nothing. After a refused growth all is as before.
     pub fn pop_frame_setting(
@@ -134,5 +158,42 @@ impl<B> Store<B> {
             None => self.variables.insert(alloc, name, value)?,
         }
         Ok(self.pop_frame())
+    }
+    /// The value that a name has among the locals of the frame at a place, or among the channel's variables.
+    fn value_at(&self, place: Option<usize>, name: &[u8]) -> Option<&[u8]>
+        ensures { option_map (λ value. value.now) result ≡ spec.value_at self.now place name.now }
+    {
+        match place {
+            Some(place) => frame::local_at(&self.frames, place, name),
+            None => self.variables.get(name),
+        }
+    }
+
+    /// Sets a name as `set` does, and gives what `put_back` needs to undo that.
+    pub fn replace(
+        &mut self,
+        alloc: Global,
+        name: &[u8],
+        value: &[u8],
+    ) -> Result<Replaced, NoMemory>
+        ensures ok { OnOk result (self.new ≡ stores.set self.old name.now value.now) }
+        ensures had { IfOk result (λ had. had ≡ spec.had self.old name.now) }
+        ensures err { OnErr result (self.new ≡ self.old) }
+    {
+        let place = frame::holder(&self.frames, name);
+        let had = copied(alloc, self.value_at(place, name))?;
+        self.set(alloc, name, value)?;
+        Ok(Replaced { place, value: had })
+    }
+
+    /// Puts back what a name had before `replace` set it. It takes no memory.
+    pub fn put_back(&mut self, name: &[u8], had: Replaced)
+        ensures { (before : StoreOf B) (value : List ℕ) → self.old ≡ stores.set before name.now value
+            → had ≡ spec.had before name.now → self.new ≡ before }
+    {
+        match had.place {
+            Some(place) => frame::put_back_at(&mut self.frames, place, name, had.value),
+            None => self.variables.put_back(name, had.value),
+        }
     }
 }
