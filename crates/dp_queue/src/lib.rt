@@ -3,6 +3,7 @@
 
 mod agent;
 mod answering;
+mod asking;
 mod call;
 mod change;
 mod choice;

@@ -93,7 +93,7 @@ fn pause_everywhere(queues: &mut Vec<Queue>, agent: usize, is_paused: bool)
 }
 
 /// Whether the agent of a number is a member of some queue.
-fn is_member(queues: &[Queue], agent: usize) -> bool
+pub(crate) fn is_member(queues: &[Queue], agent: usize) -> bool
     ensures { result ≡ list_any (spec.has_member agent) queues.now }
 {
     queues.iter().any(|queue| queue.has_member(agent))
@@ -110,7 +110,7 @@ pub(crate) fn is_member_at(queues: &[Queue], number: usize, agent: usize) -> boo
 }
 
 /// The member of the queue of a number that is the agent of a number.
-fn member_at(queues: &[Queue], number: usize, agent: usize) -> Option<Member>
+pub(crate) fn member_at(queues: &[Queue], number: usize, agent: usize) -> Option<Member>
     ensures { result ≡ spec.member_of agent (slice_get queues.now number) }
 {
     match queues.get(number) {

@@ -1,0 +1,62 @@
+//! What an application that adds, removes or pauses a member would be told, so that it can report before it changes anything.
+ghost use Rattle.std.specs.Prelude.{◌≡◌, ℕ, Bool};
+ghost use Rattle.std.specs.Option.{option_copied};
+ghost use Rattle.dp_queue.specs.Members as spec;
+
+use crate::agent::agent_number;
+use crate::change::{Added, Removed};
+use crate::membership::{is_member, is_member_at, member_at};
+use crate::queue::queue_number;
+use crate::queues::Queues;
+
+impl Queues {
+    /// What an application that adds this interface to the queue of this name would be told, whatever the penalty.
+    pub fn would_add(&self, queue: &[u8], interface: &[u8]) -> Added
+        ensures { (penalty : ℕ) → result ≡ (spec.add_row self.now queue.now interface.now penalty).1 }
+    {
+        let Some(number) = queue_number(&self.queues, queue) else {
+            return Added::NoSuchQueue;
+        };
+        let agent = agent_number(&self.agents, interface);
+        if is_member_at(&self.queues, number, agent) {
+            return Added::MemberAlready;
+        }
+        Added::Added
+    }
+
+    /// What an application that removes this interface from the queue of this name would be told.
+    pub fn would_remove(&self, queue: &[u8], interface: &[u8]) -> Removed
+        ensures { result ≡ (spec.remove_row self.now queue.now interface.now).1 }
+    {
+        let Some(number) = queue_number(&self.queues, queue) else {
+            return Removed::NoSuchQueue;
+        };
+        let agent = agent_number(&self.agents, interface);
+        match member_at(&self.queues, number, agent) {
+            None => Removed::NotInQueue,
+            Some(member) => {
+                if member.is_dynamic {
+                    Removed::Removed
+                } else {
+                    Removed::NotDynamic
+                }
+            }
+        }
+    }
+
+    /// What an application that pauses this interface in the queue of this name, or in all queues, or ends its pause,
+    /// would be told: whether it is a member there.
+    pub fn would_pause(&self, queue: Option<&[u8]>, interface: &[u8]) -> bool
+        ensures { (is_paused : Bool)
+            → result ≡ (spec.pause_row self.now (option_copied queue.entry) interface.now is_paused).1 }
+    {
+        let agent = agent_number(&self.agents, interface);
+        match queue {
+            None => is_member(&self.queues, agent),
+            Some(name) => match queue_number(&self.queues, name) {
+                None => false,
+                Some(number) => is_member_at(&self.queues, number, agent),
+            },
+        }
+    }
+}
