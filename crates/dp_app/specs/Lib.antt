@@ -1,4 +1,5 @@
 pub mod Keeping
 pub mod Laws
 pub mod Rows
+pub mod StoreKept
 pub mod Tables

@@ -20,7 +20,7 @@ use Rattle.dp_flow.specs.Jumps as jumps
 use Rattle.dp_flow.specs.Plain as plain
 use Rattle.dp_flow.specs.Jumps.{Called}
 use Rattle.dp_flow.specs.Settings as settings
-use Rattle.dp_flow.specs.StoreKept.{dropped_kept, pushed_kept, set_kept, set_local_kept, with_caller_kept, with_globals_kept, with_store_kept}
+use Rattle.dp_app.specs.StoreKept.{dropped_kept, pushed_kept, set_kept, set_local_kept, with_caller_kept, with_globals_kept, with_store_kept}
 use Rattle.dp_flow.specs.Touches.{nothing, settable, the_frames, variables_and_frames}
 use Rattle.dp_flow.specs.Waiting as waits
 

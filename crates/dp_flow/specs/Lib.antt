@@ -4,6 +4,5 @@ pub mod Jumps
 pub mod Lawful
 pub mod Plain
 pub mod Settings
-pub mod StoreKept
 pub mod Touches
 pub mod Waiting
