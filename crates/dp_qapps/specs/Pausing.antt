@@ -1,0 +1,51 @@
+-- The rows of `PauseQueueMember` and `UnpauseQueueMember`.
+use Rattle.std.specs.Prelude.{ℕ, Bool, true, false, List, [], ◌∷◌, Option, Some, None, codes, if◌then◌else◌}
+use Rattle.dp_conf.specs.Levels.{arguments_of}
+use Rattle.dp_queue.specs.Members.{pause_row}
+use Rattle.dp_queue.specs.Queues.{QueuesOf}
+use Rattle.dp_app.specs.Rows.{Outcome, Row}
+use Rattle.dp_app.specs.declared.cell.Cell.{Cell}
+use Rattle.dp_qapps.specs.Reports.{part, reported}
+
+-- the queue that a part names; the empty part is all queues
+abbrev pub queue_asked : List ℕ → Option (List ℕ)
+queue_asked [] = None
+queue_asked (b ∷ bs) = Some (b ∷ bs)
+
+-- a member is paused, or its pause ends, and whether there is such a member; no member is of the empty interface
+abbrev pub paused : QueuesOf → Option (List ℕ) → List ℕ → Bool → QueuesOf × Bool
+paused q queue [] is_paused = (q, false)
+paused q queue (b ∷ bs) is_paused = pause_row q queue (b ∷ bs) is_paused
+
+-- the name of the status variable
+abbrev pub pause_variable : Bool → List ℕ
+pause_variable is_paused = if is_paused then codes "PQMSTATUS" else codes "UPQMSTATUS"
+
+-- the status where there is such a member
+abbrev pub pause_done : Bool → List ℕ
+pause_done is_paused = if is_paused then codes "PAUSED" else codes "UNPAUSED"
+
+-- the status
+abbrev pub pause_status : Bool → Bool → List ℕ
+pause_status is_paused is_there = if is_there then pause_done is_paused else codes "NOTFOUND"
+
+-- a pause, or the end of one, is reported
+abbrev pub reported_paused : Bool → Cell → QueuesOf × Bool → Outcome
+reported_paused is_paused cell answer = reported cell answer.0 (pause_variable is_paused) (pause_status is_paused answer.1)
+
+-- the row by the parts of the arguments: queue and interface
+abbrev pub pause_by : Bool → List (List ℕ) → Cell → Outcome
+pause_by is_paused parts cell =
+    reported_paused is_paused cell (paused cell.queues (queue_asked (part 0 parts)) (part 1 parts) is_paused)
+
+-- the row of an application that pauses a member, or ends a pause
+unfoldable pub pausing_row : Bool → Row
+pausing_row is_paused arguments cell = pause_by is_paused (arguments_of arguments) cell
+
+-- the row of `PauseQueueMember`
+abbrev pub pause_member_row : Row
+pause_member_row = pausing_row true
+
+-- the row of `UnpauseQueueMember`
+abbrev pub unpause_member_row : Row
+unpause_member_row = pausing_row false

@@ -1,0 +1,165 @@
+//! The applications that add members to queues and remove them, after the Asterisk documentation's pages on `AddQueueMember`
+//! and `RemoveQueueMember`.
+ghost use Rattle.std.specs.Prelude.{◌≡◌, IfOk, OnErr, map};
+ghost use Rattle.dp_queue.specs.Members.{add_row, remove_row};
+ghost use Rattle.dp_qapps.specs.Membership as spec;
+
+use crate::reports::{interface_of, part, penalty_of};
+use dp_app::{Application, Cell, Move, Touch};
+use dp_conf::{NoMemory, split_args};
+use dp_queue::{Added, Removed};
+use std::alloc::Global;
+
+/// The status of an addition.
+fn added_status(added: Added) -> &'static [u8]
+    ensures { result.now ≡ spec.added_status added }
+{
+    match added {
+        Added::NoSuchQueue => b"NOSUCHQUEUE",
+        Added::MemberAlready => b"MEMBERALREADY",
+        Added::Added => b"ADDED",
+    }
+}
+
+/// Adds a member and reports it. The report comes first, and is taken back where there is no room for the member: after a
+/// refused growth the cell is as before.
+fn add(
+    alloc: Global,
+    queue: &[u8],
+    interface: &[u8],
+    penalty: u32,
+    cell: &mut Cell,
+) -> Result<Move, NoMemory>
+    ensures ok { IfOk result (λ going. spec.reported_added cell.old (add_row cell.old.queues queue.now interface.now penalty)
+        ≡ record { cell = cell.new; next = going }) }
+    ensures err { OnErr result (cell.new ≡ cell.old) }
+{
+    let status = added_status(cell.queues.would_add(queue, interface));
+    let had = cell.store.replace(alloc, b"AQMSTATUS", status)?;
+    match cell.queues.add(alloc, queue, interface, penalty) {
+        Ok(_) => Ok(Move::Next),
+        Err(no_memory) => {
+            cell.store.put_back(b"AQMSTATUS", had);
+            Err(no_memory)
+        }
+    }
+}
+
+/// Adds the member that the parts of the arguments name. After a refused growth the cell is as before.
+fn add_by_parts(alloc: Global, parts: &[&[u8]], cell: &mut Cell) -> Result<Move, NoMemory>
+    ensures ok { IfOk result (λ going. spec.add_by (map (λ part. part.now) parts.now) cell.old
+        ≡ record { cell = cell.new; next = going }) }
+    ensures err { OnErr result (cell.new ≡ cell.old) }
+{
+    let interface = interface_of(alloc, cell.number, part(parts, 1))?;
+    let penalty = penalty_of(part(parts, 2));
+    let going = add(alloc, part(parts, 0), interface.bytes(), penalty, cell)?;
+    Ok(going)
+}
+
+/// The status of a removal.
+fn removed_status(removed: Removed) -> &'static [u8]
+    ensures { result.now ≡ spec.removed_status removed }
+{
+    match removed {
+        Removed::NoSuchQueue => b"NOSUCHQUEUE",
+        Removed::NotInQueue => b"NOTINQUEUE",
+        Removed::NotDynamic => b"NOTDYNAMIC",
+        Removed::Removed => b"REMOVED",
+    }
+}
+
+/// Removes a member and reports it. After a refused growth the cell is as before.
+fn remove(alloc: Global, queue: &[u8], interface: &[u8], cell: &mut Cell) -> Result<Move, NoMemory>
+    ensures ok { IfOk result (λ going. spec.reported_removed cell.old (remove_row cell.old.queues queue.now interface.now)
+        ≡ record { cell = cell.new; next = going }) }
+    ensures err { OnErr result (cell.new ≡ cell.old) }
+{
+    let status = removed_status(cell.queues.would_remove(queue, interface));
+    cell.store.set(alloc, b"RQMSTATUS", status)?;
+    let _removed = cell.queues.remove(queue, interface);
+    Ok(Move::Next)
+}
+
+/// Removes the member that the parts of the arguments name. After a refused growth the cell is as before.
+fn remove_by_parts(alloc: Global, parts: &[&[u8]], cell: &mut Cell) -> Result<Move, NoMemory>
+    ensures ok { IfOk result (λ going. spec.remove_by (map (λ part. part.now) parts.now) cell.old
+        ≡ record { cell = cell.new; next = going }) }
+    ensures err { OnErr result (cell.new ≡ cell.old) }
+{
+    let interface = interface_of(alloc, cell.number, part(parts, 1))?;
+    let going = remove(alloc, part(parts, 0), interface.bytes(), cell)?;
+    Ok(going)
+}
+
+/// `AddQueueMember(queue[,interface[,penalty]])`: the interface becomes the queue's last member, not paused. `AQMSTATUS` is
+/// `ADDED`, or `NOSUCHQUEUE`, or `MEMBERALREADY`, and the channel goes on. An empty interface is the name of the channel, and
+/// a penalty that is no number up to 2,147,483,647 is 0.
+pub struct AddQueueMember;
+
+impl Application for AddQueueMember {
+    ghost use Rattle.std.specs.Prelude.{codes};
+    ghost use Rattle.dp_qapps.specs.Lawful.{add_member_lawful};
+    ghost use Rattle.dp_qapps.specs.Membership.{add_member_row};
+    ghost use Rattle.dp_qapps.specs.Touches.{variables_and_members};
+
+    ghost meaning = { add_member_row };
+
+    ghost title = { codes "AddQueueMember" };
+
+    ghost TOUCH = { variables_and_members };
+
+    ghost lawful = { add_member_lawful };
+
+    const TOUCH: Touch = Touch {
+        variables: true,
+        members: true,
+        ..Touch::NOTHING
+    };
+
+    fn name() -> &'static [u8] {
+        b"AddQueueMember"
+    }
+
+    fn apply(alloc: Global, arguments: &[u8], cell: &mut Cell) -> Result<Move, NoMemory> {
+        let parts = split_args(alloc, arguments)?;
+        let going = add_by_parts(alloc, &parts, cell)?;
+        Ok(going)
+    }
+}
+
+/// `RemoveQueueMember(queue[,interface])`: the interface is no member of the queue any more. `RQMSTATUS` is `REMOVED`, or
+/// `NOSUCHQUEUE`, or `NOTINQUEUE`, or `NOTDYNAMIC` for a member of the file, and the channel goes on. An empty interface is the
+/// name of the channel.
+pub struct RemoveQueueMember;
+
+impl Application for RemoveQueueMember {
+    ghost use Rattle.std.specs.Prelude.{codes};
+    ghost use Rattle.dp_qapps.specs.Lawful.{remove_member_lawful};
+    ghost use Rattle.dp_qapps.specs.Membership.{remove_member_row};
+    ghost use Rattle.dp_qapps.specs.Touches.{variables_and_members};
+
+    ghost meaning = { remove_member_row };
+
+    ghost title = { codes "RemoveQueueMember" };
+
+    ghost TOUCH = { variables_and_members };
+
+    ghost lawful = { remove_member_lawful };
+
+    const TOUCH: Touch = Touch {
+        variables: true,
+        members: true,
+        ..Touch::NOTHING
+    };
+
+    fn name() -> &'static [u8] {
+        b"RemoveQueueMember"
+    }
+
+    fn apply(alloc: Global, arguments: &[u8], cell: &mut Cell) -> Result<Move, NoMemory> {
+        let parts = split_args(alloc, arguments)?;
+        let going = remove_by_parts(alloc, &parts, cell)?;
+        Ok(going)
+    }
+}

@@ -1,0 +1,175 @@
+//! The applications that pause the members of queues, after the Asterisk documentation's pages on `PauseQueueMember` and
+//! `UnpauseQueueMember`.
+ghost use Rattle.std.specs.Prelude.{◌≡◌, Bool, IfOk, OnErr, map};
+ghost use Rattle.std.specs.Option.{option_copied};
+ghost use Rattle.dp_qapps.specs.Pausing as spec;
+
+use crate::reports::part;
+use dp_app::{Application, Cell, Move, Touch};
+use dp_conf::{NoMemory, split_args};
+use dp_queue::Queues;
+use std::alloc::Global;
+
+/// The queue that a part names; the empty part is all queues.
+fn queue_asked(text: &[u8]) -> Option<&[u8]>
+    ensures { option_copied result ≡ spec.queue_asked text.now }
+{
+    if text.is_empty() {
+        return None;
+    }
+    Some(text)
+}
+
+/// Whether there is such a member; none is of the empty interface.
+fn is_there(queues: &Queues, queue: Option<&[u8]>, interface: &[u8]) -> bool
+    ensures { (is_paused : Bool) → result ≡ (spec.paused queues.now (option_copied queue.entry) interface.now is_paused).1 }
+{
+    if interface.is_empty() {
+        return false;
+    }
+    queues.would_pause(queue, interface)
+}
+
+/// Pauses a member, or ends its pause.
+fn pause(queues: &mut Queues, queue: Option<&[u8]>, interface: &[u8], is_paused: bool)
+    ensures { queues.new ≡ (spec.paused queues.old (option_copied queue.entry) interface.now is_paused).0 }
+{
+    if !interface.is_empty() {
+        let _is_there = queues.pause(queue, interface, is_paused);
+    }
+}
+
+/// The name of the status variable.
+fn pause_variable(is_paused: bool) -> &'static [u8]
+    ensures { result.now ≡ spec.pause_variable is_paused }
+{
+    if is_paused {
+        b"PQMSTATUS"
+    } else {
+        b"UPQMSTATUS"
+    }
+}
+
+/// The status where there is such a member.
+fn pause_done(is_paused: bool) -> &'static [u8]
+    ensures { result.now ≡ spec.pause_done is_paused }
+{
+    if is_paused { b"PAUSED" } else { b"UNPAUSED" }
+}
+
+/// The status.
+fn pause_status(is_paused: bool, is_there: bool) -> &'static [u8]
+    ensures { result.now ≡ spec.pause_status is_paused is_there }
+{
+    if is_there {
+        pause_done(is_paused)
+    } else {
+        b"NOTFOUND"
+    }
+}
+
+/// Pauses a member, or ends its pause, and reports it. After a refused growth the cell is as before.
+fn report_pause(
+    alloc: Global,
+    queue: Option<&[u8]>,
+    interface: &[u8],
+    is_paused: bool,
+    cell: &mut Cell,
+) -> Result<Move, NoMemory>
+    ensures ok { IfOk result (λ going. spec.reported_paused is_paused cell.old
+        (spec.paused cell.old.queues (option_copied queue.entry) interface.now is_paused)
+        ≡ record { cell = cell.new; next = going }) }
+    ensures err { OnErr result (cell.new ≡ cell.old) }
+{
+    let is_there = is_there(&cell.queues, queue, interface);
+    let status = pause_status(is_paused, is_there);
+    cell.store.set(alloc, pause_variable(is_paused), status)?;
+    pause(&mut cell.queues, queue, interface, is_paused);
+    Ok(Move::Next)
+}
+
+/// Pauses the member that the arguments name, or ends its pause. After a refused growth the cell is as before.
+#[tactic(auto, unfolding(crate::specs::Pausing::pausing_row))]
+fn pause_by_text(
+    alloc: Global,
+    arguments: &[u8],
+    is_paused: bool,
+    cell: &mut Cell,
+) -> Result<Move, NoMemory>
+    ensures ok { IfOk result (λ going. spec.pausing_row is_paused arguments.now cell.old ≡ record { cell = cell.new; next = going }) }
+    ensures err { OnErr result (cell.new ≡ cell.old) }
+{
+    let parts = split_args(alloc, arguments)?;
+    let queue = queue_asked(part(&parts, 0));
+    let going = report_pause(alloc, queue, part(&parts, 1), is_paused, cell)?;
+    Ok(going)
+}
+
+/// `PauseQueueMember(queue,interface)`: no call is offered to the member of the queue any more, or of all queues where the
+/// queue is empty. `PQMSTATUS` is `PAUSED`, or `NOTFOUND` where there is no such member, and the channel goes on. A member that
+/// is paused already is paused again.
+pub struct PauseQueueMember;
+
+impl Application for PauseQueueMember {
+    ghost use Rattle.std.specs.Prelude.{codes};
+    ghost use Rattle.dp_qapps.specs.Lawful.{pause_member_lawful};
+    ghost use Rattle.dp_qapps.specs.Pausing.{pause_member_row};
+    ghost use Rattle.dp_qapps.specs.Touches.{variables_and_members};
+
+    ghost meaning = { pause_member_row };
+
+    ghost title = { codes "PauseQueueMember" };
+
+    ghost TOUCH = { variables_and_members };
+
+    ghost lawful = { pause_member_lawful };
+
+    const TOUCH: Touch = Touch {
+        variables: true,
+        members: true,
+        ..Touch::NOTHING
+    };
+
+    fn name() -> &'static [u8] {
+        b"PauseQueueMember"
+    }
+
+    fn apply(alloc: Global, arguments: &[u8], cell: &mut Cell) -> Result<Move, NoMemory> {
+        let going = pause_by_text(alloc, arguments, true, cell)?;
+        Ok(going)
+    }
+}
+
+/// `UnpauseQueueMember(queue,interface)`: the pause of the member ends, in the queue or in all queues where the queue is empty.
+/// `UPQMSTATUS` is `UNPAUSED`, or `NOTFOUND` where there is no such member, and the channel goes on.
+pub struct UnpauseQueueMember;
+
+impl Application for UnpauseQueueMember {
+    ghost use Rattle.std.specs.Prelude.{codes};
+    ghost use Rattle.dp_qapps.specs.Lawful.{unpause_member_lawful};
+    ghost use Rattle.dp_qapps.specs.Pausing.{unpause_member_row};
+    ghost use Rattle.dp_qapps.specs.Touches.{variables_and_members};
+
+    ghost meaning = { unpause_member_row };
+
+    ghost title = { codes "UnpauseQueueMember" };
+
+    ghost TOUCH = { variables_and_members };
+
+    ghost lawful = { unpause_member_lawful };
+
+    const TOUCH: Touch = Touch {
+        variables: true,
+        members: true,
+        ..Touch::NOTHING
+    };
+
+    fn name() -> &'static [u8] {
+        b"UnpauseQueueMember"
+    }
+
+    fn apply(alloc: Global, arguments: &[u8], cell: &mut Cell) -> Result<Move, NoMemory> {
+        let going = pause_by_text(alloc, arguments, false, cell)?;
+        Ok(going)
+    }
+}

@@ -1,0 +1,141 @@
+//! The application that lets a call wait for an agent, after the Asterisk documentation's page on `Queue`.
+ghost use Rattle.std.specs.Prelude.{◌≡◌, IfOk, None, OnErr, false, map};
+ghost use Rattle.dp_app.specs.Laws.{MayRun};
+ghost use Rattle.dp_queue.specs.Agents.{is_talking};
+ghost use Rattle.dp_queue.specs.Joining.{join_row, waits_in};
+ghost use Rattle.dp_qapps.specs.Queueing as spec;
+ghost use Rattle.dp_qapps.specs.Reports as reports;
+
+use crate::reports::part;
+use dp_app::{Application, Cell, Move, Phase, Touch};
+use dp_conf::{NoMemory, cut_outside, split_args};
+use dp_queue::Join;
+use std::alloc::Global;
+
+/// What `Queue` asks for: the queue's name, whether the channel goes on when the agent is done, and whether a time-out takes
+/// it out of the queue.
+#[derive(Clone, Copy)]
+struct Asked<'a> {
+    queue: &'a [u8],
+    goes_on: bool,
+    has_timer: bool,
+}
+
+/// Whether the options ask to go on when the agent is done: a `c` stands outside parentheses.
+fn asks_to_go_on(options: &[u8]) -> bool
+    ensures { result ≡ spec.asks_to_go_on options.now }
+{
+    match cut_outside(options, b'c') {
+        Some(_) => true,
+        None => false,
+    }
+}
+
+/// Whether a part is not empty.
+fn is_given(text: &[u8]) -> bool
+    ensures { result ≡ spec.is_given text.now }
+{
+    !text.is_empty()
+}
+
+/// The status of a call that does not wait, and the channel goes on. After a refused growth the cell is as before.
+fn refuse(alloc: Global, status: &[u8], cell: &mut Cell) -> Result<Move, NoMemory>
+    ensures ok { IfOk result (λ going. spec.refused cell.old status.now ≡ record { cell = cell.new; next = going }) }
+    ensures err { OnErr result (cell.new ≡ cell.old) }
+{
+    cell.store.set(alloc, b"QUEUESTATUS", status)?;
+    Ok(Move::Next)
+}
+
+/// The channel waits in the queue of this number, where it was told that it may join. One that runs the extension `h` is hung
+/// up and cannot wait, so its call ends. After a refused growth the cell is as before.
+fn wait_in(
+    alloc: Global,
+    asked: Asked<'_>,
+    number: usize,
+    cell: &mut Cell,
+) -> Result<Move, NoMemory>
+    requires { MayRun cell.old }
+    ensures ok { IfOk result (λ going. spec.queued cell.old.is_closing cell.old
+        (join_row cell.old.queues asked.entry.queue.now cell.old.number).0 number asked.entry.goes_on asked.entry.has_timer
+        ≡ record { cell = cell.new; next = going }) }
+    ensures err { OnErr result (cell.new ≡ cell.old) }
+{
+    if cell.is_closing {
+        return Ok(Move::Hang);
+    }
+    let _joined = cell.queues.join(alloc, asked.queue, cell.number)?;
+    Ok(Move::Park(Phase::Queued {
+        queue: number,
+        goes_on: asked.goes_on,
+        has_timer: asked.has_timer,
+    }))
+}
+
+/// The channel asks to join the queue. After a refused growth the cell is as before.
+fn ask(alloc: Global, asked: Asked<'_>, cell: &mut Cell) -> Result<Move, NoMemory>
+    requires { MayRun cell.old }
+    ensures ok { IfOk result (λ going. spec.asked_for cell.old asked.entry.goes_on asked.entry.has_timer
+        (join_row cell.old.queues asked.entry.queue.now cell.old.number) ≡ record { cell = cell.new; next = going }) }
+    ensures err { OnErr result (cell.new ≡ cell.old) }
+{
+    match cell.queues.would_join(asked.queue) {
+        Join::Unknown => refuse(alloc, b"UNKNOWN", cell),
+        Join::Empty => refuse(alloc, b"JOINEMPTY", cell),
+        Join::Full => refuse(alloc, b"FULL", cell),
+        Join::Joined(number) => wait_in(alloc, asked, number, cell),
+    }
+}
+
+/// The channel asks to join the queue that the parts of the arguments name. After a refused growth the cell is as before.
+fn ask_by_parts(alloc: Global, parts: &[&[u8]], cell: &mut Cell) -> Result<Move, NoMemory>
+    requires { MayRun cell.old }
+    ensures ok { IfOk result (λ going. spec.queue_by (map (λ part. part.now) parts.now) cell.old
+        ≡ record { cell = cell.new; next = going }) }
+    ensures err { OnErr result (cell.new ≡ cell.old) }
+{
+    let asked = Asked {
+        queue: part(parts, 0),
+        goes_on: asks_to_go_on(part(parts, 1)),
+        has_timer: is_given(part(parts, 4)),
+    };
+    let going = ask(alloc, asked, cell)?;
+    Ok(going)
+}
+
+/// `Queue(queue[,options[,URL[,announcement[,time]]]])`: the channel waits in the queue for an agent. `QUEUESTATUS` is
+/// `UNKNOWN` where there is no such queue, `JOINEMPTY` where it is too empty and `FULL` where it is full, and then the channel
+/// goes on. An option `c` outside parentheses lets it go on when the agent is done, and a time that is not empty lets a
+/// time-out take it out of the queue. During `h` the call ends in place of the wait (a choice of this program).
+pub struct Queue;
+
+impl Application for Queue {
+    ghost use Rattle.std.specs.Prelude.{codes};
+    ghost use Rattle.dp_qapps.specs.Lawful.{queue_lawful};
+    ghost use Rattle.dp_qapps.specs.Queueing.{queue_row};
+    ghost use Rattle.dp_qapps.specs.Touches.{variables_and_waiting};
+
+    ghost meaning = { queue_row };
+
+    ghost title = { codes "Queue" };
+
+    ghost TOUCH = { variables_and_waiting };
+
+    ghost lawful = { queue_lawful };
+
+    const TOUCH: Touch = Touch {
+        variables: true,
+        waiting: true,
+        ..Touch::NOTHING
+    };
+
+    fn name() -> &'static [u8] {
+        b"Queue"
+    }
+
+    fn apply(alloc: Global, arguments: &[u8], cell: &mut Cell) -> Result<Move, NoMemory> {
+        let parts = split_args(alloc, arguments)?;
+        let going = ask_by_parts(alloc, &parts, cell)?;
+        Ok(going)
+    }
+}
