@@ -10,6 +10,11 @@ use Rattle.dp_flow.specs.Plain.{hangup_row, next_row}
 use Rattle.dp_flow.specs.Settings.{set_row}
 use Rattle.dp_flow.specs.Touches.{nothing, settable, the_frames, variables_and_frames}
 use Rattle.dp_flow.specs.Waiting.{background_row, wait_row, wait_exten_row}
+use Rattle.dp_qapps.specs.Lawful.{add_member_lawful, pause_member_lawful, queue_lawful, remove_member_lawful, unpause_member_lawful}
+use Rattle.dp_qapps.specs.Membership.{add_member_row, remove_member_row}
+use Rattle.dp_qapps.specs.Pausing.{pause_member_row, unpause_member_row}
+use Rattle.dp_qapps.specs.Queueing.{queue_row}
+use Rattle.dp_qapps.specs.Touches.{variables_and_members, variables_and_waiting}
 
 -- a table: the row of each name, what each may change, and that each row keeps the laws with that
 pub record Table : Type 0 where
@@ -46,7 +51,12 @@ standard_table =
     (with_application (codes "Playback") nothing next_row next_lawful
     (with_application (codes "Wait") nothing wait_row wait_lawful
     (with_application (codes "WaitExten") nothing wait_exten_row wait_exten_lawful
-    (with_application (codes "Background") nothing background_row background_lawful no_table))))))))))))))
+    (with_application (codes "Background") nothing background_row background_lawful
+    (with_application (codes "Queue") variables_and_waiting queue_row queue_lawful
+    (with_application (codes "AddQueueMember") variables_and_members add_member_row add_member_lawful
+    (with_application (codes "RemoveQueueMember") variables_and_members remove_member_row remove_member_lawful
+    (with_application (codes "PauseQueueMember") variables_and_members pause_member_row pause_member_lawful
+    (with_application (codes "UnpauseQueueMember") variables_and_members unpause_member_row unpause_member_lawful no_table)))))))))))))))))))
 
 -- the row of each of its names
 abbrev pub standard_rows : Rows

@@ -7,10 +7,17 @@ use dp_flow::{
     Answer, Background, Gosub, GosubIf, Goto, GotoIf, Hangup, NoOp, Playback, Return, Set,
     StackPop, Verbose, Wait, WaitExten,
 };
+use dp_qapps::{AddQueueMember, PauseQueueMember, Queue, RemoveQueueMember, UnpauseQueueMember};
 use std::alloc::Global;
 
-/// The applications that wait.
-type Waiting = With<Wait, With<WaitExten, With<Background, NoApps>>>;
+/// The applications that add, remove and pause the members of queues.
+type Membering = With<
+    AddQueueMember,
+    With<RemoveQueueMember, With<PauseQueueMember, With<UnpauseQueueMember, NoApps>>>,
+>;
+
+/// Those and the ones that wait.
+type Waiting = With<Wait, With<WaitExten, With<Background, With<Queue, Membering>>>>;
 
 /// Those and the ones that play or print nothing here, and go on.
 type Silent = With<Answer, With<NoOp, With<Verbose, With<Playback, Waiting>>>>;
