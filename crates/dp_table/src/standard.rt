@@ -11,13 +11,13 @@ use dp_qapps::{AddQueueMember, PauseQueueMember, Queue, RemoveQueueMember, Unpau
 use std::alloc::Global;
 
 /// The applications that add, remove and pause the members of queues.
-type Membering = With<
+type Membership = With<
     AddQueueMember,
     With<RemoveQueueMember, With<PauseQueueMember, With<UnpauseQueueMember, NoApps>>>,
 >;
 
 /// Those and the ones that wait.
-type Waiting = With<Wait, With<WaitExten, With<Background, With<Queue, Membering>>>>;
+type Waiting = With<Wait, With<WaitExten, With<Background, With<Queue, Membership>>>>;
 
 /// Those and the ones that play or print nothing here, and go on.
 type Silent = With<Answer, With<NoOp, With<Verbose, With<Playback, Waiting>>>>;
