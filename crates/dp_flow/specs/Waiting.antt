@@ -1,7 +1,6 @@
 -- The rows of applications that wait.
 use Rattle.std.specs.Prelude.{Bool, true, false, [], if◌then◌else◌}
 use Rattle.dp_app.specs.Rows.{Row}
-use Rattle.dp_app.specs.declared.cell.Cell.{Cell}
 use Rattle.dp_app.specs.declared.going.Move.{Move}
 use Rattle.dp_app.specs.declared.going.Move.TheVariants.{Hang, Park}
 use Rattle.dp_app.specs.declared.phase.Phase.{Phase}
