@@ -247,7 +247,7 @@ known_plain-push held (n ∷ names) plain =
     ap (λ l. own_plain held n ++ l) (known_plain-push held names plain)
     ∙ sym (append_assoc (own_plain held n) (known_plain held names) (own_plain held plain))
 
-ranges-plain : (count : ℕ) (names : List PlainName) (plain : PlainName) → ArePlainRanges count names → plain.from ≤ plain.until → plain.until ≤ count → ArePlainRanges count (names ++ plain ∷ [])
+ranges-plain : (count : ℕ) (names : List PlainName) (plain : PlainName) → ArePlainRanges count names → plain.from < plain.until → plain.until ≤ count → ArePlainRanges count (names ++ plain ∷ [])
 ranges-plain count [] plain each from until = ((from, until), tt)
 ranges-plain count (n ∷ names) plain each from until = (each.0, ranges-plain count names plain each.1 from until)
 
@@ -259,7 +259,7 @@ names-push ranked names text from until built is_group = record {
       ∙ (ap (λ k. k ++ own_plain held plain) built.known
       ∙ (ap (λ k. take from known ++ k) (own_group known from until (Plain text) is_group)
       ∙ sym (take-range known from until few)));
-  ranges = ranges-plain (length ranked) names plain built.ranges few within;
+  ranges = ranges-plain (length ranked) names plain built.ranges is_group.later within;
 }
   where
     known : List Known
@@ -340,7 +340,7 @@ plain-more ranked count one here plain before =
     subst (AllByRecursion (λ (r : Ranked). IsPlain (known_now r).name)) (sym (ap (λ n. take n ranked) (add-one count) ∙ take-get ranked count one here))
     (all-push (λ (r : Ranked). IsPlain (known_now r).name) (take count ranked) one before plain)
 
-by_places : {X : Type 0} (P : X → Type 0) (xs : List X) → ((k : ℕ) (x : X) → slice_get xs k ≡ Some x → P x) → AllByRecursion P xs
+pub by_places : {X : Type 0} (P : X → Type 0) (xs : List X) → ((k : ℕ) (x : X) → slice_get xs k ≡ Some x → P x) → AllByRecursion P xs
 by_places P [] each = tt
 by_places P (x ∷ xs) each = (each 0 x refl, by_places P xs (λ k y here. each (suc k) y here))
 

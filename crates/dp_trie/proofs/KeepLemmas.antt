@@ -21,9 +21,10 @@ use Rattle.dp_lookup.specs.FoundEntry.{passes, found_by, priority_at}
 use Rattle.dp_lookup.proofs.RankedLemmas.{first_is_least}
 use Rattle.dp_trie.specs.Known.{Known, KeptContext, known_of, known_at, KeepsEntries, Keeps, class_count, kept_at, found_first, FindsPattern}
 use Rattle.dp_trie.specs.Asked.{hit_of}
-use Rattle.dp_trie.specs.Ranked.{IsPattern, ArePlainFirst}
+use Rattle.dp_trie.specs.Ranked.{IsPattern, ArePlainFirst, AreInOrder, known_cmp}
 use Rattle.dp_trie.specs.declared.question.Hit.{Hit}
 use Rattle.dp_trie.proofs.BuildLemmas.{take-get}
+use Rattle.dp_trie.proofs.RisingLemmas.{sorted-places}
 use Rattle.dp_trie.proofs.TreeLemmas.{drop-get}
 
 -- ---- the entries of a ranking
@@ -93,12 +94,12 @@ keeps-ranked plan number ids ranking = by (slice_get plan.contexts number) refl 
 
 -- ---- plain names stand first
 
-entry_of_known : (plan : PlanOf) (id : EntryId) (known : Known) → known_at plan id ≡ Some known → (entry : Entry) × (entry_at plan id ≡ Some entry) × (entry.name ≡ known.name)
+entry_of_known : (plan : PlanOf) (id : EntryId) (known : Known) → known_at plan id ≡ Some known → (entry : Entry) × (entry_at plan id ≡ Some entry) × (known_of id entry ≡ known)
 entry_of_known plan id known there = by (entry_at plan id) refl there
   where
-    by : (o : Option Entry) → entry_at plan id ≡ o → option_map (known_of id) o ≡ Some known → (entry : Entry) × (entry_at plan id ≡ Some entry) × (entry.name ≡ known.name)
+    by : (o : Option Entry) → entry_at plan id ≡ o → option_map (known_of id) o ≡ Some known → (entry : Entry) × (entry_at plan id ≡ Some entry) × (known_of id entry ≡ known)
     by None e there = absurd cc
-    by (Some entry) e there = (let same : known_of id entry ≡ known = same_Some (known_of id entry) known there in (entry, e, ap (λ (k : Known). k.name) same))
+    by (Some entry) e there = (entry, e, same_Some (known_of id entry) known there)
 
 each_at : {X : Type 0} (P : X → Type 0) (xs : List X) (i : ℕ) (x : X) → AllByRecursion P xs → slice_get xs i ≡ Some x → P x
 each_at P [] i x each here = absurd cc
@@ -123,13 +124,14 @@ all_here number context ids ranking =
     (All-permutation (λ (id : EntryId). id.context ≡ number) (ids_of number context.entries) ids ranking.whole
     (All-map (λ (id : EntryId). id.context ≡ number) (id_at number) (range_with_len 0 (length context.entries)) (λ k d below. refl)))
 
-pub plain_first : (plan : PlanOf) (number : ℕ) (known : List Known) → KeepsEntries plan number known → ArePlainFirst known
-plain_first plan number known keeps i j a b before at_i at_j pattern = by (slice_get plan.contexts number) refl keeps.ranked
+-- an entry is less than a later one
+less_at : (plan : PlanOf) (number : ℕ) (known : List Known) → KeepsEntries plan number known → (i j : ℕ) (a b : Known) → i < j → slice_get known i ≡ Some a → slice_get known j ≡ Some b → known_cmp a b ≡ Less
+less_at plan number known keeps i j a b before at_i at_j = by (slice_get plan.contexts number) refl keeps.ranked
   where
     ids : List EntryId
     ids = map (λ (k : Known). k.id) known
 
-    ranked_at : (context : PlanContext) → slice_get plan.contexts number ≡ Some context → IsRanking number context.entries ids → (k : ℕ) (one : Known) → slice_get known k ≡ Some one → (entry : Entry) × (ranked_entry context.entries ids k ≡ Some entry) × (entry.name ≡ one.name)
+    ranked_at : (context : PlanContext) → slice_get plan.contexts number ≡ Some context → IsRanking number context.entries ids → (k : ℕ) (one : Known) → slice_get known k ≡ Some one → (entry : Entry) × (ranked_entry context.entries ids k ≡ Some entry) × (known_of one.id entry ≡ one)
     ranked_at context e ranking k one here =
         let id_here = map_at (λ (x : Known). x.id) known k one here in
         let entry = entry_of_known plan one.id one (each_at (λ (x : Known). known_at plan x.id ≡ Some x) known k one keeps.each here) in
@@ -138,7 +140,7 @@ plain_first plan number known keeps i j a b before at_i at_j pattern = by (slice
         sym (ap (option_and_then (λ (c : PlanContext). slice_get c.entries one.id.entry)) (ap (slice_get plan.contexts) mine ∙ e)) ∙ entry.1 in
         (entry.0, ap (option_and_then (λ (id : EntryId). slice_get context.entries id.entry)) id_here ∙ there, entry.2)
 
-    by : (o : Option PlanContext) → slice_get plan.contexts number ≡ o → MatchOption o (ids ≡ []) (λ (context : PlanContext). IsRanking number context.entries ids) → IsPattern b.name
+    by : (o : Option PlanContext) → slice_get plan.contexts number ≡ o → MatchOption o (ids ≡ []) (λ (context : PlanContext). IsRanking number context.entries ids) → known_cmp a b ≡ Less
     by None e none =
         let id_here = map_at (λ (x : Known). x.id) known i a at_i in
         let nothing : slice_get ids i ≡ None = ap (λ (l : List EntryId). slice_get l i) none in
@@ -147,7 +149,14 @@ plain_first plan number known keeps i j a b before at_i at_j pattern = by (slice
         let x = ranked_at context e ranking i a at_i in
         let y = ranked_at context e ranking j b at_j in
         let less = ranking.rising i j x.0 y.0 before x.1 y.1 in
-        subst IsPattern y.2 (behind_pattern x.0.name y.0.name x.0.priority y.0.priority less (subst IsPattern (sym x.2) pattern))
+        ap (λ k. known_cmp k b) (sym x.2) ∙ (ap (known_cmp (known_of a.id x.0)) (sym y.2) ∙ less)
+
+pub in_order : (plan : PlanOf) (number : ℕ) (known : List Known) → KeepsEntries plan number known → AreInOrder known
+in_order plan number known keeps = sorted-places known_cmp known (less_at plan number known keeps)
+
+pub plain_first : (plan : PlanOf) (number : ℕ) (known : List Known) → KeepsEntries plan number known → ArePlainFirst known
+plain_first plan number known keeps i j a b before at_i at_j pattern =
+    behind_pattern a.name b.name a.priority b.priority (less_at plan number known keeps i j a b before at_i at_j) pattern
 
 -- ---- what is found
 
@@ -259,7 +268,7 @@ found-pattern plan kept keeps test order count few id entry found there = by (fo
         let mine : one.id ≡ id = same_Some one.id id found in
         let known = entry_of_known plan one.id one (found-there plan kept keeps test order one e) in
         let same : known.0 ≡ entry = same_Some known.0 entry (sym known.1 ∙ (ap (entry_at plan) mine ∙ there)) in
-        let name : one.name ≡ entry.name = sym known.2 ∙ ap (λ (x : Entry). x.name) same in
+        let name : one.name ≡ entry.name = ap (λ (k : Known). k.name) (sym known.2) ∙ ap (λ (x : Entry). x.name) same in
         subst (λ m. class_count m ≤ count) name few
 
 -- ---- the contexts of an order

@@ -3,5 +3,7 @@ pub mod DigitLemmas
 pub mod KeepLemmas
 pub mod LinkLemmas
 pub mod PlainLemmas
+pub mod RisingLemmas
+pub mod TableLemmas
 pub mod TreeLemmas
 pub mod WalkLemmas

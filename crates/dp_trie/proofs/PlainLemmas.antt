@@ -1,83 +1,265 @@
--- What is found among plain names.
-use Rattle.std.proofs.Common.{◌≡◌, ℕ, zero, suc, ◌+◌, ◌<◌, ◌≤◌, Bool, true, false, cond, List, [], ◌∷◌, ◌++◌, length, map, take, drop, get_or, Option, Some, None, MatchOption, arith, refl, sym, ap, ◌∙◌, add-one}
-use Rattle.std.specs.Prelude.{slice_get, slice_range, is_some, find}
+-- What is found among plain names, which stand in order.
+use Rattle.std.proofs.Common.{◌≡◌, ℕ, zero, suc, ◌+◌, ◌-◌, ◌<◌, ◌≤◌, Bool, true, false, cond, ◌==◌, ◌||◌, List, [], ◌∷◌, ◌++◌, length, map, take, drop, get_or, Option, Some, None, MatchOption, inl, inr, ◌⊎◌, arith, refl, sym, ap, subst, ◌∙◌, add-one, Ordering, Less, Equal, Greater, nat_cmp, is_eq}
+use Rattle.std.specs.Prelude.{slice_get, slice_range, is_some, find, nat_lt}
+use Rattle.std.specs.List.{AllByRecursion}
+use Rattle.std.specs.List.Sorted.{IsPartitionPoint, IsPartitionedBy}
 use Rattle.std.specs.Option.{option_map, option_or}
-use Rattle.std.proofs.lemmas.List.{length-map}
+use Rattle.std.specs.Ordering.{ordering_then}
+use Rattle.std.specs.Cmp.Lexicographic.{slice_cmp}
+use Rattle.std.proofs.lemmas.Bool.{eq-eqb, ne_eqb, ltb-true, ltb-false, lt-ltb, cases_order}
+use Rattle.std.proofs.lemmas.Cmp.{ranked}
+use Rattle.std.proofs.lemmas.List.{length-take, length-drop, take-append-drop}
 use Rattle.std.proofs.lemmas.List.Folds.{find-append}
-use Rattle.std.proofs.lemmas.Option.{slice_get-get_or}
-use Rattle.dp_pattern.specs.Name.{Meaning, Plain, Pattern}
-use Rattle.dp_pattern.specs.Walk.{walked, singles, classes_of}
+use Rattle.std.proofs.lemmas.Option.{slice_get-get_or, slice_get_cases, slice_get_within, same_Some}
+use Rattle.dp_pattern.specs.Name.{Meaning, Plain, Pattern, is_one_of}
+use Rattle.dp_pattern.specs.Order.{name_cmp}
+use Rattle.dp_pattern.specs.Walk.{Refused, walked, singles, classes_of}
 use Rattle.dp_pattern.specs.declared.tail.Tail.TheVariants.{End}
-use Rattle.dp_trie.specs.Asked.{Wanted, fits, asked, holds, hit_held, hit_of}
+use Rattle.dp_trie.specs.Asked.{Wanted, fits, is_wanted, asked, holds, hit_held, hit_of}
 use Rattle.dp_trie.specs.Known.{Known, class_count}
-use Rattle.dp_trie.specs.Names.{own_plain, known_plain}
-use Rattle.dp_trie.specs.Tree.{known_held, takes, allows}
+use Rattle.dp_trie.specs.Names.{own_plain, known_plain, side_of, rank, rank_of, fitting, ArePlainRanges, RiseEach, NamesRise, AreFitting}
+use Rattle.dp_trie.specs.Ranked.{known_cmp, AreInOrder}
+use Rattle.dp_trie.specs.Tree.{known_held}
 use Rattle.dp_trie.specs.declared.node.Held.{Held}
 use Rattle.dp_trie.specs.declared.plain.PlainName.{PlainName}
+use Rattle.dp_trie.specs.declared.plain.Side.{Side}
+use Rattle.dp_trie.specs.declared.plain.Side.TheVariants.{Before, Same, Longer, Behind}
 use Rattle.dp_trie.specs.declared.question.Hit.{Hit}
-use Rattle.dp_trie.proofs.BuildLemmas.{take-get, take-whole}
-use Rattle.dp_trie.proofs.TreeLemmas.{find_images, drop-get}
-use Rattle.dp_trie.proofs.WalkLemmas.{alive, alive-push, dead-fits, fits-allows}
+use Rattle.dp_trie.proofs.BuildLemmas.{all-at, map-get}
+use Rattle.dp_trie.proofs.RisingLemmas.{all-left, all-right, sorted-left, sorted-right, sorted-across, held-rise}
+use Rattle.dp_trie.proofs.TreeLemmas.{find_images, drop-get, drop-end}
 
-singles-push : (xs : List ℕ) (b : ℕ) → singles (xs ++ b ∷ []) ≡ singles xs ++ (b ∷ []) ∷ []
-singles-push [] b = refl
-singles-push (x ∷ xs) b = ap (λ l. (x ∷ []) ∷ l) (singles-push xs b)
+-- ---- where a name stands
 
-singles-take : (n : ℕ) (xs : List ℕ) → take n (singles xs) ≡ singles (take n xs)
-singles-take zero xs = refl
-singles-take (suc n) [] = refl
-singles-take (suc n) (x ∷ xs) = ap (λ l. (x ∷ []) ∷ l) (singles-take n xs)
+abbrev step_side : Ordering → Side → Side
+step_side o rest = elim o [ Less ↦ Before | Equal ↦ rest | Greater ↦ Behind ]
 
-length-take_to : {X : Type 0} (n : ℕ) (xs : List X) → n ≤ length xs → length (take n xs) ≡ n
-length-take_to zero xs few = refl
-length-take_to (suc n) [] few = absurd (omega (arith, few))
-length-take_to (suc n) (x ∷ xs) few = ap suc (length-take_to n xs (omega (arith, few)))
+-- where names stand by what stands from a place on
+pub side-at : (name digits : List ℕ) (n b d : ℕ) (o : Ordering) → slice_get name n ≡ Some b → slice_get digits n ≡ Some d → nat_cmp b d ≡ o → side_of (drop n name) (drop n digits) ≡ step_side o (side_of (drop (n + 1) name) (drop (n + 1) digits))
+side-at name digits n b d o here there order =
+    ap (λ l. side_of l (drop n digits)) (drop-get name n b here)
+    ∙ (ap (λ l. side_of (b ∷ drop (n + 1) name) l) (drop-get digits n d there)
+    ∙ ap (λ o. step_side o (side_of (drop (n + 1) name) (drop (n + 1) digits))) order)
 
--- one byte more takes the digits exactly where the byte does
-pub plain-step : (more : Bool) (name : List ℕ) (n : ℕ) (digits : List ℕ) → n < length name → alive more (singles (take n name)) digits ≡ true → alive more (singles (take (n + 1) name)) digits ≡ takes more digits (get_or name n 0 ∷ []) n
-plain-step more name n digits within on =
-    let here = slice_get-get_or name n 0 within in
-    let size : length (singles (take n name)) ≡ n = length-map (take n name) (λ b. b ∷ []) ∙ length-take_to n name (omega (arith, within)) in
-    ap (λ p. alive more p digits) (ap (λ k. singles (take k name)) (add-one n) ∙ (ap singles (take-get name n (get_or name n 0) here) ∙ singles-push (take n name) (get_or name n 0)))
-    ∙ (alive-push more (singles (take n name)) (get_or name n 0 ∷ []) digits on
-    ∙ ap (takes more digits (get_or name n 0 ∷ [])) size)
+-- where the digits have ended
+pub side-longer : (name digits : List ℕ) (n b : ℕ) → slice_get name n ≡ Some b → slice_get digits n ≡ None → side_of (drop n name) (drop n digits) ≡ Longer
+side-longer name digits n b here ended =
+    ap (λ l. side_of l (drop n digits)) (drop-get name n b here)
+    ∙ ap (λ l. side_of (b ∷ drop (n + 1) name) l) (drop-end digits n ended)
 
--- a byte that does not take its digit refuses the name
-pub plain-refused : (more : Bool) (name : List ℕ) (n : ℕ) (digits : List ℕ) → n < length name → alive more (singles (take n name)) digits ≡ true → takes more digits (get_or name n 0 ∷ []) n ≡ false → false ≡ fits more End (walked (singles name) digits)
-plain-refused more name n digits within on refused =
-    sym (dead-fits more End (n + 1) (singles name) digits (ap (λ p. alive more p digits) (singles-take (n + 1) name) ∙ (plain-step more name n digits within on ∙ refused)))
+side_short : (n : ℕ) (digits : List ℕ) → (n < length digits → side_of [] (drop n digits) ≡ Before) × (length digits ≤ n → side_of [] (drop n digits) ≡ Same)
+side_short zero [] = (λ few. absurd (omega (arith, few)), λ many. refl)
+side_short zero (d ∷ digits) = (λ few. refl, λ many. absurd (omega (arith, many)))
+side_short (suc n) [] = (λ few. absurd (omega (arith, few)), λ many. refl)
+side_short (suc n) (d ∷ digits) = (λ few. (side_short n digits).0 (omega (arith, few)), λ many. (side_short n digits).1 (omega (arith, many)))
 
-pub plain-taken : (more : Bool) (name : List ℕ) (n : ℕ) (digits : List ℕ) → n ≡ length name → alive more (singles (take n name)) digits ≡ true → allows more End (length name) (length digits) ≡ fits more End (walked (singles name) digits)
-plain-taken more name n digits end on =
-    let whole : take n name ≡ name = ap (λ k. take k name) end ∙ take-whole name in
-    let all : alive more (singles name) digits ≡ true = ap (λ l. alive more (singles l) digits) (sym whole) ∙ on in
-    ap (λ k. allows more End k (length digits)) (sym (length-map name (λ b. b ∷ []))) ∙ sym (fits-allows more End (singles name) digits all)
+ended : (name : List ℕ) (n : ℕ) → length name ≤ n → drop n name ≡ []
+ended [] zero few = refl
+ended [] (suc n) few = refl
+ended (b ∷ name) zero few = absurd (omega (arith, few))
+ended (b ∷ name) (suc n) few = ended name n (omega (arith, few))
 
-module _ (held : List Held) (more : Bool) (wanted : Wanted) (digits : List ℕ) where
-  own-found : (plain : PlainName) → find (asked more wanted digits) (own_plain held plain) ≡ cond (fits more End (walked (singles plain.name) digits)) (option_map (known_held (Plain plain.name)) (find (holds wanted) (slice_range held plain.from plain.until))) None
-  own-found plain =
-      find_images (fits more End (walked (singles plain.name) digits)) (known_held (Plain plain.name)) (asked more wanted digits) (holds wanted) (λ h. refl) (slice_range held plain.from plain.until)
+-- where the name has ended
+pub side-before : (name digits : List ℕ) (n : ℕ) → length name ≤ n → n < length digits → side_of (drop n name) (drop n digits) ≡ Before
+side-before name digits n few more = ap (λ l. side_of l (drop n digits)) (ended name n few) ∙ (side_short n digits).0 more
 
-  hit-twice : (plain : PlainName) (o : Option Held) → option_map hit_held o ≡ option_map hit_of (option_map (known_held (Plain plain.name)) o)
-  hit-twice plain None = refl
-  hit-twice plain (Some h) = refl
+pub side-same : (name digits : List ℕ) (n : ℕ) → length name ≤ n → length digits ≤ n → side_of (drop n name) (drop n digits) ≡ Same
+side-same name digits n few many = ap (λ l. side_of l (drop n digits)) (ended name n few) ∙ (side_short n digits).1 many
 
-  pub own-fits : (plain : PlainName) → fits more End (walked (singles plain.name) digits) ≡ true → option_map hit_held (find (holds wanted) (slice_range held plain.from plain.until)) ≡ option_map hit_of (find (asked more wanted digits) (own_plain held plain))
-  own-fits plain e =
-      hit-twice plain (find (holds wanted) (slice_range held plain.from plain.until))
-      ∙ ap (option_map hit_of) (sym (own-found plain ∙ ap (λ b. cond b (option_map (known_held (Plain plain.name)) (find (holds wanted) (slice_range held plain.from plain.until))) None) e))
+rank-most : (s : Side) → rank s ≤ 3
+rank-most Before = omega arith
+rank-most Same = omega arith
+rank-most Longer = omega arith
+rank-most Behind = omega arith
 
-  pub own-refused : (plain : PlainName) → fits more End (walked (singles plain.name) digits) ≡ false → None ≡ option_map hit_of (find (asked more wanted digits) (own_plain held plain))
-  own-refused plain e =
-      ap (option_map hit_of) (sym (own-found plain ∙ ap (λ b. cond b (option_map (known_held (Plain plain.name)) (find (holds wanted) (slice_range held plain.from plain.until))) None) e))
+-- a name that is not behind another stands no higher
+pub sides-rise : (a b digits : List ℕ) → (slice_cmp nat_cmp a b ≡ Greater → ⊥) → rank (side_of a digits) ≤ rank (side_of b digits)
+sides-rise [] [] digits low = omega arith
+sides-rise [] (y ∷ b) [] low = omega arith
+sides-rise [] (y ∷ b) (d ∷ digits) low = omega arith
+sides-rise (x ∷ a) [] digits low = absurd (low refl)
+sides-rise (x ∷ a) (y ∷ b) [] low = omega arith
+sides-rise (x ∷ a) (y ∷ b) (d ∷ digits) low = by (nat_cmp x y) (nat_cmp x d) (nat_cmp y d) refl refl refl low (sides-rise a b digits)
+  where
+    by : (o p q : Ordering) → o ≡ nat_cmp x y → p ≡ nat_cmp x d → q ≡ nat_cmp y d → (ordering_then o (slice_cmp nat_cmp a b) ≡ Greater → ⊥) → ((slice_cmp nat_cmp a b ≡ Greater → ⊥) → rank (side_of a digits) ≤ rank (side_of b digits)) → rank (step_side p (side_of a digits)) ≤ rank (step_side q (side_of b digits))
+    by o Less q e f g low rest = omega arith
+    by o Equal Greater e f g low rest = rank-most (side_of a digits)
+    by o Greater Greater e f g low rest = omega arith
+    by Less Equal Less e f g low rest = let u = ranked x y Less e in let v = ranked x d Equal f in let w = ranked y d Less g in absurd (omega (arith, u, v, w))
+    by Less Equal Equal e f g low rest = let u = ranked x y Less e in let v = ranked x d Equal f in let w = ranked y d Equal g in absurd (omega (arith, u, v, w))
+    by Less Greater Less e f g low rest = let u = ranked x y Less e in let v = ranked x d Greater f in let w = ranked y d Less g in absurd (omega (arith, u, v, w))
+    by Less Greater Equal e f g low rest = let u = ranked x y Less e in let v = ranked x d Greater f in let w = ranked y d Equal g in absurd (omega (arith, u, v, w))
+    by Equal Equal Less e f g low rest = let u = ranked x y Equal e in let v = ranked x d Equal f in let w = ranked y d Less g in absurd (omega (arith, u, v, w))
+    by Equal Equal Equal e f g low rest = rest low
+    by Equal Greater Less e f g low rest = let u = ranked x y Equal e in let v = ranked x d Greater f in let w = ranked y d Less g in absurd (omega (arith, u, v, w))
+    by Equal Greater Equal e f g low rest = let u = ranked x y Equal e in let v = ranked x d Greater f in let w = ranked y d Equal g in absurd (omega (arith, u, v, w))
+    by Greater p q e f g low rest = absurd (low refl)
 
+one_of : (b d : ℕ) (o : Ordering) → o ≡ nat_cmp b d → is_one_of (b ∷ []) d ≡ is_eq o
+one_of b d Less e = let u = ranked b d Less e in ap (λ t. t || false) (ne_eqb d b (λ same. omega (arith, u, same)))
+one_of b d Equal e = let u = ranked b d Equal e in ap (λ t. t || false) (eq-eqb d b (sym u))
+one_of b d Greater e = let u = ranked b d Greater e in ap (λ t. t || false) (ne_eqb d b (λ same. omega (arith, u, same)))
+
+-- a name fits exactly where it stands on the side that is asked for
+pub fits-side : (more : Bool) (name digits : List ℕ) → fits more End (walked (singles name) digits) ≡ (rank (side_of name digits) == rank (fitting more))
+fits-side false [] [] = refl
+fits-side true [] [] = refl
+fits-side false [] (d ∷ digits) = refl
+fits-side true [] (d ∷ digits) = refl
+fits-side false (b ∷ name) [] = refl
+fits-side true (b ∷ name) [] = refl
+fits-side more (b ∷ name) (d ∷ digits) =
+    ap (λ t. fits more End (cond t (walked (singles name) digits) Refused)) (one_of b d (nat_cmp b d) refl)
+    ∙ by more (nat_cmp b d) (fits-side more name digits)
+  where
+    by : (more : Bool) (o : Ordering) → fits more End (walked (singles name) digits) ≡ (rank (side_of name digits) == rank (fitting more)) → fits more End (cond (is_eq o) (walked (singles name) digits) Refused) ≡ (rank (step_side o (side_of name digits)) == rank (fitting more))
+    by more Equal rest = rest
+    by false Less rest = refl
+    by true Less rest = refl
+    by false Greater rest = refl
+    by true Greater rest = refl
+
+-- ---- names in their order
+
+names-at : (names : List PlainName) (digits : List ℕ) → NamesRise names → (i j : ℕ) (p q : PlainName) → i < j → slice_get names i ≡ Some p → slice_get names j ≡ Some q → rank_of digits p ≤ rank_of digits q
+names-at [] digits rise i j p q before at_i at_j = absurd cc
+names-at (n ∷ names) digits rise zero zero p q before at_i at_j = absurd (omega (arith, before))
+names-at (n ∷ names) digits rise zero (suc j) p q before at_i at_j =
+    let same : n ≡ p = same_Some n p at_i in
+    sides-rise p.name q.name digits (subst (λ (k : PlainName). slice_cmp nat_cmp k.name q.name ≡ Greater → ⊥) same (all-at (λ (later : PlainName). slice_cmp nat_cmp n.name later.name ≡ Greater → ⊥) names j q rise.0 at_j))
+names-at (n ∷ names) digits rise (suc i) zero p q before at_i at_j = absurd (omega (arith, before))
+names-at (n ∷ names) digits rise (suc i) (suc j) p q before at_i at_j = names-at names digits rise.1 i j p q (omega (arith, before)) at_i at_j
+
+-- the names below a rank stand first
+pub ranks-parted : (names : List PlainName) (digits : List ℕ) (limit : ℕ) → NamesRise names → IsPartitionedBy (λ (p : PlainName). nat_lt (rank_of digits p) limit) names
+ranks-parted names digits limit rise i j d few within below = elim (cases_order i j) [
+  | inl same ↦ ap (λ k. nat_lt (rank_of digits (get_or names k d)) limit) same ∙ below
+  | inr (inl before) ↦
+      let at_i = slice_get-get_or names i d (omega (arith, before, within)) in
+      let at_j = slice_get-get_or names j d within in
+      let less = names-at names digits rise i j (get_or names i d) (get_or names j d) before at_i at_j in
+      let under = ltb-true (rank_of digits (get_or names j d)) limit below in
+      lt-ltb (rank_of digits (get_or names i d)) limit (omega (arith, less, under))
+  | inr (inr behind) ↦ absurd (omega (arith, few, behind))
+]
+
+all-first : (P : PlainName → Type 0) (names : List PlainName) (n : ℕ) → ((k : ℕ) (p : PlainName) → k < n → slice_get names k ≡ Some p → P p) → AllByRecursion P (take n names)
+all-first P names zero each = tt
+all-first P [] (suc n) each = tt
+all-first P (p ∷ names) (suc n) each = (each 0 p (omega arith) refl, all-first P names n (λ k q few here. each (suc k) q (omega (arith, few)) here))
+
+all-last : (P : PlainName → Type 0) (names : List PlainName) (n : ℕ) → ((k : ℕ) (p : PlainName) → n ≤ k → slice_get names k ≡ Some p → P p) → AllByRecursion P (drop n names)
+all-last P [] zero each = tt
+all-last P (p ∷ names) zero each = (each 0 p (omega arith) refl, all-last P names 0 (λ k q few here. each (suc k) q (omega arith) here))
+all-last P [] (suc n) each = tt
+all-last P (p ∷ names) (suc n) each = all-last P names n (λ k q few here. each (suc k) q (omega (arith, few)) here)
+
+get_here : (names : List PlainName) (k : ℕ) (p : PlainName) → slice_get names k ≡ Some p → get_or names k p ≡ p
+get_here names k p here = (let inside = slice_get_within names k p here in same_Some (get_or names k p) p (sym (slice_get-get_or names k p inside) ∙ here))
+
+abbrev IsPoint : List ℕ → ℕ → List PlainName → ℕ → Type 0
+IsPoint digits limit names i = IsPartitionPoint (λ (p : PlainName). nat_lt (rank_of digits p) limit ≡ true) (λ (p : PlainName). nat_lt (rank_of digits p) limit ≡ false) names i
+
+pub below-point : (names : List PlainName) (digits : List ℕ) (limit i : ℕ) → IsPoint digits limit names i → AllByRecursion (λ (p : PlainName). rank_of digits p < limit) (take i names)
+below-point names digits limit i point =
+    all-first (λ (p : PlainName). rank_of digits p < limit) names i (λ k p few here.
+    ltb-true (rank_of digits p) limit (ap (λ (q : PlainName). nat_lt (rank_of digits q) limit) (sym (get_here names k p here)) ∙ point.0 k p (omega arith) few))
+
+pub above-point : (names : List PlainName) (digits : List ℕ) (limit i : ℕ) → IsPoint digits limit names i → AllByRecursion (λ (p : PlainName). limit ≤ rank_of digits p) (drop i names)
+above-point names digits limit i point =
+    all-last (λ (p : PlainName). limit ≤ rank_of digits p) names i (λ k p few here.
+    let inside = slice_get_within names k p here in
+    ltb-false (rank_of digits p) limit (ap (λ (q : PlainName). nat_lt (rank_of digits q) limit) (sym (get_here names k p here)) ∙ point.1 k p few inside))
+
+pub rise-drop : (names : List PlainName) (n : ℕ) → NamesRise names → NamesRise (drop n names)
+rise-drop [] zero rise = rise
+rise-drop (p ∷ names) zero rise = rise
+rise-drop [] (suc n) rise = rise
+rise-drop (p ∷ names) (suc n) rise = rise-drop names n rise.1
+
+all_both : (P Q R : PlainName → Type 0) → ((p : PlainName) → P p → Q p → R p) → (names : List PlainName) → AllByRecursion P names → AllByRecursion Q names → AllByRecursion R names
+all_both P Q R both [] ps qs = tt
+all_both P Q R both (p ∷ names) ps qs = (both p ps.0 qs.0, all_both P Q R both names ps.1 qs.1)
+
+all-taken : (P : PlainName → Type 0) (names : List PlainName) (n : ℕ) → AllByRecursion P names → AllByRecursion P (take n names)
+all-taken P names zero each = tt
+all-taken P [] (suc n) each = tt
+all-taken P (p ∷ names) (suc n) each = (each.0, all-taken P names n each.1)
+
+all-weaker : (P Q : PlainName → Type 0) → ((p : PlainName) → P p → Q p) → (names : List PlainName) → AllByRecursion P names → AllByRecursion Q names
+all-weaker P Q weaker [] each = tt
+all-weaker P Q weaker (p ∷ names) each = (weaker p each.0, all-weaker P Q weaker names each.1)
+
+pub are-fitting : (digits : List ℕ) (more : Bool) (names : List PlainName) (n k limit : ℕ) → limit ≡ rank (fitting more) → AllByRecursion (λ (p : PlainName). rank_of digits p < limit) (take n names) → AllByRecursion (λ (p : PlainName). limit ≤ rank_of digits p) (drop n names) → AllByRecursion (λ (p : PlainName). rank_of digits p < limit + 1) (take k (drop n names)) → AllByRecursion (λ (p : PlainName). limit + 1 ≤ rank_of digits p) (drop k (drop n names)) → AreFitting digits more names (take k (drop n names))
+are-fitting digits more names n k limit is before least few most = record {
+  before = take n names;
+  behind = drop k (drop n names);
+  whole = sym (take-append-drop n names) ∙ ap (λ l. take n names ++ l) (sym (take-append-drop k (drop n names)));
+  lower = subst (λ m. AllByRecursion (λ (p : PlainName). rank_of digits p < m) (take n names)) is before;
+  fit =
+      all_both (λ (p : PlainName). limit ≤ rank_of digits p) (λ (p : PlainName). rank_of digits p < limit + 1) (λ (p : PlainName). rank_of digits p ≡ rank (fitting more))
+      (λ p low high. omega (arith, is, low, high)) (take k (drop n names)) (all-taken (λ (p : PlainName). limit ≤ rank_of digits p) (drop n names) k least) few;
+  higher =
+      all-weaker (λ (p : PlainName). limit + 1 ≤ rank_of digits p) (λ (p : PlainName). rank (fitting more) < rank_of digits p)
+      (λ p low. omega (arith, is, low)) (drop k (drop n names)) most;
+}
+
+-- ---- the order of the entries is one of the names
+
+not_behind : (a b : List ℕ) (i j : ℕ) → ordering_then (name_cmp (Plain a) (Plain b)) (nat_cmp i j) ≡ Less → slice_cmp nat_cmp a b ≡ Greater → ⊥
+unfolding name_cmp
+not_behind a b i j less greater = (let wrong : Greater ≡ Less = sym (ap (λ o. ordering_then o (nat_cmp i j)) greater) ∙ less in absurd cc)
+
+module _ (held : List Held) where
+  -- a name has an entry
+  first_own : (plain : PlainName) → plain.from < plain.until → plain.until ≤ length held → (h : Held) × (slice_get (own_plain held plain) 0 ≡ Some (known_held (Plain plain.name) h))
+  first_own plain some within = elim (slice_get_cases (slice_range held plain.from plain.until) 0).1 [
+    | inl found ↦ (found.0, map-get (known_held (Plain plain.name)) (slice_range held plain.from plain.until) 0 found.0 found.2)
+    | inr past ↦
+        let few = past.0 in
+        let size = length-take (plain.until - plain.from) (drop plain.from held) in
+        let rest = length-drop plain.from held in
+        absurd (omega (arith, few, size, rest, some, within))
+  ]
+
+  -- what holds of all entries holds of one of each name
+  each_name : (P : Known → Type 0) (names : List PlainName) → ArePlainRanges (length held) names → AllByRecursion P (known_plain held names) → AllByRecursion (λ (p : PlainName). (h : Held) × P (known_held (Plain p.name) h)) names
+  each_name P [] ranges each = tt
+  each_name P (p ∷ names) ranges each =
+      let first = first_own p ranges.0.0 ranges.0.1 in
+      ((first.0, all-at P (own_plain held p) 0 (known_held (Plain p.name) first.0) (all-left P (own_plain held p) (known_plain held names) each) first.1), each_name P names ranges.1 (all-right P (own_plain held p) (known_plain held names) each))
+
+  pub names-rise : (names : List PlainName) → ArePlainRanges (length held) names → AreInOrder (known_plain held names) → NamesRise names
+  names-rise [] ranges sorted = tt
+  names-rise (p ∷ names) ranges sorted =
+      let first = first_own p ranges.0.0 ranges.0.1 in
+      let across = sorted-across known_cmp (own_plain held p) (known_plain held names) 0 (known_held (Plain p.name) first.0) sorted first.1 in (
+        all-weaker (λ (q : PlainName). (h : Held) × (known_cmp (known_held (Plain p.name) first.0) (known_held (Plain q.name) h) ≡ Less)) (λ (q : PlainName). slice_cmp nat_cmp p.name q.name ≡ Greater → ⊥)
+            (λ q some. not_behind p.name q.name first.0.priority some.0.priority some.1)
+            names (each_name (λ y. known_cmp (known_held (Plain p.name) first.0) y ≡ Less) names ranges.1 across),
+        names-rise names ranges.1 (sorted-right known_cmp (own_plain held p) (known_plain held names) sorted),
+      )
+
+  pub rise-each : (names : List PlainName) → AreInOrder (known_plain held names) → RiseEach held names
+  rise-each [] sorted = tt
+  rise-each (p ∷ names) sorted =
+      (held-rise (Plain p.name) (slice_range held p.from p.until) (sorted-left known_cmp (own_plain held p) (known_plain held names) sorted), rise-each names (sorted-right known_cmp (own_plain held p) (known_plain held names) sorted))
+
+-- what holds of all names holds of those that fit
+pub all-fitting : (P : PlainName → Type 0) (digits : List ℕ) (more : Bool) (names found : List PlainName) → AreFitting digits more names found → AllByRecursion P names → AllByRecursion P found
+all-fitting P digits more names found are each =
+    all-left P found are.behind (all-right P are.before (found ++ are.behind) (subst (AllByRecursion P) are.whole each))
+
+-- ---- what is found
+
+module _ (held : List Held) (test : Known → Bool) where
   abbrev found_in : List PlainName → Option Known
-  found_in names = find (asked more wanted digits) (known_plain held names)
+  found_in names = find test (known_plain held names)
 
-  first-of : (names : List PlainName) (k : ℕ) (plain : PlainName) → slice_get names k ≡ Some plain → found_in (drop k names) ≡ option_or (find (asked more wanted digits) (own_plain held plain)) (found_in (drop (k + 1) names))
+  first-of : (names : List PlainName) (k : ℕ) (plain : PlainName) → slice_get names k ≡ Some plain → found_in (drop k names) ≡ option_or (find test (own_plain held plain)) (found_in (drop (k + 1) names))
   first-of names k plain here =
       ap found_in (drop-get names k plain here)
-      ∙ find-append (asked more wanted digits) (own_plain held plain) (known_plain held (drop (k + 1) names))
+      ∙ find-append test (own_plain held plain) (known_plain held (drop (k + 1) names))
 
   some-or : (a b : Option Known) → is_some (option_map hit_of a) ≡ true → option_map hit_of a ≡ option_map hit_of (option_or a b)
   some-or None b e = absurd cc
@@ -88,33 +270,97 @@ module _ (held : List Held) (more : Bool) (wanted : Wanted) (digits : List ℕ) 
   none-or (Some x) b e = absurd cc
 
   -- the first name that has a hit has the first of all
-  pub names-found : (names : List PlainName) (k : ℕ) (plain : PlainName) (r : Option Hit) → slice_get names k ≡ Some plain → r ≡ option_map hit_of (find (asked more wanted digits) (own_plain held plain)) → is_some r ≡ true → found_in (drop k names) ≡ found_in names → r ≡ option_map hit_of (found_in names)
+  pub names-found : (names : List PlainName) (k : ℕ) (plain : PlainName) (r : Option Hit) → slice_get names k ≡ Some plain → r ≡ option_map hit_of (find test (own_plain held plain)) → is_some r ≡ true → found_in (drop k names) ≡ found_in names → r ≡ option_map hit_of (found_in names)
   names-found names k plain r here is some same =
       is
-      ∙ (some-or (find (asked more wanted digits) (own_plain held plain)) (found_in (drop (k + 1) names)) (ap is_some (sym is) ∙ some)
+      ∙ (some-or (find test (own_plain held plain)) (found_in (drop (k + 1) names)) (ap is_some (sym is) ∙ some)
       ∙ ap (option_map hit_of) (sym (first-of names k plain here) ∙ same))
 
-  pub names-past : (names : List PlainName) (k : ℕ) (plain : PlainName) (r : Option Hit) → slice_get names k ≡ Some plain → r ≡ option_map hit_of (find (asked more wanted digits) (own_plain held plain)) → is_some r ≡ false → found_in (drop k names) ≡ found_in names → found_in (drop (k + 1) names) ≡ found_in names
+  pub names-past : (names : List PlainName) (k : ℕ) (plain : PlainName) (r : Option Hit) → slice_get names k ≡ Some plain → r ≡ option_map hit_of (find test (own_plain held plain)) → is_some r ≡ false → found_in (drop k names) ≡ found_in names → found_in (drop (k + 1) names) ≡ found_in names
   names-past names k plain r here is none same =
-      sym (none-or (find (asked more wanted digits) (own_plain held plain)) (found_in (drop (k + 1) names)) (ap is_some (sym is) ∙ none))
+      sym (none-or (find test (own_plain held plain)) (found_in (drop (k + 1) names)) (ap is_some (sym is) ∙ none))
       ∙ (sym (first-of names k plain here) ∙ same)
 
   -- what is found among plain names is plain
-  images_plain : (plain : PlainName) (xs : List Held) (one : Known) → find (asked more wanted digits) (map (known_held (Plain plain.name)) xs) ≡ Some one → class_count one.name ≡ 0
+  images_plain : (plain : PlainName) (xs : List Held) (one : Known) → find test (map (known_held (Plain plain.name)) xs) ≡ Some one → class_count one.name ≡ 0
   images_plain plain [] one e = absurd cc
-  images_plain plain (h ∷ xs) one e = by (asked more wanted digits (known_held (Plain plain.name) h)) e (images_plain plain xs one)
+  images_plain plain (h ∷ xs) one e = by (test (known_held (Plain plain.name) h)) e (images_plain plain xs one)
     where
-      by : (b : Bool) → cond b (Some (known_held (Plain plain.name) h)) (find (asked more wanted digits) (map (known_held (Plain plain.name)) xs)) ≡ Some one → (find (asked more wanted digits) (map (known_held (Plain plain.name)) xs) ≡ Some one → class_count one.name ≡ 0) → class_count one.name ≡ 0
+      by : (b : Bool) → cond b (Some (known_held (Plain plain.name) h)) (find test (map (known_held (Plain plain.name)) xs)) ≡ Some one → (find test (map (known_held (Plain plain.name)) xs) ≡ Some one → class_count one.name ≡ 0) → class_count one.name ≡ 0
       by true e rest = (let same : known_held (Plain plain.name) h ≡ one = cc in ap (λ (k : Known). class_count k.name) (sym same))
       by false e rest = rest e
 
   pub names-plain : (names : List PlainName) (one : Known) → found_in names ≡ Some one → class_count one.name ≡ 0
   names-plain [] one e = absurd cc
-  names-plain (plain ∷ names) one e = by (find (asked more wanted digits) (own_plain held plain)) refl (sym (find-append (asked more wanted digits) (own_plain held plain) (known_plain held names)) ∙ e) (names-plain names one)
+  names-plain (plain ∷ names) one e = by (find test (own_plain held plain)) refl (sym (find-append test (own_plain held plain) (known_plain held names)) ∙ e) (names-plain names one)
     where
-      by : (o : Option Known) → find (asked more wanted digits) (own_plain held plain) ≡ o → option_or o (found_in names) ≡ Some one → (found_in names ≡ Some one → class_count one.name ≡ 0) → class_count one.name ≡ 0
+      by : (o : Option Known) → find test (own_plain held plain) ≡ o → option_or o (found_in names) ≡ Some one → (found_in names ≡ Some one → class_count one.name ≡ 0) → class_count one.name ≡ 0
       by None f e rest = rest e
       by (Some k) f e rest = images_plain plain (slice_range held plain.from plain.until) one (f ∙ e)
+
+  pub found-both : (names others : List PlainName) → found_in (names ++ others) ≡ option_or (found_in names) (found_in others)
+  found-both [] others = refl
+  found-both (p ∷ names) others =
+      find-append test (own_plain held p) (known_plain held (names ++ others))
+      ∙ (ap (option_or (find test (own_plain held p))) (found-both names others)
+      ∙ (twice (find test (own_plain held p)) (found_in names) (found_in others)
+      ∙ ap (λ o. option_or o (found_in others)) (sym (find-append test (own_plain held p) (known_plain held names)))))
+    where
+      twice : (a b c : Option Known) → option_or a (option_or b c) ≡ option_or (option_or a b) c
+      twice None b c = refl
+      twice (Some x) b c = refl
+
+module _ (held : List Held) (wanted : Wanted) where
+  own-held : (plain : PlainName) → find (is_wanted wanted) (own_plain held plain) ≡ option_map (known_held (Plain plain.name)) (find (holds wanted) (slice_range held plain.from plain.until))
+  own-held plain = find_images true (known_held (Plain plain.name)) (is_wanted wanted) (holds wanted) (λ h. refl) (slice_range held plain.from plain.until)
+
+  hit-twice : (plain : PlainName) (o : Option Held) → option_map hit_held o ≡ option_map hit_of (option_map (known_held (Plain plain.name)) o)
+  hit-twice plain None = refl
+  hit-twice plain (Some h) = refl
+
+  pub own-wanted : (plain : PlainName) → option_map hit_held (find (holds wanted) (slice_range held plain.from plain.until)) ≡ option_map hit_of (find (is_wanted wanted) (own_plain held plain))
+  own-wanted plain = hit-twice plain (find (holds wanted) (slice_range held plain.from plain.until)) ∙ ap (option_map hit_of) (sym (own-held plain))
+
+  module _ (more : Bool) (digits : List ℕ) where
+    own-asked : (plain : PlainName) (b : Bool) → (rank_of digits plain == rank (fitting more)) ≡ b → find (asked more wanted digits) (own_plain held plain) ≡ cond b (find (is_wanted wanted) (own_plain held plain)) None
+    own-asked plain b e =
+        find_images (fits more End (walked (singles plain.name) digits)) (known_held (Plain plain.name)) (asked more wanted digits) (holds wanted) (λ h. refl) (slice_range held plain.from plain.until)
+        ∙ (ap (λ b. cond b (option_map (known_held (Plain plain.name)) (find (holds wanted) (slice_range held plain.from plain.until))) None) (fits-side more plain.name digits ∙ e)
+        ∙ ap (λ o. cond b o None) (sym (own-held plain)))
+
+    names-fit : (names : List PlainName) → AllByRecursion (λ (p : PlainName). rank_of digits p ≡ rank (fitting more)) names → find (asked more wanted digits) (known_plain held names) ≡ find (is_wanted wanted) (known_plain held names)
+    names-fit [] each = refl
+    names-fit (p ∷ names) each =
+        find-append (asked more wanted digits) (own_plain held p) (known_plain held names)
+        ∙ (ap (λ o. option_or o (find (asked more wanted digits) (known_plain held names))) (own-asked p true (eq-eqb (rank_of digits p) (rank (fitting more)) each.0))
+        ∙ (ap (option_or (find (is_wanted wanted) (own_plain held p))) (names-fit names each.1)
+        ∙ sym (find-append (is_wanted wanted) (own_plain held p) (known_plain held names))))
+
+    names-other : (names : List PlainName) → AllByRecursion (λ (p : PlainName). rank_of digits p ≡ rank (fitting more) → ⊥) names → find (asked more wanted digits) (known_plain held names) ≡ None
+    names-other [] each = refl
+    names-other (p ∷ names) each =
+        find-append (asked more wanted digits) (own_plain held p) (known_plain held names)
+        ∙ (ap (λ o. option_or o (find (asked more wanted digits) (known_plain held names))) (own-asked p false (ne_eqb (rank_of digits p) (rank (fitting more)) each.0))
+        ∙ names-other names each.1)
+
+    -- what is asked for is found among the names that fit
+    pub fitting-found : (names found : List PlainName) → AreFitting digits more names found → find (asked more wanted digits) (known_plain held names) ≡ find (is_wanted wanted) (known_plain held found)
+    fitting-found names found are =
+        let before : find (asked more wanted digits) (known_plain held are.before) ≡ None =
+        names-other are.before (all-weaker (λ (p : PlainName). rank_of digits p < rank (fitting more)) (λ (p : PlainName). rank_of digits p ≡ rank (fitting more) → ⊥) (λ p low same. omega (arith, low, same)) are.before are.lower) in
+        let behind : find (asked more wanted digits) (known_plain held are.behind) ≡ None =
+        names-other are.behind (all-weaker (λ (p : PlainName). rank (fitting more) < rank_of digits p) (λ (p : PlainName). rank_of digits p ≡ rank (fitting more) → ⊥) (λ p high same. omega (arith, high, same)) are.behind are.higher) in
+        ap (λ l. find (asked more wanted digits) (known_plain held l)) are.whole
+        ∙ (found-both held (asked more wanted digits) are.before (found ++ are.behind)
+        ∙ (ap (λ o. option_or o (find (asked more wanted digits) (known_plain held (found ++ are.behind)))) before
+        ∙ (found-both held (asked more wanted digits) found are.behind
+        ∙ (ap (option_or (find (asked more wanted digits) (known_plain held found))) behind
+        ∙ (or_none (find (asked more wanted digits) (known_plain held found))
+        ∙ names-fit found are.fit)))))
+      where
+        or_none : (o : Option Known) → option_or o None ≡ o
+        or_none None = refl
+        or_none (Some x) = refl
 
 -- ---- plain names and then patterns
 

@@ -1,5 +1,7 @@
 -- What a look-up asks of an entry: of its name by the digits of the text, and of its priority and label.
 use Rattle.std.specs.Prelude.{ℕ, Bool, true, false, ◌&&◌, ◌==◌, List, Option, Some, if◌then◌else◌}
+use Rattle.std.specs.List.Sorted.{IsStrictlySortedBy}
+use Rattle.std.specs.Ordering.{nat_cmp}
 use Rattle.dp_pattern.specs.Walk.{Walked, walked, classes_of, tail_of, is_match, goes_on}
 use Rattle.dp_pattern.specs.declared.tail.Tail.{Tail}
 use Rattle.dp_plan.specs.Plan.{shares_label}
@@ -16,6 +18,10 @@ Wanted = ℕ → Option (List ℕ) → Bool
 -- whether the walk is one that is asked for: of a name that goes on, or else of one that matches
 abbrev pub fits : Bool → Tail → Walked → Bool
 fits more tail walk = if more then goes_on tail walk else is_match tail walk
+
+-- whether the entry is one that is wanted, beside its name
+abbrev pub is_wanted : Wanted → Known → Bool
+is_wanted wanted known = wanted known.priority known.label
 
 -- whether the entry is one that is asked for
 abbrev pub asked : Bool → Wanted → List ℕ → Known → Bool
@@ -37,6 +43,10 @@ wants More priority label = priority == 1
 -- whether what is held of an entry is what is wanted
 abbrev pub holds : Wanted → Held → Bool
 holds wanted held = wanted held.priority held.label
+
+-- entries of one name are in the order of their priorities
+abbrev pub Rise : List Held → Type 0
+Rise held = IsStrictlySortedBy (λ a b. nat_cmp a.priority b.priority) held
 
 -- what a look-up hands on
 abbrev pub hit_held : Held → Hit

@@ -1,11 +1,17 @@
 -- The plain names of a context.
-use Rattle.std.specs.Prelude.{ℕ, ◌≤◌, List, [], ◌∷◌, ◌++◌, map, slice_range}
+use Rattle.std.specs.Prelude.{◌≡◌, ℕ, ◌<◌, ◌≤◌, Bool, List, [], ◌∷◌, ◌++◌, map, slice_range, if◌then◌else◌}
 use Rattle.std.specs.List.{AllByRecursion}
+use Rattle.std.specs.Ordering.{nat_cmp}
+use Rattle.std.specs.Cmp.Lexicographic.{slice_cmp}
+use Rattle.std.specs.declared.cmp.Ordering.TheVariants.{Less, Equal, Greater}
 use Rattle.dp_pattern.specs.Name.{Plain}
+use Rattle.dp_trie.specs.Asked.{Rise}
 use Rattle.dp_trie.specs.Known.{Known}
 use Rattle.dp_trie.specs.Tree.{known_held}
 use Rattle.dp_trie.specs.declared.node.Held.{Held}
 use Rattle.dp_trie.specs.declared.plain.PlainName.{PlainName}
+use Rattle.dp_trie.specs.declared.plain.Side.{Side}
+use Rattle.dp_trie.specs.declared.plain.Side.TheVariants.{Before, Same, Longer, Behind}
 
 -- the entries of a plain name
 abbrev pub own_plain : List Held → PlainName → List Known
@@ -18,4 +24,45 @@ known_plain held (plain ∷ names) = own_plain held plain ++ known_plain held na
 
 -- each name has entries among so many
 abbrev pub ArePlainRanges : ℕ → List PlainName → Type 0
-ArePlainRanges count names = AllByRecursion (λ plain. (plain.from ≤ plain.until) × (plain.until ≤ count)) names
+ArePlainRanges count names = AllByRecursion (λ plain. (plain.from < plain.until) × (plain.until ≤ count)) names
+
+-- those of each name are in the order of their priorities
+abbrev pub RiseEach : List Held → List PlainName → Type 0
+RiseEach held names = AllByRecursion (λ plain. Rise (slice_range held plain.from plain.until)) names
+
+-- no name is behind a later one
+abbrev pub NamesRise : List PlainName → Type 0
+NamesRise [] = Unit {0}
+NamesRise (plain ∷ names) =
+    AllByRecursion (λ later. slice_cmp nat_cmp plain.name later.name ≡ Greater → ⊥) names × NamesRise names
+
+-- where a plain name stands to digits, by the first byte that differs
+abbrev pub side_of : List ℕ → List ℕ → Side
+side_of [] [] = Same
+side_of [] (d ∷ digits) = Before
+side_of (b ∷ name) [] = Longer
+side_of (b ∷ name) (d ∷ digits) = elim (nat_cmp b d) [ Less ↦ Before | Equal ↦ side_of name digits | Greater ↦ Behind ]
+
+-- the sides in the order in which names stand there
+abbrev pub rank : Side → ℕ
+rank Before = 0
+rank Same = 1
+rank Longer = 2
+rank Behind = 3
+
+-- the side of the names that are asked for: those that go on, or else the one that matches
+abbrev pub fitting : Bool → Side
+fitting more = if more then Longer else Same
+
+-- how far up a name stands
+abbrev pub rank_of : List ℕ → PlainName → ℕ
+rank_of digits plain = rank (side_of plain.name digits)
+
+-- some of the names are those that fit: what stands before them is lower, and what stands behind them higher
+pub record AreFitting (digits : List ℕ) (more : Bool) (names found : List PlainName) : Type 0 where
+  pub before : List PlainName
+  pub behind : List PlainName
+  pub whole : names ≡ before ++ (found ++ behind)
+  pub lower : AllByRecursion (λ plain. rank_of digits plain < rank (fitting more)) before
+  pub fit : AllByRecursion (λ plain. rank_of digits plain ≡ rank (fitting more)) found
+  pub higher : AllByRecursion (λ plain. rank (fitting more) < rank_of digits plain) behind

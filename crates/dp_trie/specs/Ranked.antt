@@ -1,7 +1,11 @@
 -- The entries of a context in their order, while a trie is built.
 use Rattle.std.specs.Prelude.{◌≡◌, ℕ, ◌<◌, ◌≤◌, List, length, slice_get, slice_range, Some}
 use Rattle.std.specs.List.{AllByRecursion}
+use Rattle.std.specs.List.Sorted.{IsStrictlySortedBy}
+use Rattle.std.specs.Ordering.{ordering_then, nat_cmp}
+use Rattle.std.specs.declared.cmp.Ordering.{Ordering}
 use Rattle.dp_pattern.specs.Name.{Meaning, Plain, Pattern}
+use Rattle.dp_pattern.specs.Order.{name_cmp}
 use Rattle.dp_trie.specs.Known.{Known, known_of}
 use Rattle.dp_trie.specs.declared.node.Held.{Held}
 use Rattle.dp_trie.specs.declared.ranked.Ranked.{Ranked}
@@ -33,6 +37,14 @@ pub record IsGroup (known : List Known) (from until : ℕ) (name : Meaning) : Ty
   pub later : from < until
   pub within : until ≤ length known
   pub same : AreNamed name (slice_range known from until)
+
+-- by the names, and for one name by the priorities
+abbrev pub known_cmp : Known → Known → Ordering
+known_cmp a b = ordering_then (name_cmp a.name b.name) (nat_cmp a.priority b.priority)
+
+-- each entry stands before those that are greater
+abbrev pub AreInOrder : List Known → Type 0
+AreInOrder known = IsStrictlySortedBy known_cmp known
 
 -- behind an entry of a pattern there are no others
 abbrev pub ArePlainFirst : List Known → Type 0

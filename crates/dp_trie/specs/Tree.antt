@@ -5,7 +5,7 @@ use Rattle.std.specs.Option.{option_map_or}
 use Rattle.dp_pattern.specs.Name.{Meaning, Pattern, is_one_of}
 use Rattle.dp_pattern.specs.declared.tail.Tail.{Tail}
 use Rattle.dp_pattern.specs.declared.tail.Tail.TheVariants.{End, Dot, Bang}
-use Rattle.dp_trie.specs.Asked.{Wanted, holds, hit_held}
+use Rattle.dp_trie.specs.Asked.{Wanted, Rise, holds, hit_held}
 use Rattle.dp_trie.specs.Known.{Known}
 use Rattle.dp_trie.specs.declared.node.Held.{Held}
 use Rattle.dp_trie.specs.declared.node.Leaf as leaves
@@ -89,11 +89,17 @@ IsRange count (Leaf leaf) = (leaf.from ≤ leaf.until) × (leaf.until ≤ count)
 abbrev pub AreRanges : ℕ → List Node → Type 0
 AreRanges count nodes = (place : ℕ) (node : Node) → slice_get nodes place ≡ Some node → IsRange count node.step
 
+-- what a leaf has is in the order of the priorities
+abbrev pub Rises : List Held → Step → Type 0
+Rises held (Class class) = Unit {0}
+Rises held (Leaf leaf) = Rise (slice_range held leaf.from leaf.until)
+
 -- the nodes are a tree over what is held
 pub record IsTree (held : List Held) (nodes : List Node) (ends : List ℕ) : Type 0 where
   pub linked : AreLinked nodes ends
   pub rooted : IsRooted 0 nodes
   pub ranges : AreRanges (length held) nodes
+  pub rise : (place : ℕ) (node : Node) → slice_get nodes place ≡ Some node → Rises held node.step
 
 -- ---- the nodes of one pattern more
 

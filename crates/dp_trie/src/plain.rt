@@ -1,22 +1,19 @@
 //! The plain names of a context.
-ghost use Rattle.std.specs.Prelude.{◌≡◌, ◌≤◌, [], ◌∷◌, length, map, find, IfOk};
+ghost use Rattle.std.specs.Prelude.{◌≡◌, ℕ, ◌<◌, ◌≤◌, [], ◌∷◌, length, map, take, drop, find, slice_range, IfOk};
 ghost use Rattle.std.specs.List.{AllByRecursion};
 ghost use Rattle.std.specs.Option.{option_map};
 ghost use Rattle.dp_pattern.specs.Dashes.{undashed};
-ghost use Rattle.dp_pattern.specs.Walk.{walked, singles};
-ghost use Rattle.dp_trie.specs.Asked.{is_more, wants, asked, fits, hit_of};
-ghost use Rattle.dp_trie.specs.Names.{own_plain, known_plain, ArePlainRanges};
-ghost use Rattle.dp_trie.specs.Ranked.{known_now, hold_of, IsPlain};
-ghost use Rattle.dp_trie.specs.Tree.{takes};
+ghost use Rattle.dp_trie.specs.Asked.{is_more, wants, is_wanted, asked, hit_of, Rise};
+ghost use Rattle.dp_trie.specs.Names.{own_plain, known_plain, side_of, rank, rank_of, fitting, ArePlainRanges, RiseEach, NamesRise, AreFitting};
+ghost use Rattle.dp_trie.specs.Ranked.{known_now, hold_of, IsPlain, AreInOrder};
 
 use crate::digits::Digits;
 use crate::node::Held;
 use crate::question::{Hit, Question, first_wanted, is_more};
 use crate::ranked::{Ranked, group_end, name_of, plain_of};
-use crate::walk::allows;
 use dp_lookup::{NoMemory, Text};
-use dp_pattern::Tail;
 use std::alloc::Global;
+use std::cmp::Ordering;
 
 /// A plain name, and which of the entries that are held are its own, from one place up to another.
 #[derive(Debug, Drop)]
@@ -26,65 +23,122 @@ pub(crate) struct PlainName {
     pub(crate) until: usize,
 }
 
-/// Whether the byte is the digit of this number. Where the digits have ended, it may be if names that go on are asked for.
-fn takes_byte(byte: u8, number: usize, digits: Digits<'_>, more: bool) -> bool
-    ensures { result ≡ takes more (undashed digits.entry.text.now) (byte ∷ []) number }
-{
-    match digits.at(number) {
-        Some(digit) => digit == byte,
-        None => more,
-    }
+/// Where a plain name stands to the digits.
+#[derive(Clone, Copy)]
+pub(crate) enum Side {
+    /// Before them in the order of bytes.
+    Before,
+    /// It is the digits.
+    Same,
+    /// It goes on from them.
+    Longer,
+    /// Behind them and all that goes on from them.
+    Behind,
 }
 
-/// Whether the digits are a plain name, or else whether the name goes on from them.
-fn fits_plain(name: &[u8], digits: Digits<'_>, more: bool) -> bool
-    ensures { result ≡ fits more Tail.End (walked (singles name.now) (undashed digits.entry.text.now)) }
+/// Where the name stands to the digits.
+fn side_of(name: &[u8], digits: Digits<'_>) -> Side
+    ensures { result ≡ side_of name.now (undashed digits.entry.text.now) }
 {
     for number in 0..name.len() {
-        if !takes_byte(name[number], number, digits, more) {
-            return false;
+        match digits.at(number) {
+            Some(digit) => match name[number].cmp(&digit) {
+                Ordering::Less => return Side::Before,
+                Ordering::Equal => {}
+                Ordering::Greater => return Side::Behind,
+            },
+            None => return Side::Longer,
         }
     }
-    allows(Tail::End, name.len(), digits.count(), more)
-}
-
-/// The first entry of one plain name that the question asks for.
-fn find_own(
-    plain: &PlainName,
-    held: &[Held],
-    question: Question<'_>,
-    digits: Digits<'_>,
-) -> Option<Hit>
-    requires from { plain.now.from ≤ plain.now.until }
-    requires until { plain.now.until ≤ length held.now }
-    ensures { result ≡ option_map hit_of
-        (find (asked (is_more question.entry) (wants question.entry) (undashed digits.entry.text.now)) (own_plain held.now plain.now)) }
-{
-    if fits_plain(plain.name.bytes(), digits, is_more(question)) {
-        first_wanted(question, &held[plain.from..plain.until])
+    if name.len() < digits.count() {
+        Side::Before
     } else {
-        None
+        Side::Same
     }
 }
 
-/// The first entry of the plain names that the question asks for.
+/// The sides in the order in which names stand there.
+fn rank(side: Side) -> u8
+    ensures { result ≡ rank side }
+{
+    match side {
+        Side::Before => 0,
+        Side::Same => 1,
+        Side::Longer => 2,
+        Side::Behind => 3,
+    }
+}
+
+/// The side of the names that are asked for: those that go on, or else the one that matches.
+fn fitting(more: bool) -> Side
+    ensures { result ≡ fitting more }
+{
+    if more { Side::Longer } else { Side::Same }
+}
+
+/// How many of the names stand below a rank.
+fn count_below(names: &[PlainName], digits: Digits<'_>, limit: u8) -> usize
+    requires { NamesRise names.now }
+    ensures within { result ≤ length names.now }
+    ensures below { AllByRecursion (λ plain. rank_of (undashed digits.entry.text.now) plain < limit) (take result names.now) }
+    ensures above { AllByRecursion (λ plain. limit ≤ rank_of (undashed digits.entry.text.now) plain) (drop result names.now) }
+{
+    names.partition_point(|plain| rank(side_of(plain.name.bytes(), digits)) < limit)
+}
+
+/// The names that fit, which stand side by side.
+fn fitting_names<'a>(names: &'a [PlainName], digits: Digits<'_>, more: bool) -> &'a [PlainName]
+    requires { NamesRise names.now }
+    ensures { AreFitting (undashed digits.entry.text.now) more names.now result.now }
+{
+    let limit = rank(fitting(more));
+    let (_, rest) = names.split_at(count_below(names, digits, limit));
+    let (found, _) = rest.split_at(count_below(rest, digits, limit + 1));
+    found
+}
+
+/// The first entry of one plain name that the question asks for beside its name.
+fn find_own(plain: &PlainName, held: &[Held], question: Question<'_>) -> Option<Hit>
+    requires from { plain.now.from ≤ plain.now.until }
+    requires until { plain.now.until ≤ length held.now }
+    requires rise { Rise (slice_range held.now plain.now.from plain.now.until) }
+    ensures { result ≡ option_map hit_of (find (is_wanted (wants question.entry)) (own_plain held.now plain.now)) }
+{
+    first_wanted(question, &held[plain.from..plain.until])
+}
+
+/// The first entry of plain names that the question asks for beside their names.
+fn find_own_of_all(names: &[PlainName], held: &[Held], question: Question<'_>) -> Option<Hit>
+    requires ranges { ArePlainRanges (length held.now) names.now }
+    requires rise { RiseEach held.now names.now }
+    ensures { result ≡ option_map hit_of (find (is_wanted (wants question.entry)) (known_plain held.now names.now)) }
+{
+    for plain in names {
+        let found = find_own(plain, held, question);
+        if found.is_some() {
+            return found;
+        }
+    }
+    None
+}
+
+/// The first entry of the plain names that the question asks for. The names that fit are found by halves.
 pub(crate) fn find_plain(
     names: &[PlainName],
     held: &[Held],
     question: Question<'_>,
     digits: Digits<'_>,
 ) -> Option<Hit>
-    requires { ArePlainRanges (length held.now) names.now }
+    requires ranges { ArePlainRanges (length held.now) names.now }
+    requires order { AreInOrder (known_plain held.now names.now) }
     ensures { result ≡ option_map hit_of
         (find (asked (is_more question.entry) (wants question.entry) (undashed digits.entry.text.now)) (known_plain held.now names.now)) }
 {
-    for plain in names {
-        let found = find_own(plain, held, question, digits);
-        if found.is_some() {
-            return found;
-        }
-    }
-    None
+    find_own_of_all(
+        fitting_names(names, digits, is_more(question)),
+        held,
+        question,
+    )
 }
 
 /// The plain names of these entries.

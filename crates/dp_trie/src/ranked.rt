@@ -3,7 +3,7 @@ ghost use Rattle.std.specs.Prelude.{◌≡◌, ◌<◌, [], ◌∷◌, ◌++◌,
 ghost use Rattle.dp_trie.specs.declared.ranked.Ranked.{Ranked};
 ghost use Rattle.dp_pattern.specs.Name.{Plain, Pattern};
 ghost use Rattle.dp_trie.specs.Known.{known_at, KeepsEntries};
-ghost use Rattle.dp_trie.specs.Ranked.{known_now, hold_of, IsPattern, IsPlain, IsGroup, ArePlainFirst};
+ghost use Rattle.dp_trie.specs.Ranked.{known_now, hold_of, IsPattern, IsPlain, IsGroup, ArePlainFirst, AreInOrder};
 
 use crate::node::Held;
 use dp_lookup::{Dialplan, EntryId, NoMemory};
@@ -72,6 +72,7 @@ pub(crate) fn rank(
 ) -> Result<Vec<Ranked<'_>>, NoMemory>
     ensures keeps { IfOk result (λ ranked. KeepsEntries plan.now number (map known_now ranked.items)) }
     ensures plain_first { IfOk result (λ ranked. ArePlainFirst (map known_now ranked.items)) }
+    ensures order { IfOk result (λ ranked. AreInOrder (map known_now ranked.items)) }
 {
     let ids = plan.ranked_at(number);
     let mut ranked = Vec::with_capacity(alloc, ids.len())?;

@@ -6,7 +6,7 @@ ghost use Rattle.dp_pattern.specs.Dashes.{undashed};
 ghost use Rattle.dp_trie.specs.Asked.{is_more, wants, asked, hit_of};
 ghost use Rattle.dp_trie.specs.Known.{KeepsEntries, class_count, most_nodes};
 ghost use Rattle.dp_trie.specs.Names.{known_plain, ArePlainRanges};
-ghost use Rattle.dp_trie.specs.Ranked.{known_now, IsPattern, IsPlain, ArePlainFirst};
+ghost use Rattle.dp_trie.specs.Ranked.{known_now, IsPattern, IsPlain, ArePlainFirst, AreInOrder};
 ghost use Rattle.dp_trie.specs.Tree.{known_from, IsTree};
 
 use crate::build::build_nodes;
@@ -37,6 +37,7 @@ impl Model for Table {
     ghost use Rattle.std.specs.Prelude.{◌≤◌, [], ◌++◌, length};
     ghost use Rattle.dp_trie.specs.Known.{KeptContext, most_nodes};
     ghost use Rattle.dp_trie.specs.Names.{known_plain, ArePlainRanges};
+    ghost use Rattle.dp_trie.specs.Ranked.{AreInOrder};
     ghost use Rattle.dp_trie.specs.Tree.{known_from, IsTree};
 
     ghost Value = { KeptContext };
@@ -48,6 +49,7 @@ impl Model for Table {
 
     ghost invariant = { λ table.
         ArePlainRanges (length table.plain.items) table.names.items
+        × AreInOrder (known_plain table.plain.items table.names.items)
         × IsTree table.held.items table.nodes.items table.ends.items
         × (length table.nodes.items
         ≤ most_nodes (known_plain table.plain.items table.names.items ++ known_from table.held.items [] table.nodes.items)) };
@@ -83,7 +85,8 @@ fn count_plain(ranked: &[Ranked<'_>]) -> usize
 
 /// What is kept of the entries in their order.
 fn build_table(alloc: Global, ranked: &[Ranked<'_>]) -> Result<Table, NoMemory>
-    requires { ArePlainFirst (map known_now ranked.now) }
+    requires plain_first { ArePlainFirst (map known_now ranked.now) }
+    requires order { AreInOrder (map known_now ranked.now) }
     ensures { IfOk result (λ table. table.entries ≡ map known_now ranked.now) }
 {
     let (first, rest) = ranked.split_at(count_plain(ranked));
@@ -112,6 +115,7 @@ fn find_in_parts(
     digits: Digits<'_>,
 ) -> Counted
     requires names { ArePlainRanges (length plain.now) names.now }
+    requires order { AreInOrder (known_plain plain.now names.now) }
     requires tree { IsTree held.now nodes.now ends.now }
     ensures hit { result.hit ≡ option_map hit_of
         (find (asked (is_more question.entry) (wants question.entry) (undashed digits.entry.text.now))

@@ -4,7 +4,7 @@ ghost use Rattle.std.specs.Option.{option_map};
 ghost use Rattle.dp_pattern.specs.Walk.{classes_of};
 ghost use Rattle.dp_trie.specs.Asked.{is_more, wants, asked, hit_of};
 ghost use Rattle.dp_pattern.specs.Dashes.{undashed};
-ghost use Rattle.dp_trie.specs.Tree.{takes, allows, step_visit, known_from, IsRange, IsTree};
+ghost use Rattle.dp_trie.specs.Tree.{takes, allows, step_visit, known_from, IsRange, IsTree, Rises};
 
 use crate::digits::Digits;
 use crate::node::{Held, Leaf, Node, Step};
@@ -62,7 +62,8 @@ fn visit_leaf(
     question: Question<'_>,
     digits: Digits<'_>,
 ) -> Visit
-    requires { IsRange (length held.now) (Step.Leaf leaf) }
+    requires range { IsRange (length held.now) (Step.Leaf leaf) }
+    requires rises { Rises held.now (Step.Leaf leaf) }
     ensures { result ≡ step_visit held.now (is_more question.entry) (wants question.entry) (undashed digits.entry.text.now) depth
         (Step.Leaf leaf) }
 {
@@ -77,7 +78,8 @@ fn visit_leaf(
 
 /// What a walk does at a node.
 fn visit_node(node: &Node, held: &[Held], question: Question<'_>, digits: Digits<'_>) -> Visit
-    requires { IsRange (length held.now) node.now.step }
+    requires range { IsRange (length held.now) node.now.step }
+    requires rises { Rises held.now node.now.step }
     ensures { result ≡ step_visit held.now (is_more question.entry) (wants question.entry) (undashed digits.entry.text.now)
         node.now.depth node.now.step }
 {

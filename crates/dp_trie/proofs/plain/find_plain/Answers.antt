@@ -1,18 +1,29 @@
-use Rattle.std.proofs.Common.{◌∙◌, refl, sym, arith}
-use Rattle.std.proofs.lemmas.Option.{slice_get_read}
+use Rattle.std.proofs.Common.{◌≤◌, ◌<◌, ◌∙◌, sym, ap, subst, length}
+use Rattle.std.specs.Prelude.{slice_range}
+use Rattle.std.specs.Option.{option_map}
 use Rattle.dp_pattern.specs.Dashes.{undashed}
-use Rattle.dp_trie.specs.Asked.{is_more, wants}
-use Rattle.dp_trie.proofs.PlainLemmas.{names-found, names-past}
+use Rattle.dp_trie.specs.Asked.{is_more, wants, hit_of, Rise}
+use Rattle.dp_trie.specs.Names.{AreFitting}
+use Rattle.dp_trie.specs.declared.plain.PlainName.{PlainName}
+use Rattle.dp_trie.proofs.PlainLemmas.{names-rise, rise-each, all-fitting, fitting-found}
 use Rattle.dp_trie.proofs.plain.find_plain.Goals as goal
 
-pub returns-then-is_some : goal.returns-then-is_some
-returns-then-is_some c =
-    names-found c.args.held.now (is_more c.args.question) (wants c.args.question) (undashed c.args.digits.text.now) c.args.names.now c.loop-plain.plain-index c.plain-item.result c.find_own-found.result
-    (slice_get_read c.args.names.now _ c.loop-plain.plain-index c.plain-item.result refl (omega arith) c.plain-item.is)
-    c.find_own-found.ensures (sym c.is_some.ensures ∙ c.if-is_some.true) c.loop-plain.invariant
+pub fitting_names-requires : goal.fitting_names-requires
+fitting_names-requires c = names-rise c.args.held.now c.args.names.now c.requires.ranges c.requires.order
 
-pub loop-plain-preserved : goal.loop-plain-preserved
-loop-plain-preserved c =
-    names-past c.args.held.now (is_more c.args.question) (wants c.args.question) (undashed c.args.digits.text.now) c.args.names.now c.loop-plain.plain-index c.plain-item.result c.find_own-found.result
-    (slice_get_read c.args.names.now _ c.loop-plain.plain-index c.plain-item.result refl (omega arith) c.plain-item.is)
-    c.find_own-found.ensures (sym c.is_some.ensures ∙ c.if-is_some.false) c.loop-plain.invariant
+pub find_own_of_all-requires-clause-ranges : goal.find_own_of_all-requires-clause-ranges
+find_own_of_all-requires-clause-ranges c =
+    all-fitting (λ (p : PlainName). (p.from < p.until) × (p.until ≤ length c.args.held.now)) (undashed c.args.digits.text.now) c.is_more.result c.args.names.now c.fitting_names.result.now c.fitting_names.ensures c.requires.ranges
+
+pub find_own_of_all-requires-clause-rise : goal.find_own_of_all-requires-clause-rise
+find_own_of_all-requires-clause-rise c =
+    all-fitting (λ (p : PlainName). Rise (slice_range c.args.held.now p.from p.until)) (undashed c.args.digits.text.now) c.is_more.result c.args.names.now c.fitting_names.result.now c.fitting_names.ensures
+    (rise-each c.args.held.now c.args.names.now c.requires.order)
+
+pub returns : goal.returns
+returns c =
+    let digits = undashed c.args.digits.text.now in
+    c.find_own_of_all.ensures
+    ∙ ap (option_map hit_of)
+    (sym (fitting-found c.args.held.now (wants c.args.question) (is_more c.args.question) digits c.args.names.now c.fitting_names.result.now
+    (subst (λ more. AreFitting digits more c.args.names.now c.fitting_names.result.now) c.is_more.ensures c.fitting_names.ensures)))

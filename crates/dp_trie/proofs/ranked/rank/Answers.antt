@@ -6,7 +6,7 @@ use Rattle.dp_plan.specs.declared.entry.EntryId.{EntryId}
 use Rattle.dp_trie.specs.Known.{Known, known_at, KeepsEntries}
 use Rattle.dp_trie.specs.Ranked.{known_now}
 use Rattle.dp_trie.proofs.BuildLemmas.{filter_map-more}
-use Rattle.dp_trie.proofs.KeepLemmas.{keeps-ranked, plain_first}
+use Rattle.dp_trie.proofs.KeepLemmas.{keeps-ranked, plain_first, in_order}
 use Rattle.dp_trie.proofs.ranked.rank.Goals as goal
 
 pub loop-id-preserved : goal.loop-id-preserved
@@ -25,3 +25,6 @@ returns-clause-keeps c =
 
 pub returns-clause-plain_first : goal.returns-clause-plain_first
 returns-clause-plain_first c = plain_first c.args.plan.now c.args.number (map known_now c.loop-id.ranked.items) (returns-clause-keeps c)
+
+pub returns-clause-order : goal.returns-clause-order
+returns-clause-order c = in_order c.args.plan.now c.args.number (map known_now c.loop-id.ranked.items) (returns-clause-keeps c)

@@ -16,7 +16,7 @@ returns-in-Some-clause-hit c =
 pub returns-in-Some-clause-least : goal.returns-in-Some-clause-least
 returns-in-Some-clause-least c =
     subst (λ (o : Option Known). HasAtMost o 0) (sym (both-some (asked (is_more c.args.question) (wants c.args.question) (undashed c.args.digits.text.now)) (known_plain c.args.plain.now c.args.names.now) (known_from c.args.held.now [] c.args.nodes.now) c.in-Some.hit c.in-Some.ensures))
-    (none-counted _ 0 (names-plain c.args.plain.now (is_more c.args.question) (wants c.args.question) (undashed c.args.digits.text.now) c.args.names.now))
+    (none-counted _ 0 (names-plain c.args.plain.now (asked (is_more c.args.question) (wants c.args.question) (undashed c.args.digits.text.now)) c.args.names.now))
 
 pub returns-in-None-clause-hit : goal.returns-in-None-clause-hit
 returns-in-None-clause-hit c =

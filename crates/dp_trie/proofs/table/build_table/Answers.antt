@@ -1,0 +1,21 @@
+use Rattle.std.proofs.Common.{subst}
+use Rattle.dp_trie.specs.Names.{known_plain}
+use Rattle.dp_trie.specs.Tree.{AreLinked}
+use Rattle.dp_trie.proofs.TableLemmas.{order-parts, names-order, names-ranges, is-tree, tree-size}
+use Rattle.dp_trie.proofs.table.build_table.Goals as goal
+
+pub invariant_of-result : goal.invariant_of-result
+invariant_of-result c =
+    let first = c.split_at.result.0.now in
+    let rest = c.split_at.result.1.now in
+    let order = order-parts c.count_plain.result c.args.ranked.now first rest c.split_at.ensures.front c.split_at.ensures.back c.requires.order in
+    let plain = c.in_ok-plain.ensures {u = tt} in
+    let held = c.in_ok-held.ensures {u = tt} in
+    let known = c.in_ok-names.ensures.known in
+    let tree = c.in_ok-nodes.ensures.known in
+    let linked = subst (λ nodes. AreLinked nodes c.in_ok-ends.ends.items) c.deref.ensures.value (c.in_ok-ends.ensures {u = tt}) in (
+      names-ranges first c.in_ok-plain.plain.items c.in_ok-names.names.items plain known (c.in_ok-names.ensures.ranges),
+      names-order first c.in_ok-plain.plain.items c.in_ok-names.names.items plain known order.0,
+      is-tree rest c.in_ok-held.held.items c.in_ok-nodes.nodes.items held tree c.in_ok-ends.ends.items order.1 linked (c.in_ok-nodes.ensures.rooted) (c.in_ok-nodes.ensures.ranges),
+      tree-size rest c.in_ok-held.held.items c.in_ok-nodes.nodes.items held tree (known_plain c.in_ok-plain.plain.items c.in_ok-names.names.items) (c.in_ok-nodes.ensures.size),
+    )
