@@ -1,9 +1,11 @@
 -- The digits of a text that has no dash are its bytes.
-use Rattle.std.proofs.Common.{◌≡◌, ℕ, suc, ◌≤◌, Bool, true, false, cond, not, List, [], ◌∷◌, length, Option, Some, None, Bor, arith, refl, sym, ap}
+use Rattle.std.proofs.Common.{◌≡◌, ℕ, zero, suc, ◌+◌, ◌-◌, ◌<◌, ◌≤◌, Bool, true, false, cond, not, List, [], ◌∷◌, length, take, Option, Some, None, Bor, arith, refl, sym, ap, ◌∙◌, add-one}
 use Rattle.std.specs.Prelude.{slice_get, option_copied}
 use Rattle.std.specs.Slice.{IsItemAt}
-use Rattle.std.proofs.lemmas.Option.{slice_get_read, slice_get_past}
+use Rattle.std.proofs.lemmas.Option.{slice_get_read, slice_get_past, slice_get_within, same_Some}
 use Rattle.dp_pattern.specs.Dashes.{is_dash, undashed}
+use Rattle.dp_trie.specs.Digits.{Stands}
+use Rattle.dp_trie.specs.declared.digits.Cursor.{Cursor}
 
 pub length-undashed : (text : List ℕ) → length (undashed text) ≤ length text
 length-undashed [] = omega arith
@@ -26,3 +28,90 @@ undashed_whole (b ∷ text) e = by (not (is_dash b)) (length-undashed text) (und
 pub item-copied : (xs : List ℕ) (i : ℕ) (r : Option (Bor ℕ)) → IsItemAt xs i r → option_copied r ≡ slice_get xs i
 item-copied xs i None item = sym (slice_get_past xs i item.3)
 item-copied xs i (Some x) item = sym (slice_get_read xs _ i x.now refl item.3.0 (item.3.1 x.now))
+
+-- ---- a place in a text
+
+-- how many digits stand before a place
+abbrev pub digits_before : ℕ → List ℕ → ℕ
+digits_before p text = length (undashed (take p text))
+
+-- a digit makes one more, and a dash none
+pub digit-step : (text : List ℕ) (p b : ℕ) → slice_get text p ≡ Some b → is_dash b ≡ false → digits_before (suc p) text ≡ suc (digits_before p text)
+digit-step [] p b here is = absurd cc
+digit-step (x ∷ text) zero b here is =
+    let same : x ≡ b = same_Some x b here in
+    ap (λ t. length (cond (not t) (x ∷ []) [])) (ap is_dash same ∙ is)
+digit-step (x ∷ text) (suc p) b here is = by (not (is_dash x)) (digit-step text p b here is)
+  where
+    by : (t : Bool) → digits_before (suc p) text ≡ suc (digits_before p text) → length (cond t (x ∷ undashed (take (suc p) text)) (undashed (take (suc p) text))) ≡ suc (length (cond t (x ∷ undashed (take p text)) (undashed (take p text))))
+    by true rest = ap suc rest
+    by false rest = rest
+
+pub dash-step : (text : List ℕ) (p b : ℕ) → slice_get text p ≡ Some b → is_dash b ≡ true → digits_before (suc p) text ≡ digits_before p text
+dash-step [] p b here is = absurd cc
+dash-step (x ∷ text) zero b here is =
+    let same : x ≡ b = same_Some x b here in
+    ap (λ t. length (cond (not t) (x ∷ []) [])) (ap is_dash same ∙ is)
+dash-step (x ∷ text) (suc p) b here is = by (not (is_dash x)) (dash-step text p b here is)
+  where
+    by : (t : Bool) → digits_before (suc p) text ≡ digits_before p text → length (cond t (x ∷ undashed (take (suc p) text)) (undashed (take (suc p) text))) ≡ length (cond t (x ∷ undashed (take p text)) (undashed (take p text)))
+    by true rest = ap suc rest
+    by false rest = rest
+
+-- a digit has the number of those before it
+pub digit-at : (text : List ℕ) (p b : ℕ) → slice_get text p ≡ Some b → is_dash b ≡ false → slice_get (undashed text) (digits_before p text) ≡ Some b
+digit-at [] p b here is = absurd cc
+digit-at (x ∷ text) zero b here is =
+    let same : x ≡ b = same_Some x b here in
+    ap (λ t. slice_get (cond (not t) (x ∷ undashed text) (undashed text)) 0) (ap is_dash same ∙ is) ∙ ap Some same
+digit-at (x ∷ text) (suc p) b here is = by (not (is_dash x)) (digit-at text p b here is)
+  where
+    by : (t : Bool) → slice_get (undashed text) (digits_before p text) ≡ Some b → slice_get (cond t (x ∷ undashed text) (undashed text)) (length (cond t (x ∷ undashed (take p text)) (undashed (take p text)))) ≡ Some b
+    by true rest = rest
+    by false rest = rest
+
+take_end : (text : List ℕ) (p : ℕ) → length text ≤ p → take p text ≡ text
+take_end [] zero few = refl
+take_end [] (suc p) few = refl
+take_end (x ∷ text) zero few = absurd (omega (arith, few))
+take_end (x ∷ text) (suc p) few = ap (λ l. x ∷ l) (take_end text p (omega (arith, few)))
+
+-- at the end of the text there are no more
+pub digits-ended : (text : List ℕ) (p number : ℕ) → length text ≤ p → digits_before p text ≤ number → slice_get (undashed text) number ≡ None
+digits-ended text p number few most =
+    let all : digits_before p text ≡ length (undashed text) = ap (λ l. length (undashed l)) (take_end text p few) in
+    slice_get_past (undashed text) number (omega (arith, all, most))
+
+-- a cursor a byte further
+pub stands-digit : (text : List ℕ) (p n b : ℕ) → slice_get text p ≡ Some b → is_dash b ≡ false → Stands text (record { place = p; number = n }) → Stands text (record { place = p + 1; number = n + 1 })
+stands-digit text p n b here is stands = record {
+  within = (let inside = slice_get_within text p b here in omega (arith, inside));
+  before = (let step = digit-step text p b here is in let before = stands.before in let same = ap (λ k. digits_before k text) (add-one p) in omega (arith, step, before, same));
+}
+
+pub stands-dash : (text : List ℕ) (p n b : ℕ) → slice_get text p ≡ Some b → is_dash b ≡ true → Stands text (record { place = p; number = n }) → Stands text (record { place = p + 1; number = n })
+stands-dash text p n b here is stands = record {
+  within = (let inside = slice_get_within text p b here in omega (arith, inside));
+  before = (let step = dash-step text p b here is in let before = stands.before in let same = ap (λ k. digits_before k text) (add-one p) in omega (arith, step, before, same));
+}
+
+-- and a byte back
+pub back-digit : (text : List ℕ) (p n b : ℕ) → 0 < p → slice_get text (p - 1) ≡ Some b → is_dash b ≡ false → Stands text (record { place = p; number = n }) → Stands text (record { place = p - 1; number = n - 1 })
+back-digit text p n b some here is stands = record {
+  within = (let inside = slice_get_within text (p - 1) b here in omega (arith, inside));
+  before = (let step = digit-step text (p - 1) b here is in let before = stands.before in let e : suc (p - 1) ≡ p = omega (arith, some) in let same = ap (λ k. digits_before k text) e in omega (arith, step, before, same));
+}
+
+pub back-dash : (text : List ℕ) (p n b : ℕ) → 0 < p → slice_get text (p - 1) ≡ Some b → is_dash b ≡ true → Stands text (record { place = p; number = n }) → Stands text (record { place = p - 1; number = n })
+back-dash text p n b some here is stands = record {
+  within = (let inside = slice_get_within text (p - 1) b here in omega (arith, inside));
+  before = (let step = dash-step text (p - 1) b here is in let before = stands.before in let e : suc (p - 1) ≡ p = omega (arith, some) in let same = ap (λ k. digits_before k text) e in omega (arith, step, before, same));
+}
+
+-- a cursor with digits before it has bytes before it
+pub some-before : (text : List ℕ) (cursor : Cursor) (number : ℕ) → Stands text cursor → number < cursor.number → 0 < cursor.place
+some-before text cursor number stands more = by cursor.place refl
+  where
+    by : (p : ℕ) → cursor.place ≡ p → 0 < p
+    by zero e = (let none = stands.before ∙ ap (λ k. digits_before k text) e in absurd (omega (arith, none, more)))
+    by (suc p) e = omega arith

@@ -1,12 +1,12 @@
 -- What stands in order: its parts, and what is found in it.
-use Rattle.std.proofs.Common.{◌≡◌, ℕ, zero, suc, ◌+◌, ◌<◌, ◌≤◌, Bool, true, false, cond, List, [], ◌∷◌, ◌++◌, length, map, take, get_or, Option, Some, None, inl, inr, ◌⊎◌, arith, refl, sym, ap, subst, ◌∙◌, Ordering, Less, Equal, Greater, nat_cmp, ◌==◌}
+use Rattle.std.proofs.Common.{◌≡◌, ℕ, zero, suc, ◌<◌, Bool, true, false, cond, List, [], ◌∷◌, ◌++◌, map, take, get_or, Some, None, inl, inr, arith, refl, sym, ap, subst, ◌∙◌, Ordering, Less, nat_cmp, ◌==◌}
 use Rattle.std.specs.Prelude.{slice_get, slice_range, nat_lt}
 use Rattle.std.specs.List.{AllByRecursion, find}
 use Rattle.std.specs.Ordering.{ordering_then}
 use Rattle.std.specs.List.Sorted.{IsStrictlySortedBy, IsPartitionPoint, IsPartitionedBy}
-use Rattle.std.proofs.lemmas.Bool.{eq-eqb, ne_eqb, ltb-true, ltb-false, lt-ltb, le-ltb, cases_order}
+use Rattle.std.proofs.lemmas.Bool.{eq-eqb, ne_eqb, ltb-true, ltb-false, lt-ltb, cases_order}
 use Rattle.std.proofs.lemmas.Cmp.{ranked, tied_itself}
-use Rattle.std.proofs.lemmas.Option.{same_Some, slice_get_cases, slice_get_within, slice_get-get_or}
+use Rattle.std.proofs.lemmas.Option.{same_Some, slice_get_within, slice_get-get_or}
 use Rattle.dp_pattern.specs.Name.{Meaning, Pattern}
 use Rattle.dp_pattern.specs.Order.{name_cmp}
 use Rattle.dp_pattern.proofs.OrderLemmas.{name_cmp_total}

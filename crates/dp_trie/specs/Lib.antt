@@ -1,4 +1,5 @@
 pub mod Asked
+pub mod Digits
 pub mod Known
 pub mod Names
 pub mod Ranked

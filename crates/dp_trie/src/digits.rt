@@ -1,13 +1,23 @@
 //! The digits of a dialled text: its bytes without the dashes.
-ghost use Rattle.std.specs.Prelude.{◌≡◌, ◌<◌, length, slice_get, MatchOption};
+ghost use Rattle.std.specs.Prelude.{◌≡◌, ◌<◌, ◌≤◌, length, slice_get};
 ghost use Rattle.dp_pattern.specs.Dashes.{undashed};
+ghost use Rattle.dp_trie.specs.Digits.{Stands};
 
-/// The digits of a dialled text, and how many there are.
+/// A place in a text, and how many of its digits stand before it.
+#[derive(Clone, Copy)]
+pub(crate) struct Cursor {
+    place: usize,
+    number: usize,
+}
+
+/// The digits of a dialled text, how many there are, and where the first stands.
 #[derive(Clone, Copy)]
 pub(crate) struct Digits<'a> {
     text: &'a [u8],
     count: usize,
+    first: Cursor,
     ghost counted: { count ≡ length (undashed text.now) },
+    ghost stands: { Stands text.now first },
 }
 
 /// How many bytes of the text are no dashes.
@@ -17,20 +27,40 @@ fn count_digits(text: &[u8]) -> usize
     text.iter().filter(|byte| **byte != b'-').count()
 }
 
-/// The digit of this number, counted from 0 over the bytes that are no dashes.
-fn digit_past_dashes(text: &[u8], number: usize) -> Option<u8>
-    ensures { result ≡ slice_get (undashed text.now) number }
+/// Goes back until at most so many digits stand before the cursor.
+fn go_back(text: &[u8], from: Cursor, number: usize) -> Cursor
+    requires { Stands text.now from }
+    ensures stands { Stands text.now result }
+    ensures most { result.number ≤ number }
 {
-    let mut left = number;
-    for byte in text {
-        if *byte != b'-' {
-            if left == 0 {
-                return Some(*byte);
-            }
-            left -= 1;
+    let mut cursor = from;
+    while cursor.number > number {
+        cursor.place -= 1;
+        if text[cursor.place] != b'-' {
+            cursor.number -= 1;
         }
     }
-    None
+    cursor
+}
+
+/// Goes on to the digit of this number, or to the end of the text where there are no more.
+fn go_on(text: &[u8], from: Cursor, number: usize) -> Cursor
+    requires stands { Stands text.now from }
+    requires most { from.number ≤ number }
+    ensures stands { Stands text.now result }
+    ensures there { slice_get text.now result.place ≡ slice_get (undashed text.now) number }
+{
+    let mut cursor = from;
+    while let Some(byte) = text.get(cursor.place) {
+        if *byte != b'-' {
+            if cursor.number == number {
+                return cursor;
+            }
+            cursor.number += 1;
+        }
+        cursor.place += 1;
+    }
+    cursor
 }
 
 impl<'a> Digits<'a> {
@@ -39,7 +69,12 @@ impl<'a> Digits<'a> {
         ensures { undashed result.text.now ≡ undashed text.now }
     {
         let count = count_digits(text);
-        Digits { text, count }
+        let start = Cursor {
+            place: 0,
+            number: 0,
+        };
+        let first = go_on(text, start, 0);
+        Digits { text, count, first }
     }
 
     /// How many digits there are.
@@ -49,14 +84,24 @@ impl<'a> Digits<'a> {
         self.count
     }
 
-    /// The digit of this number, counted from 0, or None where there are no more.
-    pub(crate) fn at(self, number: usize) -> Option<u8>
-        ensures { result ≡ slice_get (undashed self.entry.text.now) number }
+    /// A cursor at the first digit.
+    pub(crate) fn first(self) -> Cursor
+        ensures { Stands self.entry.text.now result }
+    {
+        self.first
+    }
+
+    /// The digit of this number, counted from 0, or None where there are no more. The cursor goes there, from the digit
+    /// that was asked for before.
+    pub(crate) fn at(self, number: usize, cursor: &mut Cursor) -> Option<u8>
+        requires { Stands self.text.now cursor.old }
+        ensures value { result ≡ slice_get (undashed self.entry.text.now) number }
+        ensures stands { Stands self.entry.text.now cursor.new }
     {
         if self.count == self.text.len() {
-            self.text.get(number).copied()
-        } else {
-            digit_past_dashes(self.text, number)
+            return self.text.get(number).copied();
         }
+        *cursor = go_on(self.text, go_back(self.text, *cursor, number), number);
+        self.text.get(cursor.place).copied()
     }
 }

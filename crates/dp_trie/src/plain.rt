@@ -40,8 +40,9 @@ pub(crate) enum Side {
 fn side_of(name: &[u8], digits: Digits<'_>) -> Side
     ensures { result ≡ side_of name.now (undashed digits.entry.text.now) }
 {
+    let mut cursor = digits.first();
     for number in 0..name.len() {
-        match digits.at(number) {
+        match digits.at(number, &mut cursor) {
             Some(digit) => match name[number].cmp(&digit) {
                 Ordering::Less => return Side::Before,
                 Ordering::Equal => {}

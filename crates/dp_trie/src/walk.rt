@@ -1,12 +1,14 @@
 //! The walk through a tree of patterns. It takes no memory, and no call of it stands inside another.
-ghost use Rattle.std.specs.Prelude.{◌≡◌, ◌≤◌, length, slice_index, MatchOption, [], find};
+ghost use Rattle.std.specs.Prelude.{◌≡◌, ◌≤◌, length, slice_index, MatchOption, [], find, if◌then◌else◌};
 ghost use Rattle.std.specs.Option.{option_map};
 ghost use Rattle.dp_pattern.specs.Walk.{classes_of};
 ghost use Rattle.dp_trie.specs.Asked.{is_more, wants, asked, hit_of};
 ghost use Rattle.dp_pattern.specs.Dashes.{undashed};
+ghost use Rattle.dp_trie.specs.Digits.{Stands};
+ghost use Rattle.dp_trie.specs.declared.walk.Visit.TheVariants.{Enters, Fails};
 ghost use Rattle.dp_trie.specs.Tree.{takes, allows, step_visit, known_from, IsRange, IsTree, Rises};
 
-use crate::digits::Digits;
+use crate::digits::{Cursor, Digits};
 use crate::node::{Held, Leaf, Node, Step};
 use crate::question::{Hit, Question, first_wanted, is_more};
 use dp_pattern::{Class, Tail};
@@ -31,10 +33,12 @@ pub(crate) struct Counted {
 
 /// Whether the class takes the digit of this number. Where the digits have ended, it does if names that go on are asked
 /// for.
-fn takes(class: &Class, number: usize, digits: Digits<'_>, more: bool) -> bool
-    ensures { result ≡ takes more (undashed digits.entry.text.now) class.now number }
+fn takes(class: &Class, number: usize, digits: Digits<'_>, cursor: &mut Cursor, more: bool) -> bool
+    requires { Stands digits.text.now cursor.old }
+    ensures value { result ≡ takes more (undashed digits.entry.text.now) class.now number }
+    ensures stands { Stands digits.entry.text.now cursor.new }
 {
-    match digits.at(number) {
+    match digits.at(number, cursor) {
         Some(digit) => class.has(digit),
         None => more,
     }
@@ -51,6 +55,25 @@ pub(crate) fn allows(tail: Tail, number: usize, count: usize, more: bool) -> boo
         (true, Tail::End) => count < number,
         (true, Tail::Dot) => true,
         (true, Tail::Bang) => false,
+    }
+}
+
+/// What a walk does at a class.
+fn visit_class(
+    class: &Class,
+    depth: usize,
+    digits: Digits<'_>,
+    cursor: &mut Cursor,
+    more: bool,
+) -> Visit
+    requires { Stands digits.text.now cursor.old }
+    ensures visit { result ≡ (if takes more (undashed digits.entry.text.now) class.now depth then Enters else Fails) }
+    ensures stands { Stands digits.entry.text.now cursor.new }
+{
+    if takes(class, depth, digits, cursor, more) {
+        Visit::Enters
+    } else {
+        Visit::Fails
     }
 }
 
@@ -77,15 +100,22 @@ fn visit_leaf(
 }
 
 /// What a walk does at a node.
-fn visit_node(node: &Node, held: &[Held], question: Question<'_>, digits: Digits<'_>) -> Visit
+fn visit_node(
+    node: &Node,
+    held: &[Held],
+    question: Question<'_>,
+    digits: Digits<'_>,
+    cursor: &mut Cursor,
+) -> Visit
     requires range { IsRange (length held.now) node.now.step }
     requires rises { Rises held.now node.now.step }
-    ensures { result ≡ step_visit held.now (is_more question.entry) (wants question.entry) (undashed digits.entry.text.now)
+    requires stands { Stands digits.text.now cursor.old }
+    ensures stands { Stands digits.entry.text.now cursor.new }
+    ensures visit { result ≡ step_visit held.now (is_more question.entry) (wants question.entry) (undashed digits.entry.text.now)
         node.now.depth node.now.step }
 {
     match &node.step {
-        Step::Class(class) if takes(class, node.depth, digits, is_more(question)) => Visit::Enters,
-        Step::Class(_) => Visit::Fails,
+        Step::Class(class) => visit_class(class, node.depth, digits, cursor, is_more(question)),
         Step::Leaf(leaf) => visit_leaf(*leaf, node.depth, held, question, digits),
     }
 }
@@ -107,10 +137,11 @@ pub(crate) fn find_in_tree(
         (find (asked (is_more question.entry) (wants question.entry) (undashed digits.entry.text.now)) (known_from held.now [] nodes.now))
         (Unit {0}) (λ known. length (classes_of known.name) ≤ result.count) }
 {
+    let mut cursor = digits.first();
     let mut place = 0;
     let mut count = 0;
     while let Some(node) = nodes.get(place) {
-        match visit_node(node, held, question, digits) {
+        match visit_node(node, held, question, digits, &mut cursor) {
             Visit::Holds(hit) => {
                 return Counted {
                     hit: Some(hit),

@@ -10,28 +10,34 @@ pub returns-in-Holds-clause-hit : goal.returns-in-Holds-clause-hit
 returns-in-Holds-clause-hit c =
     let found = c.in-Some.ensures.lookup.3 in
     let here = slice_get_read c.args.nodes.now _ c.loop-node.place c.in-Some.node.now refl found.0 (found.1 c.in-Some.node.now) in
-    let hold = after-hold c.args.held.now (is_more c.args.question) (wants c.args.question) (undashed c.args.digits.text.now) c.args.nodes.now c.loop-node.place c.loop-node.count c.loop-node.invariant c.in-Some.node.now here c.in-Holds.hit (sym c.in-Holds.ensures) in
+    let hold = after-hold c.args.held.now (is_more c.args.question) (wants c.args.question) (undashed c.args.digits.text.now) c.args.nodes.now c.loop-node.place c.loop-node.count c.loop-node.invariant.at c.in-Some.node.now here c.in-Holds.hit (sym c.in-Holds.ensures.visit) in
     hold.found
 
 pub returns-in-Holds-clause-least : goal.returns-in-Holds-clause-least
 returns-in-Holds-clause-least c =
     let found = c.in-Some.ensures.lookup.3 in
     let here = slice_get_read c.args.nodes.now _ c.loop-node.place c.in-Some.node.now refl found.0 (found.1 c.in-Some.node.now) in
-    let hold = after-hold c.args.held.now (is_more c.args.question) (wants c.args.question) (undashed c.args.digits.text.now) c.args.nodes.now c.loop-node.place c.loop-node.count c.loop-node.invariant c.in-Some.node.now here c.in-Holds.hit (sym c.in-Holds.ensures) in
+    let hold = after-hold c.args.held.now (is_more c.args.question) (wants c.args.question) (undashed c.args.digits.text.now) c.args.nodes.now c.loop-node.place c.loop-node.count c.loop-node.invariant.at c.in-Some.node.now here c.in-Holds.hit (sym c.in-Holds.ensures.visit) in
     hold.least
 
 pub loop-node-preserved-in-Enters : goal.loop-node-preserved-in-Enters
 loop-node-preserved-in-Enters c =
     let found = c.in-Some.ensures.lookup.3 in
     let here = slice_get_read c.args.nodes.now _ c.loop-node.place c.in-Some.node.now refl found.0 (found.1 c.in-Some.node.now) in
-    after-enter c.args.held.now (is_more c.args.question) (wants c.args.question) (undashed c.args.digits.text.now) c.args.nodes.now c.loop-node.place c.loop-node.count c.loop-node.invariant c.in-Some.node.now here (sym c.in-Enters.ensures)
+    record {
+      stands = c.visit_node.ensures.stands;
+      at = after-enter c.args.held.now (is_more c.args.question) (wants c.args.question) (undashed c.args.digits.text.now) c.args.nodes.now c.loop-node.place c.loop-node.count c.loop-node.invariant.at c.in-Some.node.now here (sym c.in-Enters.ensures.visit);
+    }
 
 pub loop-node-preserved : goal.loop-node-preserved
 loop-node-preserved c =
     let found = c.in-Some.ensures.lookup.3 in
     let here = slice_get_read c.args.nodes.now _ c.loop-node.place c.in-Some.node.now refl found.0 (found.1 c.in-Some.node.now) in
-    after-fail c.args.held.now (is_more c.args.question) (wants c.args.question) (undashed c.args.digits.text.now) c.args.nodes.now c.loop-node.place c.loop-node.count c.loop-node.invariant c.in-Some.node.now here
-    (slice_index c.args.ends.now c.loop-node.place) (c.requires.linked.each c.loop-node.place c.in-Some.node.now here) (sym c.in-Fails.ensures)
+    record {
+      stands = c.visit_node.ensures.stands;
+      at = after-fail c.args.held.now (is_more c.args.question) (wants c.args.question) (undashed c.args.digits.text.now) c.args.nodes.now c.loop-node.place c.loop-node.count c.loop-node.invariant.at c.in-Some.node.now here
+          (slice_index c.args.ends.now c.loop-node.place) (c.requires.linked.each c.loop-node.place c.in-Some.node.now here) (sym c.in-Fails.ensures.visit);
+    }
 
 pub loop-node-smaller : goal.loop-node-smaller
 loop-node-smaller c =

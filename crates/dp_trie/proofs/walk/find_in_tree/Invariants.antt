@@ -1,11 +1,15 @@
 use Rattle.std.proofs.Common.{◌-◌, length}
 use Rattle.dp_pattern.specs.Dashes.{undashed}
 use Rattle.dp_trie.specs.Asked.{is_more, wants}
+use Rattle.dp_trie.specs.Digits.{Stands}
 use Rattle.dp_trie.proofs.TreeLemmas.{IsAt}
 use Rattle.dp_trie.proofs.walk.find_in_tree.Given as goal
 
 abbrev pub invariant-loop-node : goal.invariant-loop-node
-invariant-loop-node l = IsAt l.held (is_more l.question) (wants l.question) (undashed l.digits.text.now) l.nodes l.place l.count
+invariant-loop-node l = record {
+  stands : Stands l.digits.text.now l.cursor;
+  at : IsAt l.held (is_more l.question) (wants l.question) (undashed l.digits.text.now) l.nodes l.place l.count;
+}
 
 abbrev pub decreases-loop-node : goal.decreases-loop-node
 decreases-loop-node l = length l.nodes - l.place
