@@ -1,10 +1,12 @@
 -- The digits of a text that has no dash are its bytes.
-use Rattle.std.proofs.Common.{◌≡◌, ℕ, zero, suc, ◌+◌, ◌-◌, ◌<◌, ◌≤◌, Bool, true, false, cond, not, List, [], ◌∷◌, length, take, Option, Some, None, Bor, arith, refl, sym, ap, ◌∙◌, add-one}
+use Rattle.std.proofs.Common.{◌≡◌, ℕ, zero, suc, ◌+◌, ◌-◌, ◌<◌, ◌≤◌, Bool, true, false, cond, not, List, [], ◌∷◌, length, take, Option, Some, None, Bor, arith, refl, sym, ap, ◌∙◌, add-one, inl, inr, set}
 use Rattle.std.specs.Prelude.{slice_get, option_copied}
 use Rattle.std.specs.Slice.{IsItemAt}
+use Rattle.std.proofs.lemmas.Bool.{cases_order}
+use Rattle.std.proofs.lemmas.List.{length-set}
 use Rattle.std.proofs.lemmas.Option.{slice_get_read, slice_get_past, slice_get_within, same_Some}
 use Rattle.dp_pattern.specs.Dashes.{is_dash, undashed}
-use Rattle.dp_trie.specs.Digits.{Stands}
+use Rattle.dp_trie.specs.Digits.{Stands, AreNear}
 use Rattle.dp_trie.specs.declared.digits.Cursor.{Cursor}
 
 pub length-undashed : (text : List ℕ) → length (undashed text) ≤ length text
@@ -115,3 +117,59 @@ some-before text cursor number stands more = by cursor.place refl
     by : (p : ℕ) → cursor.place ≡ p → 0 < p
     by zero e = (let none = stands.before ∙ ap (λ k. digits_before k text) e in absurd (omega (arith, none, more)))
     by (suc p) e = omega arith
+
+-- ---- the first digits
+
+get-set : (near : List ℕ) (n b : ℕ) → n < length near → slice_get (set near n b) n ≡ Some b
+get-set [] n b few = absurd (omega (arith, few))
+get-set (x ∷ near) zero b few = refl
+get-set (x ∷ near) (suc n) b few = get-set near n b (omega (arith, few))
+
+get-set_before : (near : List ℕ) (n k b : ℕ) → k < n → slice_get (set near n b) k ≡ slice_get near k
+get-set_before [] n k b less = refl
+get-set_before (x ∷ near) zero k b less = absurd (omega (arith, less))
+get-set_before (x ∷ near) (suc n) zero b less = refl
+get-set_before (x ∷ near) (suc n) (suc k) b less = get-set_before near n k b (omega (arith, less))
+
+-- the digits before a place stand beside the text
+pub record AreKept (text near : List ℕ) (place number : ℕ) : Type 0 where
+  pub size : length near ≡ 32
+  pub within : place ≤ length text
+  pub before : number ≡ digits_before place text
+  pub few : number ≤ 32
+  pub kept : (k d : ℕ) → k < number → slice_get (undashed text) k ≡ Some d → slice_get near k ≡ Some d
+
+pub kept-digit : (text near : List ℕ) (p n b : ℕ) → slice_get text p ≡ Some b → is_dash b ≡ false → n < 32 → AreKept text near p n → AreKept text (set near n b) (p + 1) (n + 1)
+kept-digit text near p n b here is low are = record {
+  size = length-set near n b ∙ are.size;
+  within = (let inside = slice_get_within text p b here in omega (arith, inside));
+  before = (let step = digit-step text p b here is in let before = are.before in let same = ap (λ k. digits_before k text) (add-one p) in omega (arith, step, before, same));
+  few = omega (arith, low);
+  kept = λ k d less there. elim (cases_order k n) [
+    | inl same ↦
+        let size = are.size in
+        let digit : b ≡ d = same_Some b d (sym (ap (slice_get (undashed text)) (same ∙ are.before) ∙ digit-at text p b here is) ∙ there) in
+        ap (slice_get (set near n b)) same ∙ (get-set near n b (omega (arith, size, low)) ∙ ap Some digit)
+    | inr (inl before) ↦ get-set_before near n k b before ∙ are.kept k d before there
+    | inr (inr behind) ↦ absurd (omega (arith, behind, less))
+  ];
+}
+
+pub kept-dash : (text near : List ℕ) (p n b : ℕ) → slice_get text p ≡ Some b → is_dash b ≡ true → AreKept text near p n → AreKept text near (p + 1) n
+kept-dash text near p n b here is are = record {
+  size = are.size;
+  within = (let inside = slice_get_within text p b here in omega (arith, inside));
+  before = (let step = dash-step text p b here is in let before = are.before in let same = ap (λ k. digits_before k text) (add-one p) in omega (arith, step, before, same));
+  few = are.few;
+  kept = are.kept;
+}
+
+pub near-full : (text near : List ℕ) (p n : ℕ) → n ≡ 32 → AreKept text near p n → AreNear text near
+near-full text near p n full are k d less there = are.kept k d (omega (arith, full, less)) there
+
+pub near-ended : (text near : List ℕ) (p n : ℕ) → length text ≤ p → AreKept text near p n → AreNear text near
+near-ended text near p n ended are k d less there =
+    let all : digits_before p text ≡ length (undashed text) = ap (λ l. length (undashed l)) (take_end text p ended) in
+    let inside = slice_get_within (undashed text) k d there in
+    let before = are.before in
+    are.kept k d (omega (arith, all, inside, before)) there

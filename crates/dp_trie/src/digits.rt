@@ -1,7 +1,7 @@
 //! The digits of a dialled text: its bytes without the dashes.
 ghost use Rattle.std.specs.Prelude.{◌≡◌, ◌<◌, ◌≤◌, length, slice_get};
 ghost use Rattle.dp_pattern.specs.Dashes.{undashed};
-ghost use Rattle.dp_trie.specs.Digits.{Stands};
+ghost use Rattle.dp_trie.specs.Digits.{Stands, AreNear};
 
 /// A place in a text, and how many of its digits stand before it.
 #[derive(Clone, Copy)]
@@ -10,14 +10,19 @@ pub(crate) struct Cursor {
     number: usize,
 }
 
-/// The digits of a dialled text, how many there are, and where the first stands.
+/// How many of the first digits are kept beside the text.
+const NEAR: usize = 32;
+
+/// The digits of a dialled text, how many there are, the first of them, and where the first stands.
 #[derive(Clone, Copy)]
 pub(crate) struct Digits<'a> {
     text: &'a [u8],
     count: usize,
+    near: [u8; 32],
     first: Cursor,
     ghost counted: { count ≡ length (undashed text.now) },
     ghost stands: { Stands text.now first },
+    ghost begins: { AreNear text.now near },
 }
 
 /// How many bytes of the text are no dashes.
@@ -25,6 +30,24 @@ fn count_digits(text: &[u8]) -> usize
     ensures { result ≡ length (undashed text.now) }
 {
     text.iter().filter(|byte| **byte != b'-').count()
+}
+
+/// The first digits of the text.
+fn near_digits(text: &[u8]) -> [u8; 32]
+    ensures { AreNear text.now result }
+{
+    let mut near = [0; NEAR];
+    let mut number = 0;
+    for byte in text {
+        if number == NEAR {
+            return near;
+        }
+        if *byte != b'-' {
+            near[number] = *byte;
+            number += 1;
+        }
+    }
+    near
 }
 
 /// Goes back until at most so many digits stand before the cursor.
@@ -74,7 +97,13 @@ impl<'a> Digits<'a> {
             number: 0,
         };
         let first = go_on(text, start, 0);
-        Digits { text, count, first }
+        let near = near_digits(text);
+        Digits {
+            text,
+            count,
+            near,
+            first,
+        }
     }
 
     /// How many digits there are.
@@ -91,8 +120,20 @@ impl<'a> Digits<'a> {
         self.first
     }
 
-    /// The digit of this number, counted from 0, or None where there are no more. The cursor goes there, from the digit
-    /// that was asked for before.
+    /// The digit of this number, which is one of the first.
+    fn near(self, number: usize) -> Option<u8>
+        requires { number < 32 }
+        ensures { result ≡ slice_get (undashed self.entry.text.now) number }
+    {
+        if number < self.count {
+            Some(self.near[number])
+        } else {
+            None
+        }
+    }
+
+    /// The digit of this number, counted from 0, or None where there are no more. Behind the first digits the
+    /// cursor goes there, from the digit that was asked for before.
     pub(crate) fn at(self, number: usize, cursor: &mut Cursor) -> Option<u8>
         requires { Stands self.text.now cursor.old }
         ensures value { result ≡ slice_get (undashed self.entry.text.now) number }
@@ -100,6 +141,9 @@ impl<'a> Digits<'a> {
     {
         if self.count == self.text.len() {
             return self.text.get(number).copied();
+        }
+        if number < NEAR {
+            return self.near(number);
         }
         *cursor = go_on(self.text, go_back(self.text, *cursor, number), number);
         self.text.get(cursor.place).copied()
