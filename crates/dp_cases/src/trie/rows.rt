@@ -84,3 +84,40 @@ label 5,out→2";
     check(&rt, rt.alloc(), text, b"b", asked)?;
     check(&rt, rt.alloc(), text, b"c", "find 5,1→none")
 }
+
+/// Names that go on from one another, priorities with gaps between them, and dashes in the text.
+#[test]
+fn rows_of_gaps_and_dashes(rt: HostRuntime) -> Result<(), Fail> {
+    let text =
+        b"[main]\nexten => 2,1,two\nexten => 12,1,one\nexten => 12,5,five\nexten => 12,9(far),nine\n\
+exten => 1,2,short\nexten => 123,2,late\nexten => 1234,1,long\n\
+exten => _3X[45].,7,seven\nexten => _3X[45].,2,other\nexten => _3XX,1,three\n";
+    let asked = "\
+find 12,1→main one
+find 12,5→main five
+find 12,9→main nine
+find 12,4→none
+find 12,10→none
+find 1,1→none
+find 1,2→main short
+find 2,1→main two
+find 0,1→none
+find 13,1→none
+find 9,1→none
+label 12,far→9
+label 123,far→none
+more 1→more
+more 12→more
+more 123→more
+more 1234→no more
+more 2→no more
+find --1-2--,5→main five
+find 3-1-4-9,7→main seven
+find 3-1--5-6-7,2→main other
+find 3-1-6-7,2→none
+find -3-1-4-,1→main three
+find 3-1-4-,7→none
+more 3-1-→more
+more 3-1-4-→no more";
+    check(&rt, rt.alloc(), text, b"main", asked)
+}
