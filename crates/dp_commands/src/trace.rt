@@ -88,7 +88,7 @@ fn push_entry_of(
 {
     out.push(context.name().bytes())?;
     out.push(b",")?;
-    push_name(alloc, out, &entry.name)?;
+    push_name(alloc, out, entry.name.name())?;
     out.push(b",")?;
     push_number(out, entry.priority.get())?;
     out.push(b" ")?;

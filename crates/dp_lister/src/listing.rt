@@ -80,23 +80,22 @@ fn push_behind_name(out: &mut Vec<u8>, entry: &Entry) -> Result<(), NoMemory>
 }
 
 /// Adds the line of an entry.
-fn push_entry(alloc: Global, out: &mut Vec<u8>, entry: &Entry) -> Result<(), NoMemory>
+fn push_entry(out: &mut Vec<u8>, entry: &Entry) -> Result<(), NoMemory>
     ensures { OnOk result (out.new.items ≡ out.old.items ++ spec.line_text (spec.entry_line entry.now)) }
 {
-    let name = entry.name.text(alloc)?;
     out.extend_from_slice(b"exten => ")?;
-    push_escaped(out, &name)?;
+    push_escaped(out, entry.name.spelling())?;
     push_behind_name(out, entry)?;
     out.push(b'\n')?;
     Ok(())
 }
 
 /// Adds the lines of entries.
-fn push_entries(alloc: Global, out: &mut Vec<u8>, entries: &[Entry]) -> Result<(), NoMemory>
+fn push_entries(out: &mut Vec<u8>, entries: &[Entry]) -> Result<(), NoMemory>
     ensures { OnOk result (out.new.items ≡ out.old.items ++ spec.text_of (map spec.entry_line entries.now)) }
 {
     for entry in entries {
-        push_entry(alloc, out, entry)?;
+        push_entry(out, entry)?;
     }
     Ok(())
 }
@@ -132,21 +131,21 @@ fn push_header(out: &mut Vec<u8>, name: &[u8]) -> Result<(), NoMemory>
 }
 
 /// Adds the lines of a context.
-fn push_context(alloc: Global, out: &mut Vec<u8>, context: &Context) -> Result<(), NoMemory>
+fn push_context(out: &mut Vec<u8>, context: &Context) -> Result<(), NoMemory>
     ensures { OnOk result (out.new.items ≡ out.old.items ++ spec.text_of (spec.context_lines context.now)) }
 {
     push_header(out, context.name().bytes())?;
-    push_entries(alloc, out, context.entries())?;
+    push_entries(out, context.entries())?;
     push_includes(out, context.includes())?;
     Ok(())
 }
 
 /// Adds the lines of contexts.
-fn push_contexts(alloc: Global, out: &mut Vec<u8>, contexts: &[Context]) -> Result<(), NoMemory>
+fn push_contexts(out: &mut Vec<u8>, contexts: &[Context]) -> Result<(), NoMemory>
     ensures { OnOk result (out.new.items ≡ out.old.items ++ spec.contexts_text contexts.now) }
 {
     for context in contexts {
-        push_context(alloc, out, context)?;
+        push_context(out, context)?;
     }
     Ok(())
 }
@@ -158,7 +157,7 @@ fn listing_of(alloc: Global, plan: &Dialplan) -> Result<Vec<u8>, NoMemory>
 {
     let mut out = Vec::new(alloc);
     push_globals(&mut out, plan.globals())?;
-    push_contexts(alloc, &mut out, plan.contexts())?;
+    push_contexts(&mut out, plan.contexts())?;
     Ok(out)
 }
 

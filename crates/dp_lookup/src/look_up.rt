@@ -39,10 +39,10 @@ fn is_asked(question: Question<'_>, text: &[u8], entry: &Entry) -> bool
 {
     match question {
         Question::Priority(priority) => {
-            entry.priority.get() == priority && matches(&entry.name, text)
+            entry.priority.get() == priority && matches(entry.name.name(), text)
         }
-        Question::Label(label) => has_label(entry, label) && matches(&entry.name, text),
-        Question::More => entry.priority.get() == 1 && could_match_more(&entry.name, text),
+        Question::Label(label) => has_label(entry, label) && matches(entry.name.name(), text),
+        Question::More => entry.priority.get() == 1 && could_match_more(entry.name.name(), text),
     }
 }
 

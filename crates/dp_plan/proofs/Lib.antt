@@ -1,3 +1,4 @@
+mod AdditionLemmas
 mod ApartLemmas
 pub mod Canonical
 mod ChangedLemmas

@@ -13,3 +13,4 @@ pub mod Plan
 pub mod Priority
 pub mod Ranking
 pub mod Reader
+pub mod SharedName

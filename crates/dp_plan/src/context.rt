@@ -76,7 +76,7 @@ impl Context {
         ensures { OnOk result (self.new ≡ with_entry entry self.old) }
     {
         // What a name is made of is what some text means.
-        let _parts = entry.name.parts();
+        let _parts = entry.name.name().parts();
         self.entries.push(entry)?;
         Ok(())
     }

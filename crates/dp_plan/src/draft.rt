@@ -17,6 +17,7 @@ use crate::priority::Priority;
 use crate::ranking::rank_contexts;
 use crate::remark::{Remark, settle};
 use crate::section::Section;
+use crate::shared_text::SharedText;
 use dp_conf::{NoMemory, Text};
 use indexmap::IndexSet;
 use std::alloc::Global;
@@ -66,10 +67,10 @@ impl Model for Draft {
 }
 
 /// The place that an entry takes in its context.
-fn slot_of(alloc: Global, context: &Text, entry: &Entry) -> Result<Slot, NoMemory>
+fn slot_of(context: &SharedText, entry: &Entry) -> Result<Slot, NoMemory>
     ensures { IfOk result (λ slot. slot ≡ spec.slot_of context.now entry.now) }
 {
-    let extension = Extension::of(alloc, context, &entry.name)?;
+    let extension = Extension::of(context, &entry.name)?;
     let priority = entry.priority.get();
     Ok(Slot {
         extension,
@@ -78,13 +79,13 @@ fn slot_of(alloc: Global, context: &Text, entry: &Entry) -> Result<Slot, NoMemor
 }
 
 /// The label that an entry takes, where it has one.
-fn label_of(alloc: Global, context: &Text, entry: &Entry) -> Result<Option<Label>, NoMemory>
+fn label_of(context: &SharedText, entry: &Entry) -> Result<Option<Label>, NoMemory>
     ensures { IfOk result (λ label. label ≡ spec.label_of context.now entry.now) }
 {
     match &entry.label {
         None => Ok(None),
         Some(label) => {
-            let extension = Extension::of(alloc, context, &entry.name)?;
+            let extension = Extension::of(context, &entry.name)?;
             let label = label.clone()?;
             Ok(Some(Label { extension, label }))
         }
@@ -99,12 +100,12 @@ struct Claim {
 }
 
 /// What an entry takes of its context.
-fn claim_of(alloc: Global, context: &Text, entry: &Entry) -> Result<Claim, NoMemory>
+fn claim_of(context: &SharedText, entry: &Entry) -> Result<Claim, NoMemory>
     ensures slot { IfOk result (λ claim. claim.slot ≡ spec.slot_of context.now entry.now) }
     ensures label { IfOk result (λ claim. claim.label ≡ spec.label_of context.now entry.now) }
 {
-    let slot = slot_of(alloc, context, entry)?;
-    let label = label_of(alloc, context, entry)?;
+    let slot = slot_of(context, entry)?;
+    let label = label_of(context, entry)?;
     Ok(Claim { slot, label })
 }
 
@@ -124,19 +125,29 @@ impl Draft {
     }
 
     /// Makes sure that the context of this name is there, and gives its number.
-    fn open(&mut self, alloc: Global, name: Text) -> Result<usize, NoMemory>
-        ensures ok { OnOk result (self.new ≡ spec.with_context self.old name) }
-        ensures place { IfOk result (λ place. place ≡ position_or_len (same_text name) self.new.names) }
+    fn open_text(&mut self, alloc: Global, name: &Text) -> Result<usize, NoMemory>
+        ensures ok { OnOk result (self.new ≡ spec.with_context self.old name.now) }
+        ensures place { IfOk result (λ place. place ≡ position_or_len (same_text name.now) self.new.names) }
         ensures within { IfOk result (λ place. place < length self.new.contexts) }
     {
-        if let Some(place) = self.names.get_index_of(&name) {
+        if let Some(place) = self.names.get_index_of(name) {
             return Ok(place);
         }
-        let copy = name.clone()?;
+        let key = name.clone()?;
+        let name = name.clone()?;
         self.contexts.reserve(1)?;
-        let (place, _) = self.names.insert_full(name)?;
-        self.contexts.push(Context::new(alloc, copy)).unwrap();
+        let (place, _) = self.names.insert_full(key)?;
+        self.contexts.push(Context::new(alloc, name)).unwrap();
         Ok(place)
+    }
+
+    /// Makes sure that the context of this name is there, and gives its number.
+    fn open(&mut self, alloc: Global, name: &SharedText) -> Result<usize, NoMemory>
+        ensures ok { OnOk result (self.new ≡ spec.with_context self.old name.now) }
+        ensures place { IfOk result (λ place. place ≡ position_or_len (same_text name.now) self.new.names) }
+        ensures within { IfOk result (λ place. place < length self.new.contexts) }
+    {
+        self.open_text(alloc, name.text())
     }
 
     /// Notes something of a line.
@@ -239,16 +250,17 @@ impl Draft {
     }
 
     /// Adds an entry to its context, or notes that its place or its label is taken.
+    #[tactic(auto, using(crate::proofs::AdditionLemmas::noted_addition))]
     fn add_entry(
         &mut self,
         alloc: Global,
         line: usize,
-        context: Text,
+        context: &SharedText,
         entry: Entry,
     ) -> Result<(), NoMemory>
-        ensures { OnOk result (self.new ≡ spec.with_addition (spec.with_context self.old context) line context entry) }
+        ensures { OnOk result (self.new ≡ spec.with_addition (spec.with_context self.old context.now) line context.now entry) }
     {
-        let claim = claim_of(alloc, &context, &entry)?;
+        let claim = claim_of(context, &entry)?;
         let place = self.open(alloc, context)?;
         match self.doubled(&claim) {
             Some(kind) => self.note(line, kind),
@@ -261,11 +273,11 @@ impl Draft {
         &mut self,
         alloc: Global,
         line: usize,
-        context: Text,
+        context: &SharedText,
         name: Text,
     ) -> Result<(), NoMemory>
         ensures { OnOk result (self.new
-            ≡ spec.with_inclusion (spec.with_context self.old context) line context name) }
+            ≡ spec.with_inclusion (spec.with_context self.old context.now) line context.now name) }
     {
         let copy = name.clone()?;
         let place = self.open(alloc, context)?;
@@ -287,7 +299,7 @@ impl Draft {
         ensures { OnOk result (self.new ≡ spec.with_section self.old section) }
     {
         if let Section::Context(name) = section {
-            self.open(alloc, name)?;
+            self.open(alloc, &name)?;
         }
         Ok(())
     }
@@ -303,12 +315,12 @@ impl Draft {
                 line,
                 context,
                 entry,
-            } => self.add_entry(alloc, line, context, entry),
+            } => self.add_entry(alloc, line, &context, entry),
             Item::Includes {
                 line,
                 context,
                 name,
-            } => self.add_include(alloc, line, context, name),
+            } => self.add_include(alloc, line, &context, name),
             Item::Unknown(line) => self.note(line, NoteKind::UnknownKey),
         }
     }

@@ -1,13 +1,13 @@
 //! The entries of a context.
 use crate::priority::Priority;
+use crate::shared_name::SharedName;
 use dp_conf::{ShallowText, Text};
-use dp_pattern::Name;
 
 /// An entry of a context: at this priority of this extension the application is run with these arguments.
 #[derive(Debug, Drop)]
 pub struct Entry {
-    /// The extension's name, which may be a pattern.
-    pub name: Name,
+    /// The extension's name, which may be a pattern. All entries of an extension that stand below one another hold it once.
+    pub name: SharedName,
     pub priority: Priority,
     /// The name that the priority has beside its number, where it has one.
     pub label: Option<Text>,

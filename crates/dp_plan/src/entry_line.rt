@@ -13,8 +13,9 @@ use crate::naming::read_name;
 use crate::numbering::{Written, number_after, read_numbering};
 use crate::priority::Priority;
 use crate::reader::Reader;
+use crate::shared_name::SharedName;
+use crate::shared_text::SharedText;
 use dp_conf::{NoMemory, Text, cut_once, trim};
-use dp_pattern::Name;
 use std::alloc::Global;
 
 /// The fault of a line.
@@ -39,10 +40,9 @@ fn copy_label(alloc: Global, label: Option<&[u8]>) -> Result<Option<Text>, NoMem
 
 /// The last priority of the extension, where the priority of the line asks for it.
 fn priority_before(
-    alloc: Global,
     reader: &Reader,
-    context: &Text,
-    name: &Name,
+    context: &SharedText,
+    name: &SharedName,
     written: Written,
 ) -> Result<Option<Priority>, NoMemory>
     ensures { IfOk result (λ last. spec.number_after last written
@@ -50,7 +50,7 @@ fn priority_before(
 {
     match written {
         Written::Next => {
-            let last = reader.last_priority(alloc, context, name)?;
+            let last = reader.last_priority(context, name)?;
             Ok(last)
         }
         Written::Number(_) | Written::TooGreat => Ok(None),
@@ -62,8 +62,8 @@ fn read_named(
     alloc: Global,
     reader: &Reader,
     line: usize,
-    context: &Text,
-    name: Name,
+    context: &SharedText,
+    name: SharedName,
     priority: &[u8],
     application: &[u8],
 ) -> Result<Entry, LoadFault>
@@ -74,7 +74,7 @@ fn read_named(
         Ok(numbering) => numbering,
         Err(kind) => return Err(fault(line, kind)),
     };
-    let last = priority_before(alloc, reader, context, &name, numbering.written)?;
+    let last = priority_before(reader, context, &name, numbering.written)?;
     let priority = match number_after(last, numbering.written) {
         Ok(priority) => priority,
         Err(kind) => return Err(fault(line, kind)),
@@ -101,7 +101,7 @@ pub(crate) fn read_exten(
     alloc: Global,
     reader: &Reader,
     line: usize,
-    context: &Text,
+    context: &SharedText,
     value: &[u8],
 ) -> Result<Entry, LoadFault>
     ensures { Answers (λ entry. entry) reason_of result
@@ -121,7 +121,7 @@ pub(crate) fn read_exten(
 }
 
 /// The name of a line that repeats the one before it.
-fn name_again(reader: &Reader, line: usize) -> Result<Name, LoadFault>
+fn name_again(reader: &Reader, line: usize) -> Result<SharedName, LoadFault>
     ensures { Answers (λ name. name) reason_of result (spec.name_again line reader.now.name) }
 {
     match reader.name() {
@@ -139,7 +139,7 @@ pub(crate) fn read_same(
     alloc: Global,
     reader: &Reader,
     line: usize,
-    context: &Text,
+    context: &SharedText,
     value: &[u8],
 ) -> Result<Entry, LoadFault>
     ensures { Answers (λ entry. entry) reason_of result

@@ -3,28 +3,25 @@ ghost use Rattle.std.specs.Prelude.{IfOk, IsTrue, ◌≡◌, ◌↔◌};
 ghost use Rattle.dp_pattern.specs.Name.{Meaning, IsName};
 ghost use Rattle.dp_plan.specs.Extensions.{extension_of, same_name};
 
-use dp_conf::{NoMemory, Text};
-use dp_pattern::Name;
-use std::alloc::Global;
+use crate::shared_name::{SharedName, SharedSpelling};
+use crate::shared_text::SharedText;
+use dp_conf::NoMemory;
 
 /// An extension of a context. Names of one meaning are one extension, since they have one canonical spelling.
 #[derive(Debug, PartialEq, Eq, Hash, Drop)]
 pub(crate) struct Extension {
-    context: Text,
-    spelling: Text,
+    context: SharedText,
+    spelling: SharedSpelling,
 }
 
 impl Extension {
-    /// The extension of the name in the context.
-    pub(crate) fn of(alloc: Global, context: &Text, name: &Name) -> Result<Self, NoMemory>
+    /// The extension of the name in the context. It takes no memory.
+    pub(crate) fn of(context: &SharedText, name: &SharedName) -> Result<Self, NoMemory>
         ensures { IfOk result (λ extension. extension ≡ extension_of context.now name.now) }
     {
         let context = context.clone()?;
-        let spelling = name.text(alloc)?;
-        Ok(Extension {
-            context,
-            spelling: Text::new(spelling),
-        })
+        let spelling = SharedSpelling::of(name)?;
+        Ok(Extension { context, spelling })
     }
 }
 

@@ -14,6 +14,7 @@ use crate::fault::{LoadFault, PlanKind, Word};
 use crate::plan::GlobalVariable;
 use crate::reader::Reader;
 use crate::section::Section;
+use crate::shared_text::SharedText;
 use dp_conf::{Line, NoMemory, Text, same_word};
 use std::alloc::Global;
 
@@ -27,13 +28,13 @@ pub(crate) enum Item {
     /// An entry is added to the context of this name, by the line of this number.
     Adds {
         line: usize,
-        context: Text,
+        context: SharedText,
         entry: Entry,
     },
     /// The context of this name includes another, by the line of this number.
     Includes {
         line: usize,
-        context: Text,
+        context: SharedText,
         name: Text,
     },
     /// The line of this number has a key that its section does not know.
@@ -53,7 +54,7 @@ fn read_global(alloc: Global, line: usize, key: &[u8], value: &[u8]) -> Result<I
 }
 
 /// The item of an entry's line.
-fn added(context: &Text, line: usize, entry: Entry) -> Result<Item, NoMemory>
+fn added(context: &SharedText, line: usize, entry: Entry) -> Result<Item, NoMemory>
     ensures { IfOk result (λ item. item ≡ Item.Adds line context.now entry) }
 {
     let context = context.clone()?;
@@ -65,7 +66,12 @@ fn added(context: &Text, line: usize, entry: Entry) -> Result<Item, NoMemory>
 }
 
 /// The item of an include's line.
-fn read_include(alloc: Global, context: &Text, line: usize, name: &[u8]) -> Result<Item, LoadFault>
+fn read_include(
+    alloc: Global,
+    context: &SharedText,
+    line: usize,
+    name: &[u8],
+) -> Result<Item, LoadFault>
     ensures { Answers (λ item. item) reason_of result (spec.include_item line context.now name.now) }
 {
     if name.contains(&b',') {
@@ -101,7 +107,7 @@ fn refused_key(key: &[u8]) -> Option<PlanKind>
 fn read_context_pair(
     alloc: Global,
     reader: &Reader,
-    context: &Text,
+    context: &SharedText,
     line: usize,
     key: &[u8],
     value: &[u8],

@@ -19,6 +19,8 @@ mod ranking;
 mod reader;
 mod remark;
 mod section;
+mod shared_name;
+mod shared_text;
 
 pub use context::Context;
 pub use dp_conf::{ConfFault, LineKind, NoMemory, ShallowText, Text};
@@ -29,3 +31,4 @@ pub use fault::{LoadFault, PlanKind, Word};
 pub use note::{Note, NoteKind};
 pub use plan::{Dialplan, GlobalVariable, loaded_entries_are_known};
 pub use priority::{MOST_PRIORITY, Priority};
+pub use shared_name::SharedName;

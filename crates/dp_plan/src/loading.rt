@@ -44,7 +44,7 @@ impl Made {
         ensures { Answers (λ done. self.new) reason_of result (spec.behind_line self.old (line_now line.entry)) }
     {
         let item = read_item(alloc, &self.reader, line)?;
-        self.reader.remember(alloc, item.as_ref())?;
+        self.reader.remember(item.as_ref())?;
         self.draft.add_item(alloc, item)?;
         Ok(())
     }

@@ -6,6 +6,7 @@ ghost use Rattle.dp_plan.specs.Faults.{reason_of, name_at_line};
 ghost use Rattle.dp_pattern.specs.Name.{meaning_of};
 
 use crate::fault::{LoadFault, PlanKind, Word};
+use crate::shared_name::SharedName;
 use dp_pattern::{Name, PatternFault};
 use std::alloc::Global;
 
@@ -36,7 +37,7 @@ fn name_at(alloc: Global, line: usize, text: &[u8]) -> Result<Name, LoadFault>
 
 /// The name of a line.
 #[tactic(auto, unfolding(crate::specs::EntryLine::name_of))]
-pub(crate) fn read_name(alloc: Global, line: usize, text: &[u8]) -> Result<Name, LoadFault>
+pub(crate) fn read_name(alloc: Global, line: usize, text: &[u8]) -> Result<SharedName, LoadFault>
     ensures { Answers (λ name. name) reason_of result (spec.name_of line text.now) }
 {
     if has_variable(text) {
@@ -46,8 +47,8 @@ pub(crate) fn read_name(alloc: Global, line: usize, text: &[u8]) -> Result<Name,
         return Err(left_out(line, Word::CallerId));
     }
     let name = name_at(alloc, line, text)?;
-    let spelling = name.text(alloc)?;
-    if has_variable(&spelling) {
+    let name = SharedName::new(alloc, name)?;
+    if has_variable(name.spelling()) {
         return Err(left_out(line, Word::Variable));
     }
     Ok(name)

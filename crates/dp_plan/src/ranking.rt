@@ -49,7 +49,9 @@ pub(crate) struct Numbered<'a> {
 fn compare_entries(left: &Entry, right: &Entry) -> Ordering
     ensures { result ≡ spec.entry_cmp left.now right.now }
 {
-    compare(&left.name, &right.name).then(left.priority.get().cmp(&right.priority.get()))
+    compare(left.name.name(), right.name.name()).then(
+        left.priority.get().cmp(&right.priority.get()),
+    )
 }
 
 /// The entries of a context beside their numbers, in the order of the file.

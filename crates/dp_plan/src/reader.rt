@@ -8,8 +8,9 @@ use crate::extension::Extension;
 use crate::item::Item;
 use crate::priority::Priority;
 use crate::section::Section;
-use dp_conf::{NoMemory, Text};
-use dp_pattern::Name;
+use crate::shared_name::SharedName;
+use crate::shared_text::SharedText;
+use dp_conf::NoMemory;
 use indexmap::IndexMap;
 use std::alloc::Global;
 use std::marker::Model;
@@ -19,7 +20,7 @@ use std::marker::Model;
 #[derive(Drop)]
 pub(crate) struct Reader {
     section: Section,
-    name: Option<Name>,
+    name: Option<SharedName>,
     priorities: IndexMap<Extension, Priority>,
 }
 
@@ -55,7 +56,7 @@ impl Reader {
     }
 
     /// The name of the last extension since the section's header.
-    pub(crate) fn name(&self) -> Option<&Name>
+    pub(crate) fn name(&self) -> Option<&SharedName>
         ensures { option_copied result ≡ self.now.name }
     {
         self.name.as_ref()
@@ -64,13 +65,12 @@ impl Reader {
     /// The priority of the last line of the extension, also where that line is dropped.
     pub(crate) fn last_priority(
         &self,
-        alloc: Global,
-        context: &Text,
-        name: &Name,
+        context: &SharedText,
+        name: &SharedName,
     ) -> Result<Option<Priority>, NoMemory>
         ensures { IfOk result (λ last. last ≡ spec.last_priority self.now context.now name.now) }
     {
-        let extension = Extension::of(alloc, context, name)?;
+        let extension = Extension::of(context, name)?;
         Ok(self.priorities.get(&extension).copied())
     }
 
@@ -86,14 +86,13 @@ impl Reader {
     /// Goes behind the line of an entry.
     fn go_behind(
         &mut self,
-        alloc: Global,
         line: usize,
-        context: &Text,
+        context: &SharedText,
         entry: &Entry,
     ) -> Result<(), NoMemory>
         ensures { OnOk result (self.new ≡ spec.behind self.old (Item.Adds line context.now entry.now)) }
     {
-        let extension = Extension::of(alloc, context, &entry.name)?;
+        let extension = Extension::of(context, &entry.name)?;
         let name = entry.name.clone()?;
         self.priorities.insert(extension, entry.priority)?;
         self.name = Some(name);
@@ -101,7 +100,7 @@ impl Reader {
     }
 
     /// Goes behind a line, by its item where it has one.
-    pub(crate) fn remember(&mut self, alloc: Global, item: Option<&Item>) -> Result<(), NoMemory>
+    pub(crate) fn remember(&mut self, item: Option<&Item>) -> Result<(), NoMemory>
         ensures { OnOk result (self.new ≡ fold spec.behind self.old (option_to_list (option_copied item.entry))) }
     {
         match item {
@@ -112,7 +111,7 @@ impl Reader {
                     context,
                     entry,
                 },
-            ) => self.go_behind(alloc, *line, context, entry),
+            ) => self.go_behind(*line, context, entry),
             Some(Item::Sets(_) | Item::Includes { .. } | Item::Unknown(_)) | None => Ok(()),
         }
     }

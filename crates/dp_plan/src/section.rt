@@ -2,6 +2,7 @@
 ghost use Rattle.std.specs.Prelude.{◌≡◌, IfOk};
 ghost use Rattle.dp_plan.specs.Items.{section_named};
 
+use crate::shared_text::SharedText;
 use dp_conf::{NoMemory, Text, same_word};
 use std::alloc::Global;
 
@@ -13,7 +14,7 @@ pub(crate) enum Section {
     /// Global variables.
     Globals,
     /// The context of this name.
-    Context(Text),
+    Context(SharedText),
 }
 
 impl Section {
@@ -28,6 +29,7 @@ impl Section {
             return Ok(Section::Globals);
         }
         let name = Text::copy_of(alloc, name)?;
+        let name = SharedText::new(alloc, name)?;
         Ok(Section::Context(name))
     }
 }

@@ -22,7 +22,7 @@ pub(crate) struct Ranked<'a> {
 pub(crate) fn name_of(entry: &Entry) -> &Name
     ensures { result.now ≡ entry.now.name }
 {
-    &entry.name
+    entry.name.name()
 }
 
 /// The classes and the tail of a pattern.

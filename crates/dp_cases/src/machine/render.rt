@@ -55,7 +55,7 @@ fn push_entry(
 ) -> Result<(), NoMemory> {
     match (plan.contexts().get(id.context), plan.entry(id)) {
         (Some(context), Some(entry)) => {
-            let name = Text::new(entry.name.text(alloc)?);
+            let name = Text::new(entry.name.name().text(alloc)?);
             let priority = entry.priority.get();
             write!(
                 out,

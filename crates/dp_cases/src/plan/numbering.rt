@@ -56,6 +56,7 @@ pub(crate) const SAME: &str = r"
 [m]\nexten => s,1,A\nexten => t,1,B\nsame => n,C\nexten => s,n,D\nsame => n,E\n→[m]<s,1,A()><t,1,B()><t,2,C()><s,2,D()><s,3,E()>
 [m]\nexten => _[2-9]X,1,A\nsame => n,B\nexten => _NX,n,C\nsame => n,D\n→[m]<_NX,1,A()><_NX,2,B()><_NX,3,C()><_NX,4,D()>
 [m]\nexten => 1-2,1,A\nsame => n,B\nexten => 12,n,C\n→[m]<12,1,A()><12,2,B()><12,3,C()>
+[m]\nexten => _[0-9][0-9][0-9][0-9][0-9][0-9][0-9][0-9][0-9][0-9][0-9][0-9][0-9][0-9][0-9][0-9][0-9][0-9][0-9][0-9][0-9][0-9][0-9][0-9][0-9][0-9][0-9][0-9][0-9][0-9][0-9][0-9][0-9][0-9][0-9][0-9][0-9][0-9][0-9][0-9],1,A\nsame => n,B\nexten => s,1,C\nsame => n,D\nexten => _XXXXXXXXXXXXXXXXXXXXXXXXXXXXXXXXXXXXXXXX,n,E\nsame => n(x),F\n→[m]<_XXXXXXXXXXXXXXXXXXXXXXXXXXXXXXXXXXXXXXXX,1,A()><_XXXXXXXXXXXXXXXXXXXXXXXXXXXXXXXXXXXXXXXX,2,B()><s,1,C()><s,2,D()><_XXXXXXXXXXXXXXXXXXXXXXXXXXXXXXXXXXXXXXXX,3,E()><_XXXXXXXXXXXXXXXXXXXXXXXXXXXXXXXXXXXXXXXX,4(x),F()>
 # One that is dropped is the last one as well.
 [m]\nexten => s,1,A\nexten => t,1,B\nexten => s,1,C\nsame => n,D\n→[m]<s,1,A()><t,1,B()><s,2,D()> note 4 DoublePriority
 [m]\nexten => s,1(a),A\nexten => t,1(a),B\nexten => s,2(a),C\nsame => 2,D\n→[m]<s,1(a),A()><t,1(a),B()><s,2,D()> note 4 DoubleLabel

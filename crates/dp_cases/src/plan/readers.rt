@@ -25,7 +25,7 @@ fn push_found(out: &mut String, alloc: Global, found: Option<&Entry>) -> Result<
     match found {
         None => out.push_str("none"),
         Some(entry) => {
-            push_name(out, alloc, &entry.name)?;
+            push_name(out, alloc, entry.name.name())?;
             write!(out, " {}", entry.priority.get())?;
             push_label(out, &entry.label)?;
             write!(out, " {} ({})", entry.application, entry.arguments)
@@ -352,7 +352,7 @@ pub(crate) const ONE_DIALPLAN: &str = r"
 ";
 
 fn push_bytes_of_entry(out: &mut String, alloc: Global, entry: &Entry) -> Result<(), NoMemory> {
-    let name = Text::new(entry.name.text(alloc)?);
+    let name = Text::new(entry.name.name().text(alloc)?);
     let Entry {
         label,
         application,

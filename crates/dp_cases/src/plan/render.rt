@@ -113,7 +113,7 @@ fn push_ranked(out: &mut String, alloc: Global, entry: Option<&Entry>) -> Result
         Some(entry) => {
             let number = entry.priority.get();
             out.push_str("<")?;
-            push_name(out, alloc, &entry.name)?;
+            push_name(out, alloc, entry.name.name())?;
             write!(out, ",{number}>")
         }
         None => out.push_str("<>"),
