@@ -343,23 +343,25 @@ impl Draft {
         Ok(notes)
     }
 
-    /// The dialplan of the draft, and its notes.
+    /// The dialplan of the draft, and its notes. The places and labels are let go before the entries are ranked.
     pub(crate) fn into_plan(self, alloc: Global) -> Result<(Dialplan, Vec<Note>), NoMemory>
         requires names { self.names ≡ map (λ context. context.name) self.contexts }
         requires apart { All (λ context. AreApart context.entries) self.contexts }
         ensures plan { IfOk result (λ made. made.0 ≡ record { globals = self.globals; contexts = self.contexts }) }
         ensures notes { IfOk result (λ made. made.1.items ≡ flat_map (spec.settled self.names) self.remarks) }
     {
-        let rankings = rank_contexts(alloc, &self.contexts)?;
         let notes = self.notes(alloc)?;
         let Draft {
             globals,
             names,
             contexts,
-            taken: _,
-            labels: _,
+            taken,
+            labels,
             remarks: _,
         } = self;
+        drop(taken);
+        drop(labels);
+        let rankings = rank_contexts(alloc, &contexts)?;
         Ok((
             Dialplan::of_parts(globals, names, contexts, rankings),
             notes,

@@ -41,7 +41,7 @@ fn push_entry(out: &mut String, alloc: Global, entry: &Entry) -> Result<(), NoMe
     } = entry;
     let number = priority.get();
     out.push_str("<")?;
-    push_name(out, alloc, name)?;
+    push_name(out, alloc, name.name())?;
     write!(out, ",{number}")?;
     push_label(out, label)?;
     write!(out, ",{application}({arguments})>")
