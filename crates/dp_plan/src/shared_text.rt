@@ -10,21 +10,20 @@ use dp_conf::{NoMemory, Text};
 use std::alloc::Global;
 use std::hash::{Hash, Hasher};
 use std::marker::Model;
-use std::sync::Arc;
+use std::rc::Rc;
 
 /// A text with several owners, whose copies take no memory. A contract sees it as its bytes.
 #[derive(Debug, Drop)]
 pub(crate) struct SharedText {
-    text: Arc<Text>,
+    text: Rc<Text>,
 }
 
 impl Model for SharedText {
     ghost use Rattle.std.specs.Prelude.{ℕ, List};
-    ghost use Rattle.std.specs.Arc.{arc_value};
 
     ghost Value = { List ℕ };
 
-    ghost view = { λ shared. arc_value shared.text };
+    ghost view = { λ shared. shared.text.value };
 }
 
 impl SharedText {
@@ -32,7 +31,7 @@ impl SharedText {
     pub(crate) fn new(alloc: Global, text: Text) -> Result<Self, NoMemory>
         ensures { IfOk result (λ shared. shared ≡ text) }
     {
-        let text = Arc::new(alloc, text)?;
+        let text = Rc::new(alloc, text)?;
         Ok(SharedText { text })
     }
 
