@@ -44,6 +44,13 @@ impl Parts {
         Ok(parts)
     }
 
+    /// The texts themselves, in their order. It takes no memory.
+    pub fn into_texts(self) -> Vec<Text>
+        ensures { result.items ≡ self }
+    {
+        self.parts
+    }
+
     /// The parts in their order.
     pub fn texts(&self) -> &[Text]
         ensures { result.now ≡ self.now }

@@ -1,5 +1,5 @@
 -- The queues of an exchange: their settings, members and waiting calls, the agents, and the count of finished calls.
-use Rattle.std.specs.Prelude.{ℕ, List, Option}
+use Rattle.std.specs.Prelude.{ℕ, List, [], Option}
 use Rattle.std.specs.List.{position}
 use Rattle.dp_conf.specs.Words.{same_word}
 use Rattle.dp_queue.specs.declared.agent.Agent.{Agent}
@@ -21,6 +21,10 @@ pub record QueuesOf : Type 0 where
   pub queues : List QueueOf
   pub agents : List Agent
   pub finished : ℕ
+
+-- no queues and no agents
+abbrev pub no_queues : QueuesOf
+no_queues = record { queues = []; agents = []; finished = 0 }
 
 -- the number of the queue of a name, in any ASCII case
 abbrev pub queue_number : List QueueOf → List ℕ → Option ℕ

@@ -19,6 +19,7 @@ mod queues;
 mod seat;
 mod setting;
 mod settings;
+mod standing;
 
 pub use agent::{Agent, AgentState};
 pub use call::Call;

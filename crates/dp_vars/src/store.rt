@@ -1,5 +1,5 @@
 //! The variables of a channel, and its frames, after the Asterisk documentation's page on variables.
-ghost use Rattle.std.specs.Prelude.{◌≡◌, ℕ, List, IfOk, OnErr, OnOk, nat_lt, length};
+ghost use Rattle.std.specs.Prelude.{◌≡◌, ℕ, List, IfOk, OnErr, OnOk, [], nat_lt, length};
 ghost use Rattle.std.specs.Option.{option_map};
 ghost use Rattle.dp_vars.specs.Replaced as spec;
 ghost use Rattle.dp_vars.specs.Stores as stores;
@@ -195,5 +195,14 @@ impl<B> Store<B> {
             Some(place) => frame::put_back_at(&mut self.frames, place, name, had.value),
             None => self.variables.put_back(name, had.value),
         }
+    }
+}
+
+impl<B: Drop> Store<B> {
+    /// Drops all frames with their locals.
+    pub fn drop_frames(&mut self)
+        ensures { self.new ≡ record self.old { frames = [] } }
+    {
+        self.frames.clear();
     }
 }

@@ -1,0 +1,40 @@
+//! Queues that are none, and the call that an agent talks with.
+ghost use Rattle.std.specs.Prelude.{◌≡◌};
+ghost use Rattle.dp_queue.specs.Calls as calls;
+ghost use Rattle.dp_queue.specs.Queues.{no_queues};
+ghost use Rattle.dp_queue.specs.Rest.{IsAtRest};
+
+use crate::agent::{AgentState, agent_number, state_at};
+use crate::call::Call;
+use crate::queues::Queues;
+use std::alloc::Global;
+
+impl Queues {
+    /// No queues and no agents. It takes no memory.
+    pub fn none(alloc: Global) -> Self
+        ensures none { result ≡ no_queues }
+        ensures rest { IsAtRest result }
+    {
+        Queues {
+            queues: Vec::new(alloc),
+            agents: Vec::new(alloc),
+            seats: Vec::new(alloc),
+            finished: 0,
+        }
+    }
+
+    /// The call that [`Queues::done`] of the agent of this interface would end; None where the agent does not talk.
+    pub fn talk_of(&self, agent: &[u8]) -> Option<Call>
+        ensures { result ≡ (calls.done_row self.now agent.now).1 }
+    {
+        let number = agent_number(&self.agents, agent);
+        match state_at(&self.agents, number) {
+            AgentState::Talking { queue, channel } => Some(Call {
+                queue,
+                agent: number,
+                channel,
+            }),
+            AgentState::Idle | AgentState::Ringing { .. } => None,
+        }
+    }
+}
