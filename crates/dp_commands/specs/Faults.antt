@@ -5,7 +5,9 @@ use Rattle.dp_conf.specs.declared.fault.ReadFault.{ReadFault}
 use Rattle.dp_conf.specs.declared.fault.ReadFault.TheVariants.{ReadFailed as read_failed, TooLong as read_too_long, NoMemory as read_no_memory}
 use Rattle.dp_plan.specs.declared.fault.LoadFault.{LoadFault}
 use Rattle.dp_plan.specs.declared.fault.LoadFault.TheVariants.{Conf, Pattern, Plan as load_plan, NoMemory as load_no_memory}
-use Rattle.dp_commands.specs.declared.fault.Code.TheVariants.{Line, Name, Plan, ReadFailed, TooLong, WriteFailed, BadScript}
+use Rattle.dp_queue.specs.declared.fault.QueueFault.{QueueFault}
+use Rattle.dp_queue.specs.declared.fault.QueueFault.TheVariants.{Conf as queue_conf, Queue as queue_line, NoMemory as queue_no_memory}
+use Rattle.dp_commands.specs.declared.fault.Code.TheVariants.{Line, Name, Plan, Queue, ReadFailed, TooLong, WriteFailed, BadScript}
 use Rattle.dp_commands.specs.declared.fault.PbxFault.{PbxFault}
 use Rattle.dp_commands.specs.declared.fault.PbxFault.TheVariants.{Coded, NoMemory}
 
@@ -16,6 +18,13 @@ fault_of_load (Conf conf_no_memory) = NoMemory
 fault_of_load (Pattern line fault) = Coded (Name fault) (Some line)
 fault_of_load (load_plan line kind) = Coded (Plan kind) (Some line)
 fault_of_load load_no_memory = NoMemory
+
+-- a fault of a file of queues
+abbrev pub fault_of_queue : QueueFault → PbxFault
+fault_of_queue (queue_conf (At line kind)) = Coded (Line kind) (Some line)
+fault_of_queue (queue_conf conf_no_memory) = NoMemory
+fault_of_queue (queue_line line kind) = Coded (Queue kind) (Some line)
+fault_of_queue queue_no_memory = NoMemory
 
 -- a reader's fault
 abbrev pub fault_of_read : ReadFault → PbxFault
@@ -33,6 +42,7 @@ abbrev pub is_write_fault : PbxFault → Bool
 is_write_fault (Coded (Line kind) line) = false
 is_write_fault (Coded (Name fault) line) = false
 is_write_fault (Coded (Plan kind) line) = false
+is_write_fault (Coded (Queue kind) line) = false
 is_write_fault (Coded ReadFailed line) = false
 is_write_fault (Coded TooLong line) = false
 is_write_fault (Coded WriteFailed line) = true

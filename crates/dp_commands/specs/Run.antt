@@ -1,13 +1,16 @@
 -- What a run writes and answers.
-use Rattle.std.specs.Prelude.{◌≡◌, ℕ, ◌≤◌, ◌++◌, Bool, false, List, [], length, take, Option, None, Result, Ok, Err, if◌then◌else◌}
+use Rattle.std.specs.Prelude.{◌≡◌, ℕ, ◌≤◌, ◌++◌, Bool, false, List, [], length, take, Option, Some, None, Result, Ok, Err, if◌then◌else◌}
 use Rattle.std.specs.Io.KnownBytes.{Appends, Keeps}
 use Rattle.dp_conf.specs.Answers.{◌>>=◌}
 use Rattle.dp_conf.specs.Fronts.{AppendsFront}
 use Rattle.dp_plan.specs.Loaded.{loaded}
 use Rattle.dp_plan.specs.declared.fault.LoadFault.{LoadFault}
+use Rattle.dp_queue.specs.File.{loaded as queues_loaded}
+use Rattle.dp_queue.specs.Queues.{QueuesOf, no_queues}
+use Rattle.dp_queue.specs.declared.fault.QueueFault.{QueueFault}
 use Rattle.dp_machine.specs.World.{World, opening}
 use Rattle.dp_commands.specs.Block.{Flows}
-use Rattle.dp_commands.specs.Faults.{fault_of_load, is_write_failed}
+use Rattle.dp_commands.specs.Faults.{fault_of_load, fault_of_queue, is_write_failed}
 use Rattle.dp_commands.specs.Script.{script_of, turns_of}
 use Rattle.dp_commands.specs.Trace.{trace_of, world_past, any_refused}
 use Rattle.dp_commands.specs.declared.fault.Code.TheVariants.{WriteFailed}
@@ -73,11 +76,21 @@ abbrev pub plan_fault : {X : Type 0} → Result X LoadFault → Result X PbxFaul
 plan_fault (Ok x) = Ok x
 plan_fault (Err fault) = Err (fault_of_load fault)
 
--- the run of a dialplan and a script, or the first fault: the dialplan's before the script's
-unfoldable pub run_of : List ℕ → List ℕ → Result Run PbxFault
-run_of plan script =
-    plan_fault (loaded plan) >>= λ read. script_of script >>= λ lines.
-    Ok (run_on (opening read.0) (turns_of lines))
+-- a file of queues that was read, or its fault
+abbrev pub queue_fault : {X : Type 0} → Result X QueueFault → Result X PbxFault
+queue_fault (Ok x) = Ok x
+queue_fault (Err fault) = Err (fault_of_queue fault)
+
+-- the queues of a run, by the text of their file, where there is one
+abbrev pub queues_of : Option (List ℕ) → Result QueuesOf PbxFault
+queues_of None = Ok no_queues
+queues_of (Some text) = queue_fault (queues_loaded text)
+
+-- the run of a dialplan, its queues and a script, or the first fault: the dialplan's, the queues', the script's
+unfoldable pub run_of : List ℕ → Option (List ℕ) → List ℕ → Result Run PbxFault
+run_of plan queues script =
+    plan_fault (loaded plan) >>= λ read. queues_of queues >>= λ held. script_of script >>= λ lines.
+    Ok (run_on (opening read.0 held) (turns_of lines))
 
 -- the status of a run: 1 where a turn was refused
 abbrev pub status_of : Run → ℕ

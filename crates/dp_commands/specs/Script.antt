@@ -1,14 +1,15 @@
 -- A script: its lines, and the turns that they stand for.
 use Rattle.std.specs.Prelude.{ℕ, ◌+◌, Bool, true, not, ◌==◌, nat_le, List, [], ◌∷◌, length, filter, replicate, Option, Some, None, Result, Ok, Err, codes, if◌then◌else◌}
 use Rattle.std.specs.List.{slice_split, flat_map}
-use Rattle.std.specs.Option.{option_and_then, option_map}
+use Rattle.std.specs.Option.{option_and_then, option_map, option_or}
 use Rattle.dp_conf.specs.Answers.{all_of, each_after}
 use Rattle.dp_conf.specs.Blanks.{is_blank}
 use Rattle.dp_conf.specs.Cut.{begins_with}
 use Rattle.dp_conf.specs.Lines.{parts_of}
 use Rattle.dp_conf.specs.Numbers.{number_of}
 use Rattle.dp_conf.specs.Words.{same_text}
-use Rattle.dp_machine.specs.declared.event.Event.TheVariants.{Start, Step}
+use Rattle.dp_machine.specs.declared.event.Event.{Event as MachineEvent}
+use Rattle.dp_machine.specs.declared.event.Event.TheVariants.{Start, Step, Digit, Timeout, Poll, Hangup, Offer, Answer, Decline, AgentDone}
 use Rattle.dp_commands.specs.declared.fault.Code.TheVariants.{BadScript}
 use Rattle.dp_commands.specs.declared.fault.PbxFault.{PbxFault}
 use Rattle.dp_commands.specs.declared.fault.PbxFault.TheVariants.{Coded}
@@ -65,6 +66,53 @@ step_line (channel ∷ []) = steps_of (channel_in channel) (Some 1)
 step_line (channel ∷ count ∷ []) = steps_of (channel_in channel) (number_within most_count count)
 step_line (channel ∷ count ∷ more ∷ words) = None
 
+-- the digit that a channel dials: a word of one byte
+abbrev pub dialled_by : Option ℕ → List ℕ → Option ScriptLine
+dialled_by None word = None
+dialled_by (Some channel) [] = None
+dialled_by (Some channel) (digit ∷ []) = Some (once (Event (Digit channel digit)))
+dialled_by (Some channel) (digit ∷ more ∷ bytes) = None
+
+-- the digit of a line that begins with `digit`
+abbrev pub digit_line : List (List ℕ) → Option ScriptLine
+digit_line [] = None
+digit_line (channel ∷ []) = None
+digit_line (channel ∷ digit ∷ []) = dialled_by (channel_in channel) digit
+digit_line (channel ∷ digit ∷ more ∷ words) = None
+
+-- the channel that is the one word of a line behind its first
+abbrev pub one_channel : List (List ℕ) → Option ℕ
+one_channel [] = None
+one_channel (channel ∷ []) = channel_in channel
+one_channel (channel ∷ more ∷ words) = None
+
+-- the name that is the one word of a line behind its first
+abbrev pub one_name : List (List ℕ) → Option (List ℕ)
+one_name [] = None
+one_name (name ∷ []) = Some name
+one_name (name ∷ more ∷ words) = None
+
+-- the line of an event by what it names
+abbrev pub event_line : {X : Type 0} → (X → MachineEvent) → Option X → Option ScriptLine
+event_line event named = option_map (λ x. once (Event (event x))) named
+
+-- what a line of a channel's event stands for by its words
+abbrev pub channel_line : List ℕ → List (List ℕ) → Option ScriptLine
+channel_line word words =
+    if same_text word (codes "timeout") then event_line (λ n. Timeout n) (one_channel words)
+    else if same_text word (codes "poll") then event_line (λ n. Poll n) (one_channel words)
+    else if same_text word (codes "hangup") then event_line (λ n. Hangup n) (one_channel words)
+    else None
+
+-- what a line of a queue's or an agent's event stands for by its words
+abbrev pub agent_line : List ℕ → List (List ℕ) → Option ScriptLine
+agent_line word words =
+    if same_text word (codes "offer") then event_line (λ name. Offer name) (one_name words)
+    else if same_text word (codes "answer") then event_line (λ name. Answer name) (one_name words)
+    else if same_text word (codes "decline") then event_line (λ name. Decline name) (one_name words)
+    else if same_text word (codes "done") then event_line (λ name. AgentDone name) (one_name words)
+    else None
+
 -- the name that is shown in a channel
 abbrev pub shown_by : Option ℕ → List ℕ → Option ScriptLine
 shown_by None name = None
@@ -83,8 +131,9 @@ line_by [] = None
 line_by (word ∷ words) =
     if same_text word (codes "start") then start_line words
     else if same_text word (codes "step") then step_line words
+    else if same_text word (codes "digit") then digit_line words
     else if same_text word (codes "show") then show_line words
-    else None
+    else option_or (channel_line word words) (agent_line word words)
 
 -- whether a line is passed over: it has no words, or begins with `;`
 abbrev pub is_skipped : List (List ℕ) → Bool

@@ -1,7 +1,7 @@
 -- The trace: one line for each turn. That of an event has its reply and its channel's state after it, and that of a `show`
 -- a value.
-use Rattle.std.specs.Prelude.{ℕ, Bool, false, ◌||◌, List, [], ◌∷◌, ◌++◌, fold, Option, Some, None, is_none, slice_get, codes, decimal}
-use Rattle.std.specs.Option.{option_map}
+use Rattle.std.specs.Prelude.{ℕ, Bool, false, ◌||◌, ◌==◌, List, [], ◌∷◌, ◌++◌, fold, Option, Some, None, is_none, slice_get, codes, decimal, if◌then◌else◌}
+use Rattle.std.specs.Option.{option_map, unwrap_or}
 use Rattle.dp_pattern.specs.Spelling.{spelling}
 use Rattle.dp_plan.specs.Contexts.{PlanContext}
 use Rattle.dp_plan.specs.Plan.{PlanOf}
@@ -11,14 +11,16 @@ use Rattle.dp_machine.specs.Codes.{refusal_code, refusal_name}
 use Rattle.dp_machine.specs.Events.{channel_of, event_row, is_refused}
 use Rattle.dp_machine.specs.Replay.{world_behind}
 use Rattle.dp_machine.specs.World.{World, channel_at, value_in}
-use Rattle.dp_machine.specs.declared.channel.Place.{Place}
-use Rattle.dp_machine.specs.declared.channel.Phase.{Phase}
-use Rattle.dp_machine.specs.declared.channel.Phase.TheVariants.{Ready, Ended}
+use Rattle.dp_app.specs.declared.place.Place.{Place}
+use Rattle.dp_app.specs.declared.phase.Phase.{Phase}
+use Rattle.dp_app.specs.declared.phase.Phase.TheVariants.{Ready, Digits, Pause, Queued, Talking, Ended}
+use Rattle.dp_queue.specs.Queues.{QueuesOf}
+use Rattle.dp_table.specs.Standard.{standard_rows}
 use Rattle.dp_machine.specs.declared.event.Event.{Event}
 use Rattle.dp_machine.specs.declared.refusal.Refusal.{Refusal}
 use Rattle.dp_machine.specs.declared.refusal.Refusal.TheVariants.{NoChannel}
 use Rattle.dp_machine.specs.declared.reply.Reply.{Reply}
-use Rattle.dp_machine.specs.declared.reply.Reply.TheVariants.{Started, Ran, NoEntry, Refused}
+use Rattle.dp_machine.specs.declared.reply.Reply.TheVariants.{Started, Ran, Invalid, NoEntry, Offered, Done, Refused}
 use Rattle.dp_commands.specs.declared.script.Turn.{Turn}
 use Rattle.dp_commands.specs.declared.script.Turn.TheVariants.{Event as turn_event, Show}
 
@@ -26,12 +28,29 @@ use Rattle.dp_commands.specs.declared.script.Turn.TheVariants.{Event as turn_eve
 abbrev pub place_text : List ℕ → List ℕ → ℕ → List ℕ
 place_text context exten priority = context ++ codes "," ++ exten ++ codes "," ++ decimal priority
 
+-- the name of the queue of a number
+abbrev pub queue_name : QueuesOf → ℕ → List ℕ
+queue_name queues number = unwrap_or (option_map (λ queue. queue.name) (slice_get queues.queues number)) []
+
+-- the name of the agent of a number
+abbrev pub agent_name : QueuesOf → ℕ → List ℕ
+agent_name queues number = unwrap_or (option_map (λ agent. agent.name) (slice_get queues.agents number)) []
+
+-- the state of a channel that is ready, by its place
+abbrev pub ready_text : Option Place → List ℕ
+ready_text None = []
+ready_text (Some place) = codes "ready " ++ place_text place.context place.exten place.priority
+
 -- the state of a channel by its phase and its place
-abbrev pub state_by : Option Phase → Option Place → List ℕ
-state_by None place = []
-state_by (Some Ready) None = []
-state_by (Some Ready) (Some place) = codes "ready " ++ place_text place.context place.exten place.priority
-state_by (Some Ended) place = codes "ended"
+abbrev pub state_by : QueuesOf → Option Phase → Option Place → List ℕ
+state_by queues None place = []
+state_by queues (Some Ready) place = ready_text place
+state_by queues (Some (Digits digits is_background)) place = codes "digits"
+state_by queues (Some Pause) place = codes "pause"
+state_by queues (Some (Queued queue goes_on has_timer)) place = codes "queued " ++ queue_name queues queue
+state_by queues (Some (Talking queue agent goes_on)) place =
+    codes "talking " ++ queue_name queues queue ++ codes " " ++ agent_name queues agent
+state_by queues (Some Ended) place = codes "ended"
 
 -- the phase of the channel of a number, where there is one
 abbrev pub phase_at : World → ℕ → Option Phase
@@ -40,7 +59,7 @@ phase_at w number = option_map (λ c. c.phase) (channel_at w.channels number)
 -- the state of the channel of a number
 unfoldable pub state_text : World → ℕ → List ℕ
 state_text w number =
-    state_by (phase_at w number) (option_map (λ c. c.place) (channel_at w.channels number))
+    state_by w.shared.queues (phase_at w number) (option_map (λ c. c.place) (channel_at w.channels number))
 
 -- an entry of a context, `CONTEXT,NAME,PRIORITY APP`, its name in the canonical spelling
 abbrev pub entry_by : PlanContext → Option Entry → List ℕ
@@ -59,17 +78,26 @@ entry_text plan id = entry_in id.entry (slice_get plan.contexts id.context)
 abbrev pub refusal_text : Refusal → List ℕ
 refusal_text refusal = codes "refused " ++ decimal (refusal_code refusal) ++ codes " " ++ refusal_name refusal
 
+-- what is printed of a taken event behind its reply, by the number of the channel that it names; an agent's event names none
+abbrev pub done_text : World → ℕ → List ℕ
+done_text w number =
+    if number == 0 then codes "ok" else codes "ok " ++ decimal number ++ codes " -> " ++ state_text w number
+
 -- the line of a reply to an event of the channel of a number, in the world after it
 abbrev pub reply_text : World → ℕ → Reply → List ℕ
 reply_text w number (Started channel) = codes "started " ++ decimal channel
 reply_text w number (Ran id) =
     codes "ran " ++ decimal number ++ codes " " ++ entry_text w.plan id ++ codes " -> " ++ state_text w number
 reply_text w number NoEntry = codes "no entry " ++ decimal number ++ codes " -> " ++ state_text w number
+reply_text w number Invalid = codes "invalid " ++ decimal number ++ codes " -> " ++ state_text w number
+reply_text w number (Offered channel rung) = codes "offered " ++ decimal channel ++ codes " " ++ decimal rung
+reply_text w number Done = done_text w number
 reply_text w number (Refused refusal) = refusal_text refusal
 
 -- the line of an event that a world meets
 unfoldable pub event_line : World → Event → List ℕ
-event_line w event = reply_text (world_behind w event) (channel_of event) (event_row w event).1 ++ 10 ∷ []
+event_line w event =
+    reply_text (world_behind standard_rows w event) (channel_of event) (event_row standard_rows w event).1 ++ 10 ∷ []
 
 -- what is shown of a name, by the phase of the channel, where there is one
 abbrev pub show_by : World → ℕ → List ℕ → Option Phase → List ℕ
@@ -88,7 +116,11 @@ pub record Turned : Type 0 where
 
 abbrev pub turned : World → Turn → Turned
 turned w (turn_event event) =
-    record { world = world_behind w event; line = event_line w event; refused = is_refused (event_row w event).1 }
+    record {
+      world = world_behind standard_rows w event;
+      line = event_line w event;
+      refused = is_refused (event_row standard_rows w event).1;
+    }
 turned w (Show number name) =
     record { world = w; line = show_text w number name ++ 10 ∷ []; refused = is_none (phase_at w number) }
 

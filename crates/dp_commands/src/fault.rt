@@ -4,6 +4,7 @@ ghost use Rattle.dp_commands.specs.Codes.{code_number, code_name};
 
 use dp_conf::{ConfFault, LineKind, ReadFault, WriteFailed};
 use dp_plan::{LoadFault, NameFault, NoMemory, PlanKind};
+use dp_queue::{QueueFault, QueueKind};
 use std::alloc::AllocFailed;
 
 /// What a fault is.
@@ -15,6 +16,8 @@ pub enum Code {
     Name(NameFault),
     /// A line of a context or of the global variables is refused.
     Plan(PlanKind),
+    /// A line of the file of queues is refused.
+    Queue(QueueKind),
     /// A file or the standard input could not be read.
     ReadFailed,
     /// A file or the standard input has more than 16,777,216 bytes.
@@ -34,6 +37,7 @@ impl Code {
             Code::Line(kind) => kind.code(),
             Code::Name(fault) => fault.code(),
             Code::Plan(kind) => kind.code(),
+            Code::Queue(kind) => kind.code(),
             Code::ReadFailed => ReadFault::ReadFailed.code().unwrap(),
             Code::TooLong => ReadFault::TooLong.code().unwrap(),
             Code::WriteFailed => WriteFailed.code(),
@@ -49,6 +53,7 @@ impl Code {
             Code::Line(kind) => kind.name(),
             Code::Name(fault) => fault.name(),
             Code::Plan(kind) => kind.name(),
+            Code::Queue(kind) => kind.name(),
             Code::ReadFailed => ReadFault::ReadFailed.name(),
             Code::TooLong => ReadFault::TooLong.name(),
             Code::WriteFailed => WriteFailed.name(),
@@ -86,6 +91,28 @@ impl From<LoadFault> for PbxFault {
                 line: Some(line),
             },
             LoadFault::NoMemory => PbxFault::NoMemory,
+        }
+    }
+}
+
+impl From<QueueFault> for PbxFault {
+    ghost use Rattle.std.specs.Prelude.{◌≡◌};
+    ghost use Rattle.dp_commands.specs.Faults.{fault_of_queue};
+
+    ghost from_gives = { λ queue fault. fault ≡ fault_of_queue queue };
+
+    fn from(queue: QueueFault) -> Self {
+        match queue {
+            QueueFault::Conf(ConfFault::At { line, kind }) => PbxFault::Coded {
+                code: Code::Line(kind),
+                line: Some(line),
+            },
+            QueueFault::Conf(ConfFault::NoMemory) => PbxFault::NoMemory,
+            QueueFault::Queue { line, kind } => PbxFault::Coded {
+                code: Code::Queue(kind),
+                line: Some(line),
+            },
+            QueueFault::NoMemory => PbxFault::NoMemory,
         }
     }
 }

@@ -1,5 +1,5 @@
 //! A dialplan and a script that are joined in one text.
-ghost use Rattle.std.specs.Prelude.{◌≡◌, ◌||◌, ◌<◌};
+ghost use Rattle.std.specs.Prelude.{◌≡◌, ◌||◌, ◌<◌, None};
 ghost use Rattle.dp_conf.specs.Blanks as blanks;
 ghost use Rattle.dp_commands.specs.Faults.{is_write_failed};
 ghost use Rattle.dp_commands.specs.Joined as spec;
@@ -48,9 +48,9 @@ fn split_joined(text: &[u8]) -> (&[u8], &[u8])
 
 /// Runs the script of a joined text on its dialplan, and writes the trace as it goes, as [`run_script`] does.
 pub fn run_joined<W: WriteTold>(alloc: Global, text: &[u8], writer: &mut W) -> Result<u8, PbxFault>
-    ensures writes { Writes (W.contents writer.old) (W.contents writer.new) (run_of (spec.joined_plan text.now) (spec.joined_script text.now)) result }
+    ensures writes { Writes (W.contents writer.old) (W.contents writer.new) (run_of (spec.joined_plan text.now) None (spec.joined_script text.now)) result }
     ensures told { W.has_failed writer.new ≡ (W.has_failed writer.old || is_write_failed result) }
 {
     let (plan, script) = split_joined(text);
-    run_script(alloc, plan, script, writer)
+    run_script(alloc, plan, None, script, writer)
 }

@@ -1,8 +1,10 @@
 //! Runs of a dialplan by a script.
 ghost use Rattle.std.specs.Prelude.{◌≡◌, ◌++◌, ◌||◌, ◌∷◌, [], IfOk, OnOk, OnErr, Ok, false};
+ghost use Rattle.std.specs.Option.{option_map};
 ghost use Rattle.std.specs.Result.{is_err};
 ghost use Rattle.dp_conf.specs.Answers.{Answers};
 ghost use Rattle.dp_conf.specs.Fronts.{AppendsFront};
+ghost use Rattle.dp_queue.specs.Rest.{IsAtRest};
 ghost use Rattle.dp_commands.specs.Block.{Flows, waiting};
 ghost use Rattle.dp_commands.specs.Faults.{is_write_failed, reason_of};
 ghost use Rattle.dp_commands.specs.Run as spec;
@@ -16,13 +18,15 @@ use crate::trace::{push_line, push_show_line};
 use dp_conf::{WriteFailed, WriteTold};
 use dp_machine::{Event, Machine};
 use dp_plan::{Dialplan, NoMemory, Text};
+use dp_queue::Queues;
+use dp_table::StandardApps;
 use std::alloc::Global;
 
 /// Gives the machine one event, and adds its line to what waits. It says whether the event was refused.
 #[tactic(auto, unfolding(crate::specs::Trace::event_line))]
 fn take_event(
     alloc: Global,
-    machine: &mut Machine,
+    machine: &mut Machine<StandardApps>,
     event: &Event,
     block: &mut Block,
 ) -> Result<bool, NoMemory>
@@ -40,7 +44,7 @@ fn take_event(
 /// Adds the line that shows a name in a channel to what waits. It says whether that was refused.
 fn take_show(
     alloc: Global,
-    machine: &Machine,
+    machine: &Machine<StandardApps>,
     channel: u32,
     name: &Text,
     block: &mut Block,
@@ -56,7 +60,7 @@ fn take_show(
 /// Takes one turn, and adds its line to what waits. It says whether the turn was refused.
 fn take_turn(
     alloc: Global,
-    machine: &mut Machine,
+    machine: &mut Machine<StandardApps>,
     turn: &Turn,
     block: &mut Block,
 ) -> Result<bool, NoMemory>
@@ -86,7 +90,7 @@ fn send_full<W: WriteTold>(block: &mut Block, writer: &mut W) -> Result<(), Writ
 /// Takes one turn, and writes the lines that wait where they fill the block. It says whether the turn was refused.
 fn run_turn<W: WriteTold>(
     alloc: Global,
-    machine: &mut Machine,
+    machine: &mut Machine<StandardApps>,
     turn: &Turn,
     block: &mut Block,
     writer: &mut W,
@@ -102,7 +106,7 @@ fn run_turn<W: WriteTold>(
 /// Takes the turns of a line.
 fn run_line<W: WriteTold>(
     alloc: Global,
-    machine: &mut Machine,
+    machine: &mut Machine<StandardApps>,
     line: &ScriptLine,
     block: &mut Block,
     writer: &mut W,
@@ -120,7 +124,7 @@ fn run_line<W: WriteTold>(
 /// Takes the turns of the lines, one after another, and writes their lines as it goes. It says whether one was refused.
 fn run_lines<W: WriteTold>(
     alloc: Global,
-    machine: &mut Machine,
+    machine: &mut Machine<StandardApps>,
     lines: &[ScriptLine],
     block: &mut Block,
     writer: &mut W,
@@ -135,21 +139,36 @@ fn run_lines<W: WriteTold>(
     Ok(refused)
 }
 
-/// The machine, the lines and the empty block of a run: the dialplan is read first, then the script.
+/// The queues of a run, by the text of their file, where there is one.
+fn load_queues(alloc: Global, text: Option<&[u8]>) -> Result<Queues, PbxFault>
+    ensures queues { Answers (λ queues. queues) reason_of result (spec.queues_of (option_map (λ text. text.now) text.entry)) }
+    ensures rest { IfOk result IsAtRest }
+    ensures quiet { is_write_failed result ≡ false }
+{
+    let Some(text) = text else {
+        return Ok(Queues::none(alloc));
+    };
+    let queues = Queues::load(alloc, text)?;
+    Ok(queues)
+}
+
+/// The machine, the lines and the empty block of a run: the dialplan is read first, then the queues, then the script.
 #[tactic(auto, unfolding(crate::specs::Run::run_of))]
 fn begin(
     alloc: Global,
     plan: &[u8],
+    queues: Option<&[u8]>,
     script: &[u8],
-) -> Result<(Machine, Vec<ScriptLine>, Block), PbxFault>
+) -> Result<(Machine<StandardApps>, Vec<ScriptLine>, Block), PbxFault>
     ensures run { Answers (λ begun. spec.run_on begun.0 (turns_of begun.1.items)) reason_of result
-        (spec.run_of plan.now script.now) }
+        (spec.run_of plan.now (option_map (λ text. text.now) queues.entry) script.now) }
     ensures empty { IfOk result (λ begun. begun.2 ≡ waiting [] []) }
     ensures quiet { is_write_failed result ≡ false }
 {
     let (plan, _) = Dialplan::load(alloc, plan)?;
+    let queues = load_queues(alloc, queues)?;
     let lines = read_script(alloc, script)?;
-    let machine = Machine::new(alloc, plan)?;
+    let machine = Machine::new(alloc, plan, queues)?;
     let block = Block::new(alloc, ROOM)?;
     Ok((machine, lines, block))
 }
@@ -180,7 +199,7 @@ fn end<W: WriteTold>(
 /// Takes the turns of all lines, and writes all of their lines. Nothing waits before.
 fn run_all<W: WriteTold>(
     alloc: Global,
-    machine: &mut Machine,
+    machine: &mut Machine<StandardApps>,
     lines: &[ScriptLine],
     block: &mut Block,
     writer: &mut W,
@@ -193,20 +212,22 @@ fn run_all<W: WriteTold>(
     end(block, writer, ran)
 }
 
-/// Runs a script on a dialplan, and writes the trace as it goes, a block of lines at a time. The status is 1 where a turn
+/// Runs a script on a dialplan with its queues, and writes the trace as it goes, a block of lines at a time. The status is 1 where a turn
 /// was refused, else 0.
 ///
-/// Both texts are read before the first event; the fault of the dialplan is answered first. Where memory is refused the
+/// The queues are those of a file of queues, or none. All texts are read before the first event; the fault of the dialplan is
+/// answered first, then that of the queues, then that of the script. Where memory is refused the
 /// lines of the turns before are written. Where memory is refused or a write fails, what was written stays written.
 pub fn run_script<W: WriteTold>(
     alloc: Global,
     plan: &[u8],
+    queues: Option<&[u8]>,
     script: &[u8],
     writer: &mut W,
 ) -> Result<u8, PbxFault>
-    ensures writes { spec.Writes (W.contents writer.old) (W.contents writer.new) (spec.run_of plan.now script.now) result }
+    ensures writes { spec.Writes (W.contents writer.old) (W.contents writer.new) (spec.run_of plan.now (option_map (λ text. text.now) queues.entry) script.now) result }
     ensures told { W.has_failed writer.new ≡ (W.has_failed writer.old || is_write_failed result) }
 {
-    let (mut machine, lines, mut block) = begin(alloc, plan, script)?;
+    let (mut machine, lines, mut block) = begin(alloc, plan, queues, script)?;
     run_all(alloc, &mut machine, &lines, &mut block, writer)
 }

@@ -1,9 +1,10 @@
 //! Scripts: the turns that a person writes down.
-ghost use Rattle.std.specs.Prelude.{◌≡◌, ◌+◌, ◌++◌, ◌∷◌, [], IfOk, OnOk, map, false};
+ghost use Rattle.std.specs.Prelude.{◌≡◌, ◌+◌, ◌++◌, ◌∷◌, [], IfOk, OnOk, Some, map, false};
 ghost use Rattle.std.specs.Option.{option_to_list};
 ghost use Rattle.dp_conf.specs.Answers.{Answers};
 ghost use Rattle.dp_commands.specs.Faults.{is_write_failed, reason_of};
 ghost use Rattle.dp_commands.specs.Script as spec;
+ghost use Rattle.dp_commands.specs.declared.script.Turn.TheVariants as turns;
 
 use crate::fault::{Code, PbxFault};
 use dp_conf::{first_part, is_blank, read_number};
@@ -90,6 +91,108 @@ fn read_step(words: &[&[u8]]) -> Option<ScriptLine>
     Some(ScriptLine { turn, count })
 }
 
+/// `digit CH D`, by the words behind `digit`: the caller dials the byte D.
+fn read_digit(words: &[&[u8]]) -> Option<ScriptLine>
+    ensures { result ≡ spec.digit_line (map (λ word. word.now) words.now) }
+{
+    match words {
+        [channel, digit] => dialled(read_channel(channel)?, digit),
+        _ => None,
+    }
+}
+
+/// The digit that a channel dials: a word of one byte.
+fn dialled(channel: u32, word: &[u8]) -> Option<ScriptLine>
+    ensures { result ≡ spec.dialled_by (Some channel) word.now }
+{
+    match word {
+        [digit] => Some(once(Event::Digit {
+            channel,
+            digit: *digit,
+        })),
+        _ => None,
+    }
+}
+
+/// A line that gives the event once.
+fn once(event: Event) -> ScriptLine
+    ensures { result ≡ spec.once (turns.Event event) }
+{
+    ScriptLine {
+        turn: Turn::Event(event),
+        count: 1,
+    }
+}
+
+/// The channel that is the one word of these.
+fn one_channel(words: &[&[u8]]) -> Option<u32>
+    ensures { result ≡ spec.one_channel (map (λ word. word.now) words.now) }
+{
+    match words {
+        [channel] => read_channel(channel),
+        _ => None,
+    }
+}
+
+/// A copy of the name that is the one word of these.
+fn one_name(alloc: Global, words: &[&[u8]]) -> Result<Option<Text>, NoMemory>
+    ensures { IfOk result (λ name. name ≡ spec.one_name (map (λ word. word.now) words.now)) }
+{
+    match words {
+        [name] => {
+            let name = Text::copy_of(alloc, name)?;
+            Ok(Some(name))
+        }
+        _ => Ok(None),
+    }
+}
+
+/// `timeout CH`, `poll CH` or `hangup CH`, by the first word and those behind it.
+fn read_channel_line(word: &[u8], words: &[&[u8]]) -> Option<ScriptLine>
+    ensures { result ≡ spec.channel_line word.now (map (λ word. word.now) words.now) }
+{
+    if word == b"timeout".as_slice() {
+        let channel = one_channel(words)?;
+        return Some(once(Event::Timeout { channel }));
+    }
+    if word == b"poll".as_slice() {
+        let channel = one_channel(words)?;
+        return Some(once(Event::Poll { channel }));
+    }
+    if word == b"hangup".as_slice() {
+        let channel = one_channel(words)?;
+        return Some(once(Event::Hangup { channel }));
+    }
+    None
+}
+
+/// `offer QUEUE`, `answer AGENT`, `decline AGENT` or `done AGENT`, by the first word and those behind it.
+fn read_agent_line(
+    alloc: Global,
+    word: &[u8],
+    words: &[&[u8]],
+) -> Result<Option<ScriptLine>, NoMemory>
+    ensures { IfOk result (λ line. line ≡ spec.agent_line word.now (map (λ word. word.now) words.now)) }
+{
+    if word == b"offer".as_slice() {
+        let queue = one_name(alloc, words)?;
+        return Ok(queue.map(|queue| once(Event::Offer { queue })));
+    }
+    if word == b"answer".as_slice() {
+        let agent = one_name(alloc, words)?;
+        return Ok(agent.map(|agent| once(Event::Answer { agent })));
+    }
+    if word == b"decline".as_slice() {
+        let agent = one_name(alloc, words)?;
+        return Ok(agent.map(|agent| once(Event::Decline { agent })));
+    }
+    if word == b"done".as_slice() {
+        let agent = one_name(alloc, words)?;
+        return Ok(agent.map(|agent| once(Event::AgentDone { agent })));
+    }
+    Ok(None)
+}
+
 /// `show CH NAME`, by the words behind `show`.
 fn read_show(alloc: Global, words: &[&[u8]]) -> Result<Option<ScriptLine>, NoMemory>
     ensures { IfOk result (λ line. line ≡ spec.show_line (map (λ word. word.now) words.now)) }
@@ -130,11 +233,18 @@ fn read_words(alloc: Global, words: &[&[u8]]) -> Result<Option<ScriptLine>, NoMe
     if *word == b"step".as_slice() {
         return Ok(read_step(rest));
     }
+    if *word == b"digit".as_slice() {
+        return Ok(read_digit(rest));
+    }
     if *word == b"show".as_slice() {
         let line = read_show(alloc, rest)?;
         return Ok(line);
     }
-    Ok(None)
+    if let Some(line) = read_channel_line(word, rest) {
+        return Ok(Some(line));
+    }
+    let line = read_agent_line(alloc, word, rest)?;
+    Ok(line)
 }
 
 /// What the line of this number stands for, or None where it is passed over.

@@ -1,13 +1,15 @@
 //! The lines of a trace.
-ghost use Rattle.std.specs.Prelude.{◌≡◌, ◌++◌, ◌∷◌, [], IfOk, OnOk, OnErr, Some, codes};
+ghost use Rattle.std.specs.Prelude.{◌≡◌, ◌++◌, ◌∷◌, [], IfOk, OnOk, OnErr, Some, codes, decimal};
+ghost use Rattle.std.specs.Option.{option_copied};
 ghost use Rattle.dp_pattern.specs.Spelling.{spelling};
 ghost use Rattle.dp_machine.specs.World.{value_in};
 ghost use Rattle.dp_commands.specs.Trace as spec;
 
 use crate::block::Block;
-use dp_machine::{EntryId, Machine, Phase, Place, Refusal, Reply};
+use dp_machine::{EntryId, Machine, Phase, Place, Queues, Refusal, Reply};
 use dp_pattern::{Name, Parts};
 use dp_plan::{Context, Dialplan, Entry, NoMemory};
+use dp_table::StandardApps;
 use itoa::{Buffer, Integer};
 use std::alloc::Global;
 
@@ -35,10 +37,13 @@ fn push_place(out: &mut Block, context: &[u8], exten: &[u8], priority: u32) -> R
 }
 
 /// Adds the state of a channel that is ready.
-fn push_ready(out: &mut Block, place: &Place) -> Result<(), NoMemory>
+fn push_ready(out: &mut Block, place: Option<&Place>) -> Result<(), NoMemory>
     ensures kept { out.new.whole ≡ out.old.whole }
-    ensures ok { OnOk result (out.new.begun ≡ out.old.begun ++ spec.state_by (Some Phase.Ready) (Some place.now)) }
+    ensures ok { OnOk result (out.new.begun ≡ out.old.begun ++ spec.ready_text (option_copied place.entry)) }
 {
+    let Some(place) = place else {
+        return Ok(());
+    };
     out.push(b"ready ")?;
     push_place(
         out,
@@ -51,14 +56,77 @@ fn push_ready(out: &mut Block, place: &Place) -> Result<(), NoMemory>
 
 /// Adds the state of the channel of this number.
 #[tactic(auto, unfolding(crate::specs::Trace::state_text))]
-fn push_state(out: &mut Block, machine: &Machine, number: u32) -> Result<(), NoMemory>
+fn push_state(out: &mut Block, machine: &Machine<StandardApps>, number: u32) -> Result<(), NoMemory>
     ensures kept { out.new.whole ≡ out.old.whole }
     ensures ok { OnOk result (out.new.begun ≡ out.old.begun ++ spec.state_text machine.now number) }
 {
-    match (machine.phase(number), machine.place(number)) {
-        (Some(Phase::Ready), Some(place)) => push_ready(out, place)?,
-        (Some(Phase::Ended), _) => out.push(b"ended")?,
-        _ => {}
+    let Some(phase) = machine.phase(number) else {
+        return Ok(());
+    };
+    push_phase(out, machine.queues(), phase, machine.place(number))?;
+    Ok(())
+}
+
+/// Adds the state of a channel by its phase and its place.
+fn push_phase(
+    out: &mut Block,
+    queues: &Queues,
+    phase: &Phase,
+    place: Option<&Place>,
+) -> Result<(), NoMemory>
+    ensures kept { out.new.whole ≡ out.old.whole }
+    ensures ok { OnOk result (out.new.begun ≡ out.old.begun ++ spec.state_by queues.now (Some phase.now) (option_copied place.entry)) }
+{
+    match phase {
+        Phase::Ready => push_ready(out, place)?,
+        Phase::Digits { .. } => out.push(b"digits")?,
+        Phase::Pause => out.push(b"pause")?,
+        Phase::Queued { queue, .. } => {
+            out.push(b"queued ")?;
+            push_queue(out, queues, *queue)?;
+        }
+        Phase::Talking { queue, agent, .. } => push_talking(out, queues, *queue, *agent)?,
+        Phase::Ended => out.push(b"ended")?,
+    }
+    Ok(())
+}
+
+/// Adds the state of a channel that talks with the agent of a number, in the queue of a number.
+fn push_talking(
+    out: &mut Block,
+    queues: &Queues,
+    queue: usize,
+    agent: usize,
+) -> Result<(), NoMemory>
+    ensures kept { out.new.whole ≡ out.old.whole }
+    ensures ok { OnOk result (out.new.begun ≡ out.old.begun
+        ++ (codes "talking " ++ spec.queue_name queues.now queue ++ codes " " ++ spec.agent_name queues.now agent)) }
+{
+    out.push(b"talking ")?;
+    push_queue(out, queues, queue)?;
+    out.push(b" ")?;
+    push_agent(out, queues, agent)?;
+    Ok(())
+}
+
+/// Adds the name of the queue of a number.
+fn push_queue(out: &mut Block, queues: &Queues, number: usize) -> Result<(), NoMemory>
+    ensures kept { out.new.whole ≡ out.old.whole }
+    ensures ok { OnOk result (out.new.begun ≡ out.old.begun ++ spec.queue_name queues.now number) }
+{
+    if let Some(queue) = queues.queues().get(number) {
+        out.push(queue.name().bytes())?;
+    }
+    Ok(())
+}
+
+/// Adds the name of the agent of a number.
+fn push_agent(out: &mut Block, queues: &Queues, number: usize) -> Result<(), NoMemory>
+    ensures kept { out.new.whole ≡ out.old.whole }
+    ensures ok { OnOk result (out.new.begun ≡ out.old.begun ++ spec.agent_name queues.now number) }
+{
+    if let Some(agent) = queues.agents().get(number) {
+        out.push(agent.name.bytes())?;
     }
     Ok(())
 }
@@ -118,7 +186,11 @@ pub(crate) fn push_entry(
 }
 
 /// Adds ` -> ` and the state of the channel of this number.
-fn push_behind(out: &mut Block, machine: &Machine, number: u32) -> Result<(), NoMemory>
+fn push_behind(
+    out: &mut Block,
+    machine: &Machine<StandardApps>,
+    number: u32,
+) -> Result<(), NoMemory>
     ensures kept { out.new.whole ≡ out.old.whole }
     ensures ok { OnOk result (out.new.begun ≡ out.old.begun ++ codes " -> " ++ spec.state_text machine.now number) }
 {
@@ -143,7 +215,7 @@ fn push_refused(out: &mut Block, refusal: Refusal) -> Result<(), NoMemory>
 fn push_ran(
     alloc: Global,
     out: &mut Block,
-    machine: &Machine,
+    machine: &Machine<StandardApps>,
     number: u32,
     id: EntryId,
 ) -> Result<(), NoMemory>
@@ -158,11 +230,53 @@ fn push_ran(
     Ok(())
 }
 
+/// Adds the line of a channel that went to the extension `i`.
+fn push_invalid(
+    out: &mut Block,
+    machine: &Machine<StandardApps>,
+    number: u32,
+) -> Result<(), NoMemory>
+    ensures kept { out.new.whole ≡ out.old.whole }
+    ensures ok { OnOk result (out.new.begun ≡ out.old.begun ++ spec.reply_text machine.now number Reply.Invalid) }
+{
+    out.push(b"invalid ")?;
+    push_number(out, number)?;
+    push_behind(out, machine, number)?;
+    Ok(())
+}
+
+/// Adds the line of an offer.
+fn push_offered(out: &mut Block, channel: u32, rung: usize) -> Result<(), NoMemory>
+    ensures kept { out.new.whole ≡ out.old.whole }
+    ensures ok { OnOk result (out.new.begun ≡ out.old.begun ++ (codes "offered " ++ decimal channel ++ codes " " ++ decimal rung)) }
+{
+    out.push(b"offered ")?;
+    push_number(out, channel)?;
+    out.push(b" ")?;
+    push_number(out, rung)?;
+    Ok(())
+}
+
+/// Adds the line of an event that was taken.
+fn push_done(out: &mut Block, machine: &Machine<StandardApps>, number: u32) -> Result<(), NoMemory>
+    ensures kept { out.new.whole ≡ out.old.whole }
+    ensures ok { OnOk result (out.new.begun ≡ out.old.begun ++ spec.done_text machine.now number) }
+{
+    if number == 0 {
+        out.push(b"ok")?;
+        return Ok(());
+    }
+    out.push(b"ok ")?;
+    push_number(out, number)?;
+    push_behind(out, machine, number)?;
+    Ok(())
+}
+
 /// Adds the line of a reply to an event of the channel of this number, with the machine behind the event.
 fn push_reply(
     alloc: Global,
     out: &mut Block,
-    machine: &Machine,
+    machine: &Machine<StandardApps>,
     number: u32,
     reply: Reply,
 ) -> Result<(), NoMemory>
@@ -180,6 +294,9 @@ fn push_reply(
             push_number(out, number)?;
             push_behind(out, machine, number)?;
         }
+        Reply::Invalid => push_invalid(out, machine, number)?,
+        Reply::Offered { channel, rung } => push_offered(out, channel, rung)?,
+        Reply::Done => push_done(out, machine, number)?,
         Reply::Refused(refusal) => push_refused(out, refusal)?,
     }
     Ok(())
@@ -190,7 +307,7 @@ fn push_reply(
 pub(crate) fn push_line(
     alloc: Global,
     block: &mut Block,
-    machine: &Machine,
+    machine: &Machine<StandardApps>,
     number: u32,
     reply: Reply,
 ) -> Result<(), NoMemory>
@@ -207,7 +324,7 @@ pub(crate) fn push_line(
 fn push_value(
     alloc: Global,
     out: &mut Block,
-    machine: &Machine,
+    machine: &Machine<StandardApps>,
     channel: u32,
     name: &[u8],
 ) -> Result<(), NoMemory>
@@ -226,7 +343,7 @@ fn push_value(
 fn push_show(
     alloc: Global,
     out: &mut Block,
-    machine: &Machine,
+    machine: &Machine<StandardApps>,
     channel: u32,
     name: &[u8],
 ) -> Result<(), NoMemory>
@@ -244,7 +361,7 @@ fn push_show(
 pub(crate) fn push_show_line(
     alloc: Global,
     block: &mut Block,
-    machine: &Machine,
+    machine: &Machine<StandardApps>,
     channel: u32,
     name: &[u8],
 ) -> Result<(), NoMemory>

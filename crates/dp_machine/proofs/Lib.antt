@@ -1,3 +1,14 @@
+pub mod AskLemmas
 pub mod ReplayLemmas
-pub mod MemoryLemmas
-mod Rows
+pub mod StepLemmas
+pub mod StepRows
+pub mod TieApps
+pub mod TieEvents
+pub mod TieLemmas
+pub mod TieOffers
+pub mod TieQueues
+pub mod TieRows
+pub mod TieServed
+pub mod TieSteps
+pub mod WaitingLemmas
+pub mod WaitingRows

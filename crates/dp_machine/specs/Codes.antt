@@ -1,16 +1,34 @@
 -- The numbers of the refusals and the names that are printed beside them.
 use Rattle.std.specs.Prelude.{ℕ, List, codes}
 use Rattle.dp_machine.specs.declared.refusal.Refusal.{Refusal}
-use Rattle.dp_machine.specs.declared.refusal.Refusal.TheVariants.{NoChannel, Ended, NumbersSpent}
+use Rattle.dp_machine.specs.declared.refusal.Refusal.TheVariants.{NoChannel, NotReady, NotWaiting, NoTimer, NoQueue, NobodyWaiting, NoMember, NotRinging, NotTalking, Ended, NumbersSpent, BadDigit}
 
 -- the number of a refusal
 abbrev pub refusal_code : Refusal → ℕ
 refusal_code NoChannel = 40
+refusal_code NotReady = 41
+refusal_code NotWaiting = 42
+refusal_code NoTimer = 43
+refusal_code NoQueue = 44
+refusal_code NobodyWaiting = 45
+refusal_code NoMember = 46
+refusal_code NotRinging = 47
+refusal_code NotTalking = 48
 refusal_code Ended = 49
 refusal_code NumbersSpent = 50
+refusal_code BadDigit = 51
 
 -- the printed name of a refusal
 abbrev pub refusal_name : Refusal → List ℕ
 refusal_name NoChannel = codes "NoChannel"
+refusal_name NotReady = codes "NotReady"
+refusal_name NotWaiting = codes "NotWaiting"
+refusal_name NoTimer = codes "NoTimer"
+refusal_name NoQueue = codes "NoQueue"
+refusal_name NobodyWaiting = codes "NobodyWaiting"
+refusal_name NoMember = codes "NoMember"
+refusal_name NotRinging = codes "NotRinging"
+refusal_name NotTalking = codes "NotTalking"
 refusal_name Ended = codes "Ended"
 refusal_name NumbersSpent = codes "NumbersSpent"
+refusal_name BadDigit = codes "BadDigit"

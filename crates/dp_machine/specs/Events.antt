@@ -1,27 +1,36 @@
 -- What each event makes of a world, and the reply.
-use Rattle.std.specs.Prelude.{ℕ, ◌+◌, Bool, true, false, not, ◌||◌, nat_lt, List, [], ◌∷◌, ◌++◌, length, Option, Some, None, if◌then◌else◌}
+use Rattle.std.specs.Prelude.{ℕ, ◌+◌, Bool, true, false, ◌&&◌, ◌||◌, ◌==◌, nat_lt, nat_le, List, [], ◌∷◌, ◌++◌, length, Option, Some, None, Result, Ok, Err, slice_get, if◌then◌else◌, codes}
+use Rattle.std.specs.Option.{option_and_then, option_map, unwrap_or}
 use Rattle.dp_plan.specs.Plan.{PlanOf}
-use Rattle.dp_machine.specs.Applications.{row_of, makes_texts}
-use Rattle.dp_plan.specs.declared.entry.Entry.{Entry}
-use Rattle.dp_vars.specs.Openings.{has_opening}
+use Rattle.dp_plan.specs.declared.entry.EntryId.{EntryId}
+use Rattle.dp_queue.specs.Calls.{answer_row, decline_row, done_row, end_talk_row}
+use Rattle.dp_queue.specs.Joining.{leave_row, should_leave}
+use Rattle.dp_queue.specs.Offers.{offer_row}
+use Rattle.dp_queue.specs.Queues.{QueuesOf}
+use Rattle.dp_queue.specs.declared.call.Call.{Call}
+use Rattle.dp_queue.specs.declared.fault.OfferFault.{OfferFault}
+use Rattle.dp_queue.specs.declared.fault.OfferFault.TheVariants.{NoQueue as no_queue, NobodyWaiting as nobody_waiting, NoMember as no_member}
+use Rattle.dp_queue.specs.declared.offer.Offered.{Offered as Rung}
 use Rattle.dp_vars.specs.Stores.{nothing}
-use Rattle.dp_machine.specs.Found.{Located, entry_found, label_found}
+use Rattle.dp_app.specs.Rows.{Rows, dispatched}
+use Rattle.dp_app.specs.declared.cell.Cell.{Cell}
+use Rattle.dp_app.specs.declared.going.Move.{Move}
+use Rattle.dp_app.specs.declared.phase.Phase.{Phase}
+use Rattle.dp_app.specs.declared.phase.Phase.TheVariants.{Ready, Digits, Pause, Queued, Talking, Ended as phase_ended}
+use Rattle.dp_machine.specs.Channels.{Change, Stays, Talks, TalkEnds, changed, collected, going_on, hung_up, invalid, is_invalid, left_queue, ready_at, timed_out, went}
+use Rattle.dp_machine.specs.Found.{Located, could_go_on, entry_found, is_found}
 use Rattle.dp_machine.specs.Seen.{arguments_seen}
+use Rattle.dp_machine.specs.Targets.{place_of}
 use Rattle.dp_machine.specs.World.{World, most_channels, channel_at, with_channel}
-use Rattle.dp_machine.specs.declared.application.Wanted.{Wanted}
-use Rattle.dp_machine.specs.declared.application.Wanted.TheVariants.{Number, Label}
-use Rattle.dp_machine.specs.declared.application.Target.{Target}
-use Rattle.dp_machine.specs.declared.application.Move.{Move}
-use Rattle.dp_machine.specs.declared.application.Move.TheVariants.{Next, Jump, Hang}
-use Rattle.dp_machine.specs.declared.channel.Phase.{Phase}
-use Rattle.dp_machine.specs.declared.channel.Phase.TheVariants.{Ready as phase_ready, Ended as phase_ended}
 use Rattle.dp_machine.specs.declared.channel.Channel.{Channel}
 use Rattle.dp_machine.specs.declared.event.Event.{Event}
-use Rattle.dp_machine.specs.declared.event.Event.TheVariants.{Start, Step}
+use Rattle.dp_machine.specs.declared.event.Event.TheVariants.{Start, Step, Digit, Timeout, Poll, Hangup, Offer, Answer, Decline, AgentDone}
+use Rattle.dp_machine.specs.declared.asked.Asked.{Asked}
+use Rattle.dp_machine.specs.declared.asked.Asked.TheVariants.{Step as asked_step, Digit as asked_digit, Timeout as asked_timeout, Poll as asked_poll, Hangup as asked_hangup}
 use Rattle.dp_machine.specs.declared.refusal.Refusal.{Refusal}
-use Rattle.dp_machine.specs.declared.refusal.Refusal.TheVariants.{NoChannel, Ended, NumbersSpent}
+use Rattle.dp_machine.specs.declared.refusal.Refusal.TheVariants.{NoChannel, NotReady, NotWaiting, NoTimer, NoQueue, NobodyWaiting, NoMember, NotRinging, NotTalking, Ended, NumbersSpent, BadDigit}
 use Rattle.dp_machine.specs.declared.reply.Reply.{Reply}
-use Rattle.dp_machine.specs.declared.reply.Reply.TheVariants.{Started, Ran, NoEntry, Refused}
+use Rattle.dp_machine.specs.declared.reply.Reply.TheVariants.{Started, Ran, Invalid, NoEntry, Offered, Done, Refused}
 use Rattle.dp_machine.specs.declared.shared.Shared.{Shared}
 
 -- what a channel's event makes of the channel and of what all channels share, and the reply
@@ -35,58 +44,196 @@ pub record Entered : Type 0 where
   pub channels : List Channel
   pub reply : Reply
 
+-- what an agent's event makes of what all channels share, which channel it changes and how, and the reply
+pub record Served : Type 0 where
+  pub shared : Shared
+  pub who : ℕ
+  pub change : Change
+  pub reply : Reply
+
+-- what an application makes of its channel and of what all channels share, and where it sends the channel
+pub record Applied : Type 0 where
+  pub channel : Channel
+  pub shared : Shared
+  pub going : Option Move
+
 -- a refused event leaves all as it was
 abbrev pub refuse : Refusal → Shared → Channel → Own
 refuse refusal shared c = record { channel = c; shared = shared; reply = Refused refusal }
 
--- a hang-up ends the channel
-abbrev pub hung_up : Channel → Channel
-hung_up c = record c { phase = phase_ended }
+-- an event that is taken, and leaves this channel and this shared part
+abbrev pub take_event : Shared → Channel → Own
+take_event shared c = record { channel = c; shared = shared; reply = Done }
 
--- the priority that a target asks for, in the dialplan
-abbrev pub resolved : PlanOf → Target → Wanted → Option ℕ
-resolved plan target (Number number) = Some number
-resolved plan target (Label label) = label_found plan target.context target.exten label
+-- the shared part with other queues
+abbrev pub with_queues : Shared → QueuesOf → Shared
+with_queues shared queues = record { globals = shared.globals; queues = queues }
 
--- the channel at the extension of a target, at this priority; where there is none it is hung up
-abbrev pub landed : Channel → Target → Option ℕ → Channel
-landed c target None = hung_up c
-landed c target (Some number) = record c { place = record { context = target.context; exten = target.exten; priority = number } }
+-- the shared part behind a channel that leaves its queue: the agents that rang for it are idle
+abbrev pub without_caller : Shared → ℕ → Shared
+without_caller shared number = with_queues shared (leave_row shared.queues number).0
 
--- the channel behind a move: the next priority, a target, or the end
-abbrev pub moved : PlanOf → Channel → Move → Channel
-moved plan c Next = record c { place = record { context = c.place.context; exten = c.place.exten; priority = c.place.priority + 1 } }
-moved plan c (Jump target) = landed c target (resolved plan target target.priority)
-moved plan c Hang = hung_up c
+-- the shared part behind the end of a channel's talk
+abbrev pub without_talk : Shared → ℕ → Shared
+without_talk shared number = with_queues shared (end_talk_row shared.queues number).0
 
--- the channel behind its application; a name that the table lacks is a hang-up
-abbrev pub went : PlanOf → Channel → Option Move → Channel
-went plan c None = hung_up c
-went plan c (Some move) = moved plan c move
-
--- a step, by the entry at the channel's place: its application is run with its arguments expanded
-abbrev pub step_at : PlanOf → Shared → ℕ → Channel → Option Located → Own
-step_at plan shared number c None = record { channel = hung_up c; shared = shared; reply = NoEntry }
-step_at plan shared number c (Some found) = record {
-  channel = went plan c (row_of found.entry.application (arguments_seen shared number c found.entry.arguments) c.place);
-  shared = shared;
-  reply = Ran found.id;
+-- what an application sees of a channel and of what all channels share
+abbrev pub cell_of : Shared → ℕ → Channel → Cell
+cell_of shared number c = record {
+  number = number;
+  place = c.place;
+  is_closing = c.is_closing;
+  caller = c.caller;
+  store = c.store;
+  globals = shared.globals;
+  queues = shared.queues;
 }
 
+-- the channel and the shared part behind an application, and where it sends the channel
+abbrev pub applied : Channel → Cell × Option Move → Applied
+applied c behind = record {
+  channel = record c { caller = behind.0.caller; store = behind.0.store };
+  shared = record { globals = behind.0.globals; queues = behind.0.queues };
+  going = behind.1;
+}
+
+-- the channel goes where its application sent it
+abbrev pub ran : PlanOf → EntryId → Applied → Own
+ran plan id behind = record { channel = went plan behind.channel behind.going; shared = behind.shared; reply = Ran id }
+
+-- a step where no entry is found: to the extension `i` if the extension is not there, else a hang-up
+unfoldable pub unfound : PlanOf → Shared → Channel → Own
+unfound plan shared c =
+    if is_invalid plan c.place then record { channel = invalid c; shared = shared; reply = Invalid }
+    else record { channel = hung_up plan c; shared = shared; reply = NoEntry }
+
+-- a step, by the entry at the channel's place: its application is run with its arguments expanded
+abbrev pub step_at : Rows → PlanOf → Shared → ℕ → Channel → Option Located → Own
+step_at rows plan shared number c None = unfound plan shared c
+step_at rows plan shared number c (Some found) =
+    ran plan found.id (applied c (dispatched (rows found.entry.application) (arguments_seen shared number c found.entry.arguments) (cell_of shared number c)))
+
 -- a step, by the channel's phase
-abbrev pub step_in : Phase → PlanOf → Shared → ℕ → Channel → Own
-step_in phase_ready plan shared number c = step_at plan shared number c (entry_found plan c.place)
-step_in phase_ended plan shared number c = refuse Ended shared c
+abbrev pub step_in : Rows → Phase → PlanOf → Shared → ℕ → Channel → Own
+step_in rows Ready plan shared number c = step_at rows plan shared number c (entry_found plan c.place)
+step_in rows (Digits digits is_background) plan shared number c = refuse NotReady shared c
+step_in rows Pause plan shared number c = refuse NotReady shared c
+step_in rows (Queued queue goes_on has_timer) plan shared number c = refuse NotReady shared c
+step_in rows (Talking queue agent goes_on) plan shared number c = refuse NotReady shared c
+step_in rows phase_ended plan shared number c = refuse Ended shared c
 
 -- the event `Step`
-unfoldable pub step_row : PlanOf → Shared → ℕ → Channel → Own
-step_row plan shared number c = step_in c.phase plan shared number c
+unfoldable pub step_row : Rows → PlanOf → Shared → ℕ → Channel → Own
+step_row rows plan shared number c = step_in rows c.phase plan shared number c
+
+-- the digits of a telephone
+abbrev pub is_digit : ℕ → Bool
+is_digit byte = nat_le 48 byte && nat_le byte 57 || byte == 42 || byte == 35 || nat_le 65 byte && nat_le byte 68
+
+-- a digit that a channel waits for
+abbrev pub collect : PlanOf → Shared → Channel → List ℕ → Bool → Own
+collect plan shared c digits is_background = take_event shared (collected (could_go_on plan c.place.context digits) c digits is_background)
+
+-- the context in which the digits of those that wait in the queue of a number are looked up
+abbrev pub way_out_of : QueuesOf → ℕ → List ℕ
+way_out_of queues queue = unwrap_or (option_map (λ q. q.settings.context) (slice_get queues.queues queue)) []
+
+-- a digit of a channel that waits in a queue: where it is found in the queue's context the channel leaves and goes there, its status as it was
+abbrev pub way_out : PlanOf → Shared → ℕ → Channel → ℕ → List ℕ → Own
+way_out plan shared number c digit context =
+    if is_found plan context (digit ∷ []) 1 then take_event (without_caller shared number) (ready_at c (place_of context (digit ∷ []) 1))
+    else take_event shared c
+
+-- a digit of a telephone, by the channel's phase
+abbrev pub dial_in : Phase → ℕ → PlanOf → Shared → ℕ → Channel → Own
+dial_in Ready digit plan shared number c = refuse NotWaiting shared c
+dial_in (Digits digits is_background) digit plan shared number c = collect plan shared c (digits ++ digit ∷ []) is_background
+dial_in Pause digit plan shared number c = take_event shared c
+dial_in (Queued queue goes_on has_timer) digit plan shared number c = way_out plan shared number c digit (way_out_of shared.queues queue)
+dial_in (Talking queue agent goes_on) digit plan shared number c = refuse NotWaiting shared c
+dial_in phase_ended digit plan shared number c = refuse Ended shared c
+
+-- whether the channel is over
+abbrev pub is_over : Phase → Bool
+is_over Ready = false
+is_over (Digits digits is_background) = false
+is_over Pause = false
+is_over (Queued queue goes_on has_timer) = false
+is_over (Talking queue agent goes_on) = false
+is_over phase_ended = true
+
+-- the event `Digit`: a byte that is no digit is refused where the channel is not over, whatever it waits for
+unfoldable pub digit_row : ℕ → PlanOf → Shared → ℕ → Channel → Own
+digit_row digit plan shared number c =
+    if is_over c.phase || is_digit digit then dial_in c.phase digit plan shared number c else refuse BadDigit shared c
+
+-- a channel leaves its queue, and reads why
+abbrev pub leave : Shared → ℕ → Channel → List ℕ → Own
+leave shared number c status = take_event (without_caller shared number) (left_queue c status)
+
+-- the end of the time in a queue
+abbrev pub time_in_queue : Bool → Shared → ℕ → Channel → Own
+time_in_queue false shared number c = refuse NoTimer shared c
+time_in_queue true shared number c = leave shared number c (codes "TIMEOUT")
+
+-- the event `Timeout`, by the channel's phase
+abbrev pub timeout_in : Phase → PlanOf → Shared → ℕ → Channel → Own
+timeout_in Ready plan shared number c = refuse NotWaiting shared c
+timeout_in (Digits digits is_background) plan shared number c = take_event shared (timed_out plan c digits is_background)
+timeout_in Pause plan shared number c = take_event shared (going_on c)
+timeout_in (Queued queue goes_on has_timer) plan shared number c = time_in_queue has_timer shared number c
+timeout_in (Talking queue agent goes_on) plan shared number c = refuse NotWaiting shared c
+timeout_in phase_ended plan shared number c = refuse Ended shared c
+
+-- the event `Timeout`
+unfoldable pub timeout_row : PlanOf → Shared → ℕ → Channel → Own
+timeout_row plan shared number c = timeout_in c.phase plan shared number c
+
+-- a channel asks whether it is to leave its queue
+abbrev pub poll_queue : Bool → Shared → ℕ → Channel → Own
+poll_queue false shared number c = take_event shared c
+poll_queue true shared number c = leave shared number c (codes "LEAVEEMPTY")
+
+-- the event `Poll`, by the channel's phase
+abbrev pub poll_in : Phase → PlanOf → Shared → ℕ → Channel → Own
+poll_in Ready plan shared number c = refuse NotWaiting shared c
+poll_in (Digits digits is_background) plan shared number c = refuse NotWaiting shared c
+poll_in Pause plan shared number c = refuse NotWaiting shared c
+poll_in (Queued queue goes_on has_timer) plan shared number c = poll_queue (should_leave shared.queues queue) shared number c
+poll_in (Talking queue agent goes_on) plan shared number c = refuse NotWaiting shared c
+poll_in phase_ended plan shared number c = refuse Ended shared c
+
+-- the event `Poll`
+unfoldable pub poll_row : PlanOf → Shared → ℕ → Channel → Own
+poll_row plan shared number c = poll_in c.phase plan shared number c
+
+-- the event `Hangup`, by the channel's phase: it leaves its queue, or its talk ends, and it is hung up
+abbrev pub hang_up_in : Phase → PlanOf → Shared → ℕ → Channel → Own
+hang_up_in Ready plan shared number c = take_event shared (hung_up plan c)
+hang_up_in (Digits digits is_background) plan shared number c = take_event shared (hung_up plan c)
+hang_up_in Pause plan shared number c = take_event shared (hung_up plan c)
+hang_up_in (Queued queue goes_on has_timer) plan shared number c = take_event (without_caller shared number) (hung_up plan c)
+hang_up_in (Talking queue agent goes_on) plan shared number c = take_event (without_talk shared number) (hung_up plan c)
+hang_up_in phase_ended plan shared number c = refuse Ended shared c
+
+-- the event `Hangup`
+unfoldable pub hang_up_row : PlanOf → Shared → ℕ → Channel → Own
+hang_up_row plan shared number c = hang_up_in c.phase plan shared number c
+
+-- an event of one channel, by what it asks
+abbrev pub own_row : Rows → Asked → PlanOf → Shared → ℕ → Channel → Own
+own_row rows asked_step = step_row rows
+own_row rows (asked_digit digit) = digit_row digit
+own_row rows asked_timeout = timeout_row
+own_row rows asked_poll = poll_row
+own_row rows asked_hangup = hang_up_row
 
 -- a channel that a call opens at a place
 abbrev pub opened : List ℕ → List ℕ → List ℕ → Channel
 opened context exten caller = record {
-  place = record { context = context; exten = exten; priority = 1 };
-  phase = phase_ready;
+  place = place_of context exten 1;
+  phase = Ready;
+  is_closing = false;
   caller = caller;
   store = nothing;
 }
@@ -97,6 +244,49 @@ started channels context exten caller =
     if nat_lt (length channels) most_channels
     then (record { channels = channels ++ opened context exten caller ∷ []; reply = Started (length channels + 1) })
     else (record { channels = channels; reply = Refused NumbersSpent })
+
+-- an event of an agent that changes no channel, or is refused
+abbrev pub unmet : Shared → Reply → Served
+unmet shared reply = record { shared = shared; who = 0; change = Stays; reply = reply }
+
+-- the refusal of an offer
+abbrev pub offer_refusal : OfferFault → Refusal
+offer_refusal no_queue = NoQueue
+offer_refusal nobody_waiting = NobodyWaiting
+offer_refusal no_member = NoMember
+
+-- the reply to an offer
+abbrev pub offer_reply : Result Rung OfferFault → Reply
+offer_reply (Ok offered) = Offered offered.channel offered.rung
+offer_reply (Err fault) = Refused (offer_refusal fault)
+
+-- the event `Offer`
+unfoldable pub offered : Shared → List ℕ → Served
+offered shared queue =
+    unmet (with_queues shared (offer_row shared.queues queue).0) (offer_reply (offer_row shared.queues queue).1)
+
+-- an agent and a channel talk
+abbrev pub met : Shared → Option Call → Served
+met shared None = unmet shared (Refused NotRinging)
+met shared (Some call) = record { shared = shared; who = call.channel; change = Talks call.queue call.agent; reply = Done }
+
+-- the event `Answer`
+unfoldable pub answered : Shared → List ℕ → Served
+answered shared agent = met (with_queues shared (answer_row shared.queues agent).0) (answer_row shared.queues agent).1
+
+-- the event `Decline`
+unfoldable pub declined : Shared → List ℕ → Served
+declined shared agent =
+    unmet (with_queues shared (decline_row shared.queues agent).0) (if (decline_row shared.queues agent).1 then Done else Refused NotRinging)
+
+-- the talk of an agent and a channel ends
+abbrev pub parted : Shared → Option Call → Served
+parted shared None = unmet shared (Refused NotTalking)
+parted shared (Some call) = record { shared = shared; who = call.channel; change = TalkEnds; reply = Done }
+
+-- the event `AgentDone`
+unfoldable pub agent_done : Shared → List ℕ → Served
+agent_done shared agent = parted (with_queues shared (done_row shared.queues agent).0) (done_row shared.queues agent).1
 
 -- the world behind a call that comes in, and the reply
 abbrev pub entered : World → Entered → World × Reply
@@ -111,43 +301,60 @@ abbrev pub own_event : World → ℕ → (PlanOf → Shared → ℕ → Channel 
 own_event w number row None = (w, Refused NoChannel)
 own_event w number row (Some c) = owned w number (row w.plan w.shared number c)
 
+-- the channels behind an agent's event
+abbrev pub served_channels : World → Served → Option Channel → List Channel
+served_channels w s None = w.channels
+served_channels w s (Some c) = with_channel w.channels s.who (changed w.plan s.change c)
+
+-- what all channels share says the reply to an agent's event, and which channel it changes
+abbrev pub agent_event : World → Served → World × Reply
+agent_event w s = (record w { channels = served_channels w s (channel_at w.channels s.who); shared = s.shared }, s.reply)
+
 -- the world behind an event, and the reply
-abbrev pub event_row : World → Event → World × Reply
-event_row w (Start context exten caller) = entered w (started w.channels context exten caller)
-event_row w (Step number) = own_event w number step_row (channel_at w.channels number)
+abbrev pub event_row : Rows → World → Event → World × Reply
+event_row rows w (Start context exten caller) = entered w (started w.channels context exten caller)
+event_row rows w (Step number) = own_event w number (step_row rows) (channel_at w.channels number)
+event_row rows w (Digit number digit) = own_event w number (digit_row digit) (channel_at w.channels number)
+event_row rows w (Timeout number) = own_event w number timeout_row (channel_at w.channels number)
+event_row rows w (Poll number) = own_event w number poll_row (channel_at w.channels number)
+event_row rows w (Hangup number) = own_event w number hang_up_row (channel_at w.channels number)
+event_row rows w (Offer queue) = agent_event w (offered w.shared queue)
+event_row rows w (Answer agent) = agent_event w (answered w.shared agent)
+event_row rows w (Decline agent) = agent_event w (declined w.shared agent)
+event_row rows w (AgentDone agent) = agent_event w (agent_done w.shared agent)
+
+-- the entry that the next step of a channel would run, by its phase
+abbrev pub next_in : Phase → PlanOf → Channel → Option EntryId
+next_in Ready plan c = option_map (λ found. found.id) (entry_found plan c.place)
+next_in (Digits digits is_background) plan c = None
+next_in Pause plan c = None
+next_in (Queued queue goes_on has_timer) plan c = None
+next_in (Talking queue agent goes_on) plan c = None
+next_in phase_ended plan c = None
+
+-- the entry that the next step of the channel of a number would run
+abbrev pub next_entry : World → ℕ → Option EntryId
+next_entry w number = option_and_then (λ c. next_in c.phase w.plan c) (channel_at w.channels number)
 
 -- the channel that an event names, and 0, which no channel has, where it names none
 abbrev pub channel_of : Event → ℕ
 channel_of (Start context exten caller) = 0
 channel_of (Step number) = number
+channel_of (Digit number digit) = number
+channel_of (Timeout number) = number
+channel_of (Poll number) = number
+channel_of (Hangup number) = number
+channel_of (Offer queue) = 0
+channel_of (Answer agent) = 0
+channel_of (Decline agent) = 0
+channel_of (AgentDone agent) = 0
 
 -- whether a reply is a refusal
 abbrev pub is_refused : Reply → Bool
 is_refused (Started number) = false
 is_refused (Ran id) = false
+is_refused Invalid = false
 is_refused NoEntry = false
+is_refused (Offered channel rung) = false
+is_refused Done = false
 is_refused (Refused refusal) = true
-
--- whether an entry needs memory: its arguments may have groups, or its application makes texts
-abbrev pub entry_needs_memory : Entry → Bool
-entry_needs_memory entry = has_opening entry.arguments || makes_texts entry.application
-
--- whether a step needs memory, by the entry at the channel's place
-abbrev pub needs_memory_at : Option Located → Bool
-needs_memory_at None = false
-needs_memory_at (Some found) = entry_needs_memory found.entry
-
--- whether a step needs memory, by the channel's phase
-abbrev pub needs_memory_in : Phase → PlanOf → Channel → Bool
-needs_memory_in phase_ready plan c = needs_memory_at (entry_found plan c.place)
-needs_memory_in phase_ended plan c = false
-
--- whether the step of a channel needs memory; a channel that is not there needs none
-abbrev pub needs_memory_by : PlanOf → Option Channel → Bool
-needs_memory_by plan None = false
-needs_memory_by plan (Some c) = needs_memory_in c.phase plan c
-
--- whether an event may need memory: a call that is taken, and a step whose entry needs it
-abbrev pub needs_memory : World → Event → Bool
-needs_memory w (Start context exten caller) = not (is_refused (started w.channels context exten caller).reply)
-needs_memory w (Step number) = needs_memory_by w.plan (channel_at w.channels number)

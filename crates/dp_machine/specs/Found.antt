@@ -1,13 +1,13 @@
 -- The entry at a place: of the contexts that are searched from the place's own, for its extension and its priority.
-use Rattle.std.specs.Prelude.{ℕ, List, Option, Some, None}
+use Rattle.std.specs.Prelude.{ℕ, Bool, List, Option, Some, None, is_some}
 use Rattle.std.specs.Option.{option_and_then, option_map}
-use Rattle.dp_lookup.specs.FoundEntry.{found_entry, found_label}
+use Rattle.dp_lookup.specs.FoundEntry.{found_entry, found_label, goes_on_more}
 use Rattle.dp_lookup.specs.SearchOrder.{search_order}
 use Rattle.dp_plan.specs.Lookup.{entry_at}
 use Rattle.dp_plan.specs.Plan.{PlanOf}
 use Rattle.dp_plan.specs.declared.entry.Entry.{Entry}
 use Rattle.dp_plan.specs.declared.entry.EntryId.{EntryId}
-use Rattle.dp_machine.specs.declared.channel.Place.{Place}
+use Rattle.dp_app.specs.declared.place.Place.{Place}
 use Rattle.dp_machine.specs.declared.lookup.Found.{Found}
 
 -- an entry, and which one it is
@@ -23,6 +23,14 @@ located plan id = option_map (λ entry. record { id = id; entry = entry }) (entr
 unfoldable pub entry_found : PlanOf → Place → Option Located
 entry_found plan place =
     option_and_then (located plan) (found_entry plan (search_order plan place.context) place.exten place.priority)
+
+-- whether an entry is found for an extension of a context at a priority
+unfoldable pub is_found : PlanOf → List ℕ → List ℕ → ℕ → Bool
+is_found plan context exten priority = is_some (found_entry plan (search_order plan context) exten priority)
+
+-- whether a caller who has dialled so far in a context may go on
+unfoldable pub could_go_on : PlanOf → List ℕ → List ℕ → Bool
+could_go_on plan context digits = goes_on_more plan (search_order plan context) digits
 
 -- the priority that has the label, of an extension in a context
 unfoldable pub label_found : PlanOf → List ℕ → List ℕ → List ℕ → Option ℕ

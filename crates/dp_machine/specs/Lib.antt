@@ -1,7 +1,9 @@
-pub mod Applications
+pub mod Channels
 pub mod Codes
 pub mod Events
 pub mod Found
+pub mod GoodWorld
 pub mod Replay
 pub mod Seen
+pub mod Targets
 pub mod World

@@ -1,25 +1,26 @@
 -- What a list of events makes of a world, and the replies.
 use Rattle.std.specs.Prelude.{◌≡◌, ◌+◌, ◌-◌, ◌≤◌, List, [], ◌∷◌, ◌++◌, length, take, fold}
+use Rattle.dp_app.specs.Rows.{Rows}
 use Rattle.dp_machine.specs.Events.{event_row}
 use Rattle.dp_machine.specs.World.{World}
 use Rattle.dp_machine.specs.declared.event.Event.{Event}
 use Rattle.dp_machine.specs.declared.reply.Reply.{Reply}
 
 -- the world behind one event
-abbrev pub world_behind : World → Event → World
-world_behind w event = (event_row w event).0
+abbrev pub world_behind : Rows → World → Event → World
+world_behind rows w event = (event_row rows w event).0
 
 -- the world behind the events
-abbrev pub world_after : World → List Event → World
-world_after w events = fold world_behind w events
+abbrev pub world_after : Rows → World → List Event → World
+world_after rows w events = fold (world_behind rows) w events
 
 -- the replies to the events
-abbrev pub replies_to : World → List Event → List Reply
-replies_to w [] = []
-replies_to w (event ∷ events) = (event_row w event).1 ∷ replies_to (world_behind w event) events
+abbrev pub replies_to : Rows → World → List Event → List Reply
+replies_to rows w [] = []
+replies_to rows w (event ∷ events) = (event_row rows w event).1 ∷ replies_to rows (world_behind rows w event) events
 
 -- the run replied to the first so many events, and left the world behind them
-pub record RanFirst (w : World) (events : List Event) (old new : List Reply) (after : World) : Type 0 where
+pub record RanFirst (rows : Rows) (w : World) (events : List Event) (old new : List Reply) (after : World) : Type 0 where
   pub within : length new ≤ length old + length events
-  pub replies : new ≡ old ++ replies_to w (take (length new - length old) events)
-  pub world : after ≡ world_after w (take (length new - length old) events)
+  pub replies : new ≡ old ++ replies_to rows w (take (length new - length old) events)
+  pub world : after ≡ world_after rows w (take (length new - length old) events)

@@ -2,14 +2,15 @@
 use Rattle.std.specs.Prelude.{ℕ, List, [], Option, Some, None, fold}
 use Rattle.std.specs.FinMap.{empty, insert}
 use Rattle.dp_plan.specs.declared.plan.GlobalVariable.{GlobalVariable}
+use Rattle.dp_queue.specs.Joining.{waiting_count}
 use Rattle.dp_vars.specs.Sights.{ChannelView, Sight, maps_by, sight_by}
 use Rattle.dp_vars.specs.Values.{expansion}
 use Rattle.dp_vars.specs.Variables.{Named, value_or_empty}
 use Rattle.dp_machine.specs.declared.channel.Channel.{Channel}
-use Rattle.dp_machine.specs.declared.channel.Place.{Place}
+use Rattle.dp_app.specs.declared.place.Place.{Place}
 use Rattle.dp_machine.specs.declared.shared.Shared.{Shared}
 
--- nobody waits in any queue
+-- nobody waits in any queue before the first call
 abbrev pub none_waiting : List ℕ → ℕ
 none_waiting queue = 0
 
@@ -27,9 +28,10 @@ view_in number c = record {
 abbrev pub maps_in : Shared → ℕ → Channel → List Named
 maps_in shared number c = maps_by (Some (view_in number c)) (Some c.store) shared.globals
 
--- what the texts of the channel of a number see: its place and caller, its variables and frames, and the globals
+-- what the texts of the channel of a number see: its place and caller, its variables and frames, the globals, and how many
+-- calls wait in a queue
 abbrev pub sight_in : Shared → ℕ → Channel → Sight
-sight_in shared number c = sight_by none_waiting (Some (view_in number c)) (Some c.store) shared.globals
+sight_in shared number c = sight_by (waiting_count shared.queues.queues) (Some (view_in number c)) (Some c.store) shared.globals
 
 -- arguments, expanded in what the channel of a number sees
 unfoldable pub arguments_seen : Shared → ℕ → Channel → List ℕ → List ℕ

@@ -1,6 +1,7 @@
 -- The world of a machine: the dialplan, the channels, and what all channels share.
 use Rattle.std.specs.Prelude.{ℕ, ◌-◌, ◌==◌, List, [], Option, None, slice_get, slice_set, if◌then◌else◌}
 use Rattle.dp_plan.specs.Plan.{PlanOf}
+use Rattle.dp_queue.specs.Queues.{QueuesOf}
 use Rattle.dp_machine.specs.Seen.{globals_of, value_seen}
 use Rattle.dp_machine.specs.declared.channel.Channel.{Channel}
 use Rattle.dp_machine.specs.declared.shared.Shared.{Shared}
@@ -19,9 +20,9 @@ most_channels = 65535
 abbrev pub world_of : PlanOf → List Channel → Shared → World
 world_of plan channels shared = record { plan = plan; channels = channels; shared = shared }
 
--- the world in which no call has come: the globals are expanded
-abbrev pub opening : PlanOf → World
-opening plan = world_of plan [] (record { globals = globals_of plan.globals })
+-- the world in which no call has come, with these queues: the globals are expanded
+abbrev pub opening : PlanOf → QueuesOf → World
+opening plan queues = world_of plan [] (record { globals = globals_of plan.globals; queues = queues })
 
 -- the channel of a number
 abbrev pub channel_at : List Channel → ℕ → Option Channel

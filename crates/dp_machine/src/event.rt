@@ -1,10 +1,11 @@
 //! The events that a machine is given.
 ghost use Rattle.std.specs.Prelude.{◌≡◌, IfOk};
 ghost use Rattle.dp_machine.specs.Events.{channel_of};
+ghost use Rattle.dp_machine.specs.declared.event.Event.TheVariants.{Start};
 
 use dp_plan::{NoMemory, Text};
 
-/// What happens to a machine.
+/// What happens to a machine. Channels are numbers; queues are named in any ASCII case, and agents by their interfaces.
 #[derive(Debug, PartialEq, Eq, Drop)]
 pub enum Event {
     /// A call comes in at priority 1 of the extension of the context.
@@ -13,9 +14,42 @@ pub enum Event {
         exten: Text,
         caller: Text,
     },
-    /// The channel of this number takes its next step.
+    /// The channel takes its next step.
     Step {
         channel: u32,
+    },
+    /// The caller dials a digit: the byte of `0` to `9`, `*`, `#` or `A` to `D`.
+    Digit {
+        channel: u32,
+        digit: u8,
+    },
+    /// What the channel waits for does not come in time.
+    Timeout {
+        channel: u32,
+    },
+    /// The channel asks whether its queue is to be left, since it is too empty.
+    Poll {
+        channel: u32,
+    },
+    /// The caller hangs up.
+    Hangup {
+        channel: u32,
+    },
+    /// A call of the queue is offered to agents.
+    Offer {
+        queue: Text,
+    },
+    /// The agent answers the call that it rings for.
+    Answer {
+        agent: Text,
+    },
+    /// The agent declines the call that it rings for.
+    Decline {
+        agent: Text,
+    },
+    /// The agent is done with the call that it talks with.
+    AgentDone {
+        agent: Text,
     },
 }
 
@@ -25,8 +59,16 @@ impl Event {
         ensures { result ≡ channel_of self.now }
     {
         match self {
-            Event::Start { .. } => 0,
-            Event::Step { channel } => *channel,
+            Event::Step { channel }
+            | Event::Digit { channel, .. }
+            | Event::Timeout { channel }
+            | Event::Poll { channel }
+            | Event::Hangup { channel } => *channel,
+            Event::Start { .. }
+            | Event::Offer { .. }
+            | Event::Answer { .. }
+            | Event::Decline { .. }
+            | Event::AgentDone { .. } => 0,
         }
     }
 
@@ -39,17 +81,45 @@ impl Event {
                 context,
                 exten,
                 caller,
-            } => {
-                let context = context.clone()?;
-                let exten = exten.clone()?;
-                let caller = caller.clone()?;
-                Ok(Event::Start {
-                    context,
-                    exten,
-                    caller,
-                })
-            }
+            } => copy_start(context, exten, caller),
             Event::Step { channel } => Ok(Event::Step { channel: *channel }),
+            Event::Digit { channel, digit } => Ok(Event::Digit {
+                channel: *channel,
+                digit: *digit,
+            }),
+            Event::Timeout { channel } => Ok(Event::Timeout { channel: *channel }),
+            Event::Poll { channel } => Ok(Event::Poll { channel: *channel }),
+            Event::Hangup { channel } => Ok(Event::Hangup { channel: *channel }),
+            Event::Offer { queue } => {
+                let queue = queue.clone()?;
+                Ok(Event::Offer { queue })
+            }
+            Event::Answer { agent } => {
+                let agent = agent.clone()?;
+                Ok(Event::Answer { agent })
+            }
+            Event::Decline { agent } => {
+                let agent = agent.clone()?;
+                Ok(Event::Decline { agent })
+            }
+            Event::AgentDone { agent } => {
+                let agent = agent.clone()?;
+                Ok(Event::AgentDone { agent })
+            }
         }
     }
+}
+
+/// The start of a call once more.
+fn copy_start(context: &Text, exten: &Text, caller: &Text) -> Result<Event, NoMemory>
+    ensures { IfOk result (λ event. event ≡ Start context.now exten.now caller.now) }
+{
+    let context = context.clone()?;
+    let exten = exten.clone()?;
+    let caller = caller.clone()?;
+    Ok(Event::Start {
+        context,
+        exten,
+        caller,
+    })
 }

@@ -1,20 +1,28 @@
-//! The dialplan machine: channels that step through the priorities of a dialplan, one event after another.
+//! The dialplan machine: channels that step through the priorities of a dialplan, wait in its queues and are ended, one
+//! event after another, over any lawful table of applications.
 #![tactic(auto)]
 
-mod application;
+mod agents;
+mod asked;
 mod channel;
+mod ending;
 mod event;
 mod lookup;
 mod machine;
+mod numbered;
 mod queues;
 mod refusal;
 mod reply;
 mod seen;
 mod shared;
 mod step;
+mod target;
+mod waiting;
 
-pub use channel::{Channel, Phase, Place};
+pub use channel::Channel;
+pub use dp_app::{Phase, Place};
 pub use dp_plan::{Dialplan, EntryId, NoMemory, Text};
+pub use dp_queue::Queues;
 pub use event::Event;
 pub use machine::{MOST_CHANNELS, Machine};
 pub use refusal::Refusal;

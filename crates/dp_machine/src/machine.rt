@@ -1,43 +1,57 @@
 //! The machine: a world that events change one after another.
-ghost use Rattle.std.specs.Prelude.{◌≡◌, ◌+◌, ◌<◌, ◌≤◌, ◌++◌, ◌⊎◌, IfSome, IfNone, IfOk, OnOk, OnErr, true, false, length};
+ghost use Rattle.std.specs.Prelude.{◌≡◌, ◌≤◌, ◌++◌, IfOk, OnOk, OnErr, Some, false, length};
 ghost use Rattle.std.specs.Option.{option_copied, option_map};
 ghost use Rattle.dp_lookup.specs.SearchOrder.{context_count};
+ghost use Rattle.dp_queue.specs.Rest.{IsAtRest};
 ghost use Rattle.dp_machine.specs.Events as spec;
+ghost use Rattle.dp_machine.specs.GoodWorld as good;
 ghost use Rattle.dp_machine.specs.Replay as replay;
 ghost use Rattle.dp_machine.specs.World as worlds;
 
-use crate::channel::{Channel, Phase, Place};
+use crate::agents::{agent_done, answer, decline, offer};
+use crate::asked::Asked;
+use crate::channel::Channel;
 use crate::event::Event;
+use crate::lookup::find;
+use crate::numbered::{channel_at, index_of};
 use crate::refusal::Refusal;
 use crate::reply::Reply;
 use crate::seen::channel_value;
 use crate::shared::{Shared, expand_globals};
 use crate::step::step_channel;
+use crate::waiting::{dial, end_time, hang_up_channel, poll};
+use dp_app::{AppTable, Phase, Place};
 use dp_lookup::SearchOrder;
-use dp_plan::{Dialplan, NoMemory, Text};
+use dp_plan::{Dialplan, EntryId, NoMemory, Text};
+use dp_queue::Queues;
 use dp_vars::Store;
 use std::alloc::Global;
-use std::marker::Model;
+use std::marker::{Model, PhantomData};
 
 /// How many channels a machine has at most.
 pub const MOST_CHANNELS: usize = 65_535;
 
-/// A machine with its dialplan, its channels and what they share. A contract sees it as its world.
+/// A machine over a table of applications, with its dialplan, its channels and what they share. A contract sees it as its
+/// world, which is a good one at all times.
 #[derive(Drop)]
-pub struct Machine {
+pub struct Machine<T> {
     plan: Dialplan,
     // Look-ups search in it and take no memory.
     order: SearchOrder,
+    // The name of the extension at which a hang-up goes on, so that a hang-up behind an application takes no memory.
+    spare: Text,
     channels: Vec<Channel>,
     shared: Shared,
+    table: PhantomData<T>,
 }
 
-impl Model for Machine {
+impl<T> Model for Machine<T> {
     ghost use Rattle.std.specs.Prelude.{◌≤◌, length};
     ghost use Rattle.dp_lookup.specs.SearchOrder.{context_count};
     ghost use Rattle.std.specs.Coded.{codes};
     ghost use Rattle.dp_vars.specs.Variables.{named_code};
-    ghost use Rattle.dp_machine.specs.World.{World, most_channels, world_of};
+    ghost use Rattle.dp_machine.specs.GoodWorld.{IsGoodWorld};
+    ghost use Rattle.dp_machine.specs.World.{World, world_of};
 
     ghost Value = { World };
 
@@ -46,24 +60,8 @@ impl Model for Machine {
     ghost view = { λ machine. world_of machine.plan machine.channels.items machine.shared };
 
     ghost invariant = { λ machine.
-        (length machine.channels.items ≤ most_channels) × (context_count machine.plan ≤ machine.order.room) };
-}
-
-/// Where the channel of a number stands among so many channels.
-fn index_of(number: u32, count: usize) -> Option<usize>
-    ensures index { IfSome result (λ index. (index + 1 ≡ number) × (index < count)) }
-    ensures none { IfNone result ((number ≡ 0) ⊎ (count < number)) }
-{
-    let index = (number as usize).checked_sub(1)?;
-    if index < count { Some(index) } else { None }
-}
-
-/// The channel of a number.
-fn channel_at(channels: &[Channel], number: u32) -> Option<&Channel>
-    ensures { option_copied result ≡ worlds.channel_at channels.now number }
-{
-    let index = index_of(number, channels.len())?;
-    Some(&channels[index])
+        IsGoodWorld (world_of machine.plan machine.channels.items machine.shared)
+        × (context_count machine.plan ≤ machine.order.room) };
 }
 
 /// A call comes in. The event is refused where all numbers of channels were given, and then takes no memory.
@@ -94,53 +92,92 @@ fn start(
     channels.push(Channel {
         place,
         phase: Phase::Ready,
+        is_closing: false,
         caller,
         store: Store::new(alloc),
     })?;
     Ok(Reply::Started(count as u32 + 1))
 }
 
-/// The channel of a number takes its step.
-fn step(
+/// An event of the channel.
+fn ask<T: AppTable>(
     alloc: Global,
     plan: &Dialplan,
     order: &mut SearchOrder,
-    channels: &mut Vec<Channel>,
-    shared: &Shared,
+    shared: &mut Shared,
     number: u32,
+    channel: &mut Channel,
+    spare: &mut Text,
+    asked: Asked,
 ) -> Result<Reply, NoMemory>
-    requires { context_count plan.now ≤ order.old.room }
+    requires room { context_count plan.now ≤ order.old.room }
+    requires good { good.MayAct shared.old number channel.old }
     ensures room { order.new.room ≡ order.old.room }
-    ensures ok { IfOk result (λ reply. spec.own_event (worlds.world_of plan.now channels.old.items shared.now) number spec.step_row
-        (worlds.channel_at channels.old.items number) ≡ (worlds.world_of plan.now channels.new.items shared.now, reply)) }
-    ensures len { length channels.new.items ≡ length channels.old.items }
-    ensures err { OnErr result (channels.new.items ≡ channels.old.items) }
-    ensures memory { OnErr result (spec.needs_memory_by plan.now (worlds.channel_at channels.old.items number) ≡ true) }
+    ensures ok { IfOk result (λ reply. spec.own_row T.rows asked plan.now shared.old number channel.old
+        ≡ record { channel = channel.new; shared = shared.new; reply = reply }) }
+    ensures sound { good.IsSoundIn channel.new.phase channel.new }
+    ensures channel { OnErr result (channel.new ≡ channel.old) }
+    ensures shared { OnErr result (shared.new ≡ shared.old) }
+    ensures refused { OnErr result (spec.is_refused (spec.own_row T.rows asked plan.now shared.old number channel.old).reply ≡ false) }
+{
+    match asked {
+        Asked::Step => step_channel::<T>(alloc, plan, order, shared, number, channel, spare),
+        Asked::Digit(digit) => dial(alloc, plan, order, shared, number, channel, digit),
+        Asked::Timeout => end_time(alloc, plan, order, shared, number, channel, spare),
+        Asked::Poll => poll(alloc, plan, shared, number, channel),
+        Asked::Hangup => hang_up_channel(alloc, plan, order, shared, number, channel, spare),
+    }
+}
+
+/// An event of the channel of a number.
+fn ask_channel<T: AppTable>(
+    alloc: Global,
+    plan: &Dialplan,
+    order: &mut SearchOrder,
+    spare: &mut Text,
+    channels: &mut Vec<Channel>,
+    shared: &mut Shared,
+    number: u32,
+    asked: Asked,
+) -> Result<Reply, NoMemory>
+    requires room { context_count plan.now ≤ order.old.room }
+    requires good { good.IsGoodWorld (worlds.world_of plan.now channels.old.items shared.old) }
+    ensures room { order.new.room ≡ order.old.room }
+    ensures ok { IfOk result (λ reply. spec.own_event (worlds.world_of plan.now channels.old.items shared.old) number (spec.own_row T.rows asked)
+        (worlds.channel_at channels.old.items number) ≡ (worlds.world_of plan.now channels.new.items shared.new, reply)) }
+    ensures sound { OnOk result ((c : Channel) → worlds.channel_at channels.old.items number ≡ Some c
+        → good.IsSoundOwn (spec.own_row T.rows asked plan.now shared.old number c)) }
+    ensures channels { OnErr result (channels.new.items ≡ channels.old.items) }
+    ensures shared { OnErr result (shared.new ≡ shared.old) }
+    ensures refused { OnErr result (spec.is_refused (spec.own_event (worlds.world_of plan.now channels.old.items shared.old) number
+        (spec.own_row T.rows asked) (worlds.channel_at channels.old.items number)).1 ≡ false) }
 {
     let Some(index) = index_of(number, channels.len()) else {
         return Ok(Reply::Refused(Refusal::NoChannel));
     };
     let channel = &mut channels[index];
-    step_channel(alloc, plan, order, shared, number, channel)
+    ask::<T>(alloc, plan, order, shared, number, channel, spare, asked)
 }
 
 /// Applies one event to the parts of a machine.
-fn apply_to(
+fn apply_to<T: AppTable>(
     alloc: Global,
     plan: &Dialplan,
     order: &mut SearchOrder,
+    spare: &mut Text,
     channels: &mut Vec<Channel>,
-    shared: &Shared,
+    shared: &mut Shared,
     event: Event,
 ) -> Result<Reply, NoMemory>
-    requires channels { length channels.old.items ≤ worlds.most_channels }
     requires room { context_count plan.now ≤ order.old.room }
+    requires good { good.IsGoodWorld (worlds.world_of plan.now channels.old.items shared.old) }
     ensures room { order.new.room ≡ order.old.room }
-    ensures ok { IfOk result (λ reply. spec.event_row (worlds.world_of plan.now channels.old.items shared.now) event
-        ≡ (worlds.world_of plan.now channels.new.items shared.now, reply)) }
-    ensures bound { length channels.new.items ≤ worlds.most_channels }
-    ensures err { OnErr result (channels.new.items ≡ channels.old.items) }
-    ensures memory { OnErr result (spec.needs_memory (worlds.world_of plan.now channels.old.items shared.now) event ≡ true) }
+    ensures ok { IfOk result (λ reply. spec.event_row T.rows (worlds.world_of plan.now channels.old.items shared.old) event
+        ≡ (worlds.world_of plan.now channels.new.items shared.new, reply)) }
+    ensures steps { OnOk result (good.StepsSoundly T.rows (worlds.world_of plan.now channels.old.items shared.old) event) }
+    ensures channels { OnErr result (channels.new.items ≡ channels.old.items) }
+    ensures shared { OnErr result (shared.new ≡ shared.old) }
+    ensures refused { OnErr result (spec.is_refused (spec.event_row T.rows (worlds.world_of plan.now channels.old.items shared.old) event).1 ≡ false) }
 {
     match event {
         Event::Start {
@@ -148,47 +185,152 @@ fn apply_to(
             exten,
             caller,
         } => start(alloc, channels, context, exten, caller),
-        Event::Step { channel } => step(alloc, plan, order, channels, shared, channel),
+        Event::Step { channel } => {
+            ask_channel::<T>(
+                alloc,
+                plan,
+                order,
+                spare,
+                channels,
+                shared,
+                channel,
+                Asked::Step,
+            )
+        }
+        Event::Digit { channel, digit } => {
+            let asked = Asked::Digit(digit);
+            ask_channel::<T>(alloc, plan, order, spare, channels, shared, channel, asked)
+        }
+        Event::Timeout { channel } => {
+            ask_channel::<T>(
+                alloc,
+                plan,
+                order,
+                spare,
+                channels,
+                shared,
+                channel,
+                Asked::Timeout,
+            )
+        }
+        Event::Poll { channel } => {
+            ask_channel::<T>(
+                alloc,
+                plan,
+                order,
+                spare,
+                channels,
+                shared,
+                channel,
+                Asked::Poll,
+            )
+        }
+        Event::Hangup { channel } => {
+            ask_channel::<T>(
+                alloc,
+                plan,
+                order,
+                spare,
+                channels,
+                shared,
+                channel,
+                Asked::Hangup,
+            )
+        }
+        Event::Offer { queue } => Ok(offer(shared, queue.bytes())),
+        Event::Answer { agent } => Ok(answer(channels, shared, agent.bytes())),
+        Event::Decline { agent } => Ok(decline(shared, agent.bytes())),
+        Event::AgentDone { agent } => {
+            agent_done(alloc, plan, order, channels, shared, agent.bytes(), spare)
+        }
     }
 }
 
-impl Machine {
-    /// A machine with this dialplan, in which no call has come. The globals are expanded in the order of the file; there
-    /// is no channel then, and what a channel would give is empty (a choice of this program).
-    pub fn new(alloc: Global, plan: Dialplan) -> Result<Self, NoMemory>
-        ensures { IfOk result (λ machine. machine ≡ worlds.opening plan) }
+/// Applies one event to the parts of a machine, whose world stays good.
+fn apply_well<T: AppTable>(
+    alloc: Global,
+    plan: &Dialplan,
+    order: &mut SearchOrder,
+    spare: &mut Text,
+    channels: &mut Vec<Channel>,
+    shared: &mut Shared,
+    event: Event,
+) -> Result<Reply, NoMemory>
+    requires room { context_count plan.now ≤ order.old.room }
+    requires good { good.IsGoodWorld (worlds.world_of plan.now channels.old.items shared.old) }
+    ensures room { order.new.room ≡ order.old.room }
+    ensures ok { IfOk result (λ reply. spec.event_row T.rows (worlds.world_of plan.now channels.old.items shared.old) event
+        ≡ (worlds.world_of plan.now channels.new.items shared.new, reply)) }
+    ensures good { good.IsGoodWorld (worlds.world_of plan.now channels.new.items shared.new) }
+    ensures channels { OnErr result (channels.new.items ≡ channels.old.items) }
+    ensures shared { OnErr result (shared.new ≡ shared.old) }
+    ensures refused { OnErr result (spec.is_refused (spec.event_row T.rows (worlds.world_of plan.now channels.old.items shared.old) event).1 ≡ false) }
+{
+    shared.queues.are_good();
+    apply_to::<T>(alloc, plan, order, spare, channels, shared, event)
+}
+
+/// The entry that the next step of the channel would run.
+fn next_entry_of(
+    alloc: Global,
+    plan: &Dialplan,
+    channel: &Channel,
+) -> Result<Option<EntryId>, NoMemory>
+    ensures { IfOk result (λ entry. entry ≡ spec.next_in channel.now.phase plan.now channel.now) }
+{
+    match channel.phase {
+        Phase::Ready => {
+            let mut order = SearchOrder::room(alloc, plan)?;
+            let found = find(plan, &mut order, &channel.place);
+            Ok(found.map(|found| found.id))
+        }
+        Phase::Digits { .. }
+        | Phase::Pause
+        | Phase::Queued { .. }
+        | Phase::Talking { .. }
+        | Phase::Ended => Ok(None),
+    }
+}
+
+impl<T: AppTable> Machine<T> {
+    /// A machine with this dialplan and these queues, in which no call has come: nobody waits in the queues, and no agent
+    /// rings or talks. The globals are expanded in the order of the file; there is no channel then, and what a channel would
+    /// give is empty (a choice of this program).
+    pub fn new(alloc: Global, plan: Dialplan, queues: Queues) -> Result<Self, NoMemory>
+        requires { IsAtRest queues }
+        ensures { IfOk result (λ machine. machine ≡ worlds.opening plan queues) }
     {
         let order = SearchOrder::room(alloc, &plan)?;
         let globals = expand_globals(alloc, plan.globals())?;
+        let spare = Text::copy_of(alloc, b"h")?;
         Ok(Machine {
             plan,
             order,
+            spare,
             channels: Vec::new(alloc),
-            shared: Shared { globals },
+            shared: Shared { globals, queues },
+            table: PhantomData,
         })
     }
 
-    /// Applies one event, and gives the reply. A refused event changes nothing. A call that comes in takes memory, and a
-    /// step that runs `Goto` or has arguments with `${` or `$[` in them, and nothing else does; where memory is refused
+    /// Applies one event, and gives the reply. A refused event changes nothing and takes no memory. Where memory is refused
     /// the machine is as before.
     pub fn apply(&mut self, alloc: Global, event: Event) -> Result<Reply, NoMemory>
-        ensures ok { IfOk result (λ reply. spec.event_row self.old event ≡ (self.new, reply)) }
+        ensures ok { IfOk result (λ reply. spec.event_row T.rows self.old event ≡ (self.new, reply)) }
+        ensures good { good.IsGoodWorld self.new }
         ensures err { OnErr result (self.new ≡ self.old) }
-        ensures memory { OnErr result (spec.needs_memory self.old event ≡ true) }
-        ensures refused { OnErr result (spec.is_refused (spec.event_row self.old event).1 ≡ false) }
+        ensures refused { OnErr result (spec.is_refused (spec.event_row T.rows self.old event).1 ≡ false) }
     {
-        let plan = &self.plan;
-        let shared = &self.shared;
-        apply_to(
+        apply_well::<T>(
             alloc,
-            plan,
+            &self.plan,
             &mut self.order,
+            &mut self.spare,
             &mut self.channels,
-            shared,
+            &mut self.shared,
             event,
         )
     }
-
     /// Applies the events one after another, and adds the reply to each at the end of the replies. Where memory is
     /// refused it stops: the replies say how many events were applied.
     pub fn run(
@@ -197,9 +339,9 @@ impl Machine {
         events: &[Event],
         replies: &mut Vec<Reply>,
     ) -> Result<(), NoMemory>
-        ensures replies { OnOk result (replies.new.items ≡ replies.old.items ++ replay.replies_to self.old events.now) }
-        ensures world { OnOk result (self.new ≡ replay.world_after self.old events.now) }
-        ensures first { replay.RanFirst self.old events.now replies.old.items replies.new.items self.new }
+        ensures replies { OnOk result (replies.new.items ≡ replies.old.items ++ replay.replies_to T.rows self.old events.now) }
+        ensures world { OnOk result (self.new ≡ replay.world_after T.rows self.old events.now) }
+        ensures first { replay.RanFirst T.rows self.old events.now replies.old.items replies.new.items self.new }
     {
         for event in events {
             let event = event.copy()?;
@@ -239,6 +381,33 @@ impl Machine {
             Some(found) => channel_value(alloc, &self.shared, channel, found, name),
             None => Ok(Vec::new(alloc)),
         }
+    }
+
+    /// The entry that the next step of the channel of this number would run, or None where it would run none: the channel is
+    /// not ready or not there, or stands where no entry is.
+    ///
+    /// The error comes only where a growth was refused.
+    pub fn next_entry(&self, alloc: Global, channel: u32) -> Result<Option<EntryId>, NoMemory>
+        ensures { IfOk result (λ entry. entry ≡ spec.next_entry self.now channel) }
+    {
+        match channel_at(&self.channels, channel) {
+            Some(found) => next_entry_of(alloc, &self.plan, found),
+            None => Ok(None),
+        }
+    }
+
+    /// The queues with their agents and the count of finished calls.
+    pub fn queues(&self) -> &Queues
+        ensures { result.now ≡ self.now.shared.queues }
+    {
+        &self.shared.queues
+    }
+
+    /// What is true at all times: channels, waiting lists and agents say the same of who waits and who talks. It does nothing.
+    pub fn is_good(&self)
+        ensures { good.IsGoodWorld self.now }
+    {
+        let _plan = &self.plan;
     }
 
     /// The dialplan in force.

@@ -1,10 +1,10 @@
-//! Queues, of which a machine has none.
+//! Queues before the first call.
 ghost use Rattle.std.specs.Prelude.{◌≡◌, ℕ, List};
 ghost use Rattle.dp_machine.specs.Seen as seen;
 
 use dp_vars::Counts;
 
-/// No queues: nobody waits in any.
+/// What the globals see of queues while they are expanded: nobody waits in any.
 #[derive(Clone, Copy, Debug)]
 pub(crate) struct NoQueues;
 

@@ -7,10 +7,28 @@ ghost use Rattle.dp_machine.specs.Codes.{refusal_code, refusal_name};
 pub enum Refusal {
     /// No channel has the number.
     NoChannel,
+    /// The channel waits, and takes no step.
+    NotReady,
+    /// The channel waits for nothing that the event could be.
+    NotWaiting,
+    /// The channel waits in a queue without a time-out.
+    NoTimer,
+    /// There is no queue of the name.
+    NoQueue,
+    /// No channel waits in the queue for which no agent rings.
+    NobodyWaiting,
+    /// No member of the queue may be chosen.
+    NoMember,
+    /// The agent does not ring.
+    NotRinging,
+    /// The agent does not talk.
+    NotTalking,
     /// The channel has ended.
     Ended,
     /// All 65,535 numbers of channels were given.
     NumbersSpent,
+    /// The byte is no digit of a telephone.
+    BadDigit,
 }
 
 impl Refusal {
@@ -20,8 +38,17 @@ impl Refusal {
     {
         match self {
             Refusal::NoChannel => 40,
+            Refusal::NotReady => 41,
+            Refusal::NotWaiting => 42,
+            Refusal::NoTimer => 43,
+            Refusal::NoQueue => 44,
+            Refusal::NobodyWaiting => 45,
+            Refusal::NoMember => 46,
+            Refusal::NotRinging => 47,
+            Refusal::NotTalking => 48,
             Refusal::Ended => 49,
             Refusal::NumbersSpent => 50,
+            Refusal::BadDigit => 51,
         }
     }
 
@@ -31,8 +58,17 @@ impl Refusal {
     {
         match self {
             Refusal::NoChannel => "NoChannel",
+            Refusal::NotReady => "NotReady",
+            Refusal::NotWaiting => "NotWaiting",
+            Refusal::NoTimer => "NoTimer",
+            Refusal::NoQueue => "NoQueue",
+            Refusal::NobodyWaiting => "NobodyWaiting",
+            Refusal::NoMember => "NoMember",
+            Refusal::NotRinging => "NotRinging",
+            Refusal::NotTalking => "NotTalking",
             Refusal::Ended => "Ended",
             Refusal::NumbersSpent => "NumbersSpent",
+            Refusal::BadDigit => "BadDigit",
         }
     }
 }

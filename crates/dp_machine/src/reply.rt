@@ -12,8 +12,14 @@ pub enum Reply {
     Started(u32),
     /// The application of this entry was run.
     Ran(EntryId),
-    /// No entry stands where the channel stands, and the call is over.
+    /// The extension is not there, and the channel went to the extension `i` of its context.
+    Invalid,
+    /// No entry stands where the channel stands, and it is hung up.
     NoEntry,
+    /// A call of this channel rings at so many agents.
+    Offered { channel: u32, rung: usize },
+    /// The event was taken.
+    Done,
     /// The event was refused, and nothing has changed.
     Refused(Refusal),
 }

@@ -1,23 +1,20 @@
 //! What the texts of a channel see.
 ghost use Rattle.std.specs.Prelude.{◌≡◌, IfOk, Some};
+ghost use Rattle.dp_queue.specs.Joining.{waiting_count};
 ghost use Rattle.dp_vars.specs.Sights.{maps_of, sight_of};
 ghost use Rattle.dp_machine.specs.Seen as spec;
 
-use crate::channel::{Channel, Place};
-use crate::queues::NoQueues;
+use crate::channel::Channel;
 use crate::shared::Shared;
+use dp_app::Place;
 use dp_plan::NoMemory;
+use dp_queue::Queues;
 use dp_vars::{ChannelSeen, Scope, expand_text, value_of};
 use std::alloc::Global;
 
 /// What the texts of the channel of this number see.
-fn scope_of<'a>(
-    shared: &'a Shared,
-    queues: &'a NoQueues,
-    number: u32,
-    channel: &'a Channel,
-) -> Scope<'a, Place, NoQueues>
-    ensures sight { sight_of (λ _. spec.none_waiting) result ≡ spec.sight_in shared.now number channel.now }
+fn scope_of<'a>(shared: &'a Shared, number: u32, channel: &'a Channel) -> Scope<'a, Place, Queues>
+    ensures sight { sight_of (λ queues. waiting_count queues.queues) result ≡ spec.sight_in shared.now number channel.now }
     ensures maps { maps_of result ≡ spec.maps_in shared.now number channel.now }
 {
     Scope {
@@ -30,7 +27,7 @@ fn scope_of<'a>(
         }),
         store: Some(&channel.store),
         globals: &shared.globals,
-        counts: queues,
+        counts: &shared.queues,
     }
 }
 
@@ -45,8 +42,7 @@ pub(crate) fn expand_arguments(
 ) -> Result<Vec<u8>, NoMemory>
     ensures { IfOk result (λ bytes. bytes.items ≡ spec.arguments_seen shared.now number channel.now arguments.now) }
 {
-    let queues = NoQueues;
-    let scope = scope_of(shared, &queues, number, channel);
+    let scope = scope_of(shared, number, channel);
     let bytes = expand_text(alloc, arguments, &scope)?;
     Ok(bytes)
 }
@@ -61,7 +57,6 @@ pub(crate) fn channel_value(
 ) -> Result<Vec<u8>, NoMemory>
     ensures { IfOk result (λ value. value.items ≡ spec.value_seen shared.now number (Some channel.now) name.now) }
 {
-    let queues = NoQueues;
-    let scope = scope_of(shared, &queues, number, channel);
+    let scope = scope_of(shared, number, channel);
     value_of(alloc, &scope, name)
 }

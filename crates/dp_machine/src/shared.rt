@@ -3,16 +3,18 @@ ghost use Rattle.std.specs.Prelude.{◌≡◌, IfOk, OnOk};
 ghost use Rattle.dp_vars.specs.Sights.{sight_of};
 ghost use Rattle.dp_machine.specs.Seen as seen;
 
-use crate::channel::Place;
 use crate::queues::NoQueues;
+use dp_app::Place;
 use dp_plan::{GlobalVariable, NoMemory};
+use dp_queue::Queues;
 use dp_vars::{Globals, Scope, expand_text};
 use std::alloc::Global;
 
-/// What all channels share: the global variables.
+/// What all channels share: the global variables, and the queues.
 #[derive(Drop)]
 pub struct Shared {
     pub globals: Globals,
+    pub queues: Queues,
 }
 
 /// What the value of a global sees: the globals before it, and no channel.

@@ -1,183 +1,290 @@
-//! The step of a channel.
-ghost use Rattle.std.specs.Prelude.{◌≡◌, ◌+◌, ◌^◌, ◌<◌, ◌≤◌, IfOk, OnErr, Some, true};
-ghost use Rattle.dp_machine.specs.Applications.{row_of};
+//! The step of a channel, after the Asterisk documentation's pages on dialplans and on their special extensions.
+ghost use Rattle.std.specs.Prelude.{◌≡◌, ◌+◌, ◌^◌, ◌<◌, ◌≤◌, IfOk, OnErr, OnOk, Some, false, codes};
+ghost use Rattle.dp_app.specs.Laws.{IsLawful, MayRun, most_priority};
+ghost use Rattle.dp_app.specs.Rows.{dispatched};
+ghost use Rattle.dp_app.specs.declared.phase.Phase.TheVariants.{Ready};
+ghost use Rattle.dp_lookup.specs.SearchOrder.{context_count};
+ghost use Rattle.dp_machine.specs.Channels as channels;
 ghost use Rattle.dp_machine.specs.Events as spec;
 ghost use Rattle.dp_machine.specs.Found.{entry_found};
+ghost use Rattle.dp_machine.specs.GoodWorld.{IsSoundIn, MayAct};
 ghost use Rattle.dp_machine.specs.Seen.{arguments_seen};
-ghost use Rattle.dp_lookup.specs.SearchOrder.{context_count};
 
-use crate::application::{Move, Target, Wanted, dispatch};
-use crate::channel::{Channel, Phase, Place};
-use crate::lookup::{Found, find, find_label};
+use crate::channel::Channel;
+use crate::ending::{hang_up, make_ready};
+use crate::lookup::{Found, find, is_found};
 use crate::refusal::Refusal;
 use crate::reply::Reply;
 use crate::seen::expand_arguments;
 use crate::shared::Shared;
+use crate::target::land;
+use dp_app::{AppTable, Cell, Move, Phase, Place};
 use dp_lookup::SearchOrder;
-use dp_plan::{Dialplan, Entry, NoMemory};
-use dp_vars::has_opening;
+use dp_plan::{Dialplan, Entry, NoMemory, Text};
+use dp_queue::Queues;
+use dp_vars::{Globals, Store, has_opening};
 use std::alloc::Global;
+use std::mem;
 
-/// The priority that a target asks for, in the dialplan.
-fn resolve(plan: &Dialplan, order: &mut SearchOrder, target: &Target) -> Option<u32>
-    requires { context_count plan.now ≤ order.old.room }
-    ensures priority { result ≡ spec.resolved plan.now target.now target.now.priority }
-    ensures room { order.new.room ≡ order.old.room }
+/// Takes the parts of a channel and of what all channels share into a cell, and leaves empty ones that take no memory.
+fn carve(alloc: Global, number: u32, channel: &mut Channel, shared: &mut Shared) -> Cell
+    ensures cell { result ≡ spec.cell_of shared.old number channel.old }
+    ensures phase { channel.new.phase ≡ channel.old.phase }
+    ensures closing { channel.new.is_closing ≡ channel.old.is_closing }
 {
-    match &target.priority {
-        Wanted::Number(number) => Some(*number),
-        Wanted::Label(label) => find_label(plan, order, &target.context, &target.exten, label),
+    let nowhere = Place {
+        context: Text::new(Vec::new(alloc)),
+        exten: Text::new(Vec::new(alloc)),
+        priority: 0,
+    };
+    Cell {
+        number,
+        place: mem::replace(&mut channel.place, nowhere),
+        is_closing: channel.is_closing,
+        caller: mem::replace(&mut channel.caller, Text::new(Vec::new(alloc))),
+        store: mem::replace(&mut channel.store, Store::new(alloc)),
+        globals: mem::replace(&mut shared.globals, Globals::new(alloc)),
+        queues: mem::replace(&mut shared.queues, Queues::none(alloc)),
     }
 }
 
-/// Moves the channel to the target, or ends it where the target asks for a label that is not found.
-fn land(plan: &Dialplan, order: &mut SearchOrder, channel: &mut Channel, target: Target)
-    requires { context_count plan.now ≤ order.old.room }
-    ensures channel { channel.new ≡ spec.landed channel.old target (spec.resolved plan.now target target.priority) }
-    ensures room { order.new.room ≡ order.old.room }
+/// Puts the parts of a cell back.
+fn put_back(cell: Cell, channel: &mut Channel, shared: &mut Shared)
+    ensures channel { channel.new ≡ record channel.old { place = cell.place; caller = cell.caller; store = cell.store } }
+    ensures shared { shared.new ≡ record { globals = cell.globals; queues = cell.queues } }
 {
-    let Some(priority) = resolve(plan, order, &target) else {
-        channel.phase = Phase::Ended;
-        return;
-    };
-    let Target {
-        context,
-        exten,
-        priority: _,
-    } = target;
-    channel.place = Place {
-        context,
-        exten,
-        priority,
-    };
+    let Cell {
+        number: _,
+        place,
+        is_closing: _,
+        caller,
+        store,
+        globals,
+        queues,
+    } = cell;
+    channel.place = place;
+    channel.caller = caller;
+    channel.store = store;
+    shared.globals = globals;
+    shared.queues = queues;
 }
 
 /// Moves the channel, behind an application that a table may lack.
-fn go(plan: &Dialplan, order: &mut SearchOrder, channel: &mut Channel, going: Option<Move>)
-    requires priority { channel.old.place.priority + 1 < 2 ^ 32 }
+fn go(
+    plan: &Dialplan,
+    order: &mut SearchOrder,
+    channel: &mut Channel,
+    going: Option<Move>,
+    spare: &mut Text,
+)
+    requires priority { channel.old.place.priority ≤ most_priority }
     requires room { context_count plan.now ≤ order.old.room }
-    ensures channel { channel.new ≡ spec.went plan.now channel.old going }
+    requires spare { spare.old ≡ codes "h" }
+    ensures channel { channel.new ≡ channels.went plan.now channel.old going }
     ensures room { order.new.room ≡ order.old.room }
 {
     match going {
-        Some(Move::Next) => channel.place.priority += 1,
-        Some(Move::Jump(target)) => land(plan, order, channel, target),
-        Some(Move::Hang) => channel.phase = Phase::Ended,
-        None => channel.phase = Phase::Ended,
+        Some(Move::Next) => go_on(channel),
+        Some(Move::Jump(target)) => land(plan, order, channel, target, spare),
+        Some(Move::Park(phase)) => channel.phase = phase,
+        Some(Move::Hang) => hang_up(plan, order, channel, spare),
+        None => hang_up(plan, order, channel, spare),
     }
 }
 
-/// Where the channel of this number goes behind the application of an entry, whose arguments are expanded first.
-fn move_expanded(
-    alloc: Global,
-    shared: &Shared,
-    number: u32,
-    channel: &Channel,
-    entry: &Entry,
-) -> Result<Option<Move>, NoMemory>
-    ensures { IfOk result (λ going. going
-        ≡ row_of entry.now.application (arguments_seen shared.now number channel.now entry.now.arguments) channel.now.place) }
+/// Makes the channel ready at its next priority.
+pub(crate) fn go_on(channel: &mut Channel)
+    requires { channel.old.place.priority ≤ most_priority }
+    ensures { channel.new ≡ channels.going_on channel.old }
 {
-    let arguments = expand_arguments(alloc, shared, number, channel, entry.arguments.bytes())?;
-    let going = dispatch(alloc, entry.application.bytes(), &arguments, &channel.place)?;
-    Ok(going)
+    channel.place.priority += 1;
+    channel.phase = Phase::Ready;
 }
 
-/// Where the channel of this number goes behind the application of an entry. Arguments in which nothing opens a group
-/// are taken as they stand, and then only `Goto` takes memory.
-#[tactic(auto, unfolding(crate::specs::Seen::arguments_seen))]
-fn move_of(
+/// Runs the application of this name on its expanded arguments, for the channel of this number, where the table has it.
+fn run_application<T: AppTable>(
     alloc: Global,
-    shared: &Shared,
+    shared: &mut Shared,
     number: u32,
-    channel: &Channel,
+    channel: &mut Channel,
+    name: &[u8],
+    arguments: &[u8],
+) -> Result<Option<Move>, NoMemory>
+    requires { MayRun (spec.cell_of shared.old number channel.old) }
+    ensures ok { IfOk result (λ going. spec.applied channel.old (dispatched (T.rows name.now) arguments.now (spec.cell_of shared.old number channel.old))
+        ≡ record { channel = channel.new; shared = shared.new; going = going }) }
+    ensures channel { OnErr result (channel.new ≡ channel.old) }
+    ensures shared { OnErr result (shared.new ≡ shared.old) }
+{
+    let mut cell = carve(alloc, number, channel, shared);
+    let going = T::dispatch(alloc, name, arguments, &mut cell);
+    put_back(cell, channel, shared);
+    going
+}
+
+/// Runs the application of the entry, whose arguments are expanded first. Arguments in which nothing opens a group are
+/// taken as they stand.
+#[tactic(auto, unfolding(crate::specs::Seen::arguments_seen))]
+fn run_entry<T: AppTable>(
+    alloc: Global,
+    shared: &mut Shared,
+    number: u32,
+    channel: &mut Channel,
     entry: &Entry,
 ) -> Result<Option<Move>, NoMemory>
-    ensures ok { IfOk result (λ going. going
-        ≡ row_of entry.now.application (arguments_seen shared.now number channel.now entry.now.arguments) channel.now.place) }
-    ensures memory { OnErr result (spec.entry_needs_memory entry.now ≡ true) }
+    requires { MayRun (spec.cell_of shared.old number channel.old) }
+    ensures ok { IfOk result (λ going. spec.applied channel.old (dispatched (T.rows entry.now.application)
+        (arguments_seen shared.old number channel.old entry.now.arguments) (spec.cell_of shared.old number channel.old))
+        ≡ record { channel = channel.new; shared = shared.new; going = going }) }
+    ensures channel { OnErr result (channel.new ≡ channel.old) }
+    ensures shared { OnErr result (shared.new ≡ shared.old) }
 {
+    let name = entry.application.bytes();
     let arguments = entry.arguments.bytes();
     if has_opening(arguments) {
-        return move_expanded(alloc, shared, number, channel, entry);
+        let arguments = expand_arguments(alloc, shared, number, channel, arguments)?;
+        return run_application::<T>(alloc, shared, number, channel, name, &arguments);
     }
-    let going = dispatch(alloc, entry.application.bytes(), arguments, &channel.place)?;
-    Ok(going)
+    run_application::<T>(alloc, shared, number, channel, name, arguments)
 }
 
-/// Runs the entry that stands where the channel stands.
-fn run_entry(
+/// A step where no entry is found: to the extension `i` if the extension is not there at all, else a hang-up.
+#[tactic(auto, using(crate::proofs::StepLemmas::hung_up_sound), unfolding(crate::specs::Events::unfound))]
+fn step_unfound(
     alloc: Global,
     plan: &Dialplan,
     order: &mut SearchOrder,
     shared: &Shared,
-    number: u32,
     channel: &mut Channel,
-    found: Found<'_>,
+    spare: &mut Text,
 ) -> Result<Reply, NoMemory>
-    requires priority { channel.old.place.priority + 1 < 2 ^ 32 }
-    requires room { context_count plan.now ≤ order.old.room }
+    requires { context_count plan.now ≤ order.old.room }
     ensures room { order.new.room ≡ order.old.room }
-    ensures ok { IfOk result (λ reply. spec.step_at plan.now shared.now number channel.old
-        (Some (record { id = found.entry.id; entry = found.entry.entry.now }))
+    ensures ok { IfOk result (λ reply. spec.unfound plan.now shared.now channel.old
         ≡ record { channel = channel.new; shared = shared.now; reply = reply }) }
     ensures err { OnErr result (channel.new ≡ channel.old) }
-    ensures memory { OnErr result (spec.entry_needs_memory found.entry.entry.now ≡ true) }
+    ensures sound { OnOk result (IsSoundIn channel.new.phase channel.new) }
 {
-    let going = move_of(alloc, shared, number, channel, found.entry)?;
-    go(plan, order, channel, going);
+    if is_invalid(plan, order, &channel.place) {
+        go_to_invalid(alloc, channel)?;
+        return Ok(Reply::Invalid);
+    }
+    make_ready(alloc, spare)?;
+    hang_up(plan, order, channel, spare);
+    Ok(Reply::NoEntry)
+}
+
+/// Whether the extension of a place is not there, and `i` is found in its context.
+fn is_invalid(plan: &Dialplan, order: &mut SearchOrder, place: &Place) -> bool
+    requires { context_count plan.now ≤ order.old.room }
+    ensures invalid { result ≡ channels.is_invalid plan.now place.now }
+    ensures room { order.new.room ≡ order.old.room }
+{
+    if is_found(plan, order, &place.context, place.exten.bytes(), 1) {
+        return false;
+    }
+    is_found(plan, order, &place.context, b"i", 1)
+}
+
+/// Makes the channel ready at the extension `i` of its context, which reads what was dialled.
+fn go_to_invalid(alloc: Global, channel: &mut Channel) -> Result<(), NoMemory>
+    ensures ok { OnOk result (channel.new ≡ channels.invalid channel.old) }
+    ensures err { OnErr result (channel.new ≡ channel.old) }
+{
+    let exten = Text::copy_of(alloc, b"i")?;
+    channel
+        .store
+        .set(alloc, b"INVALID_EXTEN", channel.place.exten.bytes())?;
+    channel.place.exten = exten;
+    channel.place.priority = 1;
+    channel.phase = Phase::Ready;
+    Ok(())
+}
+
+/// Runs the entry that stands where the channel stands.
+fn step_found<T: AppTable>(
+    alloc: Global,
+    plan: &Dialplan,
+    order: &mut SearchOrder,
+    shared: &mut Shared,
+    number: u32,
+    channel: &mut Channel,
+    spare: &mut Text,
+    found: Found<'_>,
+) -> Result<Reply, NoMemory>
+    requires may_run { MayRun (spec.cell_of shared.old number channel.old) }
+    requires room { context_count plan.now ≤ order.old.room }
+    ensures room { order.new.room ≡ order.old.room }
+    ensures ok { IfOk result (λ reply. spec.step_at T.rows plan.now shared.old number channel.old
+        (Some (record { id = found.entry.id; entry = found.entry.entry.now }))
+        ≡ record { channel = channel.new; shared = shared.new; reply = reply }) }
+    ensures channel { OnErr result (channel.new ≡ channel.old) }
+    ensures shared { OnErr result (shared.new ≡ shared.old) }
+    ensures sound { OnOk result (IsSoundIn channel.new.phase channel.new) }
+{
+    make_ready(alloc, spare)?;
+    let going = run_entry::<T>(alloc, shared, number, channel, found.entry)?;
+    go(plan, order, channel, going, spare);
     Ok(Reply::Ran(found.id))
 }
 
 /// A step of a channel that is ready.
-fn step_ready(
+#[tactic(auto, using(crate::proofs::StepLemmas::ready_may_run))]
+fn step_ready<T: AppTable>(
     alloc: Global,
     plan: &Dialplan,
     order: &mut SearchOrder,
-    shared: &Shared,
+    shared: &mut Shared,
     number: u32,
     channel: &mut Channel,
+    spare: &mut Text,
 ) -> Result<Reply, NoMemory>
-    requires { context_count plan.now ≤ order.old.room }
+    requires room { context_count plan.now ≤ order.old.room }
+    requires act { MayAct shared.old number channel.old }
+    requires ready { channel.old.phase ≡ Ready }
     ensures room { order.new.room ≡ order.old.room }
-    ensures ok { IfOk result (λ reply. spec.step_at plan.now shared.now number channel.old (entry_found plan.now channel.old.place)
-        ≡ record { channel = channel.new; shared = shared.now; reply = reply }) }
-    ensures err { OnErr result (channel.new ≡ channel.old) }
-    ensures memory { OnErr result (spec.needs_memory_at (entry_found plan.now channel.old.place) ≡ true) }
+    ensures ok { IfOk result (λ reply. spec.step_at T.rows plan.now shared.old number channel.old (entry_found plan.now channel.old.place)
+        ≡ record { channel = channel.new; shared = shared.new; reply = reply }) }
+    ensures channel { OnErr result (channel.new ≡ channel.old) }
+    ensures shared { OnErr result (shared.new ≡ shared.old) }
+    ensures sound { OnOk result (IsSoundIn channel.new.phase channel.new) }
 {
     match find(plan, order, &channel.place) {
         Some(found) => {
-            // The entry's priority is the channel's, so that one more is a number too.
+            // The channel stands at the entry's priority, which is at most 2,147,483,647.
             let _ = found.entry.priority.get();
-            run_entry(alloc, plan, order, shared, number, channel, found)
+            step_found::<T>(alloc, plan, order, shared, number, channel, spare, found)
         }
-        None => {
-            channel.phase = Phase::Ended;
-            Ok(Reply::NoEntry)
-        }
+        None => step_unfound(alloc, plan, order, shared, channel, spare),
     }
 }
 
-/// A step of the channel of this number. Only one that runs `Goto`, or has arguments in which something opens a group,
-/// takes memory.
+/// A step of the channel of this number. One that is not ready takes none.
 #[tactic(auto, unfolding(crate::specs::Events::step_row))]
-pub(crate) fn step_channel(
+pub(crate) fn step_channel<T: AppTable>(
     alloc: Global,
     plan: &Dialplan,
     order: &mut SearchOrder,
-    shared: &Shared,
+    shared: &mut Shared,
     number: u32,
     channel: &mut Channel,
+    spare: &mut Text,
 ) -> Result<Reply, NoMemory>
-    requires { context_count plan.now ≤ order.old.room }
+    requires room { context_count plan.now ≤ order.old.room }
+    requires act { MayAct shared.old number channel.old }
     ensures room { order.new.room ≡ order.old.room }
-    ensures ok { IfOk result (λ reply. spec.step_row plan.now shared.now number channel.old
-        ≡ record { channel = channel.new; shared = shared.now; reply = reply }) }
-    ensures err { OnErr result (channel.new ≡ channel.old) }
-    ensures memory { OnErr result (spec.needs_memory_by plan.now (Some channel.old) ≡ true) }
+    ensures ok { IfOk result (λ reply. spec.step_row T.rows plan.now shared.old number channel.old
+        ≡ record { channel = channel.new; shared = shared.new; reply = reply }) }
+    ensures channel { OnErr result (channel.new ≡ channel.old) }
+    ensures shared { OnErr result (shared.new ≡ shared.old) }
+    ensures refused { OnErr result (spec.is_refused (spec.step_row T.rows plan.now shared.old number channel.old).reply ≡ false) }
+    ensures sound { IsSoundIn channel.new.phase channel.new }
 {
     match channel.phase {
-        Phase::Ready => step_ready(alloc, plan, order, shared, number, channel),
+        Phase::Ready => step_ready::<T>(alloc, plan, order, shared, number, channel, spare),
+        Phase::Digits { .. } | Phase::Pause | Phase::Queued { .. } | Phase::Talking { .. } => {
+            Ok(Reply::Refused(Refusal::NotReady))
+        }
         Phase::Ended => Ok(Reply::Refused(Refusal::Ended)),
     }
 }

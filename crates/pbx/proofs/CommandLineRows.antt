@@ -33,9 +33,13 @@ matched_dashes : asked_of (codes "pbx" ∷ codes "match" ∷ codes "--" ∷ code
 unfolding clap_on_literals asked_of
 matched_dashes = refl
 
-ran : asked_of (codes "pbx" ∷ codes "run" ∷ codes "a.conf" ∷ codes "b.script" ∷ []) ≡ Some (run (codes "a.conf") (codes "b.script"))
+ran : asked_of (codes "pbx" ∷ codes "run" ∷ codes "a.conf" ∷ codes "b.script" ∷ []) ≡ Some (run (codes "a.conf") None (codes "b.script"))
 unfolding clap_on_literals asked_of
 ran = refl
+
+ran_with_queues : asked_of (codes "pbx" ∷ codes "run" ∷ codes "--queues" ∷ codes "q.conf" ∷ codes "a.conf" ∷ codes "b.script" ∷ []) ≡ Some (run (codes "a.conf") (Some (codes "q.conf")) (codes "b.script"))
+unfolding clap_on_literals asked_of
+ran_with_queues = refl
 
 -- words that are refused, and words that are not
 no_fault : fault_of pbx_app (codes "pbx" ∷ codes "check" ∷ codes "a.conf" ∷ []) ≡ []

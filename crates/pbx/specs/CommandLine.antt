@@ -9,7 +9,7 @@ use Rattle.dp_conf.specs.Words.{same_text}
 use Rattle.dp_commands.specs.Script.{number_within}
 use Rattle.dp_plan.specs.Priority.{most_priority}
 use Rattle.pbx.specs.declared.command_line.Request.{Request}
-use Rattle.pbx.specs.declared.command_line.Request.TheVariants.{Joined, Check, Listing, Match, Run}
+use Rattle.pbx.specs.declared.command_line.Request.TheVariants.{Joined, Check, Listing, Match, Run, QueueRun}
 
 -- a word that has to be given
 abbrev pub required_word : List ℕ → Rule
@@ -18,6 +18,10 @@ required_word name = record (new_rule name) { required = true }
 -- a word that may be left out, with what stands for it then
 abbrev pub word_or : List ℕ → List ℕ → Rule
 word_or name default = record (new_rule name) { defaults = default ∷ [] }
+
+-- a word that may be given behind `--` and a name
+abbrev pub named_word : List ℕ → List ℕ → Rule
+named_word name long = record (new_rule name) { long = Some long }
 
 -- `check FILE`
 abbrev pub check_app : App
@@ -34,10 +38,11 @@ match_app =
     (required_word (codes "FILE"))) (required_word (codes "CONTEXT"))) (required_word (codes "TEXT")))
     (word_or (codes "PRIORITY") (codes "1"))
 
--- `run FILE SCRIPT`
+-- `run [--queues QUEUES] FILE SCRIPT`
 abbrev pub run_app : App
 run_app =
-    with_rule (with_rule (new_app (codes "run")) (required_word (codes "FILE"))) (required_word (codes "SCRIPT"))
+    with_rule (with_rule (with_rule (new_app (codes "run")) (named_word (codes "QUEUES") (codes "queues")))
+    (required_word (codes "FILE"))) (required_word (codes "SCRIPT"))
 
 -- the program's commands
 abbrev pub pbx_app : App
@@ -51,7 +56,7 @@ pub data Asked : Type 0 where
   check : List ℕ → Asked
   listing : List ℕ → Asked
   matching : List ℕ → List ℕ → List ℕ → ℕ → Asked
-  run : List ℕ → List ℕ → Asked
+  run : List ℕ → Option (List ℕ) → List ℕ → Asked
 
 -- what a request asks for
 abbrev pub asked : Request → Asked
@@ -59,7 +64,8 @@ asked Joined = joined
 asked (Check file) = check file.now
 asked (Listing file) = listing file.now
 asked (Match file context text priority) = matching file.now context.now text.now priority
-asked (Run file script) = run file.now script.now
+asked (Run file script) = run file.now None script.now
+asked (QueueRun file queues script) = run file.now (Some queues.now) script.now
 
 -- the priority that a word writes: digits, and a number from 1 to the greatest priority
 abbrev pub priority_in : List ℕ → Option ℕ
@@ -87,7 +93,8 @@ match_asked words =
 -- what `run` asks for, by its words
 abbrev pub run_asked : List Row → Option Asked
 run_asked words =
-    option_and_then (λ file. option_map (run file) (first_of (codes "SCRIPT") words)) (first_of (codes "FILE") words)
+    option_and_then (λ file. option_map (run file (first_of (codes "QUEUES") words)) (first_of (codes "SCRIPT") words))
+    (first_of (codes "FILE") words)
 
 -- what a command of a name asks for, by its words
 abbrev pub command_asked : List ℕ → List Row → Option Asked

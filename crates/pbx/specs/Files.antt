@@ -7,8 +7,8 @@ use Rattle.dp_commands.specs.Joined.{joined_plan, joined_script}
 use Rattle.dp_commands.specs.Report.{Reports, check_of, list_of, match_of}
 use Rattle.dp_commands.specs.Run.{Writes, run_of}
 use Rattle.pbx.specs.declared.command_line.Request.{Request}
-use Rattle.pbx.specs.declared.command_line.Request.TheVariants.{Joined, Check, Listing, Match, Run as run_request}
-use Rattle.dp_commands.specs.declared.fault.Code.TheVariants.{Line, Name, Plan, ReadFailed, TooLong, WriteFailed, BadScript}
+use Rattle.pbx.specs.declared.command_line.Request.TheVariants.{Joined, Check, Listing, Match, Run as run_request, QueueRun}
+use Rattle.dp_commands.specs.declared.fault.Code.TheVariants.{Line, Name, Plan, Queue, ReadFailed, TooLong, WriteFailed, BadScript}
 use Rattle.dp_commands.specs.declared.fault.PbxFault.{PbxFault}
 use Rattle.dp_commands.specs.declared.fault.PbxFault.TheVariants.{Coded, NoMemory}
 
@@ -21,6 +21,7 @@ abbrev pub length_reason : PbxFault → Option PbxFault
 length_reason (Coded (Line kind) line) = None
 length_reason (Coded (Name fault) line) = None
 length_reason (Coded (Plan kind) line) = None
+length_reason (Coded (Queue kind) line) = None
 length_reason (Coded ReadFailed line) = None
 length_reason (Coded TooLong line) = Some (Coded TooLong line)
 length_reason (Coded WriteFailed line) = None
@@ -32,6 +33,7 @@ abbrev pub is_read_fault : PbxFault → Bool
 is_read_fault (Coded (Line kind) line) = false
 is_read_fault (Coded (Name fault) line) = false
 is_read_fault (Coded (Plan kind) line) = false
+is_read_fault (Coded (Queue kind) line) = false
 is_read_fault (Coded ReadFailed None) = true
 is_read_fault (Coded ReadFailed (Some line)) = false
 is_read_fault (Coded TooLong None) = true
@@ -53,13 +55,20 @@ ReportsOn file report old new result =
 abbrev pub RunsJoined : Option (List ℕ) → Option (List ℕ) → Option (List ℕ) → Result ℕ PbxFault → Type 0
 RunsJoined input old new result =
     (bytes : List ℕ) → input ≡ Some bytes
-    → OrReadFails old new result (Writes old new (whole_text bytes >>= λ text. run_of (joined_plan text) (joined_script text)) result)
+    → OrReadFails old new result (Writes old new (whole_text bytes >>= λ text. run_of (joined_plan text) None (joined_script text)) result)
 
--- what a run of a script's file on a dialplan's file writes and answers; both are read before the first fault of a text
-abbrev pub RunsFiles : Option (List ℕ) → Option (List ℕ) → Option (List ℕ) → Option (List ℕ) → Result ℕ PbxFault → Type 0
-RunsFiles file script old new result =
+-- what a run of a script's file on a dialplan's file, with a file of queues or without one, writes and answers; all are read
+-- before the first fault of a text
+abbrev pub RunsFiles : Option (List ℕ) → Option (Option (List ℕ)) → Option (List ℕ) → Option (List ℕ) → Option (List ℕ) → Result ℕ PbxFault → Type 0
+RunsFiles file None script old new result =
     (plan_bytes script_bytes : List ℕ) → file ≡ Some plan_bytes → script ≡ Some script_bytes
-    → OrReadFails old new result (Writes old new (whole_text plan_bytes >>= λ plan. whole_text script_bytes >>= run_of plan) result)
+    → OrReadFails old new result
+    (Writes old new (whole_text plan_bytes >>= λ plan. whole_text script_bytes >>= λ script. run_of plan None script) result)
+RunsFiles file (Some queues) script old new result =
+    (plan_bytes queue_bytes script_bytes : List ℕ) → file ≡ Some plan_bytes → queues ≡ Some queue_bytes → script ≡ Some script_bytes
+    → OrReadFails old new result
+    (Writes old new (whole_text plan_bytes >>= λ plan. whole_text queue_bytes >>= λ queues. whole_text script_bytes >>= λ script.
+    run_of plan (Some queues) script) result)
 
 -- what a request writes and answers, by the bytes of the files of its paths and of the input, where they are known
 abbrev pub Serves : (List ℕ → Option (List ℕ)) → Option (List ℕ) → Request → Option (List ℕ) → Option (List ℕ) → Result ℕ PbxFault → Type 0
@@ -68,4 +77,6 @@ Serves files input (Check file) old new result = ReportsOn (files file.now) chec
 Serves files input (Listing file) old new result = ReportsOn (files file.now) list_of old new result
 Serves files input (Match file context text priority) old new result =
     ReportsOn (files file.now) (λ plan. match_of plan context.now text.now priority) old new result
-Serves files input (run_request file script) old new result = RunsFiles (files file.now) (files script.now) old new result
+Serves files input (run_request file script) old new result = RunsFiles (files file.now) None (files script.now) old new result
+Serves files input (QueueRun file queues script) old new result =
+    RunsFiles (files file.now) (Some (files queues.now)) (files script.now) old new result

@@ -42,6 +42,12 @@ pub enum Request<'a> {
         file: &'a str,
         script: &'a str,
     },
+    /// `run --queues QUEUES FILE SCRIPT`: to run a script on a dialplan, with the queues of a file.
+    QueueRun {
+        file: &'a str,
+        queues: &'a str,
+        script: &'a str,
+    },
 }
 
 /// What the help says below the commands.
@@ -90,9 +96,18 @@ Example:
 
 /// What the help of `run` says below its words.
 const RUN_NOTES: &str = "\
-A script has one event a line: `start CONTEXT EXTEN [CALLER]` for a call that comes in, and `step CHANNEL [COUNT]` for
-steps of a channel. `show CHANNEL NAME` prints a variable. Channels are numbered from 1 as they start. Prints a line for
-each event.
+A script has one event a line. Channels are numbered from 1 as they start, queues and agents are named:
+  start CONTEXT EXTEN [CALLER]   a call comes in
+  step CHANNEL [COUNT]           the channel takes so many steps
+  digit CHANNEL D                the caller dials a digit
+  timeout CHANNEL                what the channel waits for does not come in time
+  poll CHANNEL                   the channel leaves its queue, if that is too empty
+  hangup CHANNEL                 the caller hangs up
+  offer QUEUE                    a call of the queue rings at agents
+  answer AGENT, decline AGENT    the agent takes the call that it rings for, or not
+  done AGENT                     the agent is done with its call
+  show CHANNEL NAME              prints a variable
+Prints a line for each of them.
 
 Example:
   $ cat calls.script
@@ -141,6 +156,22 @@ fn with_optional<'a>(
     ensures local { IfOk result (λ with. (fields_of with).has_globals ≡ (fields_of command.entry).has_globals) }
 {
     let word = Arg::new(alloc, name).help(help).default_value(default);
+    let with = command.arg(word)?;
+    Ok(with)
+}
+
+/// The command with one more word, which may be given behind `--` and a name.
+fn with_named<'a>(
+    alloc: Global,
+    command: Command<'a>,
+    name: &'a str,
+    long: &'a str,
+    help: &'a str,
+) -> Result<Command<'a>, NoMemory>
+    ensures app { IfOk result (λ with. app_of with ≡ with_rule (app_of command.entry) (spec.named_word name.now long.now)) }
+    ensures local { IfOk result (λ with. (fields_of with).has_globals ≡ (fields_of command.entry).has_globals) }
+{
+    let word = Arg::new(alloc, name).long(long).help(help);
     let with = command.arg(word)?;
     Ok(with)
 }
@@ -224,6 +255,13 @@ fn run_command<'a>(alloc: Global) -> Result<Command<'a>, NoMemory>
         "Run a script of events on a dialplan, and print the trace",
         RUN_NOTES,
     );
+    let run = with_named(
+        alloc,
+        run,
+        "QUEUES",
+        "queues",
+        "The queues, as queues.conf; without it there are none",
+    )?;
     let run = with_required(alloc, run, "FILE", DIALPLAN_HELP)?;
     let run = with_required(alloc, run, "SCRIPT", "The script of events")?;
     Ok(run)
@@ -328,10 +366,16 @@ fn match_at<'a>(given: &ArgMatches<'a>, priority: Priority) -> Option<Request<'a
 fn run_request<'a>(given: &ArgMatches<'a>) -> Option<Request<'a>>
     ensures { option_map spec.asked result ≡ spec.run_asked (rows_of (found_of given.now)) }
 {
-    Some(Request::Run {
-        file: word_of(given, "FILE")?,
-        script: word_of(given, "SCRIPT")?,
-    })
+    let file = word_of(given, "FILE")?;
+    let script = word_of(given, "SCRIPT")?;
+    match word_of(given, "QUEUES") {
+        None => Some(Request::Run { file, script }),
+        Some(queues) => Some(Request::QueueRun {
+            file,
+            queues,
+            script,
+        }),
+    }
 }
 
 /// What the words of a command ask for, or None where one that is required is missing.

@@ -1,5 +1,5 @@
 //! What the program does with its command line.
-ghost use Rattle.std.specs.Prelude.{◌≡◌, ◌≢◌, ◌||◌, ◌++◌, [], OnOk, IfOk, decimal, codes, false};
+ghost use Rattle.std.specs.Prelude.{◌≡◌, ◌≢◌, ◌||◌, ◌++◌, [], OnOk, IfOk, decimal, codes, false, None, Some};
 ghost use Rattle.std.specs.Result.{is_err};
 ghost use Rattle.std.specs.Io.KnownBytes.{Appends};
 ghost use Rattle.clap.specs.Faults.{fault_of};
@@ -96,13 +96,32 @@ fn serve_run<F: ReadFiles, W: WriteTold>(
     script: &str,
     output: &mut W,
 ) -> Result<u8, PbxFault>
-    ensures serves { files_spec.RunsFiles (F.bytes_at files.now file.now) (F.bytes_at files.now script.now)
+    ensures serves { files_spec.RunsFiles (F.bytes_at files.now file.now) None (F.bytes_at files.now script.now)
         (W.contents output.old) (W.contents output.new) result }
     ensures told { W.has_failed output.new ≡ (W.has_failed output.old || is_write_failed result) }
 {
     let plan = files.read_file(alloc, file)?;
     let script = files.read_file(alloc, script)?;
-    run_script(alloc, &plan, &script, output)
+    run_script(alloc, &plan, None, &script, output)
+}
+
+/// Runs the script of a file on the dialplan of another, with the queues of a third.
+fn serve_queue_run<F: ReadFiles, W: WriteTold>(
+    files: &F,
+    alloc: Global,
+    file: &str,
+    queues: &str,
+    script: &str,
+    output: &mut W,
+) -> Result<u8, PbxFault>
+    ensures serves { files_spec.RunsFiles (F.bytes_at files.now file.now) (Some (F.bytes_at files.now queues.now))
+        (F.bytes_at files.now script.now) (W.contents output.old) (W.contents output.new) result }
+    ensures told { W.has_failed output.new ≡ (W.has_failed output.old || is_write_failed result) }
+{
+    let plan = files.read_file(alloc, file)?;
+    let queues = files.read_file(alloc, queues)?;
+    let script = files.read_file(alloc, script)?;
+    run_script(alloc, &plan, Some(&queues), &script, output)
 }
 
 /// Does what was asked for, and gives the status: the files are read first, and then their texts.
@@ -128,6 +147,11 @@ fn serve<F: ReadFiles, I: ReadTold, W: WriteTold>(
             priority,
         } => serve_match(files, alloc, file, context, text, priority, output),
         Request::Run { file, script } => serve_run(files, alloc, file, script, output),
+        Request::QueueRun {
+            file,
+            queues,
+            script,
+        } => serve_queue_run(files, alloc, file, queues, script, output),
     }
 }
 

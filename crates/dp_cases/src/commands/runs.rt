@@ -135,8 +135,8 @@ const PATTERNS: &str = r"
 [main]\nexten => 123,1,NoOp(one)\nexten => _X.,1,NoOp(other)\nexten => _X.,2,NoOp(two)\n;; script\nstart main 123\nstep 1 3\n→started 1\nran 1 main,123,1 NoOp -> ready main,123,2\nran 1 main,_X.,2 NoOp -> ready main,123,3\nno entry 1 -> ended\nstatus 0
 # The extensions of the exchange are found as any other.
 [main]\nexten => _.,1,NoOp()\n;; script\nstart main s\nstart main i\nstep 1\nstep 2\n→started 1\nstarted 2\nran 1 main,_.,1 NoOp -> ready main,s,2\nran 2 main,_.,1 NoOp -> ready main,i,2\nstatus 0
-# A usual file; the application is none that is there yet.
-[general]\nstatic=yes\nwriteprotect=no\n\n[globals]\nTRUNK=Line/9\n\n[main]\nexten => _NXXXXXX,1,NoOp()\n same => n,NoOp(hello-world)\n same => n(q),Queue(support,c)\nsame => n,Hangup()\ninclude => out\n;; script\nstart main 555-1234\nstep 1 3\n→started 1\nran 1 main,_NXXXXXX,1 NoOp -> ready main,555-1234,2\nran 1 main,_NXXXXXX,2 NoOp -> ready main,555-1234,3\nran 1 main,_NXXXXXX,3 Queue -> ended\nstatus 0
+# A usual file, without its queues.
+[general]\nstatic=yes\nwriteprotect=no\n\n[globals]\nTRUNK=Line/9\n\n[main]\nexten => _NXXXXXX,1,NoOp()\n same => n,NoOp(hello-world)\n same => n(q),Queue(support,c)\nsame => n,Hangup()\ninclude => out\n;; script\nstart main 555-1234\nstep 1 3\n→started 1\nran 1 main,_NXXXXXX,1 NoOp -> ready main,555-1234,2\nran 1 main,_NXXXXXX,2 NoOp -> ready main,555-1234,3\nran 1 main,_NXXXXXX,3 Queue -> ready main,555-1234,4\nstatus 0
 ";
 
 /// Contexts that include others.
@@ -242,7 +242,7 @@ fn check_apart(
     want: &[u8],
 ) -> Result<(), Fail> {
     let mut writer = make_sink(alloc, 4096, None);
-    let ended = run_script(alloc, plan, script, &mut writer);
+    let ended = run_script(alloc, plan, None, script, &mut writer);
     let got = outcome(alloc, ended, writer)?;
     check_outcome(rt, alloc, script, &got, want)
 }

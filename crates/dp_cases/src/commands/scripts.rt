@@ -7,7 +7,7 @@ use dp_machine::Event;
 use std::alloc::Global;
 use std::test::Fail;
 
-/// Lines as `start{CONTEXT}{EXTEN}{CALLER}`, `step{CH}{COUNT}` and `show{CH}{NAME}`, one after another.
+/// Lines as `start{CONTEXT}{EXTEN}{CALLER}`, `step{CH}{COUNT}`, `show{CH}{NAME}` and the like, one after another.
 const LINES: &str = r"
 # Nothing to read.
 →
@@ -34,6 +34,18 @@ step 4294967295 1→step{4294967295}{1}
 step 01 007→step{1}{7}
 step 00000000004294967295 0000100000→step{4294967295}{100000}
 \tstep\x0B2\x0C3\x1F\r→step{2}{3}
+# Other events.
+digit 1 5→digit{1}{5}
+digit 4294967295 *→digit{4294967295}{*}
+digit 01 x→digit{1}{x}
+digit 1 ;→digit{1}{;}
+timeout 1→timeout{1}
+poll 2→poll{2}
+hangup 003→hangup{3}
+offer q→offer{q}
+answer Line/1→answer{Line/1}
+decline ;→decline{;}
+done done→done{done}
 # Values.
 show 1 M→show{1}{M}
 show 0 LEN(x)→show{0}{LEN(x)}
@@ -49,7 +61,7 @@ step 1\nstep 1\nstep 1\n→step{1}{1}step{1}{1}step{1}{1}
 const FAULTY: &str = r"
 # Words that no line begins with.
 jump 1→fault 70 BadScript line 1
-digit 1 5→fault 70 BadScript line 1
+dial 1 5→fault 70 BadScript line 1
 Start a b→fault 70 BadScript line 1
 STEP 1→fault 70 BadScript line 1
 steps 1→fault 70 BadScript line 1
@@ -102,21 +114,33 @@ start a b\njump→fault 70 BadScript line 2
 start a\nb\n→fault 70 BadScript line 1
 ";
 
+fn push_event(out: &mut String, event: &Event) -> Result<(), NoMemory> {
+    match event {
+        Event::Start {
+            context,
+            exten,
+            caller,
+        } => write!(out, "start{{{context}}}{{{exten}}}{{{caller}}}"),
+        Event::Step { .. } => out.push_str("a step with no count"),
+        Event::Digit { channel, digit } => {
+            write!(out, "digit{{{channel}}}{{{}}}", char::from(*digit))
+        }
+        Event::Timeout { channel } => write!(out, "timeout{{{channel}}}"),
+        Event::Poll { channel } => write!(out, "poll{{{channel}}}"),
+        Event::Hangup { channel } => write!(out, "hangup{{{channel}}}"),
+        Event::Offer { queue } => write!(out, "offer{{{queue}}}"),
+        Event::Answer { agent } => write!(out, "answer{{{agent}}}"),
+        Event::Decline { agent } => write!(out, "decline{{{agent}}}"),
+        Event::AgentDone { agent } => write!(out, "done{{{agent}}}"),
+    }
+}
+
 fn push_line(out: &mut String, line: &ScriptLine) -> Result<(), NoMemory> {
     match (&line.turn, line.count) {
-        (
-            Turn::Event(
-                Event::Start {
-                    context,
-                    exten,
-                    caller,
-                },
-            ),
-            1,
-        ) => write!(out, "start{{{context}}}{{{exten}}}{{{caller}}}"),
         (Turn::Event(Event::Step { channel }), count) => {
             write!(out, "step{{{channel}}}{{{count}}}")
         }
+        (Turn::Event(event), 1) => push_event(out, event),
         (Turn::Show { channel, name }, 1) => write!(out, "show{{{channel}}}{{{name}}}"),
         _ => out.push_str("a turn that is taken more than once"),
     }

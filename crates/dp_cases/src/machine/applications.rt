@@ -1,7 +1,7 @@
 //! Applications in a plan of two contexts, with the place of a call behind them and its next step, worked out by hand
 //! from the rules.
-use crate::machine::render::{Given, shown};
-use dp_machine::{Dialplan, Machine};
+use crate::machine::render::{Exchange, Given, shown};
+use dp_machine::{Dialplan, Queues};
 use std::alloc::Global;
 use std::process::Abort;
 use std::test::Fail;
@@ -285,7 +285,7 @@ fn check(
     let want = format!(in alloc;
         "started 1 -> ready main,100,1\nran main,100,1 {name} -> {state}\n{next}\n"
     )?;
-    let mut machine = Machine::new(alloc, plan)?;
+    let mut machine = Exchange::new(alloc, plan, Queues::none(alloc))?;
     let events = [
         Given::Start(b"main", b"100"),
         Given::Step(1),

@@ -1,6 +1,6 @@
 //! Machines, their readers, runs of events, and copies of events.
-use crate::machine::render::{machine_of, push_state, start};
-use dp_machine::{EntryId, Event, Machine, Phase, Refusal, Reply, Text};
+use crate::machine::render::{Exchange, machine_of, push_state, start};
+use dp_machine::{EntryId, Event, Phase, Refusal, Reply, Text};
 use std::alloc::Global;
 use std::process::Abort;
 use std::test::Fail;
@@ -15,7 +15,7 @@ fn ran(context: usize, entry: usize) -> Reply {
 fn check_a_new_machine_has_its_plan_and_no_channel(
     rt: &impl Abort,
     alloc: Global,
-    machine: &Machine,
+    machine: &Exchange,
 ) -> Result<(), Fail> {
     assert_eq!(rt; machine.plan().globals().len(), 1);
     assert_eq!(rt; machine.plan().contexts().len(), 2);
@@ -38,7 +38,7 @@ fn a_new_machine_has_its_plan_and_no_channel(rt: &impl Abort, alloc: Global) -> 
 fn check_channels_are_read_by_their_numbers(
     rt: &impl Abort,
     alloc: Global,
-    machine: &mut Machine,
+    machine: &mut Exchange,
 ) -> Result<(), Fail> {
     for exten in [b"s", b"x"] {
         let call = start(alloc, b"main", exten)?;
@@ -69,7 +69,7 @@ fn channels_are_read_by_their_numbers(rt: &impl Abort, alloc: Global) -> Result<
 fn check_a_run_adds_its_replies(
     rt: &impl Abort,
     alloc: Global,
-    machine: &mut Machine,
+    machine: &mut Exchange,
 ) -> Result<(), Fail> {
     let mut replies = vec![in alloc; Reply::NoEntry]?;
     machine.run(alloc, &[], &mut replies)?;
@@ -121,7 +121,7 @@ fn a_run_adds_its_replies(rt: &impl Abort, alloc: Global) -> Result<(), Fail> {
 fn check_an_event_is_given_again(
     rt: &impl Abort,
     alloc: Global,
-    machine: &mut Machine,
+    machine: &mut Exchange,
 ) -> Result<(), Fail> {
     let events = [
         start(alloc, b"main", b"s")?,
@@ -156,7 +156,7 @@ fn an_event_is_given_again(rt: &impl Abort, alloc: Global) -> Result<(), Fail> {
     check_an_event_is_given_again(rt, alloc, &mut machine)
 }
 
-fn check_a_run_goes_on(rt: &impl Abort, alloc: Global, machine: &mut Machine) -> Result<(), Fail> {
+fn check_a_run_goes_on(rt: &impl Abort, alloc: Global, machine: &mut Exchange) -> Result<(), Fail> {
     let events = [
         start(alloc, b"main", b"s")?,
         Event::Step { channel: 1 },
@@ -202,7 +202,7 @@ fn an_event_is_copied_whole(rt: &impl Abort, alloc: Global) -> Result<(), Fail> 
             assert_eq!(rt; exten.bytes(), b"2-00".as_slice());
             assert_eq!(rt; caller.bytes(), b"555\xFF".as_slice());
         }
-        Event::Step { .. } => assert!(rt; false),
+        _ => assert!(rt; false),
     }
     for channel in [0, 1, u32::MAX] {
         let step = Event::Step { channel };

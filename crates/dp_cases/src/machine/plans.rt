@@ -1,7 +1,7 @@
 //! Dialplans with events and what a machine makes of them, worked out by hand from the rules.
 use crate::machine::render::Given::{Start, Step};
-use crate::machine::render::{Given, shown};
-use dp_machine::{Dialplan, Machine};
+use crate::machine::render::{Exchange, Given, shown};
+use dp_machine::{Dialplan, Queues};
 use std::alloc::Global;
 use std::process::Abort;
 use std::test::Fail;
@@ -14,7 +14,7 @@ fn check(
     want: &str,
 ) -> Result<(), Fail> {
     let (plan, _) = Dialplan::load(alloc, text)?;
-    let mut machine = Machine::new(alloc, plan)?;
+    let mut machine = Exchange::new(alloc, plan, Queues::none(alloc))?;
     let got = shown(alloc, &mut machine, events)?;
     assert_eq!(rt; got.as_str(), want, "of {text:?}");
     Ok(())

@@ -1,12 +1,16 @@
 //! Machines that take the events of a table, and their replies, as lines of text.
-use dp_machine::{Dialplan, EntryId, Event, Machine, NoMemory, Phase, Reply, Text};
+use dp_machine::{Dialplan, EntryId, Event, Machine, NoMemory, Phase, Queues, Reply, Text};
+use dp_table::StandardApps;
 use std::alloc::Global;
 use std::test::Fail;
 
-/// A machine with the dialplan of a text.
-pub(super) fn machine_of(alloc: Global, text: &[u8]) -> Result<Machine, Fail> {
+/// A machine with the applications of the program.
+pub(super) type Exchange = Machine<StandardApps>;
+
+/// A machine with the dialplan of a text, and no queues.
+pub(super) fn machine_of(alloc: Global, text: &[u8]) -> Result<Exchange, Fail> {
     let (plan, _) = Dialplan::load(alloc, text)?;
-    let machine = Machine::new(alloc, plan)?;
+    let machine = Exchange::new(alloc, plan, Queues::none(alloc))?;
     Ok(machine)
 }
 
@@ -81,20 +85,27 @@ fn push_reply(
             out.push_str("ran ")?;
             push_entry(out, alloc, plan, id)
         }
+        Reply::Invalid => out.push_str("invalid"),
         Reply::NoEntry => out.push_str("no entry"),
+        Reply::Offered { channel, rung } => write!(out, "offered {channel} {rung}"),
+        Reply::Done => out.push_str("done"),
         Reply::Refused(refusal) => { write!(out, "refused {} {}", refusal.code(), refusal.name()) }
     }
 }
 
-/// A channel as `ready CONTEXT,EXTEN,PRIORITY` or `ended CONTEXT,EXTEN,PRIORITY`, or `none`.
+/// A channel as the word of its phase with its place, `ready CONTEXT,EXTEN,PRIORITY`, or `none`.
 pub(super) fn push_state(
     out: &mut String,
-    machine: &Machine,
+    machine: &Exchange,
     channel: u32,
 ) -> Result<(), NoMemory> {
     let word = match machine.phase(channel) {
         None => return out.push_str("none"),
         Some(Phase::Ready) => "ready",
+        Some(Phase::Digits { .. }) => "digits",
+        Some(Phase::Pause) => "pause",
+        Some(Phase::Queued { .. }) => "queued",
+        Some(Phase::Talking { .. }) => "talking",
         Some(Phase::Ended) => "ended",
     };
     match machine.place(channel) {
@@ -110,7 +121,7 @@ pub(super) fn push_state(
 /// The reply to each event and the state of its channel behind it, `REPLY -> STATE`, each on a line.
 pub(super) fn shown(
     alloc: Global,
-    machine: &mut Machine,
+    machine: &mut Exchange,
     events: &[Given],
 ) -> Result<String, NoMemory> {
     let mut out = String::new(alloc);

@@ -1,11 +1,11 @@
 //! Worked cases, with their answers.
-use crate::machine::render::{machine_of, push_state, start};
-use dp_machine::{Dialplan, EntryId, Event, MOST_CHANNELS, Machine, Refusal, Reply};
+use crate::machine::render::{Exchange, machine_of, push_state, start};
+use dp_machine::{Dialplan, EntryId, Event, MOST_CHANNELS, Queues, Refusal, Reply};
 use std::alloc::Global;
 use std::process::Abort;
 use std::test::Fail;
 
-fn check_first_run(rt: &impl Abort, alloc: Global, machine: &mut Machine) -> Result<(), Fail> {
+fn check_first_run(rt: &impl Abort, alloc: Global, machine: &mut Exchange) -> Result<(), Fail> {
     let call = start(alloc, b"main", b"100")?;
     let reply = machine.apply(alloc, call)?;
     assert_eq!(rt; reply, Reply::Started(1));
@@ -28,11 +28,11 @@ fn first_run(rt: &impl Abort, alloc: Global) -> Result<(), Fail> {
 exten => 200,1,Hangup()\n";
     let (plan, notes) = Dialplan::load(alloc, text)?;
     assert_eq!(rt; notes.len(), 0);
-    let mut machine = Machine::new(alloc, plan)?;
+    let mut machine = Exchange::new(alloc, plan, Queues::none(alloc))?;
     check_first_run(rt, alloc, &mut machine)
 }
 
-fn check_refusals(rt: &impl Abort, alloc: Global, machine: &mut Machine) -> Result<(), Fail> {
+fn check_refusals(rt: &impl Abort, alloc: Global, machine: &mut Exchange) -> Result<(), Fail> {
     let no_channel = Reply::Refused(Refusal::NoChannel);
     let hung_up = Reply::Ran(EntryId {
         context: 0,
@@ -80,7 +80,7 @@ fn first_run_and_refusals(rt: HostRuntime) -> Result<(), Fail> {
 fn check_numbers_are_spent(
     rt: &impl Abort,
     alloc: Global,
-    machine: &mut Machine,
+    machine: &mut Exchange,
 ) -> Result<(), Fail> {
     assert_eq!(rt; MOST_CHANNELS, 65_535);
     for number in 1..65_536 {

@@ -1,8 +1,8 @@
 //! Dialplans with variables, worked out by hand from the rules.
 use crate::machine::render::Given::{Start, Step};
-use crate::machine::render::{machine_of, push_state, shown};
+use crate::machine::render::{Exchange, machine_of, push_state, shown};
 use crate::table::{Question, check};
-use dp_machine::{Event, Machine, NoMemory, Text};
+use dp_machine::{Event, NoMemory, Text};
 use std::alloc::Global;
 use std::process::Abort;
 use std::test::Fail;
@@ -18,7 +18,7 @@ fn push_bytes(out: &mut String, bytes: &[u8]) -> Result<(), NoMemory> {
 /// The value of a name in a channel, in characters of the numbers of its bytes.
 fn value_of(
     alloc: Global,
-    machine: &Machine,
+    machine: &Exchange,
     channel: u32,
     name: &str,
 ) -> Result<String, NoMemory> {
@@ -41,7 +41,7 @@ fn plan_of(alloc: Global, globals: &str, arguments: &str) -> Result<String, NoMe
 }
 
 /// A machine with such a dialplan, to which a call of `5551234` came.
-fn called(alloc: Global, globals: &str, arguments: &str) -> Result<Machine, Fail> {
+fn called(alloc: Global, globals: &str, arguments: &str) -> Result<Exchange, Fail> {
     let text = plan_of(alloc, globals, arguments)?;
     let mut machine = machine_of(alloc, text.as_bytes())?;
     let call = Event::Start {
@@ -300,7 +300,7 @@ fn nesting_limit(rt: HostRuntime) -> Result<(), Fail> {
 fn check_globals_expanded(
     rt: &impl Abort,
     alloc: Global,
-    machine: &mut Machine,
+    machine: &mut Exchange,
 ) -> Result<(), Fail> {
     let events = [Start(b"main", b"100"), Step(1), Step(1)];
     let got = shown(alloc, machine, &events)?;
@@ -329,7 +329,7 @@ exten => 200,1,NoOp()\n";
 fn check_a_call_sees_itself(
     rt: &impl Abort,
     alloc: Global,
-    machine: &mut Machine,
+    machine: &mut Exchange,
 ) -> Result<(), Fail> {
     let events = [
         Start(b"main", b"1"),

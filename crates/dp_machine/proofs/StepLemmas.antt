@@ -1,0 +1,159 @@
+-- What a lawful table leaves of a channel that takes a step.
+use Rattle.std.proofs.Common.{◌≡◌, ◌≤◌, if◌then◌else◌, codes, ℕ, Bool, true, false, List, length, Option, Some, None, Result, Ok, Err, IfOk, OnErr, refl, sym, ap, subst, ◌∙◌, rules}
+use Rattle.std.specs.declared.alloc.AllocError.{AllocError as NoMemory}
+use Rattle.dp_plan.specs.Plan.{PlanOf}
+use Rattle.dp_app.specs.Laws.{IsGoing, IsLawful, IsLawfulRow, MayGo, MayPark, MayRun, most_priority}
+use Rattle.dp_app.specs.Rows.{Row, Rows, dispatched}
+use Rattle.dp_app.specs.declared.cell.Cell.{Cell}
+use Rattle.dp_app.specs.declared.going.Move.{Move}
+use Rattle.dp_app.specs.declared.going.Move.TheVariants.{Next, Jump, Park, Hang}
+use Rattle.dp_app.specs.declared.phase.Phase.{Phase}
+use Rattle.dp_app.specs.declared.phase.Phase.TheVariants.{Ready, Digits, Pause, Queued, Talking, Ended}
+use Rattle.dp_app.specs.declared.place.Place.{Place}
+use Rattle.dp_app.specs.declared.touch.Touch.{Touch}
+use Rattle.dp_machine.specs.Channels.{hung_up, invalid, is_invalid, landed, moved, ready_in, runs_hang_up, went, without_frames}
+use Rattle.dp_machine.specs.Events.{Applied, Own, applied, cell_of, is_refused, step_at, step_in, step_row, unfound}
+use Rattle.dp_machine.specs.Found.{Located, entry_found}
+use Rattle.dp_machine.specs.GoodWorld.{IsSoundIn, MayAct, queue_in, talk_in}
+use Rattle.dp_machine.specs.Targets.{target_place}
+use Rattle.dp_machine.specs.declared.channel.Channel.{Channel}
+use Rattle.dp_machine.specs.declared.reply.Reply.{Reply}
+use Rattle.dp_machine.specs.declared.reply.Reply.TheVariants.{Invalid, NoEntry}
+use Rattle.dp_machine.specs.declared.shared.Shared.{Shared}
+
+-- the channel behind an application is sound where it goes
+abbrev pub IsSoundBehind : PlanOf → Applied → Type 0
+IsSoundBehind plan behind = IsSoundIn (went plan behind.channel behind.going).phase (went plan behind.channel behind.going)
+
+-- a row that may be lacking is lawful, where it is there
+abbrev pub IsLawfulAt : Touch → Option Row → Type 0
+IsLawfulAt touch row = (meaning : Row) → row ≡ Some meaning → IsLawfulRow touch meaning
+
+-- an application leaves its channel's place
+pub place_dispatched : (touch : Touch) (row : Option Row) → IsLawfulAt touch row → (arguments : List ℕ) (cell : Cell)
+    → (dispatched row arguments cell).0.place ≡ cell.place
+place_dispatched touch None lawful arguments cell = refl
+place_dispatched touch (Some row) lawful arguments cell = ((lawful row refl).keeps arguments cell).place
+
+-- so the place behind it is the place before it
+pub place_kept : (touches : List ℕ → Touch) (rows : Rows) → IsLawful touches rows → (name arguments : List ℕ) (cell behind : Cell) (going : Option Move)
+    → dispatched (rows name) arguments cell ≡ (behind, going) → behind.place ≡ cell.place
+place_kept touches rows lawful name arguments cell behind going e =
+    sym (ap (λ b. b.0.place) e) ∙ place_dispatched (touches name) (rows name) (lawful name) arguments cell
+
+-- a channel with the parts of a cell that an application may change, at its own place
+pub channel_applied : (c emptied now : Channel) (behind : Cell) → emptied.phase ≡ c.phase → emptied.is_closing ≡ c.is_closing → behind.place ≡ c.place
+    → now ≡ record emptied { place = behind.place; caller = behind.caller; store = behind.store }
+    → now ≡ record c { caller = behind.caller; store = behind.store }
+channel_applied c emptied now behind phase closing place e =
+    e ∙ (let r : record emptied { place = behind.place; caller = behind.caller; store = behind.store } ≡ record c { caller = behind.caller; store = behind.store } = search rules in r)
+
+-- what an application leaves of the cell that was taken, put back
+pub applied_kept : (touches : List ℕ → Touch) (rows : Rows) → IsLawful touches rows → (name arguments : List ℕ) (shared : Shared) (number : ℕ) (c : Channel)
+    → (taken behind : Cell) → taken ≡ cell_of shared number c → (now : Channel) (shared_now : Shared)
+    → (behind.place ≡ c.place → now ≡ record c { caller = behind.caller; store = behind.store })
+    → shared_now ≡ record { globals = behind.globals; queues = behind.queues }
+    → (result : Result (Option Move) NoMemory) → IfOk result (λ going. dispatched (rows name) arguments taken ≡ (behind, going))
+    → IfOk result (λ going. applied c (dispatched (rows name) arguments (cell_of shared number c)) ≡ record { channel = now; shared = shared_now; going = going })
+applied_kept touches rows lawful name arguments shared number c taken behind same now shared_now channel_put shared_put (Ok going) ok =
+    let place : taken.place ≡ c.place = ap (λ cell. cell.place) same in
+    let channel : record c { caller = behind.caller; store = behind.store } ≡ now
+    = sym (channel_put (place_kept touches rows lawful name arguments taken behind going ok ∙ place)) in
+    let rest : record { globals = behind.globals; queues = behind.queues } ≡ shared_now = sym shared_put in
+    let all : applied c (behind, going) ≡ record { channel = now; shared = shared_now; going = going } = search (rules, channel, rest) in
+    ap (λ cell. applied c (dispatched (rows name) arguments cell)) (sym same) ∙ ap (applied c) ok ∙ all
+applied_kept touches rows lawful name arguments shared number c taken behind same now shared_now channel_put shared_put (Err e) ok = tt
+
+-- a channel that is hung up is sound
+hung_up_sound_by : (runs : Bool) (c closed : Channel) → closed.phase ≡ Ready
+    → IsSoundIn (if runs then closed else record (without_frames c) { phase = Ended }).phase (if runs then closed else record (without_frames c) { phase = Ended })
+hung_up_sound_by true c closed ready = subst (λ phase. IsSoundIn phase closed) (sym ready) tt
+hung_up_sound_by false c closed ready = refl
+
+pub hung_up_sound : (plan : PlanOf) (c : Channel) → IsSoundIn (hung_up plan c).phase (hung_up plan c)
+unfolding hung_up
+hung_up_sound plan c = hung_up_sound_by (runs_hang_up plan c) c (record (ready_in (without_frames c) (codes "h")) { is_closing = true }) refl
+
+-- and so is one that lands at a place, or nowhere
+pub landed_sound : (plan : PlanOf) (c : Channel) (place : Option Place) → IsSoundIn (landed plan c place).phase (landed plan c place)
+landed_sound plan c None = hung_up_sound plan c
+landed_sound plan c (Some place) = tt
+
+-- one that is parked where an application may park it is sound, if it is not closing and stands at a priority of an entry
+pub parked_sound : (count : ℕ) (phase : Phase) (c : Channel) → MayPark count phase → c.place.priority ≤ most_priority → c.is_closing ≡ false
+    → IsSoundIn phase (record c { phase = phase })
+parked_sound count Ready c may within closing = tt
+parked_sound count (Digits text is_background) c may within closing = (within, closing)
+parked_sound count Pause c may within closing = (within, closing)
+parked_sound count (Queued queue goes_on has_timer) c may within closing = (within, closing)
+parked_sound count (Talking queue agent goes_on) c may within closing = absurd may
+parked_sound count Ended c may within closing = absurd may
+
+-- a closing channel is never parked
+closed_false : (closing : Bool) (phase : Phase) → (closing ≡ true → IsGoing (Park phase)) → closing ≡ false
+closed_false true phase closes = absurd (closes refl)
+closed_false false phase closes = refl
+
+-- a channel that an application sends somewhere by the laws is sound
+pub moved_sound : (plan : PlanOf) (count : ℕ) (c : Channel) (going : Move) → MayGo count going → (c.is_closing ≡ true → IsGoing going)
+    → c.place.priority ≤ most_priority → IsSoundIn (moved plan c going).phase (moved plan c going)
+moved_sound plan count c Next may closes within = tt
+moved_sound plan count c (Jump target) may closes within = landed_sound plan c (target_place plan c.place target)
+moved_sound plan count c (Park phase) may closes within = parked_sound count phase c may within (closed_false c.is_closing phase closes)
+moved_sound plan count c Hang may closes within = hung_up_sound plan c
+
+-- a channel that ran an application is sound where it goes
+applied_sound : (plan : PlanOf) (touch : Touch) (row : Option Row) → IsLawfulAt touch row → (arguments : List ℕ) (shared : Shared) (number : ℕ) (c : Channel)
+    → c.place.priority ≤ most_priority → IsSoundBehind plan (applied c (dispatched row arguments (cell_of shared number c)))
+applied_sound plan touch None lawful arguments shared number c within = hung_up_sound plan c
+applied_sound plan touch (Some row) lawful arguments shared number c within =
+    let laws : IsLawfulRow touch row = lawful row refl in
+    let cell : Cell = cell_of shared number c in
+    moved_sound plan (length shared.queues.queues) (applied c (dispatched (Some row) arguments cell)).channel (row arguments cell).next
+    (laws.parks arguments cell) (laws.closes arguments cell) within
+
+pub went_sound : (touches : List ℕ → Touch) (rows : Rows) → IsLawful touches rows → (plan : PlanOf) (name arguments : List ℕ) (shared : Shared) (number : ℕ) (c : Channel)
+    → c.place.priority ≤ most_priority → (behind : Applied) → applied c (dispatched (rows name) arguments (cell_of shared number c)) ≡ behind
+    → (now : Channel) → now ≡ went plan behind.channel behind.going → IsSoundIn now.phase now
+went_sound touches rows lawful plan name arguments shared number c within behind ran now gone =
+    subst (λ n. IsSoundIn n.phase n) (sym gone)
+    (subst (IsSoundBehind plan) ran (applied_sound plan (touches name) (rows name) (lawful name) arguments shared number c within))
+
+-- a step where no entry is found is not refused
+unfound_taken_by : (invalid : Bool) (went other : Own) → is_refused went.reply ≡ false → is_refused other.reply ≡ false
+    → is_refused (if invalid then went else other).reply ≡ false
+unfound_taken_by true went other a b = a
+unfound_taken_by false went other a b = b
+
+pub unfound_taken : (plan : PlanOf) (shared : Shared) (c : Channel) → is_refused (unfound plan shared c).reply ≡ false
+unfolding unfound
+unfound_taken plan shared c =
+    unfound_taken_by (is_invalid plan c.place) (record { channel = invalid c; shared = shared; reply = Invalid })
+    (record { channel = hung_up plan c; shared = shared; reply = NoEntry }) refl refl
+
+-- a step of a channel that is ready is not refused
+found_taken : (rows : Rows) (plan : PlanOf) (shared : Shared) (number : ℕ) (c : Channel) (found : Option Located)
+    → is_refused (step_at rows plan shared number c found).reply ≡ false
+found_taken rows plan shared number c None = unfound_taken plan shared c
+found_taken rows plan shared number c (Some found) = refl
+
+pub step_taken : (rows : Rows) (plan : PlanOf) (shared : Shared) (number : ℕ) (c : Channel) → c.phase ≡ Ready
+    → is_refused (step_row rows plan shared number c).reply ≡ false
+unfolding step_row
+step_taken rows plan shared number c ready =
+    subst (λ phase. is_refused (step_in rows phase plan shared number c).reply ≡ false) (sym ready)
+    (found_taken rows plan shared number c (entry_found plan c.place))
+
+-- what holds always holds where memory is refused
+pub on_refused : (P : Type 0) (result : Result Reply NoMemory) → P → OnErr result P
+on_refused P (Ok reply) p = tt
+on_refused P (Err fault) p = p
+
+-- a ready channel at a priority of an entry may run an application
+pub ready_may_run : (shared : Shared) (number : ℕ) (c : Channel) → MayAct shared number c → c.phase ≡ Ready → c.place.priority ≤ most_priority
+    → MayRun (cell_of shared number c)
+ready_may_run shared number c act ready within = record {
+  within = within;
+  waits = act.waits ∙ ap queue_in ready;
+  talks = act.silent (ap talk_in ready);
+}

@@ -1,0 +1,184 @@
+-- The world is good before the first call, and stays good behind each event.
+use Rattle.std.proofs.Common.{◌≡◌, ℕ, zero, suc, ◌+◌, ◌-◌, ◌<◌, ◌==◌, nat_lt, Bool, true, false, List, [], ◌∷◌, ◌++◌, Option, Some, None, refl, sym, ap, ◌∙◌, arith, slice_get, subst, length, if◌then◌else◌, Result, Ok, Err, IfOk, OnOk, OnErr}
+use Rattle.std.proofs.Common.{length-append}
+use Rattle.std.proofs.lemmas.Option.{none-some}
+use Rattle.dp_queue.specs.Good.{IsGood}
+use Rattle.dp_queue.specs.Queues.{QueuesOf}
+use Rattle.dp_queue.specs.Rest.{IsAtRest}
+use Rattle.dp_queue.proofs.RestLemmas.{state_at-at_rest, waits_in-at_rest}
+use Rattle.dp_plan.specs.Plan.{PlanOf}
+use Rattle.dp_app.specs.Laws.{IsLawful}
+use Rattle.dp_app.specs.Rows.{Rows}
+use Rattle.dp_app.specs.declared.touch.Touch.{Touch}
+use Rattle.dp_machine.specs.Events.{Own, digit_row, entered, event_row, hang_up_row, opened, own_event, owned, poll_row, started, step_row, timeout_row}
+use Rattle.dp_machine.specs.GoodWorld.{AreTied, IsGoodWorld, IsSoundAt, IsSoundOwn, StepsSoundly, queue_of, talk_of}
+use Rattle.dp_machine.specs.World.{World, channel_at, most_channels, opening, world_of}
+use Rattle.dp_machine.specs.declared.channel.Channel.{Channel}
+use Rattle.dp_machine.specs.declared.event.Event.{Event}
+use Rattle.dp_machine.specs.declared.event.Event.TheVariants.{Start, Step, Digit, Timeout, Poll, Hangup, Offer, Answer, Decline, AgentDone}
+use Rattle.dp_machine.specs.declared.refusal.Refusal.TheVariants.{NumbersSpent}
+use Rattle.dp_machine.specs.declared.reply.Reply.{Reply}
+use Rattle.dp_machine.specs.declared.reply.Reply.TheVariants.{Refused, Started}
+use Rattle.dp_machine.specs.declared.shared.Shared.{Shared}
+use Rattle.dp_machine.proofs.TieApps.{IsTied, step-ties}
+use Rattle.dp_machine.proofs.TieLemmas.{Ties}
+use Rattle.dp_machine.proofs.TieQueues.{talking_not_idle, ties-self}
+use Rattle.dp_machine.proofs.TieRows.{Acts, digit-acts, hang_up_row-acts, poll_row-acts, timeout_row-acts}
+use Rattle.dp_machine.proofs.TieServed.{good-agent_done, good-answered, good-changed, good-declined, good-offered}
+use borrow.Author.Tests.{ltb-true}
+
+-- where there is no channel, none has a number
+none-at : (m : ℕ) → channel_at [] m ≡ None
+none-at m = by (m == 0)
+  where
+    by : (b : Bool) → (if b then None else slice_get {X = Channel} [] (m - 1)) ≡ None
+    by true = refl
+    by false = refl
+
+-- before the first call
+pub good-opening : (plan : PlanOf) (queues : QueuesOf) → IsAtRest queues → IsGoodWorld (opening plan queues)
+good-opening plan queues rest = record {
+  within = omega arith;
+  tied = record {
+    waits = λ m. waits_in-at_rest queues.queues rest.nobody_waits m ∙ sym (ap queue_of (none-at m));
+    talking = λ agent queue m is. absurd (talking_not_idle queue m (sym (state_at-at_rest queues.agents rest.all_idle agent) ∙ is));
+    talks = λ agent queue m is. absurd (none-some (queue, agent) (sym (ap talk_of (none-at m)) ∙ is));
+    sound = λ m. subst IsSoundAt (sym (none-at m)) tt;
+  };
+}
+
+-- what holds of the channels with one more, whose place was empty
+get-push : (P : Option Channel → Type 0) (xs : List Channel) (i : ℕ) (x : Channel) → P (slice_get xs i) → (slice_get xs i ≡ None → P (Some x))
+    → P (slice_get (xs ++ x ∷ []) i)
+get-push P [] zero x old new = new refl
+get-push P [] (suc i) x old new = old
+get-push P (y ∷ xs) zero x old new = old
+get-push P (y ∷ xs) (suc i) x old new = get-push P xs i x old new
+
+at-push : (P : Option Channel → Type 0) (channels : List Channel) (m : ℕ) (x : Channel) → P (channel_at channels m)
+    → (channel_at channels m ≡ None → P (Some x)) → P (channel_at (channels ++ x ∷ []) m)
+at-push P channels m x = by (m == 0)
+  where
+    by : (b : Bool) → P (if b then None else slice_get channels (m - 1)) → ((if b then None else slice_get channels (m - 1)) ≡ None → P (Some x))
+        → P (if b then None else slice_get (channels ++ x ∷ []) (m - 1))
+    by true old new = old
+    by false old new = get-push P channels (m - 1) x old new
+
+-- channels stay tied where one more comes that neither waits nor talks
+tied-opened : (channels : List Channel) (queues : QueuesOf) (context exten caller : List ℕ) → AreTied channels queues
+    → AreTied (channels ++ opened context exten caller ∷ []) queues
+tied-opened channels queues context exten caller tied = record {
+  waits = λ m. tied.waits m ∙ sym (queues_same m);
+  talking = λ agent queue m is. talks_same m ∙ tied.talking agent queue m is;
+  talks = λ agent queue m is. tied.talks agent queue m (sym (talks_same m) ∙ is);
+  sound = λ m. at-push IsSoundAt channels m (opened context exten caller) (tied.sound m) (λ none. tt);
+}
+  where
+    queues_same : (m : ℕ) → queue_of (channel_at (channels ++ opened context exten caller ∷ []) m) ≡ queue_of (channel_at channels m)
+    queues_same m = at-push (λ o. queue_of o ≡ queue_of (channel_at channels m)) channels m (opened context exten caller) refl
+        (λ none. sym (ap queue_of none))
+
+    talks_same : (m : ℕ) → talk_of (channel_at (channels ++ opened context exten caller ∷ []) m) ≡ talk_of (channel_at channels m)
+    talks_same m = at-push (λ o. talk_of o ≡ talk_of (channel_at channels m)) channels m (opened context exten caller) refl
+        (λ none. sym (ap talk_of none))
+
+-- a call comes in
+pub good-started : (w : World) (context exten caller : List ℕ) → IsGoodWorld w → IsGoodWorld (entered w (started w.channels context exten caller)).0
+unfolding started
+good-started w context exten caller good = by (nat_lt (length w.channels) most_channels) refl
+  where
+    by : (b : Bool) → nat_lt (length w.channels) most_channels ≡ b
+        → IsGoodWorld (entered w (if b then (record { channels = w.channels ++ opened context exten caller ∷ []; reply = Started (length w.channels + 1) })
+        else (record { channels = w.channels; reply = Refused NumbersSpent }))).0
+    by true fits = record {
+      within = let room : length w.channels < most_channels = ltb-true (length w.channels) most_channels fits in
+          omega (arith, room, length-append w.channels (opened context exten caller ∷ []));
+      tied = tied-opened w.channels w.shared.queues context exten caller good.tied;
+    }
+    by false full = record { within = good.within; tied = good.tied }
+
+-- the event of a channel behind which it is tied and sound
+pub good-owned : (w : World) (number : ℕ) (c : Channel) (own : Own) → IsGoodWorld w → channel_at w.channels number ≡ Some c
+    → IsTied number w.shared.queues own → IsSoundOwn own → IsGoodWorld (owned w number own).0
+good-owned w number c own good here ties sound = good-changed w number c own.channel own.shared good here ties sound
+
+module _ (w : World) (number : ℕ) (c : Channel) (good : IsGoodWorld w) (linked : IsGood w.shared.queues) (here : channel_at w.channels number ≡ Some c) where
+  -- what is known of the channel before
+  ties : Ties number w.shared.queues w.shared.queues c.phase
+  ties = ties-self w.channels w.shared.queues number c good.tied here
+
+  -- an event behind which the channel acts
+  acted : (own : Own) → Acts number w.shared.queues own → IsGoodWorld (owned w number own).0
+  acted own acts = good-owned w number c own good here acts.ties acts.sound
+
+  -- a digit
+  pub good-digit : (digit : ℕ) → IsGoodWorld (owned w number (digit_row digit w.plan w.shared number c)).0
+  good-digit digit = acted (digit_row digit w.plan w.shared number c)
+      (digit-acts w.plan w.shared number c linked ties (subst IsSoundAt here (good.tied.sound number)) digit)
+
+  -- the end of a time
+  pub good-timeout : IsGoodWorld (owned w number (timeout_row w.plan w.shared number c)).0
+  good-timeout = acted (timeout_row w.plan w.shared number c)
+      (timeout_row-acts w.plan w.shared number c linked ties (subst IsSoundAt here (good.tied.sound number)))
+
+  -- a question of a channel whether it is to leave
+  pub good-poll : IsGoodWorld (owned w number (poll_row w.plan w.shared number c)).0
+  good-poll = acted (poll_row w.plan w.shared number c)
+      (poll_row-acts w.plan w.shared number c linked ties (subst IsSoundAt here (good.tied.sound number)))
+
+  -- a hang-up
+  pub good-hang_up : IsGoodWorld (owned w number (hang_up_row w.plan w.shared number c)).0
+  good-hang_up = acted (hang_up_row w.plan w.shared number c)
+      (hang_up_row-acts w.plan w.shared number c linked ties (subst IsSoundAt here (good.tied.sound number)))
+
+  -- a step over a lawful table, behind which the channel is sound
+  pub good-step : (touches : List ℕ → Touch) (rows : Rows) → IsLawful touches rows → IsSoundOwn (step_row rows w.plan w.shared number c)
+      → IsGoodWorld (owned w number (step_row rows w.plan w.shared number c)).0
+  good-step touches rows lawful sound = good-owned w number c (step_row rows w.plan w.shared number c) good here
+      (step-ties w.plan w.shared number c ties touches rows lawful) sound
+
+-- the event of a channel that there may not be
+pub good-own_event : (w : World) (number : ℕ) (row : PlanOf → Shared → ℕ → Channel → Own) → IsGoodWorld w
+    → ((c : Channel) → channel_at w.channels number ≡ Some c → IsGoodWorld (owned w number (row w.plan w.shared number c)).0)
+    → IsGoodWorld (own_event w number row (channel_at w.channels number)).0
+good-own_event w number row good acts = by (channel_at w.channels number) refl
+  where
+    by : (o : Option Channel) → channel_at w.channels number ≡ o → IsGoodWorld (own_event w number row o).0
+    by None here = good
+    by (Some c) here = acts c here
+
+-- the world stays good behind each event, over a lawful table
+pub good-event : (touches : List ℕ → Touch) (rows : Rows) (w : World) (event : Event) → IsLawful touches rows → IsGood w.shared.queues → IsGoodWorld w
+    → StepsSoundly rows w event → IsGoodWorld (event_row rows w event).0
+good-event touches rows w (Start context exten caller) lawful linked good steps = good-started w context exten caller good
+good-event touches rows w (Step number) lawful linked good steps = good-own_event w number (step_row rows) good
+    (λ c here. good-step w number c good linked here touches rows lawful (steps c here))
+good-event touches rows w (Digit number digit) lawful linked good steps = good-own_event w number (digit_row digit) good
+    (λ c here. good-digit w number c good linked here digit)
+good-event touches rows w (Timeout number) lawful linked good steps = good-own_event w number timeout_row good
+    (λ c here. good-timeout w number c good linked here)
+good-event touches rows w (Poll number) lawful linked good steps = good-own_event w number poll_row good
+    (λ c here. good-poll w number c good linked here)
+good-event touches rows w (Hangup number) lawful linked good steps = good-own_event w number hang_up_row good
+    (λ c here. good-hang_up w number c good linked here)
+good-event touches rows w (Offer queue) lawful linked good steps = good-offered w queue good
+good-event touches rows w (Answer agent) lawful linked good steps = good-answered w good linked agent
+good-event touches rows w (Decline agent) lawful linked good steps = good-declined w agent good
+good-event touches rows w (AgentDone agent) lawful linked good steps = good-agent_done w good linked agent
+
+-- and so it does behind what a call of the machine answers: the world of the event's row, or the world as it was
+pub good-behind : {E : Type 0} (touches : List ℕ → Touch) (rows : Rows) (plan : PlanOf) (channels after : List Channel) (shared behind : Shared) (event : Event)
+    (r : Result Reply E) → IsLawful touches rows → IsGood shared.queues → IsGoodWorld (world_of plan channels shared)
+    → IfOk r (λ reply. event_row rows (world_of plan channels shared) event ≡ (world_of plan after behind, reply))
+    → OnErr r (after ≡ channels) → OnErr r (behind ≡ shared) → OnOk r (StepsSoundly rows (world_of plan channels shared) event)
+    → IsGoodWorld (world_of plan after behind)
+good-behind touches rows plan channels after shared behind event (Ok reply) lawful linked good row same_channels same_shared steps =
+    subst IsGoodWorld (ap (λ (p : World × Reply). p.0) row) (good-event touches rows (world_of plan channels shared) event lawful linked good steps)
+good-behind touches rows plan channels after shared behind event (Err e) lawful linked good row same_channels same_shared steps =
+    subst IsGoodWorld (λ i. world_of plan (sym same_channels i) (sym same_shared i)) good
+
+-- and so does any world with no channel
+pub good-fresh : (plan : PlanOf) (channels : List Channel) (shared : Shared) → channels ≡ [] → IsAtRest shared.queues
+    → IsGoodWorld (world_of plan channels shared)
+good-fresh plan channels shared none rest = subst (λ cs. IsGoodWorld (world_of plan cs shared)) (sym none)
+    (record { within = omega arith; tied = (good-opening plan shared.queues rest).tied })

@@ -1,0 +1,111 @@
+-- How a move of its application ties a channel.
+use Rattle.std.proofs.Common.{◌≡◌, ℕ, zero, suc, ◌<◌, ◌==◌, Bool, true, false, List, [], ◌∷◌, ◌++◌, Option, Some, None, refl, sym, ap, ◌∙◌, length, if◌then◌else◌, codes}
+use Rattle.std.proofs.lemmas.Option.{none-some}
+use Rattle.dp_queue.specs.Changes.{changed_at}
+use Rattle.dp_queue.specs.Joining.{waits_in, with_caller}
+use Rattle.dp_queue.specs.Queues.{QueueOf, QueuesOf}
+use Rattle.dp_queue.proofs.WaitingLemmas.{lines, waits_in-joined, waits_in-same}
+use Rattle.dp_plan.specs.Plan.{PlanOf}
+use Rattle.dp_app.specs.Laws.{KeepsQueues, MayGo, MayPark, waiting_after, waiting_lists, waiting_parked}
+use Rattle.dp_app.specs.declared.going.Move.{Move}
+use Rattle.dp_app.specs.declared.going.Move.TheVariants.{Next, Jump, Park, Hang}
+use Rattle.dp_app.specs.declared.phase.Phase.{Phase}
+use Rattle.dp_app.specs.declared.phase.Phase.TheVariants.{Ready, Digits, Pause, Queued, Talking as PhaseTalking, Ended}
+use Rattle.dp_app.specs.declared.place.Place.{Place}
+use Rattle.dp_app.specs.declared.touch.Touch.{Touch}
+use Rattle.dp_machine.specs.Channels.{hung_up, landed, moved, ready_in, runs_hang_up, without_frames}
+use Rattle.dp_machine.specs.GoodWorld.{IsSoundIn, queue_in, talk_in}
+use Rattle.dp_machine.specs.Targets.{target_place}
+use Rattle.dp_machine.specs.declared.channel.Channel.{Channel}
+use Rattle.dp_machine.proofs.TieQueues.{Rests, SameTies, if_false, if_true, ties-kept, ties-same}
+use Rattle.dp_machine.proofs.TieLemmas.{Ties}
+use borrow.Author.Tests.{eq-eqb}
+
+-- a channel that is hung up neither waits nor talks
+pub hung_up-rests : (plan : PlanOf) (c : Channel) → Rests (hung_up plan c).phase
+unfolding hung_up
+hung_up-rests plan c = by (runs_hang_up plan c)
+  where
+    by : (b : Bool)
+        → Rests (if b then record (ready_in (without_frames c) (codes "h")) { is_closing = true } else record (without_frames c) { phase = Ended }).phase
+    by true = (refl, refl)
+    by false = (refl, refl)
+
+-- and is sound
+pub hung_up-sound : (plan : PlanOf) (c : Channel) → IsSoundIn (hung_up plan c).phase (hung_up plan c)
+unfolding hung_up
+hung_up-sound plan c = by (runs_hang_up plan c)
+  where
+    result : Bool → Channel
+    result b = if b then record (ready_in (without_frames c) (codes "h")) { is_closing = true } else record (without_frames c) { phase = Ended }
+
+    by : (b : Bool) → IsSoundIn (result b).phase (result b)
+    by true = tt
+    by false = refl
+
+-- a channel at the place of a target neither waits nor talks
+pub landed-rests : (plan : PlanOf) (c : Channel) (o : Option Place) → Rests (landed plan c o).phase
+landed-rests plan c None = hung_up-rests plan c
+landed-rests plan c (Some place) = (refl, refl)
+
+-- a channel that neither waits nor talks, and comes to do neither
+pub ties-rests : (number : ℕ) (before after : QueuesOf) (p r : Phase) → Ties number before after p → Rests p → Rests r → Ties number before after r
+ties-rests number before after p r ties old new = ties-same number before after p r ties (old.0 ∙ sym new.0) (old.1 ∙ sym new.1)
+
+-- the waiting lists behind one more call
+lines-joined : (qs : List QueueOf) (c k : ℕ) → lines (changed_at (with_caller c) k qs) ≡ changed_at (λ waiting. waiting ++ c ∷ []) k (lines qs)
+lines-joined [] c k = refl
+lines-joined (q ∷ qs) c zero = refl
+lines-joined (q ∷ qs) c (suc k) = ap (λ (ls : List (List ℕ)). q.waiting ∷ ls) (lines-joined qs c k)
+
+module _ (touch : Touch) (before after : QueuesOf) (keeps : KeepsQueues touch before after) where
+  -- an application that leaves the waiting lists
+  pub same-kept : waiting_lists after ≡ waiting_lists before → SameTies before after
+  same-kept kept = record {
+    waits = λ m. waits_in-same after.queues before.queues m kept;
+    talking = λ agent queue m is. sym (keeps.states agent) ∙ is;
+    talks = λ agent queue m is. keeps.states agent ∙ is;
+  }
+
+  -- an application by which the channel joins a queue
+  pub ties-joined : (number k : ℕ) (p r : Phase) → Ties number before before p → Rests p → k < length before.queues
+      → waiting_lists after ≡ changed_at (λ waiting. waiting ++ number ∷ []) k (waiting_lists before) → queue_in r ≡ Some k → talk_in r ≡ None
+      → Ties number before after r
+  ties-joined number k p r ties rests within joined waits silent = record {
+    waits = behind number ∙ if_true (number == number) (Some k) (waits_in before.queues number) (eq-eqb number number refl) ∙ sym waits;
+    others = λ m differs. behind m ∙ if_false (number == m) (Some k) (waits_in before.queues m) differs;
+    talking = λ agent queue is. absurd (none-some (queue, agent) (sym rests.1 ∙ ties.talking agent queue (sym (keeps.states agent) ∙ is)));
+    talks = λ agent queue is. absurd (none-some (queue, agent) (sym silent ∙ is));
+    still_talking = λ agent queue m differs is. sym (keeps.states agent) ∙ is;
+    still_talks = λ agent queue m differs is. keeps.states agent ∙ is;
+  }
+    where
+      behind : (m : ℕ) → waits_in after.queues m ≡ (if number == m then Some k else waits_in before.queues m)
+      behind m = waits_in-same after.queues (changed_at (with_caller number) k before.queues) m (joined ∙ sym (lines-joined before.queues number k))
+          ∙ waits_in-joined before.queues number k m within (ties.waits ∙ rests.0)
+
+  -- a channel is parked by its application
+  ties-parked : (number : ℕ) (p r : Phase) → Ties number before before p → Rests p → MayPark (length before.queues) r
+      → waiting_lists after ≡ waiting_parked (waiting_lists before) number r → Ties number before after r
+  ties-parked number p Ready ties rests may waits = absurd may
+  ties-parked number p (Digits digits is_background) ties rests may waits =
+      ties-rests number before after p (Digits digits is_background) (ties-kept number before before after p (same-kept waits) ties) rests (refl, refl)
+  ties-parked number p Pause ties rests may waits =
+      ties-rests number before after p Pause (ties-kept number before before after p (same-kept waits) ties) rests (refl, refl)
+  ties-parked number p (Queued queue goes_on has_timer) ties rests may waits =
+      ties-joined number queue p (Queued queue goes_on has_timer) ties rests may waits refl refl
+  ties-parked number p (PhaseTalking queue agent goes_on) ties rests may waits = absurd may
+  ties-parked number p Ended ties rests may waits = absurd may
+
+  -- the channel behind a move
+  pub ties-moved : (plan : PlanOf) (number : ℕ) (c : Channel) (going : Move) (p : Phase) → Ties number before before p → Rests p
+      → MayGo (length before.queues) going → waiting_lists after ≡ waiting_after (waiting_lists before) number going
+      → Ties number before after (moved plan c going).phase
+  ties-moved plan number c Next p ties rests may waits =
+      ties-rests number before after p Ready (ties-kept number before before after p (same-kept waits) ties) rests (refl, refl)
+  ties-moved plan number c (Jump target) p ties rests may waits =
+      ties-rests number before after p (landed plan c (target_place plan c.place target)).phase
+      (ties-kept number before before after p (same-kept waits) ties) rests (landed-rests plan c (target_place plan c.place target))
+  ties-moved plan number c (Park phase) p ties rests may waits = ties-parked number p phase ties rests may waits
+  ties-moved plan number c Hang p ties rests may waits =
+      ties-rests number before after p (hung_up plan c).phase (ties-kept number before before after p (same-kept waits) ties) rests (hung_up-rests plan c)

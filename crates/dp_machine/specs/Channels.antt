@@ -1,0 +1,122 @@
+-- What becomes of one channel: where it goes, and how it ends.
+use Rattle.std.specs.Prelude.{ℕ, ◌+◌, Bool, true, false, not, ◌&&◌, List, [], ◌∷◌, Option, Some, None, codes, if◌then◌else◌}
+use Rattle.dp_plan.specs.Plan.{PlanOf}
+use Rattle.dp_vars.specs.Stores.{set}
+use Rattle.dp_app.specs.declared.going.Move.{Move}
+use Rattle.dp_app.specs.declared.going.Move.TheVariants.{Next, Jump, Park, Hang}
+use Rattle.dp_app.specs.declared.phase.Phase.{Phase}
+use Rattle.dp_app.specs.declared.phase.Phase.TheVariants.{Ready, Digits, Pause, Queued, Talking, Ended}
+use Rattle.dp_app.specs.declared.place.Place.{Place}
+use Rattle.dp_machine.specs.Found.{is_found}
+use Rattle.dp_machine.specs.Targets.{place_of, target_place}
+use Rattle.dp_machine.specs.declared.channel.Channel.{Channel}
+
+-- the channel, ready at a place
+abbrev pub ready_at : Channel → Place → Channel
+ready_at c place = record c { place = place; phase = Ready }
+
+-- the channel, ready at priority 1 of an extension of its context
+abbrev pub ready_in : Channel → List ℕ → Channel
+ready_in c exten = ready_at c (place_of c.place.context exten 1)
+
+-- the channel, ready at the next priority
+abbrev pub going_on : Channel → Channel
+going_on c = ready_at c (place_of c.place.context c.place.exten (c.place.priority + 1))
+
+-- the channel with a name set: a local of the innermost frame that has it as one, else its variable
+abbrev pub with_value : Channel → List ℕ → List ℕ → Channel
+with_value c name value = record c { store = set c.store name value }
+
+-- the channel without its frames
+abbrev pub without_frames : Channel → Channel
+without_frames c = record c { store = record c.store { frames = [] } }
+
+-- whether a hang-up goes on at the extension `h`: once, and where it is found in the channel's context
+abbrev pub runs_hang_up : PlanOf → Channel → Bool
+runs_hang_up plan c = not c.is_closing && is_found plan c.place.context (codes "h") 1
+
+-- the channel behind a hang-up: its frames are dropped, and it runs the extension `h` of its context or is over
+unfoldable pub hung_up : PlanOf → Channel → Channel
+hung_up plan c =
+    if runs_hang_up plan c then record (ready_in (without_frames c) (codes "h")) { is_closing = true }
+    else record (without_frames c) { phase = Ended }
+
+-- the channel at the place of a target; where there is none it is hung up
+abbrev pub landed : PlanOf → Channel → Option Place → Channel
+landed plan c None = hung_up plan c
+landed plan c (Some place) = ready_at c place
+
+-- the channel behind a move
+abbrev pub moved : PlanOf → Channel → Move → Channel
+moved plan c Next = going_on c
+moved plan c (Jump target) = landed plan c (target_place plan c.place target)
+moved plan c (Park phase) = record c { phase = phase }
+moved plan c Hang = hung_up plan c
+
+-- the channel behind its application; a name that the table lacks is a hang-up
+abbrev pub went : PlanOf → Channel → Option Move → Channel
+went plan c None = hung_up plan c
+went plan c (Some move) = moved plan c move
+
+-- whether the extension of a place is not there, and `i` is found in its context
+abbrev pub is_invalid : PlanOf → Place → Bool
+is_invalid plan place = not (is_found plan place.context place.exten 1) && is_found plan place.context (codes "i") 1
+
+-- the channel at the extension `i`, which reads what was dialled
+abbrev pub invalid : Channel → Channel
+invalid c = ready_in (with_value c (codes "INVALID_EXTEN") c.place.exten) (codes "i")
+
+-- the channel behind one more digit: it waits for more where the digits may go on, else it goes where they lead
+abbrev pub collected : Bool → Channel → List ℕ → Bool → Channel
+collected true c digits is_background = record c { phase = Digits digits is_background }
+collected false c digits is_background = ready_in c digits
+
+-- the channel that waited for digits by `WaitExten`, and none came: it goes on, or else to the extension `t`, or is hung up
+abbrev pub waited : PlanOf → Channel → Channel
+waited plan c =
+    if is_found plan c.place.context c.place.exten (c.place.priority + 1) then going_on c
+    else if is_found plan c.place.context (codes "t") 1 then ready_in c (codes "t")
+    else hung_up plan c
+
+-- the channel that waited for digits and for which none came in time, by whether `Background` asked for them
+abbrev pub undialled : PlanOf → Channel → Bool → Channel
+undialled plan c true = going_on c
+undialled plan c false = waited plan c
+
+-- the channel that waited for digits, of which these came in time
+abbrev pub timed_out : PlanOf → Channel → List ℕ → Bool → Channel
+timed_out plan c [] is_background = undialled plan c is_background
+timed_out plan c (b ∷ bs) is_background = ready_in c (b ∷ bs)
+
+-- the channel that leaves its queue, which reads why
+abbrev pub left_queue : Channel → List ℕ → Channel
+left_queue c status = going_on (with_value c (codes "QUEUESTATUS") status)
+
+-- whether a channel goes on when its agent is done
+abbrev pub goes_on_behind : Phase → Bool
+goes_on_behind Ready = false
+goes_on_behind (Digits text is_background) = false
+goes_on_behind Pause = false
+goes_on_behind (Queued queue goes_on has_timer) = goes_on
+goes_on_behind (Talking queue agent goes_on) = goes_on
+goes_on_behind Ended = false
+
+-- the channel behind the end of its talk, by whether it goes on
+abbrev pub talked : PlanOf → Channel → Bool → Channel
+talked plan c true = left_queue c (codes "CONTINUE")
+talked plan c false = hung_up plan c
+
+-- what an event of an agent makes of a channel
+pub data Change : Type 0 where
+  -- it stays as it is
+  Stays : Change
+  -- it talks with the agent of a number, in the queue of a number
+  Talks : ℕ → ℕ → Change
+  -- its talk ends
+  TalkEnds : Change
+
+-- the channel behind such a change
+abbrev pub changed : PlanOf → Change → Channel → Channel
+changed plan Stays c = c
+changed plan (Talks queue agent) c = record c { phase = Talking queue agent (goes_on_behind c.phase) }
+changed plan TalkEnds c = talked plan c (goes_on_behind c.phase)

@@ -1,0 +1,96 @@
+-- What is true of a world at all times: channels, waiting lists and agents say the same of who waits and who talks.
+use Rattle.std.specs.Prelude.{◌≡◌, ℕ, ◌≤◌, false, List, [], length, Option, Some, None}
+use Rattle.std.specs.Option.{option_and_then}
+use Rattle.dp_queue.specs.Agents.{is_talking, state_at}
+use Rattle.dp_queue.specs.Joining.{waits_in}
+use Rattle.dp_queue.specs.Queues.{QueuesOf}
+use Rattle.dp_queue.specs.declared.agent.AgentState.TheVariants.{Talking as AgentTalking}
+use Rattle.dp_plan.specs.Priority.{most_priority}
+use Rattle.dp_app.specs.Rows.{Rows}
+use Rattle.dp_app.specs.declared.phase.Phase.{Phase}
+use Rattle.dp_app.specs.declared.phase.Phase.TheVariants.{Ready, Digits, Pause, Queued, Talking, Ended}
+use Rattle.dp_machine.specs.Events.{Own, step_row}
+use Rattle.dp_machine.specs.World.{World, most_channels, channel_at}
+use Rattle.dp_machine.specs.declared.channel.Channel.{Channel}
+use Rattle.dp_machine.specs.declared.event.Event.{Event}
+use Rattle.dp_machine.specs.declared.event.Event.TheVariants.{Start, Step, Digit, Timeout, Poll, Hangup, Offer, Answer, Decline, AgentDone}
+use Rattle.dp_machine.specs.declared.shared.Shared.{Shared}
+
+-- the queue in which a channel waits by its phase
+abbrev pub queue_in : Phase → Option ℕ
+queue_in Ready = None
+queue_in (Digits digits is_background) = None
+queue_in Pause = None
+queue_in (Queued queue goes_on has_timer) = Some queue
+queue_in (Talking queue agent goes_on) = None
+queue_in Ended = None
+
+-- the queue and the agent with which a channel talks by its phase
+abbrev pub talk_in : Phase → Option (ℕ × ℕ)
+talk_in Ready = None
+talk_in (Digits digits is_background) = None
+talk_in Pause = None
+talk_in (Queued queue goes_on has_timer) = None
+talk_in (Talking queue agent goes_on) = Some (queue, agent)
+talk_in Ended = None
+
+-- a channel that waits or talks stands at a priority of an entry and is not closing, and one that is over has no frames
+abbrev pub IsSoundIn : Phase → Channel → Type 0
+IsSoundIn Ready c = Unit {0}
+IsSoundIn (Digits digits is_background) c = (c.place.priority ≤ most_priority) × (c.is_closing ≡ false)
+IsSoundIn Pause c = (c.place.priority ≤ most_priority) × (c.is_closing ≡ false)
+IsSoundIn (Queued queue goes_on has_timer) c = (c.place.priority ≤ most_priority) × (c.is_closing ≡ false)
+IsSoundIn (Talking queue agent goes_on) c = (c.place.priority ≤ most_priority) × (c.is_closing ≡ false)
+IsSoundIn Ended c = c.store.frames ≡ []
+
+-- the same of the channel of a number, if there is one
+abbrev pub IsSoundAt : Option Channel → Type 0
+IsSoundAt None = Unit {0}
+IsSoundAt (Some c) = IsSoundIn c.phase c
+
+-- the channel behind an event of its own is sound
+abbrev pub IsSoundOwn : Own → Type 0
+IsSoundOwn own = IsSoundIn own.channel.phase own.channel
+
+-- the queue in which the channel of a number waits by its phase
+abbrev pub queue_of : Option Channel → Option ℕ
+queue_of o = option_and_then (λ c. queue_in c.phase) o
+
+-- the queue and the agent with which the channel of a number talks by its phase
+abbrev pub talk_of : Option Channel → Option (ℕ × ℕ)
+talk_of o = option_and_then (λ c. talk_in c.phase) o
+
+-- what is known of the channel of a number before an event: it waits in its queue alone, where it does not talk by its phase no agent
+-- talks with it, and it is sound
+pub record MayAct (shared : Shared) (number : ℕ) (c : Channel) : Type 0 where
+  pub waits : waits_in shared.queues.queues number ≡ queue_in c.phase
+  pub silent : talk_in c.phase ≡ None → is_talking shared.queues.agents number ≡ false
+  pub sound : IsSoundIn c.phase c
+
+-- channels and queues: a channel stands in a waiting list exactly where it waits by its phase, an agent talks with it exactly
+-- where it talks by its phase, and each channel is sound
+pub record AreTied (channels : List Channel) (queues : QueuesOf) : Type 0 where
+  pub waits : (number : ℕ) → waits_in queues.queues number ≡ queue_of (channel_at channels number)
+  pub talking : (agent queue number : ℕ) → state_at queues.agents agent ≡ AgentTalking queue number
+      → talk_of (channel_at channels number) ≡ Some (queue, agent)
+  pub talks : (agent queue number : ℕ) → talk_of (channel_at channels number) ≡ Some (queue, agent)
+      → state_at queues.agents agent ≡ AgentTalking queue number
+  pub sound : (number : ℕ) → IsSoundAt (channel_at channels number)
+
+-- a good world: no more channels than have numbers, tied to the queues
+pub record IsGoodWorld (w : World) : Type 0 where
+  pub within : length w.channels ≤ most_channels
+  pub tied : AreTied w.channels w.shared.queues
+
+-- where the event is a step, the channel is sound behind it
+abbrev pub StepsSoundly : Rows → World → Event → Type 0
+StepsSoundly rows w (Start context exten caller) = Unit {0}
+StepsSoundly rows w (Step number) = (c : Channel) → channel_at w.channels number ≡ Some c → IsSoundOwn (step_row rows w.plan w.shared number c)
+StepsSoundly rows w (Digit number digit) = Unit {0}
+StepsSoundly rows w (Timeout number) = Unit {0}
+StepsSoundly rows w (Poll number) = Unit {0}
+StepsSoundly rows w (Hangup number) = Unit {0}
+StepsSoundly rows w (Offer queue) = Unit {0}
+StepsSoundly rows w (Answer agent) = Unit {0}
+StepsSoundly rows w (Decline agent) = Unit {0}
+StepsSoundly rows w (AgentDone agent) = Unit {0}

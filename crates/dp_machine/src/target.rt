@@ -1,0 +1,204 @@
+//! Where a target sends a channel, after the Asterisk documentation's page on the application `Goto`.
+ghost use Rattle.std.specs.Prelude.{◌≡◌, ◌≤◌, codes, reverse, slice_get};
+ghost use Rattle.std.specs.Option.{option_map};
+ghost use Rattle.dp_lookup.specs.SearchOrder.{context_count};
+ghost use Rattle.dp_machine.specs.Channels as channels;
+ghost use Rattle.dp_machine.specs.Targets as spec;
+
+use crate::channel::Channel;
+use crate::ending::hang_up;
+use crate::lookup::{find_label, is_found};
+use dp_app::{Parts, Phase, Place, Target};
+use dp_conf::read_number;
+use dp_lookup::SearchOrder;
+use dp_plan::{Dialplan, MOST_PRIORITY, Text};
+
+/// A number that a target may have: one above the greatest priority of an entry is a place where no entry can be.
+fn target_priority(number: u64) -> Option<u32>
+    ensures { result ≡ spec.target_priority number }
+{
+    let number = u32::try_from(number).ok()?;
+    if number < 1 || number > MOST_PRIORITY + 1 {
+        return None;
+    }
+    Some(number)
+}
+
+/// The priority that the text asks for at the extension of the context, where it asks for one.
+fn priority_of(
+    plan: &Dialplan,
+    order: &mut SearchOrder,
+    context: &Text,
+    exten: &Text,
+    text: &Text,
+) -> Option<u32>
+    requires { context_count plan.now ≤ order.old.room }
+    ensures priority { result ≡ spec.priority_of plan.now context.now exten.now text.now }
+    ensures room { order.new.room ≡ order.old.room }
+{
+    if text.bytes().is_empty() {
+        return None;
+    }
+    match read_number(text.bytes()) {
+        Some(number) => target_priority(number),
+        None => find_label(plan, order, context, exten.bytes(), text.bytes()),
+    }
+}
+
+/// The part, or the channel's own where the part is empty.
+fn part_or<'a>(own: &'a Text, part: &'a Text) -> &'a Text
+    ensures { result.now ≡ spec.part_or own.now part.now }
+{
+    if part.bytes().is_empty() { own } else { part }
+}
+
+/// The priority that the parts ask for, for a channel at its own place, where they ask for one.
+#[tactic(auto, unfolding(crate::specs::Targets::parts_place))]
+fn parts_priority(
+    plan: &Dialplan,
+    order: &mut SearchOrder,
+    own: &Place,
+    parts: &[Text],
+) -> Option<u32>
+    requires { context_count plan.now ≤ order.old.room }
+    ensures place { spec.parts_place plan.now own.now parts.now
+        ≡ option_map (spec.place_of (spec.parts_context own.now parts.now) (spec.parts_exten own.now parts.now)) result }
+    ensures room { order.new.room ≡ order.old.room }
+{
+    match parts {
+        [priority] => priority_of(plan, order, &own.context, &own.exten, priority),
+        [exten, priority] => {
+            let exten = part_or(&own.exten, exten);
+            priority_of(plan, order, &own.context, exten, priority)
+        }
+        [context, exten, priority] => {
+            let context = part_or(&own.context, context);
+            let exten = part_or(&own.exten, exten);
+            priority_of(plan, order, context, exten, priority)
+        }
+        _ => None,
+    }
+}
+
+/// Puts a part in the place of the channel's own, unless it is empty or not there.
+fn put_part(own: &mut Text, part: Option<Text>)
+    ensures { own.new ≡ spec.given_or own.old part }
+{
+    match part {
+        Some(part) => {
+            if !part.bytes().is_empty() {
+                *own = part;
+            }
+        }
+        None => {}
+    }
+}
+
+/// Makes the channel ready at the place of these parts, of which the last asked for the priority.
+fn go_to_parts(channel: &mut Channel, parts: Parts, priority: u32)
+    ensures { channel.new ≡ channels.ready_at channel.old
+        (spec.place_of (spec.parts_context channel.old.place parts) (spec.parts_exten channel.old.place parts) priority) }
+{
+    let mut texts = parts.into_texts();
+    let _priority = texts.pop();
+    let exten = texts.pop();
+    let context = texts.pop();
+    put_part(&mut channel.place.exten, exten);
+    put_part(&mut channel.place.context, context);
+    channel.place.priority = priority;
+    channel.phase = Phase::Ready;
+}
+
+/// Makes the channel ready at the place of a target, or hangs it up where the target has none.
+pub(crate) fn land(
+    plan: &Dialplan,
+    order: &mut SearchOrder,
+    channel: &mut Channel,
+    target: Target,
+    spare: &mut Text,
+)
+    requires room { context_count plan.now ≤ order.old.room }
+    requires spare { spare.old ≡ codes "h" }
+    ensures channel { channel.new ≡ channels.landed plan.now channel.old (spec.target_place plan.now channel.old.place target) }
+    ensures room { order.new.room ≡ order.old.room }
+{
+    match target {
+        Target::To(place) => {
+            channel.place = place;
+            channel.phase = Phase::Ready;
+        }
+        Target::Existing(parts) => land_at_existing(plan, order, channel, parts, spare),
+        Target::Parts(parts) => land_at_parts(plan, order, channel, parts, spare),
+    }
+}
+
+/// Makes the channel ready at the place that the parts name.
+fn land_at_parts(
+    plan: &Dialplan,
+    order: &mut SearchOrder,
+    channel: &mut Channel,
+    parts: Parts,
+    spare: &mut Text,
+)
+    requires room { context_count plan.now ≤ order.old.room }
+    requires spare { spare.old ≡ codes "h" }
+    ensures channel { channel.new ≡ channels.landed plan.now channel.old (spec.parts_place plan.now channel.old.place parts) }
+    ensures room { order.new.room ≡ order.old.room }
+{
+    match parts_priority(plan, order, &channel.place, parts.texts()) {
+        Some(priority) => go_to_parts(channel, parts, priority),
+        None => hang_up(plan, order, channel, spare),
+    }
+}
+
+/// Makes the channel ready at the place that the parts name, if an entry is found there.
+fn land_at_existing(
+    plan: &Dialplan,
+    order: &mut SearchOrder,
+    channel: &mut Channel,
+    parts: Parts,
+    spare: &mut Text,
+)
+    requires room { context_count plan.now ≤ order.old.room }
+    requires spare { spare.old ≡ codes "h" }
+    ensures channel { channel.new ≡ channels.landed plan.now channel.old
+        (spec.if_found plan.now (spec.parts_place plan.now channel.old.place parts)) }
+    ensures room { order.new.room ≡ order.old.room }
+{
+    match existing_priority(plan, order, &channel.place, parts.texts()) {
+        Some(priority) => go_to_parts(channel, parts, priority),
+        None => hang_up(plan, order, channel, spare),
+    }
+}
+
+/// The part of this number from the last, or the channel's own where it is empty or not there.
+fn part_from_last<'a>(own: &'a Text, parts: &'a [Text], number: usize) -> &'a Text
+    ensures { result.now ≡ spec.given_or own.now (slice_get (reverse parts.now) number) }
+{
+    match parts.iter().rev().nth(number) {
+        Some(part) => part_or(own, part),
+        None => own,
+    }
+}
+
+/// The priority that the parts ask for, if an entry is found there.
+fn existing_priority(
+    plan: &Dialplan,
+    order: &mut SearchOrder,
+    own: &Place,
+    parts: &[Text],
+) -> Option<u32>
+    requires { context_count plan.now ≤ order.old.room }
+    ensures place { spec.if_found plan.now (spec.parts_place plan.now own.now parts.now)
+        ≡ option_map (spec.place_of (spec.parts_context own.now parts.now) (spec.parts_exten own.now parts.now)) result }
+    ensures room { order.new.room ≡ order.old.room }
+{
+    let priority = parts_priority(plan, order, own, parts)?;
+    let context = part_from_last(&own.context, parts, 2);
+    let exten = part_from_last(&own.exten, parts, 1);
+    if is_found(plan, order, context, exten.bytes(), priority) {
+        Some(priority)
+    } else {
+        None
+    }
+}
