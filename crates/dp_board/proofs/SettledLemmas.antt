@@ -1,0 +1,75 @@
+-- Seats that differ from the entries, one after another; and the counts of a whole history.
+use Rattle.std.proofs.Common.{◌≡◌, ℕ, ◌+◌, ◌<◌, nat_lt, Bool, true, false, List, [], ◌∷◌, ◌++◌, Option, Some, None, length, reverse, if◌then◌else◌, refl, sym, ap, subst, ◌∙◌, arith, All, MatchOption}
+use Rattle.std.proofs.lemmas.Bool.{ltb-true, ltb-false}
+use Rattle.std.proofs.lemmas.List.{append_assoc}
+use Rattle.std.proofs.lemmas.List.Elements.{All-push}
+use Rattle.std.proofs.lemmas.List.Sorted.{sum_by-IsPermutation, IsPermutation-reverse}
+use Rattle.dp_board.specs.Difference.{told_to, FirstDiffers}
+use Rattle.dp_app.specs.Rows.{Rows}
+use Rattle.dp_machine.specs.World.{World}
+use Rattle.dp_board.specs.Log.{Log, Replays, AreSeated}
+use Rattle.dp_board.specs.Settled.{Agrees, AllPresent, IsLeastDifference, IsWhole, lesser, calls_of}
+use Rattle.dp_board.specs.Sittings.{Told, Sitting}
+use Rattle.dp_board.specs.declared.difference.Disagree.{Disagree}
+use Rattle.dp_board.specs.declared.entry.Entry.{Entry}
+
+-- what is found of some seats
+abbrev pub Finds : List Entry → List Sitting → Option Disagree → Type 0
+Finds entries seats least = MatchOption least (All (Agrees entries) seats) (IsLeastDifference entries seats)
+
+-- what is found of one seat
+abbrev pub FindsOne : List Entry → Sitting → Option Disagree → Type 0
+FindsOne entries seat found = MatchOption found (Agrees entries seat) (λ d. (d.seat ≡ seat.number) × FirstDiffers (told_to seat.number entries) seat.told d.index)
+
+-- one seat more, which agrees
+still-least : (entries : List Entry) (before : List Sitting) (seat : Sitting) (least : Disagree) → IsLeastDifference entries before least → (seat.number < least.seat → Agrees entries seat) → IsLeastDifference entries (before ++ seat ∷ []) least
+still-least entries before seat least d agrees = record {
+  before = d.before;
+  seat = d.seat;
+  after = d.after ++ seat ∷ [];
+  among = ap (λ (l : List Sitting). l ++ seat ∷ []) d.among ∙ append_assoc d.before (d.seat ∷ d.after) (seat ∷ []);
+  number = d.number;
+  differs = d.differs;
+  least = All-push (λ (other : Sitting). other.number < least.seat → Agrees entries other) before seat d.least agrees;
+}
+
+-- one seat more, which differs and is the least so far
+now-least : (entries : List Entry) (before : List Sitting) (seat : Sitting) (found : Disagree) → (found.seat ≡ seat.number) × FirstDiffers (told_to seat.number entries) seat.told found.index → All (λ (other : Sitting). other.number < found.seat → Agrees entries other) before → IsLeastDifference entries (before ++ seat ∷ []) found
+now-least entries before seat found one least = record {
+  before = before;
+  seat = seat;
+  after = [];
+  among = refl;
+  number = sym one.0;
+  differs = subst (λ n. FirstDiffers (told_to n entries) seat.told found.index) (sym one.0) one.1;
+  least = All-push (λ (other : Sitting). other.number < found.seat → Agrees entries other) before seat least (λ lt. absurd (omega (arith, lt, one.0)));
+}
+
+-- one seat more
+pub Finds-more : (entries : List Entry) (before : List Sitting) (seat : Sitting) (least found : Option Disagree) → Finds entries before least → FindsOne entries seat found → Finds entries (before ++ seat ∷ []) (lesser least found)
+Finds-more entries before seat None None so_far one = All-push (Agrees entries) before seat so_far one
+Finds-more entries before seat None (Some e) so_far one = now-least entries before seat e one (λ k d lt less. so_far k d lt)
+Finds-more entries before seat (Some d) None so_far one = still-least entries before seat d so_far (λ less. one)
+Finds-more entries before seat (Some d) (Some e) so_far one = by (nat_lt e.seat d.seat) refl where
+  by : (b : Bool) → nat_lt e.seat d.seat ≡ b → Finds entries (before ++ seat ∷ []) (if b then Some e else Some d)
+  by true less = now-least entries before seat e one (λ k x lt below. so_far.least k x lt (omega (arith, below, ltb-true e.seat d.seat less)))
+  by false more = still-least entries before seat d so_far (λ below. absurd (omega (arith, below, ltb-false e.seat d.seat more, one.0)))
+
+-- the counts of seats, whichever way round
+pub calls-reverse : (seats : List Sitting) → calls_of (reverse seats) ≡ calls_of seats
+calls-reverse seats = sum_by-IsPermutation (λ (s : Sitting). length s.told) seats (reverse seats) (IsPermutation-reverse seats)
+
+-- the seats of a board
+pub seated-within : (parts count : ℕ) (entries : List Entry) → parts ≡ count + 1 → AreSeated parts entries → All (λ (e : Entry). e.seat < count) entries
+seated-within parts count entries is seated k d lt = omega (arith, is, seated k d lt)
+
+-- what is found of one seat, by its number and its record
+pub FindsOne-of : (entries : List Entry) (seat : Sitting) (found : Option Disagree) (number : ℕ) (told : List Told) → number ≡ seat.number → told ≡ seat.told → MatchOption found (told_to number entries ≡ told) (λ d. (d.seat ≡ number) × FirstDiffers (told_to number entries) told d.index) → FindsOne entries seat found
+FindsOne-of entries seat None number told n t one = ap (λ k. told_to k entries) (sym n) ∙ (one ∙ t)
+FindsOne-of entries seat (Some d) number told n t one = (one.0 ∙ n, subst (λ k. FirstDiffers (told_to k entries) seat.told d.index) n (subst (λ l. FirstDiffers (told_to number entries) l d.index) t one.1))
+
+-- the history of a board whose parts were joined
+pub IsWhole-of : (rows : Rows) (first : World) (parts count amount : ℕ) (seats : List Sitting) (history shared : Log) → history ≡ shared → Replays rows first shared → AllPresent count seats → length shared.entries ≡ amount → amount ≡ calls_of seats → AreSeated parts shared.entries → parts ≡ count + 1 → IsWhole rows first count seats history
+IsWhole-of rows first parts count amount seats history shared same replays present calls counted seated is =
+    subst (IsWhole rows first count seats) (sym same)
+    (record { replays = replays; present = present; calls = calls ∙ counted; seated = seated-within parts count shared.entries is seated })

@@ -1,0 +1,61 @@
+-- The log of a shared world: the world, and the calls that led to it.
+use Rattle.std.specs.Prelude.{◌≡◌, ℕ, ◌+◌, ◌<◌, Bool, true, false, List, [], map, Option, Some, None, All}
+use Rattle.dp_app.specs.Rows.{Rows}
+use Rattle.dp_app.specs.declared.phase.Phase.{Phase}
+use Rattle.dp_app.specs.declared.phase.Phase.TheVariants.{Ready, Digits, Pause, Queued, Talking, Ended}
+use Rattle.dp_queue.specs.Queues.{no_queues}
+use Rattle.dp_machine.specs.Events.{event_row}
+use Rattle.dp_machine.specs.Replay.{replies_to, world_after}
+use Rattle.dp_machine.specs.World.{World, channel_at, opening}
+use Rattle.dp_machine.specs.declared.channel.Channel.{Channel}
+use Rattle.dp_machine.specs.declared.event.Event.{Event}
+use Rattle.dp_machine.specs.declared.reply.Reply.{Reply}
+use Rattle.dp_board.specs.declared.entry.Entry.{Entry}
+
+-- the world, and the calls so far in their order
+pub record Log : Type 0 where
+  pub world : World
+  pub entries : List Entry
+
+-- the events of the calls
+abbrev pub events_in : List Entry → List Event
+events_in entries = map (λ entry. entry.event) entries
+
+-- the replies to the calls
+abbrev pub replies_in : List Entry → List Reply
+replies_in entries = map (λ entry. entry.reply) entries
+
+-- the world and the replies are those of the events, one after another, from the opening world
+pub record Replays (rows : Rows) (first : World) (log : Log) : Type 0 where
+  pub world : log.world ≡ world_after rows first (events_in log.entries)
+  pub replies : replies_in log.entries ≡ replies_to rows first (events_in log.entries)
+
+-- one event leads from the world of a log to that of another, with this reply
+abbrev pub IsRow : Rows → Log → Event → Reply → Log → Type 0
+IsRow rows before event reply after = event_row rows before.world event ≡ (after.world, reply)
+
+-- each call is one of a seat of a ledger of so many parts, one of which is no seat's
+abbrev pub AreSeated : ℕ → List Entry → Type 0
+AreSeated parts entries = All (λ entry. entry.seat + 1 < parts) entries
+
+-- whether a channel in this phase waits for something other than its next step
+abbrev pub is_parked_in : Phase → Bool
+is_parked_in Ready = false
+is_parked_in (Digits text is_background) = true
+is_parked_in Pause = true
+is_parked_in (Queued queue goes_on has_timer) = true
+is_parked_in (Talking queue agent goes_on) = true
+is_parked_in Ended = false
+
+-- whether a channel, if there is one, waits for something other than its next step
+abbrev pub is_parked_at : Option Channel → Bool
+is_parked_at None = false
+is_parked_at (Some channel) = is_parked_in channel.phase
+
+-- whether the channel of a number is there and waits for something other than its next step
+abbrev pub is_parked : Log → ℕ → Bool
+is_parked log number = is_parked_at (channel_at log.world.channels number)
+
+-- the world of an empty dialplan and no queues in which nothing has happened
+abbrev pub nothing_yet : World
+nothing_yet = opening (record { globals = []; contexts = [] }) no_queues

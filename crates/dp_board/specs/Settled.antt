@@ -1,0 +1,61 @@
+-- What is known once all seats of a board have come together.
+use Rattle.std.specs.Prelude.{◌≡◌, ℕ, ◌<◌, ◌==◌, nat_lt, Bool, true, false, List, ◌∷◌, ◌++◌, length, Option, Some, None, All, if◌then◌else◌}
+use Rattle.std.specs.List.{list_any, sum_by}
+use Rattle.dp_app.specs.Rows.{Rows}
+use Rattle.dp_machine.specs.World.{World}
+use Rattle.dp_board.specs.Difference.{told_to, FirstDiffers}
+use Rattle.dp_board.specs.Log.{Log, Replays}
+use Rattle.dp_board.specs.Sittings.{Sitting}
+use Rattle.dp_board.specs.declared.difference.Disagree.{Disagree}
+use Rattle.dp_board.specs.declared.entry.Entry.{Entry}
+
+-- how many calls the seats were told of
+abbrev pub calls_of : List Sitting → ℕ
+calls_of seats = sum_by (λ seat. length seat.told) seats
+
+-- whether a seat of this number is among the seats
+abbrev pub has_seat : List Sitting → ℕ → Bool
+has_seat seats number = list_any (λ seat. seat.number == number) seats
+
+-- each seat of a board of so many is among the seats
+abbrev pub AllPresent : ℕ → List Sitting → Type 0
+AllPresent count seats = (number : ℕ) → number < count → has_seat seats number ≡ true
+
+-- the least number of a seat of a board of so many that is not among the seats
+pub record IsLeastAbsent (count : ℕ) (seats : List Sitting) (number : ℕ) : Type 0 where
+  pub within : number < count
+  pub absent : has_seat seats number ≡ false
+  pub least : (lower : ℕ) → lower < number → has_seat seats lower ≡ true
+
+-- a seat was told its own entries, with their places, and nothing else
+abbrev pub Agrees : List Entry → Sitting → Type 0
+Agrees entries seat = told_to seat.number entries ≡ seat.told
+
+-- of the seats that differ from the entries, one of the least number, and where it first does
+pub record IsLeastDifference (entries : List Entry) (seats : List Sitting) (found : Disagree) : Type 0 where
+  pub before : List Sitting
+  pub seat : Sitting
+  pub after : List Sitting
+  pub among : seats ≡ before ++ seat ∷ after
+  pub number : seat.number ≡ found.seat
+  pub differs : FirstDiffers (told_to found.seat entries) seat.told found.index
+  pub least : All (λ other. other.number < found.seat → Agrees entries other) seats
+
+-- the calls of all seats, in one history: it replays from the first world, all seats of the board are there, and it has as
+-- many entries as their records have items
+pub record IsWhole (rows : Rows) (first : World) (count : ℕ) (seats : List Sitting) (history : Log) : Type 0 where
+  pub replays : Replays rows first history
+  pub present : AllPresent count seats
+  pub calls : length history.entries ≡ calls_of seats
+  pub seated : All (λ entry. entry.seat < count) history.entries
+
+-- a settled history: the entries of each seat, with their places, are its record
+pub record IsSettled (rows : Rows) (first : World) (count : ℕ) (seats : List Sitting) (history : Log) : Type 0 where
+  pub whole : IsWhole rows first count seats history
+  pub records : All (Agrees history.entries) seats
+
+-- of two differences the one of the lesser seat
+abbrev pub lesser : Option Disagree → Option Disagree → Option Disagree
+lesser None found = found
+lesser (Some least) None = Some least
+lesser (Some least) (Some found) = if nat_lt found.seat least.seat then Some found else Some least

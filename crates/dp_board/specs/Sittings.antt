@@ -1,0 +1,21 @@
+-- Seats, and what each was told.
+use Rattle.std.specs.Prelude.{ℕ, List, [], ◌∷◌, ◌++◌}
+use Rattle.dp_machine.specs.declared.event.Event.{Event}
+use Rattle.dp_machine.specs.declared.reply.Reply.{Reply}
+
+-- what a seat was told of one call: the place of the call's entry, the event and the reply
+abbrev pub Told : Type 0
+Told = ℕ × Event × Reply
+
+-- a seat: its number, and what it was told, call by call
+pub record Sitting : Type 0 where
+  pub number : ℕ
+  pub told : List Told
+
+-- a seat that was told of one more call
+abbrev pub with_call : Sitting → ℕ → Event → Reply → Sitting
+with_call seat place event reply = record seat { told = seat.told ++ (place, event, reply) ∷ [] }
+
+-- a seat that was told of no call yet
+abbrev pub unheard : ℕ → Sitting
+unheard number = record { number = number; told = [] }

@@ -1,0 +1,28 @@
+-- What is known where a board was not settled.
+use Rattle.std.specs.Prelude.{◌≡◌, ℕ, List}
+use Rattle.dp_app.specs.Rows.{Rows}
+use Rattle.dp_machine.specs.World.{World}
+use Rattle.dp_board.specs.Log.{Log}
+use Rattle.dp_board.specs.Settled.{IsLeastAbsent, IsLeastDifference, IsWhole}
+use Rattle.dp_board.specs.Sittings.{Sitting}
+use Rattle.dp_board.specs.declared.fault.SettleFault.{SettleFault}
+use Rattle.dp_board.specs.declared.fault.SettleFault.TheVariants.{SeatMissing, Differs, NoMemory}
+use Rattle.dp_board.specs.declared.settle.Back.{Back}
+use Rattle.dp_board.specs.declared.settle.Back.TheVariants.{Open, Closed}
+
+-- a fault that leaves the board open
+abbrev pub IsOpenFault : ℕ → List Sitting → SettleFault → Type 0
+IsOpenFault count seats NoMemory = Unit {0}
+IsOpenFault count seats (SeatMissing seat) = IsLeastAbsent count seats seat
+IsOpenFault count seats (Differs found) = ⊥
+
+-- a fault that leaves a history
+abbrev pub IsClosedFault : Rows → World → ℕ → List Sitting → SettleFault → Log → Type 0
+IsClosedFault rows first count seats NoMemory history = ⊥
+IsClosedFault rows first count seats (SeatMissing seat) history = ⊥
+IsClosedFault rows first count seats (Differs found) history = IsWhole rows first count seats history × IsLeastDifference history.entries seats found
+
+-- why a board of so many seats was not settled, and what is handed back: the board or the history, and the seats
+abbrev pub IsUnsettled : {T S : Type 0} → Rows → World → ℕ → List Sitting → SettleFault → Back T S → Type 0
+IsUnsettled rows first count seats fault (Open board back) = IsOpenFault count seats fault × (board ≡ count) × (back.items ≡ seats)
+IsUnsettled rows first count seats fault (Closed history back) = IsClosedFault rows first count seats fault history × (back.items ≡ seats)

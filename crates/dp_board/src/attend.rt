@@ -1,0 +1,136 @@
+//! Attending a channel: step after step, until it ends or the turns are spent.
+ghost use Rattle.std.specs.Prelude.{◌≡◌, ◌+◌, ◌≤◌, length, IfOk, OnErr};
+ghost use Rattle.dp_board.specs.Steps as steps;
+
+use crate::board::Board;
+use crate::seat::Seat;
+use crate::session::Session;
+use dp_app::AppTable;
+use dp_machine::{Event, NoMemory, Refusal, Reply};
+use std::alloc::Global;
+use std::sync::Wait;
+
+/// What is called round each event that a thread gives. Turns are counted from 0.
+pub trait Gate {
+    /// Called before the event of a turn.
+    fn before(&self, channel: u32, turn: u64);
+
+    /// Called with the reply to the event.
+    fn after(&self, channel: u32, reply: &Reply);
+}
+
+/// Why an attendance is over.
+#[derive(Clone, Copy, Debug, PartialEq, Eq)]
+pub enum Why {
+    /// The channel has ended.
+    Ended,
+    /// All turns were taken.
+    TurnsSpent,
+    /// The last step was refused, since there is no such channel.
+    Refused(Refusal),
+}
+
+/// How an attendance went: how many steps were given, and why it is over.
+#[derive(Clone, Copy, Debug, PartialEq, Eq)]
+pub struct Attended {
+    pub steps: u64,
+    pub why: Why,
+}
+
+/// Why an attendance is over behind this reply, where it is: `has_ended` says that the turn left the channel ended.
+fn end_behind(reply: Reply, has_ended: bool) -> Option<Why>
+    ensures { steps.IsEnd reply result }
+{
+    if has_ended || reply == Reply::Refused(Refusal::Ended) {
+        return Some(Why::Ended);
+    }
+    if reply == Reply::Refused(Refusal::NoChannel) {
+        return Some(Why::Refused(Refusal::NoChannel));
+    }
+    None
+}
+
+impl<T: AppTable, S: Session> Board<T, S> {
+    /// Waits while the channel is parked, and holds the lock no longer.
+    fn wait_for<R: Wait>(&self, rt: &R, channel: u32) {
+        let guard = self.shared.lock(rt);
+        let _guard = self
+            .changed
+            .wait_while(rt, guard, |shared| shared.parked(channel));
+    }
+
+    /// Gives a channel its next step, for a seat. Answers the place of its entry, the reply, and whether the channel has
+    /// ended behind it.
+    fn step<R: Wait>(
+        &self,
+        rt: &R,
+        alloc: Global,
+        seat: &mut Seat<S>,
+        channel: u32,
+    ) -> Result<(usize, Reply, bool), NoMemory>
+        ensures ok { IfOk result (λ answer. seat.new ≡ steps.with_step seat.old channel answer.0 answer.1) }
+        ensures err { OnErr result (seat.new ≡ seat.old) }
+    {
+        let mut shared = self.shared.lock(rt);
+        let (place, reply) = shared.step(alloc, seat, Event::Step { channel })?;
+        let has_ended = shared.has_ended(channel);
+        drop(shared);
+        self.changed.notify_all();
+        Ok((place, reply, has_ended))
+    }
+
+    /// One turn: waits while the channel is parked, and gives it its next step between the calls of the gate.
+    fn turn<R: Wait, G: Gate>(
+        &self,
+        rt: &R,
+        alloc: Global,
+        seat: &mut Seat<S>,
+        channel: u32,
+        gate: &G,
+        turn: u64,
+    ) -> Result<(usize, Reply, Option<Why>), NoMemory>
+        ensures ok { IfOk result (λ answer. seat.new ≡ steps.with_step seat.old channel answer.0 answer.1) }
+        ensures end { IfOk result (λ answer. steps.IsEnd answer.1 answer.2) }
+        ensures err { OnErr result (seat.new ≡ seat.old) }
+    {
+        self.wait_for(rt, channel);
+        gate.before(channel, turn);
+        let (place, reply, has_ended) = self.step(rt, alloc, seat, channel)?;
+        gate.after(channel, &reply);
+        Ok((place, reply, end_behind(reply, has_ended)))
+    }
+
+    /// Gives a channel step after step, for a seat, at most so many. Before each it waits while the channel is parked, and
+    /// calls the gate round it; the lock is not held then. It is over where the channel has ended, where there is no such
+    /// channel, and where the turns are spent, asked in this order. A step that is refused for another reason counts as one.
+    ///
+    /// Where memory is refused the steps before stand.
+    pub fn attend<R: Wait, G: Gate>(
+        &self,
+        rt: &R,
+        alloc: Global,
+        seat: &mut Seat<S>,
+        channel: u32,
+        gate: &G,
+        turns: u64,
+    ) -> Result<Attended, NoMemory>
+        ensures steps { steps.AddsSteps channel seat.old seat.new }
+        ensures bound { length seat.new.told ≤ length seat.old.told + turns }
+        ensures count { IfOk result (λ attended. length seat.new.told ≡ length seat.old.told + attended.steps) }
+        ensures why { IfOk result (λ attended. steps.IsReason attended.why attended.steps turns seat.new.told) }
+    {
+        for turn in 0..turns {
+            let (_place, _reply, end) = self.turn(rt, alloc, seat, channel, gate, turn)?;
+            if let Some(why) = end {
+                return Ok(Attended {
+                    steps: turn + 1,
+                    why,
+                });
+            }
+        }
+        Ok(Attended {
+            steps: turns,
+            why: Why::TurnsSpent,
+        })
+    }
+}

@@ -1,0 +1,48 @@
+//! The history of a shared world that was settled.
+ghost use Rattle.std.specs.Prelude.{◌≡◌};
+
+use crate::entry::Entry;
+use dp_machine::Machine;
+use std::marker::Model;
+
+/// All calls of a board, in the order in which they were done, and the machine behind the last of them. A contract sees it
+/// as the entries and the machine's world.
+#[derive(Drop)]
+pub struct History<T> {
+    machine: Machine<T>,
+    entries: Vec<Entry>,
+}
+
+impl<T> Model for History<T> {
+    ghost use Rattle.std.specs.Coded.{codes};
+    ghost use Rattle.dp_vars.specs.Variables.{named_code};
+    ghost use Rattle.dp_board.specs.Log.{Log};
+
+    ghost Value = { Log };
+
+    ghost coded = { Prim.hlevel (codes, named_code) };
+
+    ghost view = { λ history. record { world = history.machine; entries = history.entries.items } };
+}
+
+impl<T> History<T> {
+    pub(crate) fn new(machine: Machine<T>, entries: Vec<Entry>) -> Self
+        ensures { result ≡ record { world = machine; entries = entries.items } }
+    {
+        History { machine, entries }
+    }
+
+    /// The calls, in the order in which they were done.
+    pub fn entries(&self) -> &[Entry]
+        ensures { result.now ≡ self.now.entries }
+    {
+        &self.entries
+    }
+
+    /// The machine behind the last call.
+    pub fn machine(&self) -> &Machine<T>
+        ensures { result.now ≡ self.now.world }
+    {
+        &self.machine
+    }
+}

@@ -1,0 +1,31 @@
+//! One dialplan machine for many threads: each call is one event under one lock, and what was done stands in one history.
+#![tactic(auto)]
+
+mod attend;
+mod board;
+mod difference;
+mod entry;
+mod fault;
+mod history;
+mod joining;
+mod presence;
+mod seat;
+mod session;
+mod settle;
+mod shared;
+mod sheet;
+
+pub use attend::{Attended, Gate, Why};
+pub use board::Board;
+pub use difference::{Disagree, first_difference};
+pub use dp_machine::{Event, Machine, NoMemory, Phase, Refusal, Reply, Text};
+pub use entry::Entry;
+pub use fault::SettleFault;
+pub use history::History;
+pub use seat::Seat;
+pub use session::Session;
+pub use settle::{Back, Unsettled};
+pub use shared::Shared;
+
+#[cfg(test)]
+mod tests;

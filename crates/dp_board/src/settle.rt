@@ -1,0 +1,131 @@
+//! Settling a board: once all seats have come together, its calls stand in one history.
+ghost use Rattle.std.specs.Prelude.{◌≡◌, ◌+◌, ◌≤◌, [], All, IfOk, IfErr, MatchOption, length, vec_len, vec_capacity};
+ghost use Rattle.dp_board.specs.Settled as settled;
+ghost use Rattle.dp_board.specs.Unsettled as unsettled;
+
+use crate::board::Board;
+use crate::difference::{Disagree, first_difference};
+use crate::entry::Entry;
+use crate::fault::SettleFault;
+use crate::history::History;
+use crate::joining::{join_parts, split_parts};
+use crate::presence::least_absent;
+use crate::seat::Seat;
+use crate::session::Session;
+use crate::sheet::Sheet;
+use dp_app::AppTable;
+use std::alloc::Global;
+
+/// What a board that was not settled hands back.
+#[derive(Drop)]
+pub enum Back<T: AppTable, S: Session> {
+    /// The board and the seats, as they were.
+    Open {
+        board: Board<T, S>,
+        seats: Vec<Seat<S>>,
+    },
+    /// The history and the seats, as they were.
+    Closed {
+        history: History<T>,
+        seats: Vec<Seat<S>>,
+    },
+}
+
+/// Why a board was not settled, and what is handed back.
+#[derive(Drop)]
+pub struct Unsettled<T: AppTable, S: Session> {
+    pub fault: SettleFault,
+    pub back: Back<T, S>,
+}
+
+/// Of two differences the one of the lesser seat.
+fn lesser(least: Option<Disagree>, found: Option<Disagree>) -> Option<Disagree>
+    ensures { result ≡ settled.lesser least found }
+{
+    match (least, found) {
+        (None, found) => found,
+        (least, None) => least,
+        (Some(least), Some(found)) if found.seat < least.seat => Some(found),
+        (least, _) => least,
+    }
+}
+
+/// Of the seats that differ from the entries, the one of the least number, and where it first does.
+fn least_difference<S: Session>(entries: &[Entry], seats: &[Seat<S>]) -> Option<Disagree>
+    ensures { MatchOption result (All (settled.Agrees entries.now) seats.now) (settled.IsLeastDifference entries.now seats.now) }
+{
+    let mut least = None;
+    for seat in seats {
+        let found = first_difference(entries, seat.number(), seat.record());
+        least = lesser(least, found);
+    }
+    least
+}
+
+/// Room for what is left of so many seats, where each seat of a board is there.
+fn sheets_of_all<S: Session>(
+    alloc: Global,
+    count: u32,
+    seats: &[Seat<S>],
+) -> Result<Vec<Sheet<S>>, SettleFault>
+    requires { S.parts ≡ count + 1 }
+    ensures present { IfOk result (λ _. settled.AllPresent count seats.now × (count ≤ length seats.now)) }
+    ensures room { IfOk result (λ sheets. (sheets.items ≡ []) × (length seats.now ≤ vec_capacity sheets)) }
+    ensures err { IfErr result (unsettled.IsOpenFault count seats.now) }
+{
+    let mut present = vec![in alloc; false; count as usize]?;
+    let sheets = Vec::with_capacity(alloc, seats.len())?;
+    match least_absent(&mut present, count, seats) {
+        Some(seat) => Err(SettleFault::SeatMissing { seat }),
+        None => Ok(sheets),
+    }
+}
+
+/// The history of a board whose seats are all there.
+fn close<T: AppTable, S: Session>(
+    board: Board<T, S>,
+    mut sheets: Vec<Sheet<S>>,
+    mut seats: Vec<Seat<S>>,
+) -> Result<History<T>, Unsettled<T, S>>
+    requires present { settled.AllPresent board seats.items × (board ≤ length seats.items) }
+    requires room { (sheets.items ≡ []) × (vec_len seats ≤ vec_capacity sheets) }
+    ensures ok { IfOk result (λ history. settled.IsSettled T.rows S.opening board seats.items history) }
+    ensures err { IfErr result (λ it. unsettled.IsUnsettled T.rows S.opening board seats.items it.fault it.back) }
+{
+    let shared = board.shared.into_inner();
+    let mut all = board.rest.into_inner().share;
+    let found = least_difference(shared.entries(), &seats);
+    join_parts(&mut seats, &mut sheets, &mut all);
+    let history = shared.closed(&mut all);
+    match found {
+        None => Ok(history),
+        Some(found) => {
+            split_parts(&mut sheets, &mut seats, &mut all);
+            Err(Unsettled {
+                fault: SettleFault::Differs(found),
+                back: Back::Closed { history, seats },
+            })
+        }
+    }
+}
+
+impl<T: AppTable, S: Session> Board<T, S> {
+    /// The history of the board, where all its seats are handed in: the entries of each seat, with their places, are its
+    /// record, and there are no others. Where memory is refused, or a seat is not there, the board and the seats are handed
+    /// back. Where the entries of a seat are not its record, the history and the seats are; such a history has as many
+    /// entries as the records have items, and replays all the same.
+    ///
+    /// Refused memory comes first, then the least number that is absent, then the least seat that differs.
+    pub fn settle(self, alloc: Global, seats: Vec<Seat<S>>) -> Result<History<T>, Unsettled<T, S>>
+        ensures ok { IfOk result (λ history. settled.IsSettled T.rows S.opening self seats.items history) }
+        ensures err { IfErr result (λ it. unsettled.IsUnsettled T.rows S.opening self seats.items it.fault it.back) }
+    {
+        match sheets_of_all(alloc, self.seats, &seats) {
+            Ok(sheets) => close(self, sheets, seats),
+            Err(fault) => Err(Unsettled {
+                fault,
+                back: Back::Open { board: self, seats },
+            }),
+        }
+    }
+}

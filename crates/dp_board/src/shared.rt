@@ -1,0 +1,139 @@
+//! What lies under the lock of a board.
+ghost use Rattle.std.specs.Prelude.{◌≡◌, ◌++◌, ◌∷◌, [], length, IfOk, OnErr};
+ghost use Rattle.dp_board.specs.Log as log;
+ghost use Rattle.dp_board.specs.Sittings as sittings;
+
+use crate::entry::Entry;
+use crate::history::History;
+use crate::seat::Seat;
+use crate::session::Session;
+use dp_app::AppTable;
+use dp_machine::{Event, Machine, NoMemory, Phase, Reply};
+use std::alloc::Global;
+use std::marker::Model;
+use std::sync::ledger::{Book, Share};
+
+/// The machine that the seats of a session share, and the entries of the calls so far. Its world and the replies in the
+/// entries are always those of the events in the entries, one after another, from the world in which the session opened.
+/// A contract sees it as the world and the entries.
+#[derive(Drop)]
+pub struct Shared<T: AppTable, S: Session> {
+    machine: Machine<T>,
+    entries: Vec<Entry>,
+    calls: Book<S>,
+}
+
+impl<T: AppTable, S: Session> Model for Shared<T, S> {
+    ghost use Rattle.std.specs.Prelude.{◌≡◌, length};
+    ghost use Rattle.std.specs.Coded.{codes};
+    ghost use Rattle.dp_vars.specs.Variables.{named_code};
+    ghost use Rattle.dp_board.specs.Log.{Log, Replays, AreSeated};
+
+    ghost Value = { Log };
+
+    ghost coded = { Prim.hlevel (codes, named_code) };
+
+    ghost view = { λ shared. record { world = shared.machine; entries = shared.entries.items } };
+
+    ghost invariant = { λ shared.
+        Replays T.rows S.opening (record { world = shared.machine; entries = shared.entries.items })
+        × (length shared.entries.items ≡ shared.calls.total)
+        × AreSeated S.parts shared.entries.items };
+}
+
+/// Whether a channel in this phase waits for something other than its next step.
+fn is_parked(phase: &Phase) -> bool
+    ensures { result ≡ log.is_parked_in phase.now }
+{
+    match phase {
+        Phase::Digits { .. } | Phase::Pause | Phase::Queued { .. } | Phase::Talking { .. } => true,
+        Phase::Ready | Phase::Ended => false,
+    }
+}
+
+impl<T: AppTable, S: Session> Shared<T, S> {
+    /// A machine that no seat has acted on.
+    pub(crate) fn new(alloc: Global, machine: Machine<T>, calls: Book<S>) -> Self
+        requires opening { machine ≡ S.opening }
+        requires calls { calls.total ≡ 0 }
+        ensures { result ≡ record { world = machine; entries = [] } }
+    {
+        Shared {
+            machine,
+            entries: Vec::new(alloc),
+            calls,
+        }
+    }
+
+    /// Gives one event to the machine, for a seat. The entry of the call is added at the end of the entries; its place there,
+    /// from 0, and the reply are answered, and added with the event at the end of the seat's record.
+    ///
+    /// Where memory is refused all is as before.
+    pub fn step(
+        &mut self,
+        alloc: Global,
+        seat: &mut Seat<S>,
+        event: Event,
+    ) -> Result<(usize, Reply), NoMemory>
+        ensures row { IfOk result (λ told. log.IsRow T.rows self.old event told.1 self.new) }
+        ensures place { IfOk result (λ told. told.0 ≡ length self.old.entries) }
+        ensures logged { IfOk result (λ told. self.new.entries ≡ self.old.entries ++ record { seat = seat.old.number; event = event; reply = told.1 } ∷ []) }
+        ensures kept { IfOk result (λ told. seat.new ≡ sittings.with_call seat.old told.0 event told.1) }
+        ensures err { OnErr result ((self.new ≡ self.old) × (seat.new ≡ seat.old)) }
+    {
+        let logged = event.copy()?;
+        let told = event.copy()?;
+        self.entries.reserve(1)?;
+        seat.told.reserve(1)?;
+        let reply = self.machine.apply(alloc, event)?;
+        let place = self.entries.len();
+        self.entries.push_reserved(Entry {
+            seat: seat.number,
+            event: logged,
+            reply,
+        });
+        seat.told.push_reserved((place, told, reply));
+        self.calls.add(&mut seat.share, 1);
+        Ok((place, reply))
+    }
+
+    /// Whether the channel is there and waits for something other than its next step.
+    pub fn parked(&self, channel: u32) -> bool
+        ensures { result ≡ log.is_parked self.now channel }
+    {
+        match self.machine.phase(channel) {
+            Some(phase) => is_parked(phase),
+            None => false,
+        }
+    }
+
+    /// Whether the channel is there and has ended.
+    pub(crate) fn has_ended(&self, channel: u32) -> bool {
+        self.machine.phase(channel) == Some(&Phase::Ended)
+    }
+
+    /// The entries of the calls so far.
+    pub(crate) fn entries(&self) -> &[Entry]
+        ensures { result.now ≡ self.now.entries }
+    {
+        &self.entries
+    }
+
+    /// The history, once all parts of the ledger are in one share: it has as many entries as the share counts calls.
+    pub(crate) fn closed(self, all: &mut Share<S>) -> History<T>
+        requires { all.old.parts ≡ S.parts }
+        ensures history { result ≡ self }
+        ensures replays { log.Replays T.rows S.opening self }
+        ensures calls { length self.entries ≡ all.old.amount }
+        ensures seated { log.AreSeated S.parts self.entries }
+        ensures same { (all.new.parts ≡ all.old.parts) × (all.new.amount ≡ all.old.amount) }
+    {
+        let Shared {
+            machine,
+            entries,
+            mut calls,
+        } = self;
+        calls.audit(all);
+        History::new(machine, entries)
+    }
+}

@@ -1,0 +1,63 @@
+//! What a seat was told, apart from its part of the ledger.
+ghost use Rattle.std.specs.Prelude.{◌≡◌, length};
+
+use crate::seat::Seat;
+use crate::session::Session;
+use dp_machine::{Event, Reply};
+use std::marker::{Model, PhantomData};
+use std::sync::ledger::Share;
+
+/// The number of a seat and its record, while the seat's part of the ledger is joined with the others.
+#[derive(Drop)]
+pub(crate) struct Sheet<S: Session> {
+    number: u32,
+    told: Vec<(usize, Event, Reply)>,
+    session: PhantomData<S>,
+}
+
+impl<S: Session> Model for Sheet<S> {
+    ghost use Rattle.std.specs.Prelude.{◌+◌, ◌<◌};
+    ghost use Rattle.dp_board.specs.Sittings.{Sitting};
+
+    ghost Value = { Sitting };
+
+    ghost view = { λ sheet. record { number = sheet.number; told = sheet.told.items } };
+
+    ghost invariant = { λ sheet. sheet.number + 1 < S.parts };
+}
+
+impl<S: Session> Sheet<S> {
+    /// How many calls the seat was told of.
+    pub(crate) fn count(&self) -> u64
+        ensures { result ≡ length self.now.told }
+    {
+        self.told.len() as u64
+    }
+
+    /// The seat again, with its part of the ledger.
+    pub(crate) fn seated(self, share: Share<S>) -> Seat<S>
+        requires { (share.parts ≡ 1) × (share.amount ≡ length self.told) }
+        ensures { result ≡ self }
+    {
+        Seat {
+            number: self.number,
+            told: self.told,
+            share,
+        }
+    }
+}
+
+impl<S: Session> Seat<S> {
+    /// The seat's part of the ledger, and what is left of the seat.
+    pub(crate) fn parted(self) -> (Sheet<S>, Share<S>)
+        ensures sheet { result.0 ≡ self }
+        ensures share { (result.1.parts ≡ 1) × (result.1.amount ≡ length self.told) }
+    {
+        let sheet = Sheet {
+            number: self.number,
+            told: self.told,
+            session: PhantomData,
+        };
+        (sheet, self.share)
+    }
+}
