@@ -1,0 +1,82 @@
+-- A run that takes one more event, and one that took an event before it.
+use Rattle.std.proofs.Common.{suc, ◌≡◌, ℕ, ◌+◌, ◌-◌, ◌<◌, ◌≤◌, List, [], ◌∷◌, ◌++◌, length, take, drop, get_or, Option, refl, sym, ap, subst, ◌∙◌, arith}
+use Rattle.std.specs.Option.{option_and_then}
+use Rattle.std.specs.List.{slice_get, slice_range}
+use Rattle.std.proofs.lemmas.List.{append_assoc, drop_more, get_or-drop, length-drop, take_more}
+use Rattle.std.proofs.lemmas.Option.{slice_get_read}
+use Rattle.dp_app.specs.Rows.{Rows}
+use Rattle.dp_machine.specs.Events.{event_row}
+use Rattle.dp_machine.specs.Replay.{replies_to, world_after, world_behind}
+use Rattle.dp_machine.specs.World.{World}
+use Rattle.dp_machine.specs.declared.event.Event.{Event}
+use Rattle.dp_machine.specs.declared.reply.Reply.{Reply}
+use Rattle.dp_debug.specs.Breaks.{first_before}
+use Rattle.dp_debug.specs.Cut.{IsRun, IsWhy, first_at}
+use Rattle.dp_debug.specs.declared.breaks.Break.{Break}
+use Rattle.dp_debug.specs.declared.halt.Halt.{Halt}
+use Rattle.dp_debug.specs.declared.halt.Why.{Why}
+use Rattle.dp_debug.specs.declared.halt.Why.TheVariants.{End, Break as at_break, NoMemory}
+
+-- no event stands between a number and itself
+pub range-none : (events : List Event) (n : ℕ) → slice_range events n n ≡ []
+range-none events n =
+    let same : n - n ≡ 0 = omega arith in
+    ap (λ k. take k (drop n events)) same
+
+-- one more event at the end
+pub range-next : (events : List Event) (from n : ℕ) (event : Event) → from ≤ n → n < length events → event ≡ get_or events n event
+    → slice_range events from (n + 1) ≡ slice_range events from n ++ event ∷ []
+range-next events from n event begun within here =
+    let count : n + 1 - from ≡ n - from + 1 = omega (arith, begun) in
+    let long = length-drop from events in
+    let there : get_or (drop from events) (n - from) event ≡ event =
+    get_or-drop from events (n - from) event ∙ (ap (λ k. get_or events k event) (omega (arith, begun)) ∙ sym here) in
+    ap (λ k. take k (drop from events)) count
+    ∙ (take_more (drop from events) (n - from) event (omega (arith, begun, within, long)) ∙ ap (λ e. take (n - from) (drop from events) ++ e ∷ []) there)
+
+-- one event before them
+pub range-first : (events : List Event) (from n : ℕ) (event : Event) → from < n → from < length events → event ≡ get_or events from event
+    → slice_range events from n ≡ event ∷ slice_range events (from + 1) n
+range-first events from n event begun within here =
+    let count : n - from ≡ suc (n - (from + 1)) = omega (arith, begun) in
+    ap (λ k. take k (drop from events)) count
+    ∙ (ap (take (suc (n - (from + 1)))) (drop_more events from event within)
+    ∙ ap (λ e. e ∷ slice_range events (from + 1) n) (sym here))
+
+-- the first break before an event, by the world that it meets
+pub first_at-here : (rows : Rows) (w now : World) (events : List Event) (from : ℕ) (breaks : List Break) (n : ℕ) (event : Event)
+    → n < length events → event ≡ get_or events n event → now ≡ world_after rows w (slice_range events from n)
+    → first_at rows w events from breaks n ≡ first_before now event breaks
+unfolding first_at
+first_at-here rows w now events from breaks n event within here world =
+    ap (option_and_then (λ e. first_before (world_after rows w (slice_range events from n)) e breaks)) (slice_get_read events (length events) n event refl within here)
+    ∙ ap (λ world. first_before world event breaks) (sym world)
+
+-- why a run halts before one event is why a longer one halts there
+pub IsWhy-later : (count asked taken : ℕ) (first : Option ℕ) (why : Why) → asked ≤ taken → IsWhy 1 0 0 first why → IsWhy count asked taken first why
+IsWhy-later count asked taken first End later is = absurd (omega (arith, is))
+IsWhy-later count asked taken first (at_break number) later is = (later, is.1)
+IsWhy-later count asked taken first NoMemory later is = is
+
+-- one event, and then a run that goes on behind it
+pub IsRun-behind : (rows : Rows) (w : World) (events : List Event) (breaks : List Break) (from : ℕ) (event : Event) (old : List Reply) (halt : Halt)
+    (new : List Reply) (after : World) → from < length events → event ≡ get_or events from event
+    → IsRun rows (world_behind rows w event) events breaks (from + 1) (from + 1) (old ++ (event_row rows w event).1 ∷ []) halt new after
+    → IsRun rows w events breaks from (from + 1) old halt new after
+unfolding first_at
+IsRun-behind rows w events breaks from event old halt new after within here run =
+    let first : (n : ℕ) → from + 1 ≤ n → first_at rows (world_behind rows w event) events (from + 1) breaks n ≡ first_at rows w events from breaks n =
+    λ n later. ap (λ es. option_and_then (λ e. first_before (world_after rows w es) e breaks) (slice_get events n)) (sym (range-first events from n event (omega (arith, later)) within here)) in
+    let more : slice_range events from halt.taken ≡ event ∷ slice_range events (from + 1) halt.taken =
+    range-first events from halt.taken event (omega (arith, run.begun)) within here in
+    record {
+      begun = omega (arith, run.begun);
+      within = run.within;
+      world = run.world ∙ ap (world_after rows w) (sym more);
+      replies =
+          run.replies
+          ∙ (append_assoc old ((event_row rows w event).1 ∷ []) (replies_to rows (world_behind rows w event) (slice_range events (from + 1) halt.taken))
+          ∙ ap (λ es. old ++ replies_to rows w es) (sym more));
+      none = λ n later l. sym (first n later) ∙ run.none n later l;
+      why = subst (λ f. IsWhy (length events) (from + 1) halt.taken f halt.why) (first halt.taken run.begun) run.why;
+    }

@@ -1,0 +1,161 @@
+//! The debugger.
+ghost use Rattle.std.specs.Prelude.{◌≡◌, ◌≤◌, ◌<◌, ◌+◌, ◌++◌, ◌∷◌, [], length, IfNone, IfSome, None, OnErr, OnOk};
+ghost use Rattle.dp_machine.specs.Events.{event_row};
+ghost use Rattle.dp_debug.specs.Breaks.{first_before};
+ghost use Rattle.dp_debug.specs.Cut.{IsRun, IsWhy};
+ghost use Rattle.dp_debug.specs.declared.halt.Why.TheVariants.{End};
+
+use crate::breaks::{Break, first_before};
+use crate::halt::{Halt, Why};
+use dp_app::AppTable;
+use dp_machine::{Event, Machine, NoMemory, Reply};
+use std::alloc::Global;
+use std::marker::Model;
+
+/// A debugger, which contracts see as the replies to the events that its run took.
+#[derive(Debug, Drop)]
+pub struct Debugger {
+    trace: Vec<Reply>,
+}
+
+impl Model for Debugger {
+    ghost use Rattle.std.specs.Prelude.{List};
+    ghost use Rattle.dp_machine.specs.declared.reply.Reply.{Reply};
+
+    ghost Value = { List Reply };
+
+    ghost view = { λ debugger. debugger.trace.items };
+}
+
+impl Debugger {
+    /// A debugger that has run nothing.
+    pub fn new(alloc: Global) -> Self
+        ensures { result ≡ [] }
+    {
+        Debugger {
+            trace: Vec::new(alloc),
+        }
+    }
+
+    /// The replies to the events that the run took.
+    pub fn trace(&self) -> &[Reply]
+        ensures { result.now ≡ self.now }
+    {
+        &self.trace
+    }
+
+    /// Runs the machine over the events until a break holds before one, with an empty trace. Where memory is refused it halts
+    /// behind the events that it took.
+    pub fn run<T: AppTable>(
+        &mut self,
+        alloc: Global,
+        machine: &mut Machine<T>,
+        events: &[Event],
+        breaks: &[Break],
+    ) -> Halt
+        ensures { IsRun T.rows machine.old events.now breaks.now 0 0 [] result self.new machine.new }
+    {
+        self.trace.clear();
+        go_on(alloc, &mut self.trace, machine, events, 0, breaks)
+    }
+
+    /// Goes on with a run that has halted before the event of this number: that one is taken without asking the breaks, and
+    /// then as [`Debugger::run`] does; the trace goes on. Where memory is refused at that event nothing has changed. Where
+    /// there is no such event it is at the end.
+    pub fn resume<T: AppTable>(
+        &mut self,
+        alloc: Global,
+        machine: &mut Machine<T>,
+        events: &[Event],
+        taken: usize,
+        breaks: &[Break],
+    ) -> Halt
+        ensures on { taken < length events.now
+            → IsRun T.rows machine.old events.now breaks.now taken (taken + 1) self.old result self.new machine.new }
+        ensures end { length events.now ≤ taken → result ≡ record { taken = length events.now; why = End } }
+        ensures trace { length events.now ≤ taken → self.new ≡ self.old }
+        ensures world { length events.now ≤ taken → machine.new ≡ machine.old }
+    {
+        let Some(event) = events.get(taken) else {
+            return Halt {
+                taken: events.len(),
+                why: Why::End,
+            };
+        };
+        match take(alloc, &mut self.trace, machine, event) {
+            Ok(()) => go_on(alloc, &mut self.trace, machine, events, taken + 1, breaks),
+            Err(_) => Halt {
+                taken,
+                why: Why::NoMemory,
+            },
+        }
+    }
+}
+
+/// Runs the machine over the events from this number on until a break holds before one.
+fn go_on<T: AppTable>(
+    alloc: Global,
+    trace: &mut Vec<Reply>,
+    machine: &mut Machine<T>,
+    events: &[Event],
+    from: usize,
+    breaks: &[Break],
+) -> Halt
+    requires { from ≤ length events.now }
+    ensures { IsRun T.rows machine.old events.now breaks.now from from trace.old.items result trace.new.items machine.new }
+{
+    for taken in from..events.len() {
+        if let Some(why) = turn(alloc, trace, machine, &events[taken], breaks) {
+            return Halt { taken, why };
+        }
+    }
+    Halt {
+        taken: events.len(),
+        why: Why::End,
+    }
+}
+
+/// Gives the machine one event, or says why the run halts before it.
+fn turn<T: AppTable>(
+    alloc: Global,
+    trace: &mut Vec<Reply>,
+    machine: &mut Machine<T>,
+    event: &Event,
+    breaks: &[Break],
+) -> Option<Why>
+    ensures none { IfNone result (first_before machine.old event.now breaks.now ≡ None) }
+    ensures trace { IfNone result (trace.new.items ≡ trace.old.items ++ (event_row T.rows machine.old event.now).1 ∷ []) }
+    ensures world { IfNone result (machine.new ≡ (event_row T.rows machine.old event.now).0) }
+    ensures why { IfSome result (λ why. IsWhy 1 0 0 (first_before machine.old event.now breaks.now) why) }
+    ensures same_trace { IfSome result (λ why. trace.new.items ≡ trace.old.items) }
+    ensures same_world { IfSome result (λ why. machine.new ≡ machine.old) }
+{
+    match first_before(alloc, machine, event, breaks) {
+        Ok(None) => {}
+        Ok(Some(number)) => return Some(Why::Break(number)),
+        Err(_) => return Some(Why::NoMemory),
+    }
+    match take(alloc, trace, machine, event) {
+        Ok(()) => None,
+        Err(_) => Some(Why::NoMemory),
+    }
+}
+
+/// Gives the machine one event, and adds the reply to the trace.
+fn take<T: AppTable>(
+    alloc: Global,
+    trace: &mut Vec<Reply>,
+    machine: &mut Machine<T>,
+    event: &Event,
+) -> Result<(), NoMemory>
+    ensures ok { OnOk result (trace.new.items ≡ trace.old.items ++ (event_row T.rows machine.old event.now).1 ∷ []) }
+    ensures world { OnOk result (machine.new ≡ (event_row T.rows machine.old event.now).0) }
+    ensures trace { OnErr result (trace.new.items ≡ trace.old.items) }
+    ensures err { OnErr result (machine.new ≡ machine.old) }
+{
+    let event = event.copy()?;
+    trace.reserve(1)?;
+    let reply = machine.apply(alloc, event)?;
+    trace.push(reply).unwrap();
+    Ok(())
+}

@@ -1,0 +1,11 @@
+//! A debugger of dialplans: a run of the machine that halts before a step where a break holds.
+#![tactic(auto)]
+
+mod breaks;
+mod debugger;
+mod halt;
+
+pub use breaks::Break;
+pub use debugger::Debugger;
+pub use dp_machine::{Event, Machine, NoMemory, Place, Reply, Text};
+pub use halt::{Halt, Why};
