@@ -45,7 +45,7 @@ fn stands_at<T: AppTable>(machine: &Machine<T>, channel: u32, place: &Place) -> 
     ensures { result ≡ spec.stands_at (worlds.channel_at machine.now.channels channel) place.now }
 {
     match (machine.phase(channel), machine.place(channel)) {
-        (Some(phase), Some(own)) => is_ready(phase) && same_place(own, place),
+        (Some(phase), Some(stands)) => is_ready(phase) && same_place(stands, place),
         _ => false,
     }
 }

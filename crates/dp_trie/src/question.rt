@@ -40,7 +40,7 @@ fn has_label(held: &Held, label: &[u8]) -> bool
     ensures { IsTrue result ↔ (held.now.label ≡ Some label.now) }
 {
     match &held.label {
-        Some(own) => own.bytes() == label,
+        Some(text) => text.bytes() == label,
         None => false,
     }
 }
