@@ -24,7 +24,7 @@ match @usual main 5 ''→invalid value '' for '[PRIORITY]': a priority is a numb
 match @missing main 5 0→invalid value '0' for '[PRIORITY]': a priority is a number from 1 to 2147483647→pbx match <FILE> <CONTEXT> <TEXT> [PRIORITY]
 run→the following required arguments were not provided:¶  <FILE>¶  <SCRIPT>→pbx run <FILE> <SCRIPT>
 run @missing→the following required arguments were not provided:¶  <SCRIPT>→pbx run <FILE> <SCRIPT>
-run a b c→unexpected argument 'c' found→pbx run <FILE> <SCRIPT>
+run a b c→unexpected argument 'c' found→pbx run [OPTIONS] <FILE> <SCRIPT>
 --version→unexpected argument '--version' found→pbx [COMMAND]
 help dial→unrecognized subcommand 'dial'→pbx [COMMAND]
 ";
@@ -155,18 +155,28 @@ Example:
 const RUN_HELP: &str = "\
 Run a script of events on a dialplan, and print the trace
 
-Usage: pbx run <FILE> <SCRIPT>
+Usage: pbx run [OPTIONS] <FILE> <SCRIPT>
 
 Arguments:
   <FILE>    The dialplan, as extensions.conf
   <SCRIPT>  The script of events
 
 Options:
-  -h, --help  Print help
+      --queues <QUEUES>  The queues, as queues.conf; without it there are none
+  -h, --help             Print help
 
-A script has one event a line: `start CONTEXT EXTEN [CALLER]` for a call that comes in, and `step CHANNEL [COUNT]` for
-steps of a channel. `show CHANNEL NAME` prints a variable. Channels are numbered from 1 as they start. Prints a line for
-each event.
+A script has one event a line. Channels are numbered from 1 as they start, queues and agents are named:
+  start CONTEXT EXTEN [CALLER]   a call comes in
+  step CHANNEL [COUNT]           the channel takes so many steps
+  digit CHANNEL D                the caller dials a digit
+  timeout CHANNEL                what the channel waits for does not come in time
+  poll CHANNEL                   the channel leaves its queue, if that is too empty
+  hangup CHANNEL                 the caller hangs up
+  offer QUEUE                    a call of the queue rings at agents
+  answer AGENT, decline AGENT    the agent takes the call that it rings for, or not
+  done AGENT                     the agent is done with its call
+  show CHANNEL NAME              prints a variable
+Prints a line for each of them.
 
 Example:
   $ cat calls.script
