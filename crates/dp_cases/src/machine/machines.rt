@@ -186,13 +186,8 @@ fn a_run_goes_on(rt: &impl Abort, alloc: Global) -> Result<(), Fail> {
     check_a_run_goes_on(rt, alloc, &mut machine)
 }
 
-fn an_event_is_copied_whole(rt: &impl Abort, alloc: Global) -> Result<(), Fail> {
-    let call = Event::Start {
-        context: Text::copy_of(alloc, b"main")?,
-        exten: Text::copy_of(alloc, b"2-00")?,
-        caller: Text::copy_of(alloc, b"555\xFF")?,
-    };
-    match call.copy()? {
+fn check_the_start(rt: &impl Abort, event: &Event) -> Result<(), Fail> {
+    match event {
         Event::Start {
             context,
             exten,
@@ -204,19 +199,58 @@ fn an_event_is_copied_whole(rt: &impl Abort, alloc: Global) -> Result<(), Fail> 
         }
         _ => assert!(rt; false),
     }
-    for channel in [0, 1, u32::MAX] {
-        let step = Event::Step { channel };
-        assert!(rt; step.copy()? == step, "at {channel}");
-        assert!(rt; step != call, "at {channel}");
+    Ok(())
+}
+
+fn check_copies(rt: &impl Abort, events: &[Event]) -> Result<(), Fail> {
+    for event in events {
+        assert!(rt; event.copy()? == *event, "{event:?}");
     }
     Ok(())
+}
+
+fn an_event_is_copied_whole(rt: &impl Abort, alloc: Global) -> Result<(), Fail> {
+    let call = Event::Start {
+        context: Text::copy_of(alloc, b"main")?,
+        exten: Text::copy_of(alloc, b"2-00")?,
+        caller: Text::copy_of(alloc, b"555\xFF")?,
+    };
+    let copy = call.copy()?;
+    check_the_start(rt, &copy)
+}
+
+fn other_events_are_copied_whole(rt: &impl Abort, alloc: Global) -> Result<(), Fail> {
+    let events = [
+        Event::Step { channel: u32::MAX },
+        Event::Digit {
+            channel: 1,
+            digit: b'5',
+        },
+        Event::Timeout { channel: 1 },
+        Event::Poll { channel: 2 },
+        Event::Hangup { channel: 3 },
+        Event::Offer {
+            queue: Text::copy_of(alloc, b"q")?,
+        },
+        Event::Answer {
+            agent: Text::copy_of(alloc, b"Line/1")?,
+        },
+        Event::Decline {
+            agent: Text::copy_of(alloc, b"Line/2")?,
+        },
+        Event::AgentDone {
+            agent: Text::copy_of(alloc, b"Line/3")?,
+        },
+    ];
+    check_copies(rt, &events)
 }
 
 fn check_machines(rt: &impl Abort, alloc: Global) -> Result<(), Fail> {
     a_new_machine_has_its_plan_and_no_channel(rt, alloc)?;
     channels_are_read_by_their_numbers(rt, alloc)?;
     a_run_adds_its_replies(rt, alloc)?;
-    an_event_is_copied_whole(rt, alloc)
+    an_event_is_copied_whole(rt, alloc)?;
+    other_events_are_copied_whole(rt, alloc)
 }
 
 /// Machines and their readers, runs, and copies of events.
