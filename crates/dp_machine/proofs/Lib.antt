@@ -1,4 +1,6 @@
 pub mod AskLemmas
+pub mod IsolationLemmas
+pub mod IsolationRows
 pub mod ReplayLemmas
 pub mod StepLemmas
 pub mod StepRows

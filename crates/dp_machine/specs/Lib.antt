@@ -3,6 +3,7 @@ pub mod Codes
 pub mod Events
 pub mod Found
 pub mod GoodWorld
+pub mod Isolation
 pub mod Replay
 pub mod Seen
 pub mod Targets

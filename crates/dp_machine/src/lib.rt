@@ -7,6 +7,7 @@ mod asked;
 mod channel;
 mod ending;
 mod event;
+pub mod laws;
 mod lookup;
 mod machine;
 mod numbered;

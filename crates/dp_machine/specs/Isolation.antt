@@ -1,0 +1,48 @@
+-- A channel whose events touch nothing that is shared, and a list of events without them.
+use Rattle.std.specs.Prelude.{◌≡◌, ◌≢◌, ℕ, ◌==◌, Bool, true, false, not, List, ◌∷◌, ◌++◌, length, map, filter}
+use Rattle.std.specs.List.{zip}
+use Rattle.dp_app.specs.Rows.{Rows}
+use Rattle.dp_machine.specs.Replay.{world_behind, world_after}
+use Rattle.dp_machine.specs.World.{World, channel_at}
+use Rattle.dp_machine.specs.declared.event.Event.{Event}
+use Rattle.dp_machine.specs.declared.event.Event.TheVariants.{Start, Step, Digit, Timeout, Poll, Hangup, Offer, Answer, Decline, AgentDone}
+use Rattle.dp_machine.specs.declared.reply.Reply.{Reply}
+
+-- whether an event is one of the channel of a number; a call that comes in is of no channel, nor is an event of an agent
+abbrev pub is_of : ℕ → Event → Bool
+is_of number (Start context exten caller) = false
+is_of number (Step channel) = channel == number
+is_of number (Digit channel digit) = channel == number
+is_of number (Timeout channel) = channel == number
+is_of number (Poll channel) = channel == number
+is_of number (Hangup channel) = channel == number
+is_of number (Offer queue) = false
+is_of number (Answer agent) = false
+is_of number (Decline agent) = false
+is_of number (AgentDone agent) = false
+
+-- an event of a channel is private in a world if it leaves the dialplan and what all channels share as they are: the globals, the
+-- queues, the agents, and the count of finished calls
+pub record IsPrivate (rows : Rows) (w : World) (event : Event) : Type 0 where
+  pub plan : (world_behind rows w event).plan ≡ w.plan
+  pub shared : (world_behind rows w event).shared ≡ w.shared
+
+-- the channel of a number is unseen in the events: each of its own is private in the world that it meets
+abbrev pub IsUnseen : Rows → ℕ → World → List Event → Type 0
+IsUnseen rows number w events = (before : List Event) (event : Event) (later : List Event) → events ≡ before ++ event ∷ later
+    → is_of number event ≡ true → IsPrivate rows (world_after rows w before) event
+
+-- the events that are not of the channel of a number
+abbrev pub without : ℕ → List Event → List Event
+without number events = filter (λ event. not (is_of number event)) events
+
+-- the replies to those, among the replies to all events
+abbrev pub replies_without : ℕ → List Event → List Reply → List Reply
+replies_without number events replies = map (λ told. told.1) (filter (λ told. not (is_of number told.0)) (zip events replies))
+
+-- two worlds differ in nothing but what the channel of a number is
+pub record AreSameBut (number : ℕ) (v w : World) : Type 0 where
+  pub plan : v.plan ≡ w.plan
+  pub shared : v.shared ≡ w.shared
+  pub count : length v.channels ≡ length w.channels
+  pub others : (other : ℕ) → other ≢ number → channel_at v.channels other ≡ channel_at w.channels other

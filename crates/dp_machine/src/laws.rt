@@ -1,0 +1,19 @@
+//! Laws of the machine that speak of whole lists of events.
+ghost use Rattle.std.specs.Prelude.{◌≡◌, ℕ, List};
+ghost use Rattle.dp_machine.specs.Isolation.{AreSameBut, IsUnseen, replies_without, without};
+ghost use Rattle.dp_machine.specs.Replay.{replies_to, world_after};
+ghost use Rattle.dp_machine.specs.World.{World};
+ghost use Rattle.dp_machine.specs.declared.event.Event.{Event};
+
+use dp_app::AppTable;
+
+/// A channel is unseen in a list of events if each event of it leaves the dialplan, the globals, the queues, the agents and
+/// the count of finished calls as they are, in the world that it meets. Then the list without these events gives each other
+/// event the same reply, and the same last world but for this channel. So it is in every world, each good one among them,
+/// and over every table. It does nothing.
+pub fn isolation<T: AppTable>()
+    ensures replies { (world : World) (events : List Event) (channel : ℕ) → IsUnseen T.rows channel world events
+        → replies_to T.rows world (without channel events) ≡ replies_without channel events (replies_to T.rows world events) }
+    ensures world { (world : World) (events : List Event) (channel : ℕ) → IsUnseen T.rows channel world events
+        → AreSameBut channel (world_after T.rows world (without channel events)) (world_after T.rows world events) }
+{}
