@@ -2,6 +2,7 @@ mod AdditionLemmas
 mod ApartLemmas
 pub mod Canonical
 mod ChangedLemmas
+mod ClaimLemmas
 mod DraftLemmas
 pub mod EntryAgain
 mod EntryKnown

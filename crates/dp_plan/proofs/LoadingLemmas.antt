@@ -13,7 +13,7 @@ use Rattle.dp_plan.specs.Faults.{reason_of, text_fault}
 use Rattle.dp_plan.specs.History.{History, history_of}
 use Rattle.dp_plan.specs.Items.{line_item, items_after}
 use Rattle.dp_plan.specs.Loaded.{loaded}
-use Rattle.dp_plan.specs.Loading.{MadeOf, unmade, behind_item, behind_line, behind_lines, behind_all, part_read, part_behind, finished, drafted_of}
+use Rattle.dp_plan.specs.Loading.{MadeOf, unmade, behind_item, behind_line, behind_lines, behind_all, part_read, part_behind, finished, behind_text, drafted_of}
 use Rattle.dp_plan.specs.Plan.{PlanOf, kept_in, names_in, included_in, plan_of, notes_of}
 use Rattle.dp_plan.specs.Ranking.{AreApart}
 use Rattle.dp_plan.specs.Reader.{unread, behind}
@@ -78,30 +78,30 @@ parts_behind-is in_section line state (part ∷ parts) =
     by (Err fault) e later = refl
 
 -- the parts of a text are its lines
-pub parts_behind-text : (text : List ℕ) → parts_behind false 0 (Ok unmade) (parts_of (without_mark text)) ≡ read_on (Ok unmade) (lines_of text)
+pub parts_behind-text : (made : MadeOf) (text : List ℕ) → parts_behind false 0 (Ok made) (parts_of (without_mark text)) ≡ read_on (Ok made) (lines_of text)
 unfolding lines_of
-parts_behind-text text =
-    parts_behind-is false 0 (Ok unmade) (parts_of (without_mark text))
-    ∙ ap (λ readings. read_on (Ok unmade) (all_of readings)) (sym (each_after-reading_of [] (parts_of (without_mark text))))
+parts_behind-text made text =
+    parts_behind-is false 0 (Ok made) (parts_of (without_mark text))
+    ∙ ap (λ readings. read_on (Ok made) (all_of readings)) (sym (each_after-reading_of [] (parts_of (without_mark text))))
 
--- the draft of the state that was reached
-finished_of : Result State LoadFault → Result Drafted LoadFault
-finished_of reached = reached >>= λ state. finished state
+-- the state that was reached
+reached_of : Result State LoadFault → State
+reached_of reached = reached >>= λ state. state
 
-finished_of-lines : (lines : Result (List ConfLine) LineFault) → finished_of (read_on (Ok unmade) lines) ≡ (text_fault lines >>= λ ls. finished (behind_lines unmade ls))
-unfolding finished_of
-finished_of-lines (Ok lines) = refl
-finished_of-lines (Err fault) = refl
+reached_of-lines : (made : MadeOf) (lines : Result (List ConfLine) LineFault) → reached_of (read_on (Ok made) lines) ≡ (text_fault lines >>= λ ls. behind_lines made ls)
+unfolding reached_of
+reached_of-lines made (Ok lines) = refl
+reached_of-lines made (Err fault) = refl
 
--- where all parts are read, the draft is that of the state
-pub drafted-reached : (text : List ℕ) (state : State) → Ok state ≡ read_on (Ok unmade) (lines_of text) → drafted_of text ≡ finished state
-unfolding drafted_of finished_of
-drafted-reached text state e = sym (finished_of-lines (lines_of text)) ∙ ap finished_of (sym e)
+-- where all parts are read, the text leads to the state
+pub behind_text-reached : (made : MadeOf) (text : List ℕ) (state : State) → Ok state ≡ read_on (Ok made) (lines_of text) → behind_text made text ≡ state
+unfolding behind_text reached_of
+behind_text-reached made text state e = sym (reached_of-lines made (lines_of text)) ∙ ap reached_of (sym e)
 
 -- where a part is refused, so is the text
-pub drafted-refused : (text : List ℕ) (fault : LoadFault) → Err fault ≡ read_on (Ok unmade) (lines_of text) → drafted_of text ≡ Err fault
-unfolding drafted_of finished_of
-drafted-refused text fault e = sym (finished_of-lines (lines_of text)) ∙ ap finished_of (sym e)
+pub behind_text-refused : (made : MadeOf) (text : List ℕ) (fault : LoadFault) → Err fault ≡ read_on (Ok made) (lines_of text) → behind_text made text ≡ Err fault
+unfolding behind_text reached_of
+behind_text-refused made text fault e = sym (reached_of-lines made (lines_of text)) ∙ ap reached_of (sym e)
 
 -- ---- items
 
@@ -150,9 +150,9 @@ finished-items (Err fault) = refl
 
 -- the draft of a text is that of its items
 drafted-items : (text : List ℕ) → drafted_of text ≡ (text_fault (lines_of text) >>= λ lines. draft_of_items (items_after [] lines))
-unfolding drafted_of
+unfolding drafted_of behind_text
 drafted-items text = by (lines_of text) where
-  by : (read : Result (List ConfLine) LineFault) → (text_fault read >>= λ lines. finished (behind_lines unmade lines)) ≡ (text_fault read >>= λ lines. draft_of_items (items_after [] lines))
+  by : (read : Result (List ConfLine) LineFault) → finished (text_fault read >>= λ lines. behind_lines unmade lines) ≡ (text_fault read >>= λ lines. draft_of_items (items_after [] lines))
   by (Ok lines) = ap finished (behind_lines-items [] lines) ∙ finished-items (items_after [] lines)
   by (Err fault) = refl
 

@@ -46,9 +46,17 @@ same_marked a b = same_extension a.extension b.extension && same_text a.label b.
 abbrev pub slot_of : List ℕ → Entry → Slot
 slot_of context entry = record { extension = extension_of context entry.name; priority = entry.priority }
 
+-- a label of an entry in its context
+abbrev pub label_in : List ℕ → Entry → List ℕ → Label
+label_in context entry label = record { extension = extension_of context entry.name; label = label }
+
 -- the label that an entry takes, where it has one
 abbrev pub label_of : List ℕ → Entry → Option Label
-label_of context entry = option_map (λ label. record { extension = extension_of context entry.name; label = label }) entry.label
+label_of context entry = option_map (label_in context entry) entry.label
+
+-- the context of a name, with nothing in it
+abbrev pub empty_context : List ℕ → PlanContext
+empty_context name = record { name = name; entries = []; includes = [] }
 
 -- the draft with the context, which is new or there already
 abbrev pub with_context : Drafted → List ℕ → Drafted
@@ -56,7 +64,7 @@ with_context d name =
     if is_named d.names name then d
     else record d {
       names = d.names ++ name ∷ [];
-      contexts = d.contexts ++ (record { name = name; entries = []; includes = [] }) ∷ [];
+      contexts = d.contexts ++ empty_context name ∷ [];
     }
 
 -- the names with one more, where there is one and it is not among them already
@@ -83,10 +91,9 @@ is_marked d (Some label) = list_any (same_marked label) d.labels
 abbrev pub with_slot : Drafted → Slot → Drafted
 with_slot d slot = if is_slot_taken d slot then d else record d { taken = d.taken ++ slot ∷ [] }
 
--- the draft with the label taken, where there is one
-abbrev pub with_label : Drafted → Option Label → Drafted
-with_label d None = d
-with_label d (Some label) = if is_marked d (Some label) then d else record d { labels = d.labels ++ label ∷ [] }
+-- the draft with the label taken
+abbrev pub with_label : Drafted → Label → Drafted
+with_label d label = if is_marked d (Some label) then d else record d { labels = d.labels ++ label ∷ [] }
 
 -- the draft with one more note
 abbrev pub with_note : Drafted → ℕ → NoteKind → Drafted
@@ -101,10 +108,12 @@ abbrev pub doubled : Drafted → Slot → Option Label → Option NoteKind
 doubled d slot label =
     if is_slot_taken d slot then Some DoublePriority else if is_marked d label then Some DoubleLabel else None
 
--- the draft with the place and the label taken, and the entry in the context at a place
-abbrev pub accepted : Drafted → ℕ → Slot → Option Label → Entry → Drafted
-accepted d place slot label entry =
-    record (with_label (with_slot d slot) label) { contexts = changed_at (with_entry entry) place d.contexts }
+-- the draft with the place and the label taken, unless one of them is taken already
+abbrev pub claimed : Drafted → Slot → Option Label → Drafted
+claimed d slot label =
+    if is_slot_taken d slot then d
+    else if is_marked d label then d
+    else record d { taken = d.taken ++ slot ∷ []; labels = d.labels ++ option_to_list label }
 
 -- the draft with the entry in its context, which is there already, unless its place or its label is taken
 abbrev pub with_addition : Drafted → ℕ → List ℕ → Entry → Drafted

@@ -56,6 +56,10 @@ part_behind in_section line state part = part_read in_section state (at_line lin
 abbrev pub finished : Result MadeOf LoadFault → Result Drafted LoadFault
 finished state = state >>= λ made. Ok made.draft
 
+-- behind the lines of a text: a fault of the text comes before those of a context
+unfoldable pub behind_text : MadeOf → List ℕ → Result MadeOf LoadFault
+behind_text made text = text_fault (lines_of text) >>= λ lines. behind_lines made lines
+
 -- what all lines of a text make
 unfoldable pub drafted_of : List ℕ → Result Drafted LoadFault
-drafted_of text = text_fault (lines_of text) >>= λ lines. finished (behind_lines unmade lines)
+drafted_of text = finished (behind_text unmade text)

@@ -1,10 +1,11 @@
 //! A dialplan in the making.
-ghost use Rattle.std.specs.Prelude.{◌≡◌, ◌++◌, ◌<◌, [], ◌∷◌, OnOk, IfOk, Some, length, fold, map};
+ghost use Rattle.std.specs.Prelude.{◌≡◌, ◌++◌, ◌<◌, [], ◌∷◌, OnOk, IfOk, Some, None, false, length, fold, map};
 ghost use Rattle.std.specs.List.{All, flat_map, position_or_len};
-ghost use Rattle.std.specs.Option.{option_copied, option_to_list};
+ghost use Rattle.std.specs.Option.{option_to_list};
 ghost use Rattle.dp_plan.specs.Contexts.{with_entry, with_include};
 ghost use Rattle.dp_plan.specs.Draft as spec;
 ghost use Rattle.dp_conf.specs.Words.{same_text};
+ghost use Rattle.dp_plan.specs.Plan.{is_named};
 ghost use Rattle.dp_plan.specs.Ranking.{AreApart};
 
 use crate::context::Context;
@@ -12,7 +13,7 @@ use crate::entry::Entry;
 use crate::extension::Extension;
 use crate::item::Item;
 use crate::note::{Note, NoteKind};
-use crate::plan::{Dialplan, GlobalVariable};
+use crate::plan::{Dialplan, GlobalVariable, Parts};
 use crate::priority::Priority;
 use crate::ranking::rank_contexts;
 use crate::remark::{Remark, settle};
@@ -24,14 +25,14 @@ use std::alloc::Global;
 use std::marker::Model;
 
 /// A place in a dialplan that at most one entry has.
-#[derive(Debug, PartialEq, Eq, Hash, Drop)]
+#[derive(PartialEq, Eq, Hash, Drop)]
 pub(crate) struct Slot {
     extension: Extension,
     priority: u32,
 }
 
 /// A label of an extension, which at most one entry has.
-#[derive(Debug, PartialEq, Eq, Hash, Drop)]
+#[derive(PartialEq, Eq, Hash, Drop)]
 pub(crate) struct Label {
     extension: Extension,
     label: Text,
@@ -78,35 +79,48 @@ fn slot_of(context: &SharedText, entry: &Entry) -> Result<Slot, NoMemory>
     })
 }
 
-/// The label that an entry takes, where it has one.
-fn label_of(context: &SharedText, entry: &Entry) -> Result<Option<Label>, NoMemory>
-    ensures { IfOk result (λ label. label ≡ spec.label_of context.now entry.now) }
+/// The label of an entry in its context.
+fn label_of(context: &SharedText, entry: &Entry, label: &Text) -> Result<Label, NoMemory>
+    ensures { IfOk result (λ marked. marked ≡ spec.label_in context.now entry.now label.now) }
 {
-    match &entry.label {
-        None => Ok(None),
-        Some(label) => {
-            let extension = Extension::of(context, &entry.name)?;
-            let label = label.clone()?;
-            Ok(Some(Label { extension, label }))
-        }
-    }
+    let extension = Extension::of(context, &entry.name)?;
+    let label = label.clone()?;
+    Ok(Label { extension, label })
 }
 
-/// What an entry takes: its place, and its label where it has one.
+/// What an entry with a label takes: its place and its label.
 #[derive(Drop)]
 struct Claim {
     slot: Slot,
-    label: Option<Label>,
+    label: Label,
 }
 
-/// What an entry takes of its context.
-fn claim_of(context: &SharedText, entry: &Entry) -> Result<Claim, NoMemory>
+/// What an entry with this label takes of its context.
+fn claim_of(context: &SharedText, entry: &Entry, label: &Text) -> Result<Claim, NoMemory>
     ensures slot { IfOk result (λ claim. claim.slot ≡ spec.slot_of context.now entry.now) }
-    ensures label { IfOk result (λ claim. claim.label ≡ spec.label_of context.now entry.now) }
+    ensures label { IfOk result (λ claim. claim.label ≡ spec.label_in context.now entry.now label.now) }
 {
     let slot = slot_of(context, entry)?;
-    let label = label_of(context, entry)?;
+    let label = label_of(context, entry, label)?;
     Ok(Claim { slot, label })
+}
+
+/// The context of this name, with nothing in it.
+fn empty_context(alloc: Global, name: &Text) -> Result<Context, NoMemory>
+    ensures { IfOk result (λ context. context ≡ spec.empty_context name.now) }
+{
+    let name = name.clone()?;
+    Ok(Context::new(alloc, name))
+}
+
+/// The dialplan of these parts, with the rankings of its contexts.
+fn plan_of(alloc: Global, parts: Parts) -> Result<Dialplan, NoMemory>
+    requires names { parts.names.keys ≡ map (λ context. context.name) parts.contexts.items }
+    requires apart { All (λ context. AreApart context.entries) parts.contexts.items }
+    ensures { IfOk result (λ plan. plan ≡ record { globals = parts.globals.items; contexts = parts.contexts.items }) }
+{
+    let rankings = rank_contexts(alloc, &parts.contexts)?;
+    Ok(Dialplan::of_parts(parts, rankings))
 }
 
 impl Draft {
@@ -124,21 +138,31 @@ impl Draft {
         }
     }
 
+    /// Adds the context of this name, which is not there, and gives its number.
+    fn add_context(&mut self, alloc: Global, name: &Text) -> Result<usize, NoMemory>
+        requires { is_named self.old.names name.now ≡ false }
+        ensures ok { OnOk result (self.new ≡ spec.with_context self.old name.now) }
+        ensures place { IfOk result (λ place. place ≡ position_or_len (same_text name.now) self.new.names) }
+        ensures within { IfOk result (λ place. place < length self.new.contexts) }
+    {
+        self.contexts.reserve(1)?;
+        let context = empty_context(alloc, name)?;
+        let key = name.clone()?;
+        let (place, _) = self.names.insert_full(key)?;
+        self.contexts.push(context).unwrap();
+        Ok(place)
+    }
+
     /// Makes sure that the context of this name is there, and gives its number.
     fn open_text(&mut self, alloc: Global, name: &Text) -> Result<usize, NoMemory>
         ensures ok { OnOk result (self.new ≡ spec.with_context self.old name.now) }
         ensures place { IfOk result (λ place. place ≡ position_or_len (same_text name.now) self.new.names) }
         ensures within { IfOk result (λ place. place < length self.new.contexts) }
     {
-        if let Some(place) = self.names.get_index_of(name) {
-            return Ok(place);
+        match self.names.get_index_of(name) {
+            Some(place) => Ok(place),
+            None => self.add_context(alloc, name),
         }
-        let key = name.clone()?;
-        let name = name.clone()?;
-        self.contexts.reserve(1)?;
-        let (place, _) = self.names.insert_full(key)?;
-        self.contexts.push(Context::new(alloc, name)).unwrap();
-        Ok(place)
     }
 
     /// Makes sure that the context of this name is there, and gives its number.
@@ -165,40 +189,88 @@ impl Draft {
         self.taken.contains(slot)
     }
 
-    /// Whether there is a label and it is taken.
-    fn is_marked(&self, label: Option<&Label>) -> bool
-        ensures { result ≡ spec.is_marked self.now (option_copied label.entry) }
+    /// Whether the label is taken.
+    fn is_marked(&self, label: &Label) -> bool
+        ensures { result ≡ spec.is_marked self.now (Some label.now) }
     {
-        match label {
-            None => false,
-            Some(label) => self.labels.contains(label),
-        }
+        self.labels.contains(label)
     }
 
-    /// Takes up the place.
-    fn take(&mut self, slot: Slot) -> Result<(), NoMemory>
-        ensures { OnOk result (self.new ≡ spec.with_slot self.old slot) }
+    /// Takes up the place, unless it is taken, which is noted.
+    fn take(&mut self, slot: Slot) -> Result<Option<NoteKind>, NoMemory>
+        ensures noted { IfOk result (λ noted. noted ≡ spec.doubled self.old slot None) }
+        ensures taken { OnOk result (self.new ≡ spec.with_slot self.old slot) }
     {
-        self.taken.insert(slot)?;
-        Ok(())
+        let is_free = self.taken.insert(slot)?;
+        Ok(if is_free {
+            None
+        } else {
+            Some(NoteKind::DoublePriority)
+        })
     }
 
     /// Takes up the label.
     fn take_label(&mut self, label: Label) -> Result<(), NoMemory>
-        ensures { OnOk result (self.new ≡ spec.with_label self.old (Some label)) }
+        ensures { OnOk result (self.new ≡ spec.with_label self.old label) }
     {
         self.labels.insert(label)?;
         Ok(())
     }
 
-    /// Takes up the label, where there is one.
-    fn mark(&mut self, label: Option<Label>) -> Result<(), NoMemory>
-        ensures { OnOk result (self.new ≡ spec.with_label self.old label) }
+    /// Takes up the place and the label, which are free.
+    #[tactic(auto, using(crate::proofs::ClaimLemmas::claimed_free))]
+    fn take_free(&mut self, claim: Claim) -> Result<(), NoMemory>
+        requires { spec.doubled self.old claim.slot (Some claim.label) ≡ None }
+        ensures { OnOk result (self.new ≡ spec.claimed self.old claim.slot (Some claim.label)) }
     {
-        if let Some(label) = label {
-            self.take_label(label)?;
+        let Claim { slot, label } = claim;
+        self.take(slot)?;
+        self.take_label(label)
+    }
+
+    /// What an entry is noted for, where its place or its label is taken.
+    fn doubled(&self, claim: &Claim) -> Option<NoteKind>
+        ensures { result ≡ spec.doubled self.now claim.now.slot (Some claim.now.label) }
+    {
+        if self.is_slot_taken(&claim.slot) {
+            return Some(NoteKind::DoublePriority);
         }
-        Ok(())
+        if self.is_marked(&claim.label) {
+            return Some(NoteKind::DoubleLabel);
+        }
+        None
+    }
+
+    /// Takes up the place and the label, unless one of them is taken, which is noted.
+    fn take_both(&mut self, claim: Claim) -> Result<Option<NoteKind>, NoMemory>
+        ensures noted { IfOk result (λ noted. noted ≡ spec.doubled self.old claim.slot (Some claim.label)) }
+        ensures taken { OnOk result (self.new ≡ spec.claimed self.old claim.slot (Some claim.label)) }
+    {
+        let noted = self.doubled(&claim);
+        if noted.is_none() {
+            self.take_free(claim)?;
+        }
+        Ok(noted)
+    }
+
+    /// Takes up what an entry takes of its context, unless that is taken, which is noted.
+    #[tactic(auto, using(crate::proofs::ClaimLemmas::claimed_bare))]
+    fn claim(&mut self, context: &SharedText, entry: &Entry) -> Result<Option<NoteKind>, NoMemory>
+        ensures noted { IfOk result (λ noted. noted
+            ≡ spec.doubled self.old (spec.slot_of context.now entry.now) (spec.label_of context.now entry.now)) }
+        ensures taken { OnOk result (self.new
+            ≡ spec.claimed self.old (spec.slot_of context.now entry.now) (spec.label_of context.now entry.now)) }
+    {
+        match &entry.label {
+            None => {
+                let slot = slot_of(context, entry)?;
+                self.take(slot)
+            }
+            Some(label) => {
+                let claim = claim_of(context, entry, label)?;
+                self.take_both(claim)
+            }
+        }
     }
 
     /// Adds the entry to the context at the place.
@@ -225,32 +297,8 @@ impl Draft {
         Ok(())
     }
 
-    /// What an entry is noted for, where its place or its label is taken.
-    fn doubled(&self, claim: &Claim) -> Option<NoteKind>
-        ensures { result ≡ spec.doubled self.now claim.now.slot claim.now.label }
-    {
-        if self.is_slot_taken(&claim.slot) {
-            return Some(NoteKind::DoublePriority);
-        }
-        if self.is_marked(claim.label.as_ref()) {
-            return Some(NoteKind::DoubleLabel);
-        }
-        None
-    }
-
-    /// Adds an entry, of which the place and the label are free, to the context at the place.
-    fn accept(&mut self, place: usize, claim: Claim, entry: Entry) -> Result<(), NoMemory>
-        requires { place < length self.old.contexts }
-        ensures { OnOk result (self.new ≡ spec.accepted self.old place claim.slot claim.label entry) }
-    {
-        let Claim { slot, label } = claim;
-        self.take(slot)?;
-        self.mark(label)?;
-        self.push_entry(place, entry)
-    }
-
     /// Adds an entry to its context, or notes that its place or its label is taken.
-    #[tactic(auto, using(crate::proofs::AdditionLemmas::noted_addition))]
+    #[tactic(auto, using(crate::proofs::AdditionLemmas::noted_addition, crate::proofs::AdditionLemmas::kept_addition))]
     fn add_entry(
         &mut self,
         alloc: Global,
@@ -260,12 +308,19 @@ impl Draft {
     ) -> Result<(), NoMemory>
         ensures { OnOk result (self.new ≡ spec.with_addition (spec.with_context self.old context.now) line context.now entry) }
     {
-        let claim = claim_of(context, &entry)?;
         let place = self.open(alloc, context)?;
-        match self.doubled(&claim) {
+        match self.claim(context, &entry)? {
             Some(kind) => self.note(line, kind),
-            None => self.accept(place, claim, entry),
+            None => self.push_entry(place, entry),
         }
+    }
+
+    /// Keeps an include's line and name, for its note.
+    fn ask(&mut self, line: usize, name: Text) -> Result<(), NoMemory>
+        ensures { OnOk result (self.new ≡ record self.old { remarks = self.old.remarks ++ Remark.Asks line name ∷ [] }) }
+    {
+        self.remarks.push(Remark::Asks { line, name })?;
+        Ok(())
     }
 
     /// Adds an include to its context. Whether its name is one of a context shows in the end.
@@ -279,11 +334,10 @@ impl Draft {
         ensures { OnOk result (self.new
             ≡ spec.with_inclusion (spec.with_context self.old context.now) line context.now name) }
     {
-        let copy = name.clone()?;
         let place = self.open(alloc, context)?;
+        let copy = name.clone()?;
         self.push_include(place, copy)?;
-        self.remarks.push(Remark::Asks { line, name })?;
-        Ok(())
+        self.ask(line, name)
     }
 
     /// Adds a global variable.
@@ -343,6 +397,27 @@ impl Draft {
         Ok(notes)
     }
 
+    /// The parts of the draft's dialplan. The places, the labels and the remarks are let go.
+    fn into_parts(self) -> Parts
+        ensures globals { result.globals.items ≡ self.globals }
+        ensures names { result.names.keys ≡ self.names }
+        ensures contexts { result.contexts.items ≡ self.contexts }
+    {
+        let Draft {
+            globals,
+            names,
+            contexts,
+            taken: _,
+            labels: _,
+            remarks: _,
+        } = self;
+        Parts {
+            globals,
+            names,
+            contexts,
+        }
+    }
+
     /// The dialplan of the draft, and its notes. The places and labels are let go before the entries are ranked.
     pub(crate) fn into_plan(self, alloc: Global) -> Result<(Dialplan, Vec<Note>), NoMemory>
         requires names { self.names ≡ map (λ context. context.name) self.contexts }
@@ -351,20 +426,7 @@ impl Draft {
         ensures notes { IfOk result (λ made. made.1.items ≡ flat_map (spec.settled self.names) self.remarks) }
     {
         let notes = self.notes(alloc)?;
-        let Draft {
-            globals,
-            names,
-            contexts,
-            taken,
-            labels,
-            remarks: _,
-        } = self;
-        drop(taken);
-        drop(labels);
-        let rankings = rank_contexts(alloc, &contexts)?;
-        Ok((
-            Dialplan::of_parts(globals, names, contexts, rankings),
-            notes,
-        ))
+        let plan = plan_of(alloc, self.into_parts())?;
+        Ok((plan, notes))
     }
 }

@@ -8,7 +8,7 @@ use crate::shared_text::SharedText;
 use dp_conf::NoMemory;
 
 /// An extension of a context. Names of one meaning are one extension, since they have one canonical spelling.
-#[derive(Debug, PartialEq, Eq, Hash, Drop)]
+#[derive(PartialEq, Eq, Hash, Drop)]
 pub(crate) struct Extension {
     context: SharedText,
     spelling: SharedSpelling,

@@ -3,6 +3,7 @@ ghost use Rattle.std.specs.Prelude.{◌≡◌, IfOk};
 ghost use Rattle.std.specs.Option.{option_to_list};
 ghost use Rattle.dp_conf.specs.Answers.{Answers};
 ghost use Rattle.dp_conf.specs.Borrowed.{line_now};
+ghost use Rattle.dp_plan.specs.EntryLine.{exten_entry, same_entry};
 ghost use Rattle.dp_plan.specs.Faults.{reason_of};
 ghost use Rattle.dp_plan.specs.Items as spec;
 ghost use Rattle.dp_plan.specs.Reader.{history_in};
@@ -102,6 +103,38 @@ fn refused_key(key: &[u8]) -> Option<PlanKind>
     None
 }
 
+/// The item of an `exten` line.
+fn exten_item(
+    alloc: Global,
+    reader: &Reader,
+    context: &SharedText,
+    line: usize,
+    value: &[u8],
+) -> Result<Item, LoadFault>
+    ensures { Answers (λ item. item) reason_of result
+        (spec.entry_item context.now line (exten_entry (history_in reader.now) line context.now value.now)) }
+{
+    let entry = read_exten(alloc, reader, line, context, value)?;
+    let item = added(context, line, entry)?;
+    Ok(item)
+}
+
+/// The item of a `same` line.
+fn same_item(
+    alloc: Global,
+    reader: &Reader,
+    context: &SharedText,
+    line: usize,
+    value: &[u8],
+) -> Result<Item, LoadFault>
+    ensures { Answers (λ item. item) reason_of result
+        (spec.entry_item context.now line (same_entry (history_in reader.now) line context.now value.now)) }
+{
+    let entry = read_same(alloc, reader, line, context, value)?;
+    let item = added(context, line, entry)?;
+    Ok(item)
+}
+
 /// The item of a pair in a context.
 #[tactic(auto, unfolding(crate::specs::Items::context_item))]
 fn read_context_pair(
@@ -116,18 +149,13 @@ fn read_context_pair(
         (spec.context_item (history_in reader.now) context.now line key.now value.now) }
 {
     if same_word(key, b"exten") {
-        let entry = read_exten(alloc, reader, line, context, value)?;
-        let item = added(context, line, entry)?;
-        return Ok(item);
+        return exten_item(alloc, reader, context, line, value);
     }
     if same_word(key, b"same") {
-        let entry = read_same(alloc, reader, line, context, value)?;
-        let item = added(context, line, entry)?;
-        return Ok(item);
+        return same_item(alloc, reader, context, line, value);
     }
     if same_word(key, b"include") {
-        let item = read_include(alloc, context, line, value)?;
-        return Ok(item);
+        return read_include(alloc, context, line, value);
     }
     match refused_key(key) {
         Some(kind) => Err(LoadFault::Plan { line, kind }),

@@ -1,13 +1,15 @@
 //! The lines of a dialplan's text, taken one at a time.
-ghost use Rattle.std.specs.Prelude.{◌≡◌, ◌+◌, IfOk, OnOk};
+ghost use Rattle.std.specs.Prelude.{◌≡◌, ◌+◌, IfOk, OnOk, fold};
+ghost use Rattle.std.specs.Option.{option_to_list};
 ghost use Rattle.dp_conf.specs.Answers.{Answers};
 ghost use Rattle.dp_conf.specs.Borrowed.{line_now, lines_now};
+ghost use Rattle.dp_conf.specs.Lines.{item_of, at_line};
 ghost use Rattle.dp_plan.specs.Faults.{reason_of};
 ghost use Rattle.dp_plan.specs.Loading as spec;
 
 use crate::draft::Draft;
 use crate::fault::LoadFault;
-use crate::item::read_item;
+use crate::item::{Item, read_item};
 use crate::reader::Reader;
 use dp_conf::{Line, NoMemory, first_part, has_begun, read_content, read_line, without_mark};
 use std::alloc::Global;
@@ -39,13 +41,20 @@ impl Made {
         }
     }
 
+    /// Goes behind an item, where there is one.
+    fn take_item(&mut self, alloc: Global, item: Option<Item>) -> Result<(), NoMemory>
+        ensures { OnOk result (self.new ≡ fold spec.behind_item self.old (option_to_list item)) }
+    {
+        self.reader.remember(item.as_ref())?;
+        self.draft.add_item(alloc, item)
+    }
+
     /// Goes behind a line.
     fn take(&mut self, alloc: Global, line: Line<'_>) -> Result<(), LoadFault>
         ensures { Answers (λ done. self.new) reason_of result (spec.behind_line self.old (line_now line.entry)) }
     {
         let item = read_item(alloc, &self.reader, line)?;
-        self.reader.remember(item.as_ref())?;
-        self.draft.add_item(alloc, item)?;
+        self.take_item(alloc, item)?;
         Ok(())
     }
 
@@ -88,6 +97,23 @@ fn take_on(
     }
 }
 
+/// Goes behind the line of a content, and gives whether a section has begun behind it, and the first fault so far.
+fn take_content(
+    alloc: Global,
+    made: &mut Made,
+    fault: Option<LoadFault>,
+    line: usize,
+    in_section: bool,
+    content: &[u8],
+) -> Result<(bool, Option<LoadFault>), LoadFault>
+    ensures { Answers (λ behind. (behind.0, spec.outcome behind.1 made.new)) reason_of result
+        (spec.part_read in_section (spec.outcome fault made.old) (at_line line (item_of in_section line content.now))) }
+{
+    let item = read_line(line, in_section, content)?;
+    let kept = take_on(alloc, made, fault, item)?;
+    Ok((has_begun(in_section, item), kept))
+}
+
 /// Goes behind a part of the text, and gives whether a section has begun behind it, and the first fault so far.
 fn take_part(
     alloc: Global,
@@ -101,29 +127,26 @@ fn take_part(
         (spec.part_behind in_section line (spec.outcome fault made.old) part.now) }
 {
     let content = read_content(alloc, line, part)?;
-    let item = read_line(line, in_section, content.bytes())?;
-    let kept = take_on(alloc, made, fault, item)?;
-    Ok((has_begun(in_section, item), kept))
+    take_content(alloc, made, fault, line, in_section, content.bytes())
 }
 
-/// What was made, or the fault that was kept aside.
-fn finish(made: Made, fault: Option<LoadFault>) -> Result<Draft, LoadFault>
-    ensures { Answers (λ draft. draft) reason_of result (spec.finished (spec.outcome fault made)) }
+/// Refuses for the fault that was kept aside, where there is one.
+fn first_fault(fault: Option<LoadFault>) -> Result<(), LoadFault>
+    ensures { (made : spec.MadeOf) → Answers (λ done. made) reason_of result (spec.outcome fault made) }
 {
     match fault {
         Some(fault) => Err(fault),
-        None => Ok(made.into_draft()),
+        None => Ok(()),
     }
 }
 
-/// What the lines of a text make.
+/// Goes behind the lines of a text.
 ///
 /// A fault of the text ends it. A fault of another kind is kept aside until the text ends, and the lines behind it are
 /// read as lines alone.
-pub(crate) fn read_draft(alloc: Global, text: &[u8]) -> Result<Draft, LoadFault>
-    ensures { Answers (λ draft. draft) reason_of result (spec.drafted_of text.now) }
+fn take_text(alloc: Global, made: &mut Made, text: &[u8]) -> Result<(), LoadFault>
+    ensures { Answers (λ done. made.new) reason_of result (spec.behind_text made.old text.now) }
 {
-    let mut made = Made::new(alloc);
     let mut fault: Option<LoadFault> = None;
     let mut line: usize = 0;
     let mut in_section = false;
@@ -131,10 +154,20 @@ pub(crate) fn read_draft(alloc: Global, text: &[u8]) -> Result<Draft, LoadFault>
     while let Some(left) = rest {
         let (part, behind) = first_part(left);
         line += 1;
-        let (begun, kept) = take_part(alloc, &mut made, fault, line, in_section, part)?;
+        let (begun, kept) = take_part(alloc, made, fault, line, in_section, part)?;
         in_section = begun;
         fault = kept;
         rest = behind;
     }
-    finish(made, fault)
+    first_fault(fault)
+}
+
+/// What the lines of a text make.
+#[tactic(auto, unfolding(crate::specs::Loading::drafted_of))]
+pub(crate) fn read_draft(alloc: Global, text: &[u8]) -> Result<Draft, LoadFault>
+    ensures { Answers (λ draft. draft) reason_of result (spec.drafted_of text.now) }
+{
+    let mut made = Made::new(alloc);
+    take_text(alloc, &mut made, text)?;
+    Ok(made.into_draft())
 }

@@ -56,6 +56,14 @@ impl Model for Dialplan {
         × All (λ context. AreApart context.entries) plan.contexts.items };
 }
 
+/// The parts of a dialplan beside its rankings.
+#[derive(Drop)]
+pub(crate) struct Parts {
+    pub(crate) globals: Vec<GlobalVariable>,
+    pub(crate) names: IndexSet<Text>,
+    pub(crate) contexts: Vec<Context>,
+}
+
 impl Dialplan {
     ghost use Rattle.dp_plan.specs.Lookup.{entry_at, number_of, includes_at, includes_of, IsRankedAt, IsRankedOf};
 
@@ -72,18 +80,18 @@ impl Dialplan {
     }
 
     /// The dialplan of these parts.
-    pub(crate) fn of_parts(
-        globals: Vec<GlobalVariable>,
-        names: IndexSet<Text>,
-        contexts: Vec<Context>,
-        rankings: Vec<Ranking>,
-    ) -> Self
-        requires names { names.keys ≡ map (λ context. context.name) contexts.items }
-        requires ranked { AreRanked contexts.items rankings.items }
-        requires named { All (λ context. AreNamed context.entries) contexts.items }
-        requires apart { All (λ context. AreApart context.entries) contexts.items }
-        ensures { result ≡ record { globals = globals.items; contexts = contexts.items } }
+    pub(crate) fn of_parts(parts: Parts, rankings: Vec<Ranking>) -> Self
+        requires names { parts.names.keys ≡ map (λ context. context.name) parts.contexts.items }
+        requires ranked { AreRanked parts.contexts.items rankings.items }
+        requires named { All (λ context. AreNamed context.entries) parts.contexts.items }
+        requires apart { All (λ context. AreApart context.entries) parts.contexts.items }
+        ensures { result ≡ record { globals = parts.globals.items; contexts = parts.contexts.items } }
     {
+        let Parts {
+            globals,
+            names,
+            contexts,
+        } = parts;
         Dialplan {
             globals,
             names,

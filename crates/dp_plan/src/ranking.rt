@@ -91,6 +91,16 @@ fn rank(alloc: Global, context: usize, entries: &[Entry]) -> Result<Ranking, NoM
     Ok(Ranking { ids })
 }
 
+/// The ranking of a context, of whose entries each name is one that some text means.
+fn rank_context(alloc: Global, number: usize, context: &Context) -> Result<Ranking, NoMemory>
+    requires { spec.AreApart context.now.entries }
+    ensures ranked { IfOk result (λ ranking. spec.IsRanking number context.now.entries ranking) }
+    ensures named { AreNamed context.now.entries }
+{
+    context.entries_are_named();
+    rank(alloc, number, context.entries())
+}
+
 /// The rankings of all contexts.
 pub(crate) fn rank_contexts(alloc: Global, contexts: &[Context]) -> Result<Vec<Ranking>, NoMemory>
     requires { All (λ context. spec.AreApart context.entries) contexts.now }
@@ -99,8 +109,7 @@ pub(crate) fn rank_contexts(alloc: Global, contexts: &[Context]) -> Result<Vec<R
 {
     let mut rankings = Vec::with_capacity(alloc, contexts.len())?;
     for (number, context) in contexts.iter().enumerate() {
-        context.entries_are_named();
-        let ranking = rank(alloc, number, context.entries())?;
+        let ranking = rank_context(alloc, number, context)?;
         rankings.push(ranking)?;
     }
     Ok(rankings)

@@ -1,6 +1,7 @@
 //! What may be noted of a line, where the names of all contexts decide it in the end.
 ghost use Rattle.std.specs.Prelude.{◌≡◌, ◌++◌, OnOk, IfOk};
 ghost use Rattle.std.specs.List.{flat_map};
+ghost use Rattle.std.specs.Option.{option_to_list};
 ghost use Rattle.dp_plan.specs.Draft as spec;
 
 use crate::note::{Note, NoteKind};
@@ -17,24 +18,26 @@ pub(crate) enum Remark {
     Asks { line: usize, name: Text },
 }
 
-/// Adds the note of a remark, where it comes to one.
-fn push_settled(
-    notes: &mut Vec<Note>,
-    names: &IndexSet<Text>,
-    remark: &Remark,
-) -> Result<(), NoMemory>
-    ensures { OnOk result (notes.new.items ≡ notes.old.items ++ spec.settled names.now.keys remark.now) }
+/// The note of a remark, where it comes to one.
+fn note_of(names: &IndexSet<Text>, remark: &Remark) -> Option<Note>
+    ensures { option_to_list result ≡ spec.settled names.now.keys remark.now }
 {
     match remark {
-        Remark::Noted(note) => notes.push(*note)?,
-        Remark::Asks { line, name } => {
-            if !names.contains(name) {
-                notes.push(Note {
-                    line: *line,
-                    kind: NoteKind::UnknownContext,
-                })?;
-            }
-        }
+        Remark::Noted(note) => Some(*note),
+        Remark::Asks { line: _, name } if names.contains(name) => None,
+        Remark::Asks { line, name: _ } => Some(Note {
+            line: *line,
+            kind: NoteKind::UnknownContext,
+        }),
+    }
+}
+
+/// Adds the note, where there is one.
+fn push_note(notes: &mut Vec<Note>, note: Option<Note>) -> Result<(), NoMemory>
+    ensures { OnOk result (notes.new.items ≡ notes.old.items ++ option_to_list note) }
+{
+    if let Some(note) = note {
+        notes.push(note)?;
     }
     Ok(())
 }
@@ -49,7 +52,7 @@ pub(crate) fn settle(
 {
     let mut notes = Vec::new(alloc);
     for remark in remarks {
-        push_settled(&mut notes, names, remark)?;
+        push_note(&mut notes, note_of(names, remark))?;
     }
     Ok(notes)
 }

@@ -7,7 +7,7 @@ use dp_conf::{NoMemory, Text, same_word};
 use std::alloc::Global;
 
 /// What the lines of a section are read as.
-#[derive(Debug, Drop)]
+#[derive(Drop)]
 pub(crate) enum Section {
     /// Settings, which are read and ignored.
     General,

@@ -98,7 +98,7 @@ impl Clone for SharedName {
 }
 
 /// The canonical spelling of a name. A contract sees it as its bytes.
-#[derive(Debug, Drop)]
+#[derive(Drop)]
 pub(crate) struct SharedSpelling {
     name: SharedName,
 }

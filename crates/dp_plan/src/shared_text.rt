@@ -13,7 +13,7 @@ use std::marker::Model;
 use std::rc::Rc;
 
 /// A text with several owners, whose copies take no memory. A contract sees it as its bytes.
-#[derive(Debug, Drop)]
+#[derive(Drop)]
 pub(crate) struct SharedText {
     text: Rc<Text>,
 }
