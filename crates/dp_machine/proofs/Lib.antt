@@ -1,6 +1,7 @@
 pub mod AskLemmas
 pub mod IsolationLemmas
 pub mod IsolationRows
+pub mod LookupLemmas
 pub mod ReplayLemmas
 pub mod StepLemmas
 pub mod StepRows

@@ -4,6 +4,7 @@ pub mod Events
 pub mod Found
 pub mod GoodWorld
 pub mod Isolation
+pub mod LastOrder
 pub mod Replay
 pub mod Seen
 pub mod Targets

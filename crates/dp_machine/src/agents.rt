@@ -1,6 +1,6 @@
 //! The events of agents, after the Asterisk documentation's page on queues.
 ghost use Rattle.std.specs.Prelude.{◌≡◌, ◌≤◌, ℕ, IfOk, OnOk, OnErr, List, Some, false, length};
-ghost use Rattle.dp_lookup.specs.SearchOrder.{context_count};
+ghost use Rattle.dp_machine.specs.LastOrder.{IsLastOrder};
 ghost use Rattle.dp_plan.specs.Plan.{PlanOf};
 ghost use Rattle.dp_machine.specs.Channels.{goes_on_behind, talked};
 ghost use Rattle.dp_machine.specs.Events as spec;
@@ -10,15 +10,16 @@ ghost use Rattle.dp_machine.specs.declared.reply.Reply.TheVariants.{Done};
 ghost use Rattle.dp_machine.specs.declared.shared.Shared.{Shared};
 
 use crate::channel::Channel;
+use crate::compiled::Compiled;
 use crate::ending::{hang_up, make_ready};
+use crate::last_order::LastOrder;
 use crate::numbered::index_of;
 use crate::refusal::Refusal;
 use crate::reply::Reply;
 use crate::shared::Shared;
 use crate::step::go_on;
 use dp_app::Phase;
-use dp_lookup::SearchOrder;
-use dp_plan::{Dialplan, NoMemory, Text};
+use dp_plan::{NoMemory, Text};
 use dp_queue::{Call, OfferFault};
 use std::alloc::Global;
 
@@ -107,14 +108,14 @@ pub(crate) fn decline(shared: &mut Shared, agent: &[u8]) -> Reply
 /// The talk of the channel ends: it goes on, which it reads, or is hung up.
 fn end_talk(
     alloc: Global,
-    plan: &Dialplan,
-    order: &mut SearchOrder,
+    plan: &Compiled,
+    order: &mut LastOrder,
     channel: &mut Channel,
     spare: &mut Text,
 ) -> Result<(), NoMemory>
-    requires room { context_count plan.now ≤ order.old.room }
+    requires order { IsLastOrder plan.now order.old }
     requires sound { IsSoundIn channel.old.phase channel.old }
-    ensures room { order.new.room ≡ order.old.room }
+    ensures order { IsLastOrder plan.now order.new }
     ensures ok { OnOk result (channel.new ≡ talked plan.now channel.old (goes_on_behind channel.old.phase)) }
     ensures err { OnErr result (channel.new ≡ channel.old) }
 {
@@ -131,15 +132,15 @@ fn end_talk(
 /// The talk of the channel of a call, if there is one, ends.
 fn part(
     alloc: Global,
-    plan: &Dialplan,
-    order: &mut SearchOrder,
+    plan: &Compiled,
+    order: &mut LastOrder,
     channels: &mut Vec<Channel>,
     call: Call,
     spare: &mut Text,
 ) -> Result<(), NoMemory>
-    requires room { context_count plan.now ≤ order.old.room }
+    requires order { IsLastOrder plan.now order.old }
     requires sound { IsSoundAt (worlds.channel_at channels.old.items call.channel) }
-    ensures room { order.new.room ≡ order.old.room }
+    ensures order { IsLastOrder plan.now order.new }
     ensures row { (before after : Shared) → OnOk result
         (spec.agent_event (worlds.world_of plan.now channels.old.items before) (spec.parted after (Some call))
         ≡ (worlds.world_of plan.now channels.new.items after, Done)) }
@@ -156,16 +157,16 @@ fn part(
 #[tactic(auto, unfolding(crate::specs::Events::agent_done))]
 pub(crate) fn agent_done(
     alloc: Global,
-    plan: &Dialplan,
-    order: &mut SearchOrder,
+    plan: &Compiled,
+    order: &mut LastOrder,
     channels: &mut Vec<Channel>,
     shared: &mut Shared,
     agent: &[u8],
     spare: &mut Text,
 ) -> Result<Reply, NoMemory>
-    requires room { context_count plan.now ≤ order.old.room }
+    requires order { IsLastOrder plan.now order.old }
     requires sound { (number : ℕ) → IsSoundAt (worlds.channel_at channels.old.items number) }
-    ensures room { order.new.room ≡ order.old.room }
+    ensures order { IsLastOrder plan.now order.new }
     ensures ok { IfOk result (λ reply. spec.agent_event (worlds.world_of plan.now channels.old.items shared.old) (spec.agent_done shared.old agent.now)
         ≡ (worlds.world_of plan.now channels.new.items shared.new, reply)) }
     ensures channels { OnErr result (channels.new.items ≡ channels.old.items) }

@@ -1,13 +1,14 @@
 //! How a channel is hung up, after the Asterisk documentation's page on the special extensions of dialplans.
 ghost use Rattle.std.specs.Prelude.{◌≡◌, ◌≤◌, OnOk, codes};
-ghost use Rattle.dp_lookup.specs.SearchOrder.{context_count};
+ghost use Rattle.dp_machine.specs.LastOrder.{IsLastOrder};
 ghost use Rattle.dp_machine.specs.Channels as spec;
 
 use crate::channel::Channel;
+use crate::compiled::Compiled;
+use crate::last_order::LastOrder;
 use crate::lookup::is_found;
 use dp_app::Phase;
-use dp_lookup::SearchOrder;
-use dp_plan::{Dialplan, NoMemory, Text};
+use dp_plan::{NoMemory, Text};
 use std::alloc::Global;
 use std::mem;
 
@@ -22,10 +23,10 @@ pub(crate) fn make_ready(alloc: Global, spare: &mut Text) -> Result<(), NoMemory
 }
 
 /// Whether a hang-up of the channel goes on at the extension `h`.
-pub(crate) fn runs_hang_up(plan: &Dialplan, order: &mut SearchOrder, channel: &Channel) -> bool
-    requires { context_count plan.now ≤ order.old.room }
+pub(crate) fn runs_hang_up(plan: &Compiled, order: &mut LastOrder, channel: &Channel) -> bool
+    requires { IsLastOrder plan.now order.old }
     ensures runs { result ≡ spec.runs_hang_up plan.now channel.now }
-    ensures room { order.new.room ≡ order.old.room }
+    ensures order { IsLastOrder plan.now order.new }
 {
     if channel.is_closing {
         return false;
@@ -37,15 +38,15 @@ pub(crate) fn runs_hang_up(plan: &Dialplan, order: &mut SearchOrder, channel: &C
 /// are dropped (a choice of this program).
 #[tactic(auto, unfolding(crate::specs::Channels::hung_up))]
 pub(crate) fn hang_up(
-    plan: &Dialplan,
-    order: &mut SearchOrder,
+    plan: &Compiled,
+    order: &mut LastOrder,
     channel: &mut Channel,
     spare: &mut Text,
 )
-    requires room { context_count plan.now ≤ order.old.room }
+    requires order { IsLastOrder plan.now order.old }
     requires spare { spare.old ≡ codes "h" }
     ensures channel { channel.new ≡ spec.hung_up plan.now channel.old }
-    ensures room { order.new.room ≡ order.old.room }
+    ensures order { IsLastOrder plan.now order.new }
 {
     let runs = runs_hang_up(plan, order, channel);
     channel.store.drop_frames();

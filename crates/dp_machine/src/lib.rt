@@ -5,9 +5,11 @@
 mod agents;
 mod asked;
 mod channel;
+mod compiled;
 mod ending;
 mod event;
 pub mod laws;
+mod last_order;
 mod lookup;
 mod machine;
 mod numbered;

@@ -1,7 +1,7 @@
 //! The machine: a world that events change one after another.
 ghost use Rattle.std.specs.Prelude.{◌≡◌, ◌≤◌, ◌++◌, IfOk, OnOk, OnErr, Some, false, length};
 ghost use Rattle.std.specs.Option.{option_copied, option_map};
-ghost use Rattle.dp_lookup.specs.SearchOrder.{context_count};
+ghost use Rattle.dp_machine.specs.LastOrder.{IsLastOrder};
 ghost use Rattle.dp_queue.specs.Rest.{IsAtRest};
 ghost use Rattle.dp_machine.specs.Events as spec;
 ghost use Rattle.dp_machine.specs.GoodWorld as good;
@@ -11,7 +11,9 @@ ghost use Rattle.dp_machine.specs.World as worlds;
 use crate::agents::{agent_done, answer, decline, offer};
 use crate::asked::Asked;
 use crate::channel::Channel;
+use crate::compiled::Compiled;
 use crate::event::Event;
+use crate::last_order::LastOrder;
 use crate::lookup::find;
 use crate::numbered::{channel_at, index_of};
 use crate::refusal::Refusal;
@@ -21,7 +23,6 @@ use crate::shared::{Shared, expand_globals};
 use crate::step::step_channel;
 use crate::waiting::{dial, end_time, hang_up_channel, poll};
 use dp_app::{AppTable, Phase, Place};
-use dp_lookup::SearchOrder;
 use dp_plan::{Dialplan, EntryId, NoMemory, Text};
 use dp_queue::Queues;
 use dp_vars::Store;
@@ -35,9 +36,9 @@ pub const MOST_CHANNELS: usize = 65_535;
 /// world, which is a good one at all times.
 #[derive(Drop)]
 pub struct Machine<T> {
-    plan: Dialplan,
+    plan: Compiled,
     // Look-ups search in it and take no memory.
-    order: SearchOrder,
+    order: LastOrder,
     // The name of the extension at which a hang-up goes on, so that a hang-up behind an application takes no memory.
     spare: Text,
     channels: Vec<Channel>,
@@ -46,11 +47,10 @@ pub struct Machine<T> {
 }
 
 impl<T> Model for Machine<T> {
-    ghost use Rattle.std.specs.Prelude.{◌≤◌, length};
-    ghost use Rattle.dp_lookup.specs.SearchOrder.{context_count};
     ghost use Rattle.std.specs.Coded.{codes};
     ghost use Rattle.dp_vars.specs.Variables.{named_code};
     ghost use Rattle.dp_machine.specs.GoodWorld.{IsGoodWorld};
+    ghost use Rattle.dp_machine.specs.LastOrder.{IsLastOrder};
     ghost use Rattle.dp_machine.specs.World.{World, world_of};
 
     ghost Value = { World };
@@ -61,7 +61,7 @@ impl<T> Model for Machine<T> {
 
     ghost invariant = { λ machine.
         IsGoodWorld (world_of machine.plan machine.channels.items machine.shared)
-        × (context_count machine.plan ≤ machine.order.room) };
+        × IsLastOrder machine.plan machine.order };
 }
 
 /// A call comes in. The event is refused where all numbers of channels were given, and then takes no memory.
@@ -102,17 +102,17 @@ fn start(
 /// An event of the channel.
 fn ask<T: AppTable>(
     alloc: Global,
-    plan: &Dialplan,
-    order: &mut SearchOrder,
+    plan: &Compiled,
+    order: &mut LastOrder,
     shared: &mut Shared,
     number: u32,
     channel: &mut Channel,
     spare: &mut Text,
     asked: Asked,
 ) -> Result<Reply, NoMemory>
-    requires room { context_count plan.now ≤ order.old.room }
+    requires order { IsLastOrder plan.now order.old }
     requires good { good.MayAct shared.old number channel.old }
-    ensures room { order.new.room ≡ order.old.room }
+    ensures order { IsLastOrder plan.now order.new }
     ensures ok { IfOk result (λ reply. spec.own_row T.rows asked plan.now shared.old number channel.old
         ≡ record { channel = channel.new; shared = shared.new; reply = reply }) }
     ensures sound { good.IsSoundIn channel.new.phase channel.new }
@@ -132,17 +132,17 @@ fn ask<T: AppTable>(
 /// An event of the channel of a number.
 fn ask_channel<T: AppTable>(
     alloc: Global,
-    plan: &Dialplan,
-    order: &mut SearchOrder,
+    plan: &Compiled,
+    order: &mut LastOrder,
     spare: &mut Text,
     channels: &mut Vec<Channel>,
     shared: &mut Shared,
     number: u32,
     asked: Asked,
 ) -> Result<Reply, NoMemory>
-    requires room { context_count plan.now ≤ order.old.room }
+    requires order { IsLastOrder plan.now order.old }
     requires good { good.IsGoodWorld (worlds.world_of plan.now channels.old.items shared.old) }
-    ensures room { order.new.room ≡ order.old.room }
+    ensures order { IsLastOrder plan.now order.new }
     ensures ok { IfOk result (λ reply. spec.own_event (worlds.world_of plan.now channels.old.items shared.old) number (spec.own_row T.rows asked)
         (worlds.channel_at channels.old.items number) ≡ (worlds.world_of plan.now channels.new.items shared.new, reply)) }
     ensures sound { OnOk result ((c : Channel) → worlds.channel_at channels.old.items number ≡ Some c
@@ -162,16 +162,16 @@ fn ask_channel<T: AppTable>(
 /// Applies one event to the parts of a machine.
 fn apply_to<T: AppTable>(
     alloc: Global,
-    plan: &Dialplan,
-    order: &mut SearchOrder,
+    plan: &Compiled,
+    order: &mut LastOrder,
     spare: &mut Text,
     channels: &mut Vec<Channel>,
     shared: &mut Shared,
     event: Event,
 ) -> Result<Reply, NoMemory>
-    requires room { context_count plan.now ≤ order.old.room }
+    requires order { IsLastOrder plan.now order.old }
     requires good { good.IsGoodWorld (worlds.world_of plan.now channels.old.items shared.old) }
-    ensures room { order.new.room ≡ order.old.room }
+    ensures order { IsLastOrder plan.now order.new }
     ensures ok { IfOk result (λ reply. spec.event_row T.rows (worlds.world_of plan.now channels.old.items shared.old) event
         ≡ (worlds.world_of plan.now channels.new.items shared.new, reply)) }
     ensures steps { OnOk result (good.StepsSoundly T.rows (worlds.world_of plan.now channels.old.items shared.old) event) }
@@ -249,16 +249,16 @@ fn apply_to<T: AppTable>(
 /// Applies one event to the parts of a machine, whose world stays good.
 fn apply_well<T: AppTable>(
     alloc: Global,
-    plan: &Dialplan,
-    order: &mut SearchOrder,
+    plan: &Compiled,
+    order: &mut LastOrder,
     spare: &mut Text,
     channels: &mut Vec<Channel>,
     shared: &mut Shared,
     event: Event,
 ) -> Result<Reply, NoMemory>
-    requires room { context_count plan.now ≤ order.old.room }
+    requires order { IsLastOrder plan.now order.old }
     requires good { good.IsGoodWorld (worlds.world_of plan.now channels.old.items shared.old) }
-    ensures room { order.new.room ≡ order.old.room }
+    ensures order { IsLastOrder plan.now order.new }
     ensures ok { IfOk result (λ reply. spec.event_row T.rows (worlds.world_of plan.now channels.old.items shared.old) event
         ≡ (worlds.world_of plan.now channels.new.items shared.new, reply)) }
     ensures good { good.IsGoodWorld (worlds.world_of plan.now channels.new.items shared.new) }
@@ -273,14 +273,14 @@ fn apply_well<T: AppTable>(
 /// The entry that the next step of the channel would run.
 fn next_entry_of(
     alloc: Global,
-    plan: &Dialplan,
+    plan: &Compiled,
     channel: &Channel,
 ) -> Result<Option<EntryId>, NoMemory>
     ensures { IfOk result (λ entry. entry ≡ spec.next_in channel.now.phase plan.now channel.now) }
 {
     match channel.phase {
         Phase::Ready => {
-            let mut order = SearchOrder::room(alloc, plan)?;
+            let mut order = LastOrder::room(alloc, plan.plan())?;
             let found = find(plan, &mut order, &channel.place);
             Ok(found.map(|found| found.id))
         }
@@ -300,8 +300,9 @@ impl<T: AppTable> Machine<T> {
         requires { IsAtRest queues }
         ensures { IfOk result (λ machine. machine ≡ worlds.opening plan queues) }
     {
-        let order = SearchOrder::room(alloc, &plan)?;
         let globals = expand_globals(alloc, plan.globals())?;
+        let order = LastOrder::room(alloc, &plan)?;
+        let plan = Compiled::of(alloc, plan)?;
         let spare = Text::copy_of(alloc, b"h")?;
         Ok(Machine {
             plan,
@@ -414,6 +415,6 @@ impl<T: AppTable> Machine<T> {
     pub fn plan(&self) -> &Dialplan
         ensures { result.now ≡ self.now.plan }
     {
-        &self.plan
+        self.plan.plan()
     }
 }

@@ -3,7 +3,7 @@ ghost use Rattle.std.specs.Prelude.{◌≡◌, ◌+◌, ◌^◌, ◌<◌, ◌≤
 ghost use Rattle.dp_app.specs.Laws.{IsLawful, MayRun, most_priority};
 ghost use Rattle.dp_app.specs.Rows.{dispatched};
 ghost use Rattle.dp_app.specs.declared.phase.Phase.TheVariants.{Ready};
-ghost use Rattle.dp_lookup.specs.SearchOrder.{context_count};
+ghost use Rattle.dp_machine.specs.LastOrder.{IsLastOrder};
 ghost use Rattle.dp_machine.specs.Channels as channels;
 ghost use Rattle.dp_machine.specs.Events as spec;
 ghost use Rattle.dp_machine.specs.Found.{entry_found};
@@ -11,7 +11,9 @@ ghost use Rattle.dp_machine.specs.GoodWorld.{IsSoundIn, MayAct};
 ghost use Rattle.dp_machine.specs.Seen.{arguments_seen};
 
 use crate::channel::Channel;
+use crate::compiled::Compiled;
 use crate::ending::{hang_up, make_ready};
+use crate::last_order::LastOrder;
 use crate::lookup::{Found, find, is_found};
 use crate::refusal::Refusal;
 use crate::reply::Reply;
@@ -19,8 +21,7 @@ use crate::seen::expand_arguments;
 use crate::shared::Shared;
 use crate::target::land;
 use dp_app::{AppTable, Cell, Move, Phase, Place};
-use dp_lookup::SearchOrder;
-use dp_plan::{Dialplan, Entry, NoMemory, Text};
+use dp_plan::{Entry, NoMemory, Text};
 use dp_queue::Queues;
 use dp_vars::{Globals, Store, has_opening};
 use std::alloc::Global;
@@ -71,17 +72,17 @@ fn put_back(cell: Cell, channel: &mut Channel, shared: &mut Shared)
 
 /// Moves the channel, behind an application that a table may lack.
 fn go(
-    plan: &Dialplan,
-    order: &mut SearchOrder,
+    plan: &Compiled,
+    order: &mut LastOrder,
     channel: &mut Channel,
     going: Option<Move>,
     spare: &mut Text,
 )
     requires priority { channel.old.place.priority ≤ most_priority }
-    requires room { context_count plan.now ≤ order.old.room }
+    requires order { IsLastOrder plan.now order.old }
     requires spare { spare.old ≡ codes "h" }
     ensures channel { channel.new ≡ channels.went plan.now channel.old going }
-    ensures room { order.new.room ≡ order.old.room }
+    ensures order { IsLastOrder plan.now order.new }
 {
     match going {
         Some(Move::Next) => go_on(channel),
@@ -152,14 +153,14 @@ fn run_entry<T: AppTable>(
 #[tactic(auto, using(crate::proofs::StepLemmas::hung_up_sound), unfolding(crate::specs::Events::unfound))]
 fn step_unfound(
     alloc: Global,
-    plan: &Dialplan,
-    order: &mut SearchOrder,
+    plan: &Compiled,
+    order: &mut LastOrder,
     shared: &Shared,
     channel: &mut Channel,
     spare: &mut Text,
 ) -> Result<Reply, NoMemory>
-    requires { context_count plan.now ≤ order.old.room }
-    ensures room { order.new.room ≡ order.old.room }
+    requires { IsLastOrder plan.now order.old }
+    ensures order { IsLastOrder plan.now order.new }
     ensures ok { IfOk result (λ reply. spec.unfound plan.now shared.now channel.old
         ≡ record { channel = channel.new; shared = shared.now; reply = reply }) }
     ensures err { OnErr result (channel.new ≡ channel.old) }
@@ -175,10 +176,10 @@ fn step_unfound(
 }
 
 /// Whether the extension of a place is not there, and `i` is found in its context.
-fn is_invalid(plan: &Dialplan, order: &mut SearchOrder, place: &Place) -> bool
-    requires { context_count plan.now ≤ order.old.room }
+fn is_invalid(plan: &Compiled, order: &mut LastOrder, place: &Place) -> bool
+    requires { IsLastOrder plan.now order.old }
     ensures invalid { result ≡ channels.is_invalid plan.now place.now }
-    ensures room { order.new.room ≡ order.old.room }
+    ensures order { IsLastOrder plan.now order.new }
 {
     if is_found(plan, order, &place.context, place.exten.bytes(), 1) {
         return false;
@@ -204,8 +205,8 @@ fn go_to_invalid(alloc: Global, channel: &mut Channel) -> Result<(), NoMemory>
 /// Runs the entry that stands where the channel stands.
 fn step_found<T: AppTable>(
     alloc: Global,
-    plan: &Dialplan,
-    order: &mut SearchOrder,
+    plan: &Compiled,
+    order: &mut LastOrder,
     shared: &mut Shared,
     number: u32,
     channel: &mut Channel,
@@ -213,8 +214,8 @@ fn step_found<T: AppTable>(
     found: Found<'_>,
 ) -> Result<Reply, NoMemory>
     requires may_run { MayRun (spec.cell_of shared.old number channel.old) }
-    requires room { context_count plan.now ≤ order.old.room }
-    ensures room { order.new.room ≡ order.old.room }
+    requires order { IsLastOrder plan.now order.old }
+    ensures order { IsLastOrder plan.now order.new }
     ensures ok { IfOk result (λ reply. spec.step_at T.rows plan.now shared.old number channel.old
         (Some (record { id = found.entry.id; entry = found.entry.entry.now }))
         ≡ record { channel = channel.new; shared = shared.new; reply = reply }) }
@@ -232,17 +233,17 @@ fn step_found<T: AppTable>(
 #[tactic(auto, using(crate::proofs::StepLemmas::ready_may_run))]
 fn step_ready<T: AppTable>(
     alloc: Global,
-    plan: &Dialplan,
-    order: &mut SearchOrder,
+    plan: &Compiled,
+    order: &mut LastOrder,
     shared: &mut Shared,
     number: u32,
     channel: &mut Channel,
     spare: &mut Text,
 ) -> Result<Reply, NoMemory>
-    requires room { context_count plan.now ≤ order.old.room }
+    requires order { IsLastOrder plan.now order.old }
     requires act { MayAct shared.old number channel.old }
     requires ready { channel.old.phase ≡ Ready }
-    ensures room { order.new.room ≡ order.old.room }
+    ensures order { IsLastOrder plan.now order.new }
     ensures ok { IfOk result (λ reply. spec.step_at T.rows plan.now shared.old number channel.old (entry_found plan.now channel.old.place)
         ≡ record { channel = channel.new; shared = shared.new; reply = reply }) }
     ensures channel { OnErr result (channel.new ≡ channel.old) }
@@ -263,16 +264,16 @@ fn step_ready<T: AppTable>(
 #[tactic(auto, unfolding(crate::specs::Events::step_row))]
 pub(crate) fn step_channel<T: AppTable>(
     alloc: Global,
-    plan: &Dialplan,
-    order: &mut SearchOrder,
+    plan: &Compiled,
+    order: &mut LastOrder,
     shared: &mut Shared,
     number: u32,
     channel: &mut Channel,
     spare: &mut Text,
 ) -> Result<Reply, NoMemory>
-    requires room { context_count plan.now ≤ order.old.room }
+    requires order { IsLastOrder plan.now order.old }
     requires act { MayAct shared.old number channel.old }
-    ensures room { order.new.room ≡ order.old.room }
+    ensures order { IsLastOrder plan.now order.new }
     ensures ok { IfOk result (λ reply. spec.step_row T.rows plan.now shared.old number channel.old
         ≡ record { channel = channel.new; shared = shared.new; reply = reply }) }
     ensures channel { OnErr result (channel.new ≡ channel.old) }

@@ -1,17 +1,18 @@
 //! Where a target sends a channel, after the Asterisk documentation's page on the application `Goto`.
 ghost use Rattle.std.specs.Prelude.{◌≡◌, ◌≤◌, codes, reverse, slice_get};
 ghost use Rattle.std.specs.Option.{option_map};
-ghost use Rattle.dp_lookup.specs.SearchOrder.{context_count};
+ghost use Rattle.dp_machine.specs.LastOrder.{IsLastOrder};
 ghost use Rattle.dp_machine.specs.Channels as channels;
 ghost use Rattle.dp_machine.specs.Targets as spec;
 
 use crate::channel::Channel;
+use crate::compiled::Compiled;
 use crate::ending::hang_up;
+use crate::last_order::LastOrder;
 use crate::lookup::{find_label, is_found};
 use dp_app::{Parts, Phase, Place, Target};
 use dp_conf::read_number;
-use dp_lookup::SearchOrder;
-use dp_plan::{Dialplan, MOST_PRIORITY, Text};
+use dp_plan::{MOST_PRIORITY, Text};
 
 /// A number that a target may have: one above the greatest priority of an entry is a place where no entry can be.
 fn target_priority(number: u64) -> Option<u32>
@@ -26,15 +27,15 @@ fn target_priority(number: u64) -> Option<u32>
 
 /// The priority that the text asks for at the extension of the context, where it asks for one.
 fn priority_of(
-    plan: &Dialplan,
-    order: &mut SearchOrder,
+    plan: &Compiled,
+    order: &mut LastOrder,
     context: &Text,
     exten: &Text,
     text: &Text,
 ) -> Option<u32>
-    requires { context_count plan.now ≤ order.old.room }
+    requires { IsLastOrder plan.now order.old }
     ensures priority { result ≡ spec.priority_of plan.now context.now exten.now text.now }
-    ensures room { order.new.room ≡ order.old.room }
+    ensures order { IsLastOrder plan.now order.new }
 {
     if text.bytes().is_empty() {
         return None;
@@ -55,15 +56,15 @@ fn part_or<'a>(own: &'a Text, part: &'a Text) -> &'a Text
 /// The priority that the parts ask for, for a channel at its own place, where they ask for one.
 #[tactic(auto, unfolding(crate::specs::Targets::parts_place))]
 fn parts_priority(
-    plan: &Dialplan,
-    order: &mut SearchOrder,
+    plan: &Compiled,
+    order: &mut LastOrder,
     own: &Place,
     parts: &[Text],
 ) -> Option<u32>
-    requires { context_count plan.now ≤ order.old.room }
+    requires { IsLastOrder plan.now order.old }
     ensures place { spec.parts_place plan.now own.now parts.now
         ≡ option_map (spec.place_of (spec.parts_context own.now parts.now) (spec.parts_exten own.now parts.now)) result }
-    ensures room { order.new.room ≡ order.old.room }
+    ensures order { IsLastOrder plan.now order.new }
 {
     match parts {
         [priority] => priority_of(plan, order, &own.context, &own.exten, priority),
@@ -111,16 +112,16 @@ fn go_to_parts(channel: &mut Channel, parts: Parts, priority: u32)
 
 /// Makes the channel ready at the place of a target, or hangs it up where the target has none.
 pub(crate) fn land(
-    plan: &Dialplan,
-    order: &mut SearchOrder,
+    plan: &Compiled,
+    order: &mut LastOrder,
     channel: &mut Channel,
     target: Target,
     spare: &mut Text,
 )
-    requires room { context_count plan.now ≤ order.old.room }
+    requires order { IsLastOrder plan.now order.old }
     requires spare { spare.old ≡ codes "h" }
     ensures channel { channel.new ≡ channels.landed plan.now channel.old (spec.target_place plan.now channel.old.place target) }
-    ensures room { order.new.room ≡ order.old.room }
+    ensures order { IsLastOrder plan.now order.new }
 {
     match target {
         Target::To(place) => {
@@ -134,16 +135,16 @@ pub(crate) fn land(
 
 /// Makes the channel ready at the place that the parts name.
 fn land_at_parts(
-    plan: &Dialplan,
-    order: &mut SearchOrder,
+    plan: &Compiled,
+    order: &mut LastOrder,
     channel: &mut Channel,
     parts: Parts,
     spare: &mut Text,
 )
-    requires room { context_count plan.now ≤ order.old.room }
+    requires order { IsLastOrder plan.now order.old }
     requires spare { spare.old ≡ codes "h" }
     ensures channel { channel.new ≡ channels.landed plan.now channel.old (spec.parts_place plan.now channel.old.place parts) }
-    ensures room { order.new.room ≡ order.old.room }
+    ensures order { IsLastOrder plan.now order.new }
 {
     match parts_priority(plan, order, &channel.place, parts.texts()) {
         Some(priority) => go_to_parts(channel, parts, priority),
@@ -153,17 +154,17 @@ fn land_at_parts(
 
 /// Makes the channel ready at the place that the parts name, if an entry is found there.
 fn land_at_existing(
-    plan: &Dialplan,
-    order: &mut SearchOrder,
+    plan: &Compiled,
+    order: &mut LastOrder,
     channel: &mut Channel,
     parts: Parts,
     spare: &mut Text,
 )
-    requires room { context_count plan.now ≤ order.old.room }
+    requires order { IsLastOrder plan.now order.old }
     requires spare { spare.old ≡ codes "h" }
     ensures channel { channel.new ≡ channels.landed plan.now channel.old
         (spec.if_found plan.now (spec.parts_place plan.now channel.old.place parts)) }
-    ensures room { order.new.room ≡ order.old.room }
+    ensures order { IsLastOrder plan.now order.new }
 {
     match existing_priority(plan, order, &channel.place, parts.texts()) {
         Some(priority) => go_to_parts(channel, parts, priority),
@@ -183,15 +184,15 @@ fn part_from_last<'a>(own: &'a Text, parts: &'a [Text], number: usize) -> &'a Te
 
 /// The priority that the parts ask for, if an entry is found there.
 fn existing_priority(
-    plan: &Dialplan,
-    order: &mut SearchOrder,
+    plan: &Compiled,
+    order: &mut LastOrder,
     own: &Place,
     parts: &[Text],
 ) -> Option<u32>
-    requires { context_count plan.now ≤ order.old.room }
+    requires { IsLastOrder plan.now order.old }
     ensures place { spec.if_found plan.now (spec.parts_place plan.now own.now parts.now)
         ≡ option_map (spec.place_of (spec.parts_context own.now parts.now) (spec.parts_exten own.now parts.now)) result }
-    ensures room { order.new.room ≡ order.old.room }
+    ensures order { IsLastOrder plan.now order.new }
 {
     let priority = parts_priority(plan, order, own, parts)?;
     let context = part_from_last(&own.context, parts, 2);

@@ -2,7 +2,7 @@
 //! the applications `WaitExten`, `Background`, `Wait` and `Queue`.
 ghost use Rattle.std.specs.Prelude.{◌≡◌, ◌≤◌, ◌++◌, ◌∷◌, [], IfOk, OnOk, OnErr, false};
 ghost use Rattle.dp_app.specs.Laws.{most_priority};
-ghost use Rattle.dp_lookup.specs.SearchOrder.{context_count};
+ghost use Rattle.dp_machine.specs.LastOrder.{IsLastOrder};
 ghost use Rattle.dp_queue.specs.Joining.{should_leave};
 ghost use Rattle.dp_machine.specs.Channels as channels;
 ghost use Rattle.dp_machine.specs.Events as spec;
@@ -10,15 +10,16 @@ ghost use Rattle.dp_machine.specs.Found as found;
 ghost use Rattle.dp_machine.specs.GoodWorld.{IsSoundIn, MayAct};
 
 use crate::channel::Channel;
+use crate::compiled::Compiled;
 use crate::ending::{hang_up, make_ready};
+use crate::last_order::LastOrder;
 use crate::lookup::{could_go_on, is_found};
 use crate::refusal::Refusal;
 use crate::reply::Reply;
 use crate::shared::Shared;
 use crate::step::go_on;
 use dp_app::{Phase, Place};
-use dp_lookup::SearchOrder;
-use dp_plan::{Dialplan, NoMemory, Text};
+use dp_plan::{NoMemory, Text};
 use dp_queue::Queues;
 use std::alloc::Global;
 use std::mem;
@@ -64,15 +65,15 @@ fn go_to_exten(channel: &mut Channel, exten: Text)
 
 /// The channel has dialled these digits: it waits for more where they may go on, else it goes where they lead.
 fn collect(
-    plan: &Dialplan,
-    order: &mut SearchOrder,
+    plan: &Compiled,
+    order: &mut LastOrder,
     channel: &mut Channel,
     text: Text,
     is_background: bool,
 )
-    requires room { context_count plan.now ≤ order.old.room }
+    requires order { IsLastOrder plan.now order.old }
     ensures channel { channel.new ≡ channels.collected (found.could_go_on plan.now channel.old.place.context text) channel.old text is_background }
-    ensures room { order.new.room ≡ order.old.room }
+    ensures order { IsLastOrder plan.now order.new }
 {
     if could_go_on(plan, order, &channel.place.context, text.bytes()) {
         channel.phase = Phase::Digits {
@@ -100,16 +101,16 @@ fn way_out_of<'a>(queues: &'a Queues, queue: usize, nowhere: &'a Text) -> &'a Te
 /// leaves and goes there.
 fn dial_in_queue(
     alloc: Global,
-    plan: &Dialplan,
-    order: &mut SearchOrder,
+    plan: &Compiled,
+    order: &mut LastOrder,
     shared: &mut Shared,
     number: u32,
     channel: &mut Channel,
     queue: usize,
     digit: u8,
 ) -> Result<Reply, NoMemory>
-    requires room { context_count plan.now ≤ order.old.room }
-    ensures room { order.new.room ≡ order.old.room }
+    requires order { IsLastOrder plan.now order.old }
+    ensures order { IsLastOrder plan.now order.new }
     ensures ok { IfOk result (λ reply. spec.way_out plan.now shared.old number channel.old digit (spec.way_out_of shared.old.queues queue)
         ≡ record { channel = channel.new; shared = shared.new; reply = reply }) }
     ensures channel { OnErr result (channel.new ≡ channel.old) }
@@ -135,15 +136,15 @@ fn dial_in_queue(
 /// A digit of a telephone.
 fn dial_digit(
     alloc: Global,
-    plan: &Dialplan,
-    order: &mut SearchOrder,
+    plan: &Compiled,
+    order: &mut LastOrder,
     shared: &mut Shared,
     number: u32,
     channel: &mut Channel,
     digit: u8,
 ) -> Result<Reply, NoMemory>
-    requires room { context_count plan.now ≤ order.old.room }
-    ensures room { order.new.room ≡ order.old.room }
+    requires order { IsLastOrder plan.now order.old }
+    ensures order { IsLastOrder plan.now order.new }
     ensures ok { IfOk result (λ reply. spec.dial_in channel.old.phase digit plan.now shared.old number channel.old
         ≡ record { channel = channel.new; shared = shared.new; reply = reply }) }
     ensures channel { OnErr result (channel.new ≡ channel.old) }
@@ -174,16 +175,16 @@ fn dial_digit(
 #[tactic(auto, unfolding(crate::specs::Events::digit_row))]
 pub(crate) fn dial(
     alloc: Global,
-    plan: &Dialplan,
-    order: &mut SearchOrder,
+    plan: &Compiled,
+    order: &mut LastOrder,
     shared: &mut Shared,
     number: u32,
     channel: &mut Channel,
     digit: u8,
 ) -> Result<Reply, NoMemory>
-    requires room { context_count plan.now ≤ order.old.room }
+    requires order { IsLastOrder plan.now order.old }
     requires act { MayAct shared.old number channel.old }
-    ensures room { order.new.room ≡ order.old.room }
+    ensures order { IsLastOrder plan.now order.new }
     ensures ok { IfOk result (λ reply. spec.digit_row digit plan.now shared.old number channel.old
         ≡ record { channel = channel.new; shared = shared.new; reply = reply }) }
     ensures channel { OnErr result (channel.new ≡ channel.old) }
@@ -220,14 +221,14 @@ fn leave_queue(
 /// No digit came in time for `WaitExten`: the channel goes on, or else to the extension `t`, or is hung up.
 fn end_wait(
     alloc: Global,
-    plan: &Dialplan,
-    order: &mut SearchOrder,
+    plan: &Compiled,
+    order: &mut LastOrder,
     channel: &mut Channel,
     spare: &mut Text,
 ) -> Result<(), NoMemory>
-    requires room { context_count plan.now ≤ order.old.room }
+    requires order { IsLastOrder plan.now order.old }
     requires priority { channel.old.place.priority ≤ most_priority }
-    ensures room { order.new.room ≡ order.old.room }
+    ensures order { IsLastOrder plan.now order.new }
     ensures ok { OnOk result (channel.new ≡ channels.waited plan.now channel.old) }
     ensures err { OnErr result (channel.new ≡ channel.old) }
 {
@@ -250,15 +251,15 @@ fn end_wait(
 /// The time of a channel that waits for digits ends, and none came.
 fn end_undialled(
     alloc: Global,
-    plan: &Dialplan,
-    order: &mut SearchOrder,
+    plan: &Compiled,
+    order: &mut LastOrder,
     channel: &mut Channel,
     is_background: bool,
     spare: &mut Text,
 ) -> Result<(), NoMemory>
-    requires room { context_count plan.now ≤ order.old.room }
+    requires order { IsLastOrder plan.now order.old }
     requires priority { channel.old.place.priority ≤ most_priority }
-    ensures room { order.new.room ≡ order.old.room }
+    ensures order { IsLastOrder plan.now order.new }
     ensures ok { OnOk result (channel.new ≡ channels.undialled plan.now channel.old is_background) }
     ensures err { OnErr result (channel.new ≡ channel.old) }
 {
@@ -294,16 +295,16 @@ fn end_time_in_queue(
 #[tactic(auto, using(crate::proofs::WaitingLemmas::undialled_sound), unfolding(crate::specs::Events::timeout_row))]
 pub(crate) fn end_time(
     alloc: Global,
-    plan: &Dialplan,
-    order: &mut SearchOrder,
+    plan: &Compiled,
+    order: &mut LastOrder,
     shared: &mut Shared,
     number: u32,
     channel: &mut Channel,
     spare: &mut Text,
 ) -> Result<Reply, NoMemory>
-    requires room { context_count plan.now ≤ order.old.room }
+    requires order { IsLastOrder plan.now order.old }
     requires act { MayAct shared.old number channel.old }
-    ensures room { order.new.room ≡ order.old.room }
+    ensures order { IsLastOrder plan.now order.new }
     ensures ok { IfOk result (λ reply. spec.timeout_row plan.now shared.old number channel.old
         ≡ record { channel = channel.new; shared = shared.new; reply = reply }) }
     ensures channel { OnErr result (channel.new ≡ channel.old) }
@@ -363,7 +364,7 @@ fn poll_queue(
 #[tactic(auto, unfolding(crate::specs::Events::poll_row))]
 pub(crate) fn poll(
     alloc: Global,
-    plan: &Dialplan,
+    plan: &Compiled,
     shared: &mut Shared,
     number: u32,
     channel: &mut Channel,
@@ -392,16 +393,16 @@ pub(crate) fn poll(
 #[tactic(auto, using(crate::proofs::WaitingLemmas::hung_up_sound), unfolding(crate::specs::Events::hang_up_row))]
 pub(crate) fn hang_up_channel(
     alloc: Global,
-    plan: &Dialplan,
-    order: &mut SearchOrder,
+    plan: &Compiled,
+    order: &mut LastOrder,
     shared: &mut Shared,
     number: u32,
     channel: &mut Channel,
     spare: &mut Text,
 ) -> Result<Reply, NoMemory>
-    requires room { context_count plan.now ≤ order.old.room }
+    requires order { IsLastOrder plan.now order.old }
     requires act { MayAct shared.old number channel.old }
-    ensures room { order.new.room ≡ order.old.room }
+    ensures order { IsLastOrder plan.now order.new }
     ensures ok { IfOk result (λ reply. spec.hang_up_row plan.now shared.old number channel.old
         ≡ record { channel = channel.new; shared = shared.new; reply = reply }) }
     ensures channel { OnErr result (channel.new ≡ channel.old) }
