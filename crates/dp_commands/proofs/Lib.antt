@@ -1,3 +1,4 @@
+mod DebugLemmas
 mod JoinedLemmas
 mod ScriptLemmas
 mod StreamsLemmas

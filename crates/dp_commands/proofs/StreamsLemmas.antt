@@ -4,36 +4,22 @@ use Rattle.std.specs.Io.KnownBytes.{Appends, Keeps}
 use Rattle.std.proofs.lemmas.List.{append_assoc, append-nil, length-append, take-append-le, take-append-drop}
 use Rattle.std.proofs.lemmas.List.Sums.{fold-append}
 use Rattle.std.proofs.Math.Bool.{or-false}
-use Rattle.std.proofs.Math.Seq.{take-append-add}
+use Rattle.std.proofs.Math.Seq.{take-append-add, take-length}
 use Rattle.dp_conf.specs.Fronts.{IsFront, AppendsFront}
 use Rattle.dp_conf.proofs.ToldLemmas.{IsFront-append, IsFront-more}
-use Rattle.dp_machine.specs.World.{World}
 use Rattle.dp_commands.specs.Block.{Flows}
 use Rattle.dp_commands.specs.Faults.{is_write_failed, is_write_fault}
-use Rattle.dp_commands.specs.Run.{Streams, FlowsFirst, Run, Ends, Writes, status_by, fails_at_the_end}
-use Rattle.dp_commands.specs.Trace.{turned, trace_of, world_past, any_refused}
+use Rattle.dp_commands.specs.Run.{Run, Ends, Writes, run_on, status_by, fails_at_the_end}
+use Rattle.dp_commands.specs.Trace.{turned, trace_of, any_refused}
+use Rattle.dp_commands.specs.Turns.{Taken, plainly, Streams, StreamsAll, FlowsFirst, WritesTurns, WritesFirst, lines_of, state_past, refused_in, text_of}
+use Rattle.dp_machine.specs.World.{World}
 use Rattle.dp_commands.specs.declared.fault.PbxFault.{PbxFault}
 use Rattle.dp_commands.specs.declared.fault.PbxFault.TheVariants.{Coded, NoMemory}
 use Rattle.dp_commands.specs.declared.script.Turn.{Turn}
 
-pub trace_of-append : (w : World) (ts us : List Turn) → trace_of w (ts ++ us) ≡ trace_of w ts ++ trace_of (world_past w ts) us
-trace_of-append w [] us = refl
-trace_of-append w (t ∷ ts) us =
-    ap (λ (later : List ℕ). (turned w t).line ++ later) (trace_of-append (turned w t).world ts us)
-    ∙ sym (append_assoc (turned w t).line (trace_of (turned w t).world ts) (trace_of (world_past (turned w t).world ts) us))
-
-pub world_past-append : (w : World) (ts us : List Turn) → world_past w (ts ++ us) ≡ world_past (world_past w ts) us
-world_past-append w ts us = fold-append (λ at turn. (turned at turn).world) w ts us
-
 or-assoc : (a b c : Bool) → ((a || b) || c) ≡ (a || (b || c))
 or-assoc true b c = refl
 or-assoc false b c = refl
-
-any_refused-append : (w : World) (ts us : List Turn) → any_refused w (ts ++ us) ≡ (any_refused w ts || any_refused (world_past w ts) us)
-any_refused-append w [] us = refl
-any_refused-append w (t ∷ ts) us =
-    ap (λ r. (turned w t).refused || r) (any_refused-append (turned w t).world ts us)
-    ∙ sym (or-assoc (turned w t).refused (any_refused (turned w t).world ts) (any_refused (world_past (turned w t).world ts) us))
 
 -- a front of a front
 IsFront-trans : (xs ys zs : List ℕ) → IsFront xs ys → IsFront ys zs → IsFront xs zs
@@ -124,103 +110,165 @@ Flows-ends_short c d e b bytes p q =
     let Q : List ℕ → Type 0 = λ t. AppendsFront c e t in
     subst Q (append-nil bytes) (Flows-fails c d e [] b bytes [] p (subst P (sym (append-nil b)) q))
 
--- nothing so far
-pub Streams-start : (w : World) (old : Option (List ℕ)) (waited : List ℕ) → Streams w [] old waited old waited w (Ok false)
-Streams-start w old waited = (Flows-stay old waited, refl, refl)
+module _ {S : Type 0} (step : S → Turn → Taken S) where
+  pub lines_of-append : (s : S) (ts us : List Turn) → lines_of step s (ts ++ us) ≡ lines_of step s ts ++ lines_of step (state_past step s ts) us
+  lines_of-append s [] us = refl
+  lines_of-append s (t ∷ ts) us =
+      ap (λ (later : List ℕ). (step s t).lines ++ later) (lines_of-append (step s t).state ts us)
+      ∙ sym (append_assoc (step s t).lines (lines_of step (step s t).state ts) (lines_of step (state_past step (step s t).state ts) us))
 
--- more turns are met by the world behind the others
-pub Streams-goes_on : (w : World) (ts us : List Turn) (c d e : Option (List ℕ)) (a b f : List ℕ) (w1 w2 : World) (r1 r2 : Bool) → Streams w ts c a d b w1 (Ok r1) → Streams w1 us d b e f w2 (Ok r2) → Streams w (ts ++ us) c a e f w2 (Ok (r1 || r2))
-Streams-goes_on w ts us c d e a b f w1 w2 r1 r2 so_far more =
-    let P : List ℕ → Type 0 = λ t. Flows c a e f t in
-    let here : trace_of w (ts ++ us) ≡ trace_of w ts ++ trace_of w1 us = trace_of-append w ts us ∙ ap (λ s. trace_of w ts ++ trace_of s us) (sym so_far.1) in (
-      subst P (sym here) (Flows-trans c d e a b f (trace_of w ts) (trace_of w1 us) so_far.0 more.0),
-      more.1 ∙ (ap (λ s. world_past s us) so_far.1 ∙ sym (world_past-append w ts us)),
-      ap (λ r. r || r2) so_far.2 ∙ (ap (λ r. any_refused w ts || r) (more.2 ∙ ap (λ s. any_refused s us) so_far.1) ∙ sym (any_refused-append w ts us)),
-    )
+  pub state_past-append : (s : S) (ts us : List Turn) → state_past step s (ts ++ us) ≡ state_past step (state_past step s ts) us
+  state_past-append s ts us = fold-append (λ at turn. (step at turn).state) s ts us
 
--- a stop behind what flowed
-pub Streams-stops : (w : World) (ts us : List Turn) (c d e : Option (List ℕ)) (a b f : List ℕ) (w1 w2 : World) (r1 : Bool) (fault : PbxFault) → Streams w ts c a d b w1 (Ok r1) → Streams w1 us d b e f w2 (Err fault) → Streams w (ts ++ us) c a e f w2 (Err fault)
-Streams-stops w ts us c d e a b f w1 w2 r1 (Coded code line) so_far more =
-    let P : List ℕ → Type 0 = λ t. AppendsFront c e (a ++ t) in
-    let here : trace_of w (ts ++ us) ≡ trace_of w ts ++ trace_of w1 us = trace_of-append w ts us ∙ ap (λ s. trace_of w ts ++ trace_of s us) (sym so_far.1) in
-    (subst P (sym here) (Flows-fails c d e a b (trace_of w ts) (trace_of w1 us) so_far.0 more.0), more.1, more.2)
-Streams-stops w ts us c d e a b f w1 w2 r1 NoMemory so_far more =
-    let P : List ℕ → Type 0 = λ t. Flows c a e f t in
-    let here : trace_of w (take (length ts + more.count) (ts ++ us)) ≡ trace_of w ts ++ trace_of w1 (take more.count us) =
-    ap (trace_of w) (take-append-add ts us more.count) ∙ (trace_of-append w ts (take more.count us) ∙ ap (λ s. trace_of w ts ++ trace_of s (take more.count us)) (sym so_far.1)) in
-    record {
-      count = length ts + more.count;
-      within = omega (arith, more.within, length-append ts us);
-      flowed = subst P (sym here) (Flows-trans c d e a b f (trace_of w ts) (trace_of w1 (take more.count us)) so_far.0 more.flowed);
-    }
+  refused_in-append : (s : S) (ts us : List Turn) → refused_in step s (ts ++ us) ≡ (refused_in step s ts || refused_in step (state_past step s ts) us)
+  refused_in-append s [] us = refl
+  refused_in-append s (t ∷ ts) us =
+      ap (λ r. (step s t).refused || r) (refused_in-append (step s t).state ts us)
+      ∙ sym (or-assoc (step s t).refused (refused_in step (step s t).state ts) (refused_in step (state_past step (step s t).state ts) us))
 
--- what stopped, stopped with more turns to come
-pub Streams-more : (w : World) (ts us : List Turn) (c d : Option (List ℕ)) (a b : List ℕ) (w1 : World) (fault : PbxFault) → Streams w ts c a d b w1 (Err fault) → Streams w (ts ++ us) c a d b w1 (Err fault)
-Streams-more w ts us c d a b w1 (Coded code line) stopped =
-    let P : List ℕ → Type 0 = λ t. AppendsFront c d t in
-    let here : (a ++ trace_of w ts) ++ trace_of (world_past w ts) us ≡ a ++ trace_of w (ts ++ us) =
-    append_assoc a (trace_of w ts) (trace_of (world_past w ts) us) ∙ ap (λ (t : List ℕ). a ++ t) (sym (trace_of-append w ts us)) in
-    (subst P here (AppendsFront-more c d (a ++ trace_of w ts) (trace_of (world_past w ts) us) stopped.0), stopped.1, stopped.2)
-Streams-more w ts us c d a b w1 NoMemory stopped =
-    let P : List Turn → Type 0 = λ t. Flows c a d b (trace_of w t) in
-    record {
-      count = stopped.count;
-      within = omega (arith, stopped.within, length-append ts us);
-      flowed = subst P (sym (take-append-le stopped.count ts us stopped.within)) stopped.flowed;
-    }
+  -- nothing so far
+  pub Streams-start : (s : S) (old : Option (List ℕ)) (waited : List ℕ) → Streams step s [] old waited old waited s (Ok false)
+  Streams-start s old waited = (Flows-stay old waited, refl, refl)
 
--- one turn, of which the line waits and some of what waits may be written
-pub Streams-one : (w : World) (turn : Turn) (c d : Option (List ℕ)) (a mid b : List ℕ) (after : World) (refused : Bool) → mid ≡ a ++ (turned w turn).line → after ≡ (turned w turn).world → refused ≡ (turned w turn).refused → Flows c mid d b [] → Streams w (turn ∷ []) c a d b after (Ok refused)
-Streams-one w turn c d a mid b after refused line world answer sent =
-    let P : List ℕ → Type 0 = λ t. Flows c a d b t in (
-      subst P (append-nil ((turned w turn).line ++ []))
-          (Flows-trans c c d a mid b ((turned w turn).line ++ []) [] (Flows-waits c a mid ((turned w turn).line ++ []) (line ∙ ap (λ (t : List ℕ). a ++ t) (sym (append-nil (turned w turn).line)))) sent),
-      world,
-      answer ∙ or-end (turned w turn).refused,
-    ) where
-      or-end : (r : Bool) → r ≡ (r || false)
-      or-end true = refl
-      or-end false = refl
+  -- more turns are met by the state behind the others
+  pub Streams-goes_on : (s : S) (ts us : List Turn) (c d e : Option (List ℕ)) (a b f : List ℕ) (s1 s2 : S) (r1 r2 : Bool) → Streams step s ts c a d b s1 (Ok r1) → Streams step s1 us d b e f s2 (Ok r2) → Streams step s (ts ++ us) c a e f s2 (Ok (r1 || r2))
+  Streams-goes_on s ts us c d e a b f s1 s2 r1 r2 so_far more =
+      let P : List ℕ → Type 0 = λ t. Flows c a e f t in
+      let here : lines_of step s (ts ++ us) ≡ lines_of step s ts ++ lines_of step s1 us = lines_of-append s ts us ∙ ap (λ at. lines_of step s ts ++ lines_of step at us) (sym so_far.1) in (
+        subst P (sym here) (Flows-trans c d e a b f (lines_of step s ts) (lines_of step s1 us) so_far.0 more.0),
+        more.1 ∙ (ap (λ at. state_past step at us) so_far.1 ∙ sym (state_past-append s ts us)),
+        ap (λ r. r || r2) so_far.2 ∙ (ap (λ r. refused_in step s ts || r) (more.2 ∙ ap (λ at. refused_in step at us) so_far.1) ∙ sym (refused_in-append s ts us)),
+      )
 
--- one turn, where memory was refused
-pub FlowsFirst-none : (w : World) (turns : List Turn) (c : Option (List ℕ)) (a b : List ℕ) → b ≡ a → FlowsFirst w turns c a c b
-FlowsFirst-none w turns c a b e =
-    record {
-      count = 0;
-      within = omega arith;
-      flowed = Flows-waits c a b [] (e ∙ sym (append-nil a));
-    }
+  -- a stop behind what flowed
+  pub Streams-stops : (s : S) (ts us : List Turn) (c d e : Option (List ℕ)) (a b f : List ℕ) (s1 s2 : S) (r1 : Bool) (fault : PbxFault) → Streams step s ts c a d b s1 (Ok r1) → Streams step s1 us d b e f s2 (Err fault) → Streams step s (ts ++ us) c a e f s2 (Err fault)
+  Streams-stops s ts us c d e a b f s1 s2 r1 (Coded code line) so_far more =
+      let P : List ℕ → Type 0 = λ t. AppendsFront c e (a ++ t) in
+      let here : lines_of step s (ts ++ us) ≡ lines_of step s ts ++ lines_of step s1 us = lines_of-append s ts us ∙ ap (λ at. lines_of step s ts ++ lines_of step at us) (sym so_far.1) in
+      (subst P (sym here) (Flows-fails c d e a b (lines_of step s ts) (lines_of step s1 us) so_far.0 more.0), more.1, more.2)
+  Streams-stops s ts us c d e a b f s1 s2 r1 NoMemory so_far more =
+      let P : List ℕ → Type 0 = λ t. Flows c a e f t in
+      let here : lines_of step s (take (length ts + more.count) (ts ++ us)) ≡ lines_of step s ts ++ lines_of step s1 (take more.count us) =
+      ap (lines_of step s) (take-append-add ts us more.count) ∙ (lines_of-append s ts (take more.count us) ∙ ap (λ at. lines_of step s ts ++ lines_of step at (take more.count us)) (sym so_far.1)) in
+      record {
+        count = length ts + more.count;
+        within = omega (arith, more.within, length-append ts us);
+        flowed = subst P (sym here) (Flows-trans c d e a b f (lines_of step s ts) (lines_of step s1 (take more.count us)) so_far.0 more.flowed);
+      }
 
--- one turn, where the write failed
-pub fails-one : (w : World) (turn : Turn) (c d : Option (List ℕ)) (a mid : List ℕ) → mid ≡ a ++ (turned w turn).line → AppendsFront c d mid → AppendsFront c d (a ++ trace_of w (turn ∷ []))
-fails-one w turn c d a mid line failed =
-    let P : List ℕ → Type 0 = λ t. AppendsFront c d t in
-    subst P (line ∙ ap (λ (t : List ℕ). a ++ t) (sym (append-nil (turned w turn).line))) failed
+  -- what stopped, stopped with more turns to come
+  pub Streams-more : (s : S) (ts us : List Turn) (c d : Option (List ℕ)) (a b : List ℕ) (s1 : S) (fault : PbxFault) → Streams step s ts c a d b s1 (Err fault) → Streams step s (ts ++ us) c a d b s1 (Err fault)
+  Streams-more s ts us c d a b s1 (Coded code line) stopped =
+      let P : List ℕ → Type 0 = λ t. AppendsFront c d t in
+      let here : (a ++ lines_of step s ts) ++ lines_of step (state_past step s ts) us ≡ a ++ lines_of step s (ts ++ us) =
+      append_assoc a (lines_of step s ts) (lines_of step (state_past step s ts) us) ∙ ap (λ (t : List ℕ). a ++ t) (sym (lines_of-append s ts us)) in
+      (subst P here (AppendsFront-more c d (a ++ lines_of step s ts) (lines_of step (state_past step s ts) us) stopped.0), stopped.1, stopped.2)
+  Streams-more s ts us c d a b s1 NoMemory stopped =
+      let P : List Turn → Type 0 = λ t. Flows c a d b (lines_of step s t) in
+      record {
+        count = stopped.count;
+        within = omega (arith, stopped.within, length-append ts us);
+        flowed = subst P (sym (take-append-le stopped.count ts us stopped.within)) stopped.flowed;
+      }
 
--- the first so many turns, and a front of the whole
-first-short : (w : World) (turns : List Turn) (c e : Option (List ℕ)) (count : ℕ) → AppendsFront c e (trace_of w (take count turns)) → AppendsFront c e (trace_of w turns)
-first-short w turns c e count failed =
-    let P : List ℕ → Type 0 = λ t. AppendsFront c e t in
-    let whole : trace_of w (take count turns) ++ trace_of (world_past w (take count turns)) (drop count turns) ≡ trace_of w turns =
-    sym (trace_of-append w (take count turns) (drop count turns)) ∙ ap (trace_of w) (take-append-drop count turns) in
-    subst P whole (AppendsFront-more c e (trace_of w (take count turns)) (trace_of (world_past w (take count turns)) (drop count turns)) failed)
+  -- one turn, of which the lines wait and some of what waits may be written
+  pub Streams-one : (s : S) (turn : Turn) (c d : Option (List ℕ)) (a mid b : List ℕ) (after : S) (refused : Bool) → mid ≡ a ++ (step s turn).lines → after ≡ (step s turn).state → refused ≡ (step s turn).refused → Flows c mid d b [] → Streams step s (turn ∷ []) c a d b after (Ok refused)
+  Streams-one s turn c d a mid b after refused line state answer sent =
+      let P : List ℕ → Type 0 = λ t. Flows c a d b t in (
+        subst P (append-nil ((step s turn).lines ++ []))
+            (Flows-trans c c d a mid b ((step s turn).lines ++ []) [] (Flows-waits c a mid ((step s turn).lines ++ []) (line ∙ ap (λ (t : List ℕ). a ++ t) (sym (append-nil (step s turn).lines)))) sent),
+        state,
+        answer ∙ or-end (step s turn).refused,
+      ) where
+        or-end : (r : Bool) → r ≡ (r || false)
+        or-end true = refl
+        or-end false = refl
 
--- the end of a run is what a run writes
-pub Writes-ends : (run : Run) (c d e : Option (List ℕ)) (b : List ℕ) (after : World) (ran : Result Bool PbxFault) (result : Result ℕ PbxFault) → Streams run.world run.turns c [] d b after ran → Ends d b e ran result → Writes c e (Ok run) result
-Writes-ends run c d e b after (Ok refused) (Ok status) ran ends =
-    (Flows-ends c d e b (trace_of run.world run.turns) ran.0 ends.0, ends.1 ∙ ap status_by ran.2)
-Writes-ends run c d e b after (Ok refused) (Err (Coded code line)) ran ends =
-    (Flows-ends_short c d e b (trace_of run.world run.turns) ran.0 ends.0, ends.1, ends.2)
-Writes-ends run c d e b after (Ok refused) (Err NoMemory) ran ends = absurd ends
-Writes-ends run c d e b after (Err (Coded code line)) (Ok status) ran ends = absurd ends
-Writes-ends run c d e b after (Err (Coded code line)) (Err (Coded other at)) ran ends =
-    (AppendsFront-kept c d e (trace_of run.world run.turns) ran.0 ends.0, ends.1 ∙ ran.1, ends.2 ∙ ran.2)
-Writes-ends run c d e b after (Err (Coded code line)) (Err NoMemory) ran ends = absurd ends
-Writes-ends run c d e b after (Err NoMemory) (Ok status) ran ends = absurd ends
-Writes-ends run c d e b after (Err NoMemory) (Err (Coded code line)) ran ends =
-    (first-short run.world run.turns c e ran.count (Flows-ends_short c d e b (trace_of run.world (take ran.count run.turns)) ran.flowed ends.0), ends.1, ends.2)
-Writes-ends run c d e b after (Err NoMemory) (Err NoMemory) ran ends =
-    record { count = ran.count; within = ran.within; written = Flows-ends c d e b (trace_of run.world (take ran.count run.turns)) ran.flowed ends }
+  -- one turn, where memory was refused
+  pub FlowsFirst-none : (s : S) (turns : List Turn) (c : Option (List ℕ)) (a b : List ℕ) → b ≡ a → FlowsFirst step s turns c a c b
+  FlowsFirst-none s turns c a b e =
+      record {
+        count = 0;
+        within = omega arith;
+        flowed = Flows-waits c a b [] (e ∙ sym (append-nil a));
+      }
+
+  -- one turn, where the write failed
+  pub fails-one : (s : S) (turn : Turn) (c d : Option (List ℕ)) (a mid : List ℕ) → mid ≡ a ++ (step s turn).lines → AppendsFront c d mid → AppendsFront c d (a ++ lines_of step s (turn ∷ []))
+  fails-one s turn c d a mid line failed =
+      let P : List ℕ → Type 0 = λ t. AppendsFront c d t in
+      subst P (line ∙ ap (λ (t : List ℕ). a ++ t) (sym (append-nil (step s turn).lines))) failed
+
+  -- the first so many turns, and a front of the whole
+  first-short : (last : S → List ℕ) (s : S) (turns : List Turn) (c e : Option (List ℕ)) (count : ℕ) → AppendsFront c e (lines_of step s (take count turns)) → AppendsFront c e (text_of step last s turns)
+  first-short last s turns c e count failed =
+      let P : List ℕ → Type 0 = λ t. AppendsFront c e (t ++ last (state_past step s turns)) in
+      let whole : lines_of step s (take count turns) ++ lines_of step (state_past step s (take count turns)) (drop count turns) ≡ lines_of step s turns =
+      sym (lines_of-append s (take count turns) (drop count turns)) ∙ ap (lines_of step s) (take-append-drop count turns) in
+      subst P whole (AppendsFront-more c e (lines_of step s (take count turns) ++ lines_of step (state_past step s (take count turns)) (drop count turns)) (last (state_past step s turns))
+      (AppendsFront-more c e (lines_of step s (take count turns)) (lines_of step (state_past step s (take count turns)) (drop count turns)) failed))
+
+  -- all turns were taken, and the lines behind the last of them wait
+  pub StreamsAll_ends : (last : S → List ℕ) (s : S) (turns : List Turn) (c d : Option (List ℕ)) (a b f : List ℕ) (after : S) (refused : Bool) → Streams step s turns c a d b after (Ok refused) → f ≡ b ++ last after → StreamsAll step last s turns c a d f (Ok refused)
+  StreamsAll_ends last s turns c d a b f after refused ran behind =
+      let bytes = lines_of step s turns in
+      let P : S → Type 0 = λ at. Flows c a d f (bytes ++ last at) in
+      (subst P ran.1 (Flows-trans c d d a b f bytes (last after) ran.0 (Flows-waits d b f (last after) behind)), ran.2)
+
+  -- all turns were taken, and memory was refused behind them
+  pub StreamsAll_lacks : (last : S → List ℕ) (s : S) (turns : List Turn) (c d : Option (List ℕ)) (a b f : List ℕ) (after : S) (refused : Bool) → Streams step s turns c a d b after (Ok refused) → f ≡ b → StreamsAll step last s turns c a d f (Err NoMemory)
+  StreamsAll_lacks last s turns c d a b f after refused ran same =
+      let P : List ℕ → Type 0 = λ waits. Flows c a d waits (lines_of step s (take (length turns) turns)) in
+      let Q : List Turn → Type 0 = λ ts. Flows c a d b (lines_of step s ts) in
+      record { count = length turns; within = omega arith; flowed = subst P (sym same) (subst Q (sym (take-length turns)) ran.0) }
+
+  -- the turns stopped before the end
+  pub StreamsAll_stops : (last : S → List ℕ) (s : S) (turns : List Turn) (c d : Option (List ℕ)) (a b : List ℕ) (after : S) (fault : PbxFault) → Streams step s turns c a d b after (Err fault) → StreamsAll step last s turns c a d b (Err fault)
+  StreamsAll_stops last s turns c d a b after (Coded code line) ran =
+      let P : List ℕ → Type 0 = λ t. AppendsFront c d t in
+      (subst P (append_assoc a (lines_of step s turns) (last (state_past step s turns))) (AppendsFront-more c d (a ++ lines_of step s turns) (last (state_past step s turns)) ran.0), ran.1, ran.2)
+  StreamsAll_stops last s turns c d a b after NoMemory ran = ran
+
+  -- the end is what the turns write
+  pub Writes-ends : (last : S → List ℕ) (s : S) (turns : List Turn) (c d e : Option (List ℕ)) (b : List ℕ) (ran : Result Bool PbxFault) (result : Result ℕ PbxFault) → StreamsAll step last s turns c [] d b ran → Ends d b e ran result → WritesTurns step last s turns c e result
+  Writes-ends last s turns c d e b (Ok refused) (Ok status) ran ends =
+      (Flows-ends c d e b (text_of step last s turns) ran.0 ends.0, ends.1 ∙ ap status_by ran.1)
+  Writes-ends last s turns c d e b (Ok refused) (Err (Coded code line)) ran ends =
+      (Flows-ends_short c d e b (text_of step last s turns) ran.0 ends.0, ends.1, ends.2)
+  Writes-ends last s turns c d e b (Ok refused) (Err NoMemory) ran ends = absurd ends
+  Writes-ends last s turns c d e b (Err (Coded code line)) (Ok status) ran ends = absurd ends
+  Writes-ends last s turns c d e b (Err (Coded code line)) (Err (Coded other at)) ran ends =
+      (AppendsFront-kept c d e (text_of step last s turns) ran.0 ends.0, ends.1 ∙ ran.1, ends.2 ∙ ran.2)
+  Writes-ends last s turns c d e b (Err (Coded code line)) (Err NoMemory) ran ends = absurd ends
+  Writes-ends last s turns c d e b (Err NoMemory) (Ok status) ran ends = absurd ends
+  Writes-ends last s turns c d e b (Err NoMemory) (Err (Coded code line)) ran ends =
+      (first-short last s turns c e ran.count (Flows-ends_short c d e b (lines_of step s (take ran.count turns)) ran.flowed ends.0), ends.1, ends.2)
+  Writes-ends last s turns c d e b (Err NoMemory) (Err NoMemory) ran ends =
+      record { count = ran.count; within = ran.within; written = Flows-ends c d e b (lines_of step s (take ran.count turns)) ran.flowed ends }
+
+-- turns that are taken plainly have the trace of a run
+module _ {P : Type 0} where
+  lines_of-plainly : (p : P) (w : World) (ts : List Turn) → lines_of plainly (p, w) ts ≡ trace_of w ts
+  lines_of-plainly p w [] = refl
+  lines_of-plainly p w (t ∷ ts) = ap (λ (later : List ℕ). (turned w t).line ++ later) (lines_of-plainly p (turned w t).world ts)
+
+  refused_in-plainly : (p : P) (w : World) (ts : List Turn) → refused_in plainly (p, w) ts ≡ any_refused w ts
+  refused_in-plainly p w [] = refl
+  refused_in-plainly p w (t ∷ ts) = ap (λ r. (turned w t).refused || r) (refused_in-plainly p (turned w t).world ts)
+
+  text_of-plainly : (p : P) (w : World) (ts : List Turn) → text_of plainly (λ _. []) (p, w) ts ≡ trace_of w ts
+  text_of-plainly p w ts = append-nil (lines_of plainly (p, w) ts) ∙ lines_of-plainly p w ts
+
+  pub Writes_plainly : (p : P) (w : World) (turns : List Turn) (c e : Option (List ℕ)) (result : Result ℕ PbxFault) → WritesTurns plainly (λ _. []) (p, w) turns c e result → Writes c e (Ok (run_on w turns)) result
+  Writes_plainly p w turns c e (Ok status) wrote =
+      let Q : List ℕ → Type 0 = λ t. Appends c e t in
+      (subst Q (text_of-plainly p w turns) wrote.0, wrote.1 ∙ ap status_by (refused_in-plainly p w turns))
+  Writes_plainly p w turns c e (Err (Coded code line)) wrote =
+      let Q : List ℕ → Type 0 = λ t. AppendsFront c e t in
+      (subst Q (text_of-plainly p w turns) wrote.0, wrote.1, wrote.2)
+  Writes_plainly p w turns c e (Err NoMemory) wrote =
+      let Q : List ℕ → Type 0 = λ t. Appends c e t in
+      record { count = wrote.count; within = wrote.within; written = subst Q (lines_of-plainly p w (take wrote.count turns)) wrote.written }
 
 -- whether a write failed, by what a run came to and what it ended with
 pub told-ends : (d e : Option (List ℕ)) (b : List ℕ) (ran : Result Bool PbxFault) (result : Result ℕ PbxFault) (was mid now : Bool) → Ends d b e ran result → mid ≡ (was || is_write_failed ran) → now ≡ (mid || fails_at_the_end ran result) → now ≡ (was || is_write_failed result)

@@ -6,7 +6,7 @@ use Rattle.dp_pattern.specs.Codes.{name_code, fault_name}
 use Rattle.dp_plan.specs.Codes.{plan_code, plan_name}
 use Rattle.dp_queue.specs.Codes.{queue_code, queue_name}
 use Rattle.dp_commands.specs.declared.fault.Code.{Code}
-use Rattle.dp_commands.specs.declared.fault.Code.TheVariants.{Line, Name, Plan, Queue, ReadFailed, TooLong, WriteFailed, BadScript}
+use Rattle.dp_commands.specs.declared.fault.Code.TheVariants.{Line, Name, Plan, Queue, ReadFailed, TooLong, WriteFailed, BadScript, BadBreak}
 use Rattle.dp_commands.specs.declared.fault.PbxFault.{PbxFault}
 use Rattle.dp_commands.specs.declared.fault.PbxFault.TheVariants.{Coded, NoMemory}
 
@@ -20,6 +20,7 @@ code_number ReadFailed = 7
 code_number TooLong = 8
 code_number WriteFailed = write_code
 code_number BadScript = 70
+code_number BadBreak = 71
 
 -- the printed name of a fault
 abbrev pub code_name : Code → List ℕ
@@ -31,6 +32,7 @@ code_name ReadFailed = read_name read_failed
 code_name TooLong = read_name read_too_long
 code_name WriteFailed = write_name
 code_name BadScript = codes "BadScript"
+code_name BadBreak = codes "BadBreak"
 
 -- what is printed of a code, `fault CODE NAME`
 abbrev pub code_text : Code → List ℕ

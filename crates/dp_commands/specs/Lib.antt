@@ -1,8 +1,10 @@
 pub mod Block
 pub mod Codes
+pub mod Debug
 pub mod Faults
 pub mod Joined
 pub mod Report
 pub mod Run
 pub mod Script
 pub mod Trace
+pub mod Turns

@@ -1,5 +1,5 @@
 -- What a run writes and answers.
-use Rattle.std.specs.Prelude.{◌≡◌, ℕ, ◌≤◌, ◌++◌, Bool, false, List, [], length, take, Option, Some, None, Result, Ok, Err, if◌then◌else◌}
+use Rattle.std.specs.Prelude.{◌≡◌, ℕ, ◌≤◌, Bool, false, List, [], length, take, Option, Some, None, Result, Ok, Err, if◌then◌else◌}
 use Rattle.std.specs.Io.KnownBytes.{Appends, Keeps}
 use Rattle.dp_conf.specs.Answers.{◌>>=◌}
 use Rattle.dp_conf.specs.Fronts.{AppendsFront}
@@ -9,10 +9,9 @@ use Rattle.dp_queue.specs.File.{loaded as queues_loaded}
 use Rattle.dp_queue.specs.Queues.{QueuesOf, no_queues}
 use Rattle.dp_queue.specs.declared.fault.QueueFault.{QueueFault}
 use Rattle.dp_machine.specs.World.{World, opening}
-use Rattle.dp_commands.specs.Block.{Flows}
 use Rattle.dp_commands.specs.Faults.{fault_of_load, fault_of_queue, is_write_failed}
 use Rattle.dp_commands.specs.Script.{script_of, turns_of}
-use Rattle.dp_commands.specs.Trace.{trace_of, world_past, any_refused}
+use Rattle.dp_commands.specs.Trace.{trace_of, any_refused}
 use Rattle.dp_commands.specs.declared.fault.Code.TheVariants.{WriteFailed}
 use Rattle.dp_commands.specs.declared.fault.PbxFault.{PbxFault}
 use Rattle.dp_commands.specs.declared.fault.PbxFault.TheVariants.{Coded, NoMemory}
@@ -23,22 +22,6 @@ pub record TracesFirst (w : World) (turns : List Turn) (old new : Option (List �
   pub count : ℕ
   pub within : count ≤ length turns
   pub written : Appends old new (trace_of w (take count turns))
-
--- the trace of the first so many turns flowed, and nothing else
-pub record FlowsFirst (w : World) (turns : List Turn) (old : Option (List ℕ)) (waited : List ℕ) (new : Option (List ℕ)) (waits : List ℕ) : Type 0 where
-  pub count : ℕ
-  pub within : count ≤ length turns
-  pub flowed : Flows old waited new waits (trace_of w (take count turns))
-
--- what some turns come to where a world meets them, by what was written and what waited before, and what is written and
--- waits behind them: their trace flows, with whether one was refused; where a write failed, a front was written of what
--- waited and the trace; and the trace of the first so many of them flows where memory was refused
-abbrev pub Streams : World → List Turn → Option (List ℕ) → List ℕ → Option (List ℕ) → List ℕ → World → Result Bool PbxFault → Type 0
-Streams w turns old waited new waits after (Ok refused) =
-    Flows old waited new waits (trace_of w turns) × (after ≡ world_past w turns) × (refused ≡ any_refused w turns)
-Streams w turns old waited new waits after (Err (Coded code line)) =
-    AppendsFront old new (waited ++ trace_of w turns) × (code ≡ WriteFailed) × (line ≡ None)
-Streams w turns old waited new waits after (Err NoMemory) = FlowsFirst w turns old waited new waits
 
 -- the status by whether a turn was refused
 abbrev pub status_by : Bool → ℕ

@@ -26,6 +26,8 @@ pub enum Code {
     WriteFailed,
     /// A line of the script is none that scripts have.
     BadScript,
+    /// The text of a break is none.
+    BadBreak,
 }
 
 impl Code {
@@ -42,6 +44,7 @@ impl Code {
             Code::TooLong => ReadFault::TooLong.code().unwrap(),
             Code::WriteFailed => WriteFailed.code(),
             Code::BadScript => 70,
+            Code::BadBreak => 71,
         }
     }
 
@@ -58,6 +61,7 @@ impl Code {
             Code::TooLong => ReadFault::TooLong.name(),
             Code::WriteFailed => WriteFailed.name(),
             Code::BadScript => "BadScript",
+            Code::BadBreak => "BadBreak",
         }
     }
 }

@@ -2,13 +2,16 @@
 #![tactic(auto)]
 
 mod block;
+mod debug;
 mod fault;
 mod joined;
 mod report;
 mod run;
 mod script;
+mod taker;
 mod trace;
 
+pub use debug::debug_script;
 pub use fault::{Code, PbxFault};
 pub use joined::run_joined;
 pub use report::{check, list_plan, match_one};

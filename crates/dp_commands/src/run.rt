@@ -10,10 +10,12 @@ ghost use Rattle.dp_commands.specs.Faults.{is_write_failed, reason_of};
 ghost use Rattle.dp_commands.specs.Run as spec;
 ghost use Rattle.dp_commands.specs.Script.{line_turns, turns_of};
 ghost use Rattle.dp_commands.specs.Trace.{turned};
+ghost use Rattle.dp_commands.specs.Turns.{Streams, StreamsAll, WritesTurns};
 
 use crate::block::{Block, ROOM};
 use crate::fault::PbxFault;
 use crate::script::{ScriptLine, Turn, read_script};
+use crate::taker::Taker;
 use crate::trace::{push_line, push_show_line};
 use dp_conf::{WriteFailed, WriteTold};
 use dp_machine::{Event, Machine};
@@ -57,21 +59,33 @@ fn take_show(
     Ok(machine.phase(channel).is_none())
 }
 
-/// Takes one turn, and adds its line to what waits. It says whether the turn was refused.
-fn take_turn(
-    alloc: Global,
-    machine: &mut Machine<StandardApps>,
-    turn: &Turn,
-    block: &mut Block,
-) -> Result<bool, NoMemory>
-    ensures line { OnOk result (block.new.whole ≡ block.old.whole ++ (turned machine.old turn.now).line) }
-    ensures world { OnOk result (machine.new ≡ (turned machine.old turn.now).world) }
-    ensures refused { IfOk result (λ refused. refused ≡ (turned machine.old turn.now).refused) }
-    ensures err { OnErr result (block.new.whole ≡ block.old.whole) }
-{
-    match turn {
-        Turn::Event(event) => take_event(alloc, machine, event, block),
-        Turn::Show { channel, name } => take_show(alloc, machine, *channel, name, block),
+/// Turns that are taken as they stand.
+#[derive(Drop)]
+struct Plain;
+
+impl Taker for Plain {
+    ghost use Rattle.std.specs.Prelude.{[]};
+    ghost use Rattle.dp_commands.specs.Turns.{plainly};
+
+    ghost step = { plainly };
+
+    ghost last = { λ _. [] };
+
+    fn take(
+        &mut self,
+        alloc: Global,
+        machine: &mut Machine<StandardApps>,
+        turn: &Turn,
+        block: &mut Block,
+    ) -> Result<bool, NoMemory> {
+        match turn {
+            Turn::Event(event) => take_event(alloc, machine, event, block),
+            Turn::Show { channel, name } => take_show(alloc, machine, *channel, name, block),
+        }
+    }
+
+    fn finish(&self, _block: &mut Block) -> Result<(), NoMemory> {
+        Ok(())
     }
 }
 
@@ -88,53 +102,56 @@ fn send_full<W: WriteTold>(block: &mut Block, writer: &mut W) -> Result<(), Writ
 }
 
 /// Takes one turn, and writes the lines that wait where they fill the block. It says whether the turn was refused.
-fn run_turn<W: WriteTold>(
+fn run_turn<T: Taker, W: WriteTold>(
     alloc: Global,
+    taker: &mut T,
     machine: &mut Machine<StandardApps>,
     turn: &Turn,
     block: &mut Block,
     writer: &mut W,
 ) -> Result<bool, PbxFault>
-    ensures streams { spec.Streams machine.old (turn.now ∷ []) (W.contents writer.old) block.old.whole (W.contents writer.new) block.new.whole machine.new result }
+    ensures streams { Streams T.step (taker.old, machine.old) (turn.now ∷ []) (W.contents writer.old) block.old.whole (W.contents writer.new) block.new.whole (taker.new, machine.new) result }
     ensures told { W.has_failed writer.new ≡ (W.has_failed writer.old || is_write_failed result) }
 {
-    let refused = take_turn(alloc, machine, turn, block)?;
+    let refused = taker.take(alloc, machine, turn, block)?;
     send_full(block, writer)?;
     Ok(refused)
 }
 
 /// Takes the turns of a line.
-fn run_line<W: WriteTold>(
+fn run_line<T: Taker, W: WriteTold>(
     alloc: Global,
+    taker: &mut T,
     machine: &mut Machine<StandardApps>,
     line: &ScriptLine,
     block: &mut Block,
     writer: &mut W,
 ) -> Result<bool, PbxFault>
-    ensures streams { spec.Streams machine.old (line_turns line.now) (W.contents writer.old) block.old.whole (W.contents writer.new) block.new.whole machine.new result }
+    ensures streams { Streams T.step (taker.old, machine.old) (line_turns line.now) (W.contents writer.old) block.old.whole (W.contents writer.new) block.new.whole (taker.new, machine.new) result }
     ensures told { W.has_failed writer.new ≡ (W.has_failed writer.old || is_write_failed result) }
 {
     let mut refused = false;
     for _turn in 0..line.count {
-        refused |= run_turn(alloc, machine, &line.turn, block, writer)?;
+        refused |= run_turn(alloc, taker, machine, &line.turn, block, writer)?;
     }
     Ok(refused)
 }
 
 /// Takes the turns of the lines, one after another, and writes their lines as it goes. It says whether one was refused.
-fn run_lines<W: WriteTold>(
+fn run_lines<T: Taker, W: WriteTold>(
     alloc: Global,
+    taker: &mut T,
     machine: &mut Machine<StandardApps>,
     lines: &[ScriptLine],
     block: &mut Block,
     writer: &mut W,
 ) -> Result<bool, PbxFault>
-    ensures streams { spec.Streams machine.old (turns_of lines.now) (W.contents writer.old) block.old.whole (W.contents writer.new) block.new.whole machine.new result }
+    ensures streams { Streams T.step (taker.old, machine.old) (turns_of lines.now) (W.contents writer.old) block.old.whole (W.contents writer.new) block.new.whole (taker.new, machine.new) result }
     ensures told { W.has_failed writer.new ≡ (W.has_failed writer.old || is_write_failed result) }
 {
     let mut refused = false;
     for line in lines {
-        refused |= run_line(alloc, machine, line, block, writer)?;
+        refused |= run_line(alloc, taker, machine, line, block, writer)?;
     }
     Ok(refused)
 }
@@ -154,7 +171,7 @@ fn load_queues(alloc: Global, text: Option<&[u8]>) -> Result<Queues, PbxFault>
 
 /// The machine, the lines and the empty block of a run: the dialplan is read first, then the queues, then the script.
 #[tactic(auto, unfolding(crate::specs::Run::run_of))]
-fn begin(
+pub(crate) fn begin(
     alloc: Global,
     plan: &[u8],
     queues: Option<&[u8]>,
@@ -196,8 +213,45 @@ fn end<W: WriteTold>(
     }
 }
 
+/// Takes the turns of all lines, and adds the lines behind the last of them to what waits.
+#[tactic(auto, using(crate::proofs::StreamsLemmas::StreamsAll_ends, crate::proofs::StreamsLemmas::StreamsAll_lacks, crate::proofs::StreamsLemmas::StreamsAll_stops))]
+fn run_through<T: Taker, W: WriteTold>(
+    alloc: Global,
+    taker: &mut T,
+    machine: &mut Machine<StandardApps>,
+    lines: &[ScriptLine],
+    block: &mut Block,
+    writer: &mut W,
+) -> Result<bool, PbxFault>
+    ensures streams { StreamsAll T.step (λ at. T.last at.0) (taker.old, machine.old) (turns_of lines.now)
+        (W.contents writer.old) block.old.whole (W.contents writer.new) block.new.whole result }
+    ensures told { W.has_failed writer.new ≡ (W.has_failed writer.old || is_write_failed result) }
+{
+    let refused = run_lines(alloc, taker, machine, lines, block, writer)?;
+    taker.finish(block)?;
+    Ok(refused)
+}
+
 /// Takes the turns of all lines, and writes all of their lines. Nothing waits before.
-fn run_all<W: WriteTold>(
+pub(crate) fn run_all<T: Taker, W: WriteTold>(
+    alloc: Global,
+    taker: &mut T,
+    machine: &mut Machine<StandardApps>,
+    lines: &[ScriptLine],
+    block: &mut Block,
+    writer: &mut W,
+) -> Result<u8, PbxFault>
+    requires { block.old.whole ≡ [] }
+    ensures writes { WritesTurns T.step (λ at. T.last at.0) (taker.old, machine.old) (turns_of lines.now)
+        (W.contents writer.old) (W.contents writer.new) result }
+    ensures told { W.has_failed writer.new ≡ (W.has_failed writer.old || is_write_failed result) }
+{
+    let ran = run_through(alloc, taker, machine, lines, block, writer);
+    end(block, writer, ran)
+}
+
+/// Runs the turns of all lines as they stand, and writes their trace. Nothing waits before.
+fn run_plainly<W: WriteTold>(
     alloc: Global,
     machine: &mut Machine<StandardApps>,
     lines: &[ScriptLine],
@@ -208,8 +262,7 @@ fn run_all<W: WriteTold>(
     ensures writes { spec.Writes (W.contents writer.old) (W.contents writer.new) (Ok (spec.run_on machine.old (turns_of lines.now))) result }
     ensures told { W.has_failed writer.new ≡ (W.has_failed writer.old || is_write_failed result) }
 {
-    let ran = run_lines(alloc, machine, lines, block, writer);
-    end(block, writer, ran)
+    run_all(alloc, &mut Plain, machine, lines, block, writer)
 }
 
 /// Runs a script on a dialplan with its queues, and writes the trace as it goes, a block of lines at a time. The status is 1 where a turn
@@ -229,5 +282,5 @@ pub fn run_script<W: WriteTold>(
     ensures told { W.has_failed writer.new ≡ (W.has_failed writer.old || is_write_failed result) }
 {
     let (mut machine, lines, mut block) = begin(alloc, plan, queues, script)?;
-    run_all(alloc, &mut machine, &lines, &mut block, writer)
+    run_plainly(alloc, &mut machine, &lines, &mut block, writer)
 }

@@ -273,7 +273,7 @@ fn push_done(out: &mut Block, machine: &Machine<StandardApps>, number: u32) -> R
 }
 
 /// Adds the line of a reply to an event of the channel of this number, with the machine behind the event.
-fn push_reply(
+pub(crate) fn push_reply(
     alloc: Global,
     out: &mut Block,
     machine: &Machine<StandardApps>,
