@@ -40,17 +40,39 @@ fn plan_of(alloc: Global, globals: &str, arguments: &str) -> Result<String, NoMe
     Ok(text)
 }
 
-/// A machine with such a dialplan, to which a call of `5551234` came.
-fn called(alloc: Global, globals: &str, arguments: &str) -> Result<Exchange, Fail> {
+/// A machine with such a dialplan.
+fn exchange(alloc: Global, globals: &str, arguments: &str) -> Result<Exchange, Fail> {
     let text = plan_of(alloc, globals, arguments)?;
-    let mut machine = machine_of(alloc, text.as_bytes())?;
-    let call = Event::Start {
+    machine_of(alloc, text.as_bytes())
+}
+
+/// A call of `5551234` to `main`, `100`.
+fn call(alloc: Global) -> Result<Event, NoMemory> {
+    Ok(Event::Start {
         context: Text::copy_of(alloc, b"main")?,
         exten: Text::copy_of(alloc, b"100")?,
         caller: Text::copy_of(alloc, b"5551234")?,
-    };
-    machine.apply(alloc, call)?;
-    Ok(machine)
+    })
+}
+
+/// Such a call, then so many steps of it.
+fn call_through(alloc: Global, machine: &mut Exchange, steps: usize) -> Result<(), NoMemory> {
+    machine.apply(alloc, call(alloc)?)?;
+    for _ in 0..steps {
+        machine.apply(alloc, Event::Step { channel: 1 })?;
+    }
+    Ok(())
+}
+
+/// The value of a name in a channel behind a call.
+fn value_called(
+    alloc: Global,
+    machine: &mut Exchange,
+    channel: u32,
+    name: &str,
+) -> Result<String, NoMemory> {
+    call_through(alloc, machine, 0)?;
+    value_of(alloc, machine, channel, name)
 }
 
 /// What stands before the last ` ; `, and what behind it.
@@ -66,8 +88,8 @@ impl Question for Valued {
         let (globals, wanted) = cut(asked);
         let (channel, name) = wanted.split_once(' ').ok_or("no name")?;
         let channel: u32 = channel.parse().ok().ok_or("no number")?;
-        let machine = called(alloc, globals, "")?;
-        Ok(value_of(alloc, &machine, channel, name)?)
+        let mut machine = exchange(alloc, globals, "")?;
+        Ok(value_called(alloc, &mut machine, channel, name)?)
     }
 }
 
@@ -122,11 +144,9 @@ fn names_have_these_values(rt: HostRuntime) -> Result<(), Fail> {
     check::<Valued>(&rt, rt.alloc(), VALUES)
 }
 
-/// The extension to which a `Goto` of a text between `<` and `>` goes, without these two.
-fn sent(alloc: Global, globals: &str, text: &str) -> Result<String, Fail> {
-    let arguments = format!(in alloc; "<{text}>,1")?;
-    let mut machine = called(alloc, globals, &arguments)?;
-    machine.apply(alloc, Event::Step { channel: 1 })?;
+/// The extension at which a call stands behind its first step, which stands between `<` and `>`, without these two.
+fn gone_to(alloc: Global, machine: &mut Exchange) -> Result<String, Fail> {
+    call_through(alloc, machine, 1)?;
     let place = machine.place(1).ok_or("no channel")?;
     let bytes = place.exten.bytes();
     let bytes = bytes.strip_prefix(b"<".as_slice()).ok_or("not gone")?;
@@ -134,6 +154,13 @@ fn sent(alloc: Global, globals: &str, text: &str) -> Result<String, Fail> {
     let mut out = String::new(alloc);
     push_bytes(&mut out, bytes)?;
     Ok(out)
+}
+
+/// The extension to which a `Goto` of a text between `<` and `>` goes, without these two.
+fn sent(alloc: Global, globals: &str, text: &str) -> Result<String, Fail> {
+    let arguments = format!(in alloc; "<{text}>,1")?;
+    let mut machine = exchange(alloc, globals, &arguments)?;
+    gone_to(alloc, &mut machine)
 }
 
 /// What arguments are expanded to where globals stand before them: `NAME=VALUE ; .. ; ARGUMENTS`.
@@ -217,17 +244,22 @@ fn arguments_are_expanded(rt: HostRuntime) -> Result<(), Fail> {
     check::<Arguments>(&rt, rt.alloc(), ARGUMENTS)
 }
 
+/// The state of a call behind its first step.
+fn state_behind(alloc: Global, machine: &mut Exchange) -> Result<String, NoMemory> {
+    call_through(alloc, machine, 1)?;
+    let mut out = String::new(alloc);
+    push_state(&mut out, machine, 1)?;
+    Ok(out)
+}
+
 /// The state of the call behind a `Goto` of these arguments: `NAME=VALUE ; .. ; ARGUMENTS`.
 struct Went;
 
 impl Question for Went {
     fn answer(alloc: Global, asked: &str) -> Result<String, Fail> {
         let (globals, arguments) = cut(asked);
-        let mut machine = called(alloc, globals, arguments)?;
-        machine.apply(alloc, Event::Step { channel: 1 })?;
-        let mut out = String::new(alloc);
-        push_state(&mut out, &machine, 1)?;
-        Ok(out)
+        let mut machine = exchange(alloc, globals, arguments)?;
+        Ok(state_behind(alloc, &mut machine)?)
     }
 }
 
