@@ -1,6 +1,7 @@
 pub mod BuildLemmas
 pub mod DigitLemmas
 pub mod KeepLemmas
+pub mod LeapLemmas
 pub mod LinkLemmas
 pub mod PlainLemmas
 pub mod RisingLemmas

@@ -7,6 +7,7 @@
 
 mod build;
 mod digits;
+mod leap;
 mod link;
 mod node;
 mod plain;

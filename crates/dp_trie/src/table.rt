@@ -5,12 +5,14 @@ ghost use Rattle.std.specs.Option.{option_map};
 ghost use Rattle.dp_pattern.specs.Dashes.{undashed};
 ghost use Rattle.dp_trie.specs.Asked.{is_more, wants, asked, hit_of};
 ghost use Rattle.dp_trie.specs.Known.{KeepsEntries, class_count, most_nodes};
+ghost use Rattle.dp_trie.specs.Leaps.{AreLeaps};
 ghost use Rattle.dp_trie.specs.Names.{known_plain, ArePlainRanges};
 ghost use Rattle.dp_trie.specs.Ranked.{known_now, IsPattern, IsPlain, ArePlainFirst, AreInOrder};
 ghost use Rattle.dp_trie.specs.Tree.{known_from, IsTree};
 
 use crate::build::build_nodes;
 use crate::digits::Digits;
+use crate::leap::{Leap, leaps_of};
 use crate::link::link;
 use crate::node::{Held, Node};
 use crate::plain::{PlainName, find_plain, plain_names};
@@ -30,12 +32,14 @@ pub(crate) struct Table {
     plain: Vec<Held>,
     nodes: Vec<Node>,
     ends: Vec<usize>,
+    leaps: Vec<Leap>,
     held: Vec<Held>,
 }
 
 impl Model for Table {
     ghost use Rattle.std.specs.Prelude.{◌≤◌, [], ◌++◌, length};
     ghost use Rattle.dp_trie.specs.Known.{KeptContext, most_nodes};
+    ghost use Rattle.dp_trie.specs.Leaps.{AreLeaps};
     ghost use Rattle.dp_trie.specs.Names.{known_plain, ArePlainRanges};
     ghost use Rattle.dp_trie.specs.Ranked.{AreInOrder};
     ghost use Rattle.dp_trie.specs.Tree.{known_from, IsTree};
@@ -51,6 +55,7 @@ impl Model for Table {
         ArePlainRanges (length table.plain.items) table.names.items
         × AreInOrder (known_plain table.plain.items table.names.items)
         × IsTree table.held.items table.nodes.items table.ends.items
+        × AreLeaps table.nodes.items table.ends.items table.leaps.items
         × (length table.nodes.items
         ≤ most_nodes (known_plain table.plain.items table.names.items ++ known_from table.held.items [] table.nodes.items)) };
 }
@@ -94,12 +99,14 @@ fn build_table(alloc: Global, ranked: &[Ranked<'_>]) -> Result<Table, NoMemory>
     let plain = hold_all(alloc, first)?;
     let nodes = build_nodes(alloc, rest)?;
     let ends = link(alloc, &nodes)?;
+    let leaps = leaps_of(alloc, &nodes, &ends)?;
     let held = hold_all(alloc, rest)?;
     Ok(Table {
         names,
         plain,
         nodes,
         ends,
+        leaps,
         held,
     })
 }
@@ -110,6 +117,7 @@ fn find_in_parts(
     plain: &[Held],
     nodes: &[Node],
     ends: &[usize],
+    leaps: &[Leap],
     held: &[Held],
     question: Question<'_>,
     digits: Digits<'_>,
@@ -117,6 +125,7 @@ fn find_in_parts(
     requires names { ArePlainRanges (length plain.now) names.now }
     requires order { AreInOrder (known_plain plain.now names.now) }
     requires tree { IsTree held.now nodes.now ends.now }
+    requires leaps { AreLeaps nodes.now ends.now leaps.now }
     ensures hit { result.hit ≡ option_map hit_of
         (find (asked (is_more question.entry) (wants question.entry) (undashed digits.entry.text.now))
         (known_plain plain.now names.now ++ known_from held.now [] nodes.now)) }
@@ -131,7 +140,7 @@ fn find_in_parts(
             hit: Some(hit),
             count: 0,
         },
-        None => find_in_tree(nodes, ends, held, question, digits),
+        None => find_in_tree(nodes, ends, leaps, held, question, digits),
     }
 }
 
@@ -167,6 +176,7 @@ impl Table {
             &self.plain,
             &self.nodes,
             &self.ends,
+            &self.leaps,
             &self.held,
             question,
             digits,

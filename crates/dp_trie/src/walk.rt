@@ -6,9 +6,11 @@ ghost use Rattle.dp_trie.specs.Asked.{is_more, wants, asked, hit_of};
 ghost use Rattle.dp_pattern.specs.Dashes.{undashed};
 ghost use Rattle.dp_trie.specs.Digits.{Stands};
 ghost use Rattle.dp_trie.specs.declared.walk.Visit.TheVariants.{Enters, Fails};
+ghost use Rattle.dp_trie.specs.Leaps.{AreLeaps};
 ghost use Rattle.dp_trie.specs.Tree.{takes, allows, step_visit, known_from, IsRange, IsTree, Rises};
 
 use crate::digits::{Cursor, Digits};
+use crate::leap::{Leap, leap_over};
 use crate::node::{Held, Leaf, Node, Step};
 use crate::question::{Hit, Question, first_wanted, is_more};
 use dp_pattern::{Class, Tail};
@@ -121,15 +123,17 @@ fn visit_node(
 }
 
 /// The first entry of a tree that the question asks for, in the order in which a walk meets them. A node that fails ends
-/// the walk below it alone.
+/// the walk below it alone, and a leap passes over many roots that fail.
 pub(crate) fn find_in_tree(
     nodes: &[Node],
     ends: &[usize],
+    leaps: &[Leap],
     held: &[Held],
     question: Question<'_>,
     digits: Digits<'_>,
 ) -> Counted
-    requires { IsTree held.now nodes.now ends.now }
+    requires tree { IsTree held.now nodes.now ends.now }
+    requires leaps { AreLeaps nodes.now ends.now leaps.now }
     ensures hit { result.hit ≡ option_map hit_of
         (find (asked (is_more question.entry) (wants question.entry) (undashed digits.entry.text.now)) (known_from held.now [] nodes.now)) }
     ensures most { result.count ≤ length nodes.now }
@@ -138,9 +142,15 @@ pub(crate) fn find_in_tree(
         (Unit {0}) (λ known. length (classes_of known.name) ≤ result.count) }
 {
     let mut cursor = digits.first();
+    let first = digits.at(0, &mut cursor);
+    let mut next = 0;
     let mut place = 0;
     let mut count = 0;
     while let Some(node) = nodes.get(place) {
+        if let Some(until) = leap_over(leaps, &mut next, place, first) {
+            place = until;
+            continue;
+        }
         match visit_node(node, held, question, digits, &mut cursor) {
             Visit::Holds(hit) => {
                 return Counted {

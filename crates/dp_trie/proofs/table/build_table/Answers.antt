@@ -1,4 +1,5 @@
 use Rattle.std.proofs.Common.{subst}
+use Rattle.dp_trie.specs.Leaps.{AreLeaps}
 use Rattle.dp_trie.specs.Names.{known_plain}
 use Rattle.dp_trie.specs.Tree.{AreLinked}
 use Rattle.dp_trie.proofs.TableLemmas.{order-parts, names-order, names-ranges, is-tree, tree-size}
@@ -13,9 +14,13 @@ invariant_of-result c =
     let held = c.in_ok-held.ensures {u = tt} in
     let known = c.in_ok-names.ensures.known in
     let tree = c.in_ok-nodes.ensures.known in
-    let linked = subst (λ nodes. AreLinked nodes c.in_ok-ends.ends.items) c.deref.ensures.value (c.in_ok-ends.ensures {u = tt}) in (
+    let linked = subst (λ nodes. AreLinked nodes c.in_ok-ends.ends.items) c.deref.ensures.value (c.in_ok-ends.ensures {u = tt}) in
+    let leaps =
+    subst (λ ends. AreLeaps c.in_ok-nodes.nodes.items ends c.in_ok-leaps.leaps.items) c.deref-3.ensures.value
+    (subst (λ nodes. AreLeaps nodes c.deref-3.result.now c.in_ok-leaps.leaps.items) c.deref-2.ensures.value (c.in_ok-leaps.ensures {u = tt})) in (
       names-ranges first c.in_ok-plain.plain.items c.in_ok-names.names.items plain known (c.in_ok-names.ensures.ranges),
       names-order first c.in_ok-plain.plain.items c.in_ok-names.names.items plain known order.0,
       is-tree rest c.in_ok-held.held.items c.in_ok-nodes.nodes.items held tree c.in_ok-ends.ends.items order.1 linked (c.in_ok-nodes.ensures.rooted) (c.in_ok-nodes.ensures.ranges),
+      leaps,
       tree-size rest c.in_ok-held.held.items c.in_ok-nodes.nodes.items held tree (known_plain c.in_ok-plain.plain.items c.in_ok-names.names.items) (c.in_ok-nodes.ensures.size),
     )

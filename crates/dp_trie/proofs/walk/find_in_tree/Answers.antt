@@ -3,6 +3,7 @@ use Rattle.std.specs.Prelude.{slice_index}
 use Rattle.std.proofs.lemmas.Option.{slice_get_read, slice_get_within}
 use Rattle.dp_pattern.specs.Dashes.{undashed}
 use Rattle.dp_trie.specs.Asked.{is_more, wants}
+use Rattle.dp_trie.proofs.LeapLemmas.{after-leap}
 use Rattle.dp_trie.proofs.TreeLemmas.{after-enter, after-fail, after-hold}
 use Rattle.dp_trie.proofs.walk.find_in_tree.Goals as goal
 
@@ -36,14 +37,33 @@ loop-node-preserved c =
     record {
       stands = c.visit_node.ensures.stands;
       at = after-fail c.args.held.now (is_more c.args.question) (wants c.args.question) (undashed c.args.digits.text.now) c.args.nodes.now c.loop-node.place c.loop-node.count c.loop-node.invariant.at c.in-Some.node.now here
-          (slice_index c.args.ends.now c.loop-node.place) (c.requires.linked.each c.loop-node.place c.in-Some.node.now here) (sym c.in-Fails.ensures.visit);
+          (slice_index c.args.ends.now c.loop-node.place) (c.requires.tree.linked.each c.loop-node.place c.in-Some.node.now here) (sym c.in-Fails.ensures.visit);
     }
 
 pub loop-node-smaller : goal.loop-node-smaller
 loop-node-smaller c =
     let found = c.in-Some.ensures.lookup.3 in
     let here = slice_get_read c.args.nodes.now _ c.loop-node.place c.in-Some.node.now refl found.0 (found.1 c.in-Some.node.now) in
-    let later = (c.requires.linked.each c.loop-node.place c.in-Some.node.now here).later in
+    let later = (c.requires.tree.linked.each c.loop-node.place c.in-Some.node.now here).later in
     let inside = slice_get_within c.args.nodes.now c.loop-node.place c.in-Some.node.now here in
     let less : length c.args.nodes.now - slice_index c.args.ends.now c.loop-node.place < length c.args.nodes.now - c.loop-node.place = omega (arith, later, inside) in
     less
+
+pub visit_node-requires-clause-range : goal.visit_node-requires-clause-range
+visit_node-requires-clause-range c =
+    let found = c.in-Some.ensures.lookup.3 in
+    let here = slice_get_read c.args.nodes.now _ c.loop-node.place c.in-Some.node.now refl found.0 (found.1 c.in-Some.node.now) in
+    c.requires.tree.ranges c.loop-node.place c.in-Some.node.now here
+
+pub visit_node-requires-clause-rises : goal.visit_node-requires-clause-rises
+visit_node-requires-clause-rises c =
+    let found = c.in-Some.ensures.lookup.3 in
+    let here = slice_get_read c.args.nodes.now _ c.loop-node.place c.in-Some.node.now refl found.0 (found.1 c.in-Some.node.now) in
+    c.requires.tree.rise c.loop-node.place c.in-Some.node.now here
+
+pub loop-node-preserved-in-Some-leap_over : goal.loop-node-preserved-in-Some-leap_over
+loop-node-preserved-in-Some-leap_over c = record {
+  stands = c.loop-node.invariant.stands;
+  at = after-leap c.args.held.now (is_more c.args.question) (wants c.args.question) (undashed c.args.digits.text.now) c.args.nodes.now c.args.ends.now c.requires.tree.linked
+      c.args.leaps.now c.loop-node.place c.in-Some-leap_over.until c.loop-node.count c.at-first.result c.requires.leaps c.at-first.ensures.value c.in-Some-leap_over.ensures c.loop-node.invariant.at;
+}
