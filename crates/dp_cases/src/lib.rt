@@ -15,6 +15,7 @@ mod lister;
 mod lookup;
 #[cfg(test)]
 mod machine;
+mod own_table;
 #[cfg(test)]
 mod pattern;
 #[cfg(test)]
@@ -27,3 +28,5 @@ mod table;
 mod trie;
 #[cfg(test)]
 mod vars;
+
+pub use own_table::{OwnApps, Ping, Stay};
