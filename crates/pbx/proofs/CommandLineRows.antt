@@ -3,7 +3,7 @@ use Rattle.std.proofs.Common.{◌≡◌, [], ◌∷◌, Some, None, codes, refl}
 use Rattle.clap.proofs.OnLiterals.{clap_on_literals}
 use Rattle.clap.specs.Faults.{fault_of}
 use Rattle.clap.specs.declared.error.kind.ErrorKind.TheVariants as kind
-use Rattle.pbx.specs.CommandLine.{pbx_app, asked_of, joined, check, listing, matching, run}
+use Rattle.pbx.specs.CommandLine.{pbx_app, asked_of, joined, check, listing, matching, run, debug}
 
 no_command : asked_of (codes "pbx" ∷ []) ≡ Some joined
 unfolding clap_on_literals asked_of
@@ -41,6 +41,14 @@ ran_with_queues : asked_of (codes "pbx" ∷ codes "run" ∷ codes "--queues" ∷
 unfolding clap_on_literals asked_of
 ran_with_queues = refl
 
+debugged : asked_of (codes "pbx" ∷ codes "debug" ∷ codes "--break" ∷ codes "main,s,1" ∷ codes "a.conf" ∷ codes "b.script" ∷ []) ≡ Some (debug (codes "a.conf") None (codes "b.script") (codes "main,s,1"))
+unfolding clap_on_literals asked_of
+debugged = refl
+
+debugged_with_queues : asked_of (codes "pbx" ∷ codes "debug" ∷ codes "--queues" ∷ codes "q.conf" ∷ codes "--break" ∷ codes "x" ∷ codes "a.conf" ∷ codes "b.script" ∷ []) ≡ Some (debug (codes "a.conf") (Some (codes "q.conf")) (codes "b.script") (codes "x"))
+unfolding clap_on_literals asked_of
+debugged_with_queues = refl
+
 -- words that are refused, and words that are not
 no_fault : fault_of pbx_app (codes "pbx" ∷ codes "check" ∷ codes "a.conf" ∷ []) ≡ []
 unfolding clap_on_literals
@@ -57,3 +65,7 @@ extra_word = refl
 missing_word : fault_of pbx_app (codes "pbx" ∷ codes "run" ∷ codes "a.conf" ∷ []) ≡ kind.MissingRequiredArgument ∷ []
 unfolding clap_on_literals
 missing_word = refl
+
+missing_break : fault_of pbx_app (codes "pbx" ∷ codes "debug" ∷ codes "a.conf" ∷ codes "b.script" ∷ []) ≡ kind.MissingRequiredArgument ∷ []
+unfolding clap_on_literals
+missing_break = refl

@@ -9,7 +9,7 @@ use Rattle.dp_conf.specs.Words.{same_text}
 use Rattle.dp_commands.specs.Script.{number_within}
 use Rattle.dp_plan.specs.Priority.{most_priority}
 use Rattle.pbx.specs.declared.command_line.Request.{Request}
-use Rattle.pbx.specs.declared.command_line.Request.TheVariants.{Joined, Check, Listing, Match, Run, QueueRun}
+use Rattle.pbx.specs.declared.command_line.Request.TheVariants.{Joined, Check, Listing, Match, Run, QueueRun, Debug, QueueDebug}
 
 -- a word that has to be given
 abbrev pub required_word : List ℕ → Rule
@@ -22,6 +22,10 @@ word_or name default = record (new_rule name) { defaults = default ∷ [] }
 -- a word that may be given behind `--` and a name
 abbrev pub named_word : List ℕ → List ℕ → Rule
 named_word name long = record (new_rule name) { long = Some long }
+
+-- a word that has to be given behind `--` and a name
+abbrev pub required_named_word : List ℕ → List ℕ → Rule
+required_named_word name long = record (named_word name long) { required = true }
 
 -- `check FILE`
 abbrev pub check_app : App
@@ -44,11 +48,18 @@ run_app =
     with_rule (with_rule (with_rule (new_app (codes "run")) (named_word (codes "QUEUES") (codes "queues")))
     (required_word (codes "FILE"))) (required_word (codes "SCRIPT"))
 
+-- `debug [--queues QUEUES] --break CONTEXT,EXTEN,PRIORITY FILE SCRIPT`
+abbrev pub debug_app : App
+debug_app =
+    with_rule (with_rule (with_rule (with_rule (new_app (codes "debug")) (named_word (codes "QUEUES") (codes "queues")))
+    (required_named_word (codes "CONTEXT,EXTEN,PRIORITY") (codes "break")))
+    (required_word (codes "FILE"))) (required_word (codes "SCRIPT"))
+
 -- the program's commands
 abbrev pub pbx_app : App
 pbx_app =
-    with_subcommand (with_subcommand (with_subcommand (with_subcommand (new_app (codes "pbx")) check_app.top) list_app.top)
-    match_app.top) run_app.top
+    with_subcommand (with_subcommand (with_subcommand (with_subcommand (with_subcommand (new_app (codes "pbx")) check_app.top)
+    list_app.top) match_app.top) run_app.top) debug_app.top
 
 -- what a command line asks for, with its texts
 pub data Asked : Type 0 where
@@ -57,6 +68,7 @@ pub data Asked : Type 0 where
   listing : List ℕ → Asked
   matching : List ℕ → List ℕ → List ℕ → ℕ → Asked
   run : List ℕ → Option (List ℕ) → List ℕ → Asked
+  debug : List ℕ → Option (List ℕ) → List ℕ → List ℕ → Asked
 
 -- what a request asks for
 abbrev pub asked : Request → Asked
@@ -66,6 +78,8 @@ asked (Listing file) = listing file.now
 asked (Match file context text priority) = matching file.now context.now text.now priority
 asked (Run file script) = run file.now None script.now
 asked (QueueRun file queues script) = run file.now (Some queues.now) script.now
+asked (Debug file script held) = debug file.now None script.now held.now
+asked (QueueDebug file queues script held) = debug file.now (Some queues.now) script.now held.now
 
 -- the priority that a word writes: digits, and a number from 1 to the greatest priority
 abbrev pub priority_in : List ℕ → Option ℕ
@@ -96,6 +110,12 @@ run_asked words =
     option_and_then (λ file. option_map (run file (first_of (codes "QUEUES") words)) (first_of (codes "SCRIPT") words))
     (first_of (codes "FILE") words)
 
+-- what `debug` asks for, by its words
+abbrev pub debug_asked : List Row → Option Asked
+debug_asked words =
+    option_and_then (λ file. option_and_then (λ script. option_map (debug file (first_of (codes "QUEUES") words) script)
+    (first_of (codes "CONTEXT,EXTEN,PRIORITY") words)) (first_of (codes "SCRIPT") words)) (first_of (codes "FILE") words)
+
 -- what a command of a name asks for, by its words
 abbrev pub command_asked : List ℕ → List Row → Option Asked
 command_asked name words =
@@ -103,6 +123,7 @@ command_asked name words =
     else if same_text name (codes "list") then list_asked words
     else if same_text name (codes "match") then match_asked words
     else if same_text name (codes "run") then run_asked words
+    else if same_text name (codes "debug") then debug_asked words
     else None
 
 -- the same, where there is no command too

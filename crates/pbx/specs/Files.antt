@@ -5,10 +5,11 @@ use Rattle.dp_conf.specs.Answers.{◌>>=◌}
 use Rattle.dp_conf.specs.Whole.{most_bytes}
 use Rattle.dp_commands.specs.Joined.{joined_plan, joined_script}
 use Rattle.dp_commands.specs.Report.{Reports, check_of, list_of, match_of}
+use Rattle.dp_commands.specs.Debug.{WritesDebug, debug_of}
 use Rattle.dp_commands.specs.Run.{Writes, run_of}
 use Rattle.pbx.specs.declared.command_line.Request.{Request}
-use Rattle.pbx.specs.declared.command_line.Request.TheVariants.{Joined, Check, Listing, Match, Run as run_request, QueueRun}
-use Rattle.dp_commands.specs.declared.fault.Code.TheVariants.{Line, Name, Plan, Queue, ReadFailed, TooLong, WriteFailed, BadScript}
+use Rattle.pbx.specs.declared.command_line.Request.TheVariants.{Joined, Check, Listing, Match, Run as run_request, QueueRun, Debug, QueueDebug}
+use Rattle.dp_commands.specs.declared.fault.Code.TheVariants.{Line, Name, Plan, Queue, ReadFailed, TooLong, WriteFailed, BadScript, BadBreak}
 use Rattle.dp_commands.specs.declared.fault.PbxFault.{PbxFault}
 use Rattle.dp_commands.specs.declared.fault.PbxFault.TheVariants.{Coded, NoMemory}
 
@@ -26,6 +27,7 @@ length_reason (Coded ReadFailed line) = None
 length_reason (Coded TooLong line) = Some (Coded TooLong line)
 length_reason (Coded WriteFailed line) = None
 length_reason (Coded BadScript line) = None
+length_reason (Coded BadBreak line) = None
 length_reason NoMemory = None
 
 -- whether a reader can have the fault
@@ -40,6 +42,7 @@ is_read_fault (Coded TooLong None) = true
 is_read_fault (Coded TooLong (Some line)) = false
 is_read_fault (Coded WriteFailed line) = false
 is_read_fault (Coded BadScript line) = false
+is_read_fault (Coded BadBreak line) = false
 is_read_fault NoMemory = true
 
 -- a read failed and nothing was written, or the other holds
@@ -70,6 +73,18 @@ RunsFiles file (Some queues) script old new result =
     (Writes old new (whole_text plan_bytes >>= λ plan. whole_text queue_bytes >>= λ queues. whole_text script_bytes >>= λ script.
     run_of plan (Some queues) script) result)
 
+-- the same of a debugged run with the break of a text
+abbrev pub DebugsFiles : Option (List ℕ) → Option (Option (List ℕ)) → Option (List ℕ) → List ℕ → Option (List ℕ) → Option (List ℕ) → Result ℕ PbxFault → Type 0
+DebugsFiles file None script held old new result =
+    (plan_bytes script_bytes : List ℕ) → file ≡ Some plan_bytes → script ≡ Some script_bytes
+    → OrReadFails old new result
+    (WritesDebug old new (whole_text plan_bytes >>= λ plan. whole_text script_bytes >>= λ script. debug_of plan None script held) result)
+DebugsFiles file (Some queues) script held old new result =
+    (plan_bytes queue_bytes script_bytes : List ℕ) → file ≡ Some plan_bytes → queues ≡ Some queue_bytes → script ≡ Some script_bytes
+    → OrReadFails old new result
+    (WritesDebug old new (whole_text plan_bytes >>= λ plan. whole_text queue_bytes >>= λ queues. whole_text script_bytes >>= λ script.
+    debug_of plan (Some queues) script held) result)
+
 -- what a request writes and answers, by the bytes of the files of its paths and of the input, where they are known
 abbrev pub Serves : (List ℕ → Option (List ℕ)) → Option (List ℕ) → Request → Option (List ℕ) → Option (List ℕ) → Result ℕ PbxFault → Type 0
 Serves files input Joined old new result = RunsJoined input old new result
@@ -80,3 +95,7 @@ Serves files input (Match file context text priority) old new result =
 Serves files input (run_request file script) old new result = RunsFiles (files file.now) None (files script.now) old new result
 Serves files input (QueueRun file queues script) old new result =
     RunsFiles (files file.now) (Some (files queues.now)) (files script.now) old new result
+Serves files input (Debug file script held) old new result =
+    DebugsFiles (files file.now) None (files script.now) held.now old new result
+Serves files input (QueueDebug file queues script held) old new result =
+    DebugsFiles (files file.now) (Some (files queues.now)) (files script.now) held.now old new result

@@ -48,6 +48,19 @@ pub enum Request<'a> {
         queues: &'a str,
         script: &'a str,
     },
+    /// `debug --break BREAK FILE SCRIPT`: to run a script on a dialplan, with a halt at each step where the break holds.
+    Debug {
+        file: &'a str,
+        script: &'a str,
+        held: &'a str,
+    },
+    /// `debug --queues QUEUES --break BREAK FILE SCRIPT`: the same with the queues of a file.
+    QueueDebug {
+        file: &'a str,
+        queues: &'a str,
+        script: &'a str,
+        held: &'a str,
+    },
 }
 
 /// What the help says below the commands.
@@ -59,6 +72,7 @@ Examples:
   pbx list extensions.conf
   pbx match extensions.conf main 555-1234
   pbx run extensions.conf calls.script
+  pbx debug --break main,100,2 extensions.conf calls.script
   pbx < joined.conf
 
 Status: 0; 1 where a fault was printed or an event was refused; 2 where the command line was refused.";
@@ -118,6 +132,23 @@ Example:
   ran 1 main,100,1 NoOp -> ready main,100,2
   ran 1 main,100,2 Hangup -> ended";
 
+/// What the help of `debug` says below its words.
+const DEBUG_NOTES: &str = "\
+Runs the script as `run` does, but passes over `show`. Before a step of a channel that is ready at the place of the break it prints
+`break TAKEN`, and goes on; last it prints `end TAKEN`. TAKEN is how many events of the script were taken. The context and the
+extension are compared byte by byte with those of the channel: a pattern, or a context that is included, is no place.
+
+Example:
+  $ cat calls.script
+  start main 100
+  step 1 2
+  $ pbx debug --break main,100,2 extensions.conf calls.script
+  started 1
+  ran 1 main,100,1 NoOp -> ready main,100,2
+  break 2
+  ran 1 main,100,2 Hangup -> ended
+  end 3";
+
 /// What the help says of a dialplan's file.
 const DIALPLAN_HELP: &str = "The dialplan, as extensions.conf";
 
@@ -172,6 +203,22 @@ fn with_named<'a>(
     ensures local { IfOk result (λ with. (fields_of with).has_globals ≡ (fields_of command.entry).has_globals) }
 {
     let word = Arg::new(alloc, name).long(long).help(help);
+    let with = command.arg(word)?;
+    Ok(with)
+}
+
+/// The command with one more word, which has to be given behind `--` and a name.
+fn with_required_named<'a>(
+    alloc: Global,
+    command: Command<'a>,
+    name: &'a str,
+    long: &'a str,
+    help: &'a str,
+) -> Result<Command<'a>, NoMemory>
+    ensures app { IfOk result (λ with. app_of with ≡ with_rule (app_of command.entry) (spec.required_named_word name.now long.now)) }
+    ensures local { IfOk result (λ with. (fields_of with).has_globals ≡ (fields_of command.entry).has_globals) }
+{
+    let word = Arg::new(alloc, name).long(long).required(true).help(help);
     let with = command.arg(word)?;
     Ok(with)
 }
@@ -267,6 +314,36 @@ fn run_command<'a>(alloc: Global) -> Result<Command<'a>, NoMemory>
     Ok(run)
 }
 
+/// The command `debug`.
+fn debug_command<'a>(alloc: Global) -> Result<Command<'a>, NoMemory>
+    ensures app { IfOk result (λ command. app_of command ≡ spec.debug_app) }
+    ensures local { IfOk result (λ command. (fields_of command).has_globals ≡ false) }
+{
+    let debug = described(
+        alloc,
+        "debug",
+        "Run a script of events on a dialplan, and halt before the steps at a place",
+        DEBUG_NOTES,
+    );
+    let debug = with_named(
+        alloc,
+        debug,
+        "QUEUES",
+        "queues",
+        "The queues, as queues.conf; without it there are none",
+    )?;
+    let debug = with_required_named(
+        alloc,
+        debug,
+        "CONTEXT,EXTEN,PRIORITY",
+        "break",
+        "The place where the run halts",
+    )?;
+    let debug = with_required(alloc, debug, "FILE", DIALPLAN_HELP)?;
+    let debug = with_required(alloc, debug, "SCRIPT", "The script of events")?;
+    Ok(debug)
+}
+
 /// The program's own part of its commands.
 fn bare_command<'a>(alloc: Global) -> Result<Command<'a>, NoMemory>
     ensures { IfOk result (λ command. app_of command ≡ new_app (codes "pbx")) }
@@ -290,6 +367,7 @@ fn pbx_command<'a>(alloc: Global) -> Result<Command<'a>, NoMemory>
     let pbx = with_command(pbx, list_command(alloc)?)?;
     let pbx = with_command(pbx, match_command(alloc)?)?;
     let pbx = with_command(pbx, run_command(alloc)?)?;
+    let pbx = with_command(pbx, debug_command(alloc)?)?;
     Ok(pbx)
 }
 
@@ -378,6 +456,24 @@ fn run_request<'a>(given: &ArgMatches<'a>) -> Option<Request<'a>>
     }
 }
 
+/// What the words of `debug` ask for.
+fn debug_request<'a>(given: &ArgMatches<'a>) -> Option<Request<'a>>
+    ensures { option_map spec.asked result ≡ spec.debug_asked (rows_of (found_of given.now)) }
+{
+    let file = word_of(given, "FILE")?;
+    let script = word_of(given, "SCRIPT")?;
+    let held = word_of(given, "CONTEXT,EXTEN,PRIORITY")?;
+    match word_of(given, "QUEUES") {
+        None => Some(Request::Debug { file, script, held }),
+        Some(queues) => Some(Request::QueueDebug {
+            file,
+            queues,
+            script,
+            held,
+        }),
+    }
+}
+
 /// What the words of a command ask for, or None where one that is required is missing.
 fn command_request<'a>(
     alloc: Global,
@@ -394,6 +490,7 @@ fn command_request<'a>(
         "list" => Ok(list_request(given)),
         "match" => match_request(alloc, given),
         "run" => Ok(run_request(given)),
+        "debug" => Ok(debug_request(given)),
         _ => Ok(None),
     }
 }

@@ -7,7 +7,9 @@ mod program;
 #[cfg(test)]
 mod tests;
 
-pub use dp_commands::{Code, PbxFault, check, list_plan, match_one, run_joined, run_script};
+pub use dp_commands::{
+    Code, PbxFault, check, debug_script, list_plan, match_one, run_joined, run_script,
+};
 use dp_conf::Told;
 use program::{answer, print_fault};
 use std::io::ErrorKind;

@@ -16,7 +16,9 @@ use crate::command_line::{Request, read_words};
 use crate::files::ReadFiles;
 use clap::Error;
 use clap::error::ErrorKind;
-use dp_commands::{Code, PbxFault, check, list_plan, match_one, run_joined, run_script};
+use dp_commands::{
+    Code, PbxFault, check, debug_script, list_plan, match_one, run_joined, run_script,
+};
 use dp_conf::{ReadTold, WriteFailed, WriteTold, read_whole};
 use dp_plan::Priority;
 use itoa::{Buffer, Integer};
@@ -124,6 +126,51 @@ fn serve_queue_run<F: ReadFiles, W: WriteTold>(
     run_script(alloc, &plan, Some(&queues), &script, output)
 }
 
+/// Debugs the script of a file on the dialplan of another, with the break of a text.
+fn serve_debug<F: ReadFiles, W: WriteTold>(
+    files: &F,
+    alloc: Global,
+    file: &str,
+    script: &str,
+    held: &str,
+    output: &mut W,
+) -> Result<u8, PbxFault>
+    ensures serves { files_spec.DebugsFiles (F.bytes_at files.now file.now) None (F.bytes_at files.now script.now) held.now
+        (W.contents output.old) (W.contents output.new) result }
+    ensures told { W.has_failed output.new ≡ (W.has_failed output.old || is_write_failed result) }
+{
+    let plan = files.read_file(alloc, file)?;
+    let script = files.read_file(alloc, script)?;
+    debug_script(alloc, &plan, None, &script, held.as_bytes(), output)
+}
+
+/// Debugs the script of a file on the dialplan of another, with the queues of a third and the break of a text.
+fn serve_queue_debug<F: ReadFiles, W: WriteTold>(
+    files: &F,
+    alloc: Global,
+    file: &str,
+    queues: &str,
+    script: &str,
+    held: &str,
+    output: &mut W,
+) -> Result<u8, PbxFault>
+    ensures serves { files_spec.DebugsFiles (F.bytes_at files.now file.now) (Some (F.bytes_at files.now queues.now))
+        (F.bytes_at files.now script.now) held.now (W.contents output.old) (W.contents output.new) result }
+    ensures told { W.has_failed output.new ≡ (W.has_failed output.old || is_write_failed result) }
+{
+    let plan = files.read_file(alloc, file)?;
+    let queues = files.read_file(alloc, queues)?;
+    let script = files.read_file(alloc, script)?;
+    debug_script(
+        alloc,
+        &plan,
+        Some(&queues),
+        &script,
+        held.as_bytes(),
+        output,
+    )
+}
+
 /// Does what was asked for, and gives the status: the files are read first, and then their texts.
 fn serve<F: ReadFiles, I: ReadTold, W: WriteTold>(
     files: &F,
@@ -152,6 +199,15 @@ fn serve<F: ReadFiles, I: ReadTold, W: WriteTold>(
             queues,
             script,
         } => serve_queue_run(files, alloc, file, queues, script, output),
+        Request::Debug { file, script, held } => {
+            serve_debug(files, alloc, file, script, held, output)
+        }
+        Request::QueueDebug {
+            file,
+            queues,
+            script,
+            held,
+        } => serve_queue_debug(files, alloc, file, queues, script, held, output),
     }
 }
 

@@ -96,6 +96,27 @@ run @long @missing→1→→fault 8 TooLong¶
 run @first @folder→1→→fault 7 ReadFailed¶
 ";
 
+/// `debug`.
+const DEBUGS: &str = "\
+debug --break main,200,1 @first @first.script→0→started 1¶ran 1 main,100,1 NoOp -> ready main,100,2¶ran 1 main,100,2 Goto -> ready main,200,1¶break 3¶ran 1 main,200,1 Hangup -> ended¶end 4¶→
+debug @first @first.script --break=main,300,1→0→started 1¶ran 1 main,100,1 NoOp -> ready main,100,2¶ran 1 main,100,2 Goto -> ready main,200,1¶ran 1 main,200,1 Hangup -> ended¶end 4¶→
+debug --break main,100,1 @first @refused.script→1→refused 40 NoChannel¶started 1¶break 2¶ran 1 main,100,1 NoOp -> ready main,100,2¶end 3¶→
+debug --break main,100,1 @empty @empty→0→end 0¶→
+# With queues.
+debug --queues @help --break main,s,2 @callers @callers.script→0→started 1¶ran 1 main,s,1 Queue -> queued help¶ok 1 -> ready main,s,2¶break 3¶ran 1 main,s,2 Hangup -> ended¶end 4¶→
+# A break that is none, behind the reading of all files and before their texts.
+debug --break main,s @first @first.script→1→→fault 71 BadBreak¶
+debug --break main,s @faulty @faulty.script→1→→fault 71 BadBreak¶
+debug --queues @faulty --break main,s,+1 @faulty @faulty.script→1→→fault 71 BadBreak¶
+debug --break main,s @missing @first.script→1→→fault 7 ReadFailed¶
+debug --break main,s @first @missing→1→→fault 7 ReadFailed¶
+debug --queues @missing --break main,s @first @first.script→1→→fault 7 ReadFailed¶
+debug --queues @long --break main,s @first @missing→1→→fault 8 TooLong¶
+# The texts behind it.
+debug --break main,s,1 @faulty @faulty.script→1→→fault 4 NoEquals line 2¶
+debug --break main,s,1 @first @faulty.script→1→→fault 70 BadScript line 2¶
+";
+
 /// The examples of the manual.
 const MANUAL: &str = "\
 list @sample→0→[globals]¶DESK => 100¶[phones]¶exten => 100,1(desk),NoOp(the front desk)¶exten => 100,2,Hangup()¶exten => _1XX,1,NoOp(a room)¶exten => _1XX,2,Goto(${DESK},desk)¶exten => _NXXXXXX,1,NoOp(a call to town)¶exten => _NXXXXXX,2,Hangup()¶include => rest¶[rest]¶exten => _X.,1,NoOp(no such number)¶exten => _X.,2,Hangup()¶→
@@ -107,6 +128,7 @@ match @sample phones 555-1234→0→phones,_NXXXXXX,1 NoOp¶→
 match @sample phones 12345→0→rest,_X.,1 NoOp¶→
 match @sample phones 1→0→none¶→
 run @sample @sample.script→0→started 1¶ran 1 phones,_1XX,1 NoOp -> ready phones,123,2¶ran 1 phones,_1XX,2 Goto -> ready phones,100,1¶ran 1 phones,100,1 NoOp -> ready phones,100,2¶ran 1 phones,100,2 Hangup -> ended¶started 2¶ran 2 phones,_NXXXXXX,1 NoOp -> ready phones,555-1234,2¶ran 2 phones,_NXXXXXX,2 Hangup -> ended¶→
+debug --break phones,123,2 @sample @sample.script→0→started 1¶ran 1 phones,_1XX,1 NoOp -> ready phones,123,2¶break 2¶ran 1 phones,_1XX,2 Goto -> ready phones,100,1¶ran 1 phones,100,1 NoOp -> ready phones,100,2¶ran 1 phones,100,2 Hangup -> ended¶started 2¶ran 2 phones,_NXXXXXX,1 NoOp -> ready phones,555-1234,2¶ran 2 phones,_NXXXXXX,2 Hangup -> ended¶end 8¶→
 match @calls calls 123→0→calls,123,1 NoOp¶→
 match @calls calls 123 2→0→calls,_X.,2 NoOp¶→
 match @calls calls 124→0→calls,_1XX,1 NoOp¶→
@@ -126,7 +148,7 @@ check @empty←[main]¶exten => 100,1,NoOp(hello)¶exten => 100,2,Goto(200,1)¶e
 ";
 
 /// All the tables.
-const TABLES: [&str; 6] = [CHECKS, LISTS, MATCHES, RUNS, MANUAL, INPUTS];
+const TABLES: [&str; 7] = [CHECKS, LISTS, MATCHES, RUNS, DEBUGS, MANUAL, INPUTS];
 
 fn check_all<R: Files + Abort + AllocGlobal>(rt: &R, folder: &str) -> Result<(), Fail> {
     for table in &TABLES {

@@ -27,6 +27,9 @@ labels.script→start main s¶step 1 2¶
 first→[main]¶exten => 100,1,NoOp(hello)¶exten => 100,2,Goto(200,1)¶exten => 200,1,Hangup()¶
 first.script→start main 100¶step 1 3¶
 refused.script→step 1¶start main 100¶step 1¶
+help→[help]¶member => Agent/1¶
+callers→[main]¶exten => s,1,Queue(help,,,,30)¶exten => s,2,Hangup()¶
+callers.script→start main s¶step 1¶timeout 1¶step 1¶
 faulty→[main]¶abc¶
 faulty.script→start main 100¶jump 1¶
 notes→[globals]¶=x¶[main]¶exten => s,1,NoOp()¶exten => s,1,Hangup()¶exten => s,2(x),NoOp()¶exten => s,3(x),NoOp()¶include => nowhere¶colour = red¶

@@ -25,6 +25,8 @@ match @missing main 5 0→invalid value '0' for '[PRIORITY]': a priority is a nu
 run→the following required arguments were not provided:¶  <FILE>¶  <SCRIPT>→pbx run <FILE> <SCRIPT>
 run @missing→the following required arguments were not provided:¶  <SCRIPT>→pbx run <FILE> <SCRIPT>
 run a b c→unexpected argument 'c' found→pbx run [OPTIONS] <FILE> <SCRIPT>
+debug @missing @missing→the following required arguments were not provided:¶  --break <CONTEXT,EXTEN,PRIORITY>→pbx debug --break <CONTEXT,EXTEN,PRIORITY> <FILE> <SCRIPT>
+debug --break main,s,1 a b c→unexpected argument 'c' found→pbx debug [OPTIONS] --break <CONTEXT,EXTEN,PRIORITY> <FILE> <SCRIPT>
 --version→unexpected argument '--version' found→pbx [COMMAND]
 help dial→unrecognized subcommand 'dial'→pbx [COMMAND]
 ";
@@ -67,6 +69,7 @@ Commands:
   list   Print a dialplan in its canonical text
   match  Print which entry of a dialplan answers a call
   run    Run a script of events on a dialplan, and print the trace
+  debug  Run a script of events on a dialplan, and halt before the steps at a place
   help   Print this message or the help of the given subcommand(s)
 
 Options:
@@ -79,6 +82,7 @@ Examples:
   pbx list extensions.conf
   pbx match extensions.conf main 555-1234
   pbx run extensions.conf calls.script
+  pbx debug --break main,100,2 extensions.conf calls.script
   pbx < joined.conf
 
 Status: 0; 1 where a fault was printed or an event was refused; 2 where the command line was refused.
@@ -188,8 +192,39 @@ Example:
   ran 1 main,100,2 Hangup -> ended
 ";
 
+/// What is printed where help with `debug` is asked for.
+const DEBUG_HELP: &str = "\
+Run a script of events on a dialplan, and halt before the steps at a place
+
+Usage: pbx debug [OPTIONS] --break <CONTEXT,EXTEN,PRIORITY> <FILE> <SCRIPT>
+
+Arguments:
+  <FILE>    The dialplan, as extensions.conf
+  <SCRIPT>  The script of events
+
+Options:
+      --queues <QUEUES>                 The queues, as queues.conf; without it there are none
+      --break <CONTEXT,EXTEN,PRIORITY>  The place where the run halts
+  -h, --help                            Print help
+
+Runs the script as `run` does, but passes over `show`. Before a step of a channel that is ready at the place of the break it prints
+`break TAKEN`, and goes on; last it prints `end TAKEN`. TAKEN is how many events of the script were taken. The context and the
+extension are compared byte by byte with those of the channel: a pattern, or a context that is included, is no place.
+
+Example:
+  $ cat calls.script
+  start main 100
+  step 1 2
+  $ pbx debug --break main,100,2 extensions.conf calls.script
+  started 1
+  ran 1 main,100,1 NoOp -> ready main,100,2
+  break 2
+  ran 1 main,100,2 Hangup -> ended
+  end 3
+";
+
 /// Command lines that ask for help, and what is printed.
-const HELPS: [(&str, &str); 9] = [
+const HELPS: [(&str, &str); 10] = [
     ("help", PBX_HELP),
     ("-h", PBX_HELP),
     ("--help", PBX_HELP),
@@ -199,6 +234,7 @@ const HELPS: [(&str, &str); 9] = [
     ("help match", MATCH_HELP),
     ("match @missing --help", MATCH_HELP),
     ("run --help", RUN_HELP),
+    ("debug --help", DEBUG_HELP),
 ];
 
 fn check_help<R: Files + Abort + AllocGlobal>(
