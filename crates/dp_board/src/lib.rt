@@ -26,6 +26,3 @@ pub use seat::Seat;
 pub use session::Session;
 pub use settle::{Back, Unsettled};
 pub use shared::Shared;
-
-#[cfg(test)]
-mod tests;

@@ -1,0 +1,21 @@
+//! Where a history and a record first differ.
+use dp_board::{Disagree, Entry, first_difference};
+use dp_machine::{Event, Reply};
+
+/// The first difference of a history and a record.
+#[test]
+fn differences(rt: HostRuntime) {
+    let event = Event::Step { channel: 1 };
+    let reply = Reply::NoEntry;
+    let entries = [Entry {
+        seat: 0,
+        event,
+        reply,
+    }];
+    let told = [(0, Event::Step { channel: 1 }, reply)];
+    let at_once = Some(Disagree { seat: 0, index: 0 });
+    assert!(rt; first_difference(&entries, 0, &[]) == at_once);
+    assert!(rt; first_difference(&entries, 0, &told).is_none());
+    assert!(rt; first_difference(&entries, 1, &[]).is_none());
+    assert!(rt; first_difference(&[], 0, &told) == at_once);
+}

@@ -1,0 +1,42 @@
+//! A seat attends one channel after another.
+use crate::board::gates::gate_of;
+use crate::board::play::{Play, perform};
+use dp_board::{Attended, Board, Seat, Session, Why};
+use dp_machine::Refusal;
+use dp_table::StandardApps;
+use std::alloc::Global;
+use std::process::Abort;
+use std::sync::Wait;
+use std::thread::Threads;
+
+/// For each attendance on one board the channel, its turns, and how it goes.
+const TURNS: &[(u32, u64, u64, Why)] = &[
+    (1, 0, 0, Why::TurnsSpent),
+    (1, 1, 1, Why::TurnsSpent),
+    (1, 9, 1, Why::Ended),
+    (1, 9, 1, Why::Ended),
+    (2, 2, 2, Why::Ended),
+    (3, 9, 1, Why::Refused(Refusal::NoChannel)),
+];
+
+/// The first seat attends all.
+pub(super) fn act_turns<S: Session + Send + Sync, R: Threads + Wait + Abort + Sync>(
+    rt: &R,
+    alloc: Global,
+    board: &Board<StandardApps, S>,
+    seats: &mut Vec<Seat<S>>,
+) {
+    let gate = gate_of(0, 0);
+    if let [seat, _second] = seats.as_mut_slice() {
+        for &(channel, turns, steps, why) in TURNS {
+            let attended = board.attend(rt, alloc, seat, channel, &gate, turns);
+            assert_eq!(rt; attended.ok(), Some(Attended { steps, why }));
+        }
+    }
+}
+
+/// The turns are spent at once where there are none, and a channel that is not there is refused.
+#[test]
+fn turns(rt: HostRuntime) {
+    perform(&rt, rt.alloc(), b"say", b"say", 2, &Play::Turns);
+}
