@@ -1,5 +1,6 @@
 mod calls;
 mod codes;
+mod debugs;
 mod large;
 mod render;
 mod reports;

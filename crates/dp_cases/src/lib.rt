@@ -10,6 +10,8 @@ mod commands;
 #[cfg(test)]
 mod conf;
 #[cfg(test)]
+mod debug;
+#[cfg(test)]
 mod expr;
 #[cfg(test)]
 mod lister;

@@ -6,7 +6,7 @@ use dp_plan::{NameFault, PlanKind, Word};
 use std::test::Fail;
 
 /// All codes.
-const CODES: [Code; 26] = [
+const CODES: [Code; 27] = [
     Code::Line(LineKind::BlockComment),
     Code::Line(LineKind::NoSection),
     Code::Line(LineKind::BadHeader),
@@ -33,6 +33,7 @@ const CODES: [Code; 26] = [
     Code::Plan(PlanKind::PriorityLimit),
     Code::Plan(PlanKind::ShortLine),
     Code::BadScript,
+    Code::BadBreak,
 ];
 
 /// Each code as it is printed where it has no line. A failed read and a text that is too long have none.
@@ -63,6 +64,7 @@ fault 26 NoExten
 fault 27 PriorityLimit
 fault 28 ShortLine
 fault 70 BadScript
+fault 71 BadBreak
 fault 7 ReadFailed
 fault 8 TooLong
 fault out of memory
