@@ -1,6 +1,7 @@
 mod applications;
 mod codes;
 mod machines;
+mod own;
 mod plans;
 mod render;
 mod rows;

@@ -1,0 +1,64 @@
+//! A machine over a table of applications of another maker.
+use crate::machine::render::start;
+use crate::own_table::OwnApps;
+use dp_machine::{Dialplan, EntryId, Event, Machine, Phase, Queues, Refusal, Reply};
+use std::alloc::Global;
+use std::process::Abort;
+use std::test::Fail;
+
+fn own_machine(alloc: Global, text: &[u8]) -> Result<Machine<OwnApps>, Fail> {
+    let (plan, _) = Dialplan::load(alloc, text)?;
+    let machine = Machine::new(alloc, plan, Queues::none(alloc))?;
+    Ok(machine)
+}
+
+fn ran(entry: usize) -> Reply {
+    Reply::Ran(EntryId { context: 0, entry })
+}
+
+/// `Ping` sets `P` and goes on, `Stay` waits, and a step does not end the wait; a time-out does. A name of the program's own
+/// table ends the call.
+fn check_own(rt: &impl Abort, alloc: Global, machine: &mut Machine<OwnApps>) -> Result<(), Fail> {
+    let events = [
+        start(alloc, b"main", b"s")?,
+        Event::Step { channel: 1 },
+        Event::Step { channel: 1 },
+        Event::Step { channel: 1 },
+    ];
+    let mut replies = Vec::new(alloc);
+    machine.run(alloc, &events, &mut replies)?;
+    let want = [
+        Reply::Started(1),
+        ran(0),
+        ran(1),
+        Reply::Refused(Refusal::NotReady),
+    ];
+    assert_eq!(rt; replies.as_slice(), want.as_slice());
+    let value = machine.value(alloc, 1, b"P")?;
+    assert_eq!(rt; value.as_slice(), b"7".as_slice());
+    assert_eq!(rt; machine.phase(1), Some(&Phase::Pause));
+    Ok(())
+}
+
+fn check_behind(
+    rt: &impl Abort,
+    alloc: Global,
+    machine: &mut Machine<OwnApps>,
+) -> Result<(), Fail> {
+    let reply = machine.apply(alloc, Event::Timeout { channel: 1 })?;
+    assert_eq!(rt; reply, Reply::Done);
+    assert_eq!(rt; machine.place(1).map(|place| place.priority), Some(3));
+    let reply = machine.apply(alloc, Event::Step { channel: 1 })?;
+    assert_eq!(rt; reply, ran(2));
+    assert_eq!(rt; machine.phase(1), Some(&Phase::Ended));
+    Ok(())
+}
+
+/// A table of two applications that the program has not.
+#[test]
+fn another_table_runs(rt: HostRuntime) -> Result<(), Fail> {
+    let text = b"[main]\nexten => s,1,Ping(7)\nexten => s,2,Stay()\nexten => s,3,NoOp()\n";
+    let mut machine = own_machine(rt.alloc(), text)?;
+    check_own(&rt, rt.alloc(), &mut machine)?;
+    check_behind(&rt, rt.alloc(), &mut machine)
+}
