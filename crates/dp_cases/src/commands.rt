@@ -1,3 +1,4 @@
+mod applications;
 mod calls;
 mod codes;
 mod debugs;

@@ -151,7 +151,7 @@ exten => s,1,A¦¦Done A→fault 70 BadScript line 1
 const TABLES: &[&str] = &[ROWS, DIALOGUES, ENDS, QUEUES, FAULTS];
 
 /// Asserts all that the run of a case writes, and what it ends with behind it.
-fn check_call(
+pub(super) fn check_call(
     rt: &impl Abort,
     alloc: Global,
     plan: &str,
