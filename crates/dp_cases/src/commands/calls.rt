@@ -39,6 +39,8 @@ exten => s,1,Queue(q)¦[q]\nleavewhenempty=yes¦start main s\nstep 1\npoll 1\nsh
 exten => s,1,WaitExten()\nexten => i,1,NoOp()\nexten => h,1,NoOp()¦¦start main s\nstep 1\ndigit 1 7\nstep 1\nshow 1 INVALID_EXTEN\nhangup 1\nstep 1 2→started 1\nran 1 main,s,1 WaitExten -> digits\nok 1 -> ready main,7,1\ninvalid 1 -> ready main,i,1\nINVALID_EXTEN=7\nok 1 -> ready main,h,1\nran 1 main,h,1 NoOp -> ready main,h,2\nno entry 1 -> ended\nstatus 0
 # pause-and-background
 exten => s,1,Wait(5)\nexten => s,2,Background(x)\nexten => h,1,Wait(1)¦¦start main s\nstep 1\ndigit 1 3\ntimeout 1\nstep 1\ntimeout 1\nhangup 1\nstep 1→started 1\nran 1 main,s,1 Wait -> pause\nok 1 -> pause\nok 1 -> ready main,s,2\nran 1 main,s,2 Background -> digits\nok 1 -> ready main,s,3\nok 1 -> ready main,h,1\nran 1 main,h,1 Wait -> ended\nstatus 0
+# A menu that leads to a call queue.
+exten => s,1,Background(welcome)\n same => n,WaitExten(5)\nexten => 1,1,Queue(sales,c)\n same => n,Hangup()\nexten => i,1,Goto(s,1)\nexten => t,1,Hangup()\nexten => h,1,NoOp(${QUEUESTATUS})\n¦[sales]\nstrategy = ringall\nmember => Line/1\nmember => Line/2\n¦start main s\nstep 1\ndigit 1 1\nstep 1\noffer sales\nanswer Line/1\ndone Line/1\nshow 1 QUEUESTATUS\nstep 1 2\n→started 1\nran 1 main,s,1 Background -> digits\nok 1 -> ready main,1,1\nran 1 main,1,1 Queue -> queued sales\noffered 1 2\nok\nok\nQUEUESTATUS=CONTINUE\nran 1 main,1,2 Hangup -> ready main,h,1\nran 1 main,h,1 NoOp -> ready main,h,2\nstatus 0
 ";
 
 /// Digits, and what becomes of them.
