@@ -126,10 +126,36 @@ fn check_chain(rt: &impl Abort, alloc: Global) -> Result<(), Fail> {
     check_text::<Match77>(rt, alloc, plan.as_bytes(), want)
 }
 
+/// A call that enters a subroutine so often, hangs up, and is followed by another.
+fn deep_calls(alloc: Global, depth: u32) -> Result<String, NoMemory> {
+    format!(in alloc;
+        "[main]\nexten => s,1,Gosub(1)\n;; script\nstart main s\nstep 1 {depth}\nhangup 1\nstart main s\n"
+    )
+}
+
+/// The trace of that text.
+fn deep_trace(alloc: Global, depth: u32) -> Result<String, NoMemory> {
+    let mut want = String::new(alloc);
+    want.push_str("started 1\n")?;
+    for _step in 0..depth {
+        want.push_str("ran 1 main,s,1 Gosub -> ready main,s,1\n")?;
+    }
+    want.push_str("ok 1 -> ended\nstarted 2\nstatus 0")?;
+    Ok(want)
+}
+
+/// A thousand frames are entered, and go with the call.
+fn check_depth(rt: &impl Abort, alloc: Global) -> Result<(), Fail> {
+    let text = deep_calls(alloc, 1_000)?;
+    let want = deep_trace(alloc, 1_000)?;
+    check_text::<Run>(rt, alloc, text.as_bytes(), want.as_bytes())
+}
+
 #[test]
 fn large_texts_are_served(rt: HostRuntime) -> Result<(), Fail> {
     check_numbers(&rt, rt.alloc())?;
     check_steps(&rt, rt.alloc())?;
     check_wide(&rt, rt.alloc())?;
+    check_depth(&rt, rt.alloc())?;
     check_chain(&rt, rt.alloc())
 }
