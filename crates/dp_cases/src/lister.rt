@@ -16,15 +16,23 @@ struct Lists;
 impl Question for Lists {
     fn answer(alloc: Global, asked: &str) -> Result<String, Fail> {
         let text = bytes_of(alloc, asked)?;
-        let (plan, _) = Dialplan::load(alloc, &text)?;
-        let listed = list(alloc, &plan)?;
-        let out = characters(alloc, &listed)?;
-        Ok(out)
+        listing_of(alloc, &text)
     }
 }
 
+fn listing_of(alloc: Global, text: &[u8]) -> Result<String, Fail> {
+    let (plan, _) = Dialplan::load(alloc, text)?;
+    listing(alloc, &plan)
+}
+
+/// The listing of a dialplan, in characters of the numbers of its bytes.
+fn listing(alloc: Global, plan: &Dialplan) -> Result<String, Fail> {
+    let listed = list(alloc, plan)?;
+    characters(alloc, &listed)
+}
+
 /// Each byte as the character of its number.
-fn characters(alloc: Global, bytes: &[u8]) -> Result<String, NoMemory> {
+fn characters(alloc: Global, bytes: &[u8]) -> Result<String, Fail> {
     let mut out = String::new(alloc);
     for byte in bytes {
         out.push(char::from(*byte))?;
@@ -122,10 +130,13 @@ struct Escapes;
 impl Question for Escapes {
     fn answer(alloc: Global, asked: &str) -> Result<String, Fail> {
         let text = bytes_of(alloc, asked)?;
-        let line = escape(alloc, &text)?;
-        let out = characters(alloc, &line)?;
-        Ok(out)
+        escaped(alloc, &text)
     }
+}
+
+fn escaped(alloc: Global, text: &[u8]) -> Result<String, Fail> {
+    let line = escape(alloc, text)?;
+    characters(alloc, &line)
 }
 
 const ESCAPES: &str = r"

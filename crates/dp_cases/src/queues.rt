@@ -9,7 +9,7 @@ mod steps;
 use crate::queues::render::{push_fault, shown};
 use crate::queues::steps::take;
 use crate::table::{Question, bytes_of, check_all};
-use dp_queue::{NoMemory, Queues};
+use dp_queue::{NoMemory, QueueFault, Queues};
 use std::alloc::Global;
 use std::test::Fail;
 
@@ -28,7 +28,7 @@ impl Question for Loads {
 /// What the queues of a file answer to steps between ` ; `, one answer after another.
 struct Acts;
 
-fn act(alloc: Global, queues: &mut Queues, steps: &str) -> Result<String, NoMemory> {
+fn act(alloc: Global, queues: &mut Queues, steps: &str) -> Result<String, Fail> {
     let mut out = String::new(alloc);
     for step in steps.split(" ; ") {
         if !out.is_empty() {
@@ -43,19 +43,21 @@ impl Question for Acts {
     fn answer(alloc: Global, asked: &str) -> Result<String, Fail> {
         let (file, steps) = asked.split_once(" ; ").unwrap_or((asked, "show"));
         let text = bytes_of(alloc, file)?;
-        match Queues::load(alloc, &text) {
-            Ok(queues) => {
-                let mut queues = queues;
-                let got = act(alloc, &mut queues, steps)?;
-                Ok(got)
-            }
-            Err(fault) => {
-                let mut out = String::new(alloc);
-                push_fault(&mut out, fault)?;
-                Ok(out)
-            }
-        }
+        acts_of(alloc, &text, steps)
     }
+}
+
+fn acts_of(alloc: Global, text: &[u8], steps: &str) -> Result<String, Fail> {
+    match Queues::load(alloc, text) {
+        Ok(mut queues) => act(alloc, &mut queues, steps),
+        Err(fault) => fault_text(alloc, fault),
+    }
+}
+
+fn fault_text(alloc: Global, fault: QueueFault) -> Result<String, Fail> {
+    let mut out = String::new(alloc);
+    push_fault(&mut out, fault)?;
+    Ok(out)
 }
 
 #[test]

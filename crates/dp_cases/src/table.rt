@@ -13,9 +13,26 @@ pub(crate) trait Question {
     fn answer(alloc: Global, asked: &str) -> Result<String, Fail>;
 }
 
+/// A text of its own.
+pub(crate) fn text_of(alloc: Global, text: &str) -> Result<String, Fail> {
+    let mut out = String::new(alloc);
+    out.push_str(text)?;
+    Ok(out)
+}
+
+/// Asserts that a text is the one that is wanted.
+pub(crate) fn check_same(rt: &impl Abort, of: &str, got: &str, want: &str) {
+    assert!(rt; got == want, "{of} gives {got}, not {want}");
+}
+
 /// Whether a line with no case is a heading.
 pub(crate) fn is_heading(line: &str) -> bool {
     line.is_empty() || line.starts_with("# ")
+}
+
+/// Asserts that an answer is these bytes, which `want` spells.
+fn check_bytes(rt: &impl Abort, asked: &str, got: &str, want: &str, bytes: &[u8]) {
+    assert!(rt; got.as_bytes() == bytes, "{asked} gives {got}, not {want}");
 }
 
 fn check_case<Q: Question>(
@@ -26,10 +43,7 @@ fn check_case<Q: Question>(
 ) -> Result<(), Fail> {
     let got = Q::answer(alloc, asked)?;
     let bytes = bytes_of(alloc, want)?;
-    assert!(rt;
-        got.as_bytes() == bytes.as_slice(),
-        "{asked} gives {got}, not {want}"
-    );
+    check_bytes(rt, asked, &got, want, &bytes);
     Ok(())
 }
 

@@ -1,5 +1,6 @@
 //! The numbers and the printed names of the faults.
 use crate::commands::render::push_fault;
+use crate::table::check_same;
 use dp_commands::{Code, PbxFault};
 use dp_conf::{LineKind, NoMemory, ReadFault};
 use dp_plan::{NameFault, PlanKind, Word};
@@ -86,13 +87,17 @@ fn push_codes(out: &mut String, codes: &[Code]) -> Result<(), NoMemory> {
     Ok(())
 }
 
+fn push_faults(out: &mut String) -> Result<(), NoMemory> {
+    push_codes(out, &CODES)?;
+    push_line(out, PbxFault::from(ReadFault::ReadFailed))?;
+    push_line(out, PbxFault::from(ReadFault::TooLong))?;
+    push_line(out, PbxFault::from(ReadFault::NoMemory))
+}
+
 #[test]
 fn faults_have_these_codes(rt: HostRuntime) -> Result<(), Fail> {
     let mut got = String::new(rt.alloc());
-    push_codes(&mut got, &CODES)?;
-    push_line(&mut got, PbxFault::from(ReadFault::ReadFailed))?;
-    push_line(&mut got, PbxFault::from(ReadFault::TooLong))?;
-    push_line(&mut got, PbxFault::from(ReadFault::NoMemory))?;
-    assert_eq!(rt; got.as_str(), PRINTED);
+    push_faults(&mut got)?;
+    check_same(&rt, "the faults", &got, PRINTED);
     Ok(())
 }

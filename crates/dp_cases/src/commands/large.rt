@@ -32,21 +32,35 @@ fn with_status(alloc: Global, trace: &str) -> Result<String, NoMemory> {
     format!(in alloc; "{trace}status 0")
 }
 
+/// Adds what is asked behind these calls, and what is wanted of it.
+fn push_refused(text: &mut String, want: &mut String) -> Result<(), NoMemory> {
+    text.push_str("start main s\nstep 65536\nstep 65535\nstart main s")?;
+    want.push_str("refused 50 NumbersSpent\nrefused 40 NoChannel\n")?;
+    want.push_str("ran 65535 main,s,1 NoOp -> ready main,s,2\nrefused 50 NumbersSpent\n")?;
+    want.push_str("status 1")
+}
+
+fn check_started(rt: &impl Abort, alloc: Global, text: &str, trace: &str) -> Result<(), Fail> {
+    let want = with_status(alloc, trace)?;
+    check_text::<Run>(rt, alloc, text.as_bytes(), want.as_bytes())
+}
+
+fn check_spent(
+    rt: &impl Abort,
+    alloc: Global,
+    text: &mut String,
+    want: &mut String,
+) -> Result<(), Fail> {
+    check_started(rt, alloc, text, want)?;
+    push_refused(text, want)?;
+    check_text::<Run>(rt, alloc, text.as_bytes(), want.as_bytes())
+}
+
 /// After 65,535 calls each further one is refused, and the calls that are there go on.
 fn check_numbers(rt: &impl Abort, alloc: Global) -> Result<(), Fail> {
     let mut text = many_starts(alloc)?;
     let mut want = many_started(alloc)?;
-    check_text::<Run>(
-        rt,
-        alloc,
-        text.as_bytes(),
-        with_status(alloc, &want)?.as_bytes(),
-    )?;
-    text.push_str("start main s\nstep 65536\nstep 65535\nstart main s")?;
-    want.push_str("refused 50 NumbersSpent\nrefused 40 NoChannel\n")?;
-    want.push_str("ran 65535 main,s,1 NoOp -> ready main,s,2\nrefused 50 NumbersSpent\n")?;
-    want.push_str("status 1")?;
-    check_text::<Run>(rt, alloc, text.as_bytes(), want.as_bytes())
+    check_spent(rt, alloc, &mut text, &mut want)
 }
 
 /// A text of which the trace has a line for a call, and so many lines of 38 bytes.
@@ -70,11 +84,15 @@ fn check_block(rt: &impl Abort, alloc: Global, k: usize, steps: u32) -> Result<(
     check_into::<Run>(rt, alloc, LOOP, writer, want.as_bytes())
 }
 
+fn check_whole(rt: &impl Abort, alloc: Global) -> Result<(), Fail> {
+    let want = loop_trace(alloc, 100_000, "status 0")?;
+    check_text::<Run>(rt, alloc, LOOP, want.as_bytes())
+}
+
 /// The greatest count is taken as it stands. The lines go out in blocks: the first is full behind 1,617 steps, and each
 /// further one behind 1,617 more.
 fn check_steps(rt: &impl Abort, alloc: Global) -> Result<(), Fail> {
-    let want = loop_trace(alloc, 100_000, "status 0")?;
-    check_text::<Run>(rt, alloc, LOOP, want.as_bytes())?;
+    check_whole(rt, alloc)?;
     check_block(rt, alloc, 1, 1_617)?;
     check_block(rt, alloc, 2, 3_234)
 }
@@ -84,15 +102,21 @@ fn wide_run(alloc: Global, name: &str) -> Result<String, NoMemory> {
     format!(in alloc; "[main]\nexten => {name},1,NoOp()\n;; script\nstart main {name}\nstep 1\n")
 }
 
+/// Its trace.
+fn wide_trace(alloc: Global, name: &str) -> Result<String, NoMemory> {
+    format!(in alloc; "started 1\nran 1 main,{name},1 NoOp -> ready main,{name},2\nstatus 0")
+}
+
+fn check_name(rt: &impl Abort, alloc: Global, name: &str) -> Result<(), Fail> {
+    let text = wide_run(alloc, name)?;
+    let want = wide_trace(alloc, name)?;
+    check_text::<Run>(rt, alloc, text.as_bytes(), want.as_bytes())
+}
+
 /// A line is longer than a block.
 fn check_wide(rt: &impl Abort, alloc: Global) -> Result<(), Fail> {
     let name = vec![in alloc; b'7'; 70_000]?;
-    let name = str::from_utf8(&name)?;
-    let text = wide_run(alloc, name)?;
-    let want = format!(in alloc;
-        "started 1\nran 1 main,{name},1 NoOp -> ready main,{name},2\nstatus 0"
-    )?;
-    check_text::<Run>(rt, alloc, text.as_bytes(), want.as_bytes())
+    check_name(rt, alloc, str::from_utf8(&name)?)
 }
 
 /// Which entry answers `77` at priority 1, from the context `c0` on.

@@ -1,5 +1,5 @@
 //! Configuration texts with their items or their fault, worked out by hand from the rules.
-use crate::table::{Question, bytes_of, check, check_all};
+use crate::table::{Question, bytes_of, check, check_all, text_of};
 use dp_conf::{ConfFault, ConfLine, NoMemory, read_lines};
 use std::alloc::Global;
 use std::process::Abort;
@@ -135,6 +135,11 @@ fn have_same_items(alloc: Global, left: &[u8], right: &[u8]) -> Result<bool, Fai
     Ok(left == right)
 }
 
+fn comparison(alloc: Global, left: &[u8], right: &[u8]) -> Result<String, Fail> {
+    let is_same = have_same_items(alloc, left, right)?;
+    text_of(alloc, if is_same { "same" } else { "other" })
+}
+
 /// Whether the texts on both sides of a bar have the same items: these compare by their lines, keys and values.
 struct Compared;
 
@@ -143,10 +148,7 @@ impl Question for Compared {
         let (left, right) = asked.split_once('|').ok_or("no two texts")?;
         let left = bytes_of(alloc, left)?;
         let right = bytes_of(alloc, right)?;
-        let is_same = have_same_items(alloc, &left, &right)?;
-        let mut out = String::new(alloc);
-        out.push_str(if is_same { "same" } else { "other" })?;
-        Ok(out)
+        comparison(alloc, &left, &right)
     }
 }
 

@@ -1,11 +1,20 @@
 //! Words, numbers and texts cut once, worked out by hand from the rules.
 use crate::conf::args::push_bytes;
-use crate::table::{Question, bytes_of};
+use crate::table::{Question, bytes_of, text_of};
 use dp_conf::{NoMemory, cut_once, read_number, same_word};
 use std::alloc::Global;
 use std::test::Fail;
 
-/// Whether the words on both sides of a bar are the same, asked in both orders.
+/// Whether two words are the same, asked in both orders.
+fn sameness(left: &[u8], right: &[u8]) -> &'static str {
+    match (same_word(left, right), same_word(right, left)) {
+        (true, true) => "same",
+        (false, false) => "other",
+        _ => "two answers",
+    }
+}
+
+/// Whether the words on both sides of a bar are the same.
 pub(super) struct Words;
 
 impl Question for Words {
@@ -13,13 +22,7 @@ impl Question for Words {
         let (left, right) = asked.split_once('|').ok_or("no two words")?;
         let left = bytes_of(alloc, left)?;
         let right = bytes_of(alloc, right)?;
-        let mut out = String::new(alloc);
-        match (same_word(&left, &right), same_word(&right, &left)) {
-            (true, true) => out.push_str("same")?,
-            (false, false) => out.push_str("other")?,
-            _ => out.push_str("two answers")?,
-        }
-        Ok(out)
+        text_of(alloc, sameness(&left, &right))
     }
 }
 

@@ -1,7 +1,8 @@
 //! Applications in a plan of two contexts, with the place of a call behind them and its next step, worked out by hand
 //! from the rules.
 use crate::machine::render::{Exchange, Given, shown};
-use dp_machine::{Dialplan, Queues};
+use crate::table::check_same;
+use dp_machine::{Dialplan, NoMemory, Queues};
 use std::alloc::Global;
 use std::process::Abort;
 use std::test::Fail;
@@ -268,6 +269,70 @@ const UNKNOWN: [&[u8]; 8] = [
     b"\xCE\xCF\xCF\xD0()",
 ];
 
+/// The dialplan with an application.
+fn plan_with(alloc: Global, application: &[u8]) -> Result<Vec<u8>, NoMemory> {
+    let mut text = Vec::from_slice(alloc, b"[main]\nexten => 100,1,")?;
+    text.extend_from_slice(application)?;
+    text.extend_from_slice(BEHIND)?;
+    Ok(text)
+}
+
+/// The trace that is wanted of a call and two steps.
+fn trace_of(alloc: Global, plan: &Dialplan, state: &str, next: &str) -> Result<String, Fail> {
+    let first = plan.contexts().first().ok_or("no context")?;
+    let name = &first.entries().first().ok_or("no entry")?.application;
+    let out = format!(in alloc;
+        "started 1 -> ready main,100,1\nran main,100,1 {name} -> {state}\n{next}\n"
+    )?;
+    Ok(out)
+}
+
+const EVENTS: [Given; 3] = [
+    Given::Start(b"main", b"100"),
+    Given::Step(1),
+    Given::Step(1),
+];
+
+fn check_machine(
+    rt: &impl Abort,
+    alloc: Global,
+    machine: &mut Exchange,
+    state: &str,
+    next: &str,
+) -> Result<(), Fail> {
+    let want = trace_of(alloc, machine.plan(), state, next)?;
+    let got = shown(alloc, machine, &EVENTS)?;
+    check_same(rt, "a call", &got, &want);
+    Ok(())
+}
+
+fn check_plan(
+    rt: &impl Abort,
+    alloc: Global,
+    plan: Dialplan,
+    state: &str,
+    next: &str,
+) -> Result<(), Fail> {
+    let mut machine = Exchange::new(alloc, plan, Queues::none(alloc))?;
+    check_machine(rt, alloc, &mut machine, state, next)
+}
+
+fn check_no_notes(rt: &impl Abort, count: usize) {
+    assert_eq!(rt; count, 0, "notes");
+}
+
+fn check_text(
+    rt: &impl Abort,
+    alloc: Global,
+    text: &[u8],
+    state: &str,
+    next: &str,
+) -> Result<(), Fail> {
+    let (plan, notes) = Dialplan::load(alloc, text)?;
+    check_no_notes(rt, notes.len());
+    check_plan(rt, alloc, plan, state, next)
+}
+
 fn check(
     rt: &impl Abort,
     alloc: Global,
@@ -275,25 +340,8 @@ fn check(
     state: &str,
     next: &str,
 ) -> Result<(), Fail> {
-    let mut text = Vec::from_slice(alloc, b"[main]\nexten => 100,1,")?;
-    text.extend_from_slice(application)?;
-    text.extend_from_slice(BEHIND)?;
-    let (plan, notes) = Dialplan::load(alloc, &text)?;
-    assert_eq!(rt; notes.len(), 0, "of {application:?}");
-    let first = plan.contexts().first().ok_or("no context")?;
-    let name = &first.entries().first().ok_or("no entry")?.application;
-    let want = format!(in alloc;
-        "started 1 -> ready main,100,1\nran main,100,1 {name} -> {state}\n{next}\n"
-    )?;
-    let mut machine = Exchange::new(alloc, plan, Queues::none(alloc))?;
-    let events = [
-        Given::Start(b"main", b"100"),
-        Given::Step(1),
-        Given::Step(1),
-    ];
-    let got = shown(alloc, &mut machine, &events)?;
-    assert_eq!(rt; got.as_str(), want.as_str(), "of {application:?}");
-    Ok(())
+    let text = plan_with(alloc, application)?;
+    check_text(rt, alloc, &text, state, next)
 }
 
 fn check_all(rt: &impl Abort, alloc: Global, rows: &[Row]) -> Result<(), Fail> {

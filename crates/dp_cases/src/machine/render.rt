@@ -118,6 +118,20 @@ pub(super) fn push_state(
     }
 }
 
+/// Gives an event, and adds its line.
+fn push_given(
+    out: &mut String,
+    alloc: Global,
+    machine: &mut Exchange,
+    given: Given,
+) -> Result<(), NoMemory> {
+    let reply = machine.apply(alloc, event_of(alloc, given)?)?;
+    push_reply(out, alloc, machine.plan(), reply)?;
+    out.push_str(" -> ")?;
+    push_state(out, machine, channel_of(given, reply))?;
+    out.push('\n')
+}
+
 /// The reply to each event and the state of its channel behind it, `REPLY -> STATE`, each on a line.
 pub(super) fn shown(
     alloc: Global,
@@ -126,12 +140,7 @@ pub(super) fn shown(
 ) -> Result<String, NoMemory> {
     let mut out = String::new(alloc);
     for given in events {
-        let event = event_of(alloc, *given)?;
-        let reply = machine.apply(alloc, event)?;
-        push_reply(&mut out, alloc, machine.plan(), reply)?;
-        out.push_str(" -> ")?;
-        push_state(&mut out, machine, channel_of(*given, reply))?;
-        out.push('\n')?;
+        push_given(&mut out, alloc, machine, *given)?;
     }
     Ok(out)
 }

@@ -1,7 +1,7 @@
 //! Dialplans with variables, worked out by hand from the rules.
 use crate::machine::render::Given::{Start, Step};
-use crate::machine::render::{Exchange, machine_of, push_state, shown};
-use crate::table::{Question, check};
+use crate::machine::render::{Exchange, Given, machine_of, push_state, shown};
+use crate::table::{Question, check, check_same};
 use dp_machine::{Event, NoMemory, Text};
 use std::alloc::Global;
 use std::process::Abort;
@@ -70,9 +70,9 @@ fn value_called(
     machine: &mut Exchange,
     channel: u32,
     name: &str,
-) -> Result<String, NoMemory> {
+) -> Result<String, Fail> {
     call_through(alloc, machine, 0)?;
-    value_of(alloc, machine, channel, name)
+    Ok(value_of(alloc, machine, channel, name)?)
 }
 
 /// What stands before the last ` ; `, and what behind it.
@@ -89,7 +89,7 @@ impl Question for Valued {
         let (channel, name) = wanted.split_once(' ').ok_or("no name")?;
         let channel: u32 = channel.parse().ok().ok_or("no number")?;
         let mut machine = exchange(alloc, globals, "")?;
-        Ok(value_called(alloc, &mut machine, channel, name)?)
+        value_called(alloc, &mut machine, channel, name)
     }
 }
 
@@ -159,7 +159,12 @@ fn gone_to(alloc: Global, machine: &mut Exchange) -> Result<String, Fail> {
 /// The extension to which a `Goto` of a text between `<` and `>` goes, without these two.
 fn sent(alloc: Global, globals: &str, text: &str) -> Result<String, Fail> {
     let arguments = format!(in alloc; "<{text}>,1")?;
-    let mut machine = exchange(alloc, globals, &arguments)?;
+    sent_by(alloc, globals, &arguments)
+}
+
+/// The same of whole arguments.
+fn sent_by(alloc: Global, globals: &str, arguments: &str) -> Result<String, Fail> {
+    let mut machine = exchange(alloc, globals, arguments)?;
     gone_to(alloc, &mut machine)
 }
 
@@ -245,7 +250,7 @@ fn arguments_are_expanded(rt: HostRuntime) -> Result<(), Fail> {
 }
 
 /// The state of a call behind its first step.
-fn state_behind(alloc: Global, machine: &mut Exchange) -> Result<String, NoMemory> {
+fn state_behind(alloc: Global, machine: &mut Exchange) -> Result<String, Fail> {
     call_through(alloc, machine, 1)?;
     let mut out = String::new(alloc);
     push_state(&mut out, machine, 1)?;
@@ -259,7 +264,7 @@ impl Question for Went {
     fn answer(alloc: Global, asked: &str) -> Result<String, Fail> {
         let (globals, arguments) = cut(asked);
         let mut machine = exchange(alloc, globals, arguments)?;
-        Ok(state_behind(alloc, &mut machine)?)
+        state_behind(alloc, &mut machine)
     }
 }
 
@@ -310,11 +315,25 @@ impl Question for Nested {
         let openings: usize = openings.parse().ok().ok_or("no number")?;
         let ends: usize = ends.parse().ok().ok_or("no number")?;
         let text = repeated(alloc, openings, ends)?;
-        let globals = format!(in alloc; "G={text}")?;
-        let arguments = sent(alloc, "", &text)?;
-        let global = sent(alloc, &globals, "${LEN(${G})}")?;
-        Ok(format!(in alloc; "{} {global}", arguments.len())?)
+        sizes_of(alloc, &text)
     }
+}
+
+/// The size of a text that is a global.
+fn global_size(alloc: Global, text: &str) -> Result<String, Fail> {
+    let globals = format!(in alloc; "G={text}")?;
+    sent(alloc, &globals, "${LEN(${G})}")
+}
+
+fn sizes(alloc: Global, arguments: &str, global: &str) -> Result<String, Fail> {
+    let out = format!(in alloc; "{} {global}", arguments.len())?;
+    Ok(out)
+}
+
+fn sizes_of(alloc: Global, text: &str) -> Result<String, Fail> {
+    let arguments = sent(alloc, "", text)?;
+    let global = global_size(alloc, text)?;
+    sizes(alloc, &arguments, &global)
 }
 
 const NESTING: &str = r"
@@ -329,25 +348,47 @@ fn nesting_limit(rt: HostRuntime) -> Result<(), Fail> {
     check::<Nested>(&rt, rt.alloc(), NESTING)
 }
 
+/// Asserts what a machine replies to events.
+fn check_trace(
+    rt: &impl Abort,
+    alloc: Global,
+    machine: &mut Exchange,
+    events: &[Given],
+    want: &str,
+) -> Result<(), Fail> {
+    let got = shown(alloc, machine, events)?;
+    check_same(rt, "the machine", &got, want);
+    Ok(())
+}
+
+/// Asserts the value of a name in the first channel.
+fn check_value(
+    rt: &impl Abort,
+    alloc: Global,
+    machine: &Exchange,
+    name: &str,
+    want: &str,
+) -> Result<(), Fail> {
+    let got = value_of(alloc, machine, 1, name)?;
+    check_same(rt, name, &got, want);
+    Ok(())
+}
+
 fn check_globals_expanded(
     rt: &impl Abort,
     alloc: Global,
     machine: &mut Exchange,
 ) -> Result<(), Fail> {
     let events = [Start(b"main", b"100"), Step(1), Step(1)];
-    let got = shown(alloc, machine, &events)?;
     let want = "started 1 -> ready main,100,1\nran main,100,1 Goto -> ready main,200,1\n\
 ran main,200,1 NoOp -> ready main,200,2\n";
-    assert_eq!(rt; got.as_str(), want);
-    for (name, want) in [("M", "2001"), ("EXTEN", "200"), ("PRIORITY", "2")] {
-        let got = value_of(alloc, machine, 1, name)?;
-        assert_eq!(rt; got.as_str(), want, "of {name}");
-    }
+    check_trace(rt, alloc, machine, &events, want)?;
+    check_value(rt, alloc, machine, "M", "2001")?;
+    check_value(rt, alloc, machine, "EXTEN", "200")?;
+    check_value(rt, alloc, machine, "PRIORITY", "2")?;
     // An ended channel keeps its values.
     machine.apply(alloc, Event::Step { channel: 1 })?;
-    let got = value_of(alloc, machine, 1, "EXTEN")?;
-    assert_eq!(rt; got.as_str(), "200");
-    Ok(())
+    check_value(rt, alloc, machine, "EXTEN", "200")
 }
 
 #[test]
@@ -371,12 +412,10 @@ fn check_a_call_sees_itself(
         Step(1),
         Step(3),
     ];
-    let got = shown(alloc, machine, &events)?;
     let want = "started 1 -> ready main,1,1\nstarted 2 -> ready main,2,1\n\
 ran main,_X,1 Goto -> ready main,Channel/2-2,1\nstarted 3 -> ready main,3,1\n\
 ran main,_X,1 Goto -> ready main,Channel/1-1,1\nran main,_X,1 Goto -> ready main,Channel/3-3,1\n";
-    assert_eq!(rt; got.as_str(), want);
-    Ok(())
+    check_trace(rt, alloc, machine, &events, want)
 }
 
 /// A step is expanded in what its own call sees.

@@ -1,6 +1,6 @@
 //! The readers of a loaded dialplan, and priorities.
 use crate::plan::render::{push_label, push_name};
-use crate::table::{Question, bytes_of, check};
+use crate::table::{Question, bytes_of, check, text_of};
 use dp_plan::{Context, Dialplan, Entry, EntryId, MOST_PRIORITY, NoMemory, Note, Priority, Text};
 use std::alloc::Global;
 use std::process::Abort;
@@ -288,22 +288,29 @@ ranked_at 0→
 notes→
 ";
 
+fn push_limit(out: &mut String, number: Option<u32>) -> Result<(), NoMemory> {
+    match number {
+        Some(number) => write!(out, "{number}"),
+        None => out.push_str("none"),
+    }
+}
+
+fn number_text(alloc: Global, number: Option<u32>) -> Result<String, Fail> {
+    let mut out = String::new(alloc);
+    push_limit(&mut out, number)?;
+    Ok(out)
+}
+
 /// The number of the priority that is made of a number, or `none`; and of `most` the greatest of them.
 struct Limits;
 
 impl Question for Limits {
     fn answer(alloc: Global, asked: &str) -> Result<String, Fail> {
-        let mut out = String::new(alloc);
         if asked == "most" {
-            write!(out, "{MOST_PRIORITY}")?;
-            return Ok(out);
+            return number_text(alloc, Some(MOST_PRIORITY));
         }
         let number = asked.parse::<u32>().ok().ok_or("no number")?;
-        match Priority::new(number) {
-            Some(priority) => write!(out, "{}", priority.get())?,
-            None => out.push_str("none")?,
-        }
-        Ok(out)
+        number_text(alloc, Priority::new(number).map(|priority| priority.get()))
     }
 }
 
@@ -324,6 +331,11 @@ fn have_same_globals(alloc: Global, left: &[u8], right: &[u8]) -> Result<bool, F
     Ok(left.globals() == right.globals())
 }
 
+fn compared_globals(alloc: Global, left: &[u8], right: &[u8]) -> Result<String, Fail> {
+    let is_same = have_same_globals(alloc, left, right)?;
+    text_of(alloc, if is_same { "same" } else { "other" })
+}
+
 /// Whether the texts on both sides of a bar have the same global variables: these compare by all that they hold.
 struct SameGlobals;
 
@@ -332,10 +344,7 @@ impl Question for SameGlobals {
         let (left, right) = asked.split_once('|').ok_or("no two texts")?;
         let left = bytes_of(alloc, left)?;
         let right = bytes_of(alloc, right)?;
-        let is_same = have_same_globals(alloc, &left, &right)?;
-        let mut out = String::new(alloc);
-        out.push_str(if is_same { "same" } else { "other" })?;
-        Ok(out)
+        compared_globals(alloc, &left, &right)
     }
 }
 

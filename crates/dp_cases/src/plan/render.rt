@@ -96,16 +96,29 @@ pub(crate) fn shown(
     read: &Result<(Dialplan, Vec<Note>), LoadFault>,
 ) -> Result<String, NoMemory> {
     let mut out = String::new(alloc);
+    push_read(&mut out, alloc, read)?;
+    Ok(out)
+}
+
+fn push_read(
+    out: &mut String,
+    alloc: Global,
+    read: &Result<(Dialplan, Vec<Note>), LoadFault>,
+) -> Result<(), NoMemory> {
     match read {
         Ok((plan, notes)) => {
-            push_plan(&mut out, alloc, plan)?;
-            for note in notes {
-                write!(out, " note {} {}", note.line, note.kind.name())?;
-            }
+            push_plan(out, alloc, plan)?;
+            push_notes(out, notes)
         }
-        Err(fault) => push_fault(&mut out, *fault)?,
+        Err(fault) => push_fault(out, *fault),
     }
-    Ok(out)
+}
+
+fn push_notes(out: &mut String, notes: &[Note]) -> Result<(), NoMemory> {
+    for note in notes {
+        write!(out, " note {} {}", note.line, note.kind.name())?;
+    }
+    Ok(())
 }
 
 fn push_ranked(out: &mut String, alloc: Global, entry: Option<&Entry>) -> Result<(), NoMemory> {
