@@ -7,4 +7,5 @@ mod render;
 mod reports;
 mod runs;
 mod scripts;
+mod threads;
 mod writers;

@@ -2,3 +2,4 @@ mod DebugLemmas
 mod JoinedLemmas
 mod ScriptLemmas
 mod StreamsLemmas
+mod ThreadsLemmas

@@ -1,12 +1,13 @@
 -- The numbers of the program's faults and the names that are printed beside them.
 use Rattle.std.specs.Prelude.{ℕ, List, ◌++◌, Some, None, codes, decimal}
+use Rattle.dp_board.specs.Codes.{fault_code as settle_code, fault_name as settle_name}
 use Rattle.dp_conf.specs.Codes.{line_code, line_name, read_name, write_code, write_name}
 use Rattle.dp_conf.specs.declared.fault.ReadFault.TheVariants.{ReadFailed as read_failed, TooLong as read_too_long}
 use Rattle.dp_pattern.specs.Codes.{name_code, fault_name}
 use Rattle.dp_plan.specs.Codes.{plan_code, plan_name}
 use Rattle.dp_queue.specs.Codes.{queue_code, queue_name}
 use Rattle.dp_commands.specs.declared.fault.Code.{Code}
-use Rattle.dp_commands.specs.declared.fault.Code.TheVariants.{Line, Name, Plan, Queue, ReadFailed, TooLong, WriteFailed, BadScript, BadBreak}
+use Rattle.dp_commands.specs.declared.fault.Code.TheVariants.{Line, Name, Plan, Queue, ReadFailed, TooLong, WriteFailed, Settle, BadScript, BadBreak}
 use Rattle.dp_commands.specs.declared.fault.PbxFault.{PbxFault}
 use Rattle.dp_commands.specs.declared.fault.PbxFault.TheVariants.{Coded, NoMemory}
 
@@ -19,6 +20,7 @@ code_number (Queue kind) = queue_code kind
 code_number ReadFailed = 7
 code_number TooLong = 8
 code_number WriteFailed = write_code
+code_number (Settle fault) = settle_code fault
 code_number BadScript = 70
 code_number BadBreak = 71
 
@@ -31,6 +33,7 @@ code_name (Queue kind) = queue_name kind
 code_name ReadFailed = read_name read_failed
 code_name TooLong = read_name read_too_long
 code_name WriteFailed = write_name
+code_name (Settle fault) = settle_name fault
 code_name BadScript = codes "BadScript"
 code_name BadBreak = codes "BadBreak"
 

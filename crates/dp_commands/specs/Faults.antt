@@ -7,7 +7,7 @@ use Rattle.dp_plan.specs.declared.fault.LoadFault.{LoadFault}
 use Rattle.dp_plan.specs.declared.fault.LoadFault.TheVariants.{Conf, Pattern, Plan as load_plan, NoMemory as load_no_memory}
 use Rattle.dp_queue.specs.declared.fault.QueueFault.{QueueFault}
 use Rattle.dp_queue.specs.declared.fault.QueueFault.TheVariants.{Conf as queue_conf, Queue as queue_line, NoMemory as queue_no_memory}
-use Rattle.dp_commands.specs.declared.fault.Code.TheVariants.{Line, Name, Plan, Queue, ReadFailed, TooLong, WriteFailed, BadScript, BadBreak}
+use Rattle.dp_commands.specs.declared.fault.Code.TheVariants.{Line, Name, Plan, Queue, ReadFailed, TooLong, WriteFailed, Settle, BadScript, BadBreak}
 use Rattle.dp_commands.specs.declared.fault.PbxFault.{PbxFault}
 use Rattle.dp_commands.specs.declared.fault.PbxFault.TheVariants.{Coded, NoMemory}
 
@@ -46,6 +46,7 @@ is_write_fault (Coded (Queue kind) line) = false
 is_write_fault (Coded ReadFailed line) = false
 is_write_fault (Coded TooLong line) = false
 is_write_fault (Coded WriteFailed line) = true
+is_write_fault (Coded (Settle fault) line) = false
 is_write_fault (Coded BadScript line) = false
 is_write_fault (Coded BadBreak line) = false
 is_write_fault NoMemory = false

@@ -6,5 +6,6 @@ pub mod Joined
 pub mod Report
 pub mod Run
 pub mod Script
+pub mod Threads
 pub mod Trace
 pub mod Turns

@@ -2,6 +2,7 @@
 ghost use Rattle.std.specs.Prelude.{◌≡◌};
 ghost use Rattle.dp_commands.specs.Codes.{code_number, code_name};
 
+use dp_board::SettleFault;
 use dp_conf::{ConfFault, LineKind, ReadFault, WriteFailed};
 use dp_plan::{LoadFault, NameFault, NoMemory, PlanKind};
 use dp_queue::{QueueFault, QueueKind};
@@ -24,6 +25,8 @@ pub enum Code {
     TooLong,
     /// The output could not be written.
     WriteFailed,
+    /// The seats of a board were not settled.
+    Settle(SettleFault),
     /// A line of the script is none that scripts have.
     BadScript,
     /// The text of a break is none.
@@ -43,6 +46,7 @@ impl Code {
             Code::ReadFailed => ReadFault::ReadFailed.code().unwrap(),
             Code::TooLong => ReadFault::TooLong.code().unwrap(),
             Code::WriteFailed => WriteFailed.code(),
+            Code::Settle(fault) => fault.code(),
             Code::BadScript => 70,
             Code::BadBreak => 71,
         }
@@ -60,6 +64,7 @@ impl Code {
             Code::ReadFailed => ReadFault::ReadFailed.name(),
             Code::TooLong => ReadFault::TooLong.name(),
             Code::WriteFailed => WriteFailed.name(),
+            Code::Settle(fault) => fault.name(),
             Code::BadScript => "BadScript",
             Code::BadBreak => "BadBreak",
         }

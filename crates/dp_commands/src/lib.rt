@@ -9,6 +9,7 @@ mod report;
 mod run;
 mod script;
 mod taker;
+mod threads;
 mod trace;
 
 pub use debug::debug_script;
@@ -17,3 +18,4 @@ pub use joined::run_joined;
 pub use report::{check, list_plan, match_one};
 pub use run::run_script;
 pub use script::{ScriptLine, Turn, number_within, read_script};
+pub use threads::run_threads;

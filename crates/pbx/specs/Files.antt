@@ -9,7 +9,7 @@ use Rattle.dp_commands.specs.Debug.{WritesDebug, debug_of}
 use Rattle.dp_commands.specs.Run.{Writes, run_of}
 use Rattle.pbx.specs.declared.command_line.Request.{Request}
 use Rattle.pbx.specs.declared.command_line.Request.TheVariants.{Joined, Check, Listing, Match, Run as run_request, QueueRun, Debug, QueueDebug}
-use Rattle.dp_commands.specs.declared.fault.Code.TheVariants.{Line, Name, Plan, Queue, ReadFailed, TooLong, WriteFailed, BadScript, BadBreak}
+use Rattle.dp_commands.specs.declared.fault.Code.TheVariants.{Line, Name, Plan, Queue, ReadFailed, TooLong, WriteFailed, Settle, BadScript, BadBreak}
 use Rattle.dp_commands.specs.declared.fault.PbxFault.{PbxFault}
 use Rattle.dp_commands.specs.declared.fault.PbxFault.TheVariants.{Coded, NoMemory}
 
@@ -26,6 +26,7 @@ length_reason (Coded (Queue kind) line) = None
 length_reason (Coded ReadFailed line) = None
 length_reason (Coded TooLong line) = Some (Coded TooLong line)
 length_reason (Coded WriteFailed line) = None
+length_reason (Coded (Settle fault) line) = None
 length_reason (Coded BadScript line) = None
 length_reason (Coded BadBreak line) = None
 length_reason NoMemory = None
@@ -41,6 +42,7 @@ is_read_fault (Coded ReadFailed (Some line)) = false
 is_read_fault (Coded TooLong None) = true
 is_read_fault (Coded TooLong (Some line)) = false
 is_read_fault (Coded WriteFailed line) = false
+is_read_fault (Coded (Settle fault) line) = false
 is_read_fault (Coded BadScript line) = false
 is_read_fault (Coded BadBreak line) = false
 is_read_fault NoMemory = true

@@ -22,11 +22,18 @@ pub(super) fn hold(flag: &AtomicU64, marks: &AtomicU64) {
 
 /// Holds one channel's first turn until the other channel has had one.
 #[derive(Drop)]
-pub(super) struct Crossed {
+pub(crate) struct Crossed {
     held: u32,
     other: u32,
     seen: AtomicU64,
     marks: AtomicU64,
+}
+
+impl Crossed {
+    /// Whether a thread was held for too long.
+    pub(crate) fn is_marked(&self) -> bool {
+        self.marks.load(Ordering::SeqCst) != 0
+    }
 }
 
 impl Gate for Crossed {
@@ -43,7 +50,7 @@ impl Gate for Crossed {
     }
 }
 
-pub(super) fn gate_of(held: u32, other: u32) -> Crossed {
+pub(crate) fn gate_of(held: u32, other: u32) -> Crossed {
     Crossed {
         held,
         other,
@@ -87,7 +94,7 @@ pub(super) fn act_crossed<S: Session + Send + Sync, R: Threads + Wait + Abort + 
     );
     put_back(rt, seats, first, second);
     assert!(rt; a == ENDED && b == ENDED);
-    assert_eq!(rt; gate.marks.load(Ordering::SeqCst), 0);
+    assert!(rt; !gate.is_marked());
 }
 
 /// Each of two channels is attended while the gate of the other's thread waits.

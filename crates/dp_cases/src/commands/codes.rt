@@ -1,13 +1,14 @@
 //! The numbers and the printed names of the faults.
 use crate::commands::render::push_fault;
 use crate::table::check_same;
+use dp_board::{Disagree, SettleFault};
 use dp_commands::{Code, PbxFault};
 use dp_conf::{LineKind, NoMemory, ReadFault};
 use dp_plan::{NameFault, PlanKind, Word};
 use std::test::Fail;
 
 /// All codes.
-const CODES: [Code; 27] = [
+const CODES: [Code; 30] = [
     Code::Line(LineKind::BlockComment),
     Code::Line(LineKind::NoSection),
     Code::Line(LineKind::BadHeader),
@@ -33,6 +34,9 @@ const CODES: [Code; 27] = [
     Code::Plan(PlanKind::NoExten),
     Code::Plan(PlanKind::PriorityLimit),
     Code::Plan(PlanKind::ShortLine),
+    Code::Settle(SettleFault::SeatMissing { seat: 0 }),
+    Code::Settle(SettleFault::Differs(Disagree { seat: 0, index: 0 })),
+    Code::Settle(SettleFault::NoMemory),
     Code::BadScript,
     Code::BadBreak,
 ];
@@ -64,6 +68,9 @@ fault 25 TooDeep
 fault 26 NoExten
 fault 27 PriorityLimit
 fault 28 ShortLine
+fault 60 SeatMissing
+fault 61 Disagree
+fault 62 NoMemory
 fault 70 BadScript
 fault 71 BadBreak
 fault 7 ReadFailed

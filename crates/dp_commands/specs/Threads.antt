@@ -1,0 +1,138 @@
+-- Runs in threads: the calls that come before the board opens, and the events that each seat gives.
+use Rattle.std.specs.Prelude.{◌≡◌, ℕ, ◌+◌, ◌<◌, ◌%◌, ◌==◌, Bool, true, false, ◌||◌, ◌⊎◌, List, [], ◌∷◌, ◌++◌, length, map, take, drop, Option, None, is_none, Result, Ok, Err, All, codes, decimal, if◌then◌else◌}
+use Rattle.std.specs.Io.KnownBytes.{Appends}
+use Rattle.std.specs.List.{flat_map, list_any, prefix_len}
+use Rattle.dp_board.specs.Difference.{told_to}
+use Rattle.dp_board.specs.Log.{Log, Replays}
+use Rattle.dp_board.specs.Sittings.{Told, Sitting}
+use Rattle.dp_conf.specs.Fronts.{AppendsFront}
+use Rattle.dp_machine.specs.Events.{is_refused}
+use Rattle.dp_machine.specs.Replay.{replies_to, world_after}
+use Rattle.dp_machine.specs.World.{World}
+use Rattle.dp_machine.specs.declared.event.Event.{Event}
+use Rattle.dp_machine.specs.declared.event.Event.TheVariants.{Start, Step, Digit, Timeout, Poll, Hangup, Offer, Answer, Decline, AgentDone}
+use Rattle.dp_table.specs.Standard.{standard_rows}
+use Rattle.dp_commands.specs.Run.{Run, status_by}
+use Rattle.dp_commands.specs.declared.fault.Code.TheVariants.{Line, Name, Plan, Queue, ReadFailed, TooLong, WriteFailed, Settle, BadScript, BadBreak}
+use Rattle.dp_commands.specs.declared.fault.PbxFault.{PbxFault}
+use Rattle.dp_commands.specs.declared.fault.PbxFault.TheVariants.{Coded, NoMemory}
+use Rattle.dp_commands.specs.declared.script.Turn.{Turn}
+use Rattle.dp_commands.specs.declared.script.Turn.TheVariants.{Event as turn_event, Show}
+
+-- the event of a turn; a `show` is passed over
+abbrev pub event_in : Turn → List Event
+event_in (turn_event event) = event ∷ []
+event_in (Show channel name) = []
+
+-- the events of some turns
+abbrev pub events_in : List Turn → List Event
+events_in turns = flat_map event_in turns
+
+-- whether an event is a call that comes in
+abbrev pub is_start : Event → Bool
+is_start (Start context exten caller) = true
+is_start (Step channel) = false
+is_start (Digit channel digit) = false
+is_start (Timeout channel) = false
+is_start (Poll channel) = false
+is_start (Hangup channel) = false
+is_start (Offer queue) = false
+is_start (Answer agent) = false
+is_start (Decline agent) = false
+is_start (AgentDone agent) = false
+
+-- the calls that come in before any other event
+abbrev pub leading_calls : List Event → List Event
+leading_calls events = take (prefix_len is_start events) events
+
+-- the events behind these calls
+abbrev pub shared_events : List Event → List Event
+shared_events events = drop (prefix_len is_start events) events
+
+-- of items of which the first stands at place `at`, those that are a seat's where so many seats take turns
+abbrev pub dealt_from : {X : Type 0} → ℕ → ℕ → ℕ → List X → List X
+dealt_from count seat at [] = []
+dealt_from count seat at (x ∷ xs) =
+    if at % count == seat then x ∷ dealt_from count seat (at + 1) xs else dealt_from count seat (at + 1) xs
+
+-- the items of a seat where so many seats take turns: those at the places `seat`, `seat + count`, `seat + 2 * count`, and so on
+abbrev pub dealt : {X : Type 0} → ℕ → ℕ → List X → List X
+dealt count seat xs = dealt_from count seat 0 xs
+
+-- the events that a seat was told of
+abbrev pub events_told : List Told → List Event
+events_told told = map (λ it. it.1) told
+
+-- a seat gave the first so many of its events
+abbrev pub GaveFront : ℕ → List Event → Sitting → Type 0
+GaveFront count events seat = events_told seat.told ≡ take (length seat.told) (dealt count seat.number events)
+
+-- a history of the events as they are dealt to so many seats: it replays from the first world, and each seat's entries are
+-- its own events, in their order
+pub record IsDealt (first : World) (count : ℕ) (events : List Event) (history : Log) : Type 0 where
+  pub replays : Replays standard_rows first history
+  pub seated : All (λ entry. entry.seat < count) history.entries
+  pub in_turn : (seat : ℕ) → seat < count → events_told (told_to seat history.entries) ≡ dealt count seat events
+
+-- the world behind the leading calls of a run, in which its board opens
+abbrev pub opened_world : Run → World
+opened_world run = world_after standard_rows run.world (leading_calls (events_in run.turns))
+
+-- whether a call that comes in first is refused
+abbrev pub is_call_refused : Run → Bool
+is_call_refused run = list_any is_refused (replies_to standard_rows run.world (leading_calls (events_in run.turns)))
+
+-- what a run is before its board opens: the world behind the calls that come in first, the events behind them, and whether a call was
+-- refused
+abbrev pub begun_of : Result Run PbxFault → Result (World × List Event × Bool) PbxFault
+begun_of (Ok run) = Ok (opened_world run, shared_events (events_in run.turns), is_call_refused run)
+begun_of (Err fault) = Err fault
+
+-- the line that is printed of a settled history
+abbrev pub settled_line : ℕ → ℕ → List ℕ
+settled_line seats calls = codes "settled " ++ decimal seats ++ codes " seats " ++ decimal calls ++ codes " calls\n"
+
+-- whether a call that comes in first or an entry of the history was refused
+abbrev pub any_refusal : Run → Log → Bool
+any_refusal run history = is_call_refused run || list_any (λ entry. is_refused entry.reply) history.entries
+
+-- a run in threads that ended well: its history, its status and its line
+pub record RanShared (run : Run) (count : ℕ) (old new : Option (List ℕ)) (status : ℕ) (history : Log) : Type 0 where
+  pub replay : IsDealt (opened_world run) count (shared_events (events_in run.turns)) history
+  pub told : status ≡ status_by (any_refusal run history)
+  pub line : Appends old new (settled_line count (length history.entries))
+
+-- whether a fault is of settling, or want of memory
+abbrev pub is_settle_fault : PbxFault → Bool
+is_settle_fault (Coded (Settle fault) line) = is_none line
+is_settle_fault (Coded (Line kind) line) = false
+is_settle_fault (Coded (Name fault) line) = false
+is_settle_fault (Coded (Plan kind) line) = false
+is_settle_fault (Coded (Queue kind) line) = false
+is_settle_fault (Coded ReadFailed line) = false
+is_settle_fault (Coded TooLong line) = false
+is_settle_fault (Coded WriteFailed line) = false
+is_settle_fault (Coded BadScript line) = false
+is_settle_fault (Coded BadBreak line) = false
+is_settle_fault NoMemory = true
+
+-- the line of some number of calls was not written: a front of it was where the write failed, and else nothing
+pub record WroteFront (count : ℕ) (old new : Option (List ℕ)) : Type 0 where
+  pub calls : ℕ
+  pub front : AppendsFront old new (settled_line count calls)
+
+abbrev pub IsUnwritten : ℕ → Option (List ℕ) → Option (List ℕ) → PbxFault → Type 0
+IsUnwritten count old new (Coded code line) = WroteFront count old new × (code ≡ WriteFailed) × (line ≡ None)
+IsUnwritten count old new NoMemory = Appends old new []
+
+-- why a run in threads of faultless texts fails: its seats were not settled, or its line was not written, or memory was refused
+abbrev pub IsUnshared : ℕ → Option (List ℕ) → Option (List ℕ) → PbxFault → Type 0
+IsUnshared count old new fault = (Appends old new [] × (is_settle_fault fault ≡ true)) ⊎ IsUnwritten count old new fault
+
+-- what a run in threads by so many seats writes and answers, by the run or the fault that its texts are
+abbrev pub Shares : ℕ → Option (List ℕ) → Option (List ℕ) → Result Run PbxFault → Result (ℕ × Log) PbxFault → Type 0
+Shares count old new (Ok run) (Ok ran) = RanShared run count old new ran.0 ran.1
+Shares count old new (Ok run) (Err fault) = IsUnshared count old new fault
+Shares count old new (Err fault) (Ok ran) = ⊥
+Shares count old new (Err fault) (Err (Coded code line)) = Appends old new [] × (fault ≡ Coded code line)
+Shares count old new (Err fault) (Err NoMemory) = Appends old new []

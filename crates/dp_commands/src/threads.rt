@@ -1,0 +1,374 @@
+//! Runs in threads: the events of a script are dealt to the seats of a board, which act at once.
+ghost use Rattle.std.specs.Prelude.{◌≡◌, ◌++◌, ◌∷◌, ◌<◌, ◌≤◌, ◌||◌, [], IfOk, IfErr, OnOk, OnErr, All, length, max, replicate, true, false, ◌+◌};
+ghost use Rattle.std.specs.List.{list_any, prefix_len};
+ghost use Rattle.std.specs.Io.KnownBytes.{Appends};
+ghost use Rattle.std.specs.Option.{option_map};
+ghost use Rattle.dp_board.specs.Settled.{IsSettled};
+ghost use Rattle.dp_machine.specs.Events.{is_refused as refuses};
+ghost use Rattle.dp_machine.specs.Replay.{replies_to, world_after};
+ghost use Rattle.dp_table.specs.Standard.{standard_rows};
+ghost use Rattle.dp_commands.specs.Block.{waiting};
+ghost use Rattle.dp_commands.specs.Faults.{is_write_failed, reason_of};
+ghost use Rattle.dp_conf.specs.Answers.{Answers};
+ghost use Rattle.dp_commands.specs.Run as run;
+ghost use Rattle.dp_commands.specs.Script.{line_turns, turns_of};
+ghost use Rattle.dp_commands.specs.Threads as spec;
+ghost use Rattle.dp_commands.specs.declared.script.Turn.TheVariants as turns;
+
+use crate::block::Block;
+use crate::fault::{Code, PbxFault};
+use crate::run::begin;
+use crate::script::{ScriptLine, Turn};
+use crate::trace::push_number;
+use dp_board::{Board, Entry, Gate, History, Seat, Session};
+use dp_conf::WriteTold;
+use dp_machine::{Event, Machine};
+use dp_plan::NoMemory;
+use dp_table::StandardApps;
+use std::alloc::Global;
+use std::marker::Brand;
+use std::sync::Wait;
+use std::sync::ledger::Blank;
+use std::thread::{Threads, for_each_mut};
+
+/// Adds an event so many times.
+fn push_copies(events: &mut Vec<Event>, event: &Event, count: u32) -> Result<(), NoMemory>
+    ensures { OnOk result (events.new.items ≡ events.old.items ++ spec.events_in (replicate count (turns.Event event.now))) }
+{
+    for _copy in 0..count {
+        events.push(event.copy()?)?;
+    }
+    Ok(())
+}
+
+/// Adds the events of a line; one that shows a value has none.
+fn push_events(events: &mut Vec<Event>, line: &ScriptLine) -> Result<(), NoMemory>
+    ensures { OnOk result (events.new.items ≡ events.old.items ++ spec.events_in (line_turns line.now)) }
+{
+    match &line.turn {
+        Turn::Event(event) => push_copies(events, event, line.count),
+        Turn::Show { .. } => Ok(()),
+    }
+}
+
+/// The events of a script, one after another.
+fn events_of(alloc: Global, lines: &[ScriptLine]) -> Result<Vec<Event>, NoMemory>
+    ensures { IfOk result (λ events. events.items ≡ spec.events_in (turns_of lines.now)) }
+{
+    let mut events = Vec::new(alloc);
+    for line in lines {
+        push_events(&mut events, line)?;
+    }
+    Ok(events)
+}
+
+fn is_start(event: &Event) -> bool
+    ensures { result ≡ spec.is_start event.now }
+{
+    matches!(event, Event::Start { .. })
+}
+
+/// How many events stand before the first that is no call that comes in.
+fn leading_calls(events: &[Event]) -> usize
+    ensures { result ≡ prefix_len spec.is_start events.now }
+{
+    events.iter().take_while(|event| is_start(event)).count()
+}
+
+/// Gives the machine one event for a seat, between the calls of the gate. Turns of a seat are counted from 0.
+fn act_one<S: Session, R: Wait, G: Gate>(
+    rt: &R,
+    alloc: Global,
+    board: &Board<StandardApps, S>,
+    seat: &mut Seat<S>,
+    event: &Event,
+    gate: &G,
+    turn: u64,
+) -> Result<(), NoMemory>
+    ensures number { seat.new.number ≡ seat.old.number }
+    ensures ok { OnOk result (spec.events_told seat.new.told ≡ spec.events_told seat.old.told ++ event.now ∷ []) }
+    ensures err { OnErr result (seat.new ≡ seat.old) }
+{
+    let copy = event.copy()?;
+    let channel = event.channel();
+    gate.before(channel, turn);
+    let (_place, reply) = board.act(rt, alloc, seat, copy)?;
+    gate.after(channel, &reply);
+    Ok(())
+}
+
+/// Gives the machine the events of a seat, where so many seats take turns, one after another.
+fn act_all<S: Session, R: Wait, G: Gate>(
+    rt: &R,
+    alloc: Global,
+    board: &Board<StandardApps, S>,
+    seat: &mut Seat<S>,
+    count: usize,
+    events: &[Event],
+    gate: &G,
+) -> Result<(), NoMemory>
+    requires count { 0 < count }
+    requires fresh { seat.old.told ≡ [] }
+    ensures number { seat.new.number ≡ seat.old.number }
+    ensures front { spec.GaveFront count events.now seat.new }
+{
+    let number = seat.number() as usize;
+    for at in 0..events.len() {
+        if at % count == number {
+            act_one(
+                rt,
+                alloc,
+                board,
+                seat,
+                &events[at],
+                gate,
+                (at / count) as u64,
+            )?;
+        }
+    }
+    Ok(())
+}
+
+/// How many events are a seat's, where so many seats take turns.
+fn own_count(events: &[Event], count: usize, number: usize) -> usize
+    requires { 0 < count }
+    ensures is { result ≡ length (spec.dealt count number events.now) }
+    ensures within { result ≤ length events.now }
+{
+    let mut own = 0;
+    for at in 0..events.len() {
+        if at % count == number {
+            own += 1;
+        }
+    }
+    own
+}
+
+/// Whether each seat was told of as many events as are its own.
+fn have_acted<S: Session>(seats: &[Seat<S>], events: &[Event]) -> bool
+    ensures { result ≡ true → All (λ seat. length (spec.dealt (length seats.now) seat.number events.now) ≤ length seat.told) seats.now }
+{
+    for seat in seats {
+        if seat.record().len() < own_count(events, seats.len(), seat.number() as usize) {
+            return false;
+        }
+    }
+    true
+}
+
+/// Each seat gives its events in a thread of its own.
+fn act_at_once<S: Session + Send + Sync, R: Threads + Wait + Sync, G: Gate + Sync>(
+    rt: &R,
+    alloc: Global,
+    board: &Board<StandardApps, S>,
+    seats: &mut [Seat<S>],
+    events: &[Event],
+    gate: &G,
+)
+    requires some { 0 < length seats.old }
+    requires fresh { All (λ seat. seat.told ≡ []) seats.old }
+    ensures { All (spec.GaveFront (length seats.old) events.now) seats.new }
+{
+    let count = seats.len();
+    let give = |_place: usize, seat: &mut Seat<S>|
+        requires { (0 < count) × (seat.now.told ≡ []) }
+        ensures { spec.GaveFront count events.entry.now seat.exit.now }
+    {
+        // Where memory was refused, the seat was told of fewer events than are its own.
+        let _ = act_all(rt, alloc, board, seat, count, events, gate);
+    };
+    for_each_mut(rt, seats, count, &give);
+}
+
+/// The history of a board that was settled, or why it was not.
+fn settled<S: Session>(
+    alloc: Global,
+    board: Board<StandardApps, S>,
+    seats: Vec<Seat<S>>,
+) -> Result<History<StandardApps>, PbxFault>
+    ensures settled { IfOk result (λ history. IsSettled standard_rows S.opening board seats.items history) }
+    ensures code { IfErr result (λ fault. spec.is_settle_fault fault ≡ true) }
+{
+    match board.settle(alloc, seats) {
+        Ok(history) => Ok(history),
+        Err(unsettled) => Err(PbxFault::Coded {
+            code: Code::Settle(unsettled.fault),
+            line: None,
+        }),
+    }
+}
+
+/// The history of events that the seats of a board give at once.
+fn act_and_settle<S: Session + Send + Sync, R: Threads + Wait + Sync, G: Gate + Sync>(
+    rt: &R,
+    alloc: Global,
+    board: Board<StandardApps, S>,
+    mut seats: Vec<Seat<S>>,
+    events: &[Event],
+    gate: &G,
+) -> Result<History<StandardApps>, PbxFault>
+    requires count { board ≡ length seats.items }
+    requires some { 0 < length seats.items }
+    requires fresh { All (λ seat. seat.told ≡ []) seats.items }
+    ensures dealt { IfOk result (λ history. spec.IsDealt S.opening board events.now history) }
+    ensures code { IfErr result (λ fault. spec.is_settle_fault fault ≡ true) }
+{
+    act_at_once(rt, alloc, &board, &mut seats, events, gate);
+    if have_acted(&seats, events) {
+        settled(alloc, board, seats)
+    } else {
+        Err(PbxFault::NoMemory)
+    }
+}
+
+/// The history of events that are dealt to so many seats of a board over the machine.
+fn history_of<S: Session + Send + Sync, R: Threads + Wait + Sync, G: Gate + Sync>(
+    rt: &R,
+    alloc: Global,
+    blank: Blank,
+    machine: Machine<StandardApps>,
+    count: u32,
+    events: &[Event],
+    gate: &G,
+) -> Result<History<StandardApps>, PbxFault>
+    requires name { blank.name ≡ S.name }
+    requires parts { (blank.parts ≡ S.parts) × (blank.parts ≡ count + 1) }
+    requires opening { machine ≡ S.opening }
+    requires some { 0 < count }
+    ensures dealt { IfOk result (λ history. spec.IsDealt machine count events.now history) }
+    ensures code { IfErr result (λ fault. spec.is_settle_fault fault ≡ true) }
+{
+    match Board::<StandardApps, S>::open(alloc, blank, machine, count) {
+        Ok((board, seats)) => act_and_settle(rt, alloc, board, seats, events, gate),
+        Err(_) => Err(PbxFault::NoMemory),
+    }
+}
+
+/// Gives the machine the events, and says whether one was refused.
+fn run_events(
+    alloc: Global,
+    machine: &mut Machine<StandardApps>,
+    events: &[Event],
+) -> Result<bool, NoMemory>
+    ensures world { OnOk result (machine.new ≡ world_after standard_rows machine.old events.now) }
+    ensures refused { IfOk result (λ refused. refused ≡ list_any refuses (replies_to standard_rows machine.old events.now)) }
+{
+    let mut replies = Vec::new(alloc);
+    machine.run(alloc, events, &mut replies)?;
+    Ok(replies.iter().any(|reply| reply.is_refusal()))
+}
+
+/// Whether an entry was refused.
+fn has_refusal(entries: &[Entry]) -> bool
+    ensures { result ≡ list_any (λ entry. refuses entry.reply) entries.now }
+{
+    entries.iter().any(|entry| entry.reply.is_refusal())
+}
+
+/// Gives the machine the calls that come in first. Answers the events behind them, and whether a call was refused.
+fn give_calls(
+    alloc: Global,
+    machine: &mut Machine<StandardApps>,
+    lines: &[ScriptLine],
+) -> Result<(Vec<Event>, bool), NoMemory>
+    ensures world { OnOk result (machine.new ≡ world_after standard_rows machine.old (spec.leading_calls (spec.events_in (turns_of lines.now)))) }
+    ensures events { IfOk result (λ given. given.0.items ≡ spec.shared_events (spec.events_in (turns_of lines.now))) }
+    ensures refused { IfOk result (λ given. given.1 ≡ list_any refuses (replies_to standard_rows machine.old (spec.leading_calls (spec.events_in (turns_of lines.now))))) }
+{
+    let mut calls = events_of(alloc, lines)?;
+    let events = calls.split_off(leading_calls(&calls))?;
+    let refused = run_events(alloc, machine, &calls)?;
+    Ok((events, refused))
+}
+
+/// The machine of a run behind the calls that come in first, the events behind them, and whether a call was refused.
+fn begin_shared(
+    alloc: Global,
+    plan: &[u8],
+    queues: Option<&[u8]>,
+    script: &[u8],
+) -> Result<(Machine<StandardApps>, Vec<Event>, bool), PbxFault>
+    ensures begun { Answers (λ begun. (begun.0, begun.1.items, begun.2)) reason_of result
+        (spec.begun_of (run.run_of plan.now (option_map (λ text. text.now) queues.entry) script.now)) }
+    ensures quiet { is_write_failed result ≡ false }
+{
+    let (mut machine, lines, _block) = begin(alloc, plan, queues, script)?;
+    let (events, is_refused) = give_calls(alloc, &mut machine, &lines)?;
+    Ok((machine, events, is_refused))
+}
+
+/// Adds the line of a settled history to what waits.
+fn push_settled(block: &mut Block, seats: u32, calls: usize) -> Result<(), NoMemory>
+    ensures ok { OnOk result (block.new ≡ waiting (block.old.whole ++ (block.old.begun ++ spec.settled_line seats calls)) []) }
+    ensures err { OnErr result (block.new.whole ≡ block.old.whole) }
+{
+    block.push(b"settled ")?;
+    push_number(block, seats)?;
+    block.push(b" seats ")?;
+    push_number(block, calls)?;
+    block.push(b" calls")?;
+    block.end_line()
+}
+
+/// Writes the line of a settled history.
+fn write_settled<W: WriteTold>(
+    block: &mut Block,
+    seats: u32,
+    calls: usize,
+    writer: &mut W,
+) -> Result<(), PbxFault>
+    requires { block.old ≡ waiting [] [] }
+    ensures ok { OnOk result (Appends (W.contents writer.old) (W.contents writer.new) (spec.settled_line seats calls)) }
+    ensures err { IfErr result (spec.IsUnwritten seats (W.contents writer.old) (W.contents writer.new)) }
+    ensures told { W.has_failed writer.new ≡ (W.has_failed writer.old || is_write_failed result) }
+{
+    push_settled(block, seats, calls)?;
+    block.send(writer)?;
+    Ok(())
+}
+
+/// Writes the line of a history, and gives the status: 1 where a call that came first or an entry was refused.
+fn report<W: WriteTold>(
+    alloc: Global,
+    history: &History<StandardApps>,
+    seats: u32,
+    is_refused: bool,
+    writer: &mut W,
+) -> Result<u8, PbxFault>
+    ensures ok { OnOk result (Appends (W.contents writer.old) (W.contents writer.new) (spec.settled_line seats (length history.now.entries))) }
+    ensures status { IfOk result (λ status. status ≡ run.status_by (is_refused || list_any (λ entry. refuses entry.reply) history.now.entries)) }
+    ensures err { IfErr result (spec.IsUnwritten seats (W.contents writer.old) (W.contents writer.new)) }
+    ensures told { W.has_failed writer.new ≡ (W.has_failed writer.old || is_write_failed result) }
+{
+    let mut block = Block::new(alloc, 64)?;
+    write_settled(&mut block, seats, history.entries().len(), writer)?;
+    Ok(u8::from(is_refused || has_refusal(history.entries())))
+}
+
+/// Runs a script on a dialplan with its queues in so many threads, and writes `settled N seats M calls`: so many seats, and how many
+/// calls their history has. With 0 threads it runs in one. The calls that the script begins with come in first; then a board opens, and
+/// the events behind these are dealt to its seats in turn, each of which gives its own in a thread, between the calls of the gate.
+/// Lines that show a value are passed over. The history is answered, and the status: 1 where an event was refused, else 0.
+///
+/// All texts are read first, and their faults come as in a run without threads. Where memory is refused nothing is written.
+pub fn run_threads<G: Gate + Sync, W: WriteTold, R: Threads + Wait + Sync>(
+    rt: &R,
+    alloc: Global,
+    plan: &[u8],
+    queues: Option<&[u8]>,
+    script: &[u8],
+    threads: u32,
+    gate: &G,
+    writer: &mut W,
+) -> Result<(u8, History<StandardApps>), PbxFault>
+    ensures shares { spec.Shares (max 1 threads) (W.contents writer.old) (W.contents writer.new)
+        (run.run_of plan.now (option_map (λ text. text.now) queues.entry) script.now) result }
+    ensures told { W.has_failed writer.new ≡ (W.has_failed writer.old || is_write_failed result) }
+{
+    let (machine, events, is_refused) = begin_shared(alloc, plan, queues, script)?;
+    let count = threads.max(1);
+    let blank = Blank::new(u64::from(count) + 1);
+    let history = history_of::<Brand, _, _>(rt, alloc, blank, machine, count, &events, gate)?;
+    let status = report(alloc, &history, count, is_refused, writer)?;
+    Ok((status, history))
+}
