@@ -97,7 +97,13 @@ fn check_crossed<R: Threads + Wait + Abort + Sync>(
     let ran = run_threads(rt, alloc, plan, None, script, 2, gate, &mut writer);
     let got = outcome(alloc, ran.map(|ran| ran.0), writer)?;
     assert!(rt; !gate.is_marked());
-    check_outcome(rt, alloc, script, &got, b"settled 2 seats 2 calls\nstatus 0")
+    check_outcome(
+        rt,
+        alloc,
+        script,
+        &got,
+        b"settled 2 seats 2 calls\nstatus 0",
+    )
 }
 
 /// The seats act at once: the gate holds one channel until the other has had its step.
