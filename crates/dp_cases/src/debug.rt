@@ -110,7 +110,7 @@ fn steps(alloc: Global, count: u32) -> Result<Vec<Event>, NoMemory> {
 }
 
 /// The halts of the calls, and how many replies are in the trace behind them.
-fn halts(
+fn halts_of(
     alloc: Global,
     machine: &mut Exchange,
     events: &[Event],
@@ -146,7 +146,7 @@ impl Question for Halts {
         let mut machine = begun(alloc, &text)?;
         let events = steps(alloc, number_of(count))?;
         let breaks = read_breaks(alloc, breaks)?;
-        let out = halts(alloc, &mut machine, &events, &breaks, calls)?;
+        let out = halts_of(alloc, &mut machine, &events, &breaks, calls)?;
         Ok(out)
     }
 }
