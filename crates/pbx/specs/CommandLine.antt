@@ -9,7 +9,7 @@ use Rattle.dp_conf.specs.Words.{same_text}
 use Rattle.dp_commands.specs.Script.{number_within}
 use Rattle.dp_plan.specs.Priority.{most_priority}
 use Rattle.pbx.specs.declared.command_line.Request.{Request}
-use Rattle.pbx.specs.declared.command_line.Request.TheVariants.{Joined, Check, Listing, Match, Run, QueueRun, Debug, QueueDebug}
+use Rattle.pbx.specs.declared.command_line.Request.TheVariants.{Joined, Check, Listing, Match, Run, QueueRun, ThreadRun, QueueThreadRun, Debug, QueueDebug}
 
 -- a word that has to be given
 abbrev pub required_word : List ℕ → Rule
@@ -42,11 +42,11 @@ match_app =
     (required_word (codes "FILE"))) (required_word (codes "CONTEXT"))) (required_word (codes "TEXT")))
     (word_or (codes "PRIORITY") (codes "1"))
 
--- `run [--queues QUEUES] FILE SCRIPT`
+-- `run [--queues QUEUES] [--threads N] FILE SCRIPT`
 abbrev pub run_app : App
 run_app =
-    with_rule (with_rule (with_rule (new_app (codes "run")) (named_word (codes "QUEUES") (codes "queues")))
-    (required_word (codes "FILE"))) (required_word (codes "SCRIPT"))
+    with_rule (with_rule (with_rule (with_rule (new_app (codes "run")) (named_word (codes "QUEUES") (codes "queues")))
+    (named_word (codes "N") (codes "threads"))) (required_word (codes "FILE"))) (required_word (codes "SCRIPT"))
 
 -- `debug [--queues QUEUES] --break CONTEXT,EXTEN,PRIORITY FILE SCRIPT`
 abbrev pub debug_app : App
@@ -68,6 +68,7 @@ pub data Asked : Type 0 where
   listing : List ℕ → Asked
   matching : List ℕ → List ℕ → List ℕ → ℕ → Asked
   run : List ℕ → Option (List ℕ) → List ℕ → Asked
+  thread_run : List ℕ → Option (List ℕ) → List ℕ → ℕ → Asked
   debug : List ℕ → Option (List ℕ) → List ℕ → List ℕ → Asked
 
 -- what a request asks for
@@ -78,12 +79,22 @@ asked (Listing file) = listing file.now
 asked (Match file context text priority) = matching file.now context.now text.now priority
 asked (Run file script) = run file.now None script.now
 asked (QueueRun file queues script) = run file.now (Some queues.now) script.now
+asked (ThreadRun file script threads) = thread_run file.now None script.now threads
+asked (QueueThreadRun file queues script threads) = thread_run file.now (Some queues.now) script.now threads
 asked (Debug file script held) = debug file.now None script.now held.now
 asked (QueueDebug file queues script held) = debug file.now (Some queues.now) script.now held.now
 
 -- the priority that a word writes: digits, and a number from 1 to the greatest priority
 abbrev pub priority_in : List ℕ → Option ℕ
 priority_in word = option_and_then (λ n. if nat_lt 0 n then Some n else None) (number_within most_priority word)
+
+-- the greatest number of threads of a run
+abbrev pub most_threads : ℕ
+most_threads = 64
+
+-- the number of threads that a word writes: digits, and a number from 1 to the greatest
+abbrev pub threads_in : List ℕ → Option ℕ
+threads_in word = option_and_then (λ n. if nat_lt 0 n then Some n else None) (number_within most_threads word)
 
 -- what `check` asks for, by its words
 abbrev pub check_asked : List Row → Option Asked
@@ -104,11 +115,26 @@ abbrev pub match_asked : List Row → Option Asked
 match_asked words =
     option_and_then (λ word. option_and_then (match_at words) (priority_in word)) (first_of (codes "PRIORITY") words)
 
--- what `run` asks for, by its words
-abbrev pub run_asked : List Row → Option Asked
-run_asked words =
+-- what `run` asks for without threads, by its words
+abbrev pub plain_run_of : List Row → Option Asked
+plain_run_of words =
     option_and_then (λ file. option_map (run file (first_of (codes "QUEUES") words)) (first_of (codes "SCRIPT") words))
     (first_of (codes "FILE") words)
+
+-- what `run` asks for in so many threads, by its other words
+abbrev pub thread_run_of : List Row → ℕ → Option Asked
+thread_run_of words threads =
+    option_and_then (λ file. option_map (λ script. thread_run file (first_of (codes "QUEUES") words) script threads)
+    (first_of (codes "SCRIPT") words)) (first_of (codes "FILE") words)
+
+-- what `run` asks for, by its words and the one behind `--threads`
+abbrev pub run_by : List Row → Option (List ℕ) → Option Asked
+run_by words None = plain_run_of words
+run_by words (Some word) = option_and_then (thread_run_of words) (threads_in word)
+
+-- what `run` asks for, by its words
+abbrev pub run_asked : List Row → Option Asked
+run_asked words = run_by words (first_of (codes "N") words)
 
 -- what `debug` asks for, by its words
 abbrev pub debug_asked : List Row → Option Asked

@@ -1,14 +1,16 @@
 -- What a request does with the files and the input that it reads.
-use Rattle.std.specs.Prelude.{◌≡◌, ◌⊎◌, ℕ, Bool, true, false, List, [], length, nat_le, Option, Some, None, Result, Ok, Err, if◌then◌else◌}
+use Rattle.std.specs.Prelude.{◌≡◌, ◌⊎◌, ℕ, Bool, true, false, List, [], length, nat_le, max, Option, Some, None, Result, Ok, Err, if◌then◌else◌}
 use Rattle.std.specs.Io.KnownBytes.{Appends}
+use Rattle.dp_board.specs.Log.{Log}
 use Rattle.dp_conf.specs.Answers.{◌>>=◌}
 use Rattle.dp_conf.specs.Whole.{most_bytes}
 use Rattle.dp_commands.specs.Joined.{joined_plan, joined_script}
 use Rattle.dp_commands.specs.Report.{Reports, check_of, list_of, match_of}
 use Rattle.dp_commands.specs.Debug.{WritesDebug, debug_of}
-use Rattle.dp_commands.specs.Run.{Writes, run_of}
+use Rattle.dp_commands.specs.Run.{Run, Writes, run_of}
+use Rattle.dp_commands.specs.Threads.{Shares}
 use Rattle.pbx.specs.declared.command_line.Request.{Request}
-use Rattle.pbx.specs.declared.command_line.Request.TheVariants.{Joined, Check, Listing, Match, Run as run_request, QueueRun, Debug, QueueDebug}
+use Rattle.pbx.specs.declared.command_line.Request.TheVariants.{Joined, Check, Listing, Match, Run as run_request, QueueRun, ThreadRun, QueueThreadRun, Debug, QueueDebug}
 use Rattle.dp_commands.specs.declared.fault.Code.TheVariants.{Line, Name, Plan, Queue, ReadFailed, TooLong, WriteFailed, Settle, BadScript, BadBreak}
 use Rattle.dp_commands.specs.declared.fault.PbxFault.{PbxFault}
 use Rattle.dp_commands.specs.declared.fault.PbxFault.TheVariants.{Coded, NoMemory}
@@ -75,6 +77,28 @@ RunsFiles file (Some queues) script old new result =
     (Writes old new (whole_text plan_bytes >>= λ plan. whole_text queue_bytes >>= λ queues. whole_text script_bytes >>= λ script.
     run_of plan (Some queues) script) result)
 
+-- the status of a run in threads that has some history
+pub record EndsWith (count : ℕ) (old new : Option (List ℕ)) (run : Result Run PbxFault) (status : ℕ) : Type 0 where
+  pub history : Log
+  pub shares : Shares count old new run (Ok (status, history))
+
+-- what a run in threads writes and answers, but for its history
+abbrev pub SharesSome : ℕ → Option (List ℕ) → Option (List ℕ) → Result Run PbxFault → Result ℕ PbxFault → Type 0
+SharesSome count old new run (Ok status) = EndsWith count old new run status
+SharesSome count old new run (Err fault) = Shares count old new run (Err fault)
+
+-- the same as of files that are run, in so many threads
+abbrev pub SharesFiles : Option (List ℕ) → Option (Option (List ℕ)) → Option (List ℕ) → ℕ → Option (List ℕ) → Option (List ℕ) → Result ℕ PbxFault → Type 0
+SharesFiles file None script threads old new result =
+    (plan_bytes script_bytes : List ℕ) → file ≡ Some plan_bytes → script ≡ Some script_bytes
+    → OrReadFails old new result
+    (SharesSome (max 1 threads) old new (whole_text plan_bytes >>= λ plan. whole_text script_bytes >>= λ script. run_of plan None script) result)
+SharesFiles file (Some queues) script threads old new result =
+    (plan_bytes queue_bytes script_bytes : List ℕ) → file ≡ Some plan_bytes → queues ≡ Some queue_bytes → script ≡ Some script_bytes
+    → OrReadFails old new result
+    (SharesSome (max 1 threads) old new (whole_text plan_bytes >>= λ plan. whole_text queue_bytes >>= λ queues. whole_text script_bytes >>= λ script.
+    run_of plan (Some queues) script) result)
+
 -- the same of a debugged run with the break of a text
 abbrev pub DebugsFiles : Option (List ℕ) → Option (Option (List ℕ)) → Option (List ℕ) → List ℕ → Option (List ℕ) → Option (List ℕ) → Result ℕ PbxFault → Type 0
 DebugsFiles file None script held old new result =
@@ -97,6 +121,10 @@ Serves files input (Match file context text priority) old new result =
 Serves files input (run_request file script) old new result = RunsFiles (files file.now) None (files script.now) old new result
 Serves files input (QueueRun file queues script) old new result =
     RunsFiles (files file.now) (Some (files queues.now)) (files script.now) old new result
+Serves files input (ThreadRun file script threads) old new result =
+    SharesFiles (files file.now) None (files script.now) threads old new result
+Serves files input (QueueThreadRun file queues script threads) old new result =
+    SharesFiles (files file.now) (Some (files queues.now)) (files script.now) threads old new result
 Serves files input (Debug file script held) old new result =
     DebugsFiles (files file.now) None (files script.now) held.now old new result
 Serves files input (QueueDebug file queues script held) old new result =

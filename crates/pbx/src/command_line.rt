@@ -17,6 +17,9 @@ use dp_commands::number_within;
 use dp_plan::{MOST_PRIORITY, NoMemory, Priority};
 use std::alloc::Global;
 
+/// The greatest number of threads of a run; this is the program's own limit.
+const MOST_THREADS: u32 = 64;
+
 /// What a command line asks for.
 #[derive(Clone, Copy, Debug, PartialEq, Eq)]
 pub enum Request<'a> {
@@ -47,6 +50,19 @@ pub enum Request<'a> {
         file: &'a str,
         queues: &'a str,
         script: &'a str,
+    },
+    /// `run --threads N FILE SCRIPT`: to run a script on a dialplan in so many threads.
+    ThreadRun {
+        file: &'a str,
+        script: &'a str,
+        threads: u32,
+    },
+    /// `run --queues QUEUES --threads N FILE SCRIPT`: the same with the queues of a file.
+    QueueThreadRun {
+        file: &'a str,
+        queues: &'a str,
+        script: &'a str,
+        threads: u32,
     },
     /// `debug --break BREAK FILE SCRIPT`: to run a script on a dialplan, with a halt at each step where the break holds.
     Debug {
@@ -122,6 +138,9 @@ A script has one event a line. Channels are numbered from 1 as they start, queue
   done AGENT                     the agent is done with its call
   show CHANNEL NAME              prints a variable
 Prints a line for each of them.
+
+With --threads N the calls that the script begins with come in first. Then N threads give the other events at once, each in
+turn one, and each thread its own in their order; `show` is passed over. One line is printed: `settled N seats M calls`.
 
 Example:
   $ cat calls.script
@@ -309,6 +328,13 @@ fn run_command<'a>(alloc: Global) -> Result<Command<'a>, NoMemory>
         "queues",
         "The queues, as queues.conf; without it there are none",
     )?;
+    let run = with_named(
+        alloc,
+        run,
+        "N",
+        "threads",
+        "Give the events in so many threads at once, from 1 to 64",
+    )?;
     let run = with_required(alloc, run, "FILE", DIALPLAN_HELP)?;
     let run = with_required(alloc, run, "SCRIPT", "The script of events")?;
     Ok(run)
@@ -389,6 +415,27 @@ fn refuse_priority(alloc: Global, word: &str) -> Result<Error, NoMemory> {
         .error(ErrorKind::ValueValidation, &message)
 }
 
+/// The number of threads that a word writes: digits, and a number from 1 to 64.
+fn read_threads(word: &str) -> Option<u32>
+    ensures { result ≡ spec.threads_in word.now }
+{
+    let number = number_within(MOST_THREADS, word.as_bytes())?;
+    if number == 0 {
+        return None;
+    }
+    Some(number)
+}
+
+/// The refusal of a word that writes no number of threads.
+fn refuse_threads(alloc: Global, word: &str) -> Result<Error, NoMemory> {
+    let message = format!(in alloc;
+        "invalid value '{word}' for '--threads <N>': the number of threads is from 1 to {MOST_THREADS}"
+    )?;
+    run_command(alloc)?
+        .bin_name("pbx run")?
+        .error(ErrorKind::ValueValidation, &message)
+}
+
 /// The word of this name among those of a command.
 fn word_of<'a>(given: &ArgMatches<'a>, name: &str) -> Option<&'a str>
     ensures { option_map (λ word. word.now) result ≡ first_of name.now (rows_of (found_of given.now)) }
@@ -440,9 +487,44 @@ fn match_at<'a>(given: &ArgMatches<'a>, priority: Priority) -> Option<Request<'a
     })
 }
 
-/// What the words of `run` ask for.
-fn run_request<'a>(given: &ArgMatches<'a>) -> Option<Request<'a>>
-    ensures { option_map spec.asked result ≡ spec.run_asked (rows_of (found_of given.now)) }
+/// What the words of `run` ask for, or its refusal where they name threads but no number of them.
+fn run_request<'a>(alloc: Global, given: &ArgMatches<'a>) -> Result<Option<Request<'a>>, Error>
+    ensures asked { IfOk result (λ request. option_map spec.asked request ≡ spec.run_asked (rows_of (found_of given.now))) }
+    ensures refused { IfErr result (λ error. is_some (spec.run_asked (rows_of (found_of given.now))) ≡ true → kind_of error ≡ OutOfMemory) }
+{
+    let Some(word) = word_of(given, "N") else {
+        return Ok(plain_run(given));
+    };
+    match read_threads(word) {
+        Some(threads) => Ok(thread_run(given, threads)),
+        None => Err(refuse_threads(alloc, word)?),
+    }
+}
+
+/// What the other words of `run` ask for in so many threads.
+fn thread_run<'a>(given: &ArgMatches<'a>, threads: u32) -> Option<Request<'a>>
+    ensures { option_map spec.asked result ≡ spec.thread_run_of (rows_of (found_of given.now)) threads }
+{
+    let file = word_of(given, "FILE")?;
+    let script = word_of(given, "SCRIPT")?;
+    match word_of(given, "QUEUES") {
+        None => Some(Request::ThreadRun {
+            file,
+            script,
+            threads,
+        }),
+        Some(queues) => Some(Request::QueueThreadRun {
+            file,
+            queues,
+            script,
+            threads,
+        }),
+    }
+}
+
+/// What the words of `run` ask for without threads.
+fn plain_run<'a>(given: &ArgMatches<'a>) -> Option<Request<'a>>
+    ensures { option_map spec.asked result ≡ spec.plain_run_of (rows_of (found_of given.now)) }
 {
     let file = word_of(given, "FILE")?;
     let script = word_of(given, "SCRIPT")?;
@@ -489,7 +571,7 @@ fn command_request<'a>(
         "check" => Ok(check_request(given)),
         "list" => Ok(list_request(given)),
         "match" => match_request(alloc, given),
-        "run" => Ok(run_request(given)),
+        "run" => run_request(alloc, given),
         "debug" => Ok(debug_request(given)),
         _ => Ok(None),
     }

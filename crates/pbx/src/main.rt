@@ -8,16 +8,18 @@ mod program;
 mod tests;
 
 pub use dp_commands::{
-    Code, PbxFault, check, debug_script, list_plan, match_one, run_joined, run_script,
+    Code, PbxFault, check, debug_script, list_plan, match_one, run_joined, run_script, run_threads,
 };
 use dp_conf::Told;
 use program::{answer, print_fault};
 use std::io::ErrorKind;
 use std::process::ExitCode;
+use std::sync::Wait;
+use std::thread::Threads;
 use std::{env, io};
 
 /// Does what the command line asks for. A word that is not UTF-8 is a mistake in it.
-fn run_program(rt: &HostRuntime) -> Result<u8, PbxFault> {
+fn run_program<R: Threads + Wait + Sync>(threads: &R, rt: &HostRuntime) -> Result<u8, PbxFault> {
     let words: Vec<String> = match env::args(rt) {
         Ok(words) => words.collect(rt.alloc())?,
         Err(error) if error.kind() == ErrorKind::OutOfMemory => return Err(PbxFault::NoMemory),
@@ -29,6 +31,7 @@ fn run_program(rt: &HostRuntime) -> Result<u8, PbxFault> {
     let mut input = Told::new(rt.reader());
     let mut output = Told::new(io::writer(rt));
     Ok(answer(
+        threads,
         rt,
         rt.alloc(),
         &words,
@@ -39,7 +42,7 @@ fn run_program(rt: &HostRuntime) -> Result<u8, PbxFault> {
 }
 
 fn main(rt: HostRuntime) -> ExitCode {
-    match run_program(&rt) {
+    match run_program(&rt, &rt) {
         Ok(status) => ExitCode::from(status),
         Err(fault) => {
             let _ = print_fault(&mut Told::new(rt.stderr()), fault);

@@ -1,5 +1,6 @@
 //! What the program does with its command line.
-ghost use Rattle.std.specs.Prelude.{◌≡◌, ◌≢◌, ◌||◌, ◌++◌, [], OnOk, IfOk, decimal, codes, false, None, Some};
+ghost use Rattle.std.specs.Prelude.{◌≡◌, ◌≢◌, ◌||◌, ◌++◌, [], OnOk, IfOk, decimal, codes, false, max, None, Some};
+ghost use Rattle.std.specs.Option.{option_map};
 ghost use Rattle.std.specs.Result.{is_err};
 ghost use Rattle.std.specs.Io.KnownBytes.{Appends};
 ghost use Rattle.clap.specs.Faults.{fault_of};
@@ -10,19 +11,33 @@ ghost use Rattle.dp_commands.specs.Faults.{is_write_failed};
 ghost use Rattle.pbx.specs.Files as files_spec;
 ghost use Rattle.pbx.specs.Files.{whole_text, length_reason, is_read_fault};
 ghost use Rattle.dp_commands.specs.Report.{check_of, list_of, match_of};
+ghost use Rattle.dp_commands.specs.Run.{run_of};
 ghost use Rattle.pbx.specs.Status.{status_after, explained_status, Prints};
 
 use crate::command_line::{Request, read_words};
 use crate::files::ReadFiles;
 use clap::Error;
 use clap::error::ErrorKind;
+use dp_board::Gate;
 use dp_commands::{
-    Code, PbxFault, check, debug_script, list_plan, match_one, run_joined, run_script,
+    Code, PbxFault, check, debug_script, list_plan, match_one, run_joined, run_script, run_threads,
 };
 use dp_conf::{ReadTold, WriteFailed, WriteTold, read_whole};
+use dp_machine::Reply;
 use dp_plan::Priority;
 use itoa::{Buffer, Integer};
 use std::alloc::Global;
+use std::sync::Wait;
+use std::thread::Threads;
+
+/// The gate of the program, which holds nobody.
+struct OpenGate;
+
+impl Gate for OpenGate {
+    fn before(&self, _channel: u32, _turn: u64) {}
+
+    fn after(&self, _channel: u32, _reply: &Reply) {}
+}
 
 /// Runs the joined text of the input.
 fn serve_joined<I: ReadTold, W: WriteTold>(
@@ -126,6 +141,66 @@ fn serve_queue_run<F: ReadFiles, W: WriteTold>(
     run_script(alloc, &plan, Some(&queues), &script, output)
 }
 
+/// Runs a script in so many threads that nobody holds, and gives the status.
+fn run_in_threads<W: WriteTold, R: Threads + Wait + Sync>(
+    rt: &R,
+    alloc: Global,
+    plan: &[u8],
+    queues: Option<&[u8]>,
+    script: &[u8],
+    threads: u32,
+    output: &mut W,
+) -> Result<u8, PbxFault>
+    ensures shares { files_spec.SharesSome (max 1 threads) (W.contents output.old) (W.contents output.new)
+        (run_of plan.now (option_map (λ text. text.now) queues.entry) script.now) result }
+    ensures told { W.has_failed output.new ≡ (W.has_failed output.old || is_write_failed result) }
+{
+    let (status, _history) = run_threads(
+        rt, alloc, plan, queues, script, threads, &OpenGate, output,
+    )?;
+    Ok(status)
+}
+
+/// Runs the script of a file on the dialplan of another in so many threads.
+fn serve_thread_run<F: ReadFiles, W: WriteTold, R: Threads + Wait + Sync>(
+    rt: &R,
+    files: &F,
+    alloc: Global,
+    file: &str,
+    script: &str,
+    threads: u32,
+    output: &mut W,
+) -> Result<u8, PbxFault>
+    ensures serves { files_spec.SharesFiles (F.bytes_at files.now file.now) None (F.bytes_at files.now script.now) threads
+        (W.contents output.old) (W.contents output.new) result }
+    ensures told { W.has_failed output.new ≡ (W.has_failed output.old || is_write_failed result) }
+{
+    let plan = files.read_file(alloc, file)?;
+    let script = files.read_file(alloc, script)?;
+    run_in_threads(rt, alloc, &plan, None, &script, threads, output)
+}
+
+/// Runs the script of a file on the dialplan of another in so many threads, with the queues of a third.
+fn serve_queue_thread_run<F: ReadFiles, W: WriteTold, R: Threads + Wait + Sync>(
+    rt: &R,
+    files: &F,
+    alloc: Global,
+    file: &str,
+    queues: &str,
+    script: &str,
+    threads: u32,
+    output: &mut W,
+) -> Result<u8, PbxFault>
+    ensures serves { files_spec.SharesFiles (F.bytes_at files.now file.now) (Some (F.bytes_at files.now queues.now))
+        (F.bytes_at files.now script.now) threads (W.contents output.old) (W.contents output.new) result }
+    ensures told { W.has_failed output.new ≡ (W.has_failed output.old || is_write_failed result) }
+{
+    let plan = files.read_file(alloc, file)?;
+    let queues = files.read_file(alloc, queues)?;
+    let script = files.read_file(alloc, script)?;
+    run_in_threads(rt, alloc, &plan, Some(&queues), &script, threads, output)
+}
+
 /// Debugs the script of a file on the dialplan of another, with the break of a text.
 fn serve_debug<F: ReadFiles, W: WriteTold>(
     files: &F,
@@ -172,7 +247,8 @@ fn serve_queue_debug<F: ReadFiles, W: WriteTold>(
 }
 
 /// Does what was asked for, and gives the status: the files are read first, and then their texts.
-fn serve<F: ReadFiles, I: ReadTold, W: WriteTold>(
+fn serve<F: ReadFiles, I: ReadTold, W: WriteTold, R: Threads + Wait + Sync>(
+    rt: &R,
     files: &F,
     alloc: Global,
     request: Request<'_>,
@@ -199,6 +275,17 @@ fn serve<F: ReadFiles, I: ReadTold, W: WriteTold>(
             queues,
             script,
         } => serve_queue_run(files, alloc, file, queues, script, output),
+        Request::ThreadRun {
+            file,
+            script,
+            threads,
+        } => serve_thread_run(rt, files, alloc, file, script, threads, output),
+        Request::QueueThreadRun {
+            file,
+            queues,
+            script,
+            threads,
+        } => serve_queue_thread_run(rt, files, alloc, file, queues, script, threads, output),
         Request::Debug { file, script, held } => {
             serve_debug(files, alloc, file, script, held, output)
         }
@@ -304,7 +391,10 @@ fn finish<E: WriteTold>(errors: &mut E, answered: Result<u8, PbxFault>) -> u8
 ///
 /// What was asked for goes to `output`, and faults and mistakes go to `errors`; where these cannot be written, the
 /// status tells alone. `input` is read where there is no command, and never where the words have a fault.
-pub fn answer<F: ReadFiles, I: ReadTold, W: WriteTold, E: WriteTold>(
+///
+/// `rt` is for the threads of a run that asks for them.
+pub fn answer<F: ReadFiles, I: ReadTold, W: WriteTold, E: WriteTold, R: Threads + Wait + Sync>(
+    rt: &R,
     files: &F,
     alloc: Global,
     words: &[String],
@@ -315,7 +405,7 @@ pub fn answer<F: ReadFiles, I: ReadTold, W: WriteTold, E: WriteTold>(
     ensures refused { fault_of pbx_app (texts words.now) ≢ [] → input.new ≡ input.old }
 {
     let answered = match read_words(alloc, words) {
-        Ok(request) => serve(files, alloc, request, input, output),
+        Ok(request) => serve(rt, files, alloc, request, input, output),
         Err(error) => explain(alloc, &error, output, errors),
     };
     finish(errors, answered)

@@ -3,7 +3,9 @@ use crate::tests::folder::{check_table, make_folder};
 use crate::tests::mistakes::{check_helps, check_mistakes};
 use std::process::Abort;
 use std::rt::Files;
+use std::sync::Wait;
 use std::test::Fail;
+use std::thread::Threads;
 use std::{fs, process};
 
 /// `check`.
@@ -96,6 +98,25 @@ run @long @missing→1→→fault 8 TooLong¶
 run @first @folder→1→→fault 7 ReadFailed¶
 ";
 
+/// `run --threads`.
+const THREAD_RUNS: &str = "\
+run --threads 2 @pair @pair.script→0→settled 2 seats 2 calls¶→
+run --threads 1 @pair @pair.script→0→settled 1 seats 2 calls¶→
+run @first @first.script --threads=064→0→settled 64 seats 3 calls¶→
+run --threads 3 @empty @empty→0→settled 3 seats 0 calls¶→
+# A refused event.
+run --threads 1 @first @refused.script→1→settled 1 seats 3 calls¶→
+# With queues.
+run --queues @help --threads 1 @callers @callers.script→0→settled 1 seats 3 calls¶→
+run --threads 4 --queues @faulty @first @first.script→1→→fault 4 NoEquals line 2¶
+# All files are read before their texts, and the texts are read before the first event.
+run --threads 2 @faulty @missing→1→→fault 7 ReadFailed¶
+run --threads 2 --queues @missing @faulty @first.script→1→→fault 7 ReadFailed¶
+run --threads 2 --queues @long @faulty @missing→1→→fault 8 TooLong¶
+run --threads 2 @faulty @faulty.script→1→→fault 4 NoEquals line 2¶
+run --threads 2 @first @faulty.script→1→→fault 70 BadScript line 2¶
+";
+
 /// `debug`.
 const DEBUGS: &str = "\
 debug --break main,200,1 @first @first.script→0→started 1¶ran 1 main,100,1 NoOp -> ready main,100,2¶ran 1 main,100,2 Goto -> ready main,200,1¶break 3¶ran 1 main,200,1 Hangup -> ended¶end 4¶→
@@ -129,6 +150,7 @@ match @sample phones 12345→0→rest,_X.,1 NoOp¶→
 match @sample phones 1→0→none¶→
 run @sample @sample.script→0→started 1¶ran 1 phones,_1XX,1 NoOp -> ready phones,123,2¶ran 1 phones,_1XX,2 Goto -> ready phones,100,1¶ran 1 phones,100,1 NoOp -> ready phones,100,2¶ran 1 phones,100,2 Hangup -> ended¶started 2¶ran 2 phones,_NXXXXXX,1 NoOp -> ready phones,555-1234,2¶ran 2 phones,_NXXXXXX,2 Hangup -> ended¶→
 debug --break phones,123,2 @sample @sample.script→0→started 1¶ran 1 phones,_1XX,1 NoOp -> ready phones,123,2¶break 2¶ran 1 phones,_1XX,2 Goto -> ready phones,100,1¶ran 1 phones,100,1 NoOp -> ready phones,100,2¶ran 1 phones,100,2 Hangup -> ended¶started 2¶ran 2 phones,_NXXXXXX,1 NoOp -> ready phones,555-1234,2¶ran 2 phones,_NXXXXXX,2 Hangup -> ended¶end 8¶→
+run --threads 2 @pair @pair.script→0→settled 2 seats 2 calls¶→
 match @calls calls 123→0→calls,123,1 NoOp¶→
 match @calls calls 123 2→0→calls,_X.,2 NoOp¶→
 match @calls calls 124→0→calls,_1XX,1 NoOp¶→
@@ -148,9 +170,21 @@ check @empty←[main]¶exten => 100,1,NoOp(hello)¶exten => 100,2,Goto(200,1)¶e
 ";
 
 /// All the tables.
-const TABLES: [&str; 7] = [CHECKS, LISTS, MATCHES, RUNS, DEBUGS, MANUAL, INPUTS];
+const TABLES: [&str; 8] = [
+    CHECKS,
+    LISTS,
+    MATCHES,
+    RUNS,
+    THREAD_RUNS,
+    DEBUGS,
+    MANUAL,
+    INPUTS,
+];
 
-fn check_all<R: Files + Abort + AllocGlobal>(rt: &R, folder: &str) -> Result<(), Fail> {
+fn check_all<R: Files + Threads + Wait + Sync + Abort + AllocGlobal>(
+    rt: &R,
+    folder: &str,
+) -> Result<(), Fail> {
     for table in &TABLES {
         check_table(rt, folder, table)?;
     }

@@ -6,7 +6,9 @@ use std::alloc::Global;
 use std::env::Env;
 use std::process::Abort;
 use std::rt::Files;
+use std::sync::Wait;
 use std::test::Fail;
+use std::thread::Threads;
 use std::{env, fs, str};
 
 /// The files of the folder that the command lines find, beside `folder`, which is one itself, and `long`, which has one
@@ -30,6 +32,8 @@ refused.script→step 1¶start main 100¶step 1¶
 help→[help]¶member => Agent/1¶
 callers→[main]¶exten => s,1,Queue(help,,,,30)¶exten => s,2,Hangup()¶
 callers.script→start main s¶step 1¶timeout 1¶step 1¶
+pair→[main]¶exten => s,1,NoOp()¶
+pair.script→start main s¶start main s¶step 1¶step 2¶
 faulty→[main]¶abc¶
 faulty.script→start main 100¶jump 1¶
 notes→[globals]¶=x¶[main]¶exten => s,1,NoOp()¶exten => s,1,Hangup()¶exten => s,2(x),NoOp()¶exten => s,3(x),NoOp()¶include => nowhere¶colour = red¶
@@ -79,7 +83,7 @@ fn words_of(alloc: Global, folder: &str, line: &str) -> Result<Vec<String>, NoMe
 
 /// The status of a command line, and all that it prints on the standard output and on standard error, as
 /// `STATUS→OUTPUT→ERRORS`.
-fn printed<R: Files + AllocGlobal>(
+fn printed<R: Files + Threads + Wait + Sync + AllocGlobal>(
     rt: &R,
     folder: &str,
     line: &str,
@@ -89,6 +93,7 @@ fn printed<R: Files + AllocGlobal>(
     let mut output = Told::new(Vec::new(rt.alloc()));
     let mut errors = Told::new(Vec::new(rt.alloc()));
     let status = answer(
+        rt,
         rt,
         rt.alloc(),
         &words,
@@ -107,7 +112,7 @@ fn printed<R: Files + AllocGlobal>(
 }
 
 /// Asserts the status of a command line and all that it prints, in one line. Behind a `←` stands the standard input.
-pub(super) fn check_line<R: Files + Abort + AllocGlobal>(
+pub(super) fn check_line<R: Files + Threads + Wait + Sync + Abort + AllocGlobal>(
     rt: &R,
     folder: &str,
     asked: &str,
@@ -122,7 +127,7 @@ pub(super) fn check_line<R: Files + Abort + AllocGlobal>(
 }
 
 /// Asserts each row of a table.
-pub(super) fn check_table<R: Files + Abort + AllocGlobal>(
+pub(super) fn check_table<R: Files + Threads + Wait + Sync + Abort + AllocGlobal>(
     rt: &R,
     folder: &str,
     table: &str,

@@ -4,7 +4,9 @@ use dp_plan::NoMemory;
 use std::alloc::Global;
 use std::process::Abort;
 use std::rt::Files;
+use std::sync::Wait;
 use std::test::Fail;
+use std::thread::Threads;
 use std::{fs, process};
 
 /// A text so many times.
@@ -34,7 +36,10 @@ run @first @tall.script→1→→fault 70 BadScript line 70002¶
 ";
 
 /// Files of more than 70,000 bytes, which are read to their ends.
-fn check_tall<R: Files + Abort + AllocGlobal>(rt: &R, folder: &str) -> Result<(), Fail> {
+fn check_tall<R: Files + Threads + Wait + Sync + Abort + AllocGlobal>(
+    rt: &R,
+    folder: &str,
+) -> Result<(), Fail> {
     let mut plan = repeated(rt.alloc(), "\n", 70_000)?;
     plan.push_str("[main]\nabc\n")?;
     let mut script = repeated(rt.alloc(), "\n", 70_000)?;
@@ -45,7 +50,10 @@ fn check_tall<R: Files + Abort + AllocGlobal>(rt: &R, folder: &str) -> Result<()
 }
 
 /// 65,600 contexts and entries, in 131,200 lines.
-fn check_many<R: Files + Abort + AllocGlobal>(rt: &R, folder: &str) -> Result<(), Fail> {
+fn check_many<R: Files + Threads + Wait + Sync + Abort + AllocGlobal>(
+    rt: &R,
+    folder: &str,
+) -> Result<(), Fail> {
     let plan = contexts(rt.alloc(), 65_600)?;
     write_file(rt, folder, "many", plan.as_bytes())?;
     check_line(
@@ -77,7 +85,10 @@ ran 1 main,{name},1 Hangup -> ended¶started 2¶no entry 2 -> ended¶→"
 }
 
 /// Arguments of 300 bytes, an extension of as many, and one of 301 that is missing.
-fn check_wide<R: Files + Abort + AllocGlobal>(rt: &R, folder: &str) -> Result<(), Fail> {
+fn check_wide<R: Files + Threads + Wait + Sync + Abort + AllocGlobal>(
+    rt: &R,
+    folder: &str,
+) -> Result<(), Fail> {
     let name = repeated(rt.alloc(), "1234567890", 30)?;
     let plan = wide_plan(rt.alloc(), &name)?;
     let script = wide_script(rt.alloc(), &name)?;
@@ -87,7 +98,10 @@ fn check_wide<R: Files + Abort + AllocGlobal>(rt: &R, folder: &str) -> Result<()
     check_line(rt, folder, "run @wide @wide.script", &want)
 }
 
-fn check_all<R: Files + Abort + AllocGlobal>(rt: &R, folder: &str) -> Result<(), Fail> {
+fn check_all<R: Files + Threads + Wait + Sync + Abort + AllocGlobal>(
+    rt: &R,
+    folder: &str,
+) -> Result<(), Fail> {
     check_tall(rt, folder)?;
     check_wide(rt, folder)
 }

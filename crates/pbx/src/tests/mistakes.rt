@@ -2,7 +2,9 @@
 use crate::tests::folder::{check_line, in_a_line};
 use std::process::Abort;
 use std::rt::Files;
+use std::sync::Wait;
 use std::test::Fail;
+use std::thread::Threads;
 
 /// Command lines that are refused, each with its mistake and with the usage that is printed below it.
 const MISTAKES: &str = "\
@@ -25,13 +27,17 @@ match @missing main 5 0→invalid value '0' for '[PRIORITY]': a priority is a nu
 run→the following required arguments were not provided:¶  <FILE>¶  <SCRIPT>→pbx run <FILE> <SCRIPT>
 run @missing→the following required arguments were not provided:¶  <SCRIPT>→pbx run <FILE> <SCRIPT>
 run a b c→unexpected argument 'c' found→pbx run [OPTIONS] <FILE> <SCRIPT>
+run --threads 0 @missing @missing→invalid value '0' for '--threads <N>': the number of threads is from 1 to 64→pbx run [OPTIONS] <FILE> <SCRIPT>
+run --threads 65 @missing @missing→invalid value '65' for '--threads <N>': the number of threads is from 1 to 64→pbx run [OPTIONS] <FILE> <SCRIPT>
+run --threads=two @missing @missing→invalid value 'two' for '--threads <N>': the number of threads is from 1 to 64→pbx run [OPTIONS] <FILE> <SCRIPT>
+run --threads 2 @missing→the following required arguments were not provided:¶  <SCRIPT>→pbx run --threads <N> <FILE> <SCRIPT>
 debug @missing @missing→the following required arguments were not provided:¶  --break <CONTEXT,EXTEN,PRIORITY>→pbx debug --break <CONTEXT,EXTEN,PRIORITY> <FILE> <SCRIPT>
 debug --break main,s,1 a b c→unexpected argument 'c' found→pbx debug [OPTIONS] --break <CONTEXT,EXTEN,PRIORITY> <FILE> <SCRIPT>
 --version→unexpected argument '--version' found→pbx [COMMAND]
 help dial→unrecognized subcommand 'dial'→pbx [COMMAND]
 ";
 
-fn check_mistake<R: Files + Abort + AllocGlobal>(
+fn check_mistake<R: Files + Threads + Wait + Sync + Abort + AllocGlobal>(
     rt: &R,
     folder: &str,
     words: &str,
@@ -45,7 +51,7 @@ fn check_mistake<R: Files + Abort + AllocGlobal>(
 }
 
 /// Asserts all that the command lines that are refused print, and their statuses.
-pub(super) fn check_mistakes<R: Files + Abort + AllocGlobal>(
+pub(super) fn check_mistakes<R: Files + Threads + Wait + Sync + Abort + AllocGlobal>(
     rt: &R,
     folder: &str,
 ) -> Result<(), Fail> {
@@ -167,6 +173,7 @@ Arguments:
 
 Options:
       --queues <QUEUES>  The queues, as queues.conf; without it there are none
+      --threads <N>      Give the events in so many threads at once, from 1 to 64
   -h, --help             Print help
 
 A script has one event a line. Channels are numbered from 1 as they start, queues and agents are named:
@@ -181,6 +188,9 @@ A script has one event a line. Channels are numbered from 1 as they start, queue
   done AGENT                     the agent is done with its call
   show CHANNEL NAME              prints a variable
 Prints a line for each of them.
+
+With --threads N the calls that the script begins with come in first. Then N threads give the other events at once, each in
+turn one, and each thread its own in their order; `show` is passed over. One line is printed: `settled N seats M calls`.
 
 Example:
   $ cat calls.script
@@ -237,7 +247,7 @@ const HELPS: [(&str, &str); 10] = [
     ("debug --help", DEBUG_HELP),
 ];
 
-fn check_help<R: Files + Abort + AllocGlobal>(
+fn check_help<R: Files + Threads + Wait + Sync + Abort + AllocGlobal>(
     rt: &R,
     folder: &str,
     words: &str,
@@ -249,7 +259,7 @@ fn check_help<R: Files + Abort + AllocGlobal>(
 }
 
 /// Asserts all that the command lines that ask for help print, and their statuses.
-pub(super) fn check_helps<R: Files + Abort + AllocGlobal>(
+pub(super) fn check_helps<R: Files + Threads + Wait + Sync + Abort + AllocGlobal>(
     rt: &R,
     folder: &str,
 ) -> Result<(), Fail> {

@@ -10,3 +10,8 @@ pub returns-in-match-clause-refused : goal.returns-in-match-clause-refused
 returns-in-match-clause-refused c =
     let P : List ℕ → Type 0 = λ name. IfErr c.match_request.result (λ error. is_some (command_asked name (rows_of (found_of c.args.given.now))) ≡ true → kind_of error ≡ OutOfMemory) in
     subst P (sym c.in-match.is) c.match_request.ensures.refused
+
+pub returns-in-run-clause-refused : goal.returns-in-run-clause-refused
+returns-in-run-clause-refused c =
+    let P : List ℕ → Type 0 = λ name. IfErr c.run_request.result (λ error. is_some (command_asked name (rows_of (found_of c.args.given.now))) ≡ true → kind_of error ≡ OutOfMemory) in
+    subst P (sym c.in-run.is) c.run_request.ensures.refused
