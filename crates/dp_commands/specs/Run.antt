@@ -4,6 +4,7 @@ use Rattle.std.specs.Io.KnownBytes.{Appends, Keeps}
 use Rattle.dp_conf.specs.Answers.{◌>>=◌}
 use Rattle.dp_conf.specs.Fronts.{AppendsFront}
 use Rattle.dp_plan.specs.Loaded.{loaded}
+use Rattle.dp_plan.specs.Plan.{PlanOf}
 use Rattle.dp_plan.specs.declared.fault.LoadFault.{LoadFault}
 use Rattle.dp_queue.specs.File.{loaded as queues_loaded}
 use Rattle.dp_queue.specs.Queues.{QueuesOf, no_queues}
@@ -15,6 +16,7 @@ use Rattle.dp_commands.specs.Trace.{trace_of, any_refused}
 use Rattle.dp_commands.specs.declared.fault.Code.TheVariants.{WriteFailed}
 use Rattle.dp_commands.specs.declared.fault.PbxFault.{PbxFault}
 use Rattle.dp_commands.specs.declared.fault.PbxFault.TheVariants.{Coded, NoMemory}
+use Rattle.dp_commands.specs.declared.script.ScriptLine.{ScriptLine}
 use Rattle.dp_commands.specs.declared.script.Turn.{Turn}
 
 -- the trace of the first so many turns was written, and nothing else
@@ -69,11 +71,22 @@ abbrev pub queues_of : Option (List ℕ) → Result QueuesOf PbxFault
 queues_of None = Ok no_queues
 queues_of (Some text) = queue_fault (queues_loaded text)
 
--- the run of a dialplan, its queues and a script, or the first fault: the dialplan's, the queues', the script's
+-- what the texts of a run say
+pub record Told : Type 0 where
+  pub plan : PlanOf
+  pub queues : QueuesOf
+  pub lines : List ScriptLine
+
+-- what the texts of a dialplan, its queues and a script say, or the first fault: the dialplan's, the queues', the script's
+abbrev pub told_of : List ℕ → Option (List ℕ) → List ℕ → Result Told PbxFault
+told_of plan queues script =
+    plan_fault (loaded plan) >>= λ read. queues_of queues >>= λ held. script_of script >>= λ lines.
+    Ok (record { plan = read.0; queues = held; lines = lines })
+
+-- the run of a dialplan, its queues and a script, or the first fault
 unfoldable pub run_of : List ℕ → Option (List ℕ) → List ℕ → Result Run PbxFault
 run_of plan queues script =
-    plan_fault (loaded plan) >>= λ read. queues_of queues >>= λ held. script_of script >>= λ lines.
-    Ok (run_on (opening read.0 held) (turns_of lines))
+    told_of plan queues script >>= λ told. Ok (run_on (opening told.plan told.queues) (turns_of told.lines))
 
 -- the status of a run: 1 where a turn was refused
 abbrev pub status_of : Run → ℕ

@@ -289,6 +289,13 @@ pub fn debug_script<W: WriteTold>(
     ensures told { W.has_failed writer.new ≡ (W.has_failed writer.old || is_write_failed result) }
 {
     let held = read_break(alloc, held)?;
-    let (mut machine, lines, mut block) = begin(alloc, plan, queues, script)?;
-    debug_all(alloc, held, &mut machine, &lines, &mut block, writer)
+    let mut begun = begin(alloc, plan, queues, script)?;
+    debug_all(
+        alloc,
+        held,
+        &mut begun.machine,
+        &begun.lines,
+        &mut begun.block,
+        writer,
+    )
 }

@@ -169,25 +169,65 @@ fn load_queues(alloc: Global, text: Option<&[u8]>) -> Result<Queues, PbxFault>
     Ok(queues)
 }
 
-/// The machine, the lines and the empty block of a run: the dialplan is read first, then the queues, then the script.
+/// What the texts of a run say.
+#[derive(Drop)]
+struct Told {
+    plan: Dialplan,
+    queues: Queues,
+    lines: Vec<ScriptLine>,
+}
+
+/// What the texts of a run say: the dialplan is read first, then the queues, then the script.
+fn read_texts(
+    alloc: Global,
+    plan: &[u8],
+    queues: Option<&[u8]>,
+    script: &[u8],
+) -> Result<Told, PbxFault>
+    ensures told { Answers (λ told. record { plan = told.plan; queues = told.queues; lines = told.lines.items }) reason_of result
+        (spec.told_of plan.now (option_map (λ text. text.now) queues.entry) script.now) }
+    ensures rest { IfOk result (λ told. IsAtRest told.queues) }
+    ensures quiet { is_write_failed result ≡ false }
+{
+    let (plan, _) = Dialplan::load(alloc, plan)?;
+    let queues = load_queues(alloc, queues)?;
+    let lines = read_script(alloc, script)?;
+    Ok(Told {
+        plan,
+        queues,
+        lines,
+    })
+}
+
+/// What a run has before its first turn: its machine, the lines of its script, and a block in which nothing waits.
+#[derive(Drop)]
+pub(crate) struct Begun {
+    pub(crate) machine: Machine<StandardApps>,
+    pub(crate) lines: Vec<ScriptLine>,
+    pub(crate) block: Block,
+}
+
+/// What a run has before its first turn.
 #[tactic(auto, unfolding(crate::specs::Run::run_of))]
 pub(crate) fn begin(
     alloc: Global,
     plan: &[u8],
     queues: Option<&[u8]>,
     script: &[u8],
-) -> Result<(Machine<StandardApps>, Vec<ScriptLine>, Block), PbxFault>
-    ensures run { Answers (λ begun. spec.run_on begun.0 (turns_of begun.1.items)) reason_of result
+) -> Result<Begun, PbxFault>
+    ensures run { Answers (λ begun. spec.run_on begun.machine (turns_of begun.lines.items)) reason_of result
         (spec.run_of plan.now (option_map (λ text. text.now) queues.entry) script.now) }
-    ensures empty { IfOk result (λ begun. begun.2 ≡ waiting [] []) }
+    ensures empty { IfOk result (λ begun. begun.block ≡ waiting [] []) }
     ensures quiet { is_write_failed result ≡ false }
 {
-    let (plan, _) = Dialplan::load(alloc, plan)?;
-    let queues = load_queues(alloc, queues)?;
-    let lines = read_script(alloc, script)?;
-    let machine = Machine::new(alloc, plan, queues)?;
     let block = Block::new(alloc, ROOM)?;
-    Ok((machine, lines, block))
+    let told = read_texts(alloc, plan, queues, script)?;
+    let machine = Machine::new(alloc, told.plan, told.queues)?;
+    Ok(Begun {
+        machine,
+        lines: told.lines,
+        block,
+    })
 }
 
 /// Ends a run by what it came to: the lines that wait are written, unless a write has failed. The status is 1 where a
@@ -281,6 +321,12 @@ pub fn run_script<W: WriteTold>(
     ensures writes { spec.Writes (W.contents writer.old) (W.contents writer.new) (spec.run_of plan.now (option_map (λ text. text.now) queues.entry) script.now) result }
     ensures told { W.has_failed writer.new ≡ (W.has_failed writer.old || is_write_failed result) }
 {
-    let (mut machine, lines, mut block) = begin(alloc, plan, queues, script)?;
-    run_plainly(alloc, &mut machine, &lines, &mut block, writer)
+    let mut begun = begin(alloc, plan, queues, script)?;
+    run_plainly(
+        alloc,
+        &mut begun.machine,
+        &begun.lines,
+        &mut begun.block,
+        writer,
+    )
 }

@@ -281,20 +281,33 @@ fn give_calls(
     Ok((events, refused))
 }
 
-/// The machine of a run behind the calls that come in first, the events behind them, and whether a call was refused.
+/// What a run in threads has before its board opens: the machine behind the calls that come in first, the events behind them,
+/// and whether a call was refused.
+#[derive(Drop)]
+struct Opened {
+    machine: Machine<StandardApps>,
+    events: Vec<Event>,
+    is_refused: bool,
+}
+
+/// What a run in threads has before its board opens.
 fn begin_shared(
     alloc: Global,
     plan: &[u8],
     queues: Option<&[u8]>,
     script: &[u8],
-) -> Result<(Machine<StandardApps>, Vec<Event>, bool), PbxFault>
-    ensures begun { Answers (λ begun. (begun.0, begun.1.items, begun.2)) reason_of result
+) -> Result<Opened, PbxFault>
+    ensures begun { Answers (λ opened. (opened.machine, opened.events.items, opened.is_refused)) reason_of result
         (spec.begun_of (run.run_of plan.now (option_map (λ text. text.now) queues.entry) script.now)) }
     ensures quiet { is_write_failed result ≡ false }
 {
-    let (mut machine, lines, _block) = begin(alloc, plan, queues, script)?;
-    let (events, is_refused) = give_calls(alloc, &mut machine, &lines)?;
-    Ok((machine, events, is_refused))
+    let mut begun = begin(alloc, plan, queues, script)?;
+    let (events, is_refused) = give_calls(alloc, &mut begun.machine, &begun.lines)?;
+    Ok(Opened {
+        machine: begun.machine,
+        events,
+        is_refused,
+    })
 }
 
 /// Adds the line of a settled history to what waits.
@@ -365,10 +378,19 @@ pub fn run_threads<G: Gate + Sync, W: WriteTold, R: Threads + Wait + Sync>(
         (run.run_of plan.now (option_map (λ text. text.now) queues.entry) script.now) result }
     ensures told { W.has_failed writer.new ≡ (W.has_failed writer.old || is_write_failed result) }
 {
-    let (machine, events, is_refused) = begin_shared(alloc, plan, queues, script)?;
+    let opened = begin_shared(alloc, plan, queues, script)?;
     let count = threads.max(1);
     let blank = Blank::new(u64::from(count) + 1);
-    let history = history_of::<Brand, _, _>(rt, alloc, blank, machine, count, &events, gate)?;
-    let status = report(alloc, &history, count, is_refused, writer)?;
+    let machine = opened.machine;
+    let history = history_of::<Brand, _, _>(
+        rt,
+        alloc,
+        blank,
+        machine,
+        count,
+        &opened.events,
+        gate,
+    )?;
+    let status = report(alloc, &history, count, opened.is_refused, writer)?;
     Ok((status, history))
 }

@@ -14,11 +14,11 @@ returns-in_err-status-clause-shares g c =
     let old = g.W.WriteTold.contents c.args.writer.now in
     let new = g.W.WriteTold.contents c.report.new.writer in
     let r = run_of c.args.plan.now (option_map (λ text. text.now) c.args.queues) c.args.script.now in
-    let begun : World × List Event × Bool = (c.in_ok-machine.machine, c.in_ok-machine.events.items, c.in_ok-machine.is_refused) in
+    let begun : World × List Event × Bool = (c.in_ok-opened.opened.machine, c.in_ok-opened.opened.events.items, c.in_ok-opened.opened.is_refused) in
     let fault = c.in_err-status.field-0.0 in
     let count : c.max-count.result ≡ max 1 c.args.threads = search rules in
     let p = err_from_is_err_and c.from_residual-in_err-status.result c.from_residual-in_err-status.ensures.1 in
-    rw (p.1, p.2) (subst (λ n. Shares n old new r (Err fault)) count (shares-unwritten c.max-count.result old new r begun fault c.in_ok-machine.ensures.begun c.in_err-status.ensures.err))
+    rw (p.1, p.2) (subst (λ n. Shares n old new r (Err fault)) count (shares-unwritten c.max-count.result old new r begun fault c.in_ok-opened.ensures.begun c.in_err-status.ensures.err))
 
 pub returns-in_err-status-clause-told : goal.returns-in_err-status-clause-told
 returns-in_err-status-clause-told g c =
@@ -31,8 +31,8 @@ returns-clause-shares g c =
     let old = g.W.WriteTold.contents c.args.writer.now in
     let new = g.W.WriteTold.contents c.report.new.writer in
     let r = run_of c.args.plan.now (option_map (λ text. text.now) c.args.queues) c.args.script.now in
-    let begun : World × List Event × Bool = (c.in_ok-machine.machine, c.in_ok-machine.events.items, c.in_ok-machine.is_refused) in
+    let begun : World × List Event × Bool = (c.in_ok-opened.opened.machine, c.in_ok-opened.opened.events.items, c.in_ok-opened.opened.is_refused) in
     let count : c.max-count.result ≡ max 1 c.args.threads = search rules in
     subst (λ n. Shares n old new r (Ok (c.in_ok-status.status, c.in_ok-history.history))) count
-    (shares-done c.max-count.result old new r begun c.in_ok-status.status c.in_ok-history.history c.in_ok-machine.ensures.begun
-    (subst (λ (es : List Event). IsDealt c.in_ok-machine.machine c.max-count.result es c.in_ok-history.history) c.deref.ensures.value c.in_ok-history.ensures.dealt) c.in_ok-status.ensures.ok c.in_ok-status.ensures.status)
+    (shares-done c.max-count.result old new r begun c.in_ok-status.status c.in_ok-history.history c.in_ok-opened.ensures.begun
+    (subst (λ (es : List Event). IsDealt c.in_ok-opened.opened.machine c.max-count.result es c.in_ok-history.history) c.deref.ensures.value c.in_ok-history.ensures.dealt) c.in_ok-status.ensures.ok c.in_ok-status.ensures.status)
