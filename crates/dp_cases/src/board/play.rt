@@ -106,7 +106,8 @@ fn check(
 ) {
     let calls = match play {
         Play::Steps => 2,
-        Play::Crossed(_) | Play::Paced(_) => 4,
+        Play::Crossed(_) => 4,
+        Play::Paced(_) => 5,
         Play::Turns => 6,
         Play::Nothing => 0,
     };

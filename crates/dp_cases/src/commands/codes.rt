@@ -94,8 +94,12 @@ fn push_codes(out: &mut String, codes: &[Code]) -> Result<(), NoMemory> {
     Ok(())
 }
 
+fn push_all_codes(out: &mut String) -> Result<(), NoMemory> {
+    push_codes(out, &CODES)
+}
+
 fn push_faults(out: &mut String) -> Result<(), NoMemory> {
-    push_codes(out, &CODES)?;
+    push_all_codes(out)?;
     push_line(out, PbxFault::from(ReadFault::ReadFailed))?;
     push_line(out, PbxFault::from(ReadFault::TooLong))?;
     push_line(out, PbxFault::from(ReadFault::NoMemory))

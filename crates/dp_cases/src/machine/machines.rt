@@ -1,6 +1,6 @@
 //! Machines, their readers, runs of events, and copies of events.
-use crate::machine::render::{Exchange, machine_of, push_state, start};
-use dp_machine::{EntryId, Event, Phase, Refusal, Reply, Text};
+use crate::machine::render::{Exchange, events_of, machine_of, push_state};
+use dp_machine::{EntryId, Event, NoMemory, Phase, Refusal, Reply, Text};
 use std::alloc::Global;
 use std::process::Abort;
 use std::test::Fail;
@@ -35,24 +35,37 @@ fn a_new_machine_has_its_plan_and_no_channel(rt: &impl Abort, alloc: Global) -> 
     check_a_new_machine_has_its_plan_and_no_channel(rt, alloc, &machine)
 }
 
+/// Asserts what a channel is, at priority 1 of an extension.
+fn check_place(
+    rt: &impl Abort,
+    machine: &Exchange,
+    channel: u32,
+    phase: Phase,
+    exten: &[u8],
+) -> Result<(), Fail> {
+    assert_eq!(rt; machine.phase(channel), Some(&phase));
+    let place = machine.place(channel).ok_or("no place")?;
+    assert_eq!(rt; place.context.bytes(), b"main".as_slice());
+    assert_eq!(rt; place.exten.bytes(), exten);
+    assert_eq!(rt; place.priority, 1);
+    assert!(rt; place.clone()? == *place);
+    Ok(())
+}
+
 fn check_channels_are_read_by_their_numbers(
     rt: &impl Abort,
     alloc: Global,
     machine: &mut Exchange,
+    replies: &mut Vec<Reply>,
 ) -> Result<(), Fail> {
-    for exten in [b"s", b"x"] {
-        let call = start(alloc, b"main", exten)?;
-        machine.apply(alloc, call)?;
-    }
-    machine.apply(alloc, Event::Step { channel: 2 })?;
-    for (channel, phase, exten) in [(1, Phase::Ready, b"s"), (2, Phase::Ended, b"x")] {
-        assert_eq!(rt; machine.phase(channel), Some(&phase));
-        let place = machine.place(channel).ok_or("no place")?;
-        assert_eq!(rt; place.context.bytes(), b"main".as_slice());
-        assert_eq!(rt; place.exten.bytes(), exten.as_slice());
-        assert_eq!(rt; place.priority, 1);
-        assert!(rt; place.clone()? == *place);
-    }
+    run_of(
+        alloc,
+        machine,
+        b"start main s\nstart main x\nstep 2",
+        replies,
+    )?;
+    check_place(rt, machine, 1, Phase::Ready, b"s")?;
+    check_place(rt, machine, 2, Phase::Ended, b"x")?;
     for channel in [0, 3, u32::MAX] {
         assert!(rt; machine.phase(channel).is_none(), "at {channel}");
         assert!(rt; machine.place(channel).is_none(), "at {channel}");
@@ -63,33 +76,41 @@ fn check_channels_are_read_by_their_numbers(
 /// A channel that has ended keeps its place.
 fn channels_are_read_by_their_numbers(rt: &impl Abort, alloc: Global) -> Result<(), Fail> {
     let mut machine = machine_of(alloc, PLAN)?;
-    check_channels_are_read_by_their_numbers(rt, alloc, &mut machine)
+    let mut replies = Vec::new(alloc);
+    check_channels_are_read_by_their_numbers(rt, alloc, &mut machine, &mut replies)
 }
 
-fn check_a_run_adds_its_replies(
+/// Asserts that nothing is added behind the reply that is there where there is no event.
+fn check_an_empty_run(
     rt: &impl Abort,
     alloc: Global,
     machine: &mut Exchange,
+    replies: &mut Vec<Reply>,
 ) -> Result<(), Fail> {
-    let mut replies = vec![in alloc; Reply::NoEntry]?;
-    machine.run(alloc, &[], &mut replies)?;
+    machine.run(alloc, &[], replies)?;
     assert_eq!(rt; replies.as_slice(), [Reply::NoEntry].as_slice());
     assert!(rt; machine.phase(1).is_none());
-    let first = [
-        start(alloc, b"main", b"s")?,
-        Event::Step { channel: 1 },
-        Event::Step { channel: 2 },
-        start(alloc, b"out", b"t")?,
-        Event::Step { channel: 2 },
-    ];
-    machine.run(alloc, &first, &mut replies)?;
-    let second = [
-        Event::Step { channel: 1 },
-        Event::Step { channel: 2 },
-        Event::Step { channel: 1 },
-        Event::Step { channel: 1 },
-    ];
-    machine.run(alloc, &second, &mut replies)?;
+    Ok(())
+}
+
+/// Asserts the states of three channels, each on a line.
+fn check_states(
+    rt: &impl Abort,
+    alloc: Global,
+    machine: &Exchange,
+    want: &str,
+) -> Result<(), Fail> {
+    let mut got = String::new(alloc);
+    for channel in 1..4 {
+        push_state(&mut got, machine, channel)?;
+        got.push('\n')?;
+    }
+    assert_eq!(rt; got.as_str(), want);
+    Ok(())
+}
+
+/// The replies to the two runs, behind the one that is there before.
+fn check_replies(rt: &impl Abort, replies: &[Reply]) {
     let want = [
         Reply::NoEntry,
         Reply::Started(1),
@@ -102,20 +123,68 @@ fn check_a_run_adds_its_replies(
         ran(1, 0),
         Reply::Refused(Refusal::Ended),
     ];
-    assert_eq!(rt; replies.as_slice(), want.as_slice());
-    let mut got = String::new(alloc);
-    for channel in 1..4 {
-        push_state(&mut got, machine, channel)?;
-        got.push('\n')?;
-    }
-    assert_eq!(rt; got.as_str(), "ended out,t,1\nended out,t,1\nnone\n");
+    assert_eq!(rt; replies, want.as_slice());
+}
+
+fn run_of(
+    alloc: Global,
+    machine: &mut Exchange,
+    script: &[u8],
+    replies: &mut Vec<Reply>,
+) -> Result<(), Fail> {
+    let events = events_of(alloc, script)?;
+    machine.run(alloc, &events, replies)?;
     Ok(())
+}
+
+fn check_a_run_adds_its_replies(
+    rt: &impl Abort,
+    alloc: Global,
+    machine: &mut Exchange,
+    replies: &mut Vec<Reply>,
+) -> Result<(), Fail> {
+    check_an_empty_run(rt, alloc, machine, replies)?;
+    run_of(
+        alloc,
+        machine,
+        b"start main s\nstep 1\nstep 2\nstart out t\nstep 2",
+        replies,
+    )?;
+    run_of(alloc, machine, b"step 1\nstep 2\nstep 1\nstep 1", replies)?;
+    check_replies(rt, replies);
+    check_states(rt, alloc, machine, "ended out,t,1\nended out,t,1\nnone\n")
 }
 
 /// The replies stand behind those that are there already, and the machine is the one behind the last event.
 fn a_run_adds_its_replies(rt: &impl Abort, alloc: Global) -> Result<(), Fail> {
+    let mut replies = vec![in alloc; Reply::NoEntry]?;
     let mut machine = machine_of(alloc, PLAN)?;
-    check_a_run_adds_its_replies(rt, alloc, &mut machine)
+    check_a_run_adds_its_replies(rt, alloc, &mut machine, &mut replies)
+}
+
+/// Gives an event, and once more where memory is refused; then the channel is as before.
+fn give_again(
+    rt: &impl Abort,
+    alloc: Global,
+    machine: &mut Exchange,
+    event: &Event,
+    before: &str,
+) -> Result<(), Fail> {
+    let once = event.copy()?;
+    let again = event.copy()?;
+    if machine.apply(alloc, once).is_err() {
+        let behind = state_of(alloc, machine)?;
+        assert_eq!(rt; behind.as_str(), before);
+        machine.apply(alloc, again)?;
+    }
+    Ok(())
+}
+
+/// The first channel as a text.
+fn state_of(alloc: Global, machine: &Exchange) -> Result<String, NoMemory> {
+    let mut state = String::new(alloc);
+    push_state(&mut state, machine, 1)?;
+    Ok(state)
 }
 
 fn check_an_event_is_given_again(
@@ -123,23 +192,11 @@ fn check_an_event_is_given_again(
     alloc: Global,
     machine: &mut Exchange,
 ) -> Result<(), Fail> {
-    let events = [
-        start(alloc, b"main", b"s")?,
-        Event::Step { channel: 1 },
-        Event::Step { channel: 1 },
-        Event::Step { channel: 1 },
-    ];
+    let events = events_of(alloc, b"start main s\nstep 1\nstep 1\nstep 1")?;
     let mut got = String::new(alloc);
     for event in &events {
-        let mut before = String::new(alloc);
-        push_state(&mut before, machine, 1)?;
-        let (once, again) = (event.copy()?, event.copy()?);
-        if machine.apply(alloc, once).is_err() {
-            let mut behind = String::new(alloc);
-            push_state(&mut behind, machine, 1)?;
-            assert_eq!(rt; behind.as_str(), before.as_str());
-            machine.apply(alloc, again)?;
-        }
+        let before = state_of(alloc, machine)?;
+        give_again(rt, alloc, machine, event, &before)?;
         push_state(&mut got, machine, 1)?;
         got.push('\n')?;
     }
@@ -156,19 +213,28 @@ fn an_event_is_given_again(rt: &impl Abort, alloc: Global) -> Result<(), Fail> {
     check_an_event_is_given_again(rt, alloc, &mut machine)
 }
 
-fn check_a_run_goes_on(rt: &impl Abort, alloc: Global, machine: &mut Exchange) -> Result<(), Fail> {
-    let events = [
-        start(alloc, b"main", b"s")?,
-        Event::Step { channel: 1 },
-        Event::Step { channel: 2 },
-        Event::Step { channel: 1 },
-        Event::Step { channel: 1 },
-    ];
-    let mut replies = Vec::new(alloc);
-    if machine.run(alloc, &events, &mut replies).is_err() {
+/// Gives the events to the machine, and where memory is refused those again that have no reply yet.
+fn run_on(
+    alloc: Global,
+    machine: &mut Exchange,
+    events: &[Event],
+    replies: &mut Vec<Reply>,
+) -> Result<(), Fail> {
+    if machine.run(alloc, events, replies).is_err() {
         let left = events.get(replies.len()..).ok_or("too many replies")?;
-        machine.run(alloc, left, &mut replies)?;
+        machine.run(alloc, left, replies)?;
     }
+    Ok(())
+}
+
+fn check_a_run_goes_on(
+    rt: &impl Abort,
+    alloc: Global,
+    machine: &mut Exchange,
+    replies: &mut Vec<Reply>,
+) -> Result<(), Fail> {
+    let events = events_of(alloc, b"start main s\nstep 1\nstep 2\nstep 1\nstep 1")?;
+    run_on(alloc, machine, &events, replies)?;
     let want = [
         Reply::Started(1),
         ran(0, 0),
@@ -183,7 +249,8 @@ fn check_a_run_goes_on(rt: &impl Abort, alloc: Global, machine: &mut Exchange) -
 /// Where memory is refused the replies say how far a run came, so that it goes on from there.
 fn a_run_goes_on(rt: &impl Abort, alloc: Global) -> Result<(), Fail> {
     let mut machine = machine_of(alloc, PLAN)?;
-    check_a_run_goes_on(rt, alloc, &mut machine)
+    let mut replies = Vec::new(alloc);
+    check_a_run_goes_on(rt, alloc, &mut machine, &mut replies)
 }
 
 fn check_the_start(rt: &impl Abort, event: &Event) -> Result<(), Fail> {
@@ -219,29 +286,13 @@ fn an_event_is_copied_whole(rt: &impl Abort, alloc: Global) -> Result<(), Fail> 
     check_the_start(rt, &copy)
 }
 
+/// An event of each other kind.
+const EVENTS: &[u8] = b"step 4294967295\ndigit 1 5\ntimeout 1\npoll 2\nhangup 3\n\
+offer q\nanswer Line/1\ndecline Line/2\ndone Line/3\n";
+
 fn other_events_are_copied_whole(rt: &impl Abort, alloc: Global) -> Result<(), Fail> {
-    let events = [
-        Event::Step { channel: u32::MAX },
-        Event::Digit {
-            channel: 1,
-            digit: b'5',
-        },
-        Event::Timeout { channel: 1 },
-        Event::Poll { channel: 2 },
-        Event::Hangup { channel: 3 },
-        Event::Offer {
-            queue: Text::copy_of(alloc, b"q")?,
-        },
-        Event::Answer {
-            agent: Text::copy_of(alloc, b"Line/1")?,
-        },
-        Event::Decline {
-            agent: Text::copy_of(alloc, b"Line/2")?,
-        },
-        Event::AgentDone {
-            agent: Text::copy_of(alloc, b"Line/3")?,
-        },
-    ];
+    let events = events_of(alloc, EVENTS)?;
+    assert_eq!(rt; events.len(), 9);
     check_copies(rt, &events)
 }
 

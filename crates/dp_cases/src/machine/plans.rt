@@ -1,10 +1,21 @@
 //! Dialplans with events and what a machine makes of them, worked out by hand from the rules.
 use crate::machine::render::Given::{Start, Step};
-use crate::machine::render::{Exchange, Given, shown};
-use dp_machine::{Dialplan, Queues};
+use crate::machine::render::{Exchange, Given, machine_of, shown};
 use std::alloc::Global;
 use std::process::Abort;
 use std::test::Fail;
+
+fn check_shown(
+    rt: &impl Abort,
+    alloc: Global,
+    machine: &mut Exchange,
+    events: &[Given],
+    want: &str,
+) -> Result<(), Fail> {
+    let got = shown(alloc, machine, events)?;
+    assert_eq!(rt; got.as_str(), want);
+    Ok(())
+}
 
 fn check(
     rt: &impl Abort,
@@ -13,11 +24,8 @@ fn check(
     events: &[Given],
     want: &str,
 ) -> Result<(), Fail> {
-    let (plan, _) = Dialplan::load(alloc, text)?;
-    let mut machine = Exchange::new(alloc, plan, Queues::none(alloc))?;
-    let got = shown(alloc, &mut machine, events)?;
-    assert_eq!(rt; got.as_str(), want, "of {text:?}");
-    Ok(())
+    let mut machine = machine_of(alloc, text)?;
+    check_shown(rt, alloc, &mut machine, events, want)
 }
 
 fn an_empty_plan_has_no_entry(rt: &impl Abort, alloc: Global) -> Result<(), Fail> {

@@ -1,4 +1,5 @@
 //! Machines that take the events of a table, and their replies, as lines of text.
+use dp_commands::{ScriptLine, Turn, read_script};
 use dp_machine::{Dialplan, EntryId, Event, Machine, NoMemory, Phase, Queues, Reply, Text};
 use dp_table::StandardApps;
 use std::alloc::Global;
@@ -33,6 +34,29 @@ pub(super) fn start(alloc: Global, context: &[u8], exten: &[u8]) -> Result<Event
         exten,
         caller,
     })
+}
+
+/// Adds the event of a line of a script.
+fn push_event(events: &mut Vec<Event>, turn: &Turn) -> Result<(), NoMemory> {
+    if let Turn::Event(event) = turn {
+        events.push(event.copy()?)?;
+    }
+    Ok(())
+}
+
+fn push_events(events: &mut Vec<Event>, lines: &[ScriptLine]) -> Result<(), NoMemory> {
+    for line in lines {
+        push_event(events, &line.turn)?;
+    }
+    Ok(())
+}
+
+/// The events of a script.
+pub(super) fn events_of(alloc: Global, script: &[u8]) -> Result<Vec<Event>, Fail> {
+    let lines = read_script(alloc, script).ok().ok_or("a faulty script")?;
+    let mut events = Vec::new(alloc);
+    push_events(&mut events, &lines)?;
+    Ok(events)
 }
 
 fn event_of(alloc: Global, given: Given) -> Result<Event, NoMemory> {

@@ -99,14 +99,27 @@ impl Question for Deep {
         let openings: usize = openings.parse().ok().ok_or("no number")?;
         let ends: usize = ends.parse().ok().ok_or("no number")?;
         let text = repeated(alloc, openings, ends)?;
-        let depth = nesting(alloc, &text)?;
-        let world = World::new(alloc);
-        let out = shown(alloc, &world, &text)?;
-        if out.as_str() == "too deep" {
-            return Ok(format!(in alloc; "{depth} {out}")?);
-        }
-        Ok(format!(in alloc; "{depth} {}", out.len())?)
+        deep_answer(alloc, &text)
     }
+}
+
+/// The expansion of a text in a world of nothing.
+fn expanded(alloc: Global, text: &[u8]) -> Result<String, Fail> {
+    let world = World::new(alloc);
+    Ok(shown(alloc, &world, text)?)
+}
+
+fn deep_answer(alloc: Global, text: &[u8]) -> Result<String, Fail> {
+    let depth = nesting(alloc, text)?;
+    let out = expanded(alloc, text)?;
+    deep_line(alloc, depth, &out)
+}
+
+fn deep_line(alloc: Global, depth: usize, out: &str) -> Result<String, Fail> {
+    if out == "too deep" {
+        return Ok(format!(in alloc; "{depth} {out}")?);
+    }
+    Ok(format!(in alloc; "{depth} {}", out.len())?)
 }
 
 const LIMIT: &str = r"
