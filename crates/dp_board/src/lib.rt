@@ -14,6 +14,8 @@ mod session;
 mod settle;
 mod shared;
 mod sheet;
+#[cfg(test)]
+mod tests;
 
 pub use attend::{Attended, Gate, Why};
 pub use board::Board;
