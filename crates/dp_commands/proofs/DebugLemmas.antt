@@ -9,7 +9,6 @@ use Rattle.dp_machine.specs.declared.reply.Reply.{Reply}
 use Rattle.dp_debug.specs.Breaks.{first_before}
 use Rattle.dp_debug.specs.Cut.{IsRun, IsWhy, first_at}
 use Rattle.dp_debug.specs.declared.breaks.Break.{Break}
-use Rattle.dp_debug.specs.declared.halt.Why.{Why}
 use Rattle.dp_debug.specs.declared.halt.Halt.{Halt}
 use Rattle.dp_debug.specs.declared.halt.Why.TheVariants.{End, Break as at_break}
 

@@ -9,9 +9,9 @@ use Rattle.dp_conf.specs.Fronts.{IsFront, AppendsFront}
 use Rattle.dp_conf.proofs.ToldLemmas.{IsFront-append, IsFront-more}
 use Rattle.dp_commands.specs.Block.{Flows}
 use Rattle.dp_commands.specs.Faults.{is_write_failed, is_write_fault}
-use Rattle.dp_commands.specs.Run.{Run, Ends, Writes, run_on, status_by, fails_at_the_end}
+use Rattle.dp_commands.specs.Run.{Ends, Writes, run_on, status_by, fails_at_the_end}
 use Rattle.dp_commands.specs.Trace.{turned, trace_of, any_refused}
-use Rattle.dp_commands.specs.Turns.{Taken, plainly, Streams, StreamsAll, FlowsFirst, WritesTurns, WritesFirst, lines_of, state_past, refused_in, text_of}
+use Rattle.dp_commands.specs.Turns.{Taken, plainly, Streams, StreamsAll, FlowsFirst, WritesTurns, lines_of, state_past, refused_in, text_of}
 use Rattle.dp_machine.specs.World.{World}
 use Rattle.dp_commands.specs.declared.fault.PbxFault.{PbxFault}
 use Rattle.dp_commands.specs.declared.fault.PbxFault.TheVariants.{Coded, NoMemory}

@@ -4,7 +4,6 @@ use Rattle.std.specs.Io.KnownBytes.{Appends}
 use Rattle.std.specs.List.{slice_split}
 use Rattle.std.specs.Option.{option_and_then, option_map}
 use Rattle.dp_conf.specs.Answers.{◌>>=◌}
-use Rattle.dp_conf.specs.Fronts.{AppendsFront}
 use Rattle.dp_debug.specs.Breaks.{first_before}
 use Rattle.dp_debug.specs.declared.breaks.Break.{Break}
 use Rattle.dp_debug.specs.declared.breaks.Break.TheVariants.{At}

@@ -1,4 +1,4 @@
-use Rattle.std.proofs.Common.{◌≡◌, List, [], ◌∷◌, is_some, sym, ap, subst, ◌∙◌}
+use Rattle.std.proofs.Common.{[], ◌∷◌, is_some, sym, ap, subst, ◌∙◌}
 use Rattle.dp_debug.specs.Cut.{IsRun}
 use Rattle.dp_machine.specs.Events.{event_row}
 use Rattle.dp_table.specs.Standard.{standard_rows}
