@@ -1,10 +1,10 @@
 -- The event of a channel that stands at an index.
-use Rattle.std.proofs.Common.{◌≡◌, ℕ, ◌+◌, ◌-◌, ◌<◌, ◌==◌, Bool, true, false, List, Option, Some, None, Result, Ok, Err, IfOk, OnOk, OnErr, get_or, length, slice_get, slice_set, if◌then◌else◌, refl, sym, ap, ◌∙◌, arith, subst}
+use Rattle.std.proofs.Common.{◌≡◌, ℕ, ◌+◌, ◌-◌, ◌<◌, ◌==◌, Bool, true, false, List, Some, None, Result, Ok, Err, IfOk, OnOk, OnErr, get_or, length, slice_get, slice_set, if◌then◌else◌, refl, sym, ap, ◌∙◌, arith, subst}
 use Rattle.std.proofs.lemmas.Option.{same_Some, slice_get_read}
 use Rattle.dp_plan.specs.Plan.{PlanOf}
 use Rattle.dp_machine.specs.Events.{Own, own_event, owned, is_refused}
 use Rattle.dp_machine.specs.GoodWorld.{IsGoodWorld, IsSoundIn, IsSoundOwn, MayAct}
-use Rattle.dp_machine.specs.World.{World, channel_at, world_of}
+use Rattle.dp_machine.specs.World.{channel_at, world_of}
 use Rattle.dp_machine.specs.declared.channel.Channel.{Channel}
 use Rattle.dp_machine.specs.declared.reply.Reply.{Reply}
 use Rattle.dp_machine.specs.declared.shared.Shared.{Shared}

@@ -1,8 +1,8 @@
 -- A channel that waited is sound behind its event.
-use Rattle.std.proofs.Common.{◌≡◌, ◌+◌, Bool, true, false, refl, codes, if◌then◌else◌}
+use Rattle.std.proofs.Common.{◌+◌, Bool, true, false, refl, codes, if◌then◌else◌}
 use Rattle.dp_plan.specs.Plan.{PlanOf}
 use Rattle.dp_app.specs.declared.phase.Phase.TheVariants.{Ended}
-use Rattle.dp_machine.specs.Channels.{going_on, hung_up, ready_in, runs_hang_up, undialled, waited, without_frames}
+use Rattle.dp_machine.specs.Channels.{going_on, hung_up, ready_in, runs_hang_up, undialled, without_frames}
 use Rattle.dp_machine.specs.Found.{is_found}
 use Rattle.dp_machine.specs.GoodWorld.{IsSoundIn}
 use Rattle.dp_machine.specs.declared.channel.Channel.{Channel}

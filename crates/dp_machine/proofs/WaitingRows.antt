@@ -1,5 +1,5 @@
 -- Events of channels that wait and of agents, whose answers are computed on the definitions themselves.
-use Rattle.std.proofs.Common.{◌≡◌, ℕ, Bool, true, false, List, [], ◌∷◌, Option, Some, None, refl}
+use Rattle.std.proofs.Common.{◌≡◌, ℕ, true, false, List, [], ◌∷◌, None, refl}
 use Rattle.std.specs.FinMap.{empty}
 use Rattle.std.specs.Prelude.{codes}
 use Rattle.std.specs.Str.{byte}
