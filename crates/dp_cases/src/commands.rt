@@ -3,6 +3,7 @@ mod calls;
 mod codes;
 mod debugs;
 mod large;
+mod manual;
 mod render;
 mod reports;
 mod runs;

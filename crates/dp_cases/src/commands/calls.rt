@@ -1,4 +1,5 @@
 //! Calls through dialplans with queues, with all that is printed of them, worked out by hand from the rules.
+use crate::commands::manual::PAGES;
 use crate::commands::render::{check_outcome, make_sink, outcome};
 use crate::table::{bytes_of, is_heading};
 use dp_commands::run_script;
@@ -150,7 +151,7 @@ exten => s,1,A¦¦answer A B→fault 70 BadScript line 1
 exten => s,1,A¦¦Done A→fault 70 BadScript line 1
 ";
 
-const TABLES: &[&str] = &[ROWS, DIALOGUES, ENDS, QUEUES, FAULTS];
+const TABLES: &[&str] = &[ROWS, DIALOGUES, ENDS, QUEUES, FAULTS, PAGES];
 
 /// Asserts all that the run of a case writes, and what it ends with behind it.
 pub(super) fn check_call(
