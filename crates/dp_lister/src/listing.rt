@@ -6,7 +6,7 @@ ghost use Rattle.dp_lister.specs.Listing as spec;
 ghost use Rattle.dp_plan.specs.Plan.{PlanOf};
 
 use dp_conf::{Text, push_escaped};
-use dp_plan::{Context, Dialplan, Entry, GlobalVariable, NoMemory};
+use dp_plan::{Context, Dialplan, Entry, GlobalVariable, NoMemory, SharedText};
 use itoa::Buffer;
 use std::alloc::Global;
 
@@ -44,7 +44,11 @@ fn push_globals(out: &mut Vec<u8>, globals: &[GlobalVariable]) -> Result<(), NoM
 }
 
 /// Adds a priority with its label, where it has one.
-fn push_priority(out: &mut Vec<u8>, priority: u32, label: &Option<Text>) -> Result<(), NoMemory>
+fn push_priority(
+    out: &mut Vec<u8>,
+    priority: u32,
+    label: &Option<SharedText>,
+) -> Result<(), NoMemory>
     ensures { OnOk result (out.new.items ≡ out.old.items ++ escaped (spec.priority_text priority label.now)) }
 {
     let mut buffer = Buffer::new();

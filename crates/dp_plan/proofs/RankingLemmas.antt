@@ -1,16 +1,18 @@
 -- The order in which the entries of a context are asked.
 use Rattle.std.proofs.Common.{◌≡◌, ℕ, zero, suc, ◌+◌, ◌<◌, Bool, true, false, true≢false, ◌&&◌, List, [], ◌∷◌, ◌++◌, length, length-take-le, map, take, get_or, slice_get, Some, Bor, refl, sym, ap, ◌∙◌, subst, ◌⊎◌, inl, inr, ⊎_elim, arith, nat_cmp, is_eq, is_lt, Ordering, Less, Equal, Greater, IsPermutation, IsSortedBy}
 use Rattle.std.specs.Cmp.{IsTotalOrder, IsStrictWeakOrder, unsigned_ties}
-use Rattle.std.specs.Cmp.Lexicographic.{nat_list_eq_equiv}
+use Rattle.std.specs.Cmp.Lexicographic.{nat_list_eq_equiv, options_total}
 use Rattle.std.specs.Fn.{Called, Mut, ComparesAs}
-use Rattle.std.specs.List.{All, AllByRecursion, IsDistinct, range_with_len}
+use Rattle.std.specs.List.{All, IsDistinct, range_with_len}
+use Rattle.std.specs.Option.{option_cmp}
 use Rattle.std.specs.Ordering.{ordering_then, ordering_reverse}
 use Rattle.std.proofs.lemmas.Bool.{cases_order}
 use Rattle.std.proofs.lemmas.Cmp.{on_total, then_total, nat_cmp_total, nat_eq_equiv}
 use Rattle.std.proofs.lemmas.Fn.{always_returns_same}
-use Rattle.std.proofs.lemmas.List.{length_push, take_more}
-use Rattle.std.proofs.lemmas.List.Elements.{All-from_recursion, All-push, recursion_from_All}
-use Rattle.std.proofs.lemmas.List.Sorted.{All-permutation, IsPermutation-map, ranks_by, sorted_far}
+use Rattle.std.proofs.lemmas.List.{length_push, length-map, get_or-map, take_more}
+use Rattle.std.proofs.lemmas.List.FromFn.{fill_by_all}
+use Rattle.std.proofs.lemmas.List.Elements.{All-push}
+use Rattle.std.proofs.lemmas.List.Sorted.{IsPermutation-map, ranks_by, sorted_far}
 use Rattle.std.proofs.lemmas.Map.Keys.{apart_from_distinct, IsDistinct-IsPermutation}
 use Rattle.std.proofs.lemmas.Option.{none-some, same_Some, slice_get_within, get_or_from_slice_get}
 use Rattle.std.proofs.lemmas.Simd.{map-map}
@@ -20,10 +22,9 @@ use Rattle.dp_pattern.specs.Order.{name_cmp}
 use Rattle.dp_pattern.specs.Spelling.{spelling}
 use Rattle.dp_pattern.proofs.OrderLemmas.{name_cmp_total, orders_names}
 use Rattle.dp_plan.specs.Contexts.{PlanContext, AreNamed}
-use Rattle.dp_plan.specs.Ranking.{entry_cmp, shares_place, AreApart, ids_of, numbered_from, numbered_now, ranked_entry, IsRanking, AreRanked}
+use Rattle.dp_plan.specs.Ranking.{entry_cmp, shares_place, AreApart, ids_of, id_cmp, ranked_entry, IsRanking, AreRanked}
 use Rattle.dp_plan.specs.declared.entry.Entry.{Entry}
 use Rattle.dp_plan.specs.declared.entry.EntryId.{EntryId}
-use Rattle.dp_plan.specs.declared.ranking.Numbered.{Numbered}
 
 -- ---- the order of entries
 
@@ -72,104 +73,64 @@ one_place entries apart i j a b at_i at_j tied =
         let two : shares_place a b ≡ false = (λ k. shares_place (sym (get_or_from_slice_get entries i a a at_i) k) (sym (get_or_from_slice_get entries j b a at_j) k)) ∙ apart_from_distinct shares_place entries i j a apart below (slice_get_within entries j b at_j) in
         true≢false (sym (tied-shares_place a b tied) ∙ two)
 
--- ---- entries beside their numbers
-
--- the number of an entry of a context
-abbrev id_at : ℕ → ℕ → EntryId
-id_at context k = record { context = context; entry = k }
-
--- the number at a pair's front is that of the entry behind it
-abbrev IsRight : List Entry → EntryId × Entry → Type 0
-IsRight entries p = slice_get entries p.0.entry ≡ Some p.1
-
--- the numbers follow one another
-numbered_from-ids : (context n : ℕ) (es : List Entry) → map (λ p. p.0) (numbered_from context n es) ≡ map (id_at context) (range_with_len n (length es))
-numbered_from-ids context n [] = refl
-numbered_from-ids context n (e ∷ es) = ap (λ (t : List EntryId). id_at context n ∷ t) (numbered_from-ids context (n + 1) es)
-
--- the entries are those that were numbered
-numbered_from-entries : (context n : ℕ) (es : List Entry) → map (λ p. p.1) (numbered_from context n es) ≡ es
-numbered_from-entries context n [] = refl
-numbered_from-entries context n (e ∷ es) = ap (λ (t : List Entry). e ∷ t) (numbered_from-entries context (n + 1) es)
-
--- entries that are numbered from their place on have the right numbers
-places-right : (all : List Entry) (context n : ℕ) (es : List Entry) → ((k : ℕ) (e : Entry) → slice_get es k ≡ Some e → slice_get all (n + k) ≡ Some e) → AllByRecursion (IsRight all) (numbered_from context n es)
-places-right all context n [] at = tt
-places-right all context n (e ∷ es) at = (
-  subst (λ (m : ℕ). slice_get all m ≡ Some e) {x = n + 0} {y = n} (omega arith) (at 0 e refl),
-  places-right all context (n + 1) es (λ k x is. subst (λ (m : ℕ). slice_get all m ≡ Some x) {x = n + suc k} {y = n + 1 + k} (omega arith) (at (suc k) x is)),
-)
-
--- the entries that are numbered from 0 on have the right numbers
-numbered_from-right : (context : ℕ) (entries : List Entry) → AllByRecursion (IsRight entries) (numbered_from context 0 entries)
-numbered_from-right context entries = places-right entries context 0 entries (λ k e is. subst (λ (m : ℕ). slice_get entries m ≡ Some e) {x = k} {y = 0 + k} (omega arith) is)
-
--- in another order, the numbers are as right
-shuffled-right : (entries : List Entry) (ps qs : List (EntryId × Entry)) → IsPermutation ps qs → AllByRecursion (IsRight entries) ps → AllByRecursion (IsRight entries) qs
-shuffled-right entries ps qs shuffled right =
-    let P : EntryId × Entry → Type 0 = IsRight entries in
-    recursion_from_All P qs (All-permutation P ps qs shuffled (All-from_recursion P ps right))
-
--- the entry whose number stands at a place is the one beside it
-ranked_entry-pair : (entries : List Entry) (ps : List (EntryId × Entry)) → AllByRecursion (IsRight entries) ps → (i : ℕ) (a : Entry) → ranked_entry entries (map (λ p. p.0) ps) i ≡ Some a → slice_get (map (λ p. p.1) ps) i ≡ Some a
-ranked_entry-pair entries [] right i a e = absurd (none-some a e)
-ranked_entry-pair entries (p ∷ ps) right zero a e = sym right.0 ∙ e
-ranked_entry-pair entries (p ∷ ps) right (suc i) a e = ranked_entry-pair entries ps right.1 i a e
-
--- an entry at a place of the list without numbers is that of the numbered entry there
-numbered_at : (xs : List Numbered) (i : ℕ) (a : Entry) → slice_get (map (λ x. x.entry.now) xs) i ≡ Some a → (x : Numbered) × (i < length xs) × ((d : Numbered) → get_or xs i d ≡ x) × (x.entry.now ≡ a)
-numbered_at [] i a e = absurd (none-some a e)
-numbered_at (x ∷ xs) zero a e = (x, omega arith, (λ d. refl), same_Some x.entry.now a e)
-numbered_at (x ∷ xs) (suc i) a e =
-    let rest = numbered_at xs i a e in
-    (rest.0, omega (arith, rest.1), rest.2, rest.3)
-
 -- ---- the ranking of a context
 
--- a numbered entry is less than another
-abbrev pub is_before : Numbered → Numbered → Bool
-is_before x y = is_lt (entry_cmp x.entry.now y.entry.now)
+-- an entry is less than another, by their numbers
+abbrev pub is_before : List Entry → EntryId → EntryId → Bool
+is_before entries x y = is_lt (id_cmp entries x y)
 
--- a closure that compares the entries sorts by their order
-pub IsSortedBy-entries : {F : Type 0} {g : Mut F (Bor Numbered × (Bor Numbered × Unit {0})) Ordering} {f : F} (xs : List Numbered)
-    → ((lt : Numbered → Numbered → Bool) → IsStrictWeakOrder lt → ComparesAs g lt f → IsSortedBy lt xs)
-    → ((a : Bor Numbered × (Bor Numbered × Unit {0})) (r : Ordering) (f' : F) → Called g f a r f' → (r ≡ entry_cmp a.0.now.entry.now a.1.0.now.entry.now) × (f' ≡ f)) → IsSortedBy is_before xs
-IsSortedBy-entries {g = g} {f = f} xs up h =
-    up is_before (ranks_by entry_cmp_total (λ (x : Numbered). x.entry.now))
-    (always_returns_same g (λ a r. is_lt r ≡ is_before a.0.now a.1.0.now) f (λ a r f' k. (ap is_lt (h a r f' k).0, (h a r f' k).1)))
+-- the order of the entries by their numbers is total
+id_cmp_total : (entries : List Entry) → IsStrictWeakOrder (is_before entries)
+id_cmp_total entries = ranks_by (options_total entry_cmp_total) (λ (id : EntryId). slice_get entries id.entry)
 
--- of the entries of a sorted list that are apart, an earlier one is less than a later one
-rising_from_sorted : (xs : List Numbered) → IsSortedBy is_before xs → IsDistinct shares_place (map (λ x. x.entry.now) xs) → (i j : ℕ) (a b : Entry) → i < j → slice_get (map (λ x. x.entry.now) xs) i ≡ Some a → slice_get (map (λ x. x.entry.now) xs) j ≡ Some b → entry_cmp a b ≡ Less
-rising_from_sorted xs up apart i j a b lt ea eb =
-    let entries = map (λ (x : Numbered). x.entry.now) xs in
-    let x = numbered_at xs i a ea in
-    let y = numbered_at xs j b eb in
-    let far : is_before (get_or xs j x.0) (get_or xs i x.0) ≡ false = sorted_far is_before (ranks_by entry_cmp_total (λ (z : Numbered). z.entry.now)) xs up i j x.0 (omega arith) y.1 in
-    let back : is_lt (entry_cmp b a) ≡ false = (λ k. is_lt (entry_cmp (sym (ap (λ (z : Numbered). z.entry.now) (y.2 x.0) ∙ y.3) k) (sym (ap (λ (z : Numbered). z.entry.now) (x.2 x.0) ∙ x.3) k))) ∙ far in
-    let two : shares_place a b ≡ false = (λ k. shares_place (sym (get_or_from_slice_get entries i a a ea) k) (sym (get_or_from_slice_get entries j b a eb) k)) ∙ apart_from_distinct shares_place entries i j a apart lt (slice_get_within entries j b eb) in
-    less_from_apart a b (entry_cmp a b) refl two back
+-- a closure that compares the entries sorts their numbers by their order
+pub IsSortedBy-entries : {F : Type 0} {g : Mut F (Bor EntryId × (Bor EntryId × Unit {0})) Ordering} {f : F} (entries : List Entry) (ids : List EntryId)
+    → ((lt : EntryId → EntryId → Bool) → IsStrictWeakOrder lt → ComparesAs g lt f → IsSortedBy lt ids)
+    → ((a : Bor EntryId × (Bor EntryId × Unit {0})) (r : Ordering) (f' : F) → Called g f a r f' → (r ≡ id_cmp entries a.0.now a.1.0.now) × (f' ≡ f)) → IsSortedBy (is_before entries) ids
+IsSortedBy-entries {g = g} {f = f} entries ids up h =
+    up (is_before entries) (id_cmp_total entries)
+    (always_returns_same g (λ a r. is_lt r ≡ is_before entries a.0.now a.1.0.now) f (λ a r f' k. (ap is_lt (h a r f' k).0, (h a r f' k).1)))
 
--- the numbers of the sorted entries of a context are its ranking
-pub IsRanking-sorted : (context : ℕ) (entries : List Entry) (numbered sorted : List Numbered) (ids : List EntryId)
-    → map numbered_now numbered ≡ numbered_from context 0 entries → IsPermutation numbered sorted → IsSortedBy is_before sorted → AreApart entries → ids ≡ map (λ x. x.id) sorted → IsRanking context entries ids
-IsRanking-sorted context entries numbered sorted ids all moved up apart kept =
-    let ps = numbered_from context 0 entries in
-    let qs = map numbered_now sorted in
-    let now : Numbered → Entry = λ x. x.entry.now in
-    let first : EntryId × Entry → EntryId = λ p. p.0 in
-    let second : EntryId × Entry → Entry = λ p. p.1 in
-    let shuffled : IsPermutation ps qs = subst (λ (l : List (EntryId × Entry)). IsPermutation l qs) all (IsPermutation-map numbered_now numbered sorted moved) in
-    let right = shuffled-right entries ps qs shuffled (numbered_from-right context entries) in
-    let firsts : map first qs ≡ ids = map-map first numbered_now sorted ∙ sym kept in
-    let seconds : map second qs ≡ map now sorted = map-map second numbered_now sorted in
-    let whole : IsPermutation (ids_of context entries) (map first qs) = subst (λ (l : List EntryId). IsPermutation l (map first qs)) (numbered_from-ids context 0 entries) (IsPermutation-map first ps qs shuffled) in
-    let ordered : IsPermutation entries (map now sorted) = subst (λ (l : List Entry). IsPermutation l (map now sorted)) (numbered_from-entries context 0 entries) (subst (IsPermutation (map second ps)) seconds (IsPermutation-map second ps qs shuffled)) in
-    let distinct : IsDistinct shares_place (map now sorted) = IsDistinct-IsPermutation shares_place shares_place-symm entries (map now sorted) ordered apart in
-    let at : (i : ℕ) (a : Entry) → ranked_entry entries ids i ≡ Some a → slice_get (map now sorted) i ≡ Some a = λ i a e. ap (λ (l : List Entry). slice_get l i) (sym seconds) ∙ ranked_entry-pair entries qs right i a (ap (λ (l : List EntryId). ranked_entry entries l i) firsts ∙ e) in
-    record {
-      whole = subst (IsPermutation (ids_of context entries)) firsts whole;
-      rising = λ i j a b lt ea eb. rising_from_sorted sorted up distinct i j a b lt (at i a ea) (at j b eb);
-    }
+-- the entry of a number
+abbrev entry_of : List Entry → Entry → EntryId → Entry
+entry_of entries d id = get_or entries id.entry d
+
+-- the entries of all numbers are the entries
+entries_of_all : (number : ℕ) (entries : List Entry) (d : Entry) → map (entry_of entries d) (ids_of number entries) ≡ entries
+entries_of_all number entries d =
+    map-map (entry_of entries d) (λ (k : ℕ). record { context = number; entry = k }) (range_with_len 0 (length entries))
+    ∙ sym (fill_by_all (λ (k : ℕ). get_or entries k d) entries (length entries) d refl (λ k lt. refl))
+
+-- the number at a place of which an entry is known
+id_at : (entries : List Entry) (ids : List EntryId) (place : ℕ) (a : Entry) → ranked_entry entries ids place ≡ Some a → (id : EntryId) × (slice_get ids place ≡ Some id) × (slice_get entries id.entry ≡ Some a)
+id_at entries [] place a e = absurd (none-some a e)
+id_at entries (id ∷ ids) zero a e = (id, refl, e)
+id_at entries (id ∷ ids) (suc place) a e = id_at entries ids place a e
+
+-- sorted, the numbers of entries that are apart are their ranking
+pub IsRanking-sorted : (number : ℕ) (entries : List Entry) (numbered ids : List EntryId)
+    → numbered ≡ ids_of number entries → IsPermutation numbered ids → IsSortedBy (is_before entries) ids → AreApart entries → IsRanking number entries ids
+IsRanking-sorted number entries numbered ids all shuffled up apart = record {
+  whole = subst (λ (l : List EntryId). IsPermutation l ids) all shuffled;
+  rising = λ i j a b lt ea eb.
+      let x = id_at entries ids i a ea in
+      let y = id_at entries ids j b eb in
+      let within : j < length ids = slice_get_within ids j y.0 y.1 in
+      let now : EntryId → Entry = entry_of entries a in
+      let moved : IsPermutation (ids_of number entries) ids = subst (λ (l : List EntryId). IsPermutation l ids) all shuffled in
+      let ordered : IsPermutation entries (map now ids) = subst (λ (l : List Entry). IsPermutation l (map now ids)) (entries_of_all number entries a) (IsPermutation-map now (ids_of number entries) ids moved) in
+      let distinct : IsDistinct shares_place (map now ids) = IsDistinct-IsPermutation shares_place shares_place-symm entries (map now ids) ordered apart in
+      let at_i : get_or ids i x.0 ≡ x.0 = get_or_from_slice_get ids i x.0 x.0 x.1 in
+      let at_j : get_or ids j x.0 ≡ y.0 = get_or_from_slice_get ids j y.0 x.0 y.1 in
+      let far : is_before entries (get_or ids j x.0) (get_or ids i x.0) ≡ false = sorted_far (is_before entries) (id_cmp_total entries) ids up i j x.0 (omega arith) within in
+      let of_both : id_cmp entries (get_or ids j x.0) (get_or ids i x.0) ≡ entry_cmp b a = (λ k. id_cmp entries (at_j k) (at_i k)) ∙ (λ k. option_cmp entry_cmp (y.2 k) (x.2 k)) in
+      let back : is_lt (entry_cmp b a) ≡ false = sym (ap is_lt of_both) ∙ far in
+      let is_a : get_or (map now ids) i a ≡ a = get_or-map now ids i x.0 a (omega arith) ∙ (ap now at_i ∙ get_or_from_slice_get entries x.0.entry a a x.2) in
+      let is_b : get_or (map now ids) j a ≡ b = get_or-map now ids j x.0 a within ∙ (ap now at_j ∙ get_or_from_slice_get entries y.0.entry b a y.2) in
+      let long : j < length (map now ids) = subst (λ (n : ℕ). j < n) (sym (length-map ids now)) within in
+      let two : shares_place a b ≡ false = (λ k. shares_place (sym is_a k) (sym is_b k)) ∙ apart_from_distinct shares_place (map now ids) i j a distinct lt long in
+      less_from_apart a b (entry_cmp a b) refl two back;
+}
 
 -- ---- the rankings of all contexts
 

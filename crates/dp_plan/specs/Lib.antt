@@ -6,6 +6,7 @@ pub mod Extensions
 pub mod Faults
 pub mod History
 pub mod Items
+pub mod KnownApplications
 pub mod Loaded
 pub mod Loading
 pub mod Lookup

@@ -1,8 +1,8 @@
 -- The entries of a context in the order in which a look-up asks them.
-use Rattle.std.specs.Prelude.{◌≡◌, ℕ, ◌+◌, ◌<◌, Bool, ◌&&◌, ◌==◌, List, [], ◌∷◌, length, map, slice_get, Option, Some}
+use Rattle.std.specs.Prelude.{◌≡◌, ℕ, ◌<◌, Bool, ◌&&◌, ◌==◌, List, length, map, slice_get, Option, Some}
 use Rattle.std.specs.List.{range_with_len, IsDistinct}
 use Rattle.std.specs.List.Sorted.{IsPermutation}
-use Rattle.std.specs.Option.{option_and_then}
+use Rattle.std.specs.Option.{option_and_then, option_cmp}
 use Rattle.std.specs.Ordering.{ordering_then, nat_cmp}
 use Rattle.std.specs.declared.cmp.Ordering.{Ordering}
 use Rattle.std.specs.declared.cmp.Ordering.TheVariants.{Less}
@@ -11,7 +11,6 @@ use Rattle.dp_plan.specs.Contexts.{PlanContext}
 use Rattle.dp_plan.specs.Extensions.{same_name}
 use Rattle.dp_plan.specs.declared.entry.Entry.{Entry}
 use Rattle.dp_plan.specs.declared.entry.EntryId.{EntryId}
-use Rattle.dp_plan.specs.declared.ranking.Numbered.{Numbered}
 
 -- entries are in the order of their names, and those of one name in the order of their priorities
 abbrev pub entry_cmp : Entry → Entry → Ordering
@@ -25,19 +24,17 @@ shares_place a b = same_name a.name b.name && a.priority == b.priority
 abbrev pub AreApart : List Entry → Type 0
 AreApart = IsDistinct shares_place
 
+-- the numbers of so many entries of a context, in the order of the file
+abbrev pub numbers_of : ℕ → ℕ → List EntryId
+numbers_of number count = map (λ k. record { context = number; entry = k }) (range_with_len 0 count)
+
 -- the numbers of the entries of a context, in the order of the file
 abbrev pub ids_of : ℕ → List Entry → List EntryId
-ids_of number entries = map (λ k. record { context = number; entry = k }) (range_with_len 0 (length entries))
+ids_of number entries = numbers_of number (length entries)
 
--- the entries of a context beside their numbers, counted from one on
-abbrev pub numbered_from : ℕ → ℕ → List Entry → List (EntryId × Entry)
-numbered_from context number [] = []
-numbered_from context number (entry ∷ entries) =
-    (record { context = context; entry = number }, entry) ∷ numbered_from context (number + 1) entries
-
--- what is kept of an entry and its number
-abbrev pub numbered_now : Numbered → EntryId × Entry
-numbered_now numbered = (numbered.id, numbered.entry.now)
+-- the order of two entries by their numbers, where a number of none comes first
+abbrev pub id_cmp : List Entry → EntryId → EntryId → Ordering
+id_cmp entries a b = option_cmp entry_cmp (slice_get entries a.entry) (slice_get entries b.entry)
 
 -- the entry whose number stands at the place
 abbrev pub ranked_entry : List Entry → List EntryId → ℕ → Option Entry

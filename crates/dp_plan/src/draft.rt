@@ -35,7 +35,7 @@ pub(crate) struct Slot {
 #[derive(PartialEq, Eq, Hash, Drop)]
 pub(crate) struct Label {
     extension: Extension,
-    label: Text,
+    label: SharedText,
 }
 
 /// What the items so far make: the parts of a dialplan, the places and labels that are taken, and the notes.
@@ -80,7 +80,7 @@ fn slot_of(context: &SharedText, entry: &Entry) -> Result<Slot, NoMemory>
 }
 
 /// The label of an entry in its context.
-fn label_of(context: &SharedText, entry: &Entry, label: &Text) -> Result<Label, NoMemory>
+fn label_of(context: &SharedText, entry: &Entry, label: &SharedText) -> Result<Label, NoMemory>
     ensures { IfOk result (λ marked. marked ≡ spec.label_in context.now entry.now label.now) }
 {
     let extension = Extension::of(context, &entry.name)?;
@@ -96,7 +96,7 @@ struct Claim {
 }
 
 /// What an entry with this label takes of its context.
-fn claim_of(context: &SharedText, entry: &Entry, label: &Text) -> Result<Claim, NoMemory>
+fn claim_of(context: &SharedText, entry: &Entry, label: &SharedText) -> Result<Claim, NoMemory>
     ensures slot { IfOk result (λ claim. claim.slot ≡ spec.slot_of context.now entry.now) }
     ensures label { IfOk result (λ claim. claim.label ≡ spec.label_in context.now entry.now label.now) }
 {

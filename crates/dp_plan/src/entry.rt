@@ -1,7 +1,9 @@
 //! The entries of a context.
 use crate::priority::Priority;
 use crate::shared_name::SharedName;
-use dp_conf::{ShallowText, Text};
+use crate::shared_text::SharedText;
+use dp_conf::ShallowText;
+use std::mem::size_of;
 
 /// An entry of a context: at this priority of this extension the application is run with these arguments.
 #[derive(Debug, Drop)]
@@ -10,12 +12,15 @@ pub struct Entry {
     pub name: SharedName,
     pub priority: Priority,
     /// The name that the priority has beside its number, where it has one.
-    pub label: Option<Text>,
-    /// The application's name, as it is written.
-    pub application: Text,
+    pub label: Option<SharedText>,
+    /// The application's name, as it is written. Entries that write it alike hold it once.
+    pub application: SharedText,
     /// The bytes between the parentheses of the application, not expanded.
     pub arguments: ShallowText,
 }
+
+// A dialplan holds an entry for each line, so its size counts.
+const _: () = prove!(size_of::<Entry>() == 64);
 
 /// Which entry of a dialplan is meant: the number of its context in the order of first appearance, and its own in the
 /// order of the file, both from 0.

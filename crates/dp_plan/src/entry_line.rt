@@ -15,7 +15,7 @@ use crate::priority::Priority;
 use crate::reader::Reader;
 use crate::shared_name::SharedName;
 use crate::shared_text::SharedText;
-use dp_conf::{NoMemory, Text, cut_once, trim};
+use dp_conf::{NoMemory, cut_once, trim};
 use std::alloc::Global;
 
 /// The fault of a line.
@@ -26,13 +26,13 @@ fn fault(line: usize, kind: PlanKind) -> LoadFault
 }
 
 /// A copy of the text, where there is one.
-fn copy_label(alloc: Global, label: Option<&[u8]>) -> Result<Option<Text>, NoMemory>
+fn copy_label(alloc: Global, label: Option<&[u8]>) -> Result<Option<SharedText>, NoMemory>
     ensures { IfOk result (λ copy. copy ≡ option_map (λ label. label.now) label.entry) }
 {
     match label {
         None => Ok(None),
         Some(label) => {
-            let copy = Text::copy_of(alloc, label)?;
+            let copy = SharedText::copy_of(alloc, label)?;
             Ok(Some(copy))
         }
     }
@@ -85,7 +85,7 @@ fn read_named(
     };
     let arguments = read_shallow(alloc, line, called.arguments)?;
     let label = copy_label(alloc, numbering.label)?;
-    let application = Text::copy_of(alloc, called.name)?;
+    let application = reader.application(alloc, called.name)?;
     Ok(Entry {
         name,
         priority,

@@ -38,13 +38,6 @@ impl Ranking {
     }
 }
 
-/// An entry beside its number.
-#[derive(Clone, Copy)]
-pub(crate) struct Numbered<'a> {
-    id: EntryId,
-    entry: &'a Entry,
-}
-
 /// The order of two entries: by their names, and then by their priorities.
 fn compare_entries(left: &Entry, right: &Entry) -> Ordering
     ensures { result ≡ spec.entry_cmp left.now right.now }
@@ -54,30 +47,25 @@ fn compare_entries(left: &Entry, right: &Entry) -> Ordering
     )
 }
 
-/// The entries of a context beside their numbers, in the order of the file.
-fn number_entries(
-    alloc: Global,
-    context: usize,
-    entries: &[Entry],
-) -> Result<Vec<Numbered<'_>>, NoMemory>
-    ensures { IfOk result (λ numbered. map spec.numbered_now numbered.items ≡ spec.numbered_from context 0 entries.now) }
+/// The order of two entries by their numbers.
+fn compare_ids(entries: &[Entry], left: EntryId, right: EntryId) -> Ordering
+    ensures { result ≡ spec.id_cmp entries.now left right }
 {
-    let mut numbered = Vec::with_capacity(alloc, entries.len())?;
-    for (number, entry) in entries.iter().enumerate() {
-        let id = EntryId {
-            context,
-            entry: number,
-        };
-        numbered.push(Numbered { id, entry })?;
+    match (entries.get(left.entry), entries.get(right.entry)) {
+        (Some(left), Some(right)) => compare_entries(left, right),
+        (Some(_), None) => Ordering::Greater,
+        (None, Some(_)) => Ordering::Less,
+        (None, None) => Ordering::Equal,
     }
-    Ok(numbered)
 }
 
-/// The numbers of the entries in their order.
-fn ids_of(alloc: Global, numbered: &[Numbered<'_>]) -> Result<Vec<EntryId>, NoMemory>
-    ensures { IfOk result (λ ids. ids.items ≡ map (λ x. x.id) numbered.now) }
+/// The numbers of the entries of a context, in the order of the file.
+fn number_entries(alloc: Global, context: usize, count: usize) -> Result<Vec<EntryId>, NoMemory>
+    ensures { IfOk result (λ ids. ids.items ≡ spec.numbers_of context count) }
 {
-    numbered.iter().map(|numbered| numbered.id).collect(alloc)
+    (0..count)
+        .map(|entry| EntryId { context, entry })
+        .collect(alloc)
 }
 
 /// The ranking of the entries of a context.
@@ -85,9 +73,8 @@ fn rank(alloc: Global, context: usize, entries: &[Entry]) -> Result<Ranking, NoM
     requires { spec.AreApart entries.now }
     ensures { IfOk result (λ ranking. spec.IsRanking context entries.now ranking) }
 {
-    let mut numbered = number_entries(alloc, context, entries)?;
-    numbered.sort_by(|left, right| compare_entries(left.entry, right.entry))?;
-    let ids = ids_of(alloc, &numbered)?;
+    let mut ids = number_entries(alloc, context, entries.len())?;
+    ids.sort_unstable_by(|left, right| compare_ids(entries, *left, *right));
     Ok(Ranking { ids })
 }
 

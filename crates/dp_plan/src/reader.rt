@@ -6,6 +6,7 @@ ghost use Rattle.dp_plan.specs.Reader as spec;
 use crate::entry::Entry;
 use crate::extension::Extension;
 use crate::item::Item;
+use crate::known_applications::KnownApplications;
 use crate::priority::Priority;
 use crate::section::Section;
 use crate::shared_name::SharedName;
@@ -16,12 +17,14 @@ use std::alloc::Global;
 use std::marker::Model;
 
 /// The section of the next line, the name of the last extension since its header, and each extension with its last
-/// priority.
+/// priority. Beside it stand the names of applications that the lines so far have written, of which a contract sees
+/// nothing.
 #[derive(Drop)]
 pub(crate) struct Reader {
     section: Section,
     name: Option<SharedName>,
     priorities: IndexMap<Extension, Priority>,
+    applications: KnownApplications,
 }
 
 impl Model for Reader {
@@ -45,6 +48,7 @@ impl Reader {
             section: Section::General,
             name: None,
             priorities: IndexMap::new(alloc),
+            applications: KnownApplications::new(alloc),
         }
     }
 
@@ -74,6 +78,13 @@ impl Reader {
         Ok(self.priorities.get(&extension).copied())
     }
 
+    /// The name of an application, which is one of the reader's where a line before has written it so.
+    pub(crate) fn application(&self, alloc: Global, name: &[u8]) -> Result<SharedText, NoMemory>
+        ensures { IfOk result (λ application. application ≡ name.now) }
+    {
+        self.applications.shared(alloc, name)
+    }
+
     /// Goes behind a header.
     fn begin(&mut self, section: &Section) -> Result<(), NoMemory>
         ensures { OnOk result (self.new ≡ spec.behind self.old (Item.Begins section.now)) }
@@ -95,6 +106,7 @@ impl Reader {
         let extension = Extension::of(context, &entry.name)?;
         let name = entry.name.clone()?;
         self.priorities.insert(extension, entry.priority)?;
+        self.applications.keep(&entry.application)?;
         self.name = Some(name);
         Ok(())
     }

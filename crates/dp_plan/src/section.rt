@@ -3,7 +3,7 @@ ghost use Rattle.std.specs.Prelude.{◌≡◌, IfOk};
 ghost use Rattle.dp_plan.specs.Items.{section_named};
 
 use crate::shared_text::SharedText;
-use dp_conf::{NoMemory, Text, same_word};
+use dp_conf::{NoMemory, same_word};
 use std::alloc::Global;
 
 /// What the lines of a section are read as.
@@ -28,8 +28,7 @@ impl Section {
         if same_word(name, b"globals") {
             return Ok(Section::Globals);
         }
-        let name = Text::copy_of(alloc, name)?;
-        let name = SharedText::new(alloc, name)?;
+        let name = SharedText::copy_of(alloc, name)?;
         Ok(Section::Context(name))
     }
 }

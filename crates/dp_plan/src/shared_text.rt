@@ -1,45 +1,66 @@
 //! A text that is held once by all that name it.
-ghost use Rattle.std.specs.Prelude.{◌≡◌, IfOk, nat_eq};
+ghost use Rattle.std.specs.Prelude.{◌≡◌, IfOk, nat_eq, Some};
 ghost use Rattle.std.specs.Hash as fed;
 ghost use Rattle.std.specs.Cmp.Lexicographic.{pointwise, nat_list_eq_equiv};
 ghost use Rattle.std.specs.Cmp.{partial_equiv_from_equiv};
 ghost use Rattle.std.specs.Cmp.Rules.{hashing};
 ghost use Rattle.std.proofs.Common.{rules};
+ghost use Rattle.dp_conf.specs.Printed.{printed_text};
 
 use dp_conf::{NoMemory, Text};
 use std::alloc::Global;
+use std::fmt;
 use std::hash::{Hash, Hasher};
 use std::marker::Model;
-use std::rc::Rc;
+use std::sync::Arc;
 
-/// A text with several owners, whose copies take no memory. A contract sees it as its bytes.
-#[derive(Drop)]
-pub(crate) struct SharedText {
-    text: Rc<Text>,
+/// A text with several owners, whose copies take no memory. A contract sees it as its bytes, and two are equal where
+/// these are.
+#[derive(Debug, Drop)]
+pub struct SharedText {
+    text: Arc<Text>,
 }
 
 impl Model for SharedText {
     ghost use Rattle.std.specs.Prelude.{ℕ, List};
+    ghost use Rattle.std.specs.Arc.{arc_value};
 
     ghost Value = { List ℕ };
 
-    ghost view = { λ shared. shared.text.value };
+    ghost view = { λ shared. arc_value shared.text };
 }
 
 impl SharedText {
     /// The text, for its owners to come.
-    pub(crate) fn new(alloc: Global, text: Text) -> Result<Self, NoMemory>
+    ///
+    /// The error comes only where a growth was refused.
+    pub fn new(alloc: Global, text: Text) -> Result<Self, NoMemory>
         ensures { IfOk result (λ shared. shared ≡ text) }
     {
-        let text = Rc::new(alloc, text)?;
+        let text = Arc::new(alloc, text)?;
         Ok(SharedText { text })
     }
 
+    /// A text of the same bytes, for its owners to come.
+    pub(crate) fn copy_of(alloc: Global, bytes: &[u8]) -> Result<Self, NoMemory>
+        ensures { IfOk result (λ shared. shared ≡ bytes.now) }
+    {
+        let text = Text::copy_of(alloc, bytes)?;
+        SharedText::new(alloc, text)
+    }
+
     /// The text.
-    pub(crate) fn text(&self) -> &Text
+    pub fn text(&self) -> &Text
         ensures { result.now ≡ self.now }
     {
         &self.text
+    }
+
+    /// The bytes of the text.
+    pub fn bytes(&self) -> &[u8]
+        ensures { result.now ≡ self.now }
+    {
+        self.text.bytes()
     }
 }
 
@@ -75,5 +96,13 @@ impl Hash for SharedText {
 
     fn hash<H: Hasher>(&self, state: &mut H) {
         self.text().hash(state);
+    }
+}
+
+impl fmt::Display for SharedText {
+    ghost output = { λ shared. Some (printed_text shared) };
+
+    fn fmt<W: fmt::Write>(&self, f: &mut fmt::Formatter<W>) -> fmt::Result {
+        fmt::Display::fmt(self.text(), f)
     }
 }

@@ -1,13 +1,14 @@
 //! The nodes of a tree of patterns.
-use dp_lookup::{EntryId, Text};
+use dp_lookup::EntryId;
 use dp_pattern::{Class, Tail};
+use dp_plan::SharedText;
 
 /// What a look-up reads of an entry beside its name.
 #[derive(Debug, Drop)]
 pub(crate) struct Held {
     pub(crate) id: EntryId,
     pub(crate) priority: u32,
-    pub(crate) label: Option<Text>,
+    pub(crate) label: Option<SharedText>,
 }
 
 /// The end of a pattern: its tail, and which of the entries that are held are its own, from one place up to another.

@@ -1,7 +1,8 @@
 //! Loaded dialplans and faults, rendered as one line of text.
 use crate::table::{Question, bytes_of};
 use dp_plan::{
-    ConfFault, Context, Dialplan, Entry, LoadFault, Name, NoMemory, Note, PlanKind, Text,
+    ConfFault, Context, Dialplan, Entry, LoadFault, Name, NoMemory, Note, PlanKind, SharedText,
+    Text,
 };
 use std::alloc::Global;
 use std::test::Fail;
@@ -24,7 +25,7 @@ pub(super) fn push_name(out: &mut String, alloc: Global, name: &Name) -> Result<
     write!(out, "{spelled}")
 }
 
-pub(super) fn push_label(out: &mut String, label: &Option<Text>) -> Result<(), NoMemory> {
+pub(super) fn push_label(out: &mut String, label: &Option<SharedText>) -> Result<(), NoMemory> {
     match label {
         Some(label) => write!(out, "({label})"),
         None => Ok(()),

@@ -1,0 +1,75 @@
+//! The names of applications that lines have written, each held once.
+ghost use Rattle.std.specs.Prelude.{◌≡◌, [], IfOk, IfSome, OnOk};
+ghost use Rattle.dp_plan.specs.KnownApplications.{is_known, kept};
+
+use crate::shared_text::SharedText;
+use dp_conf::NoMemory;
+use std::alloc::Global;
+use std::marker::Model;
+
+/// The most names that are held, so that a look among them stays short (a choice of this program).
+const MOST_KNOWN: usize = 32;
+
+/// The first names of applications as they are written, at most 32. Lines that write one of them own its text together. A
+/// contract sees the names in the order in which they came.
+#[derive(Drop)]
+pub(crate) struct KnownApplications {
+    names: Vec<SharedText>,
+}
+
+impl Model for KnownApplications {
+    ghost use Rattle.std.specs.Prelude.{ℕ, List, ◌≤◌, length};
+
+    ghost Value = { List (List ℕ) };
+
+    ghost view = { λ known. known.names.items };
+
+    ghost invariant = { λ known. length known.names.items ≤ 32 };
+}
+
+impl KnownApplications {
+    /// No name.
+    pub(crate) fn new(alloc: Global) -> Self
+        ensures { result ≡ [] }
+    {
+        KnownApplications {
+            names: Vec::new(alloc),
+        }
+    }
+
+    /// The name that is written so, where it is held.
+    fn find(&self, name: &[u8]) -> Option<&SharedText>
+        ensures { IfSome result (λ known. known.now ≡ name.now) }
+    {
+        self.names.iter().find(|known| known.bytes() == name)
+    }
+
+    /// The name with its owners where it is held, and a text of its own where it is not.
+    pub(crate) fn shared(&self, alloc: Global, name: &[u8]) -> Result<SharedText, NoMemory>
+        ensures { IfOk result (λ shared. shared ≡ name.now) }
+    {
+        match self.find(name) {
+            Some(known) => known.clone(),
+            None => SharedText::copy_of(alloc, name),
+        }
+    }
+
+    /// Whether a name is held that is written so.
+    fn is_known(&self, name: &SharedText) -> bool
+        ensures { result ≡ is_known self.now name.now }
+    {
+        self.names.contains(name)
+    }
+
+    /// Holds the name too, unless it is held or there are 32 already.
+    pub(crate) fn keep(&mut self, name: &SharedText) -> Result<(), NoMemory>
+        ensures { OnOk result (self.new ≡ kept self.old name.now) }
+    {
+        if self.names.len() >= MOST_KNOWN || self.is_known(name) {
+            return Ok(());
+        }
+        let name = name.clone()?;
+        self.names.push(name)?;
+        Ok(())
+    }
+}
