@@ -28,6 +28,7 @@ pub(crate) const LOADED: &[&str] = &[
     plans::GROUPS,
     plans::PRIORITIES,
     plans::APPLICATIONS,
+    plans::NAMES_OF_APPLICATIONS,
     plans::WHOLE,
     names::PLAIN,
     names::PATTERNS,
