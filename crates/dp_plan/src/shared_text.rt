@@ -16,7 +16,7 @@ use std::sync::Arc;
 
 /// A text with several owners, whose copies take no memory. A contract sees it as its bytes, and two are equal where
 /// these are.
-#[derive(Debug, Drop)]
+#[derive(Drop)]
 pub struct SharedText {
     text: Arc<Text>,
 }
@@ -96,6 +96,12 @@ impl Hash for SharedText {
 
     fn hash<H: Hasher>(&self, state: &mut H) {
         self.text().hash(state);
+    }
+}
+
+impl fmt::Debug for SharedText {
+    fn fmt<W: fmt::Write>(&self, f: &mut fmt::Formatter<W>) -> fmt::Result {
+        fmt::Debug::fmt(self.text(), f)
     }
 }
 
