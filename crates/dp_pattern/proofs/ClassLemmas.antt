@@ -1,6 +1,5 @@
 -- Classes by their tests.
 use Rattle.std.proofs.Common.{◌≡◌, ℕ, zero, suc, ◌+◌, ◌<◌, ◌≤◌, ◌/◌, ◌%◌, Bool, true, false, cond, ◌&&◌, ◌||◌, ◌==◌, nat_le, List, [], ◌∷◌, slice_index, codes, ◌≢◌, true≢false, eqb-true, ne_eqb, eq-eqb, refl, sym, ap, ◌∙◌, arith}
-use Rattle.std.proofs.lemmas.Bool.Decides.{nat_tests}
 use Rattle.std.specs.List.{filter, range_with_len, list_any}
 use Rattle.std.specs.Int.{bit_at}
 use Rattle.std.proofs.lemmas.Nat.Bits.{bit_at-zero}
@@ -39,10 +38,9 @@ filter_range-one a low (suc n) from to = by_test (filter_range-one a (low + 1) n
         ap (λ t. cond t (low ∷ filter (λ b. a == b) (range_with_len (low + 1) n)) (filter (λ b. a == b) (range_with_len (low + 1) n))) e ∙ later (omega arith) (omega arith)
 
 -- the class of one byte
-pub class_by-one : (a : ℕ) → a < 256 → class_by (λ b. nat_le a b && nat_le b a) ≡ a ∷ []
+pub class_by-byte : (a : ℕ) → a < 256 → class_by (λ b. a == b) ≡ a ∷ []
 unfolding byte_count
-class_by-one a below =
-    class_by-same (λ b. nat_le a b && nat_le b a) (λ b. a == b) (λ b _. grind (arith, nat_tests)) ∙ filter_range-one a 0 256 (omega arith) below
+class_by-byte a below = filter_range-one a 0 256 (omega arith) below
 
 -- a class that is kept as four words of no bits is empty
 pub has_bit-empty : (b : ℕ) → has_bit (0 ∷ 0 ∷ 0 ∷ 0 ∷ []) b ≡ false

@@ -2,6 +2,7 @@ pub mod ClassLemmas
 pub mod DashLemmas
 pub mod GoesOnLemmas
 pub mod ItemLemmas
+pub mod KeptLemmas
 pub mod OrderLemmas
 pub mod PieceLemmas
 pub mod SpelledBytes

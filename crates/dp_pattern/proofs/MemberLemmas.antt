@@ -52,11 +52,31 @@ each_greater b xs q low (suc n) above long = by_test (each_greater b xs q (low +
         ap (λ o. ordering_then o (slice_cmp nat_cmp behind xs)) first
     by_test later false long = later long
 
+-- the members from a byte on are all members where none stands before it
+pub members_from-first : (p : ℕ → Bool) (b : ℕ) → b ≤ 256 → ((k : ℕ) → k < b → p k ≡ false) → members_from p b ≡ class_by p
+members_from-first p zero within none = members_from-all p
+members_from-first p (suc b) within none =
+    let here : p b ≡ false = none b (omega arith) in
+    let next : suc b ≡ b + 1 = omega arith in
+    ap (members_from p) next
+    ∙ sym (members_from-step p b (omega arith) ∙ ap (λ t. cond t (b ∷ members_from p (b + 1)) (members_from p (b + 1))) here)
+    ∙ members_from-first p b (omega arith) (λ k below. none k (omega arith))
+
 -- ---- two classes of one size
 
 pub record AreLevel (p q : ℕ → Bool) (b : ℕ) : Type 0 where
   pub order : slice_cmp nat_cmp (members_from p b) (members_from q b) ≡ slice_cmp nat_cmp (class_by p) (class_by q)
   pub sizes : length (members_from p b) ≡ length (members_from q b)
+
+-- where neither class has a byte before
+pub level-first : (p q : ℕ → Bool) (b : ℕ) → b ≤ 256 → ((k : ℕ) → k < b → p k ≡ false) → ((k : ℕ) → k < b → q k ≡ false) → length (class_by p) ≡ length (class_by q) → AreLevel p q b
+level-first p q b within none_left none_right long =
+    let left = members_from-first p b within none_left in
+    let right = members_from-first q b within none_right in
+    record {
+      order = λ i. slice_cmp nat_cmp (left i) (right i);
+      sizes = ap length left ∙ long ∙ sym (ap length right);
+    }
 
 module _ (p q : ℕ → Bool) (b : ℕ) (below : b < 256) (level : AreLevel p q b) where
   taken : (f : ℕ → Bool) (t : Bool) → f b ≡ t → members_from f b ≡ cond t (b ∷ members_from f (b + 1)) (members_from f (b + 1))

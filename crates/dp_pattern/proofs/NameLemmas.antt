@@ -8,7 +8,7 @@ use Rattle.dp_pattern.specs.Dashes.{is_dash}
 use Rattle.dp_pattern.specs.Name.{Piece, Dash, Wild, Byte, Set, Unclosed, is_bad, is_one_of, class_of, is_end, set_piece, set_size, piece_of, pieces_after, pieces_of}
 use Rattle.dp_pattern.specs.declared.fault.NameFault.TheVariants.{BadByte}
 use Rattle.dp_pattern.specs.declared.tail.Tail.TheVariants.{Dot, Bang}
-use Rattle.dp_pattern.proofs.ClassLemmas.{class_by-digits, class_by-digits_from_1, class_by-digits_from_2, class_by-one}
+use Rattle.dp_pattern.proofs.ClassLemmas.{class_by-digits, class_by-digits_from_1, class_by-digits_from_2, class_by-byte}
 use Rattle.dp_pattern.proofs.PieceLemmas.{pieces_of-set, pieces_of-byte}
 
 -- a byte that a class may have
@@ -102,8 +102,8 @@ digits_from first class above below e = record {
 
 single : (b : ℕ) → b < 256 → IsMember b → IsClass (b ∷ [])
 single b below member = record {
-  test = λ a. nat_le b a && nat_le a b;
-  listed = sym (class_by-one b below);
+  test = λ a. b == a;
+  listed = sym (class_by-byte b below);
   first = b;
   below = below;
   passes = grind (arith, nat_tests);

@@ -14,7 +14,7 @@ use Rattle.dp_pattern.proofs.MemberLemmas.{members_from}
 -- ---- a class by its words
 
 -- a range is its front and what stands behind it
-filter_range-append : (p : ℕ → Bool) (low n next m : ℕ) → low + n ≡ next → filter p (range_with_len low (n + m)) ≡ filter p (range_with_len low n) ++ filter p (range_with_len next m)
+pub filter_range-append : (p : ℕ → Bool) (low n next m : ℕ) → low + n ≡ next → filter p (range_with_len low (n + m)) ≡ filter p (range_with_len low n) ++ filter p (range_with_len next m)
 filter_range-append p low zero next m there =
     let here : low ≡ next = omega arith in
     let long : 0 + m ≡ m = omega arith in
@@ -89,6 +89,14 @@ without_lowest word = bit_and word (bit_not w64 (1 * 2 ^ lowest word % 2 ^ 64))
 module _ (word : ℕ) (some : 0 < word) (fits : word < 2 ^ 64) where
   is_lowest : (lowest word < 64) × (bit_at word (lowest word) ≡ 1) × ((i : ℕ) → i < lowest word → bit_at word i ≡ 0)
   is_lowest = bit_at-trailing_zeros w64 word some fits
+
+  -- the lowest bit of a word is a member
+  pub has_bit-lowest : (words : List ℕ) (k : ℕ) → slice_index words k ≡ word → has_bit words (64 * k + lowest word) ≡ true
+  has_bit-lowest words k here =
+      let within = is_lowest.0 in
+      let place : (64 * k + lowest word) / 64 ≡ k = omega arith in
+      let bit : (64 * k + lowest word) % 64 ≡ lowest word = omega arith in
+      (λ i. bit_at (slice_index words (place i)) (bit i) == 1) ∙ ap (λ w. bit_at w (lowest word) == 1) here ∙ ap (λ n. n == 1) is_lowest.1
 
   cleared : bit_at (without_lowest word) (lowest word) ≡ 0
   cleared = bit_at_clear_same w64 word (lowest word) is_lowest.0

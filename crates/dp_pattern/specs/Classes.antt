@@ -1,7 +1,10 @@
 -- A class is a finite set of bytes, written as its members in byte order.
-use Rattle.std.specs.Prelude.{ℕ, ◌-◌, ◌/◌, ◌%◌, Bool, ◌==◌, List, slice_index}
+use Rattle.std.specs.Prelude.{ℕ, ◌-◌, ◌/◌, ◌%◌, Bool, ◌==◌, ◌&&◌, nat_le, List, slice_index}
 use Rattle.std.specs.List.{filter, range_with_len}
 use Rattle.std.specs.Int.{bit_at}
+use Rattle.std.specs.Str.{byte}
+use Rattle.dp_pattern.specs.declared.members.Members.{Members}
+use Rattle.dp_pattern.specs.declared.members.Members.TheVariants.{Byte, Digits, Words}
 
 -- how many bytes there are
 unfoldable pub byte_count : ℕ
@@ -26,3 +29,17 @@ word_bytes = 64
 -- the members of a class among the bytes that one word stands for, from a first one on
 abbrev pub members_in : ℕ → ℕ → List ℕ
 members_in word first = filter (λ b. bit_at word (b - first) == 1) (range_with_len first word_bytes)
+
+-- bit k of the mask stands for the byte `0` + k
+abbrev pub has_digit : ℕ → ℕ → Bool
+has_digit mask b = nat_le (byte "0") b && bit_at mask (b - byte "0") == 1
+
+-- whether a class that is kept so has the byte
+abbrev pub has_member : Members → ℕ → Bool
+has_member (Byte a) b = a == b
+has_member (Digits mask) b = has_digit mask b
+has_member (Words words) b = has_bit words.value b
+
+-- the members of a class that is kept so
+abbrev pub kept_members : Members → List ℕ
+kept_members members = class_by (has_member members)

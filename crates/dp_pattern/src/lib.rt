@@ -18,12 +18,14 @@ mod class;
 mod dashes;
 mod fault;
 mod matching;
+mod members;
 mod name;
 mod order;
 mod reading;
 mod spelling;
 mod tail;
 mod walk;
+mod words;
 
 pub use class::{Class, compare_classes};
 pub use fault::{NameFault, PatternFault};

@@ -79,7 +79,7 @@ fn read_parts(alloc: Global, text: &[u8]) -> Result<(Vec<Class>, Tail), PatternF
             Piece::Wild(tail) if only_dashes(behind) => return Ok((classes, tail)),
             Piece::Wild(_) => return Err(PatternFault::Name(NameFault::AfterWildcard)),
             Piece::Byte(byte) => classes.push(class_of(byte)?)?,
-            Piece::Set(bytes) => classes.push(class_of_set(bytes)?)?,
+            Piece::Set(bytes) => classes.push(class_of_set(alloc, bytes)?)?,
             Piece::Unclosed => return Err(PatternFault::Name(NameFault::OpenSet)),
         }
         rest = behind;

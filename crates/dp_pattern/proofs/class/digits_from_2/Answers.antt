@@ -1,6 +1,5 @@
-use Rattle.std.proofs.Common.{◌∙◌}
-use Rattle.dp_pattern.proofs.ClassLemmas.{class_by-digits_from_2}
+use Rattle.dp_pattern.proofs.KeptLemmas.{mask-digits_from_2}
 use Rattle.dp_pattern.proofs.class.digits_from_2.Goals as goal
 
 pub returns : goal.returns
-returns c = c.range.ensures ∙ class_by-digits_from_2
+returns c = mask-digits_from_2

@@ -1,0 +1,188 @@
+//! The members of a class, in as little room as they take.
+ghost use Rattle.std.specs.Prelude.{◌≡◌, ℕ, ◌<◌, ◌==◌, ◌++◌, length, false, true, IsTrue, IfOk, IfSome, OnOk};
+ghost use Rattle.std.specs.Ordering.{nat_cmp};
+ghost use Rattle.std.specs.Cmp.Lexicographic.{slice_cmp};
+ghost use Rattle.dp_pattern.specs.Classes.{class_by, has_bit, has_digit, has_member, kept_members, members_of};
+ghost use Rattle.dp_pattern.specs.Order.{class_cmp};
+
+use crate::words::{bit_of, has, push_members, push_word, size};
+use std::alloc::{AllocError, Global};
+use std::cmp::Ordering;
+
+/// The members of a class: one byte, some of the digits, or any bytes.
+#[derive(Debug, Drop)]
+pub(crate) enum Members {
+    /// One byte.
+    Byte(u8),
+    /// Bit k stands for the byte `0` + k, a digit or one of the six bytes behind the digits.
+    Digits(u16),
+    /// Bit k of word w stands for the byte 64 * w + k.
+    Words(Box<[u64; 4]>),
+}
+
+// Whether the mask has the byte.
+#[tactic(auto, using(crate::proofs::KeptLemmas::outside_mask))]
+fn has_digit(mask: u16, byte: u8) -> bool
+    ensures { result ≡ has_digit mask byte }
+{
+    match byte {
+        b'0'..=b'?' => bit_of(u64::from(mask), usize::from(byte - b'0')),
+        _ => false,
+    }
+}
+
+// The mask of the members, where it has each of them.
+fn mask_of(words: &[u64; 4]) -> Option<u16>
+    ensures { IfSome result (λ mask. members_of words.now ≡ class_by (has_digit mask)) }
+{
+    match *words {
+        [first, 0, 0, 0] if first % (1 << 48) == 0 => Some((first >> 48) as u16),
+        _ => None,
+    }
+}
+
+// The first member.
+fn first_of(words: &[u64; 4]) -> Option<u8>
+    ensures { IfSome result (λ byte. has_bit words.now byte ≡ true) }
+{
+    for place in 0..4 {
+        let word = words[usize::from(place)];
+        if word != 0 {
+            return Some(64 * place + word.trailing_zeros() as u8);
+        }
+    }
+    None
+}
+
+// The only member.
+fn only_of(words: &[u64; 4]) -> Option<u8>
+    ensures { IfSome result (λ byte. members_of words.now ≡ class_by (λ b. byte == b)) }
+{
+    match first_of(words) {
+        Some(byte) if size(words) == 1 => Some(byte),
+        _ => None,
+    }
+}
+
+// Two classes of one size, by their members in byte order.
+fn compare_members(left: &Members, right: &Members) -> Ordering
+    requires { length (kept_members left.now) ≡ length (kept_members right.now) }
+    ensures { result ≡ slice_cmp nat_cmp (kept_members left.now) (kept_members right.now) }
+{
+    for byte in left.least().min(right.least())..=u8::MAX {
+        let in_left = left.has(byte);
+        let in_right = right.has(byte);
+        if in_left != in_right {
+            return if in_left {
+                Ordering::Less
+            } else {
+                Ordering::Greater
+            };
+        }
+    }
+    Ordering::Equal
+}
+
+impl Members {
+    /// The members that the words have.
+    pub(crate) fn of_words(alloc: Global, words: [u64; 4]) -> Result<Members, AllocError>
+        ensures { IfOk result (λ members. kept_members members ≡ members_of words) }
+    {
+        if let Some(byte) = only_of(&words) {
+            return Ok(Members::Byte(byte));
+        }
+        if let Some(mask) = mask_of(&words) {
+            return Ok(Members::Digits(mask));
+        }
+        let words = Box::new(alloc, words)?;
+        Ok(Members::Words(words))
+    }
+
+    /// The same members once more.
+    pub(crate) fn copy(&self) -> Result<Members, AllocError>
+        ensures { IfOk result (λ copy. kept_members copy ≡ kept_members self.now) }
+    {
+        match self {
+            Members::Byte(byte) => Ok(Members::Byte(*byte)),
+            Members::Digits(mask) => Ok(Members::Digits(*mask)),
+            Members::Words(words) => {
+                let words = words.clone()?;
+                Ok(Members::Words(words))
+            }
+        }
+    }
+
+    /// Whether the byte is a member.
+    pub(crate) fn has(&self, byte: u8) -> bool
+        ensures { result ≡ has_member self.now byte }
+    {
+        match self {
+            Members::Byte(only) => *only == byte,
+            Members::Digits(mask) => has_digit(*mask, byte),
+            Members::Words(words) => has(words, usize::from(byte)),
+        }
+    }
+
+    // A byte that no member stands before.
+    fn least(&self) -> u8
+        ensures { (b : ℕ) → b < result → has_member self.now b ≡ false }
+    {
+        match self {
+            Members::Byte(only) => *only,
+            Members::Digits(_) => b'0',
+            Members::Words(_) => 0,
+        }
+    }
+
+    // How many members there are.
+    fn size(&self) -> usize
+        ensures { result ≡ length (kept_members self.now) }
+    {
+        match self {
+            Members::Byte(only) => {
+                let _only = *only;
+                1
+            }
+            Members::Digits(mask) => mask.count_ones() as usize,
+            Members::Words(words) => size(words),
+        }
+    }
+
+    // Whether both are kept alike, and so have the same members.
+    fn is_kept_as(&self, other: &Members) -> bool
+        ensures { IsTrue result → kept_members self.now ≡ kept_members other.now }
+    {
+        match (self, other) {
+            (Members::Byte(left), Members::Byte(right)) => left == right,
+            (Members::Digits(left), Members::Digits(right)) => left == right,
+            (Members::Words(left), Members::Words(right)) => left == right,
+            _ => false,
+        }
+    }
+
+    /// Fewer members first, and equal sizes by their members in byte order.
+    pub(crate) fn compare(&self, other: &Members) -> Ordering
+        ensures { result ≡ class_cmp (kept_members self.now) (kept_members other.now) }
+    {
+        if self.is_kept_as(other) {
+            return Ordering::Equal;
+        }
+        let sizes = self.size().cmp(&other.size());
+        if sizes != Ordering::Equal {
+            return sizes;
+        }
+        compare_members(self, other)
+    }
+
+    /// Adds the members to the bytes, in byte order.
+    pub(crate) fn push_to(&self, bytes: &mut Vec<u8>) -> Result<(), AllocError>
+        ensures { OnOk result (bytes.new.items ≡ bytes.old.items ++ kept_members self.now) }
+    {
+        match self {
+            Members::Byte(only) => bytes.push(*only)?,
+            Members::Digits(mask) => push_word(u64::from(*mask), b'0', bytes)?,
+            Members::Words(words) => push_members(words, bytes)?,
+        }
+        Ok(())
+    }
+}
