@@ -1,4 +1,6 @@
 -- What is kept of a name, and what a reading cuts from a text, as values of the definition.
+use Rattle.std.specs.Prelude.{ℕ, Bool, false, true, List, length}
+use Rattle.std.specs.List.{filter}
 use Rattle.dp_pattern.specs.Name.{Meaning, Plain, Pattern, Piece, Dash, Wild, Byte, Set, Unclosed}
 use Rattle.dp_pattern.specs.declared.name.Kind as kind
 use Rattle.dp_pattern.specs.declared.name.Kind.TheVariants as kept
@@ -24,3 +26,15 @@ cut_piece (cut.Wild tail) = Wild tail
 cut_piece (cut.Byte b) = Byte b
 cut_piece (cut.Set bytes) = Set bytes.now
 cut_piece cut.Unclosed = Unclosed
+
+-- whether the piece is a class
+abbrev pub is_class : Piece → Bool
+is_class Dash = false
+is_class (Wild tail) = false
+is_class (Byte b) = true
+is_class (Set bytes) = true
+is_class Unclosed = false
+
+-- how many classes the pieces are
+abbrev pub class_count : List Piece → ℕ
+class_count pieces = length (filter is_class pieces)

@@ -3,7 +3,7 @@ ghost use Rattle.std.specs.Prelude.{◌≡◌, ◌<◌, ◌≤◌, ◌+◌, ◌�
 ghost use Rattle.std.specs.List.{list_all, list_any, position};
 ghost use Rattle.dp_pattern.specs.Dashes.{undashed, is_dash};
 ghost use Rattle.dp_pattern.specs.Name.{pieces_of, pieces_after, piece_of, set_piece, set_size, is_end, parts_of, pattern_reading, is_bad, plain_of, meaning_of, IsReason};
-ghost use Rattle.dp_pattern.specs.Kept.{kept_meaning, cut_piece};
+ghost use Rattle.dp_pattern.specs.Kept.{kept_meaning, cut_piece, is_class, class_count};
 
 use crate::class::{Class, class_of, class_of_set, is_bad};
 use crate::dashes::from_first;
@@ -66,12 +66,37 @@ fn only_dashes(text: &[u8]) -> bool
     text.iter().all(|b| *b == b'-')
 }
 
+// Whether the piece is a class.
+fn is_class(piece: Piece<'_>) -> bool
+    ensures { result ≡ is_class (cut_piece piece.entry) }
+{
+    match piece {
+        Piece::Byte(_) | Piece::Set(_) => true,
+        Piece::Dash | Piece::Wild(_) | Piece::Unclosed => false,
+    }
+}
+
+// How many classes the text has.
+fn class_count(text: &[u8]) -> usize
+    ensures { result ≡ class_count (pieces_of text.now) }
+{
+    let mut count = 0;
+    let mut rest = text;
+    while let Some((piece, behind)) = first_piece(rest) {
+        if is_class(piece) {
+            count += 1;
+        }
+        rest = behind;
+    }
+    count
+}
+
 // The classes and the tail of a pattern.
 fn read_parts(alloc: Global, text: &[u8]) -> Result<(Vec<Class>, Tail), PatternFault>
     ensures { MatchResult result (λ x. parts_of (pieces_of text.now) ≡ Ok (x.0.items, x.1))
         (λ fault. IsReason fault (parts_of (pieces_of text.now))) }
 {
-    let mut classes = Vec::new(alloc);
+    let mut classes = Vec::with_capacity(alloc, class_count(text))?;
     let mut rest = text;
     while let Some((piece, behind)) = first_piece(rest) {
         match piece {
