@@ -11,8 +11,9 @@ use Rattle.dp_pattern.specs.declared.reading.Piece.TheVariants as cut
 
 -- the meaning of what is kept
 abbrev pub kept_meaning : kind.Kind → Meaning
+kept_meaning (kept.Short text) = Plain text.items
 kept_meaning (kept.Plain text) = Plain text.items
-kept_meaning (kept.Pattern classes tail) = Pattern classes.items tail
+kept_meaning (kept.Pattern tail classes) = Pattern classes.items tail
 
 -- the meaning of a name's parts
 abbrev pub parts_meaning : parts.Parts → Meaning

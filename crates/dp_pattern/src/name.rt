@@ -9,6 +9,7 @@ use crate::fault::PatternFault;
 use crate::reading::read_kind;
 use crate::spelling::pattern_text;
 use crate::tail::Tail;
+use arrayvec::ArrayVec;
 use std::alloc::{AllocError as NoMemory, Global};
 use std::marker::Model;
 
@@ -20,11 +21,17 @@ pub struct Name {
     kind: Kind,
 }
 
+const _: () = prove!(size_of::<Name>() == 32);
+
 /// How a meaning is kept.
 #[derive(Debug, Drop)]
 pub(crate) enum Kind {
+    /// A plain name of few bytes, which takes no block of its own.
+    Short(ArrayVec<u8, 16>),
+    /// Any other plain name.
     Plain(Vec<u8>),
-    Pattern(Vec<Class>, Tail),
+    /// The tail of a pattern and the classes before it.
+    Pattern(Tail, Vec<Class>),
 }
 
 impl Model for Name {
@@ -53,13 +60,17 @@ fn copy_kind(kind: &Kind) -> Result<Kind, NoMemory>
     ensures { IfOk result (λ copy. kept_meaning copy ≡ kept_meaning kind.now) }
 {
     match kind {
+        Kind::Short(text) => {
+            let text = text.clone()?;
+            Ok(Kind::Short(text))
+        }
         Kind::Plain(text) => {
             let text = text.clone()?;
             Ok(Kind::Plain(text))
         }
-        Kind::Pattern(classes, tail) => {
+        Kind::Pattern(tail, classes) => {
             let classes = classes.clone()?;
-            Ok(Kind::Pattern(classes, *tail))
+            Ok(Kind::Pattern(*tail, classes))
         }
     }
 }
@@ -93,8 +104,9 @@ impl Name {
         ensures named { IsName self.now }
     {
         match &self.kind {
+            Kind::Short(text) => Parts::Plain(text.as_slice()),
             Kind::Plain(text) => Parts::Plain(text),
-            Kind::Pattern(classes, tail) => Parts::Pattern(classes, *tail),
+            Kind::Pattern(tail, classes) => Parts::Pattern(classes, *tail),
         }
     }
 
@@ -109,8 +121,9 @@ impl Name {
         ensures again { meaning_of (spelling self.now) ≡ Ok self.now }
     {
         match &self.kind {
+            Kind::Short(text) => Vec::from_slice(alloc, text.as_slice()),
             Kind::Plain(text) => Vec::from_slice(alloc, text),
-            Kind::Pattern(classes, tail) => pattern_text(alloc, classes, *tail),
+            Kind::Pattern(tail, classes) => pattern_text(alloc, classes, *tail),
         }
     }
 }

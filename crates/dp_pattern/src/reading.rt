@@ -1,8 +1,8 @@
 //! The reading of a text as a name, piece after piece.
-ghost use Rattle.std.specs.Prelude.{◌≡◌, ◌<◌, ◌≤◌, ◌+◌, ◌∷◌, [], Ok, Err, length, MatchOption, MatchResult, IfOk};
+ghost use Rattle.std.specs.Prelude.{◌≡◌, ◌<◌, ◌≤◌, ◌+◌, ◌∷◌, [], Ok, Err, length, MatchOption, MatchResult, IfOk, IfSome};
 ghost use Rattle.std.specs.List.{list_all, list_any, position};
 ghost use Rattle.dp_pattern.specs.Dashes.{undashed, is_dash};
-ghost use Rattle.dp_pattern.specs.Name.{pieces_of, pieces_after, piece_of, set_piece, set_size, is_end, parts_of, pattern_reading, is_bad, plain_of, meaning_of, IsReason};
+ghost use Rattle.dp_pattern.specs.Name.{Plain, pieces_of, pieces_after, piece_of, set_piece, set_size, is_end, parts_of, pattern_reading, is_bad, plain_of, meaning_of, IsReason};
 ghost use Rattle.dp_pattern.specs.Kept.{kept_meaning, cut_piece, is_class, class_count};
 
 use crate::class::{Class, class_of, class_of_set, is_bad};
@@ -10,6 +10,7 @@ use crate::dashes::from_first;
 use crate::fault::{NameFault, PatternFault};
 use crate::name::Kind;
 use crate::tail::Tail;
+use arrayvec::ArrayVec;
 use std::alloc::{AllocError, Global};
 
 /// A piece of a pattern's text.
@@ -121,14 +122,40 @@ fn read_pattern(alloc: Global, text: &[u8]) -> Result<Kind, PatternFault>
     if classes.is_empty() && tail == Tail::End {
         return Err(PatternFault::Name(NameFault::EmptyName));
     }
-    Ok(Kind::Pattern(classes, tail))
+    Ok(Kind::Pattern(tail, classes))
+}
+
+// The text without its dashes, where that is short.
+fn short_of(text: &[u8]) -> Option<ArrayVec<u8, 16>>
+    ensures { IfSome result (λ kept. kept.items ≡ undashed text.now) }
+{
+    let mut kept = ArrayVec::new();
+    for byte in text {
+        if *byte != b'-' {
+            kept.try_push(*byte).ok()?;
+        }
+    }
+    Some(kept)
 }
 
 // The text without its dashes.
 fn undashed(alloc: Global, text: &[u8]) -> Result<Vec<u8>, AllocError>
     ensures { IfOk result (λ kept. kept.items ≡ undashed text.now) }
 {
-    text.iter().copied().filter(|b| *b != b'-').collect(alloc)
+    let mut kept: Vec<u8> = text.iter().copied().filter(|b| *b != b'-').collect(alloc)?;
+    kept.shrink_to_fit();
+    Ok(kept)
+}
+
+// What is kept of the plain name.
+fn kept_plain(alloc: Global, text: &[u8]) -> Result<Kind, AllocError>
+    ensures { IfOk result (λ kind. kept_meaning kind ≡ Plain (undashed text.now)) }
+{
+    if let Some(kept) = short_of(text) {
+        return Ok(Kind::Short(kept));
+    }
+    let kept = undashed(alloc, text)?;
+    Ok(Kind::Plain(kept))
 }
 
 // Whether a byte is one that no name has.
@@ -146,8 +173,8 @@ fn read_plain(alloc: Global, text: &[u8]) -> Result<Kind, PatternFault>
     if has_bad(text) {
         return Err(PatternFault::Name(NameFault::BadByte));
     }
-    let kept = undashed(alloc, text)?;
-    Ok(Kind::Plain(kept))
+    let kind = kept_plain(alloc, text)?;
+    Ok(kind)
 }
 
 /// What is kept of the name that the text spells.
