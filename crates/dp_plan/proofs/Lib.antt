@@ -15,5 +15,6 @@ mod LoadingLemmas
 mod NamedLemmas
 pub mod PlanAgain
 pub mod PlanKnown
+mod PositionLemmas
 pub mod RankingLemmas
 mod Rows

@@ -1,5 +1,5 @@
 //! A dialplan in the making.
-ghost use Rattle.std.specs.Prelude.{◌≡◌, ◌++◌, ◌<◌, [], ◌∷◌, OnOk, IfOk, Some, None, false, length, fold, map};
+ghost use Rattle.std.specs.Prelude.{◌≡◌, ◌++◌, ◌<◌, [], ◌∷◌, OnOk, IfOk, IfSome, Some, None, false, true, length, fold, map};
 ghost use Rattle.std.specs.List.{All, flat_map, position_or_len};
 ghost use Rattle.std.specs.Option.{option_to_list};
 ghost use Rattle.dp_plan.specs.Contexts.{with_entry, with_include};
@@ -47,6 +47,8 @@ pub(crate) struct Draft {
     taken: IndexSet<Slot>,
     labels: IndexSet<Label>,
     remarks: Vec<Remark>,
+    /// The number of the context that was opened last, which is asked first.
+    opened: usize,
 }
 
 impl Model for Draft {
@@ -135,6 +137,7 @@ impl Draft {
             taken: IndexSet::new(alloc),
             labels: IndexSet::new(alloc),
             remarks: Vec::new(alloc),
+            opened: 0,
         }
     }
 
@@ -165,13 +168,34 @@ impl Draft {
         }
     }
 
+    /// The number of the context that was opened last, where it has this name. No table is asked.
+    #[tactic(auto, using(crate::proofs::PositionLemmas::place_of_name, crate::proofs::PositionLemmas::named_at))]
+    fn opened_so(&self, name: &Text) -> Option<usize>
+        ensures place { IfSome result (λ place. place ≡ position_or_len (same_text name.now) self.now.names) }
+        ensures within { IfSome result (λ place. place < length self.now.contexts) }
+        ensures named { IfSome result (λ place. is_named self.now.names name.now ≡ true) }
+    {
+        let opened = self.names.as_slice().get(self.opened)?;
+        if name == opened {
+            Some(self.opened)
+        } else {
+            None
+        }
+    }
+
     /// Makes sure that the context of this name is there, and gives its number.
     fn open(&mut self, alloc: Global, name: &SharedText) -> Result<usize, NoMemory>
         ensures ok { OnOk result (self.new ≡ spec.with_context self.old name.now) }
         ensures place { IfOk result (λ place. place ≡ position_or_len (same_text name.now) self.new.names) }
         ensures within { IfOk result (λ place. place < length self.new.contexts) }
     {
-        self.open_text(alloc, name.text())
+        let name = name.text();
+        let place = match self.opened_so(name) {
+            Some(place) => place,
+            None => self.open_text(alloc, name)?,
+        };
+        self.opened = place;
+        Ok(place)
     }
 
     /// Notes something of a line.
@@ -410,6 +434,7 @@ impl Draft {
             taken: _,
             labels: _,
             remarks: _,
+            opened: _,
         } = self;
         Parts {
             globals,

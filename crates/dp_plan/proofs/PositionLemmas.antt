@@ -1,0 +1,51 @@
+-- Where an element stands in a list of which no two are the same.
+use Rattle.std.proofs.Common.{◌≡◌, ℕ, zero, suc, ◌+◌, ◌<◌, Bool, true, false, cond, not, ◌||◌, List, [], ◌∷◌, length, Some, slice_get, get_or, refl, ap, subst, ◌∙◌, sym, arith}
+use Rattle.std.specs.List.{IsDistinct, AllByRecursion, list_any, position_or_len}
+use Rattle.std.proofs.lemmas.Option.{slice_get_read}
+use Rattle.std.specs.Cmp.{IsEquivalence}
+use Rattle.std.specs.Cmp.Lexicographic.{nat_list_eq_equiv}
+use Rattle.dp_conf.specs.Words.{same_text}
+use Rattle.dp_plan.specs.Plan.{is_named}
+use Rattle.dp_plan.proofs.DraftLemmas.{or_right}
+
+-- an element is another than each that stands behind it
+later_apart : {K : Type 0} (eq : K → K → Bool) (x k : K) (xs : List K) (i : ℕ) → AllByRecursion (λ y. eq x y ≡ false) xs → slice_get xs i ≡ Some k → eq x k ≡ false
+later_apart eq x k [] i apart here = absurd cc
+later_apart {K} eq x k (y ∷ xs) zero apart here =
+    let same : y ≡ k = cc in
+    subst (λ (z : K). eq x z ≡ false) same apart.0
+later_apart eq x k (y ∷ xs) (suc i) apart here = later_apart eq x k xs i apart.1 here
+
+-- what is the same as the element of a place stands at that place
+pub position_or_len-distinct : {K : Type 0} (eq : K → K → Bool) → IsEquivalence eq → (xs : List K) (i : ℕ) (k q : K) → IsDistinct eq xs → slice_get xs i ≡ Some k → eq q k ≡ true → position_or_len (eq q) xs ≡ i
+unfolding IsDistinct
+position_or_len-distinct eq laws [] i k q distinct here same = absurd cc
+position_or_len-distinct {K} eq laws (x ∷ xs) zero k q distinct here same =
+    let first : x ≡ k = cc in
+    ap (λ t. cond (not t) (1 + position_or_len (eq q) xs) 0) (subst (λ (z : K). eq q z ≡ true) (sym first) same)
+position_or_len-distinct {K} eq laws (x ∷ xs) (suc i) k q distinct here same = by (position_or_len-distinct eq laws xs i k q distinct.1 here same) (eq q x) refl
+  where
+    apart : eq x k ≡ false
+    apart = later_apart eq x k xs i distinct.0 here
+
+    by : position_or_len (eq q) xs ≡ i → (t : Bool) → eq q x ≡ t → cond (not t) (1 + position_or_len (eq q) xs) 0 ≡ suc i
+    by later true e =
+        let there : eq q k ≡ false = laws.congr q x k e ∙ apart in
+        absurd cc
+    by later false e = ap (λ n. 1 + n) later ∙ omega arith
+
+-- what passes at a place passes among all
+list_any-at : {K : Type 0} (test : K → Bool) (xs : List K) (i : ℕ) (k : K) → slice_get xs i ≡ Some k → test k ≡ true → list_any test xs ≡ true
+list_any-at test [] i k here passes = absurd cc
+list_any-at {K} test (x ∷ xs) zero k here passes =
+    let first : x ≡ k = cc in
+    ap (λ t. t || list_any test xs) (subst (λ (z : K). test z ≡ true) (sym first) passes)
+list_any-at test (x ∷ xs) (suc i) k here passes = or_right (test x) (list_any test xs) (list_any-at test xs i k here passes)
+
+-- a name among distinct names
+pub place_of_name : (names : List (List ℕ)) (i : ℕ) (there name : List ℕ) → IsDistinct same_text names → i < length names → there ≡ get_or names i there → same_text name there ≡ true → i ≡ position_or_len (same_text name) names
+place_of_name names i there name distinct within here same =
+    sym (position_or_len-distinct same_text nat_list_eq_equiv names i there name distinct (slice_get_read names (length names) i there refl within here) same)
+
+pub named_at : (names : List (List ℕ)) (i : ℕ) (there name : List ℕ) → i < length names → there ≡ get_or names i there → same_text name there ≡ true → is_named names name ≡ true
+named_at names i there name within here same = list_any-at (same_text name) names i there (slice_get_read names (length names) i there refl within here) same
