@@ -106,7 +106,7 @@ history_in-behind reading items (Begins section) same = λ i. record { section =
 history_in-behind reading items (Sets global) same = same
 history_in-behind reading items (Adds line context entry) same =
     let written : (c : List ℕ) (name : Meaning) → last_priority (behind reading (Adds line context entry)) c name ≡ option_or (priority_in c name (Adds line context entry)) (last_priority reading c name) = λ c name.
-    lookup-insert_entry same_extension same_extension_equiv reading.priorities (extension_of context entry.name) entry.priority (extension_of c name)
+    lookup-insert_entry same_extension same_extension_equiv reading.extensions.priorities (extension_of context entry.name) entry.priority (extension_of c name)
     ∙ or_if (same_extension (extension_of c name) (extension_of context entry.name)) entry.priority (last_priority reading c name) in
     (λ i. record { section = reading.section; name = Some entry.name; priority = λ c name. written c name i })
     ∙ (λ i. record { section = (same i).section; name = Some entry.name; priority = λ c name. option_or (priority_in c name (Adds line context entry)) ((same i).priority c name) })

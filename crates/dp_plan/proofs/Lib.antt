@@ -18,3 +18,4 @@ pub mod PlanKnown
 mod PositionLemmas
 pub mod RankingLemmas
 mod Rows
+mod TableLemmas

@@ -9,7 +9,7 @@ use Rattle.dp_plan.specs.Plan.{is_named}
 use Rattle.dp_plan.proofs.DraftLemmas.{or_right}
 
 -- an element is another than each that stands behind it
-later_apart : {K : Type 0} (eq : K → K → Bool) (x k : K) (xs : List K) (i : ℕ) → AllByRecursion (λ y. eq x y ≡ false) xs → slice_get xs i ≡ Some k → eq x k ≡ false
+pub later_apart : {K : Type 0} (eq : K → K → Bool) (x k : K) (xs : List K) (i : ℕ) → AllByRecursion (λ y. eq x y ≡ false) xs → slice_get xs i ≡ Some k → eq x k ≡ false
 later_apart eq x k [] i apart here = absurd cc
 later_apart {K} eq x k (y ∷ xs) zero apart here =
     let same : y ≡ k = cc in

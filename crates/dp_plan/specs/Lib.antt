@@ -15,3 +15,4 @@ pub mod Priority
 pub mod Ranking
 pub mod Reader
 pub mod SharedName
+pub mod Table

@@ -1,7 +1,7 @@
 //! The extensions of a dialplan.
 ghost use Rattle.std.specs.Prelude.{IfOk, IsTrue, ◌≡◌, ◌↔◌};
 ghost use Rattle.dp_pattern.specs.Name.{Meaning, IsName};
-ghost use Rattle.dp_plan.specs.Extensions.{extension_of, same_name};
+ghost use Rattle.dp_plan.specs.Extensions.{extension_of, same_extension, same_name};
 
 use crate::shared_name::{SharedName, SharedSpelling};
 use crate::shared_text::SharedText;
@@ -22,6 +22,13 @@ impl Extension {
         let context = context.clone()?;
         let spelling = SharedSpelling::of(name)?;
         Ok(Extension { context, spelling })
+    }
+
+    /// Whether it is the extension of the name in the context.
+    pub(crate) fn is_of(&self, context: &SharedText, name: &SharedName) -> bool
+        ensures { result ≡ same_extension (extension_of context.now name.now) self.now }
+    {
+        context == &self.context && self.spelling.is_of(name)
     }
 }
 

@@ -7,6 +7,7 @@ mod draft;
 mod entry;
 mod entry_line;
 mod extension;
+mod extensions;
 mod fault;
 mod item;
 mod known_applications;

@@ -4,7 +4,7 @@ ghost use Rattle.std.specs.Option.{option_copied, option_to_list};
 ghost use Rattle.dp_plan.specs.Reader as spec;
 
 use crate::entry::Entry;
-use crate::extension::Extension;
+use crate::extensions::Extensions;
 use crate::item::Item;
 use crate::known_applications::KnownApplications;
 use crate::priority::Priority;
@@ -12,18 +12,17 @@ use crate::section::Section;
 use crate::shared_name::SharedName;
 use crate::shared_text::SharedText;
 use dp_conf::NoMemory;
-use indexmap::IndexMap;
 use std::alloc::Global;
 use std::marker::Model;
 
-/// The section of the next line, the name of the last extension since its header, and each extension with its last
-/// priority. Beside it stand the names of applications that the lines so far have written, of which a contract sees
-/// nothing.
+/// The section of the next line, the name of the last extension since its header, and the extensions with their
+/// last priorities. Beside them stand the names of applications that the lines so far have written, of which a
+/// contract sees nothing.
 #[derive(Drop)]
 pub(crate) struct Reader {
     section: Section,
     name: Option<SharedName>,
-    priorities: IndexMap<Extension, Priority>,
+    extensions: Extensions,
     applications: KnownApplications,
 }
 
@@ -35,7 +34,7 @@ impl Model for Reader {
     ghost view = { λ reader. record {
       section = reader.section;
       name = reader.name;
-      priorities = reader.priorities.entries;
+      extensions = reader.extensions;
     } };
 }
 
@@ -47,7 +46,7 @@ impl Reader {
         Reader {
             section: Section::General,
             name: None,
-            priorities: IndexMap::new(alloc),
+            extensions: Extensions::new(alloc),
             applications: KnownApplications::new(alloc),
         }
     }
@@ -74,8 +73,7 @@ impl Reader {
     ) -> Result<Option<Priority>, NoMemory>
         ensures { IfOk result (λ last. last ≡ spec.last_priority self.now context.now name.now) }
     {
-        let extension = Extension::of(context, name)?;
-        Ok(self.priorities.get(&extension).copied())
+        self.extensions.priority(context, name)
     }
 
     /// The name of an application, which is one of the reader's where a line before has written it so.
@@ -103,9 +101,8 @@ impl Reader {
     ) -> Result<(), NoMemory>
         ensures { OnOk result (self.new ≡ spec.behind self.old (Item.Adds line context.now entry.now)) }
     {
-        let extension = Extension::of(context, &entry.name)?;
         let name = entry.name.clone()?;
-        self.priorities.insert(extension, entry.priority)?;
+        self.extensions.write(context, &entry.name, entry.priority)?;
         self.applications.keep(&entry.application)?;
         self.name = Some(name);
         Ok(())
