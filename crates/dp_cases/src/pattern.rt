@@ -1,4 +1,5 @@
 //! Names that are read, matched, ordered and spelled, worked out by hand from the rules.
+mod kinds;
 mod matching;
 mod order;
 mod reading;
@@ -182,6 +183,8 @@ fn push_answer_of_two(
 }
 
 const TABLES: &[&str] = &[
+    kinds::CLASSES,
+    kinds::PLAIN,
     matching::MATCHES,
     matching::WILDCARDS,
     matching::GOES_ON,
