@@ -140,6 +140,7 @@ impl Members {
     {
         match self {
             Members::Byte(only) => {
+                // What is read is known to be a byte, and so to be a member.
                 let _only = *only;
                 1
             }
