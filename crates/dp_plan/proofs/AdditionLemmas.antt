@@ -15,38 +15,38 @@ noted_or d line added None = added
 noted_or d line added (Some kind) = with_note d line kind
 
 -- the draft with what the entry takes
-abbrev with_claim : Drafted → List ℕ → Entry → Drafted
-with_claim d context entry = record d {
-  taken = d.taken ++ slot_of context entry ∷ [];
-  labels = d.labels ++ option_to_list (label_of context entry);
+abbrev with_claim : Drafted → ℕ → Entry → Drafted
+with_claim d number entry = record d {
+  taken = d.taken ++ slot_of number entry ∷ [];
+  labels = d.labels ++ option_to_list (label_of number entry);
 }
 
 -- the draft with what the entry takes, and the entry
-abbrev with_both : Drafted → List ℕ → Entry → Drafted
-with_both d context entry = record (with_claim d context entry) { contexts = changed_context d (with_entry entry) context }
+abbrev with_both : Drafted → List ℕ → ℕ → Entry → Drafted
+with_both d context number entry = record (with_claim d number entry) { contexts = changed_context d (with_entry entry) context }
 
-pub noted_addition : (d : Drafted) (line : ℕ) (context : List ℕ) (entry : Entry) (kind : NoteKind) → doubled d (slot_of context entry) (label_of context entry) ≡ Some kind
-    → with_addition d line context entry ≡ with_note (claimed d (slot_of context entry) (label_of context entry)) line kind
-noted_addition d line context entry kind e =
-    by (is_slot_taken d (slot_of context entry)) (is_marked d (label_of context entry)) e where
+pub noted_addition : (d : Drafted) (line : ℕ) (context : List ℕ) (number : ℕ) (entry : Entry) (kind : NoteKind) → doubled d (slot_of number entry) (label_of number entry) ≡ Some kind
+    → with_addition d line context number entry ≡ with_note (claimed d (slot_of number entry) (label_of number entry)) line kind
+noted_addition d line context number entry kind e =
+    by (is_slot_taken d (slot_of number entry)) (is_marked d (label_of number entry)) e where
       by : (p l : Bool) → cond p (Some DoublePriority) (cond l (Some DoubleLabel) None) ≡ Some kind
-          → cond p (with_note d line DoublePriority) (cond l (with_note d line DoubleLabel) (with_both d context entry)) ≡ with_note (cond p d (cond l d (with_claim d context entry))) line kind
+          → cond p (with_note d line DoublePriority) (cond l (with_note d line DoubleLabel) (with_both d context number entry)) ≡ with_note (cond p d (cond l d (with_claim d number entry))) line kind
       by true l same = ap (noted_or d line d) same
       by false true same = ap (noted_or d line d) same
       by false false same = absurd cc
 
-pub kept_addition : (d : Drafted) (line place : ℕ) (context : List ℕ) (entry : Entry) → doubled d (slot_of context entry) (label_of context entry) ≡ None → place ≡ position_or_len (same_text context) d.names
-    → with_addition d line context entry ≡ record (claimed d (slot_of context entry) (label_of context entry)) { contexts = changed_at (with_entry entry) place (claimed d (slot_of context entry) (label_of context entry)).contexts }
-kept_addition d line place context entry e there =
-    by (is_slot_taken d (slot_of context entry)) (is_marked d (label_of context entry)) e where
+pub kept_addition : (d : Drafted) (line place : ℕ) (context : List ℕ) (number : ℕ) (entry : Entry) → doubled d (slot_of number entry) (label_of number entry) ≡ None → place ≡ position_or_len (same_text context) d.names
+    → with_addition d line context number entry ≡ record (claimed d (slot_of number entry) (label_of number entry)) { contexts = changed_at (with_entry entry) place (claimed d (slot_of number entry) (label_of number entry)).contexts }
+kept_addition d line place context number entry e there =
+    by (is_slot_taken d (slot_of number entry)) (is_marked d (label_of number entry)) e where
       with_entry_at : ℕ → Drafted
-      with_entry_at at = record (with_claim d context entry) { contexts = changed_at (with_entry entry) at d.contexts }
+      with_entry_at at = record (with_claim d number entry) { contexts = changed_at (with_entry entry) at d.contexts }
 
       added_to : Drafted → Drafted
       added_to made = record made { contexts = changed_at (with_entry entry) place made.contexts }
 
       by : (p l : Bool) → cond p (Some DoublePriority) (cond l (Some DoubleLabel) None) ≡ None
-          → cond p (with_note d line DoublePriority) (cond l (with_note d line DoubleLabel) (with_both d context entry)) ≡ added_to (cond p d (cond l d (with_claim d context entry)))
+          → cond p (with_note d line DoublePriority) (cond l (with_note d line DoubleLabel) (with_both d context number entry)) ≡ added_to (cond p d (cond l d (with_claim d number entry)))
       by true l same = absurd cc
       by false true same = absurd cc
       by false false same = ap with_entry_at (sym there)

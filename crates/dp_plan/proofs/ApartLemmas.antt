@@ -14,8 +14,9 @@ use Rattle.dp_plan.specs.Plan.{Addition, Inclusion, same_place, is_place_taken, 
 use Rattle.dp_plan.specs.Ranking.{shares_place, AreApart}
 use Rattle.dp_plan.specs.declared.entry.Entry.{Entry}
 use Rattle.dp_plan.specs.declared.item.Item.{Item}
-use Rattle.dp_plan.proofs.DraftLemmas.{or_false, more_by, kept_by-filter_map}
+use Rattle.dp_plan.proofs.DraftLemmas.{more_by, kept_by-filter_map}
 use Rattle.dp_plan.proofs.HistoryLemmas.{and_both, and_left, and_right, same_extension_equiv}
+use Rattle.dp_plan.proofs.PositionLemmas.{or_false}
 
 -- to stand at the same place is an equivalence
 same_place_equiv : IsEquivalence same_place

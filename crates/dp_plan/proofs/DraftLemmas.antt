@@ -1,5 +1,5 @@
 -- What the items make of a draft, one after another, is what the dialplan of all of them says.
-use Rattle.std.proofs.Common.{◌≡◌, ℕ, suc, ◌+◌, Bool, true, false, cond, not, ◌&&◌, ◌||◌, List, [], ◌∷◌, ◌++◌, Option, Some, None, map, fold, refl, ap, subst, ◌∙◌, sym, arith}
+use Rattle.std.proofs.Common.{◌≡◌, ℕ, suc, ◌+◌, Bool, true, false, cond, not, ◌&&◌, ◌||◌, ◌==◌, List, [], ◌∷◌, ◌++◌, Option, Some, None, map, fold, refl, ap, subst, ◌∙◌, sym, arith}
 use Rattle.std.specs.List.{list_any, list_all, filter_map, filter, flat_map, cons_option, position_or_len}
 use Rattle.std.specs.Option.{option_map, option_to_list}
 use Rattle.std.specs.Cmp.Lexicographic.{nat_list_eq_equiv}
@@ -13,9 +13,14 @@ use Rattle.dp_conf.specs.Answers.{each_after}
 use Rattle.dp_conf.specs.Words.{same_text}
 use Rattle.dp_conf.proofs.AnswersLemmas.{each_after-push, snoc_from}
 use Rattle.dp_plan.specs.Contexts.{PlanContext, with_entry, with_include}
-use Rattle.dp_plan.specs.Extensions.{extension_of}
-use Rattle.dp_plan.specs.Plan.{Addition, Inclusion, of_one_extension, shares_label, same_place, is_place_taken, is_label_taken, is_taken, is_named, kept_by, added_in, included_in, context_in, global_in, kept_in, names_in, context_of, entry_note, include_note, note_of, notes_of}
-use Rattle.dp_plan.specs.Draft.{Drafted, nothing, same_slot, same_marked, slot_of, label_of, with_context, changed_at, changed_context, is_marked, with_note, with_addition, with_inclusion, added, settled}
+use Rattle.dp_plan.specs.Extensions.{extension_of, same_extension}
+use Rattle.dp_plan.specs.Loading.{MadeOf, unmade, behind_item}
+use Rattle.dp_plan.specs.Reader.{Reading, unread, behind}
+use Rattle.dp_plan.specs.Table.{number_in}
+use Rattle.dp_plan.specs.Plan.{Addition, Inclusion, of_one_extension, shares_label, is_place_taken, is_label_taken, is_taken, is_named, kept_by, added_in, included_in, context_in, global_in, kept_in, names_in, context_of, entry_note, include_note, note_of, notes_of}
+use Rattle.dp_plan.specs.Draft.{Drafted, same_slot, same_marked, slot_of, label_of, with_context, changed_at, changed_context, is_marked, with_note, with_addition, with_inclusion, added, settled}
+use Rattle.indexmap.specs.IndexMap.{insert_entry}
+use Rattle.dp_plan.specs.declared.extension.Extension.{Extension}
 use Rattle.dp_plan.specs.declared.draft.Slot.{Slot}
 use Rattle.dp_plan.specs.declared.draft.Label.{Label}
 use Rattle.dp_plan.specs.declared.entry.Entry.{Entry}
@@ -27,19 +32,9 @@ use Rattle.dp_plan.specs.declared.note.NoteKind.TheVariants.{DoublePriority, Dou
 use Rattle.dp_plan.specs.declared.section.Section.TheVariants.{General, Globals, Context}
 use Rattle.dp_plan.specs.declared.item.Item.{Item}
 use Rattle.dp_plan.specs.declared.item.Item.TheVariants.{Begins, Sets, Adds, Includes, Unknown}
-
--- a test of either kind
-pub or_false : (a b : Bool) → (a || b) ≡ false → (a ≡ false) × (b ≡ false)
-or_false true b e = absurd cc
-or_false false b e = (refl, e)
-
-or_true : (a b : Bool) → a ≡ true → (a || b) ≡ true
-or_true true b e = refl
-or_true false b e = absurd cc
-
-pub or_right : (a b : Bool) → b ≡ true → (a || b) ≡ true
-or_right true b e = refl
-or_right false b e = e
+use Rattle.dp_plan.proofs.HistoryLemmas.{reading_of}
+use Rattle.dp_plan.proofs.PositionLemmas.{or_false, or_true, or_right}
+use Rattle.dp_plan.proofs.TableLemmas.{is_known, known-kept, known-written, number-kept, number-written, same_number}
 
 and_both : (a b : Bool) → a ≡ true → b ≡ true → (a && b) ≡ true
 and_both true b ea eb = eb
@@ -119,27 +114,42 @@ pub settled-notes : (items : List Item) → flat_map (settled (names_in items)) 
 unfolding notes_of
 settled-notes items = settled-each (names_in items) [] items
 
+-- extensions with their priorities
+abbrev pub Priorities : Type 0
+Priorities = List (Extension × ℕ)
+
+-- the extension of an addition, and its number
+abbrev extension_in : Addition → Extension
+extension_in a = extension_of a.context a.entry.name
+
+abbrev number_of : Priorities → Addition → ℕ
+number_of es a = number_in es (extension_in a)
+
 -- the slot and the label of an addition
-abbrev slot_in : Addition → Slot
-slot_in a = slot_of a.context a.entry
+abbrev slot_in : Priorities → Addition → Slot
+slot_in es a = slot_of (number_of es a) a.entry
 
-abbrev label_in : Addition → Option Label
-label_in a = label_of a.context a.entry
+abbrev label_in : Priorities → Addition → Option Label
+label_in es a = label_of (number_of es a) a.entry
 
--- a draft by its global variables, its names, what is kept, its includes, and its remarks
-abbrev pub drafted : List GlobalVariable → List (List ℕ) → List Addition → List Inclusion → List Remark → Drafted
-drafted globals names kept included remarks = record {
+-- the extension of each addition is in the table
+abbrev pub IsKnown : Priorities → List Addition → Type 0
+IsKnown es kept = list_all (λ a. is_known es (extension_in a)) kept ≡ true
+
+-- a draft by its extensions, its global variables, its names, what is kept, its includes, and its remarks
+abbrev pub drafted : Priorities → List GlobalVariable → List (List ℕ) → List Addition → List Inclusion → List Remark → Drafted
+drafted es globals names kept included remarks = record {
   globals = globals;
   names = names;
   contexts = map (context_of kept included) names;
-  taken = map slot_in kept;
-  labels = filter_map label_in kept;
+  taken = map (slot_in es) kept;
+  labels = filter_map (label_in es) kept;
   remarks = remarks;
 }
 
 -- the draft that the items say
 abbrev pub drafted_in : List Item → Drafted
-drafted_in items = drafted (filter_map global_in items) (names_in items) (kept_in items) (filter_map included_in items) (remarks_in items)
+drafted_in items = drafted (reading_of items).extensions.priorities (filter_map global_in items) (names_in items) (kept_in items) (filter_map included_in items) (remarks_in items)
 
 -- every context of what is kept, and of what is included, has its name among the names
 abbrev pub IsAllNamed : List (List ℕ) → List Addition → List Inclusion → Type 0
@@ -225,15 +235,15 @@ IsAllNamed-more names kept included name named = IsAllNamed-append names (cond (
 -- ---- contexts that begin
 
 -- the draft with a context that is new or there already
-with_context-is : (globals : List GlobalVariable) (names : List (List ℕ)) (kept : List Addition) (included : List Inclusion) (remarks : List Remark) (name : List ℕ) → IsAllNamed names kept included → with_context (drafted globals names kept included remarks) name ≡ drafted globals (more_by is_named names (Some name)) kept included remarks
-with_context-is globals names kept included remarks name named = by (is_named names name) refl where
+with_context-is : (es : Priorities) (globals : List GlobalVariable) (names : List (List ℕ)) (kept : List Addition) (included : List Inclusion) (remarks : List Remark) (name : List ℕ) → IsAllNamed names kept included → with_context (drafted es globals names kept included remarks) name ≡ drafted es globals (more_by is_named names (Some name)) kept included remarks
+with_context-is es globals names kept included remarks name named = by (is_named names name) refl where
   before : Drafted
-  before = drafted globals names kept included remarks
+  before = drafted es globals names kept included remarks
 
-  by : (t : Bool) → is_named names name ≡ t → cond t before (record before { names = names ++ name ∷ []; contexts = map (context_of kept included) names ++ (record { name = name; entries = []; includes = [] }) ∷ [] }) ≡ drafted globals (names ++ cond t [] (name ∷ [])) kept included remarks
-  by true e = ap (λ (ns : List (List ℕ)). drafted globals ns kept included remarks) (sym (append-nil names))
+  by : (t : Bool) → is_named names name ≡ t → cond t before (record before { names = names ++ name ∷ []; contexts = map (context_of kept included) names ++ (record { name = name; entries = []; includes = [] }) ∷ [] }) ≡ drafted es globals (names ++ cond t [] (name ∷ [])) kept included remarks
+  by true e = ap (λ (ns : List (List ℕ)). drafted es globals ns kept included remarks) (sym (append-nil names))
   by false e =
-      let last : List PlanContext → Drafted = λ contexts. record { globals = globals; names = names ++ name ∷ []; contexts = contexts; taken = map slot_in kept; labels = filter_map label_in kept; remarks = remarks } in
+      let last : List PlanContext → Drafted = λ contexts. record { globals = globals; names = names ++ name ∷ []; contexts = contexts; taken = map (slot_in es) kept; labels = filter_map (label_in es) kept; remarks = remarks } in
       ap last
       (ap (λ (c : PlanContext). map (context_of kept included) names ++ c ∷ []) (sym (context_of-absent names kept included name e named))
       ∙ sym (map-append (context_of kept included) names (name ∷ [])))
@@ -302,9 +312,12 @@ contexts-include kept included k names distinct = map-changed (context_of kept i
 -- ---- what is taken
 
 -- the places that are taken, by the slots and by what is kept
-is_slot_taken-is : (kept : List Addition) (a : Addition) → list_any (same_slot (slot_in a)) (map slot_in kept) ≡ is_place_taken kept a
-is_slot_taken-is [] a = refl
-is_slot_taken-is (k ∷ kept) a = ap (λ t. same_place a k || t) (is_slot_taken-is kept a)
+is_slot_taken-is : (es : Priorities) (kept : List Addition) (a : Addition) → is_known es (extension_in a) ≡ true → IsKnown es kept → list_any (same_slot (slot_in es a)) (map (slot_in es) kept) ≡ is_place_taken kept a
+is_slot_taken-is es [] a known all = refl
+is_slot_taken-is es (k ∷ kept) a known all =
+    let same = same_number es (extension_in a) (extension_in k) known (and_left _ _ all) in
+    let rest = is_slot_taken-is es kept a known (and_right _ _ all) in
+    λ i. (same i && a.entry.priority == k.entry.priority) || rest i
 
 and_false : (t : Bool) → false ≡ (t && false)
 and_false true = refl
@@ -315,19 +328,21 @@ list_any-none test [] none = refl
 list_any-none test (x ∷ xs) none = (λ i. none x i || list_any-none test xs none i)
 
 -- a label among those that are taken, by the labels and by what is kept
-marked-some : (kept : List Addition) (a : Addition) (label : List ℕ) → list_any (same_marked (record { extension = extension_of a.context a.entry.name; label = label })) (filter_map label_in kept) ≡ list_any (λ b. of_one_extension a b && shares_label (Some label) b.entry.label) kept
-marked-some [] a label = refl
-marked-some (k ∷ kept) a label = by k.entry.label (marked-some kept a label) where
-  by : (o : Option (List ℕ)) → list_any (same_marked (record { extension = extension_of a.context a.entry.name; label = label })) (filter_map label_in kept) ≡ list_any (λ b. of_one_extension a b && shares_label (Some label) b.entry.label) kept
-      → list_any (same_marked (record { extension = extension_of a.context a.entry.name; label = label })) (cons_option (option_map (λ l. record { extension = extension_of k.context k.entry.name; label = l }) o) (filter_map label_in kept)) ≡ ((of_one_extension a k && shares_label (Some label) o) || list_any (λ b. of_one_extension a b && shares_label (Some label) b.entry.label) kept)
-  by None rest = rest ∙ ap (λ t. t || list_any (λ b. of_one_extension a b && shares_label (Some label) b.entry.label) kept) (and_false (of_one_extension a k))
-  by (Some l) rest = ap (λ t. (of_one_extension a k && same_text label l) || t) rest
+marked-some : (es : Priorities) (kept : List Addition) (a : Addition) (label : List ℕ) → is_known es (extension_in a) ≡ true → IsKnown es kept → list_any (same_marked (record { extension = number_of es a; label = label })) (filter_map (label_in es) kept) ≡ list_any (λ b. of_one_extension a b && shares_label (Some label) b.entry.label) kept
+marked-some es [] a label known all = refl
+marked-some es (k ∷ kept) a label known all =
+    by k.entry.label (same_number es (extension_in a) (extension_in k) known (and_left _ _ all)) (marked-some es kept a label known (and_right _ _ all)) where
+      by : (o : Option (List ℕ)) → (number_of es a == number_of es k) ≡ of_one_extension a k
+          → list_any (same_marked (record { extension = number_of es a; label = label })) (filter_map (label_in es) kept) ≡ list_any (λ b. of_one_extension a b && shares_label (Some label) b.entry.label) kept
+          → list_any (same_marked (record { extension = number_of es a; label = label })) (cons_option (option_map (λ l. record { extension = number_of es k; label = l }) o) (filter_map (label_in es) kept)) ≡ ((of_one_extension a k && shares_label (Some label) o) || list_any (λ b. of_one_extension a b && shares_label (Some label) b.entry.label) kept)
+      by None same rest = rest ∙ ap (λ t. t || list_any (λ b. of_one_extension a b && shares_label (Some label) b.entry.label) kept) (and_false (of_one_extension a k))
+      by (Some l) same rest = λ i. (same i && same_text label l) || rest i
 
-is_marked-is : (d : Drafted) (kept : List Addition) (a : Addition) → d.labels ≡ filter_map label_in kept → is_marked d (label_in a) ≡ is_label_taken kept a
-is_marked-is d kept a labels = by a.entry.label where
-  by : (o : Option (List ℕ)) → is_marked d (option_map (λ l. record { extension = extension_of a.context a.entry.name; label = l }) o) ≡ list_any (λ b. of_one_extension a b && shares_label o b.entry.label) kept
+is_marked-is : (es : Priorities) (d : Drafted) (kept : List Addition) (a : Addition) → is_known es (extension_in a) ≡ true → IsKnown es kept → d.labels ≡ filter_map (label_in es) kept → is_marked d (label_in es a) ≡ is_label_taken kept a
+is_marked-is es d kept a known all labels = by a.entry.label where
+  by : (o : Option (List ℕ)) → is_marked d (option_map (λ l. record { extension = number_of es a; label = l }) o) ≡ list_any (λ b. of_one_extension a b && shares_label o b.entry.label) kept
   by None = sym (list_any-none (λ (b : Addition). of_one_extension a b && false) kept (λ b. sym (and_false (of_one_extension a b))))
-  by (Some l) = ap (λ (ls : List Label). list_any (same_marked (record { extension = extension_of a.context a.entry.name; label = l })) ls) labels ∙ marked-some kept a l
+  by (Some l) = ap (λ (ls : List Label). list_any (same_marked (record { extension = number_of es a; label = l })) ls) labels ∙ marked-some es kept a l known all
 
 list-cons : {X : Type 0} (o : Option X) → option_to_list o ≡ cons_option o []
 list-cons None = refl
@@ -335,75 +350,125 @@ list-cons (Some x) = refl
 
 -- ---- one more entry or include
 
-with_addition-is : (globals : List GlobalVariable) (names : List (List ℕ)) (kept : List Addition) (included : List Inclusion) (remarks : List Remark) (line : ℕ) (a : Addition) → IsDistinct names → with_addition (drafted globals names kept included remarks) line a.context a.entry ≡ drafted globals names (more_by is_taken kept (Some a)) included (remarks ++ map Noted (entry_note line kept a))
-with_addition-is globals names kept included remarks line a distinct =
-    (λ i. choose (is_slot_taken-is kept a i) (is_marked-is before kept a refl i)) ∙ by (is_place_taken kept a) (is_label_taken kept a) where
+with_addition-is : (es : Priorities) (globals : List GlobalVariable) (names : List (List ℕ)) (kept : List Addition) (included : List Inclusion) (remarks : List Remark) (line : ℕ) (a : Addition) → IsDistinct names → is_known es (extension_in a) ≡ true → IsKnown es kept → with_addition (drafted es globals names kept included remarks) line a.context (number_of es a) a.entry ≡ drafted es globals names (more_by is_taken kept (Some a)) included (remarks ++ map Noted (entry_note line kept a))
+with_addition-is es globals names kept included remarks line a distinct known all =
+    (λ i. choose (is_slot_taken-is es kept a known all i) (is_marked-is es before kept a known all refl i)) ∙ by (is_place_taken kept a) (is_label_taken kept a) where
       before : Drafted
-      before = drafted globals names kept included remarks
+      before = drafted es globals names kept included remarks
 
       choose : Bool → Bool → Drafted
       choose p l = cond p (with_note before line DoublePriority) (cond l (with_note before line DoubleLabel) (record before {
         contexts = changed_context before (with_entry a.entry) a.context;
-        taken = map slot_in kept ++ slot_of a.context a.entry ∷ [];
-        labels = filter_map label_in kept ++ option_to_list (label_of a.context a.entry);
+        taken = map (slot_in es) kept ++ slot_in es a ∷ [];
+        labels = filter_map (label_in es) kept ++ option_to_list (label_in es a);
       }))
 
       remark : Bool → Bool → List Remark
       remark p l = map Noted (cond p ((record { line = line; kind = DoublePriority }) ∷ []) (cond l ((record { line = line; kind = DoubleLabel }) ∷ []) []))
 
-      by : (p l : Bool) → choose p l ≡ drafted globals names (kept ++ cond (p || l) [] (a ∷ [])) included (remarks ++ remark p l)
-      by true l = ap (λ (ks : List Addition). drafted globals names ks included (remarks ++ remark true true)) (sym (append-nil kept))
-      by false true = ap (λ (ks : List Addition). drafted globals names ks included (remarks ++ remark false true)) (sym (append-nil kept))
+      by : (p l : Bool) → choose p l ≡ drafted es globals names (kept ++ cond (p || l) [] (a ∷ [])) included (remarks ++ remark p l)
+      by true l = ap (λ (ks : List Addition). drafted es globals names ks included (remarks ++ remark true true)) (sym (append-nil kept))
+      by false true = ap (λ (ks : List Addition). drafted es globals names ks included (remarks ++ remark false true)) (sym (append-nil kept))
       by false false = λ i. record {
         globals = globals;
         names = names;
         contexts = sym (contexts-entry kept included a names distinct) i;
-        taken = sym (map-append slot_in kept (a ∷ [])) i;
-        labels = (ap (λ (ls : List Label). filter_map label_in kept ++ ls) (list-cons (label_in a)) ∙ sym (filter_map-append label_in kept (a ∷ []))) i;
+        taken = sym (map-append (slot_in es) kept (a ∷ [])) i;
+        labels = (ap (λ (ls : List Label). filter_map (label_in es) kept ++ ls) (list-cons (label_in es a)) ∙ sym (filter_map-append (label_in es) kept (a ∷ []))) i;
         remarks = sym (append-nil remarks) i;
       }
 
-with_inclusion-is : (globals : List GlobalVariable) (names : List (List ℕ)) (kept : List Addition) (included : List Inclusion) (remarks : List Remark) (line : ℕ) (k : Inclusion) → IsDistinct names → with_inclusion (drafted globals names kept included remarks) line k.context k.name ≡ drafted globals names kept (included ++ k ∷ []) (remarks ++ Asks line k.name ∷ [])
-with_inclusion-is globals names kept included remarks line k distinct = λ i. record {
+with_inclusion-is : (es : Priorities) (globals : List GlobalVariable) (names : List (List ℕ)) (kept : List Addition) (included : List Inclusion) (remarks : List Remark) (line : ℕ) (k : Inclusion) → IsDistinct names → with_inclusion (drafted es globals names kept included remarks) line k.context k.name ≡ drafted es globals names kept (included ++ k ∷ []) (remarks ++ Asks line k.name ∷ [])
+with_inclusion-is es globals names kept included remarks line k distinct = λ i. record {
   globals = globals;
   names = names;
   contexts = sym (contexts-include kept included k names distinct) i;
-  taken = map slot_in kept;
-  labels = filter_map label_in kept;
+  taken = map (slot_in es) kept;
+  labels = filter_map (label_in es) kept;
   remarks = remarks ++ Asks line k.name ∷ [];
 }
 
 -- ---- one more item
 
--- one more item, by the parts of the draft
-added-is : (globals : List GlobalVariable) (names : List (List ℕ)) (kept : List Addition) (included : List Inclusion) (remarks : List Remark) (x : Item) → IsAllNamed names kept included → IsDistinct names
-    → (before : List Item) → kept_in before ≡ kept
-    → added (drafted globals names kept included remarks) x ≡ drafted (globals ++ cons_option (global_in x) []) (more_by is_named names (context_in x)) (more_by is_taken kept (added_in x)) (included ++ cons_option (included_in x) []) (remarks ++ remark_of before x)
-added-is globals names kept included remarks (Begins General) named distinct before same =
-    λ i. drafted (sym (append-nil globals) i) names kept (sym (append-nil included) i) (sym (append-nil remarks) i)
-added-is globals names kept included remarks (Begins Globals) named distinct before same =
-    λ i. drafted (sym (append-nil globals) i) names kept (sym (append-nil included) i) (sym (append-nil remarks) i)
-added-is globals names kept included remarks (Begins (Context name)) named distinct before same =
-    with_context-is globals names kept included remarks name named
-    ∙ (λ i. drafted (sym (append-nil globals) i) (more_by is_named names (Some name)) kept (sym (append-nil included) i) (sym (append-nil remarks) i))
-added-is globals names kept included remarks (Sets global) named distinct before same =
-    λ i. drafted (globals ++ global ∷ []) names kept (sym (append-nil included) i) (sym (append-nil remarks) i)
-added-is globals names kept included remarks (Adds line context entry) named distinct before same =
-    let a : Addition = record { context = context; entry = entry } in
-    ap (λ (d : Drafted). with_addition d line context entry) (with_context-is globals names kept included remarks context named)
-    ∙ (with_addition-is globals (more_by is_named names (Some context)) kept included remarks line a (IsDistinct-more names context distinct)
-    ∙ (λ i. drafted (sym (append-nil globals) i) (more_by is_named names (Some context)) (more_by is_taken kept (Some a)) (sym (append-nil included) i) (remarks ++ map Noted (entry_note line (sym same i) a))))
-added-is globals names kept included remarks (Includes line context name) named distinct before same =
-    let k : Inclusion = record { context = context; name = name } in
-    ap (λ (d : Drafted). with_inclusion d line context name) (with_context-is globals names kept included remarks context named)
-    ∙ (with_inclusion-is globals (more_by is_named names (Some context)) kept included remarks line k (IsDistinct-more names context distinct)
-    ∙ (λ i. drafted (sym (append-nil globals) i) (more_by is_named names (Some context)) kept (included ++ k ∷ []) (remarks ++ Asks line name ∷ [])))
-added-is globals names kept included remarks (Unknown line) named distinct before same =
-    λ i. drafted (sym (append-nil globals) i) names kept (sym (append-nil included) i) (remarks ++ Noted (record { line = line; kind = UnknownKey }) ∷ [])
+-- the table behind an item
+abbrev priorities_behind : Reading → Item → Priorities
+priorities_behind reading x = (behind reading x).extensions.priorities
 
--- what the items make of a draft, and what stays true of its names
+-- what two functions say of each element alike, they say of all
+map-alike : {X Y : Type 0} (test : X → Bool) (f g : X → Y) (xs : List X) → ((x : X) → test x ≡ true → f x ≡ g x) → list_all test xs ≡ true → map f xs ≡ map g xs
+map-alike test f g [] alike all = refl
+map-alike test f g (x ∷ xs) alike all = λ i. alike x (and_left _ _ all) i ∷ map-alike test f g xs alike (and_right _ _ all) i
+
+filter_map-alike : {X Y : Type 0} (test : X → Bool) (f g : X → Option Y) (xs : List X) → ((x : X) → test x ≡ true → f x ≡ g x) → list_all test xs ≡ true → filter_map f xs ≡ filter_map g xs
+filter_map-alike test f g [] alike all = refl
+filter_map-alike test f g (x ∷ xs) alike all = λ i. cons_option (alike x (and_left _ _ all) i) (filter_map-alike test f g xs alike (and_right _ _ all) i)
+
+-- a line of an extension leaves the draft of what is kept as it is
+drafted-written : (es : Priorities) (e : Extension) (v : ℕ) (globals : List GlobalVariable) (names : List (List ℕ)) (kept : List Addition) (included : List Inclusion) (remarks : List Remark) → IsKnown es kept → drafted es globals names kept included remarks ≡ drafted (insert_entry same_extension es e v) globals names kept included remarks
+drafted-written es e v globals names kept included remarks all = λ i. record {
+  globals = globals;
+  names = names;
+  contexts = map (context_of kept included) names;
+  taken = map-alike known (slot_in es) (slot_in es') kept (λ a there. ap (λ n. slot_of n a.entry) (same a there)) all i;
+  labels = filter_map-alike known (label_in es) (label_in es') kept (λ a there. ap (λ n. label_of n a.entry) (same a there)) all i;
+  remarks = remarks;
+} where
+  es' : Priorities
+  es' = insert_entry same_extension es e v
+
+  known : Addition → Bool
+  known a = is_known es (extension_in a)
+
+  same : (a : Addition) → known a ≡ true → number_of es a ≡ number_of es' a
+  same a there = sym (number-kept es e v (extension_in a) there)
+
+-- the extensions of what is kept stay known
+known-all : (es : Priorities) (e : Extension) (v : ℕ) (kept : List Addition) → IsKnown es kept → IsKnown (insert_entry same_extension es e v) kept
+known-all es e v [] all = refl
+known-all es e v (k ∷ kept) all = and_both _ _ (known-kept es e v (extension_in k) (and_left _ _ all)) (known-all es e v kept (and_right _ _ all))
+
+-- one more item, by the parts of the draft
+added-is : (reading : Reading) (globals : List GlobalVariable) (names : List (List ℕ)) (kept : List Addition) (included : List Inclusion) (remarks : List Remark) (x : Item) → IsAllNamed names kept included → IsDistinct names → IsKnown reading.extensions.priorities kept
+    → (before : List Item) → kept_in before ≡ kept
+    → added (drafted reading.extensions.priorities globals names kept included remarks) (behind reading x).extensions.last x ≡ drafted (priorities_behind reading x) (globals ++ cons_option (global_in x) []) (more_by is_named names (context_in x)) (more_by is_taken kept (added_in x)) (included ++ cons_option (included_in x) []) (remarks ++ remark_of before x)
+added-is reading globals names kept included remarks (Begins General) named distinct all before same =
+    λ i. drafted reading.extensions.priorities (sym (append-nil globals) i) names kept (sym (append-nil included) i) (sym (append-nil remarks) i)
+added-is reading globals names kept included remarks (Begins Globals) named distinct all before same =
+    λ i. drafted reading.extensions.priorities (sym (append-nil globals) i) names kept (sym (append-nil included) i) (sym (append-nil remarks) i)
+added-is reading globals names kept included remarks (Begins (Context name)) named distinct all before same =
+    with_context-is reading.extensions.priorities globals names kept included remarks name named
+    ∙ (λ i. drafted reading.extensions.priorities (sym (append-nil globals) i) (more_by is_named names (Some name)) kept (sym (append-nil included) i) (sym (append-nil remarks) i))
+added-is reading globals names kept included remarks (Sets global) named distinct all before same =
+    λ i. drafted reading.extensions.priorities (globals ++ global ∷ []) names kept (sym (append-nil included) i) (sym (append-nil remarks) i)
+added-is reading globals names kept included remarks (Adds line context entry) named distinct all before same =
+    let a : Addition = record { context = context; entry = entry } in
+    let es = reading.extensions.priorities in
+    let e = extension_in a in
+    let es' = insert_entry same_extension es e entry.priority in
+    let names' = more_by is_named names (Some context) in
+    ap (λ (d : Drafted). with_addition d line context (number_in es e) entry) (with_context-is es globals names kept included remarks context named)
+    ∙ (ap (λ (d : Drafted). with_addition d line context (number_in es e) entry) (drafted-written es e entry.priority globals names' kept included remarks all)
+    ∙ (ap (λ number. with_addition (drafted es' globals names' kept included remarks) line context number entry) (sym (number-written es e entry.priority))
+    ∙ (with_addition-is es' globals names' kept included remarks line a (IsDistinct-more names context distinct) (known-written es e entry.priority) (known-all es e entry.priority kept all)
+    ∙ (λ i. drafted es' (sym (append-nil globals) i) names' (more_by is_taken kept (Some a)) (sym (append-nil included) i) (remarks ++ map Noted (entry_note line (sym same i) a))))))
+added-is reading globals names kept included remarks (Includes line context name) named distinct all before same =
+    let k : Inclusion = record { context = context; name = name } in
+    let es = reading.extensions.priorities in
+    ap (λ (d : Drafted). with_inclusion d line context name) (with_context-is es globals names kept included remarks context named)
+    ∙ (with_inclusion-is es globals (more_by is_named names (Some context)) kept included remarks line k (IsDistinct-more names context distinct)
+    ∙ (λ i. drafted es (sym (append-nil globals) i) (more_by is_named names (Some context)) kept (included ++ k ∷ []) (remarks ++ Asks line name ∷ [])))
+added-is reading globals names kept included remarks (Unknown line) named distinct all before same =
+    λ i. drafted reading.extensions.priorities (sym (append-nil globals) i) names kept (sym (append-nil included) i) (remarks ++ Noted (record { line = line; kind = UnknownKey }) ∷ [])
+
+-- what items leave for the next line
+pub reading-items : (made : MadeOf) (items : List Item) → (fold behind_item made items).reading ≡ fold behind made.reading items
+reading-items made [] = refl
+reading-items made (item ∷ items) = reading-items (behind_item made item) items
+
+-- what the items make of a draft, and what stays true of its names and its extensions
 pub record Makes (items : List Item) : Type 0 where
-  pub draft : fold added nothing items ≡ drafted_in items
+  pub draft : (fold behind_item unmade items).draft ≡ drafted_in items
+  pub known : IsKnown (reading_of items).extensions.priorities (kept_in items)
   pub named : IsAllNamed (names_in items) (kept_in items) (filter_map included_in items)
   pub distinct : IsDistinct (names_in items)
 
@@ -433,6 +498,28 @@ named-more names kept included (Includes line context name) named =
     (more.0, list_all-push (λ (k : Inclusion). is_named (more_by is_named names (Some context)) k.context) included (record { context = context; name = name }) more.1 (is_named-more names context))
 named-more names kept included (Unknown line) named = subst (IsAllNamed names kept) (sym (append-nil included)) named
 
+-- the extensions of what is kept with one more item are known
+known-more : (reading : Reading) (kept : List Addition) (x : Item) → IsKnown reading.extensions.priorities kept → IsKnown (priorities_behind reading x) (more_by is_taken kept (added_in x))
+known-more reading kept (Begins section) all = all
+known-more reading kept (Sets global) all = all
+known-more reading kept (Adds line context entry) all =
+    by (is_taken kept a) (known-all es e entry.priority kept all)
+  where
+    a : Addition
+    a = record { context = context; entry = entry }
+
+    es : Priorities
+    es = reading.extensions.priorities
+
+    e : Extension
+    e = extension_in a
+
+    by : (t : Bool) → IsKnown (insert_entry same_extension es e entry.priority) kept → IsKnown (insert_entry same_extension es e entry.priority) (kept ++ cond t [] (a ∷ []))
+    by true all = subst (IsKnown (insert_entry same_extension es e entry.priority)) (sym (append-nil kept)) all
+    by false all = list_all-push (λ k. is_known (insert_entry same_extension es e entry.priority) (extension_in k)) kept a all (known-written es e entry.priority)
+known-more reading kept (Includes line context name) all = all
+known-more reading kept (Unknown line) all = all
+
 distinct-option : (names : List (List ℕ)) (o : Option (List ℕ)) → IsDistinct names → IsDistinct (more_by is_named names o)
 distinct-option names None distinct = distinct
 distinct-option names (Some name) distinct = IsDistinct-more names name distinct
@@ -444,12 +531,16 @@ Makes-push items x makes =
     let names : names_in (items ++ x ∷ []) ≡ more_by is_named (names_in items) (context_in x) = kept_by-filter_map is_named context_in items x in
     let kept : kept_in (items ++ x ∷ []) ≡ more_by is_taken (kept_in items) (added_in x) = kept_by-filter_map is_taken added_in items x in
     let remarks = remarks_in-push items x in
+    let reading : reading_of (items ++ x ∷ []) ≡ behind (reading_of items) x = fold-append behind unread items (x ∷ []) in
     record {
       draft =
-          fold-append added nothing items (x ∷ [])
-          ∙ (ap (λ (d : Drafted). added d x) makes.draft
-          ∙ (added-is (filter_map global_in items) (names_in items) (kept_in items) (filter_map included_in items) (remarks_in items) x makes.named makes.distinct items refl
-          ∙ (λ i. drafted (sym globals i) (sym names i) (sym kept i) (sym included i) (sym remarks i))));
+          ap (λ (made : MadeOf). made.draft) (fold-append behind_item unmade items (x ∷ []))
+          ∙ ((λ i. added (makes.draft i) (behind (reading-items unmade items i) x).extensions.last x)
+          ∙ (added-is (reading_of items) (filter_map global_in items) (names_in items) (kept_in items) (filter_map included_in items) (remarks_in items) x makes.named makes.distinct makes.known items refl
+          ∙ (λ i. drafted (sym reading i).extensions.priorities (sym globals i) (sym names i) (sym kept i) (sym included i) (sym remarks i))));
+      known =
+          subst (λ (r : Reading). IsKnown r.extensions.priorities (kept_in (items ++ x ∷ []))) (sym reading)
+          (subst (IsKnown (priorities_behind (reading_of items) x)) (sym kept) (known-more (reading_of items) (kept_in items) x makes.known));
       named =
           subst (IsAllNamed (names_in (items ++ x ∷ [])) (kept_in (items ++ x ∷ []))) (sym included)
           (subst (λ (ks : List Addition). IsAllNamed (names_in (items ++ x ∷ [])) ks (filter_map included_in items ++ cons_option (included_in x) [])) (sym kept)
@@ -460,7 +551,7 @@ Makes-push items x makes =
 
 -- the items make the draft that they say
 pub Makes-all : (items : List Item) → Makes items
-Makes-all items = snoc_from Makes Makes-push [] items (record { draft = refl; named = (refl, refl); distinct = tt })
+Makes-all items = snoc_from Makes Makes-push [] items (record { draft = refl; known = refl; named = (refl, refl); distinct = tt })
 
 -- the names of the contexts are the names
 pub names-contexts : (kept : List Addition) (included : List Inclusion) (names : List (List ℕ)) → map (λ (c : PlanContext). c.name) (map (context_of kept included) names) ≡ names

@@ -8,7 +8,7 @@ use Rattle.dp_conf.specs.Lines.{LineFault, without_mark, parts_of, is_header, op
 use Rattle.dp_conf.specs.declared.lines.ConfLine.{ConfLine}
 use Rattle.dp_conf.proofs.LinesLemmas.{readings_from, each_after-reading_of, opens_section-is_header}
 use Rattle.dp_plan.specs.Contexts.{PlanContext}
-use Rattle.dp_plan.specs.Draft.{Drafted, nothing, added, settled}
+use Rattle.dp_plan.specs.Draft.{Drafted, settled}
 use Rattle.dp_plan.specs.Faults.{reason_of, text_fault}
 use Rattle.dp_plan.specs.History.{History, history_of}
 use Rattle.dp_plan.specs.Items.{line_item, items_after}
@@ -16,13 +16,13 @@ use Rattle.dp_plan.specs.Loaded.{loaded}
 use Rattle.dp_plan.specs.Loading.{MadeOf, unmade, behind_item, behind_line, behind_lines, behind_all, part_read, part_behind, finished, behind_text, drafted_of}
 use Rattle.dp_plan.specs.Plan.{PlanOf, kept_in, names_in, included_in, plan_of, notes_of}
 use Rattle.dp_plan.specs.Ranking.{AreApart}
-use Rattle.dp_plan.specs.Reader.{unread, behind}
+use Rattle.dp_plan.specs.Reader.{history_in}
 use Rattle.dp_plan.specs.declared.fault.LoadFault.{LoadFault}
 use Rattle.dp_plan.specs.declared.fault.LoadFault.TheVariants.{Conf, Pattern, Plan, NoMemory}
 use Rattle.dp_plan.specs.declared.item.Item.{Item}
 use Rattle.dp_plan.specs.declared.note.Note.{Note}
 use Rattle.dp_plan.proofs.ApartLemmas.{kept-apart, contexts-apart}
-use Rattle.dp_plan.proofs.DraftLemmas.{drafted_in, Makes-all, names-contexts, settled-notes}
+use Rattle.dp_plan.proofs.DraftLemmas.{drafted_in, Makes-all, names-contexts, reading-items, settled-notes}
 use Rattle.dp_plan.proofs.HistoryLemmas.{history_kept}
 use Rattle.dp_plan.proofs.LoadedLemmas.{of_items, of_lines}
 
@@ -105,18 +105,16 @@ behind_text-refused made text fault e = sym (reached_of-lines made (lines_of tex
 
 -- ---- items
 
-fold-behind_item : (made : MadeOf) (items : List Item) → fold behind_item made items ≡ record { reading = fold behind made.reading items; draft = fold added made.draft items }
-fold-behind_item made [] = refl
-fold-behind_item made (item ∷ items) = fold-behind_item (behind_item made item) items
-
 -- what some items make
 abbrev made_by : List Item → MadeOf
-made_by items = record { reading = fold behind unread items; draft = fold added nothing items }
+made_by items = fold behind_item unmade items
 
 made_by-append : (before items : List Item) → fold behind_item (made_by before) items ≡ made_by (before ++ items)
-made_by-append before items =
-    fold-behind_item (made_by before) items
-    ∙ (λ i. record { reading = sym (fold-append behind unread before items) i; draft = sym (fold-append added nothing before items) i })
+made_by-append before items = sym (fold-append behind_item unmade before items)
+
+-- what they leave for the next line is their history
+made_by-history : (before : List Item) → history_in (made_by before).reading ≡ history_of before
+made_by-history before = ap history_in (reading-items unmade before) ∙ history_kept before
 
 abbrev made_of_items : List Item → Result (List Item) LoadFault → State
 made_of_items before read = read >>= λ items. Ok (made_by (before ++ items))
@@ -129,7 +127,7 @@ made_of_items-front before item (Err fault) = refl
 behind_lines-items : (before : List Item) (lines : List ConfLine) → behind_lines (made_by before) lines ≡ made_of_items before (items_after before lines)
 behind_lines-items before [] = ap (λ (xs : List Item). let done : State = Ok (made_by xs) in done) (sym (append-nil before))
 behind_lines-items before (line ∷ lines) =
-    ap (λ (h : History). read_by (line_item h line)) (history_kept before) ∙ by (line_item (history_of before) line) (λ item. behind_lines-items (before ++ item) lines)
+    ap (λ (h : History). read_by (line_item h line)) (made_by-history before) ∙ by (line_item (history_of before) line) (λ item. behind_lines-items (before ++ item) lines)
   where
     read_by : Result (List Item) LoadFault → State
     read_by read = (read >>= λ items. let done : State = Ok (fold behind_item (made_by before) items) in done) >>= λ made. behind_lines made lines

@@ -1,12 +1,25 @@
 -- Where an element stands in a list of which no two are the same.
-use Rattle.std.proofs.Common.{◌≡◌, ℕ, zero, suc, ◌+◌, ◌<◌, Bool, true, false, cond, not, ◌||◌, List, [], ◌∷◌, length, Some, slice_get, get_or, refl, ap, subst, ◌∙◌, sym, arith}
+use Rattle.std.proofs.Common.{◌≡◌, ℕ, zero, suc, ◌+◌, ◌<◌, Bool, true, false, cond, not, ◌||◌, ◌==◌, List, [], ◌∷◌, ◌++◌, length, Some, slice_get, get_or, refl, ap, subst, ◌∙◌, sym, arith}
+use Rattle.std.proofs.Math.Dec.{eqb-suc-suc, eqb-suc-zero, eqb-zero-suc}
 use Rattle.std.specs.List.{IsDistinct, AllByRecursion, list_any, position_or_len}
 use Rattle.std.proofs.lemmas.Option.{slice_get_read}
 use Rattle.std.specs.Cmp.{IsEquivalence}
 use Rattle.std.specs.Cmp.Lexicographic.{nat_list_eq_equiv}
 use Rattle.dp_conf.specs.Words.{same_text}
 use Rattle.dp_plan.specs.Plan.{is_named}
-use Rattle.dp_plan.proofs.DraftLemmas.{or_right}
+
+-- a test of either kind
+pub or_false : (a b : Bool) → (a || b) ≡ false → (a ≡ false) × (b ≡ false)
+or_false true b e = absurd cc
+or_false false b e = (refl, e)
+
+pub or_true : (a b : Bool) → a ≡ true → (a || b) ≡ true
+or_true true b e = refl
+or_true false b e = absurd cc
+
+pub or_right : (a b : Bool) → b ≡ true → (a || b) ≡ true
+or_right true b e = refl
+or_right false b e = e
 
 -- an element is another than each that stands behind it
 pub later_apart : {K : Type 0} (eq : K → K → Bool) (x k : K) (xs : List K) (i : ℕ) → AllByRecursion (λ y. eq x y ≡ false) xs → slice_get xs i ≡ Some k → eq x k ≡ false
@@ -41,6 +54,32 @@ list_any-at {K} test (x ∷ xs) zero k here passes =
     let first : x ≡ k = cc in
     ap (λ t. t || list_any test xs) (subst (λ (z : K). test z ≡ true) (sym first) passes)
 list_any-at test (x ∷ xs) (suc i) k here passes = or_right (test x) (list_any test xs) (list_any-at test xs i k here passes)
+
+-- what stands behind a list that has an element leaves the element's place
+pub position-more : {K : Type 0} (test : K → Bool) (ks more : List K) → list_any test ks ≡ true → position_or_len test (ks ++ more) ≡ position_or_len test ks
+position-more test [] more there = absurd cc
+position-more {K} test (k ∷ ks) more there = by (position-more test ks more) (test k) there where
+  by : (list_any test ks ≡ true → position_or_len test (ks ++ more) ≡ position_or_len test ks) → (t : Bool) → (t || list_any test ks) ≡ true → cond (not t) (1 + position_or_len test (ks ++ more)) 0 ≡ cond (not t) (1 + position_or_len test ks) 0
+  by later true there = refl
+  by later false there = ap (λ n. 1 + n) (later there)
+
+-- an element that is new goes to the place that it is given
+pub position-new : {K : Type 0} (test : K → Bool) (ks : List K) (k : K) → list_any test ks ≡ false → test k ≡ true → position_or_len test (ks ++ k ∷ []) ≡ position_or_len test ks
+position-new test [] k absent passes = ap (λ t. cond (not t) (1 + 0) 0) passes
+position-new test (x ∷ ks) k absent passes = ap (λ n. cond (not (test x)) (1 + n) 0) (position-new test ks k (or_false (test x) (list_any test ks) absent).1 passes)
+
+-- two elements have one place exactly where they are the same
+pub same_position : {K : Type 0} (eq : K → K → Bool) → IsEquivalence eq → (ks : List K) (a b : K) → list_any (eq a) ks ≡ true → list_any (eq b) ks ≡ true → (position_or_len (eq a) ks == position_or_len (eq b) ks) ≡ eq a b
+same_position eq laws [] a b there other = absurd cc
+same_position {K} eq laws (x ∷ ks) a b there other = by (same_position eq laws ks a b) (eq a x) refl (eq b x) refl there other where
+  next : (n : ℕ) → 1 + n ≡ suc n
+  next n = omega arith
+
+  by : (list_any (eq a) ks ≡ true → list_any (eq b) ks ≡ true → (position_or_len (eq a) ks == position_or_len (eq b) ks) ≡ eq a b) → (s : Bool) → eq a x ≡ s → (t : Bool) → eq b x ≡ t → (s || list_any (eq a) ks) ≡ true → (t || list_any (eq b) ks) ≡ true → (cond (not s) (1 + position_or_len (eq a) ks) 0 == cond (not t) (1 + position_or_len (eq b) ks) 0) ≡ eq a b
+  by later true e true f u v = sym (laws.congr a x b e ∙ (laws.symm x b ∙ f))
+  by later true e false f u v = (λ i. 0 == next (position_or_len (eq b) ks) i) ∙ (eqb-zero-suc (position_or_len (eq b) ks) ∙ sym (laws.congr a x b e ∙ (laws.symm x b ∙ f)))
+  by later false e true f u v = (λ i. next (position_or_len (eq a) ks) i == 0) ∙ (eqb-suc-zero (position_or_len (eq a) ks) ∙ sym (laws.symm a b ∙ (laws.congr b x a f ∙ (laws.symm x a ∙ e))))
+  by later false e false f u v = (λ i. next (position_or_len (eq a) ks) i == next (position_or_len (eq b) ks) i) ∙ (eqb-suc-suc (position_or_len (eq a) ks) (position_or_len (eq b) ks) ∙ later u v)
 
 -- a name among distinct names
 pub place_of_name : (names : List (List ℕ)) (i : ℕ) (there name : List ℕ) → IsDistinct same_text names → i < length names → there ≡ get_or names i there → same_text name there ≡ true → i ≡ position_or_len (same_text name) names

@@ -1,15 +1,16 @@
 -- The table of extensions, where the last line's extension is compared first.
-use Rattle.std.proofs.Common.{◌≡◌, ℕ, zero, suc, Bool, true, false, cond, List, [], ◌∷◌, Option, Some, None, slice_get, refl, ap, subst, ◌∙◌, sym}
-use Rattle.std.specs.List.{IsDistinct}
+use Rattle.std.proofs.Common.{◌≡◌, ℕ, zero, suc, Bool, true, false, cond, ◌||◌, ◌==◌, List, [], ◌∷◌, ◌++◌, Option, Some, None, slice_get, refl, ap, subst, ◌∙◌, sym}
+use Rattle.std.specs.List.{IsDistinct, list_any, position_or_len}
 use Rattle.std.specs.Option.{option_map, option_map_or}
 use Rattle.std.specs.Map.{lookup, keys_of}
 use Rattle.std.specs.Cmp.{IsEquivalence}
+use Rattle.std.proofs.lemmas.List.Folds.{list_any-append}
 use Rattle.indexmap.specs.IndexMap.{insert_entry, set_value_at}
 use Rattle.dp_plan.specs.Extensions.{same_extension}
-use Rattle.dp_plan.specs.Table.{Table, is_last, written}
+use Rattle.dp_plan.specs.Table.{Table, is_last, number_in, written}
 use Rattle.dp_plan.specs.declared.extension.Extension.{Extension}
 use Rattle.dp_plan.proofs.HistoryLemmas.{same_extension_equiv}
-use Rattle.dp_plan.proofs.PositionLemmas.{later_apart, position_or_len-distinct}
+use Rattle.dp_plan.proofs.PositionLemmas.{later_apart, or_right, or_true, position-more, position-new, position_or_len-distinct, same_position}
 
 -- keys that are the same find the same
 lookup-same : {K V : Type 0} (eq : K → K → Bool) → IsEquivalence eq → (es : List (K × V)) (q k : K) → eq q k ≡ true → lookup (eq q) es ≡ lookup (eq k) es
@@ -54,3 +55,63 @@ written_last table asked priority distinct same = by (slice_get table.priorities
     priorities = insert_entry-at same_extension same_extension_equiv table.priorities table.last entry asked priority distinct here same i;
     last = position_or_len-distinct same_extension same_extension_equiv (keys_of table.priorities) table.last entry.0 asked distinct (slice_get-keys table.priorities table.last entry here) same i;
   }
+
+-- ---- the numbers of extensions
+
+-- the extension is in the table
+abbrev pub is_known : List (Extension × ℕ) → Extension → Bool
+is_known priorities extension = list_any (same_extension extension) (keys_of priorities)
+
+-- the keys once a key was written
+keys-insert_entry : {K V : Type 0} (eq : K → K → Bool) (es : List (K × V)) (q : K) (v : V) → keys_of (insert_entry eq es q v) ≡ cond (list_any (eq q) (keys_of es)) (keys_of es) (keys_of es ++ q ∷ [])
+keys-insert_entry eq [] q v = refl
+keys-insert_entry {K} {V} eq (e ∷ es) q v = by (keys-insert_entry eq es q v) (eq q e.0) where
+  front : (t : Bool) → e.0 ∷ cond t (keys_of es) (keys_of es ++ q ∷ []) ≡ cond t (e.0 ∷ keys_of es) (e.0 ∷ (keys_of es ++ q ∷ []))
+  front true = refl
+  front false = refl
+
+  by : keys_of (insert_entry eq es q v) ≡ cond (list_any (eq q) (keys_of es)) (keys_of es) (keys_of es ++ q ∷ []) → (t : Bool) → keys_of (cond t ((e.0, v) ∷ es) (e ∷ insert_entry eq es q v)) ≡ cond (t || list_any (eq q) (keys_of es)) (e.0 ∷ keys_of es) (e.0 ∷ (keys_of es ++ q ∷ []))
+  by later true = refl
+  by later false = ap (λ (ks : List K). e.0 ∷ ks) later ∙ front (list_any (eq q) (keys_of es))
+
+module _ (es : List (Extension × ℕ)) (e : Extension) (v : ℕ) where
+  -- the keys behind a line of the extension
+  abbrev keys_by : Bool → List Extension
+  keys_by t = cond t (keys_of es) (keys_of es ++ e ∷ [])
+
+  keys_after : keys_of (insert_entry same_extension es e v) ≡ keys_by (is_known es e)
+  keys_after = keys-insert_entry same_extension es e v
+
+  -- what is known stays known
+  pub known-kept : (q : Extension) → is_known es q ≡ true → is_known (insert_entry same_extension es e v) q ≡ true
+  known-kept q known = ap (list_any (same_extension q)) keys_after ∙ by (is_known es e) where
+    by : (t : Bool) → list_any (same_extension q) (keys_by t) ≡ true
+    by true = known
+    by false = list_any-append (same_extension q) (keys_of es) (e ∷ []) ∙ or_true (is_known es q) (list_any (same_extension q) (e ∷ [])) known
+
+  -- the extension of the line is known
+  pub known-written : is_known (insert_entry same_extension es e v) e ≡ true
+  known-written = ap (list_any (same_extension e)) keys_after ∙ by (is_known es e) refl where
+    by : (t : Bool) → is_known es e ≡ t → list_any (same_extension e) (keys_by t) ≡ true
+    by true known = known
+    by false other =
+        list_any-append (same_extension e) (keys_of es) (e ∷ [])
+        ∙ or_right (is_known es e) (list_any (same_extension e) (e ∷ [])) (or_true (same_extension e e) false (same_extension_equiv.refl e))
+
+  -- what is known keeps its number
+  pub number-kept : (q : Extension) → is_known es q ≡ true → number_in (insert_entry same_extension es e v) q ≡ number_in es q
+  number-kept q known = ap (position_or_len (same_extension q)) keys_after ∙ by (is_known es e) where
+    by : (t : Bool) → position_or_len (same_extension q) (keys_by t) ≡ number_in es q
+    by true = refl
+    by false = position-more (same_extension q) (keys_of es) (e ∷ []) known
+
+  -- the extension of the line has the number that it was given
+  pub number-written : number_in (insert_entry same_extension es e v) e ≡ number_in es e
+  number-written = ap (position_or_len (same_extension e)) keys_after ∙ by (is_known es e) refl where
+    by : (t : Bool) → is_known es e ≡ t → position_or_len (same_extension e) (keys_by t) ≡ number_in es e
+    by true known = refl
+    by false other = position-new (same_extension e) (keys_of es) e other (same_extension_equiv.refl e)
+
+-- two extensions of a table have one number exactly where they are the same
+pub same_number : (es : List (Extension × ℕ)) (a b : Extension) → is_known es a ≡ true → is_known es b ≡ true → (number_in es a == number_in es b) ≡ same_extension a b
+same_number es a b known other = same_position same_extension same_extension_equiv (keys_of es) a b known other

@@ -5,7 +5,6 @@ use Rattle.std.specs.List.{list_any, position_or_len}
 use Rattle.std.specs.Option.{option_to_list, option_map}
 use Rattle.dp_conf.specs.Words.{same_text}
 use Rattle.dp_plan.specs.Contexts.{PlanContext, with_entry, with_include}
-use Rattle.dp_plan.specs.Extensions.{extension_of, same_extension}
 use Rattle.dp_plan.specs.Plan.{is_named, include_note}
 use Rattle.dp_plan.specs.declared.draft.Slot.{Slot}
 use Rattle.dp_plan.specs.declared.draft.Label.{Label}
@@ -36,23 +35,23 @@ nothing = record { globals = []; names = []; contexts = []; taken = []; labels =
 
 -- two slots are the same place
 abbrev pub same_slot : Slot → Slot → Bool
-same_slot a b = same_extension a.extension b.extension && a.priority == b.priority
+same_slot a b = a.extension == b.extension && a.priority == b.priority
 
 -- two labels are the same one of the same extension
 abbrev pub same_marked : Label → Label → Bool
-same_marked a b = same_extension a.extension b.extension && same_text a.label b.label
+same_marked a b = a.extension == b.extension && same_text a.label b.label
 
--- the place that an entry takes in its context
-abbrev pub slot_of : List ℕ → Entry → Slot
-slot_of context entry = record { extension = extension_of context entry.name; priority = entry.priority }
+-- the place that an entry takes, by the number of its extension
+abbrev pub slot_of : ℕ → Entry → Slot
+slot_of number entry = record { extension = number; priority = entry.priority }
 
--- a label of an entry in its context
-abbrev pub label_in : List ℕ → Entry → List ℕ → Label
-label_in context entry label = record { extension = extension_of context entry.name; label = label }
+-- a label, by the number of its extension
+abbrev pub label_in : ℕ → List ℕ → Label
+label_in number label = record { extension = number; label = label }
 
 -- the label that an entry takes, where it has one
-abbrev pub label_of : List ℕ → Entry → Option Label
-label_of context entry = option_map (label_in context entry) entry.label
+abbrev pub label_of : ℕ → Entry → Option Label
+label_of number entry = option_map (label_in number) entry.label
 
 -- the context of a name, with nothing in it
 abbrev pub empty_context : List ℕ → PlanContext
@@ -116,14 +115,14 @@ claimed d slot label =
     else record d { taken = d.taken ++ slot ∷ []; labels = d.labels ++ option_to_list label }
 
 -- the draft with the entry in its context, which is there already, unless its place or its label is taken
-abbrev pub with_addition : Drafted → ℕ → List ℕ → Entry → Drafted
-with_addition d line context entry =
-    if is_slot_taken d (slot_of context entry) then with_note d line DoublePriority
-    else if is_marked d (label_of context entry) then with_note d line DoubleLabel
+abbrev pub with_addition : Drafted → ℕ → List ℕ → ℕ → Entry → Drafted
+with_addition d line context number entry =
+    if is_slot_taken d (slot_of number entry) then with_note d line DoublePriority
+    else if is_marked d (label_of number entry) then with_note d line DoubleLabel
     else record d {
       contexts = changed_context d (with_entry entry) context;
-      taken = d.taken ++ slot_of context entry ∷ [];
-      labels = d.labels ++ option_to_list (label_of context entry);
+      taken = d.taken ++ slot_of number entry ∷ [];
+      labels = d.labels ++ option_to_list (label_of number entry);
     }
 
 -- the draft with the include in its context, which is there already; whether its name is known shows in the end
@@ -139,13 +138,13 @@ with_section d General = d
 with_section d Globals = d
 with_section d (Context name) = with_context d name
 
--- the draft with one more item
-abbrev pub added : Drafted → Item → Drafted
-added d (Begins section) = with_section d section
-added d (Sets global) = record d { globals = d.globals ++ global ∷ [] }
-added d (Adds line context entry) = with_addition (with_context d context) line context entry
-added d (Includes line context name) = with_inclusion (with_context d context) line context name
-added d (Unknown line) = with_note d line UnknownKey
+-- the draft with one more item; where it is an entry, its extension has the number
+abbrev pub added : Drafted → ℕ → Item → Drafted
+added d number (Begins section) = with_section d section
+added d number (Sets global) = record d { globals = d.globals ++ global ∷ [] }
+added d number (Adds line context entry) = with_addition (with_context d context) line context number entry
+added d number (Includes line context name) = with_inclusion (with_context d context) line context name
+added d number (Unknown line) = with_note d line UnknownKey
 
 -- the note of a remark, by the names of all contexts
 abbrev pub settled : List (List ℕ) → Remark → List Note

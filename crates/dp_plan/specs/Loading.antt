@@ -23,7 +23,10 @@ unmade = record { reading = unread; draft = nothing }
 
 -- behind one more item
 abbrev pub behind_item : MadeOf → Item → MadeOf
-behind_item made item = record { reading = behind made.reading item; draft = added made.draft item }
+behind_item made item = record {
+  reading = behind made.reading item;
+  draft = added made.draft (behind made.reading item).extensions.last item;
+}
 
 -- behind one more line, or the line's fault
 abbrev pub behind_line : MadeOf → ConfLine → Result MadeOf LoadFault

@@ -10,7 +10,6 @@ ghost use Rattle.dp_plan.specs.Ranking.{AreApart};
 
 use crate::context::Context;
 use crate::entry::Entry;
-use crate::extension::Extension;
 use crate::item::Item;
 use crate::note::{Note, NoteKind};
 use crate::plan::{Dialplan, GlobalVariable, Parts};
@@ -24,17 +23,17 @@ use indexmap::IndexSet;
 use std::alloc::Global;
 use std::marker::Model;
 
-/// A place in a dialplan that at most one entry has.
-#[derive(PartialEq, Eq, Hash, Drop)]
+/// A place in a dialplan that at most one entry has: the number of an extension, and a priority.
+#[derive(Clone, Copy, PartialEq, Eq, Hash)]
 pub(crate) struct Slot {
-    extension: Extension,
+    extension: u32,
     priority: u32,
 }
 
-/// A label of an extension, which at most one entry has.
+/// A label of the extension of a number, which at most one entry has.
 #[derive(PartialEq, Eq, Hash, Drop)]
 pub(crate) struct Label {
-    extension: Extension,
+    extension: u32,
     label: SharedText,
 }
 
@@ -69,25 +68,25 @@ impl Model for Draft {
     ghost invariant = { λ draft. length draft.names.keys ≡ length draft.contexts.items };
 }
 
-/// The place that an entry takes in its context.
-fn slot_of(context: &SharedText, entry: &Entry) -> Result<Slot, NoMemory>
-    ensures { IfOk result (λ slot. slot ≡ spec.slot_of context.now entry.now) }
+/// The place that an entry takes, by the number of its extension.
+fn slot_of(number: u32, entry: &Entry) -> Slot
+    ensures { result ≡ spec.slot_of number entry.now }
 {
-    let extension = Extension::of(context, &entry.name)?;
-    let priority = entry.priority.get();
-    Ok(Slot {
-        extension,
-        priority,
-    })
+    Slot {
+        extension: number,
+        priority: entry.priority.get(),
+    }
 }
 
-/// The label of an entry in its context.
-fn label_of(context: &SharedText, entry: &Entry, label: &SharedText) -> Result<Label, NoMemory>
-    ensures { IfOk result (λ marked. marked ≡ spec.label_in context.now entry.now label.now) }
+/// A label, by the number of its extension.
+fn label_of(number: u32, label: &SharedText) -> Result<Label, NoMemory>
+    ensures { IfOk result (λ marked. marked ≡ spec.label_in number label.now) }
 {
-    let extension = Extension::of(context, &entry.name)?;
     let label = label.clone()?;
-    Ok(Label { extension, label })
+    Ok(Label {
+        extension: number,
+        label,
+    })
 }
 
 /// What an entry with a label takes: its place and its label.
@@ -97,13 +96,13 @@ struct Claim {
     label: Label,
 }
 
-/// What an entry with this label takes of its context.
-fn claim_of(context: &SharedText, entry: &Entry, label: &SharedText) -> Result<Claim, NoMemory>
-    ensures slot { IfOk result (λ claim. claim.slot ≡ spec.slot_of context.now entry.now) }
-    ensures label { IfOk result (λ claim. claim.label ≡ spec.label_in context.now entry.now label.now) }
+/// What an entry with this label takes, by the number of its extension.
+fn claim_of(number: u32, entry: &Entry, label: &SharedText) -> Result<Claim, NoMemory>
+    ensures slot { IfOk result (λ claim. claim.slot ≡ spec.slot_of number entry.now) }
+    ensures label { IfOk result (λ claim. claim.label ≡ spec.label_in number label.now) }
 {
-    let slot = slot_of(context, entry)?;
-    let label = label_of(context, entry, label)?;
+    let slot = slot_of(number, entry);
+    let label = label_of(number, label)?;
     Ok(Claim { slot, label })
 }
 
@@ -277,21 +276,18 @@ impl Draft {
         Ok(noted)
     }
 
-    /// Takes up what an entry takes of its context, unless that is taken, which is noted.
+    /// Takes up what an entry takes, by the number of its extension, unless that is taken, which is noted.
     #[tactic(auto, using(crate::proofs::ClaimLemmas::claimed_bare))]
-    fn claim(&mut self, context: &SharedText, entry: &Entry) -> Result<Option<NoteKind>, NoMemory>
+    fn claim(&mut self, number: u32, entry: &Entry) -> Result<Option<NoteKind>, NoMemory>
         ensures noted { IfOk result (λ noted. noted
-            ≡ spec.doubled self.old (spec.slot_of context.now entry.now) (spec.label_of context.now entry.now)) }
+            ≡ spec.doubled self.old (spec.slot_of number entry.now) (spec.label_of number entry.now)) }
         ensures taken { OnOk result (self.new
-            ≡ spec.claimed self.old (spec.slot_of context.now entry.now) (spec.label_of context.now entry.now)) }
+            ≡ spec.claimed self.old (spec.slot_of number entry.now) (spec.label_of number entry.now)) }
     {
         match &entry.label {
-            None => {
-                let slot = slot_of(context, entry)?;
-                self.take(slot)
-            }
+            None => { self.take(slot_of(number, entry)) }
             Some(label) => {
-                let claim = claim_of(context, entry, label)?;
+                let claim = claim_of(number, entry, label)?;
                 self.take_both(claim)
             }
         }
@@ -328,12 +324,14 @@ impl Draft {
         alloc: Global,
         line: usize,
         context: &SharedText,
+        number: u32,
         entry: Entry,
     ) -> Result<(), NoMemory>
-        ensures { OnOk result (self.new ≡ spec.with_addition (spec.with_context self.old context.now) line context.now entry) }
+        ensures { OnOk result (self.new
+            ≡ spec.with_addition (spec.with_context self.old context.now) line context.now number entry) }
     {
         let place = self.open(alloc, context)?;
-        match self.claim(context, &entry)? {
+        match self.claim(number, &entry)? {
             Some(kind) => self.note(line, kind),
             None => self.push_entry(place, entry),
         }
@@ -382,9 +380,9 @@ impl Draft {
         Ok(())
     }
 
-    /// Adds what an item says.
-    fn add(&mut self, alloc: Global, item: Item) -> Result<(), NoMemory>
-        ensures { OnOk result (self.new ≡ spec.added self.old item) }
+    /// Adds what an item says. Where it is an entry, its extension has the number.
+    fn add(&mut self, alloc: Global, number: u32, item: Item) -> Result<(), NoMemory>
+        ensures { OnOk result (self.new ≡ spec.added self.old number item) }
     {
         match item {
             Item::Begins(section) => self.begin(alloc, section),
@@ -393,7 +391,7 @@ impl Draft {
                 line,
                 context,
                 entry,
-            } => self.add_entry(alloc, line, &context, entry),
+            } => self.add_entry(alloc, line, &context, number, entry),
             Item::Includes {
                 line,
                 context,
@@ -403,13 +401,18 @@ impl Draft {
         }
     }
 
-    /// Adds what an item says, where there is one.
-    pub(crate) fn add_item(&mut self, alloc: Global, item: Option<Item>) -> Result<(), NoMemory>
-        ensures { OnOk result (self.new ≡ fold spec.added self.old (option_to_list item)) }
+    /// Adds what an item says, where there is one. Where it is an entry, its extension has the number.
+    pub(crate) fn add_item(
+        &mut self,
+        alloc: Global,
+        number: u32,
+        item: Option<Item>,
+    ) -> Result<(), NoMemory>
+        ensures { OnOk result (self.new ≡ fold (λ draft i. spec.added draft number i) self.old (option_to_list item)) }
     {
         match item {
             None => Ok(()),
-            Some(item) => self.add(alloc, item),
+            Some(item) => self.add(alloc, number, item),
         }
     }
 

@@ -46,7 +46,7 @@ impl Made {
         ensures { OnOk result (self.new ≡ fold spec.behind_item self.old (option_to_list item)) }
     {
         self.reader.remember(item.as_ref())?;
-        self.draft.add_item(alloc, item)
+        self.draft.add_item(alloc, self.reader.extension(), item)
     }
 
     /// Goes behind a line.

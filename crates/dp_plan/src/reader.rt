@@ -65,6 +65,13 @@ impl Reader {
         self.name.as_ref()
     }
 
+    /// The number of the extension of the last entry's line.
+    pub(crate) fn extension(&self) -> u32
+        ensures { result ≡ self.now.extensions.last }
+    {
+        self.extensions.last()
+    }
+
     /// The priority of the last line of the extension, also where that line is dropped.
     pub(crate) fn last_priority(
         &self,
