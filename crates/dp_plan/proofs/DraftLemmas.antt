@@ -18,10 +18,11 @@ use Rattle.dp_plan.specs.Loading.{MadeOf, unmade, behind_item}
 use Rattle.dp_plan.specs.Reader.{Reading, unread, behind}
 use Rattle.dp_plan.specs.Table.{number_in}
 use Rattle.dp_plan.specs.Plan.{Addition, Inclusion, of_one_extension, shares_label, is_place_taken, is_label_taken, is_taken, is_named, kept_by, added_in, included_in, context_in, global_in, kept_in, names_in, context_of, entry_note, include_note, note_of, notes_of}
-use Rattle.dp_plan.specs.Draft.{Drafted, same_slot, same_marked, slot_of, label_of, with_context, changed_at, changed_context, is_marked, with_note, with_addition, with_inclusion, added, settled}
+use Rattle.dp_plan.specs.Places.{same_slot}
+use Rattle.dp_plan.specs.Draft.{Drafted, same_marked, slot_of, label_of, with_context, changed_at, changed_context, is_marked, with_note, with_addition, with_inclusion, added, settled}
 use Rattle.indexmap.specs.IndexMap.{insert_entry}
 use Rattle.dp_plan.specs.declared.extension.Extension.{Extension}
-use Rattle.dp_plan.specs.declared.draft.Slot.{Slot}
+use Rattle.dp_plan.specs.declared.places.Slot.{Slot}
 use Rattle.dp_plan.specs.declared.draft.Label.{Label}
 use Rattle.dp_plan.specs.declared.entry.Entry.{Entry}
 use Rattle.dp_plan.specs.declared.plan.GlobalVariable.{GlobalVariable}

@@ -13,6 +13,7 @@ mod ItemsKnown
 mod LoadedLemmas
 mod LoadingLemmas
 mod NamedLemmas
+mod PlaceLemmas
 pub mod PlanAgain
 pub mod PlanKnown
 mod PositionLemmas

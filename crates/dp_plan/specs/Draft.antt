@@ -5,8 +5,9 @@ use Rattle.std.specs.List.{list_any, position_or_len}
 use Rattle.std.specs.Option.{option_to_list, option_map}
 use Rattle.dp_conf.specs.Words.{same_text}
 use Rattle.dp_plan.specs.Contexts.{PlanContext, with_entry, with_include}
+use Rattle.dp_plan.specs.Places.{same_slot}
 use Rattle.dp_plan.specs.Plan.{is_named, include_note}
-use Rattle.dp_plan.specs.declared.draft.Slot.{Slot}
+use Rattle.dp_plan.specs.declared.places.Slot.{Slot}
 use Rattle.dp_plan.specs.declared.draft.Label.{Label}
 use Rattle.dp_plan.specs.declared.remark.Remark.{Remark}
 use Rattle.dp_plan.specs.declared.remark.Remark.TheVariants.{Noted, Asks}
@@ -32,10 +33,6 @@ pub record Drafted : Type 0 where
 -- nothing so far
 abbrev pub nothing : Drafted
 nothing = record { globals = []; names = []; contexts = []; taken = []; labels = []; remarks = [] }
-
--- two slots are the same place
-abbrev pub same_slot : Slot → Slot → Bool
-same_slot a b = a.extension == b.extension && a.priority == b.priority
 
 -- two labels are the same one of the same extension
 abbrev pub same_marked : Label → Label → Bool
@@ -86,13 +83,9 @@ abbrev pub is_marked : Drafted → Option Label → Bool
 is_marked d None = false
 is_marked d (Some label) = list_any (same_marked label) d.labels
 
--- the draft with the place taken
-abbrev pub with_slot : Drafted → Slot → Drafted
-with_slot d slot = if is_slot_taken d slot then d else record d { taken = d.taken ++ slot ∷ [] }
-
--- the draft with the label taken
-abbrev pub with_label : Drafted → Label → Drafted
-with_label d label = if is_marked d (Some label) then d else record d { labels = d.labels ++ label ∷ [] }
+-- the draft with the label taken, where there is one and it is free
+abbrev pub with_label : Drafted → Option Label → Drafted
+with_label d label = if is_marked d label then d else record d { labels = d.labels ++ option_to_list label }
 
 -- the draft with one more note
 abbrev pub with_note : Drafted → ℕ → NoteKind → Drafted

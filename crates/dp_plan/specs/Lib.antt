@@ -10,6 +10,7 @@ pub mod KnownApplications
 pub mod Loaded
 pub mod Loading
 pub mod Lookup
+pub mod Places
 pub mod Plan
 pub mod Priority
 pub mod Ranking

@@ -12,6 +12,7 @@ use crate::context::Context;
 use crate::entry::Entry;
 use crate::item::Item;
 use crate::note::{Note, NoteKind};
+use crate::places::{Places, Slot};
 use crate::plan::{Dialplan, GlobalVariable, Parts};
 use crate::priority::Priority;
 use crate::ranking::rank_contexts;
@@ -22,13 +23,6 @@ use dp_conf::{NoMemory, Text};
 use indexmap::IndexSet;
 use std::alloc::Global;
 use std::marker::Model;
-
-/// A place in a dialplan that at most one entry has: the number of an extension, and a priority.
-#[derive(Clone, Copy, PartialEq, Eq, Hash)]
-pub(crate) struct Slot {
-    extension: u32,
-    priority: u32,
-}
 
 /// A label of the extension of a number, which at most one entry has.
 #[derive(PartialEq, Eq, Hash, Drop)]
@@ -43,7 +37,7 @@ pub(crate) struct Draft {
     globals: Vec<GlobalVariable>,
     names: IndexSet<Text>,
     contexts: Vec<Context>,
-    taken: IndexSet<Slot>,
+    taken: Places,
     labels: IndexSet<Label>,
     remarks: Vec<Remark>,
     /// The number of the context that was opened last, which is asked first.
@@ -60,7 +54,7 @@ impl Model for Draft {
       globals = draft.globals.items;
       names = draft.names.keys;
       contexts = draft.contexts.items;
-      taken = draft.taken.keys;
+      taken = draft.taken;
       labels = draft.labels.keys;
       remarks = draft.remarks.items;
     } };
@@ -87,23 +81,6 @@ fn label_of(number: u32, label: &SharedText) -> Result<Label, NoMemory>
         extension: number,
         label,
     })
-}
-
-/// What an entry with a label takes: its place and its label.
-#[derive(Drop)]
-struct Claim {
-    slot: Slot,
-    label: Label,
-}
-
-/// What an entry with this label takes, by the number of its extension.
-fn claim_of(number: u32, entry: &Entry, label: &SharedText) -> Result<Claim, NoMemory>
-    ensures slot { IfOk result (λ claim. claim.slot ≡ spec.slot_of number entry.now) }
-    ensures label { IfOk result (λ claim. claim.label ≡ spec.label_in number label.now) }
-{
-    let slot = slot_of(number, entry);
-    let label = label_of(number, label)?;
-    Ok(Claim { slot, label })
 }
 
 /// The context of this name, with nothing in it.
@@ -133,7 +110,7 @@ impl Draft {
             globals: Vec::new(alloc),
             names: IndexSet::new(alloc),
             contexts: Vec::new(alloc),
-            taken: IndexSet::new(alloc),
+            taken: Places::new(alloc),
             labels: IndexSet::new(alloc),
             remarks: Vec::new(alloc),
             opened: 0,
@@ -206,91 +183,66 @@ impl Draft {
     }
 
     /// Whether the place is taken.
-    fn is_slot_taken(&self, slot: &Slot) -> bool
-        ensures { result ≡ spec.is_slot_taken self.now slot.now }
+    fn is_slot_taken(&mut self, alloc: Global, slot: Slot) -> Result<bool, NoMemory>
+        ensures taken { IfOk result (λ taken. taken ≡ spec.is_slot_taken self.old slot) }
+        ensures same { self.new ≡ self.old }
     {
-        self.taken.contains(slot)
+        self.taken.is_taken(alloc, slot)
     }
 
-    /// Whether the label is taken.
-    fn is_marked(&self, label: &Label) -> bool
-        ensures { result ≡ spec.is_marked self.now (Some label.now) }
+    /// Takes up the place, which is free.
+    fn take_slot(&mut self, slot: Slot) -> Result<(), NoMemory>
+        requires { spec.is_slot_taken self.old slot ≡ false }
+        ensures { OnOk result (self.new ≡ record self.old { taken = self.old.taken ++ slot ∷ [] }) }
     {
-        self.labels.contains(label)
+        self.taken.take(slot)
     }
 
-    /// Takes up the place, unless it is taken, which is noted.
-    fn take(&mut self, slot: Slot) -> Result<Option<NoteKind>, NoMemory>
-        ensures noted { IfOk result (λ noted. noted ≡ spec.doubled self.old slot None) }
-        ensures taken { OnOk result (self.new ≡ spec.with_slot self.old slot) }
+    /// Takes up the label, and says whether it was taken already.
+    fn mark(&mut self, label: Label) -> Result<bool, NoMemory>
+        ensures taken { IfOk result (λ taken. taken ≡ spec.is_marked self.old (Some label)) }
+        ensures marked { OnOk result (self.new ≡ spec.with_label self.old (Some label)) }
     {
-        let is_free = self.taken.insert(slot)?;
-        Ok(if is_free {
-            None
-        } else {
-            Some(NoteKind::DoublePriority)
-        })
+        let is_free = self.labels.insert(label)?;
+        Ok(!is_free)
     }
 
-    /// Takes up the label.
-    fn take_label(&mut self, label: Label) -> Result<(), NoMemory>
-        ensures { OnOk result (self.new ≡ spec.with_label self.old label) }
+    /// Takes up the label of an entry, where it has one, and says whether it was taken already.
+    #[tactic(auto, using(crate::proofs::ClaimLemmas::unlabelled))]
+    fn take_label(&mut self, number: u32, entry: &Entry) -> Result<bool, NoMemory>
+        ensures taken { IfOk result (λ taken. taken ≡ spec.is_marked self.old (spec.label_of number entry.now)) }
+        ensures marked { OnOk result (self.new ≡ spec.with_label self.old (spec.label_of number entry.now)) }
     {
-        self.labels.insert(label)?;
-        Ok(())
-    }
-
-    /// Takes up the place and the label, which are free.
-    #[tactic(auto, using(crate::proofs::ClaimLemmas::claimed_free))]
-    fn take_free(&mut self, claim: Claim) -> Result<(), NoMemory>
-        requires { spec.doubled self.old claim.slot (Some claim.label) ≡ None }
-        ensures { OnOk result (self.new ≡ spec.claimed self.old claim.slot (Some claim.label)) }
-    {
-        let Claim { slot, label } = claim;
-        self.take(slot)?;
-        self.take_label(label)
-    }
-
-    /// What an entry is noted for, where its place or its label is taken.
-    fn doubled(&self, claim: &Claim) -> Option<NoteKind>
-        ensures { result ≡ spec.doubled self.now claim.now.slot (Some claim.now.label) }
-    {
-        if self.is_slot_taken(&claim.slot) {
-            return Some(NoteKind::DoublePriority);
+        match &entry.label {
+            None => Ok(false),
+            Some(label) => {
+                let label = label_of(number, label)?;
+                self.mark(label)
+            }
         }
-        if self.is_marked(&claim.label) {
-            return Some(NoteKind::DoubleLabel);
-        }
-        None
-    }
-
-    /// Takes up the place and the label, unless one of them is taken, which is noted.
-    fn take_both(&mut self, claim: Claim) -> Result<Option<NoteKind>, NoMemory>
-        ensures noted { IfOk result (λ noted. noted ≡ spec.doubled self.old claim.slot (Some claim.label)) }
-        ensures taken { OnOk result (self.new ≡ spec.claimed self.old claim.slot (Some claim.label)) }
-    {
-        let noted = self.doubled(&claim);
-        if noted.is_none() {
-            self.take_free(claim)?;
-        }
-        Ok(noted)
     }
 
     /// Takes up what an entry takes, by the number of its extension, unless that is taken, which is noted.
-    #[tactic(auto, using(crate::proofs::ClaimLemmas::claimed_bare))]
-    fn claim(&mut self, number: u32, entry: &Entry) -> Result<Option<NoteKind>, NoMemory>
+    fn claim(
+        &mut self,
+        alloc: Global,
+        number: u32,
+        entry: &Entry,
+    ) -> Result<Option<NoteKind>, NoMemory>
         ensures noted { IfOk result (λ noted. noted
             ≡ spec.doubled self.old (spec.slot_of number entry.now) (spec.label_of number entry.now)) }
         ensures taken { OnOk result (self.new
             ≡ spec.claimed self.old (spec.slot_of number entry.now) (spec.label_of number entry.now)) }
     {
-        match &entry.label {
-            None => { self.take(slot_of(number, entry)) }
-            Some(label) => {
-                let claim = claim_of(number, entry, label)?;
-                self.take_both(claim)
-            }
+        let slot = slot_of(number, entry);
+        if self.is_slot_taken(alloc, slot)? {
+            return Ok(Some(NoteKind::DoublePriority));
         }
+        if self.take_label(number, entry)? {
+            return Ok(Some(NoteKind::DoubleLabel));
+        }
+        self.take_slot(slot)?;
+        Ok(None)
     }
 
     /// Adds the entry to the context at the place.
@@ -331,7 +283,7 @@ impl Draft {
             ≡ spec.with_addition (spec.with_context self.old context.now) line context.now number entry) }
     {
         let place = self.open(alloc, context)?;
-        match self.claim(number, &entry)? {
+        match self.claim(alloc, number, &entry)? {
             Some(kind) => self.note(line, kind),
             None => self.push_entry(place, entry),
         }

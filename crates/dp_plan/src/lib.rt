@@ -15,6 +15,7 @@ mod loading;
 mod naming;
 mod note;
 mod numbering;
+mod places;
 mod plan;
 mod priority;
 mod ranking;
