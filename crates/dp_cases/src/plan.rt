@@ -7,6 +7,7 @@ pub(crate) mod manual;
 pub(crate) mod names;
 pub(crate) mod numbering;
 pub(crate) mod orders;
+pub(crate) mod places;
 pub(crate) mod plans;
 pub(crate) mod readers;
 pub(crate) mod render;
@@ -40,6 +41,7 @@ pub(crate) const LOADED: &[&str] = &[
     labels::LABELS,
     labels::TAKEN,
     labels::BAD,
+    places::TAKEN,
     includes::INCLUDES,
     includes::WITH_TIMES,
     faults::OF_A_LINE,
