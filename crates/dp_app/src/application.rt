@@ -1,7 +1,8 @@
 //! Applications, and tables of them.
-ghost use Rattle.std.specs.Prelude.{◌≡◌, ℕ, List, IfOk, OnErr};
+ghost use Rattle.std.specs.Prelude.{◌≡◌, ℕ, List, IfOk, OnErr, IfSome, Some};
 ghost use Rattle.dp_app.specs.Laws.{IsLawful, IsLawfulRow, MayRun};
 ghost use Rattle.dp_app.specs.Rows.{Row, Rows, dispatched};
+ghost use Rattle.dp_app.specs.declared.cell.Cell.{Cell};
 ghost use Rattle.dp_app.specs.declared.touch.Touch as touches;
 
 use crate::cell::Cell;
@@ -39,6 +40,16 @@ pub trait Application {
         requires { MayRun cell.old }
         ensures ok { IfOk result (λ going. meaning arguments.now cell.old ≡ record { cell = cell.new; next = going }) }
         ensures err { OnErr result (cell.new ≡ cell.old) };
+
+    /// Where the application sends the channel, if it only reads its arguments and leaves every cell as it is. It is None
+    /// where a cell has to be seen, as it is unless an application says more. The error comes only where a growth was
+    /// refused.
+    fn going(_alloc: Global, _arguments: &[u8]) -> Result<Option<Move>, NoMemory>
+        ensures { IfOk result (λ found. IfSome found (λ going.
+            (cell : Cell) → meaning _arguments.now cell ≡ record { cell = cell; next = going })) }
+    {
+        Ok(None)
+    }
 }
 
 /// A table of applications, each of which keeps the laws of rows.
@@ -62,4 +73,14 @@ pub trait AppTable {
         requires { MayRun cell.old }
         ensures ok { IfOk result (λ going. dispatched (rows name.now) arguments.now cell.old ≡ (cell.new, going)) }
         ensures err { OnErr result (cell.new ≡ cell.old) };
+
+    /// Where the application of this name sends the channel, if it only reads its expanded arguments and leaves every cell
+    /// as it is. It is None where a cell has to be seen, and where the table lacks the name. The error comes only where a
+    /// growth was refused.
+    fn going(_alloc: Global, _name: &[u8], _arguments: &[u8]) -> Result<Option<Move>, NoMemory>
+        ensures { IfOk result (λ found. IfSome found (λ going.
+            (cell : Cell) → dispatched (rows _name.now) _arguments.now cell ≡ (cell, Some going))) }
+    {
+        Ok(None)
+    }
 }

@@ -1,5 +1,6 @@
 //! The table of applications as a type.
 ghost use Rattle.std.specs.Prelude.{◌≡◌};
+ghost use Rattle.dp_conf.specs.Words.{same_word};
 
 use crate::application::{AppTable, Application};
 use crate::cell::Cell;
@@ -14,6 +15,13 @@ pub struct NoApps;
 /// A table with one application more, whose name comes before the same name of the other table.
 pub struct With<A, T> {
     types: PhantomData<(A, T)>,
+}
+
+/// Whether the application has this name.
+fn is_name_of<A: Application>(name: &[u8]) -> bool
+    ensures { result ≡ same_word name.now A.title }
+{
+    same_word(name, A::name())
 }
 
 impl AppTable for NoApps {
@@ -50,10 +58,17 @@ impl<A: Application, T: AppTable> AppTable for With<A, T> {
         arguments: &[u8],
         cell: &mut Cell,
     ) -> Result<Option<Move>, NoMemory> {
-        if same_word(name, A::name()) {
+        if is_name_of::<A>(name) {
             let going = A::apply(alloc, arguments, cell)?;
             return Ok(Some(going));
         }
         T::dispatch(alloc, name, arguments, cell)
+    }
+
+    fn going(alloc: Global, name: &[u8], arguments: &[u8]) -> Result<Option<Move>, NoMemory> {
+        if !is_name_of::<A>(name) {
+            return T::going(alloc, name, arguments);
+        }
+        A::going(alloc, arguments)
     }
 }

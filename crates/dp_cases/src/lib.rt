@@ -4,6 +4,8 @@
 #![tactic(auto)]
 
 #[cfg(test)]
+mod apps;
+#[cfg(test)]
 mod board;
 #[cfg(test)]
 mod commands;

@@ -20,6 +20,14 @@ pub(crate) fn text_of(alloc: Global, text: &str) -> Result<String, Fail> {
     Ok(out)
 }
 
+/// Adds each byte as the character of its number.
+pub(crate) fn push_bytes(out: &mut String, bytes: &[u8]) -> Result<(), AllocError> {
+    for byte in bytes {
+        out.push(char::from(*byte))?;
+    }
+    Ok(())
+}
+
 /// Asserts that a text is the one that is wanted.
 pub(crate) fn check_same(rt: &impl Abort, of: &str, got: &str, want: &str) {
     assert!(rt; got == want, "{of} gives {got}, not {want}");

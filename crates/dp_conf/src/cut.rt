@@ -118,8 +118,8 @@ pub fn cut_outside(text: &[u8], byte: u8) -> Option<(&[u8], &[u8])>
     None
 }
 
-/// The text up to its first comma of level 0, and what stands behind it, where there is such a comma.
-fn first_argument(text: &[u8]) -> (&[u8], Option<&[u8]>)
+/// The text up to its first comma outside parentheses, and what stands behind it, where there is such a comma.
+pub fn first_argument(text: &[u8]) -> (&[u8], Option<&[u8]>)
     ensures parts { MatchOption result.1 (levels.parts_of text.now ≡ result.0.now ∷ [])
         (λ rest. levels.parts_of text.now ≡ result.0.now ∷ levels.parts_of rest.now) }
     ensures shorter { IfSome result.1 (λ rest. length rest.now < length text.now) }

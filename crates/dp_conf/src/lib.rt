@@ -13,7 +13,9 @@ mod told;
 mod whole;
 mod words;
 
-pub use cut::{before_last, cut_once, cut_outside, first_part, is_blank, split_args, trim};
+pub use cut::{
+    before_last, cut_once, cut_outside, first_argument, first_part, is_blank, split_args, trim,
+};
 pub use escaping::{escape, push_escaped};
 pub use fault::{ConfFault, LineKind, ReadFault, WriteFailed};
 pub use groups::{GroupKind, Mark, next_mark, one_reading};

@@ -1,19 +1,29 @@
 //! The applications that jump, after the Asterisk documentation's pages on `Goto` and `GotoIf`.
 ghost use Rattle.std.specs.Prelude.{◌≡◌, IfOk};
+ghost use Rattle.dp_flow.specs.Conditions.{chosen};
 ghost use Rattle.dp_flow.specs.Jumps as spec;
 
 use crate::choice::chosen;
 use dp_app::{Application, Cell, Move, Parts, Target, Touch};
-use dp_conf::{NoMemory, split_args};
+use dp_conf::NoMemory;
 use std::alloc::Global;
 
 /// A jump to a target by its text.
 fn jump_to(alloc: Global, target: &[u8]) -> Result<Move, NoMemory>
     ensures { IfOk result (λ going. going ≡ spec.jump_to target.now) }
 {
-    let parts = split_args(alloc, target)?;
-    let parts = Parts::of(alloc, &parts)?;
+    let parts = Parts::of(alloc, target)?;
     Ok(Move::Jump(Target::Parts(parts)))
+}
+
+/// A jump to the side of a choice that is taken, or to the next priority where none is.
+fn jump_if(alloc: Global, arguments: &[u8]) -> Result<Move, NoMemory>
+    ensures { IfOk result (λ going. going ≡ spec.jump_if (chosen arguments.now)) }
+{
+    match chosen(arguments) {
+        None => Ok(Move::Next),
+        Some(side) => jump_to(alloc, side),
+    }
 }
 
 /// `Goto([[context,]extension,]priority)`: the channel goes to the target.
@@ -40,8 +50,12 @@ impl Application for Goto {
     }
 
     fn apply(alloc: Global, arguments: &[u8], _cell: &mut Cell) -> Result<Move, NoMemory> {
+        jump_to(alloc, arguments)
+    }
+
+    fn going(alloc: Global, arguments: &[u8]) -> Result<Option<Move>, NoMemory> {
         let going = jump_to(alloc, arguments)?;
-        Ok(going)
+        Ok(Some(going))
     }
 }
 
@@ -70,12 +84,11 @@ impl Application for GotoIf {
     }
 
     fn apply(alloc: Global, arguments: &[u8], _cell: &mut Cell) -> Result<Move, NoMemory> {
-        match chosen(arguments) {
-            None => Ok(Move::Next),
-            Some(side) => {
-                let going = jump_to(alloc, side)?;
-                Ok(going)
-            }
-        }
+        jump_if(alloc, arguments)
+    }
+
+    fn going(alloc: Global, arguments: &[u8]) -> Result<Option<Move>, NoMemory> {
+        let going = jump_if(alloc, arguments)?;
+        Ok(Some(going))
     }
 }

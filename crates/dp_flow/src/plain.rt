@@ -32,6 +32,10 @@ impl Application for Answer {
     fn apply(_alloc: Global, _arguments: &[u8], _cell: &mut Cell) -> Result<Move, NoMemory> {
         Ok(Move::Next)
     }
+
+    fn going(_alloc: Global, _arguments: &[u8]) -> Result<Option<Move>, NoMemory> {
+        Ok(Some(Move::Next))
+    }
 }
 
 /// `Verbose(text)`: nothing is printed here, and the channel goes on.
@@ -59,6 +63,10 @@ impl Application for Verbose {
 
     fn apply(_alloc: Global, _arguments: &[u8], _cell: &mut Cell) -> Result<Move, NoMemory> {
         Ok(Move::Next)
+    }
+
+    fn going(_alloc: Global, _arguments: &[u8]) -> Result<Option<Move>, NoMemory> {
+        Ok(Some(Move::Next))
     }
 }
 
@@ -88,6 +96,10 @@ impl Application for Playback {
     fn apply(_alloc: Global, _arguments: &[u8], _cell: &mut Cell) -> Result<Move, NoMemory> {
         Ok(Move::Next)
     }
+
+    fn going(_alloc: Global, _arguments: &[u8]) -> Result<Option<Move>, NoMemory> {
+        Ok(Some(Move::Next))
+    }
 }
 
 /// `Hangup([cause])`: the call ends; the cause has no effect.
@@ -115,5 +127,9 @@ impl Application for Hangup {
 
     fn apply(_alloc: Global, _arguments: &[u8], _cell: &mut Cell) -> Result<Move, NoMemory> {
         Ok(Move::Hang)
+    }
+
+    fn going(_alloc: Global, _arguments: &[u8]) -> Result<Option<Move>, NoMemory> {
+        Ok(Some(Move::Hang))
     }
 }

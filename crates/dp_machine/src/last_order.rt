@@ -1,6 +1,7 @@
 //! The search order of the context that was asked last.
-ghost use Rattle.std.specs.Prelude.{◌≡◌, IfOk};
+ghost use Rattle.std.specs.Prelude.{◌≡◌, IfOk, IsTrue};
 ghost use Rattle.dp_lookup.specs.SearchOrder.{search_order};
+ghost use Rattle.dp_plan.specs.Lookup.{number_of};
 ghost use Rattle.dp_machine.specs.LastOrder.{IsLastOrder};
 
 use dp_lookup::SearchOrder;
@@ -36,10 +37,23 @@ impl LastOrder {
         ensures contexts { self.new.order.contexts ≡ search_order plan.now context.now }
         ensures last { IsLastOrder plan.now self.new }
     {
+        if self.is_of(plan, context) {
+            return;
+        }
         let number = plan.number_of(context);
         if self.context != number {
             self.order.fill(plan, context);
             self.context = number;
+        }
+    }
+
+    /// Whether this is the order of the context of this name, which is known. No table is asked.
+    fn is_of(&self, plan: &Dialplan, context: &Text) -> bool
+        ensures { IsTrue result → self.now.context ≡ number_of plan.now context.now }
+    {
+        match self.context {
+            Some(number) => plan.has_number(context, number),
+            None => false,
         }
     }
 

@@ -102,8 +102,8 @@ pub(crate) fn go_on(channel: &mut Channel)
     channel.phase = Phase::Ready;
 }
 
-/// Runs the application of this name on its expanded arguments, for the channel of this number, where the table has it.
-fn run_application<T: AppTable>(
+/// Runs the application of this name on its expanded arguments in a cell, for the channel of this number, where the table has it.
+fn run_in_cell<T: AppTable>(
     alloc: Global,
     shared: &mut Shared,
     number: u32,
@@ -121,6 +121,29 @@ fn run_application<T: AppTable>(
     let going = T::dispatch(alloc, name, arguments, &mut cell);
     put_back(cell, channel, shared);
     going
+}
+
+/// Runs the application of this name on its expanded arguments, for the channel of this number, where the table has it. No
+/// cell is made for one that only reads its arguments.
+fn run_application<T: AppTable>(
+    alloc: Global,
+    shared: &mut Shared,
+    number: u32,
+    channel: &mut Channel,
+    name: &[u8],
+    arguments: &[u8],
+) -> Result<Option<Move>, NoMemory>
+    requires { MayRun (spec.cell_of shared.old number channel.old) }
+    ensures ok { IfOk result (λ going. spec.applied channel.old (dispatched (T.rows name.now) arguments.now (spec.cell_of shared.old number channel.old))
+        ≡ record { channel = channel.new; shared = shared.new; going = going }) }
+    ensures channel { OnErr result (channel.new ≡ channel.old) }
+    ensures shared { OnErr result (shared.new ≡ shared.old) }
+{
+    let going = T::going(alloc, name, arguments)?;
+    if going.is_some() {
+        return Ok(going);
+    }
+    run_in_cell::<T>(alloc, shared, number, channel, name, arguments)
 }
 
 /// Runs the application of the entry, whose arguments are expanded first. Arguments in which nothing opens a group are

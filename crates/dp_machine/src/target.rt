@@ -31,18 +31,18 @@ fn priority_of(
     order: &mut LastOrder,
     context: &Text,
     exten: &Text,
-    text: &Text,
+    text: &[u8],
 ) -> Option<u32>
     requires { IsLastOrder plan.now order.old }
     ensures priority { result ≡ spec.priority_of plan.now context.now exten.now text.now }
     ensures order { IsLastOrder plan.now order.new }
 {
-    if text.bytes().is_empty() {
+    if text.is_empty() {
         return None;
     }
-    match read_number(text.bytes()) {
+    match read_number(text) {
         Some(number) => target_priority(number),
-        None => find_label(plan, order, context, exten.bytes(), text.bytes()),
+        None => find_label(plan, order, context, exten.bytes(), text),
     }
 }
 
@@ -55,24 +55,20 @@ fn part_or<'a>(own: &'a Text, part: &'a Text) -> &'a Text
 
 /// The priority that the parts ask for, for a channel at its own place, where they ask for one.
 #[tactic(auto, unfolding(crate::specs::Targets::parts_place))]
-fn parts_priority(
-    plan: &Compiled,
-    order: &mut LastOrder,
-    own: &Place,
-    parts: &[Text],
-) -> Option<u32>
+fn parts_priority(plan: &Compiled, order: &mut LastOrder, own: &Place, parts: &Parts) -> Option<u32>
     requires { IsLastOrder plan.now order.old }
     ensures place { spec.parts_place plan.now own.now parts.now
         ≡ option_map (spec.place_of (spec.parts_context own.now parts.now) (spec.parts_exten own.now parts.now)) result }
     ensures order { IsLastOrder plan.now order.new }
 {
-    match parts {
-        [priority] => priority_of(plan, order, &own.context, &own.exten, priority),
-        [exten, priority] => {
+    let (front, priority) = parts.split_last();
+    match front {
+        [] => priority_of(plan, order, &own.context, &own.exten, priority),
+        [exten] => {
             let exten = part_or(&own.exten, exten);
             priority_of(plan, order, &own.context, exten, priority)
         }
-        [context, exten, priority] => {
+        [context, exten] => {
             let context = part_or(&own.context, context);
             let exten = part_or(&own.exten, exten);
             priority_of(plan, order, context, exten, priority)
@@ -100,8 +96,7 @@ fn go_to_parts(channel: &mut Channel, parts: Parts, priority: u32)
     ensures { channel.new ≡ channels.ready_at channel.old
         (spec.place_of (spec.parts_context channel.old.place parts) (spec.parts_exten channel.old.place parts) priority) }
 {
-    let mut texts = parts.into_texts();
-    let _priority = texts.pop();
+    let mut texts = parts.into_front();
     let exten = texts.pop();
     let context = texts.pop();
     put_part(&mut channel.place.exten, exten);
@@ -146,7 +141,7 @@ fn land_at_parts(
     ensures channel { channel.new ≡ channels.landed plan.now channel.old (spec.parts_place plan.now channel.old.place parts) }
     ensures order { IsLastOrder plan.now order.new }
 {
-    match parts_priority(plan, order, &channel.place, parts.texts()) {
+    match parts_priority(plan, order, &channel.place, &parts) {
         Some(priority) => go_to_parts(channel, parts, priority),
         None => hang_up(plan, order, channel, spare),
     }
@@ -166,17 +161,17 @@ fn land_at_existing(
         (spec.if_found plan.now (spec.parts_place plan.now channel.old.place parts)) }
     ensures order { IsLastOrder plan.now order.new }
 {
-    match existing_priority(plan, order, &channel.place, parts.texts()) {
+    match existing_priority(plan, order, &channel.place, &parts) {
         Some(priority) => go_to_parts(channel, parts, priority),
         None => hang_up(plan, order, channel, spare),
     }
 }
 
-/// The part of this number from the last, or the channel's own where it is empty or not there.
-fn part_from_last<'a>(own: &'a Text, parts: &'a [Text], number: usize) -> &'a Text
-    ensures { result.now ≡ spec.given_or own.now (slice_get (reverse parts.now) number) }
+/// The text of this number from the last, or the channel's own where it is empty or not there.
+fn part_from_last<'a>(own: &'a Text, texts: &'a [Text], number: usize) -> &'a Text
+    ensures { result.now ≡ spec.given_or own.now (slice_get (reverse texts.now) number) }
 {
-    match parts.iter().rev().nth(number) {
+    match texts.iter().rev().nth(number) {
         Some(part) => part_or(own, part),
         None => own,
     }
@@ -187,7 +182,7 @@ fn existing_priority(
     plan: &Compiled,
     order: &mut LastOrder,
     own: &Place,
-    parts: &[Text],
+    parts: &Parts,
 ) -> Option<u32>
     requires { IsLastOrder plan.now order.old }
     ensures place { spec.if_found plan.now (spec.parts_place plan.now own.now parts.now)
@@ -195,8 +190,9 @@ fn existing_priority(
     ensures order { IsLastOrder plan.now order.new }
 {
     let priority = parts_priority(plan, order, own, parts)?;
-    let context = part_from_last(&own.context, parts, 2);
-    let exten = part_from_last(&own.exten, parts, 1);
+    let (front, _) = parts.split_last();
+    let context = part_from_last(&own.context, front, 1);
+    let exten = part_from_last(&own.exten, front, 0);
     if is_found(plan, order, context, exten.bytes(), priority) {
         Some(priority)
     } else {

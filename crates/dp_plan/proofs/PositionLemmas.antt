@@ -1,8 +1,10 @@
 -- Where an element stands in a list of which no two are the same.
-use Rattle.std.proofs.Common.{◌≡◌, ℕ, zero, suc, ◌+◌, ◌<◌, Bool, true, false, cond, not, ◌||◌, ◌==◌, List, [], ◌∷◌, ◌++◌, length, Some, slice_get, get_or, refl, ap, subst, ◌∙◌, sym, arith}
+use Rattle.std.proofs.Common.{◌≡◌, ℕ, zero, suc, ◌+◌, ◌<◌, Bool, true, false, cond, not, ◌||◌, ◌==◌, nat_lt, List, [], ◌∷◌, ◌++◌, length, None, Some, slice_get, get_or, refl, ap, subst, ◌∙◌, sym, arith}
 use Rattle.std.proofs.Math.Dec.{eqb-suc-suc, eqb-suc-zero, eqb-zero-suc}
-use Rattle.std.specs.List.{IsDistinct, AllByRecursion, list_any, position_or_len}
-use Rattle.std.proofs.lemmas.Option.{slice_get_read}
+use Rattle.std.specs.List.{IsDistinct, AllByRecursion, list_any, position, position_or_len}
+use Rattle.std.proofs.lemmas.Bool.{lt-ltb}
+use Rattle.std.proofs.lemmas.List.Quantifiers.{position-Some}
+use Rattle.std.proofs.lemmas.Option.{get_or_from_slice_get, slice_get_read, slice_get_within}
 use Rattle.std.specs.Cmp.{IsEquivalence}
 use Rattle.std.specs.Cmp.Lexicographic.{nat_list_eq_equiv}
 use Rattle.dp_conf.specs.Words.{same_text}
@@ -88,3 +90,14 @@ place_of_name names i there name distinct within here same =
 
 pub named_at : (names : List (List ℕ)) (i : ℕ) (there name : List ℕ) → i < length names → there ≡ get_or names i there → same_text name there ≡ true → is_named names name ≡ true
 named_at names i there name within here same = list_any-at (same_text name) names i there (slice_get_read names (length names) i there refl within here) same
+
+-- a name that is the one of a place among distinct names is found there
+pub found_at : (names : List (List ℕ)) (i : ℕ) (there name : List ℕ) → IsDistinct same_text names → slice_get names i ≡ Some there → same_text name there ≡ true → position (same_text name) names ≡ Some i
+found_at names i there name distinct here same =
+    let at : position_or_len (same_text name) names ≡ i = position_or_len-distinct same_text nat_list_eq_equiv names i there name distinct here same in
+    (λ j. cond (nat_lt (at j) (length names)) (Some (at j)) None) ∙ ap (λ t. cond t (Some i) None) (lt-ltb i (length names) (slice_get_within names i there here))
+
+-- a name is the one of the place where it is found
+pub same_at : (names : List (List ℕ)) (i : ℕ) (there name : List ℕ) → slice_get names i ≡ Some there → position (same_text name) names ≡ Some i → same_text name there ≡ true
+same_at names i there name here found =
+    subst (λ (k : List ℕ). same_text name k ≡ true) (get_or_from_slice_get names i there there here) (position-Some (same_text name) names i there found).1

@@ -1,5 +1,5 @@
 //! A loaded dialplan.
-ghost use Rattle.std.specs.Prelude.{◌≡◌, ◌<◌, ◌≤◌, ℕ, List, Ok, map, slice_index, EachIndex, IfSome};
+ghost use Rattle.std.specs.Prelude.{◌≡◌, ◌↔◌, ◌<◌, ◌≤◌, ℕ, List, Ok, Some, map, slice_index, EachIndex, IfSome, IsTrue};
 ghost use Rattle.std.specs.List.{All};
 ghost use Rattle.std.specs.Option.{option_copied};
 ghost use Rattle.dp_conf.specs.Answers.{Answers};
@@ -136,6 +136,16 @@ impl Dialplan {
         ensures { result ≡ number_of self.now name.now }
     {
         self.names.get_index_of(name)
+    }
+
+    /// Whether the context of this name has this number. No table is asked.
+    pub fn has_number(&self, name: &Text, number: usize) -> bool
+        ensures { IsTrue result ↔ (number_of self.now name.now ≡ Some number) }
+    {
+        match self.names.as_slice().get(number) {
+            Some(held) => name == held,
+            None => false,
+        }
     }
 
     /// The names of the contexts that the context of this name includes, in the order of the file, with those that

@@ -37,16 +37,16 @@ with_application title touch row lawful table = record {
 -- the table of this program
 unfoldable pub standard_table : Table
 standard_table =
-    with_application (codes "Goto") nothing goto_row goto_lawful
+    with_application (codes "NoOp") nothing next_row next_lawful
+    (with_application (codes "Goto") nothing goto_row goto_lawful
+    (with_application (codes "Set") settable set_row set_lawful
     (with_application (codes "GotoIf") nothing goto_if_row goto_if_lawful
     (with_application (codes "Gosub") the_frames gosub_row gosub_lawful
     (with_application (codes "GosubIf") the_frames gosub_if_row gosub_if_lawful
     (with_application (codes "Return") variables_and_frames return_row return_lawful
     (with_application (codes "StackPop") the_frames stack_pop_row stack_pop_lawful
-    (with_application (codes "Set") settable set_row set_lawful
-    (with_application (codes "Hangup") nothing hangup_row hangup_lawful
     (with_application (codes "Answer") nothing next_row next_lawful
-    (with_application (codes "NoOp") nothing next_row next_lawful
+    (with_application (codes "Hangup") nothing hangup_row hangup_lawful
     (with_application (codes "Verbose") nothing next_row next_lawful
     (with_application (codes "Playback") nothing next_row next_lawful
     (with_application (codes "Wait") nothing wait_row wait_lawful

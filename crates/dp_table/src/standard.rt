@@ -19,17 +19,14 @@ type Membership = With<
 /// Those and the ones that wait.
 type Waiting = With<Wait, With<WaitExten, With<Background, With<Queue, Membership>>>>;
 
-/// Those and the ones that play or print nothing here, and go on.
-type Silent = With<Answer, With<NoOp, With<Verbose, With<Playback, Waiting>>>>;
-
-/// Those and the ones that set variables and that end the call.
-type Plain = With<Set, With<Hangup, Silent>>;
+/// Those and the ones that answer and end the call, and that play or print nothing here.
+type Silent = With<Answer, With<Hangup, With<Verbose, With<Playback, Waiting>>>>;
 
 /// Those and the ones that enter and leave subroutines.
-type Calling = With<Gosub, With<GosubIf, With<Return, With<StackPop, Plain>>>>;
+type Calling = With<Gosub, With<GosubIf, With<Return, With<StackPop, Silent>>>>;
 
-/// Those and the ones that jump.
-type Jumping = With<Goto, With<GotoIf, Calling>>;
+/// Those and the ones that most lines of a dialplan name. They come first, since names are compared in this order.
+type Everyday = With<NoOp, With<Goto, With<Set, With<GotoIf, Calling>>>>;
 
 /// The applications that this program has. A name that is not among them ends the call that reaches it.
 pub struct StandardApps;
@@ -50,7 +47,11 @@ impl AppTable for StandardApps {
         arguments: &[u8],
         cell: &mut Cell,
     ) -> Result<Option<Move>, NoMemory> {
-        let going = Jumping::dispatch(alloc, name, arguments, cell)?;
-        Ok(going)
+        Everyday::dispatch(alloc, name, arguments, cell)
+    }
+
+    #[tactic(auto, unfolding(crate::specs::Standard::standard_table))]
+    fn going(alloc: Global, name: &[u8], arguments: &[u8]) -> Result<Option<Move>, NoMemory> {
+        Everyday::going(alloc, name, arguments)
     }
 }

@@ -1,5 +1,6 @@
 //! The digits of a dialled text: its bytes without the dashes.
 ghost use Rattle.std.specs.Prelude.{◌≡◌, ◌<◌, ◌≤◌, length, slice_get};
+ghost use Rattle.std.specs.Option.{ForSome};
 ghost use Rattle.dp_pattern.specs.Dashes.{undashed};
 ghost use Rattle.dp_trie.specs.Digits.{Stands, AreNear};
 
@@ -13,16 +14,17 @@ pub(crate) struct Cursor {
 /// How many of the first digits are kept beside the text.
 const NEAR: usize = 32;
 
-/// The digits of a dialled text, how many there are, the first of them, and where the first stands.
+/// The digits of a dialled text, how many there are, and where the first stands. Where the text has dashes, the first digits
+/// stand beside it.
 #[derive(Clone, Copy)]
 pub(crate) struct Digits<'a> {
     text: &'a [u8],
     count: usize,
-    near: [u8; 32],
+    near: Option<[u8; 32]>,
     first: Cursor,
     ghost counted: { count ≡ length (undashed text.now) },
     ghost stands: { Stands text.now first },
-    ghost begins: { AreNear text.now near },
+    ghost begins: { ForSome near (AreNear text.now) },
 }
 
 /// How many bytes of the text are no dashes.
@@ -97,7 +99,11 @@ impl<'a> Digits<'a> {
             number: 0,
         };
         let first = go_on(text, start, 0);
-        let near = near_digits(text);
+        let near = if count == text.len() {
+            None
+        } else {
+            Some(near_digits(text))
+        };
         Digits {
             text,
             count,
@@ -107,45 +113,55 @@ impl<'a> Digits<'a> {
     }
 
     /// How many digits there are.
-    pub(crate) fn count(self) -> usize
-        ensures { result ≡ length (undashed self.entry.text.now) }
+    pub(crate) fn count(&self) -> usize
+        ensures { result ≡ length (undashed self.now.text.now) }
     {
         self.count
     }
 
     /// A cursor at the first digit.
-    pub(crate) fn first(self) -> Cursor
-        ensures { Stands self.entry.text.now result }
+    pub(crate) fn first(&self) -> Cursor
+        ensures { Stands self.now.text.now result }
     {
         self.first
     }
 
-    /// The digit of this number, which is one of the first.
-    fn near(self, number: usize) -> Option<u8>
-        requires { number < 32 }
-        ensures { result ≡ slice_get (undashed self.entry.text.now) number }
+    /// The digit of this number, which is one of the first that stand beside the text.
+    fn near(&self, near: &[u8; 32], number: usize) -> Option<u8>
+        requires number { number < 32 }
+        requires near { AreNear self.now.text.now near.now }
+        ensures { result ≡ slice_get (undashed self.now.text.now) number }
     {
         if number < self.count {
-            Some(self.near[number])
+            Some(near[number])
         } else {
             None
         }
     }
 
+    /// The digit of this number. The cursor goes there.
+    fn walk_to(&self, number: usize, cursor: &mut Cursor) -> Option<u8>
+        requires { Stands self.now.text.now cursor.old }
+        ensures value { result ≡ slice_get (undashed self.now.text.now) number }
+        ensures stands { Stands self.now.text.now cursor.new }
+    {
+        *cursor = go_on(self.text, go_back(self.text, *cursor, number), number);
+        self.text.get(cursor.place).copied()
+    }
+
     /// The digit of this number, counted from 0, or None where there are no more. Behind the first digits the
     /// cursor goes there, from the digit that was asked for before.
-    pub(crate) fn at(self, number: usize, cursor: &mut Cursor) -> Option<u8>
-        requires { Stands self.text.now cursor.old }
-        ensures value { result ≡ slice_get (undashed self.entry.text.now) number }
-        ensures stands { Stands self.entry.text.now cursor.new }
+    pub(crate) fn at(&self, number: usize, cursor: &mut Cursor) -> Option<u8>
+        requires { Stands self.now.text.now cursor.old }
+        ensures value { result ≡ slice_get (undashed self.now.text.now) number }
+        ensures stands { Stands self.now.text.now cursor.new }
     {
         if self.count == self.text.len() {
             return self.text.get(number).copied();
         }
-        if number < NEAR {
-            return self.near(number);
+        match &self.near {
+            Some(near) if number < NEAR => self.near(near, number),
+            _ => self.walk_to(number, cursor),
         }
-        *cursor = go_on(self.text, go_back(self.text, *cursor, number), number);
-        self.text.get(cursor.place).copied()
     }
 }

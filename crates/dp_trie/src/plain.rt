@@ -37,8 +37,8 @@ pub(crate) enum Side {
 }
 
 /// Where the name stands to the digits.
-fn side_of(name: &[u8], digits: Digits<'_>) -> Side
-    ensures { result ≡ side_of name.now (undashed digits.entry.text.now) }
+fn side_of(name: &[u8], digits: &Digits<'_>) -> Side
+    ensures { result ≡ side_of name.now (undashed digits.now.text.now) }
 {
     let mut cursor = digits.first();
     for number in 0..name.len() {
@@ -78,19 +78,19 @@ fn fitting(more: bool) -> Side
 }
 
 /// How many of the names stand below a rank.
-fn count_below(names: &[PlainName], digits: Digits<'_>, limit: u8) -> usize
+fn count_below(names: &[PlainName], digits: &Digits<'_>, limit: u8) -> usize
     requires { NamesRise names.now }
     ensures within { result ≤ length names.now }
-    ensures below { AllByRecursion (λ plain. rank_of (undashed digits.entry.text.now) plain < limit) (take result names.now) }
-    ensures above { AllByRecursion (λ plain. limit ≤ rank_of (undashed digits.entry.text.now) plain) (drop result names.now) }
+    ensures below { AllByRecursion (λ plain. rank_of (undashed digits.now.text.now) plain < limit) (take result names.now) }
+    ensures above { AllByRecursion (λ plain. limit ≤ rank_of (undashed digits.now.text.now) plain) (drop result names.now) }
 {
     names.partition_point(|plain| rank(side_of(plain.name.bytes(), digits)) < limit)
 }
 
 /// The names that fit, which stand side by side.
-fn fitting_names<'a>(names: &'a [PlainName], digits: Digits<'_>, more: bool) -> &'a [PlainName]
+fn fitting_names<'a>(names: &'a [PlainName], digits: &Digits<'_>, more: bool) -> &'a [PlainName]
     requires { NamesRise names.now }
-    ensures { AreFitting (undashed digits.entry.text.now) more names.now result.now }
+    ensures { AreFitting (undashed digits.now.text.now) more names.now result.now }
 {
     let limit = rank(fitting(more));
     let (_, rest) = names.split_at(count_below(names, digits, limit));
@@ -128,12 +128,12 @@ pub(crate) fn find_plain(
     names: &[PlainName],
     held: &[Held],
     question: Question<'_>,
-    digits: Digits<'_>,
+    digits: &Digits<'_>,
 ) -> Option<Hit>
     requires ranges { ArePlainRanges (length held.now) names.now }
     requires order { AreInOrder (known_plain held.now names.now) }
     ensures { result ≡ option_map hit_of
-        (find (asked (is_more question.entry) (wants question.entry) (undashed digits.entry.text.now)) (known_plain held.now names.now)) }
+        (find (asked (is_more question.entry) (wants question.entry) (undashed digits.now.text.now)) (known_plain held.now names.now)) }
 {
     find_own_of_all(
         fitting_names(names, digits, is_more(question)),

@@ -120,18 +120,18 @@ fn find_in_parts(
     leaps: &[Leap],
     held: &[Held],
     question: Question<'_>,
-    digits: Digits<'_>,
+    digits: &Digits<'_>,
 ) -> Counted
     requires names { ArePlainRanges (length plain.now) names.now }
     requires order { AreInOrder (known_plain plain.now names.now) }
     requires tree { IsTree held.now nodes.now ends.now }
     requires leaps { AreLeaps nodes.now ends.now leaps.now }
     ensures hit { result.hit ≡ option_map hit_of
-        (find (asked (is_more question.entry) (wants question.entry) (undashed digits.entry.text.now))
+        (find (asked (is_more question.entry) (wants question.entry) (undashed digits.now.text.now))
         (known_plain plain.now names.now ++ known_from held.now [] nodes.now)) }
     ensures most { result.count ≤ length nodes.now }
     ensures least { MatchOption
-        (find (asked (is_more question.entry) (wants question.entry) (undashed digits.entry.text.now))
+        (find (asked (is_more question.entry) (wants question.entry) (undashed digits.now.text.now))
         (known_plain plain.now names.now ++ known_from held.now [] nodes.now))
         (Unit {0}) (λ known. class_count known.name ≤ result.count) }
 {
@@ -163,12 +163,12 @@ impl Table {
     }
 
     /// The first entry that the question asks for, and how many nodes were entered.
-    pub(crate) fn find(&self, question: Question<'_>, digits: Digits<'_>) -> Counted
+    pub(crate) fn find(&self, question: Question<'_>, digits: &Digits<'_>) -> Counted
         ensures hit { result.hit ≡ option_map hit_of
-            (find (asked (is_more question.entry) (wants question.entry) (undashed digits.entry.text.now)) self.now.entries) }
+            (find (asked (is_more question.entry) (wants question.entry) (undashed digits.now.text.now)) self.now.entries) }
         ensures most { result.count ≤ self.now.size }
         ensures least { MatchOption
-            (find (asked (is_more question.entry) (wants question.entry) (undashed digits.entry.text.now)) self.now.entries)
+            (find (asked (is_more question.entry) (wants question.entry) (undashed digits.now.text.now)) self.now.entries)
             (Unit {0}) (λ known. class_count known.name ≤ result.count) }
     {
         find_in_parts(

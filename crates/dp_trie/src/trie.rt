@@ -35,12 +35,12 @@ impl Model for Trie {
 }
 
 /// The first entry of the context of a number that the question asks for; none where there is no such context.
-fn find_at(tables: &[Table], number: usize, question: Question<'_>, digits: Digits<'_>) -> Counted
+fn find_at(tables: &[Table], number: usize, question: Question<'_>, digits: &Digits<'_>) -> Counted
     ensures hit { result.hit ≡ option_map hit_of
-        (find (asked (is_more question.entry) (wants question.entry) (undashed digits.entry.text.now)) (kept_at tables.now number)) }
+        (find (asked (is_more question.entry) (wants question.entry) (undashed digits.now.text.now)) (kept_at tables.now number)) }
     ensures most { result.count ≤ nodes_at tables.now number }
     ensures least { MatchOption
-        (find (asked (is_more question.entry) (wants question.entry) (undashed digits.entry.text.now)) (kept_at tables.now number))
+        (find (asked (is_more question.entry) (wants question.entry) (undashed digits.now.text.now)) (kept_at tables.now number))
         (Unit {0}) (λ known. class_count known.name ≤ result.count) }
 {
     match tables.get(number) {
@@ -57,13 +57,13 @@ fn find_first(
     tables: &[Table],
     order: &[usize],
     question: Question<'_>,
-    digits: Digits<'_>,
+    digits: &Digits<'_>,
 ) -> Counted
     ensures hit { result.hit ≡ option_map hit_of
-        (found_first tables.now (asked (is_more question.entry) (wants question.entry) (undashed digits.entry.text.now)) order.now) }
+        (found_first tables.now (asked (is_more question.entry) (wants question.entry) (undashed digits.now.text.now)) order.now) }
     ensures most { result.count ≤ sum_by (nodes_at tables.now) order.now }
     ensures least { MatchOption
-        (found_first tables.now (asked (is_more question.entry) (wants question.entry) (undashed digits.entry.text.now)) order.now)
+        (found_first tables.now (asked (is_more question.entry) (wants question.entry) (undashed digits.now.text.now)) order.now)
         (Unit {0}) (λ known. class_count known.name ≤ result.count) }
 {
     let mut count: usize = 0;
@@ -89,7 +89,7 @@ fn look_up(tables: &[Table], order: &SearchOrder, question: Question<'_>, text: 
         (found_first tables.now (asked (is_more question.entry) (wants question.entry) (undashed text.now)) order.now.contexts)
         (Unit {0}) (λ known. class_count known.name ≤ result.count) }
 {
-    find_first(tables, order.contexts(), question, Digits::of(text))
+    find_first(tables, order.contexts(), question, &Digits::of(text))
 }
 
 /// The number of the entry that was found.

@@ -35,10 +35,10 @@ pub(crate) struct Counted {
 
 /// Whether the class takes the digit of this number. Where the digits have ended, it does if names that go on are asked
 /// for.
-fn takes(class: &Class, number: usize, digits: Digits<'_>, cursor: &mut Cursor, more: bool) -> bool
-    requires { Stands digits.text.now cursor.old }
-    ensures value { result ≡ takes more (undashed digits.entry.text.now) class.now number }
-    ensures stands { Stands digits.entry.text.now cursor.new }
+fn takes(class: &Class, number: usize, digits: &Digits<'_>, cursor: &mut Cursor, more: bool) -> bool
+    requires { Stands digits.now.text.now cursor.old }
+    ensures value { result ≡ takes more (undashed digits.now.text.now) class.now number }
+    ensures stands { Stands digits.now.text.now cursor.new }
 {
     match digits.at(number, cursor) {
         Some(digit) => class.has(digit),
@@ -64,13 +64,13 @@ pub(crate) fn allows(tail: Tail, number: usize, count: usize, more: bool) -> boo
 fn visit_class(
     class: &Class,
     depth: usize,
-    digits: Digits<'_>,
+    digits: &Digits<'_>,
     cursor: &mut Cursor,
     more: bool,
 ) -> Visit
-    requires { Stands digits.text.now cursor.old }
-    ensures visit { result ≡ (if takes more (undashed digits.entry.text.now) class.now depth then Enters else Fails) }
-    ensures stands { Stands digits.entry.text.now cursor.new }
+    requires { Stands digits.now.text.now cursor.old }
+    ensures visit { result ≡ (if takes more (undashed digits.now.text.now) class.now depth then Enters else Fails) }
+    ensures stands { Stands digits.now.text.now cursor.new }
 {
     if takes(class, depth, digits, cursor, more) {
         Visit::Enters
@@ -85,11 +85,11 @@ fn visit_leaf(
     depth: usize,
     held: &[Held],
     question: Question<'_>,
-    digits: Digits<'_>,
+    digits: &Digits<'_>,
 ) -> Visit
     requires range { IsRange (length held.now) (Step.Leaf leaf) }
     requires rises { Rises held.now (Step.Leaf leaf) }
-    ensures { result ≡ step_visit held.now (is_more question.entry) (wants question.entry) (undashed digits.entry.text.now) depth
+    ensures { result ≡ step_visit held.now (is_more question.entry) (wants question.entry) (undashed digits.now.text.now) depth
         (Step.Leaf leaf) }
 {
     if !allows(leaf.tail, depth, digits.count(), is_more(question)) {
@@ -106,14 +106,14 @@ fn visit_node(
     node: &Node,
     held: &[Held],
     question: Question<'_>,
-    digits: Digits<'_>,
+    digits: &Digits<'_>,
     cursor: &mut Cursor,
 ) -> Visit
     requires range { IsRange (length held.now) node.now.step }
     requires rises { Rises held.now node.now.step }
-    requires stands { Stands digits.text.now cursor.old }
-    ensures stands { Stands digits.entry.text.now cursor.new }
-    ensures visit { result ≡ step_visit held.now (is_more question.entry) (wants question.entry) (undashed digits.entry.text.now)
+    requires stands { Stands digits.now.text.now cursor.old }
+    ensures stands { Stands digits.now.text.now cursor.new }
+    ensures visit { result ≡ step_visit held.now (is_more question.entry) (wants question.entry) (undashed digits.now.text.now)
         node.now.depth node.now.step }
 {
     match &node.step {
@@ -130,15 +130,15 @@ pub(crate) fn find_in_tree(
     leaps: &[Leap],
     held: &[Held],
     question: Question<'_>,
-    digits: Digits<'_>,
+    digits: &Digits<'_>,
 ) -> Counted
     requires tree { IsTree held.now nodes.now ends.now }
     requires leaps { AreLeaps nodes.now ends.now leaps.now }
     ensures hit { result.hit ≡ option_map hit_of
-        (find (asked (is_more question.entry) (wants question.entry) (undashed digits.entry.text.now)) (known_from held.now [] nodes.now)) }
+        (find (asked (is_more question.entry) (wants question.entry) (undashed digits.now.text.now)) (known_from held.now [] nodes.now)) }
     ensures most { result.count ≤ length nodes.now }
     ensures least { MatchOption
-        (find (asked (is_more question.entry) (wants question.entry) (undashed digits.entry.text.now)) (known_from held.now [] nodes.now))
+        (find (asked (is_more question.entry) (wants question.entry) (undashed digits.now.text.now)) (known_from held.now [] nodes.now))
         (Unit {0}) (λ known. length (classes_of known.name) ≤ result.count) }
 {
     let mut cursor = digits.first();

@@ -1,16 +1,8 @@
 //! Texts with their arguments, worked out by hand from the rules.
-use crate::table::{Question, bytes_of};
+use crate::table::{Question, bytes_of, push_bytes};
 use dp_conf::{NoMemory, split_args, trim};
 use std::alloc::Global;
 use std::test::Fail;
-
-/// Adds each byte as the character of its number.
-pub(super) fn push_bytes(out: &mut String, bytes: &[u8]) -> Result<(), NoMemory> {
-    for byte in bytes {
-        out.push(char::from(*byte))?;
-    }
-    Ok(())
-}
 
 /// Arguments stand between bars.
 pub(super) const ARGUMENTS: &str = r#"

@@ -1,6 +1,5 @@
 //! Readers and writers that end, fail or are too long.
-use crate::conf::args::push_bytes;
-use crate::table::{Question, check};
+use crate::table::{Question, check, push_bytes};
 use dp_conf::{MOST_BYTES, NoMemory, ReadFault, ReadTold, Told, WriteTold, read_whole};
 use std::alloc::Global;
 use std::io;

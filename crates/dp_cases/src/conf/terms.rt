@@ -1,6 +1,5 @@
 //! Words, numbers and texts cut once, worked out by hand from the rules.
-use crate::conf::args::push_bytes;
-use crate::table::{Question, bytes_of, text_of};
+use crate::table::{Question, bytes_of, push_bytes, text_of};
 use dp_conf::{NoMemory, cut_once, read_number, same_word};
 use std::alloc::Global;
 use std::test::Fail;

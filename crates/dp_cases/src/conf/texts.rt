@@ -1,6 +1,5 @@
 //! Texts as their bytes.
-use crate::conf::args::push_bytes;
-use crate::table::{Question, bytes_of};
+use crate::table::{Question, bytes_of, push_bytes};
 use dp_conf::{NoMemory, Text};
 use std::alloc::Global;
 use std::collections::HashMap;

@@ -1,19 +1,11 @@
 //! Dialplans with variables, worked out by hand from the rules.
 use crate::machine::render::Given::{Start, Step};
 use crate::machine::render::{Exchange, Given, machine_of, push_state, shown};
-use crate::table::{Question, check, check_same};
+use crate::table::{Question, check, check_same, push_bytes};
 use dp_machine::{Event, NoMemory, Text};
 use std::alloc::Global;
 use std::process::Abort;
 use std::test::Fail;
-
-/// Adds bytes as the characters of their numbers.
-fn push_bytes(out: &mut String, bytes: &[u8]) -> Result<(), NoMemory> {
-    for byte in bytes {
-        out.push(char::from(*byte))?;
-    }
-    Ok(())
-}
 
 /// The value of a name in a channel, in characters of the numbers of its bytes.
 fn value_of(

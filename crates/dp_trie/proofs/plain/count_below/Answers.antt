@@ -9,10 +9,10 @@ use Rattle.dp_trie.proofs.plain.count_below.Goals as goal
 
 pub returns-clause-below : goal.returns-clause-below
 returns-clause-below c =
-    let point = IsPartitionPoint-from_clause (λ (p : PlainName). nat_lt (rank_of (undashed c.args.digits.text.now) p) c.args.limit) _ _ c.partition_point.ensures.partitioned (ranks-parted c.args.names.now (undashed c.args.digits.text.now) c.args.limit c.requires) (λ a r q k. search rules) in
-    below-point c.args.names.now (undashed c.args.digits.text.now) c.args.limit c.partition_point.result point
+    let point = IsPartitionPoint-from_clause (λ (p : PlainName). nat_lt (rank_of (undashed c.args.digits.now.text.now) p) c.args.limit) _ _ c.partition_point.ensures.partitioned (ranks-parted c.args.names.now (undashed c.args.digits.now.text.now) c.args.limit c.requires) (λ a r q k. search rules) in
+    below-point c.args.names.now (undashed c.args.digits.now.text.now) c.args.limit c.partition_point.result point
 
 pub returns-clause-above : goal.returns-clause-above
 returns-clause-above c =
-    let point = IsPartitionPoint-from_clause (λ (p : PlainName). nat_lt (rank_of (undashed c.args.digits.text.now) p) c.args.limit) _ _ c.partition_point.ensures.partitioned (ranks-parted c.args.names.now (undashed c.args.digits.text.now) c.args.limit c.requires) (λ a r q k. search rules) in
-    above-point c.args.names.now (undashed c.args.digits.text.now) c.args.limit c.partition_point.result point
+    let point = IsPartitionPoint-from_clause (λ (p : PlainName). nat_lt (rank_of (undashed c.args.digits.now.text.now) p) c.args.limit) _ _ c.partition_point.ensures.partitioned (ranks-parted c.args.names.now (undashed c.args.digits.now.text.now) c.args.limit c.requires) (λ a r q k. search rules) in
+    above-point c.args.names.now (undashed c.args.digits.now.text.now) c.args.limit c.partition_point.result point

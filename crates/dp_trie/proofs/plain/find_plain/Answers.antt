@@ -13,16 +13,16 @@ fitting_names-requires c = names-rise c.args.held.now c.args.names.now c.require
 
 pub find_own_of_all-requires-clause-ranges : goal.find_own_of_all-requires-clause-ranges
 find_own_of_all-requires-clause-ranges c =
-    all-fitting (λ (p : PlainName). (p.from < p.until) × (p.until ≤ length c.args.held.now)) (undashed c.args.digits.text.now) c.is_more.result c.args.names.now c.fitting_names.result.now c.fitting_names.ensures c.requires.ranges
+    all-fitting (λ (p : PlainName). (p.from < p.until) × (p.until ≤ length c.args.held.now)) (undashed c.args.digits.now.text.now) c.is_more.result c.args.names.now c.fitting_names.result.now c.fitting_names.ensures c.requires.ranges
 
 pub find_own_of_all-requires-clause-rise : goal.find_own_of_all-requires-clause-rise
 find_own_of_all-requires-clause-rise c =
-    all-fitting (λ (p : PlainName). Rise (slice_range c.args.held.now p.from p.until)) (undashed c.args.digits.text.now) c.is_more.result c.args.names.now c.fitting_names.result.now c.fitting_names.ensures
+    all-fitting (λ (p : PlainName). Rise (slice_range c.args.held.now p.from p.until)) (undashed c.args.digits.now.text.now) c.is_more.result c.args.names.now c.fitting_names.result.now c.fitting_names.ensures
     (rise-each c.args.held.now c.args.names.now c.requires.order)
 
 pub returns : goal.returns
 returns c =
-    let digits = undashed c.args.digits.text.now in
+    let digits = undashed c.args.digits.now.text.now in
     c.find_own_of_all.ensures
     ∙ ap (option_map hit_of)
     (sym (fitting-found c.args.held.now (wants c.args.question) (is_more c.args.question) digits c.args.names.now c.fitting_names.result.now

@@ -11,7 +11,7 @@ count_below-requires-2 c = subst NamesRise (sym c.split_at.ensures.back) (rise-d
 
 pub returns : goal.returns
 returns c =
-    let digits = undashed c.args.digits.text.now in
+    let digits = undashed c.args.digits.now.text.now in
     let limit = c.rank-limit.result in
     let rest = c.split_at.ensures.back in
     subst (AreFitting digits c.args.more c.args.names.now) (sym (c.split_at-2.ensures.front ∙ ap (take c.count_below-2.result) rest))

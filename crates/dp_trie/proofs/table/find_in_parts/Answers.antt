@@ -11,19 +11,19 @@ use Rattle.dp_trie.proofs.table.find_in_parts.Goals as goal
 pub returns-in-Some-clause-hit : goal.returns-in-Some-clause-hit
 returns-in-Some-clause-hit c =
     c.in-Some.ensures
-    ∙ ap (option_map hit_of) (sym (both-some (asked (is_more c.args.question) (wants c.args.question) (undashed c.args.digits.text.now)) (known_plain c.args.plain.now c.args.names.now) (known_from c.args.held.now [] c.args.nodes.now) c.in-Some.hit c.in-Some.ensures))
+    ∙ ap (option_map hit_of) (sym (both-some (asked (is_more c.args.question) (wants c.args.question) (undashed c.args.digits.now.text.now)) (known_plain c.args.plain.now c.args.names.now) (known_from c.args.held.now [] c.args.nodes.now) c.in-Some.hit c.in-Some.ensures))
 
 pub returns-in-Some-clause-least : goal.returns-in-Some-clause-least
 returns-in-Some-clause-least c =
-    subst (λ (o : Option Known). HasAtMost o 0) (sym (both-some (asked (is_more c.args.question) (wants c.args.question) (undashed c.args.digits.text.now)) (known_plain c.args.plain.now c.args.names.now) (known_from c.args.held.now [] c.args.nodes.now) c.in-Some.hit c.in-Some.ensures))
-    (none-counted _ 0 (names-plain c.args.plain.now (asked (is_more c.args.question) (wants c.args.question) (undashed c.args.digits.text.now)) c.args.names.now))
+    subst (λ (o : Option Known). HasAtMost o 0) (sym (both-some (asked (is_more c.args.question) (wants c.args.question) (undashed c.args.digits.now.text.now)) (known_plain c.args.plain.now c.args.names.now) (known_from c.args.held.now [] c.args.nodes.now) c.in-Some.hit c.in-Some.ensures))
+    (none-counted _ 0 (names-plain c.args.plain.now (asked (is_more c.args.question) (wants c.args.question) (undashed c.args.digits.now.text.now)) c.args.names.now))
 
 pub returns-in-None-clause-hit : goal.returns-in-None-clause-hit
 returns-in-None-clause-hit c =
     c.find_in_tree.ensures.hit
-    ∙ ap (option_map hit_of) (sym (both-none (asked (is_more c.args.question) (wants c.args.question) (undashed c.args.digits.text.now)) (known_plain c.args.plain.now c.args.names.now) (known_from c.args.held.now [] c.args.nodes.now) c.in-None.ensures))
+    ∙ ap (option_map hit_of) (sym (both-none (asked (is_more c.args.question) (wants c.args.question) (undashed c.args.digits.now.text.now)) (known_plain c.args.plain.now c.args.names.now) (known_from c.args.held.now [] c.args.nodes.now) c.in-None.ensures))
 
 pub returns-in-None-clause-least : goal.returns-in-None-clause-least
 returns-in-None-clause-least c =
-    subst (λ (o : Option Known). HasAtMost o c.find_in_tree.result.count) (sym (both-none (asked (is_more c.args.question) (wants c.args.question) (undashed c.args.digits.text.now)) (known_plain c.args.plain.now c.args.names.now) (known_from c.args.held.now [] c.args.nodes.now) c.in-None.ensures))
+    subst (λ (o : Option Known). HasAtMost o c.find_in_tree.result.count) (sym (both-none (asked (is_more c.args.question) (wants c.args.question) (undashed c.args.digits.now.text.now)) (known_plain c.args.plain.now c.args.names.now) (known_from c.args.held.now [] c.args.nodes.now) c.in-None.ensures))
     (tree-counted _ c.find_in_tree.result.count c.find_in_tree.ensures.least)

@@ -1,5 +1,5 @@
 use Rattle.dp_machine.proofs.StepLemmas.{applied_kept, channel_applied}
-use Rattle.dp_machine.proofs.step.run_application.Goals as goal
+use Rattle.dp_machine.proofs.step.run_in_cell.Goals as goal
 
 pub returns-clause-ok : goal.returns-clause-ok
 returns-clause-ok g c =
