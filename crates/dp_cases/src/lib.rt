@@ -27,6 +27,8 @@ mod pattern;
 #[cfg(test)]
 mod plan;
 #[cfg(test)]
+mod program;
+#[cfg(test)]
 mod queues;
 #[cfg(test)]
 mod table;

@@ -1,17 +1,8 @@
 //! The program `pbx`: says which priority of a dialplan answers a call, and runs calls through it.
 #![tactic(auto)]
 
-mod command_line;
-mod files;
-mod program;
-#[cfg(test)]
-mod tests;
-
-pub use dp_commands::{
-    Code, PbxFault, check, debug_script, list_plan, match_one, run_joined, run_script, run_threads,
-};
 use dp_conf::Told;
-use program::{answer, print_fault};
+use dp_program::{PbxFault, answer, print_fault};
 use std::io::ErrorKind;
 use std::process::ExitCode;
 use std::sync::Wait;

@@ -1,0 +1,201 @@
+//! The commands, over files: all that they print, and their statuses.
+use crate::program::folder::{check_table, make_folder};
+use crate::program::mistakes::{check_helps, check_mistakes};
+use std::process::Abort;
+use std::rt::Files;
+use std::sync::Wait;
+use std::test::Fail;
+use std::thread::Threads;
+use std::{fs, process};
+
+/// `check`.
+const CHECKS: &str = "\
+check @usual→0→note 13 UnknownContext¶ok 1 contexts 4 entries¶→
+check @classes→0→note 5 DoublePriority¶ok 1 contexts 3 entries¶→
+check @notes→0→note 2 UnknownKey¶note 5 DoublePriority¶note 7 DoubleLabel¶note 8 UnknownContext¶note 9 UnknownKey¶ok 1 contexts 2 entries¶→
+# Contexts are counted once, also where only a header stands; includes are no entries.
+check @sections→0→ok 3 contexts 2 entries¶→
+check @cycle→0→ok 2 contexts 0 entries¶→
+check @empty→0→ok 0 contexts 0 entries¶→
+check -- @empty→0→ok 0 contexts 0 entries¶→
+# Files that are faulty, or that cannot be read.
+check @faulty→1→→fault 4 NoEquals line 2¶
+check @missing→1→→fault 7 ReadFailed¶
+check @folder→1→→fault 7 ReadFailed¶
+check ''→1→→fault 7 ReadFailed¶
+check @long→1→→fault 8 TooLong¶
+";
+
+/// `list`.
+const LISTS: &str = "\
+list @usual→0→[globals]¶TRUNK => Line/9¶[main]¶exten => _NXXXXXX,1,Answer()¶exten => _NXXXXXX,2,Playback(hello-world)¶exten => _NXXXXXX,3(q),Queue(support,c)¶exten => _NXXXXXX,4,Hangup()¶include => out¶→
+list @empty→0→→
+list @cycle→0→[a]¶include => b¶[b]¶include => a¶→
+list @faulty→1→→fault 4 NoEquals line 2¶
+list @missing→1→→fault 7 ReadFailed¶
+list @long→1→→fault 8 TooLong¶
+";
+
+/// `match`.
+const MATCHES: &str = "\
+match @usual main 5551234→0→main,_NXXXXXX,1 Answer¶→
+match @usual main 555-1234 3→0→main,_NXXXXXX,3 Queue¶→
+match @usual main 5551234 4→0→main,_NXXXXXX,4 Hangup¶→
+match @usual main 5551234 5→0→none¶→
+match @usual main 1551234→0→none¶→
+# The context that is included is none, and names have their case.
+match @usual out 5551234→0→none¶→
+match @usual Main 5551234→0→none¶→
+match @usual '' ''→0→none¶→
+# The most specific name answers, in its one spelling.
+match @classes main 45→0→main,_[01234]X,1 NoOp¶→
+match @specific main 123→0→main,123,1 NoOp¶→
+match @specific main 124→0→main,_1XX,1 NoOp¶→
+match @specific main 12→0→main,_X.,1 NoOp¶→
+match @specific main 1→0→none¶→
+# The priority is asked before the name is chosen.
+match @priorities main 123 1→0→main,123,1 NoOp¶→
+match @priorities main 123 2→0→main,_X.,2 NoOp¶→
+match @priorities main 123 3→0→none¶→
+# The context answers before what it includes, and each entry has the context of its own.
+match @cycle a 77→0→none¶→
+match @chain main 123→0→main,_1XX,1 NoOp¶→
+match @chain main 123 2→0→late,123,2 Hangup¶→
+match @chain late 123→0→late,123,1 Hangup¶→
+match @labels main s 2→0→main,s,2 Hangup¶→
+# How a priority is written.
+match @specific main 123 001→0→main,123,1 NoOp¶→
+match @specific main 123 2147483647→0→none¶→
+# Words that begin with a dash.
+match -- @dashed -in- -1→0→-in-,1,1 NoOp¶→
+match @dashed -- -in- 1- 1→0→-in-,1,1 NoOp¶→
+# Files that are faulty, or that cannot be read.
+match @faulty main s→1→→fault 4 NoEquals line 2¶
+match @missing main s→1→→fault 7 ReadFailed¶
+match @folder main s→1→→fault 7 ReadFailed¶
+match @long main s→1→→fault 8 TooLong¶
+match @empty main s→0→none¶→
+";
+
+/// `run`.
+const RUNS: &str = "\
+run @first @first.script→0→started 1¶ran 1 main,100,1 NoOp -> ready main,100,2¶ran 1 main,100,2 Goto -> ready main,200,1¶ran 1 main,200,1 Hangup -> ended¶→
+run @labels @labels.script→0→started 1¶ran 1 main,s,1 Goto -> ready main,s,2¶ran 1 main,s,2 Hangup -> ended¶→
+run @first @empty→0→→
+run @empty @empty→0→→
+# Notes are no business of a run.
+run @notes @empty→0→→
+# A refused event.
+run @first @refused.script→1→refused 40 NoChannel¶started 1¶ran 1 main,100,1 NoOp -> ready main,100,2¶→
+# A faulty script, which stands behind a faulty dialplan.
+run @first @faulty.script→1→→fault 70 BadScript line 2¶
+run @faulty @faulty.script→1→→fault 4 NoEquals line 2¶
+# Both files are read before their texts.
+run @faulty @missing→1→→fault 7 ReadFailed¶
+run @missing @faulty.script→1→→fault 7 ReadFailed¶
+run @faulty @long→1→→fault 8 TooLong¶
+run @long @missing→1→→fault 8 TooLong¶
+run @first @folder→1→→fault 7 ReadFailed¶
+";
+
+/// `run --threads`.
+const THREAD_RUNS: &str = "\
+run --threads 2 @pair @pair.script→0→settled 2 seats 2 calls¶→
+run --threads 1 @pair @pair.script→0→settled 1 seats 2 calls¶→
+run @first @first.script --threads=064→0→settled 64 seats 3 calls¶→
+run --threads 3 @empty @empty→0→settled 3 seats 0 calls¶→
+# A refused event.
+run --threads 1 @first @refused.script→1→settled 1 seats 3 calls¶→
+# With queues.
+run --queues @help --threads 1 @callers @callers.script→0→settled 1 seats 3 calls¶→
+run --threads 4 --queues @faulty @first @first.script→1→→fault 4 NoEquals line 2¶
+# All files are read before their texts, and the texts are read before the first event.
+run --threads 2 @faulty @missing→1→→fault 7 ReadFailed¶
+run --threads 2 --queues @missing @faulty @first.script→1→→fault 7 ReadFailed¶
+run --threads 2 --queues @long @faulty @missing→1→→fault 8 TooLong¶
+run --threads 2 @faulty @faulty.script→1→→fault 4 NoEquals line 2¶
+run --threads 2 @first @faulty.script→1→→fault 70 BadScript line 2¶
+";
+
+/// `debug`.
+const DEBUGS: &str = "\
+debug --break main,200,1 @first @first.script→0→started 1¶ran 1 main,100,1 NoOp -> ready main,100,2¶ran 1 main,100,2 Goto -> ready main,200,1¶break 3¶ran 1 main,200,1 Hangup -> ended¶end 4¶→
+debug @first @first.script --break=main,300,1→0→started 1¶ran 1 main,100,1 NoOp -> ready main,100,2¶ran 1 main,100,2 Goto -> ready main,200,1¶ran 1 main,200,1 Hangup -> ended¶end 4¶→
+debug --break main,100,1 @first @refused.script→1→refused 40 NoChannel¶started 1¶break 2¶ran 1 main,100,1 NoOp -> ready main,100,2¶end 3¶→
+debug --break main,100,1 @empty @empty→0→end 0¶→
+# With queues.
+debug --queues @help --break main,s,2 @callers @callers.script→0→started 1¶ran 1 main,s,1 Queue -> queued help¶ok 1 -> ready main,s,2¶break 3¶ran 1 main,s,2 Hangup -> ended¶end 4¶→
+# A break that is none, behind the reading of all files and before their texts.
+debug --break main,s @first @first.script→1→→fault 71 BadBreak¶
+debug --break main,s @faulty @faulty.script→1→→fault 71 BadBreak¶
+debug --queues @faulty --break main,s,+1 @faulty @faulty.script→1→→fault 71 BadBreak¶
+debug --break main,s @missing @first.script→1→→fault 7 ReadFailed¶
+debug --break main,s @first @missing→1→→fault 7 ReadFailed¶
+debug --queues @missing --break main,s @first @first.script→1→→fault 7 ReadFailed¶
+debug --queues @long --break main,s @first @missing→1→→fault 8 TooLong¶
+# The texts behind it.
+debug --break main,s,1 @faulty @faulty.script→1→→fault 4 NoEquals line 2¶
+debug --break main,s,1 @first @faulty.script→1→→fault 70 BadScript line 2¶
+";
+
+/// The examples of the manual.
+const MANUAL: &str = "\
+list @sample→0→[globals]¶DESK => 100¶[phones]¶exten => 100,1(desk),NoOp(the front desk)¶exten => 100,2,Hangup()¶exten => _1XX,1,NoOp(a room)¶exten => _1XX,2,Goto(${DESK},desk)¶exten => _NXXXXXX,1,NoOp(a call to town)¶exten => _NXXXXXX,2,Hangup()¶include => rest¶[rest]¶exten => _X.,1,NoOp(no such number)¶exten => _X.,2,Hangup()¶→
+check @sample→0→ok 2 contexts 8 entries¶→
+match @sample phones 100→0→phones,100,1 NoOp¶→
+match @sample phones 123→0→phones,_1XX,1 NoOp¶→
+match @sample phones 123 2→0→phones,_1XX,2 Goto¶→
+match @sample phones 555-1234→0→phones,_NXXXXXX,1 NoOp¶→
+match @sample phones 12345→0→rest,_X.,1 NoOp¶→
+match @sample phones 1→0→none¶→
+run @sample @sample.script→0→started 1¶ran 1 phones,_1XX,1 NoOp -> ready phones,123,2¶ran 1 phones,_1XX,2 Goto -> ready phones,100,1¶ran 1 phones,100,1 NoOp -> ready phones,100,2¶ran 1 phones,100,2 Hangup -> ended¶started 2¶ran 2 phones,_NXXXXXX,1 NoOp -> ready phones,555-1234,2¶ran 2 phones,_NXXXXXX,2 Hangup -> ended¶→
+debug --break phones,123,2 @sample @sample.script→0→started 1¶ran 1 phones,_1XX,1 NoOp -> ready phones,123,2¶break 2¶ran 1 phones,_1XX,2 Goto -> ready phones,100,1¶ran 1 phones,100,1 NoOp -> ready phones,100,2¶ran 1 phones,100,2 Hangup -> ended¶started 2¶ran 2 phones,_NXXXXXX,1 NoOp -> ready phones,555-1234,2¶ran 2 phones,_NXXXXXX,2 Hangup -> ended¶end 8¶→
+run --threads 2 @pair @pair.script→0→settled 2 seats 2 calls¶→
+match @calls calls 123→0→calls,123,1 NoOp¶→
+match @calls calls 123 2→0→calls,_X.,2 NoOp¶→
+match @calls calls 124→0→calls,_1XX,1 NoOp¶→
+match @calls calls 12→0→calls,_X.,1 NoOp¶→
+match @calls calls 1→0→none¶→
+";
+
+/// With no command the standard input is run.
+const INPUTS: &str = "\
+←[main]¶exten => 100,1,NoOp(hello)¶exten => 100,2,Goto(200,1)¶exten => 200,1,Hangup()¶;; script¶start main 100¶step 1 3¶→0→started 1¶ran 1 main,100,1 NoOp -> ready main,100,2¶ran 1 main,100,2 Goto -> ready main,200,1¶ran 1 main,200,1 Hangup -> ended¶→
+--←[main]¶exten => 100,1,NoOp(hello)¶exten => 100,2,Goto(200,1)¶exten => 200,1,Hangup()¶;; script¶start main 100¶step 1 3¶→0→started 1¶ran 1 main,100,1 NoOp -> ready main,100,2¶ran 1 main,100,2 Goto -> ready main,200,1¶ran 1 main,200,1 Hangup -> ended¶→
+←→0→→
+←[main]¶abc¶→1→→fault 4 NoEquals line 2¶
+←;; script¶step 1¶→1→refused 40 NoChannel¶→
+# A command reads none of it.
+check @empty←[main]¶exten => 100,1,NoOp(hello)¶exten => 100,2,Goto(200,1)¶exten => 200,1,Hangup()¶;; script¶start main 100¶step 1 3¶→0→ok 0 contexts 0 entries¶→
+";
+
+/// All the tables.
+const TABLES: [&str; 8] = [
+    CHECKS,
+    LISTS,
+    MATCHES,
+    RUNS,
+    THREAD_RUNS,
+    DEBUGS,
+    MANUAL,
+    INPUTS,
+];
+
+fn check_all<R: Files + Threads + Wait + Sync + Abort + AllocGlobal>(
+    rt: &R,
+    folder: &str,
+) -> Result<(), Fail> {
+    for table in &TABLES {
+        check_table(rt, folder, table)?;
+    }
+    check_mistakes(rt, folder)?;
+    check_helps(rt, folder)
+}
+
+#[test]
+fn command_lines_print_so(rt: HostRuntime) -> Result<(), Fail> {
+    let folder = make_folder(&rt, "small", process::id(rt.process()))?;
+    check_all(&rt, &folder)?;
+    fs::remove_dir_all(&rt, folder.as_str())?;
+    Ok(())
+}

@@ -1,0 +1,270 @@
+//! Command lines that are refused or that ask for help: all that they print, and their statuses.
+use crate::program::folder::{check_line, in_a_line};
+use std::process::Abort;
+use std::rt::Files;
+use std::sync::Wait;
+use std::test::Fail;
+use std::thread::Threads;
+
+/// Command lines that are refused, each with its mistake and with the usage that is printed below it.
+const MISTAKES: &str = "\
+chekc @usual→unrecognized subcommand 'chekc'¶¶  tip: a similar subcommand exists: 'check'→pbx [COMMAND]
+dial→unrecognized subcommand 'dial'→pbx [COMMAND]
+--loud→unexpected argument '--loud' found→pbx [COMMAND]
+check→the following required arguments were not provided:¶  <FILE>→pbx check <FILE>
+check @usual more→unexpected argument 'more' found→pbx check <FILE>
+check --loud x→unexpected argument '--loud' found¶¶  tip: to pass '--loud' as a value, use '-- --loud'→pbx check <FILE>
+match @usual→the following required arguments were not provided:¶  <CONTEXT>¶  <TEXT>→pbx match <FILE> <CONTEXT> <TEXT> [PRIORITY]
+match @usual main 1 2 3→unexpected argument '3' found→pbx match <FILE> <CONTEXT> <TEXT> [PRIORITY]
+match @usual main -5→unexpected argument '-5' found¶¶  tip: to pass '-5' as a value, use '-- -5'→pbx match <FILE> <CONTEXT> <TEXT> [PRIORITY]
+match @usual main 5 0→invalid value '0' for '[PRIORITY]': a priority is a number from 1 to 2147483647→pbx match <FILE> <CONTEXT> <TEXT> [PRIORITY]
+match @usual main 5 2147483648→invalid value '2147483648' for '[PRIORITY]': a priority is a number from 1 to 2147483647→pbx match <FILE> <CONTEXT> <TEXT> [PRIORITY]
+match @usual main 5 n→invalid value 'n' for '[PRIORITY]': a priority is a number from 1 to 2147483647→pbx match <FILE> <CONTEXT> <TEXT> [PRIORITY]
+match @usual main 5 +1→invalid value '+1' for '[PRIORITY]': a priority is a number from 1 to 2147483647→pbx match <FILE> <CONTEXT> <TEXT> [PRIORITY]
+match @usual main 5 ''→invalid value '' for '[PRIORITY]': a priority is a number from 1 to 2147483647→pbx match <FILE> <CONTEXT> <TEXT> [PRIORITY]
+# The command line comes before the files.
+match @missing main 5 0→invalid value '0' for '[PRIORITY]': a priority is a number from 1 to 2147483647→pbx match <FILE> <CONTEXT> <TEXT> [PRIORITY]
+run→the following required arguments were not provided:¶  <FILE>¶  <SCRIPT>→pbx run <FILE> <SCRIPT>
+run @missing→the following required arguments were not provided:¶  <SCRIPT>→pbx run <FILE> <SCRIPT>
+run a b c→unexpected argument 'c' found→pbx run [OPTIONS] <FILE> <SCRIPT>
+run --threads 0 @missing @missing→invalid value '0' for '--threads <N>': the number of threads is from 1 to 64→pbx run [OPTIONS] <FILE> <SCRIPT>
+run --threads 65 @missing @missing→invalid value '65' for '--threads <N>': the number of threads is from 1 to 64→pbx run [OPTIONS] <FILE> <SCRIPT>
+run --threads=two @missing @missing→invalid value 'two' for '--threads <N>': the number of threads is from 1 to 64→pbx run [OPTIONS] <FILE> <SCRIPT>
+run --threads 2 @missing→the following required arguments were not provided:¶  <SCRIPT>→pbx run --threads <N> <FILE> <SCRIPT>
+debug @missing @missing→the following required arguments were not provided:¶  --break <CONTEXT,EXTEN,PRIORITY>→pbx debug --break <CONTEXT,EXTEN,PRIORITY> <FILE> <SCRIPT>
+debug --break main,s,1 a b c→unexpected argument 'c' found→pbx debug [OPTIONS] --break <CONTEXT,EXTEN,PRIORITY> <FILE> <SCRIPT>
+--version→unexpected argument '--version' found→pbx [COMMAND]
+help dial→unrecognized subcommand 'dial'→pbx [COMMAND]
+";
+
+fn check_mistake<R: Files + Threads + Wait + Sync + Abort + AllocGlobal>(
+    rt: &R,
+    folder: &str,
+    words: &str,
+    mistake: &str,
+    usage: &str,
+) -> Result<(), Fail> {
+    let want = format!(in rt.alloc();
+        "2→→error: {mistake}¶¶Usage: {usage}¶¶For more information, try '--help'.¶"
+    )?;
+    check_line(rt, folder, words, &want)
+}
+
+/// Asserts all that the command lines that are refused print, and their statuses.
+pub(super) fn check_mistakes<R: Files + Threads + Wait + Sync + Abort + AllocGlobal>(
+    rt: &R,
+    folder: &str,
+) -> Result<(), Fail> {
+    for line in MISTAKES.lines() {
+        if let Some((words, rest)) = line.split_once('→') {
+            let (mistake, usage) = rest.split_once('→').unwrap_or((rest, ""));
+            check_mistake(rt, folder, words, mistake, usage)?;
+        }
+    }
+    Ok(())
+}
+
+/// What is printed where help is asked for.
+const PBX_HELP: &str = "\
+Say which priority of an Asterisk dialplan answers a call, and run calls through it
+
+Usage: pbx [COMMAND]
+
+Commands:
+  check  Load a dialplan, and print its notes and its counts
+  list   Print a dialplan in its canonical text
+  match  Print which entry of a dialplan answers a call
+  run    Run a script of events on a dialplan, and print the trace
+  debug  Run a script of events on a dialplan, and halt before the steps at a place
+  help   Print this message or the help of the given subcommand(s)
+
+Options:
+  -h, --help  Print help
+
+With no command, pbx reads one text from the standard input and runs it: a dialplan, a line `;; script`, and a script.
+
+Examples:
+  pbx check extensions.conf
+  pbx list extensions.conf
+  pbx match extensions.conf main 555-1234
+  pbx run extensions.conf calls.script
+  pbx debug --break main,100,2 extensions.conf calls.script
+  pbx < joined.conf
+
+Status: 0; 1 where a fault was printed or an event was refused; 2 where the command line was refused.
+";
+
+/// What is printed where help with `check` is asked for.
+const CHECK_HELP: &str = "\
+Load a dialplan, and print its notes and its counts
+
+Usage: pbx check <FILE>
+
+Arguments:
+  <FILE>  The dialplan, as extensions.conf
+
+Options:
+  -h, --help  Print help
+
+Prints `note LINE KIND` for each line that is dropped and for each include that finds nothing, and then the counts.
+A dialplan that does not load has its first fault on standard error, with its line, and the status 1.
+
+Example:
+  $ pbx check extensions.conf
+  note 13 UnknownContext
+  ok 1 contexts 4 entries
+";
+
+/// What is printed where help with `list` is asked for.
+const LIST_HELP: &str = "\
+Print a dialplan in its canonical text
+
+Usage: pbx list <FILE>
+
+Arguments:
+  <FILE>  The dialplan, as extensions.conf
+
+Options:
+  -h, --help  Print help
+
+Prints the dialplan in one canonical text: its global variables, and each context with its entries and its includes. Each
+priority is a number, and each name stands in its one spelling. The notes of the dialplan are not printed.
+
+Example:
+  $ pbx list extensions.conf
+  [main]
+  exten => _NXXXXXX,1,Answer()
+  exten => _NXXXXXX,2(q),Queue(support,c)
+  include => out
+";
+
+/// What is printed where help with `match` is asked for.
+const MATCH_HELP: &str = "\
+Print which entry of a dialplan answers a call
+
+Usage: pbx match <FILE> <CONTEXT> <TEXT> [PRIORITY]
+
+Arguments:
+  <FILE>      The dialplan, as extensions.conf
+  <CONTEXT>   The context where the call begins
+  <TEXT>      What was dialled
+  [PRIORITY]  The priority that is asked for, from 1 to 2147483647 [default: 1]
+
+Options:
+  -h, --help  Print help
+
+Prints `CONTEXT,NAME,PRIORITY APPLICATION` of the entry that answers, or `none`. The context is searched first, and then
+what it includes. A word that begins with `-` may stand behind `--`.
+
+Example:
+  $ pbx match extensions.conf main 555-1234 3
+  main,_NXXXXXX,3 Queue
+";
+
+/// What is printed where help with `run` is asked for.
+const RUN_HELP: &str = "\
+Run a script of events on a dialplan, and print the trace
+
+Usage: pbx run [OPTIONS] <FILE> <SCRIPT>
+
+Arguments:
+  <FILE>    The dialplan, as extensions.conf
+  <SCRIPT>  The script of events
+
+Options:
+      --queues <QUEUES>  The queues, as queues.conf; without it there are none
+      --threads <N>      Give the events in so many threads at once, from 1 to 64
+  -h, --help             Print help
+
+A script has one event a line. Channels are numbered from 1 as they start, queues and agents are named:
+  start CONTEXT EXTEN [CALLER]   a call comes in
+  step CHANNEL [COUNT]           the channel takes so many steps
+  digit CHANNEL D                the caller dials a digit
+  timeout CHANNEL                what the channel waits for does not come in time
+  poll CHANNEL                   the channel leaves its queue, if that is too empty
+  hangup CHANNEL                 the caller hangs up
+  offer QUEUE                    a call of the queue rings at agents
+  answer AGENT, decline AGENT    the agent takes the call that it rings for, or not
+  done AGENT                     the agent is done with its call
+  show CHANNEL NAME              prints a variable
+Prints a line for each of them.
+
+With --threads N the calls that the script begins with come in first. Then N threads give the other events at once, each in
+turn one, and each thread its own in their order; `show` is passed over. One line is printed: `settled N seats M calls`.
+
+Example:
+  $ cat calls.script
+  start main 100
+  step 1 2
+  $ pbx run extensions.conf calls.script
+  started 1
+  ran 1 main,100,1 NoOp -> ready main,100,2
+  ran 1 main,100,2 Hangup -> ended
+";
+
+/// What is printed where help with `debug` is asked for.
+const DEBUG_HELP: &str = "\
+Run a script of events on a dialplan, and halt before the steps at a place
+
+Usage: pbx debug [OPTIONS] --break <CONTEXT,EXTEN,PRIORITY> <FILE> <SCRIPT>
+
+Arguments:
+  <FILE>    The dialplan, as extensions.conf
+  <SCRIPT>  The script of events
+
+Options:
+      --queues <QUEUES>                 The queues, as queues.conf; without it there are none
+      --break <CONTEXT,EXTEN,PRIORITY>  The place where the run halts
+  -h, --help                            Print help
+
+Runs the script as `run` does, but passes over `show`. Before a step of a channel that is ready at the place of the break it prints
+`break TAKEN`, and goes on; last it prints `end TAKEN`. TAKEN is how many events of the script were taken. The context and the
+extension are compared byte by byte with those of the channel: a pattern, or a context that is included, is no place.
+
+Example:
+  $ cat calls.script
+  start main 100
+  step 1 2
+  $ pbx debug --break main,100,2 extensions.conf calls.script
+  started 1
+  ran 1 main,100,1 NoOp -> ready main,100,2
+  break 2
+  ran 1 main,100,2 Hangup -> ended
+  end 3
+";
+
+/// Command lines that ask for help, and what is printed.
+const HELPS: [(&str, &str); 10] = [
+    ("help", PBX_HELP),
+    ("-h", PBX_HELP),
+    ("--help", PBX_HELP),
+    ("help check", CHECK_HELP),
+    ("check -h", CHECK_HELP),
+    ("list --help", LIST_HELP),
+    ("help match", MATCH_HELP),
+    ("match @missing --help", MATCH_HELP),
+    ("run --help", RUN_HELP),
+    ("debug --help", DEBUG_HELP),
+];
+
+fn check_help<R: Files + Threads + Wait + Sync + Abort + AllocGlobal>(
+    rt: &R,
+    folder: &str,
+    words: &str,
+    help: &str,
+) -> Result<(), Fail> {
+    let help = in_a_line(rt.alloc(), help)?;
+    let want = format!(in rt.alloc(); "0→{help}→")?;
+    check_line(rt, folder, words, &want)
+}
+
+/// Asserts all that the command lines that ask for help print, and their statuses.
+pub(super) fn check_helps<R: Files + Threads + Wait + Sync + Abort + AllocGlobal>(
+    rt: &R,
+    folder: &str,
+) -> Result<(), Fail> {
+    for (words, help) in &HELPS {
+        check_help(rt, folder, words, help)?;
+    }
+    Ok(())
+}

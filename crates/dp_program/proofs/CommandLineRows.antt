@@ -1,0 +1,71 @@
+-- Command lines, computed on the definition.
+use Rattle.std.proofs.Common.{◌≡◌, [], ◌∷◌, Some, None, codes, refl}
+use Rattle.clap.proofs.OnLiterals.{clap_on_literals}
+use Rattle.clap.specs.Faults.{fault_of}
+use Rattle.clap.specs.declared.error.kind.ErrorKind.TheVariants as kind
+use Rattle.dp_program.specs.CommandLine.{pbx_app, asked_of, joined, check, listing, matching, run, debug}
+
+no_command : asked_of (codes "pbx" ∷ []) ≡ Some joined
+unfolding clap_on_literals asked_of
+no_command = refl
+
+checked : asked_of (codes "pbx" ∷ codes "check" ∷ codes "a.conf" ∷ []) ≡ Some (check (codes "a.conf"))
+unfolding clap_on_literals asked_of
+checked = refl
+
+listed : asked_of (codes "pbx" ∷ codes "list" ∷ codes "a.conf" ∷ []) ≡ Some (listing (codes "a.conf"))
+unfolding clap_on_literals asked_of
+listed = refl
+
+matched : asked_of (codes "pbx" ∷ codes "match" ∷ codes "a.conf" ∷ codes "main" ∷ codes "555-1234" ∷ []) ≡ Some (matching (codes "a.conf") (codes "main") (codes "555-1234") 1)
+unfolding clap_on_literals asked_of
+matched = refl
+
+matched_at : asked_of (codes "pbx" ∷ codes "match" ∷ codes "a.conf" ∷ codes "main" ∷ codes "5" ∷ codes "07" ∷ []) ≡ Some (matching (codes "a.conf") (codes "main") (codes "5") 7)
+unfolding clap_on_literals asked_of
+matched_at = refl
+
+matched_nowhere : asked_of (codes "pbx" ∷ codes "match" ∷ codes "a.conf" ∷ codes "main" ∷ codes "5" ∷ codes "0" ∷ []) ≡ None
+unfolding clap_on_literals asked_of
+matched_nowhere = refl
+
+matched_dashes : asked_of (codes "pbx" ∷ codes "match" ∷ codes "--" ∷ codes "a.conf" ∷ codes "-in-" ∷ codes "-1" ∷ []) ≡ Some (matching (codes "a.conf") (codes "-in-") (codes "-1") 1)
+unfolding clap_on_literals asked_of
+matched_dashes = refl
+
+ran : asked_of (codes "pbx" ∷ codes "run" ∷ codes "a.conf" ∷ codes "b.script" ∷ []) ≡ Some (run (codes "a.conf") None (codes "b.script"))
+unfolding clap_on_literals asked_of
+ran = refl
+
+ran_with_queues : asked_of (codes "pbx" ∷ codes "run" ∷ codes "--queues" ∷ codes "q.conf" ∷ codes "a.conf" ∷ codes "b.script" ∷ []) ≡ Some (run (codes "a.conf") (Some (codes "q.conf")) (codes "b.script"))
+unfolding clap_on_literals asked_of
+ran_with_queues = refl
+
+debugged : asked_of (codes "pbx" ∷ codes "debug" ∷ codes "--break" ∷ codes "main,s,1" ∷ codes "a.conf" ∷ codes "b.script" ∷ []) ≡ Some (debug (codes "a.conf") None (codes "b.script") (codes "main,s,1"))
+unfolding clap_on_literals asked_of
+debugged = refl
+
+debugged_with_queues : asked_of (codes "pbx" ∷ codes "debug" ∷ codes "--queues" ∷ codes "q.conf" ∷ codes "--break" ∷ codes "x" ∷ codes "a.conf" ∷ codes "b.script" ∷ []) ≡ Some (debug (codes "a.conf") (Some (codes "q.conf")) (codes "b.script") (codes "x"))
+unfolding clap_on_literals asked_of
+debugged_with_queues = refl
+
+-- words that are refused, and words that are not
+no_fault : fault_of pbx_app (codes "pbx" ∷ codes "check" ∷ codes "a.conf" ∷ []) ≡ []
+unfolding clap_on_literals
+no_fault = refl
+
+unknown_command : fault_of pbx_app (codes "pbx" ∷ codes "frob" ∷ []) ≡ kind.UnknownArgument ∷ kind.InvalidSubcommand ∷ []
+unfolding clap_on_literals
+unknown_command = refl
+
+extra_word : fault_of pbx_app (codes "pbx" ∷ codes "check" ∷ codes "a.conf" ∷ codes "b.conf" ∷ []) ≡ kind.UnknownArgument ∷ []
+unfolding clap_on_literals
+extra_word = refl
+
+missing_word : fault_of pbx_app (codes "pbx" ∷ codes "run" ∷ codes "a.conf" ∷ []) ≡ kind.MissingRequiredArgument ∷ []
+unfolding clap_on_literals
+missing_word = refl
+
+missing_break : fault_of pbx_app (codes "pbx" ∷ codes "debug" ∷ codes "a.conf" ∷ codes "b.script" ∷ []) ≡ kind.MissingRequiredArgument ∷ []
+unfolding clap_on_literals
+missing_break = refl

@@ -1,0 +1,166 @@
+-- What the words of a command line ask for. Which word belongs to which name of a command is what clap's definitions say
+-- of the commands below.
+use Rattle.std.specs.Prelude.{ℕ, true, String, string_bytes, List, [], ◌∷◌, Option, Some, None, nat_lt, map, codes, if◌then◌else◌}
+use Rattle.std.specs.Option.{option_and_then, option_map}
+use Rattle.std.specs.declared.alloc.Global.{Global}
+use Rattle.clap.specs.Simple.{App, new_app, new_rule, with_rule, with_subcommand, subcommand_of}
+use Rattle.clap.specs.Walk.{Row, Rule, first_of}
+use Rattle.dp_conf.specs.Words.{same_text}
+use Rattle.dp_commands.specs.Script.{number_within}
+use Rattle.dp_plan.specs.Priority.{most_priority}
+use Rattle.dp_program.specs.declared.command_line.Request.{Request}
+use Rattle.dp_program.specs.declared.command_line.Request.TheVariants.{Joined, Check, Listing, Match, Run, QueueRun, ThreadRun, QueueThreadRun, Debug, QueueDebug}
+
+-- a word that has to be given
+abbrev pub required_word : List ℕ → Rule
+required_word name = record (new_rule name) { required = true }
+
+-- a word that may be left out, with what stands for it then
+abbrev pub word_or : List ℕ → List ℕ → Rule
+word_or name default = record (new_rule name) { defaults = default ∷ [] }
+
+-- a word that may be given behind `--` and a name
+abbrev pub named_word : List ℕ → List ℕ → Rule
+named_word name long = record (new_rule name) { long = Some long }
+
+-- a word that has to be given behind `--` and a name
+abbrev pub required_named_word : List ℕ → List ℕ → Rule
+required_named_word name long = record (named_word name long) { required = true }
+
+-- `check FILE`
+abbrev pub check_app : App
+check_app = with_rule (new_app (codes "check")) (required_word (codes "FILE"))
+
+-- `list FILE`
+abbrev pub list_app : App
+list_app = with_rule (new_app (codes "list")) (required_word (codes "FILE"))
+
+-- `match FILE CONTEXT TEXT [PRIORITY]`
+abbrev pub match_app : App
+match_app =
+    with_rule (with_rule (with_rule (with_rule (new_app (codes "match"))
+    (required_word (codes "FILE"))) (required_word (codes "CONTEXT"))) (required_word (codes "TEXT")))
+    (word_or (codes "PRIORITY") (codes "1"))
+
+-- `run [--queues QUEUES] [--threads N] FILE SCRIPT`
+abbrev pub run_app : App
+run_app =
+    with_rule (with_rule (with_rule (with_rule (new_app (codes "run")) (named_word (codes "QUEUES") (codes "queues")))
+    (named_word (codes "N") (codes "threads"))) (required_word (codes "FILE"))) (required_word (codes "SCRIPT"))
+
+-- `debug [--queues QUEUES] --break CONTEXT,EXTEN,PRIORITY FILE SCRIPT`
+abbrev pub debug_app : App
+debug_app =
+    with_rule (with_rule (with_rule (with_rule (new_app (codes "debug")) (named_word (codes "QUEUES") (codes "queues")))
+    (required_named_word (codes "CONTEXT,EXTEN,PRIORITY") (codes "break")))
+    (required_word (codes "FILE"))) (required_word (codes "SCRIPT"))
+
+-- the program's commands
+abbrev pub pbx_app : App
+pbx_app =
+    with_subcommand (with_subcommand (with_subcommand (with_subcommand (with_subcommand (new_app (codes "pbx")) check_app.top)
+    list_app.top) match_app.top) run_app.top) debug_app.top
+
+-- what a command line asks for, with its texts
+pub data Asked : Type 0 where
+  joined : Asked
+  check : List ℕ → Asked
+  listing : List ℕ → Asked
+  matching : List ℕ → List ℕ → List ℕ → ℕ → Asked
+  run : List ℕ → Option (List ℕ) → List ℕ → Asked
+  thread_run : List ℕ → Option (List ℕ) → List ℕ → ℕ → Asked
+  debug : List ℕ → Option (List ℕ) → List ℕ → List ℕ → Asked
+
+-- what a request asks for
+abbrev pub asked : Request → Asked
+asked Joined = joined
+asked (Check file) = check file.now
+asked (Listing file) = listing file.now
+asked (Match file context text priority) = matching file.now context.now text.now priority
+asked (Run file script) = run file.now None script.now
+asked (QueueRun file queues script) = run file.now (Some queues.now) script.now
+asked (ThreadRun file script threads) = thread_run file.now None script.now threads
+asked (QueueThreadRun file queues script threads) = thread_run file.now (Some queues.now) script.now threads
+asked (Debug file script held) = debug file.now None script.now held.now
+asked (QueueDebug file queues script held) = debug file.now (Some queues.now) script.now held.now
+
+-- the priority that a word writes: digits, and a number from 1 to the greatest priority
+abbrev pub priority_in : List ℕ → Option ℕ
+priority_in word = option_and_then (λ n. if nat_lt 0 n then Some n else None) (number_within most_priority word)
+
+-- the greatest number of threads of a run
+abbrev pub most_threads : ℕ
+most_threads = 64
+
+-- the number of threads that a word writes: digits, and a number from 1 to the greatest
+abbrev pub threads_in : List ℕ → Option ℕ
+threads_in word = option_and_then (λ n. if nat_lt 0 n then Some n else None) (number_within most_threads word)
+
+-- what `check` asks for, by its words
+abbrev pub check_asked : List Row → Option Asked
+check_asked words = option_map check (first_of (codes "FILE") words)
+
+-- what `list` asks for, by its words
+abbrev pub list_asked : List Row → Option Asked
+list_asked words = option_map listing (first_of (codes "FILE") words)
+
+-- what `match` asks for at a priority, by its other words
+abbrev pub match_at : List Row → ℕ → Option Asked
+match_at words priority =
+    option_and_then (λ file. option_and_then (λ context. option_map (λ text. matching file context text priority)
+    (first_of (codes "TEXT") words)) (first_of (codes "CONTEXT") words)) (first_of (codes "FILE") words)
+
+-- what `match` asks for, by its words
+abbrev pub match_asked : List Row → Option Asked
+match_asked words =
+    option_and_then (λ word. option_and_then (match_at words) (priority_in word)) (first_of (codes "PRIORITY") words)
+
+-- what `run` asks for without threads, by its words
+abbrev pub plain_run_of : List Row → Option Asked
+plain_run_of words =
+    option_and_then (λ file. option_map (run file (first_of (codes "QUEUES") words)) (first_of (codes "SCRIPT") words))
+    (first_of (codes "FILE") words)
+
+-- what `run` asks for in so many threads, by its other words
+abbrev pub thread_run_of : List Row → ℕ → Option Asked
+thread_run_of words threads =
+    option_and_then (λ file. option_map (λ script. thread_run file (first_of (codes "QUEUES") words) script threads)
+    (first_of (codes "SCRIPT") words)) (first_of (codes "FILE") words)
+
+-- what `run` asks for, by its words and the one behind `--threads`
+abbrev pub run_by : List Row → Option (List ℕ) → Option Asked
+run_by words None = plain_run_of words
+run_by words (Some word) = option_and_then (thread_run_of words) (threads_in word)
+
+-- what `run` asks for, by its words
+abbrev pub run_asked : List Row → Option Asked
+run_asked words = run_by words (first_of (codes "N") words)
+
+-- what `debug` asks for, by its words
+abbrev pub debug_asked : List Row → Option Asked
+debug_asked words =
+    option_and_then (λ file. option_and_then (λ script. option_map (debug file (first_of (codes "QUEUES") words) script)
+    (first_of (codes "CONTEXT,EXTEN,PRIORITY") words)) (first_of (codes "SCRIPT") words)) (first_of (codes "FILE") words)
+
+-- what a command of a name asks for, by its words
+abbrev pub command_asked : List ℕ → List Row → Option Asked
+command_asked name words =
+    if same_text name (codes "check") then check_asked words
+    else if same_text name (codes "list") then list_asked words
+    else if same_text name (codes "match") then match_asked words
+    else if same_text name (codes "run") then run_asked words
+    else if same_text name (codes "debug") then debug_asked words
+    else None
+
+-- the same, where there is no command too
+abbrev pub asked_by : Option (List ℕ × List Row) → Option Asked
+asked_by None = Some joined
+asked_by (Some command) = command_asked command.0 command.1
+
+-- the words as their bytes
+abbrev pub texts : List (String Global) → List (List ℕ)
+texts words = map string_bytes words
+
+-- what a command line asks for, by all its words, the first of which is the program's own name
+unfoldable pub asked_of : List (List ℕ) → Option Asked
+asked_of words = asked_by (subcommand_of pbx_app words)

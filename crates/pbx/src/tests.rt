@@ -1,4 +1,0 @@
-mod commands;
-mod folder;
-mod large;
-mod mistakes;
