@@ -1,0 +1,401 @@
+//! Dialplans with variables, worked out by hand from the rules.
+use crate::machine::render::Given::{Start, Step};
+use crate::machine::render::{Exchange, Given, machine_of, push_state, shown};
+use dp_machine::{Event, NoMemory, Text};
+use dp_rows::{Question, check, check_same, push_bytes};
+use std::alloc::Global;
+use std::test::Fail;
+
+/// The value of a name in a channel, in characters of the numbers of its bytes.
+fn value_of(
+    alloc: Global,
+    machine: &Exchange,
+    channel: u32,
+    name: &str,
+) -> Result<String, NoMemory> {
+    let mut out = String::new(alloc);
+    let value = machine.value(alloc, channel, name.as_bytes())?;
+    push_bytes(&mut out, &value)?;
+    Ok(out)
+}
+
+/// A dialplan with the globals that stand between ` ; `, and with `Goto` of these arguments at `main`, `100`, 1.
+fn plan_of(alloc: Global, globals: &str, arguments: &str) -> Result<String, NoMemory> {
+    let mut text = String::new(alloc);
+    text.push_str("[globals]\n")?;
+    for line in globals.split(" ; ") {
+        text.push_str(line)?;
+        text.push('\n')?;
+    }
+    write!(text, "[main]\nexten => 100,1,Goto({arguments})\n")?;
+    Ok(text)
+}
+
+/// A machine with such a dialplan.
+fn exchange(alloc: Global, globals: &str, arguments: &str) -> Result<Exchange, Fail> {
+    let text = plan_of(alloc, globals, arguments)?;
+    machine_of(alloc, text.as_bytes())
+}
+
+/// A call of `5551234` to `main`, `100`.
+fn call(alloc: Global) -> Result<Event, NoMemory> {
+    Ok(Event::Start {
+        context: Text::copy_of(alloc, b"main")?,
+        exten: Text::copy_of(alloc, b"100")?,
+        caller: Text::copy_of(alloc, b"5551234")?,
+    })
+}
+
+/// Such a call, then so many steps of it.
+fn call_through(alloc: Global, machine: &mut Exchange, steps: usize) -> Result<(), NoMemory> {
+    machine.apply(alloc, call(alloc)?)?;
+    for _ in 0..steps {
+        machine.apply(alloc, Event::Step { channel: 1 })?;
+    }
+    Ok(())
+}
+
+/// The value of a name in a channel behind a call.
+fn value_called(
+    alloc: Global,
+    machine: &mut Exchange,
+    channel: u32,
+    name: &str,
+) -> Result<String, Fail> {
+    call_through(alloc, machine, 0)?;
+    Ok(value_of(alloc, machine, channel, name)?)
+}
+
+/// What stands before the last ` ; `, and what behind it.
+fn cut(asked: &str) -> (&str, &str) {
+    asked.rsplit_once(" ; ").unwrap_or(("", asked))
+}
+
+/// The value of a name in a channel, where globals stand before it: `NAME=VALUE ; .. ; CHANNEL NAME`.
+struct Valued;
+
+impl Question for Valued {
+    fn answer(alloc: Global, asked: &str) -> Result<String, Fail> {
+        let (globals, wanted) = cut(asked);
+        let (channel, name) = wanted.split_once(' ').ok_or("no name")?;
+        let channel: u32 = channel.parse().ok().ok_or("no number")?;
+        let mut machine = exchange(alloc, globals, "")?;
+        value_called(alloc, &mut machine, channel, name)
+    }
+}
+
+const VALUES: &str = r"
+# Globals are expanded in the order of the file.
+N=200 ; M=${N}1 ; 1 M→2001
+M=${N}1 ; N=200 ; 1 M→1
+M=${M}1 ; 1 M→1
+N=${LEN(abc)} ; M=$[${N} * 2] ; 1 M→6
+# One that stands twice is expanded in turn, and the second may read the first.
+N=1 ; N=${N}2 ; 1 N→12
+N=1 ; M=${N} ; N=2 ; 1 M→1
+N=1 ; M=${N} ; N=2 ; 1 N→2
+N=${N}x ; N=${N}y ; N=${N}z ; 1 N→xyz
+# A value is not expanded again.
+A=$ ; B=${A}{N} ; N=1 ; 1 B→${N}
+A=$ ; B=${A}{N} ; N=1 ; C=${B} ; 1 C→${N}
+A=$ ; B=${A}[1 + 1] ; C=${LEN(${B})} ; 1 C→8
+# While they are expanded there is no channel.
+E=<${EXTEN}${CONTEXT}${PRIORITY}${CHANNEL}${CALLERID(num)}${LOCAL(E)}> ; 1 E→<>
+E=${QUEUE_WAITING_COUNT(q)} ; 1 E→0
+EXTEN=x ; E=<${EXTEN}> ; 1 E→<>
+CONTEXT=x ; E=<${CONTEXT}> ; 1 E→<>
+PRIORITY=x ; E=<${PRIORITY}> ; 1 E→<>
+CHANNEL=x ; E=<${CHANNEL}> ; 1 E→<>
+EXTEN=x ; E=<${GLOBAL(EXTEN)}> ; 1 E→<x>
+# What a channel gives hides a global of its name.
+EXTEN=x ; 1 EXTEN→100
+CONTEXT=x ; 1 CONTEXT→main
+PRIORITY=x ; 1 PRIORITY→1
+CHANNEL=x ; 1 CHANNEL→Channel/1
+# A name is read as it is, and a function is none.
+LEN(x)=seven ; 1 LEN(x)→seven
+LEN(x)=seven ; E=${LEN(x)} ; 1 E→1
+LEN(x)=seven ; E=${GLOBAL(LEN(x))} ; 1 E→seven
+N=1 ; 1 ${N}→
+N=1 ; 1 N:0→
+n=1 ; 1 N→
+N=1 ; 1  N→
+N=1 ; 1 →
+=1 ; 1 →
+# No such name, and no such channel.
+N=1 ; 1 M→
+N=1 ; 0 N→
+N=1 ; 2 N→
+N=1 ; 2 EXTEN→
+N=1 ; 4294967295 CHANNEL→
+";
+
+#[test]
+fn names_have_these_values(rt: HostRuntime) -> Result<(), Fail> {
+    check::<Valued>(rt.alloc(), VALUES)
+}
+
+/// The extension at which a call stands behind its first step, which stands between `<` and `>`, without these two.
+fn gone_to(alloc: Global, machine: &mut Exchange) -> Result<String, Fail> {
+    call_through(alloc, machine, 1)?;
+    let place = machine.place(1).ok_or("no channel")?;
+    let bytes = place.exten.bytes();
+    let bytes = bytes.strip_prefix(b"<".as_slice()).ok_or("not gone")?;
+    let bytes = bytes.strip_suffix(b">".as_slice()).ok_or("cut off")?;
+    let mut out = String::new(alloc);
+    push_bytes(&mut out, bytes)?;
+    Ok(out)
+}
+
+/// The extension to which a `Goto` of a text between `<` and `>` goes, without these two.
+fn sent(alloc: Global, globals: &str, text: &str) -> Result<String, Fail> {
+    let arguments = format!(in alloc; "<{text}>,1")?;
+    sent_by(alloc, globals, &arguments)
+}
+
+/// The same of whole arguments.
+fn sent_by(alloc: Global, globals: &str, arguments: &str) -> Result<String, Fail> {
+    let mut machine = exchange(alloc, globals, arguments)?;
+    gone_to(alloc, &mut machine)
+}
+
+/// What arguments are expanded to where globals stand before them: `NAME=VALUE ; .. ; ARGUMENTS`.
+struct Arguments;
+
+impl Question for Arguments {
+    fn answer(alloc: Global, asked: &str) -> Result<String, Fail> {
+        let (globals, text) = cut(asked);
+        sent(alloc, globals, text)
+    }
+}
+
+const ARGUMENTS: &str = r#"
+plain {x} [y] $ $$ }→plain {x} [y] $ $$ }
+# What the channel gives.
+${CONTEXT}-${EXTEN}-${PRIORITY}-${CHANNEL}-${CALLERID(num)}→main-100-1-Channel/1-5551234
+EXTEN=x ; ${EXTEN}${GLOBAL(EXTEN)}→100x
+EXTEN=x ; ${LOCAL(EXTEN)}→
+# Parts of values.
+X=abcdef ; ${X:-2}→ef
+X=abcdef ; ${X:1:-1}→bcde
+X=abcdef ; ${X:-9:2}→ab
+X=abcdef ; ${X:2:0}→
+X=abcdef ; ${LEN(${X})}→6
+${LEN(abcdefghijkl):-1}→2
+X=abcdef ; ${X→${X
+X=abcdef ; ${X:}→abcdef
+X=abcdef ; ${X:1:2:3}→
+X=abcdef ; ${X:-0}→abcdef
+X=abcdef ; ${X:1:-0}→
+X=abcdef ; ${X:-0:-0}→
+X=abcdef ; ${X:9999999999999999999999999999999999999999}→
+X=abcdef ; ${X:-9999999999999999999999999999999999999999:1}→a
+X=abcdef ; ${X:1:9999999999999999999999999999999999999999}→bcdef
+X=abcdef ; ${X:1:-9999999999999999999999999999999999999999}→
+# Groups.
+b=1 ; ${a${b}→${a1
+b=1 ; ${a$[b}→${a$[b}
+$[${}]→
+A=B ; B=v ; ${${A}}→v
+A=X:2 ; X=abcdef ; ${${A}}→cdef
+# A value is not expanded again.
+A=$ ; B=${A}{N} ; N=1 ; ${B}→${N}
+A=$ ; B=${A}{N} ; N=1 ; ${LEN(${B})}→4
+A=$ ; B=${A}{N} ; N=1 ; $[${B}]→${N}
+A=$ ; N=1 ; ${A}{N}→${N}
+# No line gives the empty name a value.
+${}→
+=v ; ${}→
+# Names of functions keep their case and their blanks.
+${len(x)}→
+${ LEN(x)}→
+${CALLERID( num)}→
+${CALLERID(name)}→
+# Functions with no `)`, with something behind it, and with a faulty cut.
+${F(}→
+${LEN(abc:1}→
+${LEN(a)b}→1
+${LEN(a)b:1}→
+${LEN(ab):x}→
+${(x)}→
+LEN(x)=seven ; ${LEN(x)}→1
+# Expressions.
+$[9223372036854775807 + 1]→
+$[-7 / 2]→-3
+$[-7 % 2]→-1
+$[1 / 0]→
+$[(-9223372036854775807 - 1) / -1]→
+$[(-9223372036854775807 - 1) % -1]→0
+$["5" = 5]→0
+$[-9223372036854775808]→
+$["" | x]→""
+$[a & 0]→0
+$[!0]→1
+$[1 2]→
+N=3 ; $[${N} + ${LEN(${N})}]→4
+"#;
+
+#[test]
+fn arguments_are_expanded(rt: HostRuntime) -> Result<(), Fail> {
+    check::<Arguments>(rt.alloc(), ARGUMENTS)
+}
+
+/// The state of a call behind its first step.
+fn state_behind(alloc: Global, machine: &mut Exchange) -> Result<String, Fail> {
+    call_through(alloc, machine, 1)?;
+    let mut out = String::new(alloc);
+    push_state(&mut out, machine, 1)?;
+    Ok(out)
+}
+
+/// The state of the call behind a `Goto` of these arguments: `NAME=VALUE ; .. ; ARGUMENTS`.
+struct Went;
+
+impl Question for Went {
+    fn answer(alloc: Global, asked: &str) -> Result<String, Fail> {
+        let (globals, arguments) = cut(asked);
+        let mut machine = exchange(alloc, globals, arguments)?;
+        state_behind(alloc, &mut machine)
+    }
+}
+
+const TARGETS: &str = r"
+# Commas and parentheses of a value take part in the cutting.
+T=200,1 ; ${T}→ready main,200,1
+T=out,200,5 ; ${T}→ready out,200,5
+T=,1 ; 200${T}→ready main,200,1
+T=(a ; ${T},b),1→ready main,(a,b),1
+T=a) ; (${T},1→ready main,(a),1
+T=a) ; (b${T},c),1→ready (ba),c),1
+T=1,2,3,4 ; ${T}→ended main,100,1
+T=a , b ; ${T},1→ready a,b,1
+# An empty value leaves an empty part.
+${NONE},1→ready main,100,1
+${NONE}→ended main,100,1
+${NONE}200,${NONE}1→ready main,200,1
+# Numbers.
+T=2 ; 200,$[${T} - 1]→ready main,200,1
+T=2 ; ${T}→ready main,100,2
+T=2 ; 200,$[${T} - 2]→ended main,100,1
+${EXTEN:1},${PRIORITY}→ready main,00,1
+${CHANNEL},1→ready main,Channel/1,1
+";
+
+#[test]
+fn values_are_cut_as_arguments(rt: HostRuntime) -> Result<(), Fail> {
+    check::<Went>(rt.alloc(), TARGETS)
+}
+
+fn repeated(alloc: Global, openings: usize, ends: usize) -> Result<String, NoMemory> {
+    let mut text = String::new(alloc);
+    for _ in 0..openings {
+        text.push_str("${")?;
+    }
+    for _ in 0..ends {
+        text.push('}')?;
+    }
+    Ok(text)
+}
+
+/// The sizes of so many openings and ends where they are arguments, and where they are a global: `OPENINGS ENDS`.
+struct Nested;
+
+impl Question for Nested {
+    fn answer(alloc: Global, asked: &str) -> Result<String, Fail> {
+        let (openings, ends) = asked.split_once(' ').ok_or("no question")?;
+        let openings: usize = openings.parse().ok().ok_or("no number")?;
+        let ends: usize = ends.parse().ok().ok_or("no number")?;
+        let text = repeated(alloc, openings, ends)?;
+        sizes_of(alloc, &text)
+    }
+}
+
+/// The size of a text that is a global.
+fn global_size(alloc: Global, text: &str) -> Result<String, Fail> {
+    let globals = format!(in alloc; "G={text}")?;
+    sent(alloc, &globals, "${LEN(${G})}")
+}
+
+fn sizes(alloc: Global, arguments: &str, global: &str) -> Result<String, Fail> {
+    let out = format!(in alloc; "{} {global}", arguments.len())?;
+    Ok(out)
+}
+
+fn sizes_of(alloc: Global, text: &str) -> Result<String, Fail> {
+    let arguments = sent(alloc, "", text)?;
+    let global = global_size(alloc, text)?;
+    sizes(alloc, &arguments, &global)
+}
+
+const NESTING: &str = r"
+32 32→0 0
+33 0→66 66
+33 32→2 2
+32 33→1 1
+";
+
+#[test]
+fn nesting_limit(rt: HostRuntime) -> Result<(), Fail> {
+    check::<Nested>(rt.alloc(), NESTING)
+}
+
+/// Asserts what a machine replies to events.
+fn check_trace(
+    alloc: Global,
+    machine: &mut Exchange,
+    events: &[Given],
+    want: &str,
+) -> Result<(), Fail> {
+    let got = shown(alloc, machine, events)?;
+    check_same("the machine", &got, want)
+}
+
+/// Asserts the value of a name in the first channel.
+fn check_value(alloc: Global, machine: &Exchange, name: &str, want: &str) -> Result<(), Fail> {
+    let got = value_of(alloc, machine, 1, name)?;
+    check_same(name, &got, want)
+}
+
+fn check_globals_expanded(alloc: Global, machine: &mut Exchange) -> Result<(), Fail> {
+    let events = [Start(b"main", b"100"), Step(1), Step(1)];
+    let want = "started 1 -> ready main,100,1\nran main,100,1 Goto -> ready main,200,1\n\
+ran main,200,1 NoOp -> ready main,200,2\n";
+    check_trace(alloc, machine, &events, want)?;
+    check_value(alloc, machine, "M", "2001")?;
+    check_value(alloc, machine, "EXTEN", "200")?;
+    check_value(alloc, machine, "PRIORITY", "2")?;
+    // An ended channel keeps its values.
+    machine.apply(alloc, Event::Step { channel: 1 })?;
+    check_value(alloc, machine, "EXTEN", "200")
+}
+
+#[test]
+fn globals_expanded(rt: HostRuntime) -> Result<(), Fail> {
+    let text = b"[globals]\nN=200\nM=${N}1\n[main]\nexten => 100,1,Goto(${N},1)\n\
+exten => 200,1,NoOp()\n";
+    let mut machine = machine_of(rt.alloc(), text)?;
+    check_globals_expanded(rt.alloc(), &mut machine)
+}
+
+fn check_a_call_sees_itself(alloc: Global, machine: &mut Exchange) -> Result<(), Fail> {
+    let events = [
+        Start(b"main", b"1"),
+        Start(b"main", b"2"),
+        Step(2),
+        Start(b"main", b"3"),
+        Step(1),
+        Step(3),
+    ];
+    let want = "started 1 -> ready main,1,1\nstarted 2 -> ready main,2,1\n\
+ran main,_X,1 Goto -> ready main,Channel/2-2,1\nstarted 3 -> ready main,3,1\n\
+ran main,_X,1 Goto -> ready main,Channel/1-1,1\nran main,_X,1 Goto -> ready main,Channel/3-3,1\n";
+    check_trace(alloc, machine, &events, want)
+}
+
+/// A step is expanded in what its own call sees.
+#[test]
+fn a_call_sees_itself(rt: HostRuntime) -> Result<(), Fail> {
+    let text = b"[main]\nexten => _X,1,Goto(${CHANNEL}-${EXTEN},1)\n";
+    let mut machine = machine_of(rt.alloc(), text)?;
+    check_a_call_sees_itself(rt.alloc(), &mut machine)
+}

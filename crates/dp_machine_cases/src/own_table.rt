@@ -1,0 +1,68 @@
+//! A table of applications of another maker, over which a machine is proved as it is over the program's own.
+ghost use Rattle.std.specs.Prelude.{◌≡◌};
+
+use dp_app::{Application, Cell, Move, NoApps, Phase, Touch, With};
+use dp_conf::NoMemory;
+use std::alloc::Global;
+
+/// `Ping(text)`: sets `P` to the text, and the channel goes on.
+pub struct Ping;
+
+impl Application for Ping {
+    ghost use Rattle.std.specs.Prelude.{codes, refl};
+    ghost use Rattle.dp_machine_cases.specs.OwnTable.{ping_lawful, ping_row, the_variables};
+
+    ghost meaning = { ping_row };
+
+    ghost title = { codes "Ping" };
+
+    ghost TOUCH = { the_variables };
+
+    ghost lawful = { ping_lawful the_variables refl };
+
+    const TOUCH: Touch = Touch {
+        variables: true,
+        ..Touch::NOTHING
+    };
+
+    fn name() -> &'static [u8] {
+        b"Ping"
+    }
+
+    fn apply(alloc: Global, arguments: &[u8], cell: &mut Cell) -> Result<Move, NoMemory> {
+        cell.store.set(alloc, b"P", arguments)?;
+        Ok(Move::Next)
+    }
+}
+
+/// `Stay()`: the channel waits until a time-out. During `h` the call ends.
+pub struct Stay;
+
+impl Application for Stay {
+    ghost use Rattle.std.specs.Prelude.{codes};
+    ghost use Rattle.dp_machine_cases.specs.OwnTable.{nothing, stay_lawful, stay_row};
+
+    ghost meaning = { stay_row };
+
+    ghost title = { codes "Stay" };
+
+    ghost TOUCH = { nothing };
+
+    ghost lawful = { stay_lawful nothing };
+
+    const TOUCH: Touch = Touch::NOTHING;
+
+    fn name() -> &'static [u8] {
+        b"Stay"
+    }
+
+    fn apply(_alloc: Global, _arguments: &[u8], cell: &mut Cell) -> Result<Move, NoMemory> {
+        if cell.is_closing {
+            return Ok(Move::Hang);
+        }
+        Ok(Move::Park(Phase::Pause))
+    }
+}
+
+/// The table of these two.
+pub type OwnApps = With<Ping, With<Stay, NoApps>>;

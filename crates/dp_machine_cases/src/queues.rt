@@ -1,0 +1,71 @@
+//! Queues, how they load and what their calls answer, worked out by hand from the rules.
+mod files;
+mod manual;
+mod offers;
+mod render;
+mod rows;
+mod steps;
+
+use crate::queues::render::{push_fault, shown};
+use crate::queues::steps::take;
+use dp_queue::{NoMemory, QueueFault, Queues};
+use dp_rows::{Question, bytes_of, check_all};
+use std::alloc::Global;
+use std::test::Fail;
+
+/// What a file of queues loads as.
+struct Loads;
+
+impl Question for Loads {
+    fn answer(alloc: Global, asked: &str) -> Result<String, Fail> {
+        let text = bytes_of(alloc, asked)?;
+        let read = Queues::load(alloc, &text);
+        let got = shown(alloc, &read)?;
+        Ok(got)
+    }
+}
+
+/// What the queues of a file answer to steps between ` ; `, one answer after another.
+struct Acts;
+
+fn act(alloc: Global, queues: &mut Queues, steps: &str) -> Result<String, Fail> {
+    let mut out = String::new(alloc);
+    for step in steps.split(" ; ") {
+        if !out.is_empty() {
+            out.push_str(", ")?;
+        }
+        take(alloc, &mut out, queues, step)?;
+    }
+    Ok(out)
+}
+
+impl Question for Acts {
+    fn answer(alloc: Global, asked: &str) -> Result<String, Fail> {
+        let (file, steps) = asked.split_once(" ; ").unwrap_or((asked, "show"));
+        let text = bytes_of(alloc, file)?;
+        acts_of(alloc, &text, steps)
+    }
+}
+
+fn acts_of(alloc: Global, text: &[u8], steps: &str) -> Result<String, Fail> {
+    match Queues::load(alloc, text) {
+        Ok(mut queues) => act(alloc, &mut queues, steps),
+        Err(fault) => fault_text(alloc, fault),
+    }
+}
+
+fn fault_text(alloc: Global, fault: QueueFault) -> Result<String, Fail> {
+    let mut out = String::new(alloc);
+    push_fault(&mut out, fault)?;
+    Ok(out)
+}
+
+#[test]
+fn files_load_so(rt: HostRuntime) -> Result<(), Fail> {
+    check_all::<Loads>(rt.alloc(), files::TABLES)
+}
+
+#[test]
+fn steps_answer_so(rt: HostRuntime) -> Result<(), Fail> {
+    check_all::<Acts>(rt.alloc(), &[rows::WORKED, offers::OFFERS, manual::OFFERS])
+}

@@ -1,0 +1,160 @@
+//! Listings of dialplans.
+use crate::plan::LOADED;
+use crate::plan::orders::ORDERS;
+use crate::plan::render::shown;
+use dp_conf::{NoMemory, escape};
+use dp_lister::list;
+use dp_plan::{Dialplan, Note, NoteKind};
+use dp_rows::{Question, bytes_of, check};
+use std::alloc::Global;
+use std::process::Abort;
+use std::test::Fail;
+
+/// The listing of the dialplan that a text loads as.
+struct Lists;
+
+impl Question for Lists {
+    fn answer(alloc: Global, asked: &str) -> Result<String, Fail> {
+        let text = bytes_of(alloc, asked)?;
+        listing_of(alloc, &text)
+    }
+}
+
+fn listing_of(alloc: Global, text: &[u8]) -> Result<String, Fail> {
+    let (plan, _) = Dialplan::load(alloc, text)?;
+    listing(alloc, &plan)
+}
+
+/// The listing of a dialplan, in characters of the numbers of its bytes.
+fn listing(alloc: Global, plan: &Dialplan) -> Result<String, Fail> {
+    let listed = list(alloc, plan)?;
+    characters(alloc, &listed)
+}
+
+/// Each byte as the character of its number.
+fn characters(alloc: Global, bytes: &[u8]) -> Result<String, Fail> {
+    let mut out = String::new(alloc);
+    for byte in bytes {
+        out.push(char::from(*byte))?;
+    }
+    Ok(out)
+}
+
+const LISTINGS: &str = r"
+# Nothing, and what a listing leaves out.
+→
+[general]\nstatic=yes\n[globals]\n→
+; x\n\n[m] ; y\nfoo=1\n→[m]\n
+# Global variables come first, in their order, and contexts in the order of first appearance.
+[b]\n[globals]\nB=2\n[a]\n[globals]\nA=1\nB=3\n[b]\n→[globals]\nB => 2\nA => 1\nB => 3\n[b]\n[a]\n
+[globals]\nA=\n→[globals]\nA => \n
+# Entries, then includes, each in the order of the file.
+[m]\ninclude => b\nexten => s,2,B\ninclude => a\nexten => s,1,A(x,y)\n→[m]\nexten => s,2,B()\nexten => s,1,A(x,y)\ninclude => b\ninclude => a\n
+[m]\ninclude =>\n→[m]\ninclude => \n
+# Priorities are numbers, labels stand behind them, and names have their one spelling.
+[m]\nexten => 1-00,1,A\nsame => n(x),B\n→[m]\nexten => 100,1,A()\nexten => 100,2(x),B()\n
+[m]\nexten => _[0-9]x[0-9].,1,A\nsame => n,B\nexten => 1-0,1,C\nsame => n,D\n→[m]\nexten => _XXX.,1,A()\nexten => _XXX.,2,B()\nexten => 10,1,C()\nexten => 10,2,D()\n
+[m]\nexten => _[2-9][5],1,A\nexten => _[.]x!,1,B\n→[m]\nexten => _N5,1,A()\nexten => _[.]X!,1,B()\n
+[m]\nexten => s,1,App)\n→[m]\nexten => s,1,App)()\n
+# Semicolons are escaped wherever they stand.
+[main]\nexten => s,1,NoOp(a\\;b\\\\;c)\n→[main]\nexten => s,1,NoOp(a\\;b\\\\;c)\n
+[globals]\na\\;b=c\\;d\n[e\\;f]\nexten => g\\;h,1(i\\;j),k\\;l(\\;)\ninclude => e\\;f\n→[globals]\na\\;b => c\\;d\n[e\\;f]\nexten => g\\;h,1(i\\;j),k\\;l(\\;)\ninclude => e\\;f\n
+# The usual file.
+[general]\nstatic=yes\nwriteprotect=no\n\n[globals]\nTRUNK=Line/9\n\n[main]\nexten => _NXXXXXX,1,Answer()\n same => n,Playback(hello-world)\n same => n(q),Queue(support,c)\n same => n,Hangup()\ninclude => out\n→[globals]\nTRUNK => Line/9\n[main]\nexten => _NXXXXXX,1,Answer()\nexten => _NXXXXXX,2,Playback(hello-world)\nexten => _NXXXXXX,3(q),Queue(support,c)\nexten => _NXXXXXX,4,Hangup()\ninclude => out\n
+";
+
+/// What a dialplan is, without its notes.
+fn shown_plan(alloc: Global, plan: Dialplan) -> Result<String, NoMemory> {
+    shown(alloc, &Ok((plan, Vec::new(alloc))))
+}
+
+fn check_notes(rt: &impl Abort, notes: &[Note]) {
+    for note in notes {
+        assert_eq!(rt; note.kind, NoteKind::UnknownContext);
+    }
+}
+
+/// The dialplan of a listing and its own listing.
+fn listed_again(rt: &impl Abort, alloc: Global, listed: &[u8]) -> Result<(String, Vec<u8>), Fail> {
+    let (plan, notes) = Dialplan::load(alloc, listed)?;
+    check_notes(rt, &notes);
+    let again = list(alloc, &plan)?;
+    let shown = shown_plan(alloc, plan)?;
+    Ok((shown, again))
+}
+
+/// A listing loads as the same dialplan, without notes but on includes, and lists as the same text.
+fn check_listing(rt: &impl Abort, alloc: Global, plan: Dialplan, asked: &str) -> Result<(), Fail> {
+    let listed = list(alloc, &plan)?;
+    let want = shown_plan(alloc, plan)?;
+    let (got, again) = listed_again(rt, alloc, &listed)?;
+    assert!(rt; got.as_str() == want.as_str(), "of {asked}");
+    assert!(rt; again.as_slice() == listed.as_slice(), "of {asked}");
+    Ok(())
+}
+
+fn check_text(rt: &impl Abort, alloc: Global, asked: &str) -> Result<(), Fail> {
+    let text = bytes_of(alloc, asked)?;
+    match Dialplan::load(alloc, &text) {
+        Ok((plan, _)) => check_listing(rt, alloc, plan, asked),
+        Err(_) => Ok(()),
+    }
+}
+
+fn check_table(rt: &impl Abort, alloc: Global, table: &str) -> Result<(), Fail> {
+    for line in table.lines() {
+        if let Some((asked, _)) = line.split_once('→') {
+            check_text(rt, alloc, asked)?;
+        }
+    }
+    Ok(())
+}
+
+/// The dialplans of all tables of the loader, of orders and of listings.
+fn check_listings(rt: &impl Abort, alloc: Global) -> Result<(), Fail> {
+    for table in LOADED {
+        check_table(rt, alloc, table)?;
+    }
+    check_table(rt, alloc, ORDERS)?;
+    check_table(rt, alloc, LISTINGS)
+}
+
+#[test]
+fn a_listing_loads_as_the_same_dialplan(rt: HostRuntime) -> Result<(), Fail> {
+    check_listings(&rt, rt.alloc())
+}
+
+/// A line says the text that it writes escaped.
+struct Escapes;
+
+impl Question for Escapes {
+    fn answer(alloc: Global, asked: &str) -> Result<String, Fail> {
+        let text = bytes_of(alloc, asked)?;
+        escaped(alloc, &text)
+    }
+}
+
+fn escaped(alloc: Global, text: &[u8]) -> Result<String, Fail> {
+    let line = escape(alloc, text)?;
+    characters(alloc, &line)
+}
+
+const ESCAPES: &str = r"
+→
+a→a
+;→\\;
+a;b;→a\\;b\\;
+\\;→\\\\;
+\\→\\
+";
+
+fn check_tables(alloc: Global) -> Result<(), Fail> {
+    check::<Lists>(alloc, LISTINGS)?;
+    check::<Escapes>(alloc, ESCAPES)
+}
+
+/// Dialplans list so, and semicolons are escaped so.
+#[test]
+fn dialplans_list_so(rt: HostRuntime) -> Result<(), Fail> {
+    check_tables(rt.alloc())
+}

@@ -1,0 +1,172 @@
+//! Dialplans that are asked the questions of a table, and their answers as text.
+use dp_lookup::{
+    Dialplan, EntryId, NoMemory, SearchOrder, Text, could_be_more, exists, find, find_label,
+};
+use dp_rows::{bytes_of, is_heading};
+use std::alloc::Global;
+use std::process::Abort;
+use std::test::Fail;
+
+fn push_entry(out: &mut String, plan: &Dialplan, id: EntryId) -> Result<(), NoMemory> {
+    match (plan.contexts().get(id.context), plan.entry(id)) {
+        (Some(context), Some(entry)) => write!(out, "{} {}", context.name(), entry.application),
+        _ => out.push_str("an entry that is not there"),
+    }
+}
+
+fn push_found(
+    out: &mut String,
+    plan: &Dialplan,
+    order: &SearchOrder,
+    text: &[u8],
+    priority: u32,
+) -> Result<(), NoMemory> {
+    match find(plan, order, text, priority) {
+        Some(id) if exists(plan, order, text, priority) => push_entry(out, plan, id),
+        None if !exists(plan, order, text, priority) => out.push_str("none"),
+        _ => out.push_str("two answers"),
+    }
+}
+
+fn push_label(out: &mut String, found: Option<u32>) -> Result<(), NoMemory> {
+    match found {
+        Some(priority) => write!(out, "{priority}"),
+        None => out.push_str("none"),
+    }
+}
+
+fn push_answer(
+    out: &mut String,
+    plan: &Dialplan,
+    order: &SearchOrder,
+    asked: &str,
+) -> Result<(), Fail> {
+    let (word, rest) = asked.split_once(' ').ok_or("no question")?;
+    if word == "more" {
+        out.push_str(if could_be_more(plan, order, rest.as_bytes()) {
+            "more"
+        } else {
+            "no more"
+        })?;
+        return Ok(());
+    }
+    let (text, other) = rest.split_once(',').ok_or("no text")?;
+    match word {
+        "find" => {
+            let priority = other.parse::<u32>().ok().ok_or("no priority")?;
+            push_found(out, plan, order, text.as_bytes(), priority)?;
+        }
+        "label" => {
+            push_label(
+                out,
+                find_label(plan, order, text.as_bytes(), other.as_bytes()),
+            )?;
+        }
+        _ => out.push_str("no such question")?,
+    }
+    Ok(())
+}
+
+/// The names of an order's contexts, each before a blank.
+pub(super) fn push_order(
+    out: &mut String,
+    plan: &Dialplan,
+    order: &SearchOrder,
+) -> Result<(), NoMemory> {
+    for number in order.contexts() {
+        match plan.contexts().get(*number) {
+            Some(context) => write!(out, "{} ", context.name())?,
+            None => out.push_str("a context that is not there ")?,
+        }
+    }
+    Ok(())
+}
+
+fn answer(
+    alloc: Global,
+    plan: &Dialplan,
+    order: &SearchOrder,
+    asked: &str,
+) -> Result<String, Fail> {
+    let mut out = String::new(alloc);
+    if asked == "order" {
+        push_order(&mut out, plan, order)?;
+        return Ok(out);
+    }
+    push_answer(&mut out, plan, order, asked)?;
+    Ok(out)
+}
+
+/// Holds each answer in the order of one context against the one that is wanted. `of` says where the rows stand.
+fn check_rows(
+    rt: &impl Abort,
+    alloc: Global,
+    plan: &Dialplan,
+    order: &SearchOrder,
+    of: &str,
+    rows: &str,
+) -> Result<(), Fail> {
+    for row in rows.lines() {
+        let (asked, want) = row.split_once('→').ok_or("no answer")?;
+        let got = answer(alloc, plan, order, asked)?;
+        assert_eq!(rt; got.as_str(), want, "{asked} in {of}");
+    }
+    Ok(())
+}
+
+/// The rows that stand behind the name of a context.
+fn check_context(
+    rt: &impl Abort,
+    alloc: Global,
+    plan: &Dialplan,
+    of: &str,
+    asked: &str,
+) -> Result<(), Fail> {
+    let (name, rows) = asked.split_once('\n').ok_or("no rows")?;
+    let name = Text::copy_of(alloc, name.as_bytes())?;
+    let order = SearchOrder::of(alloc, plan, &name)?;
+    check_rows(rt, alloc, plan, &order, of, rows)
+}
+
+fn check_contexts(
+    rt: &impl Abort,
+    alloc: Global,
+    plan: &Dialplan,
+    of: &str,
+    contexts: &str,
+) -> Result<(), Fail> {
+    for asked in contexts.split("\nfrom ") {
+        check_context(rt, alloc, plan, of, asked)?;
+    }
+    Ok(())
+}
+
+/// The dialplan that stands on the last of these lines, and an empty one where that is a heading.
+fn plan_of(alloc: Global, head: &str) -> Result<Dialplan, Fail> {
+    let line = match head.rsplit_once('\n') {
+        Some((_, line)) => line,
+        None => head,
+    };
+    let text = bytes_of(alloc, if is_heading(line) { "" } else { line })?;
+    let (plan, _) = Dialplan::load(alloc, &text)?;
+    Ok(plan)
+}
+
+fn check_block(rt: &impl Abort, alloc: Global, block: &str) -> Result<(), Fail> {
+    let (head, contexts) = block.split_once("\nfrom ").ok_or("no context")?;
+    let plan = plan_of(alloc, head)?;
+    check_contexts(rt, alloc, &plan, head, contexts)
+}
+
+/// Holds the answers to the questions of a table against those that are wanted.
+///
+/// A table has blocks with an empty line between them. A block is a heading, a line with the dialplan, and for each
+/// context that is asked a line `from CONTEXT` with its rows behind it. A row is a question, an arrow and the answer:
+/// `find TEXT,PRIORITY` is `CONTEXT APPLICATION` or `none`, `label TEXT,LABEL` the priority or `none`, `more TEXT` is
+/// `more` or `no more`, and `order` the names of the contexts in the order of the search, each before a blank.
+pub(super) fn check(rt: &impl Abort, alloc: Global, table: &str) -> Result<(), Fail> {
+    for block in table.split("\n\n") {
+        check_block(rt, alloc, block)?;
+    }
+    Ok(())
+}

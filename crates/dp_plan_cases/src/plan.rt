@@ -1,0 +1,55 @@
+//! Dialplans, how they load and what is read of them, worked out by hand from the rules.
+mod codes;
+pub(crate) mod faults;
+pub(crate) mod includes;
+pub(crate) mod labels;
+pub(crate) mod manual;
+pub(crate) mod names;
+pub(crate) mod numbering;
+pub(crate) mod orders;
+pub(crate) mod places;
+pub(crate) mod plans;
+pub(crate) mod readers;
+pub(crate) mod render;
+pub(crate) mod rows;
+
+use crate::plan::render::Loads;
+use dp_rows::check_all;
+use std::test::Fail;
+
+/// The tables of texts with what they load as, or their fault.
+pub(crate) const LOADED: &[&str] = &[
+    rows::WORKED,
+    rows::FAULT_LINES,
+    rows::ESCAPED_SEMICOLONS,
+    manual::EXAMPLES,
+    plans::SECTIONS,
+    plans::ENTRIES,
+    plans::LINES,
+    plans::GROUPS,
+    plans::PRIORITIES,
+    plans::APPLICATIONS,
+    plans::NAMES_OF_APPLICATIONS,
+    plans::WHOLE,
+    names::PLAIN,
+    names::PATTERNS,
+    names::NO_NAMES,
+    names::LEFT_OUT,
+    numbering::NEXT,
+    numbering::SAME,
+    numbering::WHOLE,
+    labels::LABELS,
+    labels::TAKEN,
+    labels::BAD,
+    places::TAKEN,
+    includes::INCLUDES,
+    includes::WITH_TIMES,
+    faults::OF_A_LINE,
+    faults::OF_A_TEXT,
+    readers::ONE_DIALPLAN,
+];
+
+#[test]
+fn texts_load_so(rt: HostRuntime) -> Result<(), Fail> {
+    check_all::<Loads>(rt.alloc(), LOADED)
+}

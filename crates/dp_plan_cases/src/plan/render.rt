@@ -1,0 +1,144 @@
+//! Loaded dialplans and faults, rendered as one line of text.
+use dp_plan::{
+    ConfFault, Context, Dialplan, Entry, LoadFault, Name, NoMemory, Note, PlanKind, SharedText,
+    Text,
+};
+use dp_rows::{Question, bytes_of};
+use std::alloc::Global;
+use std::test::Fail;
+
+/// What a text loads as, as `shown` says.
+pub(super) struct Loads;
+
+impl Question for Loads {
+    fn answer(alloc: Global, asked: &str) -> Result<String, Fail> {
+        let text = bytes_of(alloc, asked)?;
+        let read = Dialplan::load(alloc, &text);
+        let got = shown(alloc, &read)?;
+        Ok(got)
+    }
+}
+
+/// Adds the canonical spelling of a name.
+pub(super) fn push_name(out: &mut String, alloc: Global, name: &Name) -> Result<(), NoMemory> {
+    let spelled = Text::new(name.text(alloc)?);
+    write!(out, "{spelled}")
+}
+
+pub(super) fn push_label(out: &mut String, label: &Option<SharedText>) -> Result<(), NoMemory> {
+    match label {
+        Some(label) => write!(out, "({label})"),
+        None => Ok(()),
+    }
+}
+
+fn push_entry(out: &mut String, alloc: Global, entry: &Entry) -> Result<(), NoMemory> {
+    let Entry {
+        name,
+        priority,
+        label,
+        application,
+        arguments,
+    } = entry;
+    let number = priority.get();
+    out.push_str("<")?;
+    push_name(out, alloc, name.name())?;
+    write!(out, ",{number}")?;
+    push_label(out, label)?;
+    write!(out, ",{application}({arguments})>")
+}
+
+fn push_context(out: &mut String, alloc: Global, context: &Context) -> Result<(), NoMemory> {
+    write!(out, "[{}]", context.name())?;
+    for entry in context.entries() {
+        push_entry(out, alloc, entry)?;
+    }
+    for include in context.includes() {
+        write!(out, "{{+{include}}}")?;
+    }
+    Ok(())
+}
+
+fn push_plan(out: &mut String, alloc: Global, plan: &Dialplan) -> Result<(), NoMemory> {
+    for global in plan.globals() {
+        write!(out, "{{{}={}}}", global.name, global.value)?;
+    }
+    for context in plan.contexts() {
+        push_context(out, alloc, context)?;
+    }
+    Ok(())
+}
+
+fn push_fault(out: &mut String, fault: LoadFault) -> Result<(), NoMemory> {
+    match fault {
+        LoadFault::Conf(ConfFault::At { line, kind }) => {
+            write!(out, "fault {} line {line}", kind.code())
+        }
+        LoadFault::Pattern { line, fault } => { write!(out, "fault {} line {line}", fault.code()) }
+        LoadFault::Plan {
+            line,
+            kind: PlanKind::LeftOut(word),
+        } => {
+            let code = PlanKind::LeftOut(word).code();
+            write!(out, "fault {code} {word:?} line {line}")
+        }
+        LoadFault::Plan { line, kind } => write!(out, "fault {} line {line}", kind.code()),
+        LoadFault::Conf(ConfFault::NoMemory) => out.push_str("no memory within a fault"),
+        LoadFault::NoMemory => out.push_str("no memory"),
+    }
+}
+
+/// A dialplan as its global variables `{NAME=VALUE}`, its contexts `[NAME]`, each with its entries
+/// `<NAME,PRIORITY,APPLICATION(ARGUMENTS)>`, or `<NAME,PRIORITY(LABEL),APPLICATION(ARGUMENTS)>` where there is a label,
+/// and with its includes `{+NAME}`, and its notes ` note LINE KIND`; a fault as `fault CODE line L`, and as
+/// `fault 24 WORD line L` where the line asks for what is left out.
+pub(crate) fn shown(
+    alloc: Global,
+    read: &Result<(Dialplan, Vec<Note>), LoadFault>,
+) -> Result<String, NoMemory> {
+    let mut out = String::new(alloc);
+    push_read(&mut out, alloc, read)?;
+    Ok(out)
+}
+
+fn push_read(
+    out: &mut String,
+    alloc: Global,
+    read: &Result<(Dialplan, Vec<Note>), LoadFault>,
+) -> Result<(), NoMemory> {
+    match read {
+        Ok((plan, notes)) => {
+            push_plan(out, alloc, plan)?;
+            push_notes(out, notes)
+        }
+        Err(fault) => push_fault(out, *fault),
+    }
+}
+
+fn push_notes(out: &mut String, notes: &[Note]) -> Result<(), NoMemory> {
+    for note in notes {
+        write!(out, " note {} {}", note.line, note.kind.name())?;
+    }
+    Ok(())
+}
+
+fn push_ranked(out: &mut String, alloc: Global, entry: Option<&Entry>) -> Result<(), NoMemory> {
+    match entry {
+        Some(entry) => {
+            let number = entry.priority.get();
+            out.push_str("<")?;
+            push_name(out, alloc, entry.name.name())?;
+            write!(out, ",{number}>")
+        }
+        None => out.push_str("<>"),
+    }
+}
+
+/// The entries of the context of this number in the order in which a look-up asks them, each as `<NAME,PRIORITY>`.
+pub(super) fn ranking(alloc: Global, plan: &Dialplan, number: usize) -> Result<String, NoMemory> {
+    let mut out = String::new(alloc);
+    for id in plan.ranked_at(number) {
+        push_ranked(&mut out, alloc, plan.entry(*id))?;
+    }
+    Ok(out)
+}

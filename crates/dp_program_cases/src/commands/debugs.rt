@@ -1,0 +1,133 @@
+//! Debugged runs, with all that is printed of them, worked out by hand from the rules.
+use crate::commands::render::{check_outcome, make_sink, outcome};
+use dp_commands::debug_script;
+use dp_rows::{bytes_of, is_heading};
+use std::alloc::Global;
+use std::process::Abort;
+use std::test::Fail;
+
+/// Worked cases. A case is a break, a dialplan that begins in `[main]`, a file of queues and a script, parted by `¦`; then
+/// an arrow, and the trace with the status behind it.
+const ROWS: &str = r"
+# first-run
+main,200,1¦exten => 100,1,NoOp(hello)\nexten => 100,2,Goto(200,1)\nexten => 200,1,Hangup()¦¦start main 100\nstep 1 3→started 1\nran 1 main,100,1 NoOp -> ready main,100,2\nran 1 main,100,2 Goto -> ready main,200,1\nbreak 3\nran 1 main,200,1 Hangup -> ended\nend 4\nstatus 0
+# Before the first step.
+main,100,1¦exten => 100,1,NoOp(hello)\nexten => 100,2,Goto(200,1)\nexten => 200,1,Hangup()¦¦start main 100\nstep 1 3→started 1\nbreak 1\nran 1 main,100,1 NoOp -> ready main,100,2\nran 1 main,100,2 Goto -> ready main,200,1\nran 1 main,200,1 Hangup -> ended\nend 4\nstatus 0
+# No break holds, or there is no event.
+main,100,3¦exten => 100,1,NoOp(hello)¦¦start main 100\nstep 1→started 1\nran 1 main,100,1 NoOp -> ready main,100,2\nend 2\nstatus 0
+main,100,1¦¦¦→end 0\nstatus 0
+main,100,1¦¦¦step 1 0→end 0\nstatus 0
+# It holds at each turn of a loop.
+main,s,1¦exten => s,1,Goto(1)¦¦start main s\nstep 1\nstep 1 2→started 1\nbreak 1\nran 1 main,s,1 Goto -> ready main,s,1\nbreak 2\nran 1 main,s,1 Goto -> ready main,s,1\nbreak 3\nran 1 main,s,1 Goto -> ready main,s,1\nend 4\nstatus 0
+main,s,2¦exten => s,1,NoOp()\nexten => s,2,Goto(1)¦¦start main s\nstep 1 4→started 1\nran 1 main,s,1 NoOp -> ready main,s,2\nbreak 2\nran 1 main,s,2 Goto -> ready main,s,1\nran 1 main,s,1 NoOp -> ready main,s,2\nbreak 4\nran 1 main,s,2 Goto -> ready main,s,1\nend 5\nstatus 0
+# For each channel that stands there.
+main,s,1¦exten => s,1,NoOp()¦¦start main s\nstart main s\nstep 2\nstep 1→started 1\nstarted 2\nbreak 2\nran 2 main,s,1 NoOp -> ready main,s,2\nbreak 3\nran 1 main,s,1 NoOp -> ready main,s,2\nend 4\nstatus 0
+# Where no entry is found it holds too.
+main,s,1¦¦¦start main s\nstep 1→started 1\nbreak 1\nno entry 1 -> ended\nend 2\nstatus 0
+main,s,2147483647¦exten => s,1,Goto(2147483647)¦¦start main s\nstep 1 2→started 1\nran 1 main,s,1 Goto -> ready main,s,2147483647\nbreak 2\nno entry 1 -> ended\nend 3\nstatus 0
+# A `show` is passed over: it is not counted, and one of no channel leaves the status 0.
+main,s,1¦exten => s,1,NoOp()¦¦show 1 EXTEN\nstart main s\nshow 1 EXTEN\nshow 2 EXTEN\nstep 1→started 1\nbreak 1\nran 1 main,s,1 NoOp -> ready main,s,2\nend 2\nstatus 0
+# A refused event is counted.
+main,s,1¦exten => s,1,NoOp()¦¦step 1\nstart main s\nstep 1→refused 40 NoChannel\nstarted 1\nbreak 2\nran 1 main,s,1 NoOp -> ready main,s,2\nend 3\nstatus 1
+";
+
+/// Where a break does not hold.
+const ELSEWHERE: &str = r"
+# The name of a pattern is no place; what was dialled is one, with its dashes.
+main,_2XX,1¦exten => _2XX,1,NoOp()¦¦start main 2-00\nstep 1→started 1\nran 1 main,_2XX,1 NoOp -> ready main,2-00,2\nend 2\nstatus 0
+main,200,1¦exten => _2XX,1,NoOp()¦¦start main 2-00\nstep 1→started 1\nran 1 main,_2XX,1 NoOp -> ready main,2-00,2\nend 2\nstatus 0
+main,2-00,1¦exten => _2XX,1,NoOp()¦¦start main 2-00\nstep 1→started 1\nbreak 1\nran 1 main,_2XX,1 NoOp -> ready main,2-00,2\nend 2\nstatus 0
+# A context that is included is none.
+more,s,1¦include => more\n[more]\nexten => s,1,NoOp()¦¦start main s\nstep 1→started 1\nran 1 more,s,1 NoOp -> ready main,s,2\nend 2\nstatus 0
+main,s,1¦include => more\n[more]\nexten => s,1,NoOp()¦¦start main s\nstep 1→started 1\nbreak 1\nran 1 more,s,1 NoOp -> ready main,s,2\nend 2\nstatus 0
+# The letters have their case, and blanks are kept.
+Main,s,1¦exten => s,1,NoOp()¦¦start main s\nstep 1→started 1\nran 1 main,s,1 NoOp -> ready main,s,2\nend 2\nstatus 0
+main, s,1¦exten => s,1,NoOp()¦¦start main s\nstep 1→started 1\nran 1 main,s,1 NoOp -> ready main,s,2\nend 2\nstatus 0
+,,1¦exten => s,1,NoOp()¦¦start main s\nstep 1→started 1\nran 1 main,s,1 NoOp -> ready main,s,2\nend 2\nstatus 0
+# A priority is a number.
+main,s,002¦exten => s,1,NoOp()\nexten => s,2,NoOp()¦¦start main s\nstep 1 2→started 1\nran 1 main,s,1 NoOp -> ready main,s,2\nbreak 2\nran 1 main,s,2 NoOp -> ready main,s,3\nend 3\nstatus 0
+# Nor before another event, before a step of a channel that is over, or of one that waits.
+main,s,1¦exten => s,1,NoOp()¦¦start main s\nhangup 1→started 1\nok 1 -> ended\nend 2\nstatus 0
+main,s,1¦exten => s,1,Hangup()¦¦start main s\nstep 1 2→started 1\nbreak 1\nran 1 main,s,1 Hangup -> ended\nrefused 49 Ended\nend 3\nstatus 1
+main,s,1¦exten => s,1,Queue(q,,,,30)¦[q]¦start main s\nstep 1 2\ntimeout 1→started 1\nbreak 1\nran 1 main,s,1 Queue -> queued q\nrefused 41 NotReady\nok 1 -> ready main,s,2\nend 4\nstatus 1
+# With an agent.
+main,s,2¦exten => s,1,Queue(q,c)\nexten => s,2,NoOp()¦[q]\nmember => Line/1\nmember => Line/2¦start main s\nstep 1\noffer q\nanswer Line/1\nanswer Line/2\ndone Line/1\nstep 1→started 1\nran 1 main,s,1 Queue -> queued q\noffered 1 2\nok\nrefused 47 NotRinging\nok\nbreak 6\nran 1 main,s,2 NoOp -> ready main,s,3\nend 7\nstatus 1
+";
+
+/// Texts that are no break, and faults of the other texts behind them.
+const FAULTS: &str = r"
+# breaks-by-application
+main,s¦exten => s,1,NoOp()¦¦start main s→fault 71 BadBreak
+¦¦¦→fault 71 BadBreak
+main¦¦¦→fault 71 BadBreak
+,,¦¦¦→fault 71 BadBreak
+main,s,1,¦¦¦→fault 71 BadBreak
+main,s,1,2¦¦¦→fault 71 BadBreak
+main,s,0¦¦¦→fault 71 BadBreak
+main,s,00¦¦¦→fault 71 BadBreak
+main,s,+1¦¦¦→fault 71 BadBreak
+main,s,-1¦¦¦→fault 71 BadBreak
+main,s, 1¦¦¦→fault 71 BadBreak
+main,s,1 ¦¦¦→fault 71 BadBreak
+main,s,n¦¦¦→fault 71 BadBreak
+main,s,2147483648¦¦¦→fault 71 BadBreak
+main,s,18446744073709551617¦¦¦→fault 71 BadBreak
+# Before the faults of the three texts.
+main,s¦abc¦[q]\nmaxlen=x¦jump 1→fault 71 BadBreak
+main,s,1¦abc¦[q]\nmaxlen=x¦jump 1→fault 4 NoEquals line 2
+main,s,1¦¦[q]\nmaxlen=x¦jump 1→fault 31 BadNumber line 2
+main,s,1¦¦¦start main s\njump 1→fault 70 BadScript line 2
+";
+
+/// Asserts all that a debugged run writes, and what it ends with behind it.
+fn check_debugged(
+    rt: &impl Abort,
+    alloc: Global,
+    held: &str,
+    texts: (&str, &str, &str),
+    want: &str,
+) -> Result<(), Fail> {
+    let (plan, queues, script) = texts;
+    let mut text = bytes_of(alloc, r"[main]\n")?;
+    text.extend_from_slice(&bytes_of(alloc, plan)?)?;
+    let queues = bytes_of(alloc, queues)?;
+    let script = bytes_of(alloc, script)?;
+    let want = bytes_of(alloc, want)?;
+    let mut writer = make_sink(alloc, 4096, None);
+    let ended = debug_script(
+        alloc,
+        &text,
+        Some(&queues),
+        &script,
+        held.as_bytes(),
+        &mut writer,
+    );
+    let got = outcome(alloc, ended, writer)?;
+    check_outcome(rt, alloc, &script, &got, &want)
+}
+
+fn check_row(rt: &impl Abort, alloc: Global, asked: &str, want: &str) -> Result<(), Fail> {
+    let (held, rest) = asked.split_once('¦').ok_or("no dialplan")?;
+    let (plan, rest) = rest.split_once('¦').ok_or("no queues")?;
+    let (queues, script) = rest.split_once('¦').ok_or("no script")?;
+    check_debugged(rt, alloc, held, (plan, queues, script), want)
+}
+
+fn check_rows(rt: &impl Abort, alloc: Global, table: &str) -> Result<(), Fail> {
+    for line in table.lines() {
+        match line.split_once('→') {
+            Some((asked, want)) => check_row(rt, alloc, asked, want)?,
+            None => assert!(rt; is_heading(line), "no answer in {line:?}"),
+        }
+    }
+    Ok(())
+}
+
+/// Debugged runs of scripts, from their breaks to their ends.
+#[test]
+fn scripts_are_debugged_so(rt: HostRuntime) -> Result<(), Fail> {
+    for table in &[ROWS, ELSEWHERE, FAULTS] {
+        check_rows(&rt, rt.alloc(), table)?;
+    }
+    Ok(())
+}

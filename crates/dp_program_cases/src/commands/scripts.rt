@@ -1,0 +1,177 @@
+//! Scripts with their lines or their fault, worked out by hand from the rules.
+use crate::commands::render::push_fault;
+use dp_commands::{PbxFault, ScriptLine, Turn, read_script};
+use dp_conf::NoMemory;
+use dp_machine::Event;
+use dp_rows::{Question, bytes_of, check};
+use std::alloc::Global;
+use std::test::Fail;
+
+/// Lines as `start{CONTEXT}{EXTEN}{CALLER}`, `step{CH}{COUNT}`, `show{CH}{NAME}` and the like, one after another.
+const LINES: &str = r"
+# Nothing to read.
+→
+\n\n→
+ \t\r\x00\n→
+;→
+; step 1\n\t;step 1\r\n;; script\n;-- x\n→
+# Calls.
+start main s→start{main}{s}{}
+start main s\n→start{main}{s}{}
+start main s 55→start{main}{s}{55}
+ start\tmain  s\r\n→start{main}{s}{}
+start start step start→start{start}{step}{start}
+start ; ;x ;→start{;}{;x}{;}
+start Main 2-00 +1→start{Main}{2-00}{+1}
+start m\xC3\xBC s→start{m\xC3\xBC}{s}{}
+# Steps.
+step 1→step{1}{1}
+step 0→step{0}{1}
+step 1 0→step{1}{0}
+step 1 3\n→step{1}{3}
+step 1 100000→step{1}{100000}
+step 4294967295 1→step{4294967295}{1}
+step 01 007→step{1}{7}
+step 00000000004294967295 0000100000→step{4294967295}{100000}
+\tstep\x0B2\x0C3\x1F\r→step{2}{3}
+# Other events.
+digit 1 5→digit{1}{5}
+digit 4294967295 *→digit{4294967295}{*}
+digit 01 x→digit{1}{x}
+digit 1 ;→digit{1}{;}
+timeout 1→timeout{1}
+poll 2→poll{2}
+hangup 003→hangup{3}
+offer q→offer{q}
+answer Line/1→answer{Line/1}
+decline ;→decline{;}
+done done→done{done}
+# Values.
+show 1 M→show{1}{M}
+show 0 LEN(x)→show{0}{LEN(x)}
+ show\t07  ;\r\n→show{7}{;}
+show 4294967295 show→show{4294967295}{show}
+# Several lines.
+show 1 A\nstep 1\nshow 2 A→show{1}{A}step{1}{1}show{2}{A}
+start a b\n\n; x\nstep 1 2\nstart a c d\nstep 2→start{a}{b}{}step{1}{2}start{a}{c}{d}step{2}{1}
+step 1\nstep 1\nstep 1\n→step{1}{1}step{1}{1}step{1}{1}
+";
+
+/// Scripts of which a line is faulty, with its number.
+const FAULTY: &str = r"
+# Words that no line begins with.
+jump 1→fault 70 BadScript line 1
+dial 1 5→fault 70 BadScript line 1
+Start a b→fault 70 BadScript line 1
+STEP 1→fault 70 BadScript line 1
+steps 1→fault 70 BadScript line 1
+ste 1→fault 70 BadScript line 1
+step\xA01→fault 70 BadScript line 1
+\xEF\xBB\xBFstep 1→fault 70 BadScript line 1
+[main]→fault 70 BadScript line 1
+x ; y→fault 70 BadScript line 1
+# Too few words, and too many.
+start→fault 70 BadScript line 1
+start a→fault 70 BadScript line 1
+start a b c d→fault 70 BadScript line 1
+start a b c ; d→fault 70 BadScript line 1
+step→fault 70 BadScript line 1
+step 1 1 1→fault 70 BadScript line 1
+step 1 1 ; x→fault 70 BadScript line 1
+# No channel.
+step x→fault 70 BadScript line 1
+step +1→fault 70 BadScript line 1
+step -1→fault 70 BadScript line 1
+step 1x→fault 70 BadScript line 1
+step 0x1→fault 70 BadScript line 1
+step 1,2→fault 70 BadScript line 1
+step 4294967296→fault 70 BadScript line 1
+step 18446744073709551617→fault 70 BadScript line 1
+step 99999999999999999999999999999999→fault 70 BadScript line 1
+# No count.
+step 1 x→fault 70 BadScript line 1
+step 1 +1→fault 70 BadScript line 1
+step 1 -0→fault 70 BadScript line 1
+step 1 ;→fault 70 BadScript line 1
+step 1 100001→fault 70 BadScript line 1
+step 1 4294967297→fault 70 BadScript line 1
+step 1 18446744073709551617→fault 70 BadScript line 1
+# No channel, no name, and too many words.
+show→fault 70 BadScript line 1
+show 1→fault 70 BadScript line 1
+show M→fault 70 BadScript line 1
+show M 1→fault 70 BadScript line 1
+show +1 M→fault 70 BadScript line 1
+show 4294967296 M→fault 70 BadScript line 1
+show 1 M 2→fault 70 BadScript line 1
+show 1 M ;→fault 70 BadScript line 1
+Show 1 M→fault 70 BadScript line 1
+# The first faulty line.
+\njump→fault 70 BadScript line 2
+step 1\n\n;x\n\r\nstart a\n→fault 70 BadScript line 5
+step 1\nstep 1 100001\nstep 1\njump\n→fault 70 BadScript line 2
+start a b\njump→fault 70 BadScript line 2
+start a\nb\n→fault 70 BadScript line 1
+";
+
+fn push_event(out: &mut String, event: &Event) -> Result<(), NoMemory> {
+    match event {
+        Event::Start {
+            context,
+            exten,
+            caller,
+        } => write!(out, "start{{{context}}}{{{exten}}}{{{caller}}}"),
+        Event::Step { .. } => out.push_str("a step with no count"),
+        Event::Digit { channel, digit } => {
+            write!(out, "digit{{{channel}}}{{{}}}", char::from(*digit))
+        }
+        Event::Timeout { channel } => write!(out, "timeout{{{channel}}}"),
+        Event::Poll { channel } => write!(out, "poll{{{channel}}}"),
+        Event::Hangup { channel } => write!(out, "hangup{{{channel}}}"),
+        Event::Offer { queue } => write!(out, "offer{{{queue}}}"),
+        Event::Answer { agent } => write!(out, "answer{{{agent}}}"),
+        Event::Decline { agent } => write!(out, "decline{{{agent}}}"),
+        Event::AgentDone { agent } => write!(out, "done{{{agent}}}"),
+    }
+}
+
+fn push_line(out: &mut String, line: &ScriptLine) -> Result<(), NoMemory> {
+    match (&line.turn, line.count) {
+        (Turn::Event(Event::Step { channel }), count) => {
+            write!(out, "step{{{channel}}}{{{count}}}")
+        }
+        (Turn::Event(event), 1) => push_event(out, event),
+        (Turn::Show { channel, name }, 1) => write!(out, "show{{{channel}}}{{{name}}}"),
+        _ => out.push_str("a turn that is taken more than once"),
+    }
+}
+
+fn shown(alloc: Global, read: &Result<Vec<ScriptLine>, PbxFault>) -> Result<String, NoMemory> {
+    let mut out = String::new(alloc);
+    match read {
+        Ok(lines) => {
+            for line in lines.iter() {
+                push_line(&mut out, line)?;
+            }
+        }
+        Err(fault) => push_fault(&mut out, *fault)?,
+    }
+    Ok(out)
+}
+
+/// The lines of a script, or its fault.
+struct Scripts;
+
+impl Question for Scripts {
+    fn answer(alloc: Global, asked: &str) -> Result<String, Fail> {
+        let text = bytes_of(alloc, asked)?;
+        let out = shown(alloc, &read_script(alloc, &text))?;
+        Ok(out)
+    }
+}
+
+#[test]
+fn scripts_are_read_so(rt: HostRuntime) -> Result<(), Fail> {
+    check::<Scripts>(rt.alloc(), LINES)?;
+    check::<Scripts>(rt.alloc(), FAULTY)
+}

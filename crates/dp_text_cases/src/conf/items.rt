@@ -1,0 +1,167 @@
+//! Configuration texts with their items or their fault, worked out by hand from the rules.
+use dp_conf::{ConfFault, ConfLine, NoMemory, read_lines};
+use dp_rows::{Question, bytes_of, check, check_all, text_of};
+use std::alloc::Global;
+use std::test::Fail;
+
+/// Items as `1[name]` and `2{key}{value}`, one after another, or `fault CODE line L`.
+const TEXTS: &str = r#"
+# Nothing to read.
+→
+\n→
+\n\n\n→
+ \t\r\n\x00\x1f\n→
+; a comment→
+   ; a comment\n;another\n→
+\xEF\xBB\xBF→
+\xEF\xBB\xBF\n; x\n→
+# Headers.
+[main]→1[main]
+[main]\n→1[main]
+\xEF\xBB\xBF[main]→1[main]
+ [ main ] →1[main]
+\t[main]\r\n[out]\r\n→1[main]2[out]
+\n\n[a]\n[a]\n→3[a]4[a]
+[two words]→1[two words]
+[[x]→1[[x]
+[x] ; (!)→1[x]
+[a\\;b]→1[a;b]
+[a=b]→1[a=b]
+[#a]→1[#a]
+# Pairs.
+[m]\na=b→1[m]2{a}{b}
+[m]\na => b\n→1[m]2{a}{b}
+[m]\n a\t=\tb c \r\n→1[m]2{a}{b c}
+[m]\na=>b→1[m]2{a}{b}
+[m]\na = > b→1[m]2{a}{> b}
+[m]\na =>> b→1[m]2{a}{> b}
+[m]\na==b→1[m]2{a}{=b}
+[m]\na=b=c→1[m]2{a}{b=c}
+[m]\n=b→1[m]2{}{b}
+[m]\na=→1[m]2{a}{}
+[m]\n=→1[m]2{}{}
+[m]\n => →1[m]2{}{}
+[m]\na=[b]→1[m]2{a}{[b]}
+[m]\n\n;\n\na=b\n\nc=d→1[m]5{a}{b}7{c}{d}
+# Semicolons and backslashes.
+[m]\na=b;c→1[m]2{a}{b}
+[m]\na=b\\;c→1[m]2{a}{b;c}
+[m]\na=b\\\\;c→1[m]2{a}{b\\;c}
+[m]\na=b\\;;c→1[m]2{a}{b;}
+[m]\na=\\;;--- x→1[m]2{a}{;}
+[m]\na=b\\c\\→1[m]2{a}{b\\c\\}
+[m]\na=;b→1[m]2{a}{}
+[m];--- x\na=b ;---- y→1[m]2{a}{b}
+[m]\na=b ;- x→1[m]2{a}{b}
+# The fault of a line.
+;-- x→fault 1 line 1
+[m]\n ;--→fault 1 line 2
+[m]\na=1 ;-- x→fault 1 line 2
+[x ;-- y→fault 1 line 1
+a=1→fault 2 line 1
+abc→fault 2 line 1
+\n\na => b\n[m]\n→fault 2 line 3
+[x→fault 3 line 1
+[]→fault 3 line 1
+[ ]→fault 3 line 1
+[](!)→fault 3 line 1
+[a]b]→fault 3 line 1
+[m]\n[x] y(!)→fault 3 line 2
+[m]\nabc→fault 4 line 2
+#include "x"→fault 5 line 1
+[m]\n#a=b→fault 5 line 2
+[x](!)→fault 6 line 1
+[x] (+)→fault 6 line 1
+# The first faulty line of several.
+[m]\nabc\n;-- x\n[→fault 4 line 2
+"#;
+
+fn push_item(out: &mut String, item: &ConfLine) -> Result<(), NoMemory> {
+    match item {
+        ConfLine::Header { line, name } => write!(out, "{line}[{name}]"),
+        ConfLine::Pair { line, key, value } => write!(out, "{line}{{{key}}}{{{value}}}"),
+    }
+}
+
+fn shown(alloc: Global, read: &Result<Vec<ConfLine>, ConfFault>) -> Result<String, NoMemory> {
+    let mut out = String::new(alloc);
+    match read {
+        Ok(items) => {
+            for item in items {
+                push_item(&mut out, item)?;
+            }
+        }
+        Err(ConfFault::At { line, kind }) => {
+            let code = kind.code();
+            write!(out, "fault {code} line {line}")?;
+        }
+        Err(ConfFault::NoMemory) => out.push_str("out of memory")?,
+    }
+    Ok(out)
+}
+
+/// The items of a text, or its fault.
+struct Items;
+
+impl Question for Items {
+    fn answer(alloc: Global, asked: &str) -> Result<String, Fail> {
+        let text = bytes_of(alloc, asked)?;
+        let read = read_lines(alloc, &text);
+        let got = shown(alloc, &read)?;
+        Ok(got)
+    }
+}
+
+/// Each line stands behind `[main]`.
+const FAULT_LINES: &str = r#"
+[main]\nabc→fault 4 line 2
+[main]\n#include "x"→fault 5 line 2
+[main]\n[x→fault 3 line 2
+[main]\n[x](!)→fault 6 line 2
+a=1\n[main]→fault 2 line 1
+"#;
+
+/// A `\;` is a semicolon, and `;--` is refused where `;---` is a comment.
+const ESCAPED_SEMICOLONS: &str = r"
+[main]\nexten => s,1,NoOp(a\\;b\\\\;c)\n→1[main]2{exten}{s,1,NoOp(a;b\\;c)}
+[main]\n\n;-- x\n→fault 1 line 3
+[main]\n\n;--- x\n→1[main]
+";
+
+fn have_same_items(alloc: Global, left: &[u8], right: &[u8]) -> Result<bool, Fail> {
+    let left = read_lines(alloc, left)?;
+    let right = read_lines(alloc, right)?;
+    Ok(left == right)
+}
+
+fn comparison(alloc: Global, left: &[u8], right: &[u8]) -> Result<String, Fail> {
+    let is_same = have_same_items(alloc, left, right)?;
+    text_of(alloc, if is_same { "same" } else { "other" })
+}
+
+/// Whether the texts on both sides of a bar have the same items: these compare by their lines, keys and values.
+struct Compared;
+
+impl Question for Compared {
+    fn answer(alloc: Global, asked: &str) -> Result<String, Fail> {
+        let (left, right) = asked.split_once('|').ok_or("no two texts")?;
+        let left = bytes_of(alloc, left)?;
+        let right = bytes_of(alloc, right)?;
+        comparison(alloc, &left, &right)
+    }
+}
+
+const COMPARED: &str = r"
+[m]\na=b\n[n]\n|[m]\na = b\n[n] ; x\n→same
+[m]\na=b\n[n]\n|[m]\na=c\n[n]\n→other
+";
+
+fn check_items(alloc: Global) -> Result<(), Fail> {
+    check_all::<Items>(alloc, &[TEXTS, FAULT_LINES, ESCAPED_SEMICOLONS])?;
+    check::<Compared>(alloc, COMPARED)
+}
+
+#[test]
+fn texts_have_these_items(rt: HostRuntime) -> Result<(), Fail> {
+    check_items(rt.alloc())
+}

@@ -1,0 +1,13 @@
+//! Cases of configuration texts, names, expressions and variables, as tables with their answers.
+//!
+//! A crate with tests is proved twice, so the cases of the libraries stand in crates of their own, where each is proved once.
+#![tactic(auto)]
+
+#[cfg(test)]
+mod conf;
+#[cfg(test)]
+mod expr;
+#[cfg(test)]
+mod pattern;
+#[cfg(test)]
+mod vars;

@@ -1,0 +1,176 @@
+//! Texts that are expanded, worked out by hand from the rules.
+mod functions;
+mod groups;
+mod names;
+mod parts;
+mod stores;
+
+ghost use Rattle.std.specs.Prelude.{◌≡◌, codes, if◌then◌else◌, ℕ, List};
+ghost use Rattle.dp_conf.specs.Words.{same_text};
+
+use dp_conf::{NoMemory, Text};
+use dp_rows::{Question, bytes_of, check_all};
+use dp_vars::{
+    ChannelSeen, Counts, Globals, Scope, Store, Template, TemplateFault, Variable, expand,
+};
+use std::alloc::Global;
+use std::test::Fail;
+
+/// Three calls wait in the queue `sales`, and none in any other.
+struct Sales;
+
+impl Counts for Sales {
+    ghost count = { λ _ queue. if same_text queue (codes "sales") then 3 else 0 };
+
+    fn waiting(&self, queue: &[u8]) -> usize {
+        if queue == b"sales".as_slice() { 3 } else { 0 }
+    }
+}
+
+/// What a text sees: a channel unless it left, its variables and frames, and the globals.
+#[derive(Drop)]
+struct World {
+    is_here: bool,
+    store: Store<u32>,
+    globals: Globals,
+}
+
+impl World {
+    fn new(alloc: Global) -> World {
+        World {
+            is_here: true,
+            store: Store::new(alloc),
+            globals: Globals::new(alloc),
+        }
+    }
+
+    fn scope(&self) -> Scope<'_, u32, Sales> {
+        let channel = ChannelSeen {
+            number: 7,
+            context: b"main",
+            extension: b"100",
+            priority: 2,
+            caller: b"5551234",
+        };
+        Scope {
+            channel: if self.is_here { Some(channel) } else { None },
+            store: if self.is_here {
+                Some(&self.store)
+            } else {
+                None
+            },
+            globals: &self.globals,
+            counts: &Sales,
+        }
+    }
+}
+
+/// The expansion of a text, in characters of the numbers of its bytes.
+fn shown(alloc: Global, world: &World, text: &[u8]) -> Result<String, NoMemory> {
+    let mut out = String::new(alloc);
+    match Template::read(alloc, text) {
+        Err(TemplateFault::TooDeep) => out.push_str("too deep")?,
+        Err(TemplateFault::NoMemory) => return Err(NoMemory),
+        Ok(template) => {
+            let bytes = expand(alloc, &template, &world.scope())?;
+            for byte in &bytes {
+                out.push(char::from(*byte))?;
+            }
+        }
+    }
+    Ok(out)
+}
+
+/// A frame with one local, which goes back to its number.
+fn push_frame(alloc: Global, world: &mut World, name: &[u8], value: &[u8]) -> Result<(), NoMemory> {
+    let mut locals = Vec::new(alloc);
+    let name = Text::copy_of(alloc, name)?;
+    let value = Text::copy_of(alloc, value)?;
+    locals.push(Variable { name, value })?;
+    world.store.push_frame(alloc, 1, &locals)
+}
+
+/// A global that is expanded before it is put, with no channel.
+fn put_expanded(
+    alloc: Global,
+    world: &mut World,
+    name: &[u8],
+    text: &[u8],
+) -> Result<(), NoMemory> {
+    world.is_here = false;
+    let value = shown(alloc, world, text)?;
+    world.is_here = true;
+    world.globals.put(alloc, name, value.as_bytes())
+}
+
+/// A step of a name and a value.
+fn set(
+    alloc: Global,
+    world: &mut World,
+    word: &str,
+    name: &[u8],
+    value: &[u8],
+) -> Result<(), NoMemory> {
+    match word {
+        "set" => world.store.set(alloc, name, value),
+        "local" => {
+            let _is_set = world.store.set_local(alloc, name, value)?;
+            Ok(())
+        }
+        "push" => push_frame(alloc, world, name, value),
+        "global" => world.globals.put(alloc, name, value),
+        "expanded" => put_expanded(alloc, world, name, value),
+        _ => Ok(()),
+    }
+}
+
+/// A step: `pop`, `gone`, or a word with `NAME=VALUE`.
+fn take(alloc: Global, world: &mut World, step: &str) -> Result<(), NoMemory> {
+    match step.split_once(' ') {
+        None => match step {
+            "pop" => {
+                let _back = world.store.pop_frame();
+            }
+            "gone" => world.is_here = false,
+            _ => {}
+        },
+        Some((word, rest)) => {
+            let (name, value) = rest.split_once('=').unwrap_or((rest, ""));
+            set(alloc, world, word, name.as_bytes(), value.as_bytes())?;
+        }
+    }
+    Ok(())
+}
+
+/// The expansion of what stands behind the last ` ; `, after the steps between those before it.
+///
+/// `set NAME=VALUE` sets a variable, `local` a local of the innermost frame, `push` adds a frame with one local, `pop`
+/// drops the innermost, `global` puts a global, `expanded` puts one whose value is expanded before, and `gone` takes the
+/// channel away. The channel is 7 at `main`, `100`, 2 with the caller `5551234`.
+struct Expanded;
+
+impl Question for Expanded {
+    fn answer(alloc: Global, asked: &str) -> Result<String, Fail> {
+        let mut world = World::new(alloc);
+        let (steps, text) = asked.rsplit_once(" ; ").unwrap_or(("", asked));
+        for step in steps.split(" ; ") {
+            take(alloc, &mut world, step)?;
+        }
+        let text = bytes_of(alloc, text)?;
+        let out = shown(alloc, &world, &text)?;
+        Ok(out)
+    }
+}
+
+const TABLES: &[&str] = &[
+    functions::FUNCTIONS,
+    groups::GROUPS,
+    names::NAMES,
+    parts::PARTS,
+    stores::STORES,
+];
+
+#[test]
+fn texts_have_these_values(rt: HostRuntime) -> Result<(), Fail> {
+    check_all::<Expanded>(rt.alloc(), TABLES)
+}
