@@ -1,14 +1,10 @@
 //! Debugged runs of a machine: where they halt.
+use crate::machine::render::{Asked, Exchange, answer_on, call};
 use dp_conf::read_number;
-use dp_debug::{Break, Debugger, Event, Machine, NoMemory, Place, Text};
-use dp_machine::{Dialplan, Queues};
-use dp_rows::{Question, bytes_of, check_all};
-use dp_table::StandardApps;
+use dp_debug::{Break, Debugger, Event, NoMemory, Place, Text};
+use dp_rows::{Question, bytes_of, check};
 use std::alloc::Global;
 use std::test::Fail;
-
-/// A machine with the applications of the program.
-type Exchange = Machine<StandardApps>;
 
 /// Worked cases. A case is a dialplan that begins in `[main]`, breaks that are parted by `&`, a number of steps of channel 1, which
 /// has called 100, and calls of the debugger, parted by `¦`: `run`, or `resume:` and a number. A break is a place, or `!` and an
@@ -46,26 +42,6 @@ include => more\n[more]\nexten => _1XX,1,NoOp()¦!nOoP¦1¦run→Halt { taken: 0
 exten => 100,2,NoOp()¦!NoOp&main,100,1¦1¦run→Halt { taken: 0, why: Break(1) } 0
 exten => 100,1,Hangup()¦main,100,1&!Hangup¦2¦run resume:0→Halt { taken: 0, why: Break(0) } Halt { taken: 2, why: End } 2
 ";
-
-/// A machine with the dialplan of a text and no queues, and a call to 100.
-fn begun(alloc: Global, text: &[u8]) -> Result<Exchange, Fail> {
-    let (plan, _) = Dialplan::load(alloc, text)?;
-    let mut machine = Exchange::new(alloc, plan, Queues::none(alloc))?;
-    let call = call_to(alloc, b"100")?;
-    machine.apply(alloc, call)?;
-    Ok(machine)
-}
-
-fn call_to(alloc: Global, exten: &[u8]) -> Result<Event, NoMemory> {
-    let context = Text::copy_of(alloc, b"main")?;
-    let exten = Text::copy_of(alloc, exten)?;
-    let caller = Text::copy_of(alloc, b"")?;
-    Ok(Event::Start {
-        context,
-        exten,
-        caller,
-    })
-}
 
 fn number_of(word: &str) -> u32 {
     match read_number(word.as_bytes()) {
@@ -133,25 +109,35 @@ fn halts_of(
     Ok(out)
 }
 
+/// Where the calls of a case halt, without its dialplan.
+struct HaltsOn;
+
+impl Asked for HaltsOn {
+    fn answer(alloc: Global, machine: &mut Exchange, asked: &str) -> Result<String, Fail> {
+        let (breaks, rest) = asked.split_once('¦').ok_or("no steps")?;
+        let (count, calls) = rest.split_once('¦').ok_or("no calls")?;
+        let call = call(alloc, b"main", b"100", b"")?;
+        machine.apply(alloc, call)?;
+        let events = steps(alloc, number_of(count))?;
+        let breaks = read_breaks(alloc, breaks)?;
+        let out = halts_of(alloc, machine, &events, &breaks, calls)?;
+        Ok(out)
+    }
+}
+
 /// Where the calls of a case halt.
 struct Halts;
 
 impl Question for Halts {
     fn answer(alloc: Global, asked: &str) -> Result<String, Fail> {
         let (plan, rest) = asked.split_once('¦').ok_or("no breaks")?;
-        let (breaks, rest) = rest.split_once('¦').ok_or("no steps")?;
-        let (count, calls) = rest.split_once('¦').ok_or("no calls")?;
         let mut text = bytes_of(alloc, r"[main]\n")?;
         text.extend_from_slice(&bytes_of(alloc, plan)?)?;
-        let mut machine = begun(alloc, &text)?;
-        let events = steps(alloc, number_of(count))?;
-        let breaks = read_breaks(alloc, breaks)?;
-        let out = halts_of(alloc, &mut machine, &events, &breaks, calls)?;
-        Ok(out)
+        answer_on::<HaltsOn>(alloc, &text, rest)
     }
 }
 
 #[test]
 fn debugged_runs_halt_so(rt: HostRuntime) -> Result<(), Fail> {
-    check_all::<Halts>(rt.alloc(), &[ROWS])
+    check::<Halts>(rt.alloc(), ROWS)
 }

@@ -1,4 +1,4 @@
-//! Cases of machines, queues, applications and debugged runs, as tables with their answers.
+//! Cases of machines, applications and debugged runs, as tables with their answers.
 //!
 //! A crate with tests is proved twice, so the cases of the libraries stand in crates of their own, where each is proved once.
 #![tactic(auto)]
@@ -10,7 +10,5 @@ mod debug;
 #[cfg(test)]
 mod machine;
 mod own_table;
-#[cfg(test)]
-mod queues;
 
 pub use own_table::{OwnApps, Ping, Stay};

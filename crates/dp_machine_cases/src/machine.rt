@@ -1,8 +1,8 @@
 mod applications;
 mod codes;
 mod machines;
+mod numbers;
 mod own;
-mod plans;
-mod render;
-mod rows;
+pub(crate) mod render;
+mod stories;
 mod variables;

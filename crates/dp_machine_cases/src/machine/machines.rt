@@ -1,6 +1,6 @@
 //! Machines, their readers, runs of events, and copies of events.
-use crate::machine::render::{Exchange, events_of, machine_of, push_state};
-use dp_machine::{EntryId, Event, NoMemory, Phase, Refusal, Reply, Text};
+use crate::machine::render::{Checked, Exchange, call, check_on, events_of, push_state, state_of};
+use dp_machine::{EntryId, Event, Phase, Refusal, Reply};
 use std::alloc::Global;
 use std::process::Abort;
 use std::test::Fail;
@@ -12,27 +12,14 @@ fn ran(context: usize, entry: usize) -> Reply {
     Reply::Ran(EntryId { context, entry })
 }
 
-fn check_a_new_machine_has_its_plan_and_no_channel(
-    rt: &impl Abort,
-    alloc: Global,
-    machine: &Exchange,
-) -> Result<(), Fail> {
+/// A machine that is new has its dialplan.
+fn check_plan(rt: &impl Abort, machine: &Exchange) {
     assert_eq!(rt; machine.plan().globals().len(), 1);
     assert_eq!(rt; machine.plan().contexts().len(), 2);
     assert_eq!(rt;
         machine.plan().contexts()[1].name().bytes(),
         b"out".as_slice()
     );
-    for channel in [0, 1, 2, 65_535, u32::MAX] {
-        assert!(rt; machine.phase(channel).is_none(), "at {channel}");
-        assert!(rt; machine.place(channel).is_none(), "at {channel}");
-    }
-    Ok(())
-}
-
-fn a_new_machine_has_its_plan_and_no_channel(rt: &impl Abort, alloc: Global) -> Result<(), Fail> {
-    let machine = machine_of(alloc, PLAN)?;
-    check_a_new_machine_has_its_plan_and_no_channel(rt, alloc, &machine)
 }
 
 /// Asserts what a channel is, at priority 1 of an extension.
@@ -52,32 +39,18 @@ fn check_place(
     Ok(())
 }
 
-fn check_channels_are_read_by_their_numbers(
-    rt: &impl Abort,
-    alloc: Global,
-    machine: &mut Exchange,
-    replies: &mut Vec<Reply>,
-) -> Result<(), Fail> {
-    run_of(
-        alloc,
-        machine,
-        b"start main s\nstart main x\nstep 2",
-        replies,
-    )?;
-    check_place(rt, machine, 1, Phase::Ready, b"s")?;
-    check_place(rt, machine, 2, Phase::Ended, b"x")?;
-    for channel in [0, 3, u32::MAX] {
-        assert!(rt; machine.phase(channel).is_none(), "at {channel}");
-        assert!(rt; machine.place(channel).is_none(), "at {channel}");
-    }
-    Ok(())
-}
+/// A new machine has its dialplan, and a channel that has ended keeps its place.
+struct Read;
 
-/// A channel that has ended keeps its place.
-fn channels_are_read_by_their_numbers(rt: &impl Abort, alloc: Global) -> Result<(), Fail> {
-    let mut machine = machine_of(alloc, PLAN)?;
-    let mut replies = Vec::new(alloc);
-    check_channels_are_read_by_their_numbers(rt, alloc, &mut machine, &mut replies)
+impl Checked for Read {
+    fn check<R: Abort>(rt: &R, alloc: Global, machine: &mut Exchange) -> Result<(), Fail> {
+        check_plan(rt, machine);
+        let events = events_of(alloc, b"start main s\nstart main x\nstep 2")?;
+        let mut replies = Vec::new(alloc);
+        machine.run(alloc, &events, &mut replies)?;
+        check_place(rt, machine, 1, Phase::Ready, b"s")?;
+        check_place(rt, machine, 2, Phase::Ended, b"x")
+    }
 }
 
 /// Asserts that nothing is added behind the reply that is there where there is no event.
@@ -137,7 +110,7 @@ fn run_of(
     Ok(())
 }
 
-fn check_a_run_adds_its_replies(
+fn check_runs(
     rt: &impl Abort,
     alloc: Global,
     machine: &mut Exchange,
@@ -156,10 +129,13 @@ fn check_a_run_adds_its_replies(
 }
 
 /// The replies stand behind those that are there already, and the machine is the one behind the last event.
-fn a_run_adds_its_replies(rt: &impl Abort, alloc: Global) -> Result<(), Fail> {
-    let mut replies = vec![in alloc; Reply::NoEntry]?;
-    let mut machine = machine_of(alloc, PLAN)?;
-    check_a_run_adds_its_replies(rt, alloc, &mut machine, &mut replies)
+struct Runs;
+
+impl Checked for Runs {
+    fn check<R: Abort>(rt: &R, alloc: Global, machine: &mut Exchange) -> Result<(), Fail> {
+        let mut replies = vec![in alloc; Reply::NoEntry]?;
+        check_runs(rt, alloc, machine, &mut replies)
+    }
 }
 
 /// Gives an event, and once more where memory is refused; then the channel is as before.
@@ -173,44 +149,44 @@ fn give_again(
     let once = event.copy()?;
     let again = event.copy()?;
     if machine.apply(alloc, once).is_err() {
-        let behind = state_of(alloc, machine)?;
+        let behind = state_of(alloc, machine, 1)?;
         assert_eq!(rt; behind.as_str(), before);
         machine.apply(alloc, again)?;
     }
     Ok(())
 }
 
-/// The first channel as a text.
-fn state_of(alloc: Global, machine: &Exchange) -> Result<String, NoMemory> {
-    let mut state = String::new(alloc);
-    push_state(&mut state, machine, 1)?;
-    Ok(state)
-}
-
-fn check_an_event_is_given_again(
+/// Gives an event so, and adds the state behind it.
+fn push_given_again(
     rt: &impl Abort,
+    out: &mut String,
     alloc: Global,
     machine: &mut Exchange,
+    event: &Event,
 ) -> Result<(), Fail> {
-    let events = events_of(alloc, b"start main s\nstep 1\nstep 1\nstep 1")?;
-    let mut got = String::new(alloc);
-    for event in &events {
-        let before = state_of(alloc, machine)?;
-        give_again(rt, alloc, machine, event, &before)?;
-        push_state(&mut got, machine, 1)?;
-        got.push('\n')?;
-    }
-    assert_eq!(rt;
-        got.as_str(),
-        "ready main,s,1\nready main,s,2\nready out,t,1\nended out,t,1\n"
-    );
+    let before = state_of(alloc, machine, 1)?;
+    give_again(rt, alloc, machine, event, &before)?;
+    push_state(out, machine, 1)?;
+    out.push('\n')?;
     Ok(())
 }
 
 /// Where memory is refused the machine is as before, so that the event, given again, has its own reply.
-fn an_event_is_given_again(rt: &impl Abort, alloc: Global) -> Result<(), Fail> {
-    let mut machine = machine_of(alloc, PLAN)?;
-    check_an_event_is_given_again(rt, alloc, &mut machine)
+struct GivenAgain;
+
+impl Checked for GivenAgain {
+    fn check<R: Abort>(rt: &R, alloc: Global, machine: &mut Exchange) -> Result<(), Fail> {
+        let events = events_of(alloc, b"start main s\nstep 1\nstep 1\nstep 1")?;
+        let mut got = String::new(alloc);
+        for event in &events {
+            push_given_again(rt, &mut got, alloc, machine, event)?;
+        }
+        assert_eq!(rt;
+            got.as_str(),
+            "ready main,s,1\nready main,s,2\nready out,t,1\nended out,t,1\n"
+        );
+        Ok(())
+    }
 }
 
 /// Gives the events to the machine, and where memory is refused those again that have no reply yet.
@@ -247,10 +223,13 @@ fn check_a_run_goes_on(
 }
 
 /// Where memory is refused the replies say how far a run came, so that it goes on from there.
-fn a_run_goes_on(rt: &impl Abort, alloc: Global) -> Result<(), Fail> {
-    let mut machine = machine_of(alloc, PLAN)?;
-    let mut replies = Vec::new(alloc);
-    check_a_run_goes_on(rt, alloc, &mut machine, &mut replies)
+struct GoesOn;
+
+impl Checked for GoesOn {
+    fn check<R: Abort>(rt: &R, alloc: Global, machine: &mut Exchange) -> Result<(), Fail> {
+        let mut replies = Vec::new(alloc);
+        check_a_run_goes_on(rt, alloc, machine, &mut replies)
+    }
 }
 
 fn check_the_start(rt: &impl Abort, event: &Event) -> Result<(), Fail> {
@@ -277,11 +256,7 @@ fn check_copies(rt: &impl Abort, events: &[Event]) -> Result<(), Fail> {
 }
 
 fn an_event_is_copied_whole(rt: &impl Abort, alloc: Global) -> Result<(), Fail> {
-    let call = Event::Start {
-        context: Text::copy_of(alloc, b"main")?,
-        exten: Text::copy_of(alloc, b"2-00")?,
-        caller: Text::copy_of(alloc, b"555\xFF")?,
-    };
+    let call = call(alloc, b"main", b"2-00", b"555\xFF")?;
     let copy = call.copy()?;
     check_the_start(rt, &copy)
 }
@@ -297,9 +272,8 @@ fn other_events_are_copied_whole(rt: &impl Abort, alloc: Global) -> Result<(), F
 }
 
 fn check_machines(rt: &impl Abort, alloc: Global) -> Result<(), Fail> {
-    a_new_machine_has_its_plan_and_no_channel(rt, alloc)?;
-    channels_are_read_by_their_numbers(rt, alloc)?;
-    a_run_adds_its_replies(rt, alloc)?;
+    check_on::<Read, _>(rt, alloc, PLAN)?;
+    check_on::<Runs, _>(rt, alloc, PLAN)?;
     an_event_is_copied_whole(rt, alloc)?;
     other_events_are_copied_whole(rt, alloc)
 }
@@ -311,8 +285,8 @@ fn machines_are_read_and_run(rt: HostRuntime) -> Result<(), Fail> {
 }
 
 fn check_again(rt: &impl Abort, alloc: Global) -> Result<(), Fail> {
-    an_event_is_given_again(rt, alloc)?;
-    a_run_goes_on(rt, alloc)
+    check_on::<GivenAgain, _>(rt, alloc, PLAN)?;
+    check_on::<GoesOn, _>(rt, alloc, PLAN)
 }
 
 /// What goes on where memory is refused.

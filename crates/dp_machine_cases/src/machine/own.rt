@@ -1,5 +1,5 @@
 //! A machine over a table of applications of another maker.
-use crate::machine::render::start;
+use crate::machine::render::call;
 use crate::own_table::OwnApps;
 use dp_machine::{Dialplan, EntryId, Event, Machine, Phase, Queues, Refusal, Reply};
 use std::alloc::Global;
@@ -16,17 +16,26 @@ fn ran(entry: usize) -> Reply {
     Reply::Ran(EntryId { context: 0, entry })
 }
 
-/// `Ping` sets `P` and goes on, `Stay` waits, and a step does not end the wait; a time-out does. A name of the program's own
-/// table ends the call.
-fn check_own(rt: &impl Abort, alloc: Global, machine: &mut Machine<OwnApps>) -> Result<(), Fail> {
+/// Gives a call and three steps.
+fn run_steps(
+    alloc: Global,
+    machine: &mut Machine<OwnApps>,
+    replies: &mut Vec<Reply>,
+) -> Result<(), Fail> {
     let events = [
-        start(alloc, b"main", b"s")?,
+        call(alloc, b"main", b"s", b"")?,
         Event::Step { channel: 1 },
         Event::Step { channel: 1 },
         Event::Step { channel: 1 },
     ];
+    machine.run(alloc, &events, replies)?;
+    Ok(())
+}
+
+/// `Ping` sets `P` and goes on, `Stay` waits, and a step does not end the wait.
+fn check_own(rt: &impl Abort, alloc: Global, machine: &mut Machine<OwnApps>) -> Result<(), Fail> {
     let mut replies = Vec::new(alloc);
-    machine.run(alloc, &events, &mut replies)?;
+    run_steps(alloc, machine, &mut replies)?;
     let want = [
         Reply::Started(1),
         ran(0),
@@ -40,6 +49,7 @@ fn check_own(rt: &impl Abort, alloc: Global, machine: &mut Machine<OwnApps>) -> 
     Ok(())
 }
 
+/// A time-out ends the wait. A name of the program's own table ends the call.
 fn check_behind(
     rt: &impl Abort,
     alloc: Global,
@@ -54,11 +64,19 @@ fn check_behind(
     Ok(())
 }
 
+fn check_machine(
+    rt: &impl Abort,
+    alloc: Global,
+    machine: &mut Machine<OwnApps>,
+) -> Result<(), Fail> {
+    check_own(rt, alloc, machine)?;
+    check_behind(rt, alloc, machine)
+}
+
 /// A table of two applications that the program has not.
 #[test]
 fn another_table_runs(rt: HostRuntime) -> Result<(), Fail> {
     let text = b"[main]\nexten => s,1,Ping(7)\nexten => s,2,Stay()\nexten => s,3,NoOp()\n";
     let mut machine = own_machine(rt.alloc(), text)?;
-    check_own(&rt, rt.alloc(), &mut machine)?;
-    check_behind(&rt, rt.alloc(), &mut machine)
+    check_machine(&rt, rt.alloc(), &mut machine)
 }

@@ -1,34 +1,69 @@
-//! Machines that take the events of a table, and their replies, as lines of text.
+//! Machines that are asked and told things, and what they answer, as text.
+//!
+//! Each way out of a function that owns a machine is proved with the drop of all that a machine holds. So two functions here own one, and
+//! whoever asks or checks something takes it by reference.
 use dp_commands::{ScriptLine, Turn, read_script};
 use dp_machine::{Dialplan, EntryId, Event, Machine, NoMemory, Phase, Queues, Reply, Text};
+use dp_rows::push_bytes;
 use dp_table::StandardApps;
 use std::alloc::Global;
+use std::process::Abort;
 use std::test::Fail;
 
 /// A machine with the applications of the program.
-pub(super) type Exchange = Machine<StandardApps>;
+pub(crate) type Exchange = Machine<StandardApps>;
+
+/// What is asked of a machine.
+pub(crate) trait Asked {
+    /// The answer of a machine to what is asked, as text.
+    fn answer(alloc: Global, machine: &mut Exchange, asked: &str) -> Result<String, Fail>;
+}
+
+/// What is checked on a machine.
+pub(super) trait Checked {
+    /// Whether the machine does what it should.
+    fn check<R: Abort>(rt: &R, alloc: Global, machine: &mut Exchange) -> Result<(), Fail>;
+}
 
 /// A machine with the dialplan of a text, and no queues.
-pub(super) fn machine_of(alloc: Global, text: &[u8]) -> Result<Exchange, Fail> {
+fn machine_of(alloc: Global, text: &[u8]) -> Result<Exchange, Fail> {
     let (plan, _) = Dialplan::load(alloc, text)?;
     let machine = Exchange::new(alloc, plan, Queues::none(alloc))?;
     Ok(machine)
 }
 
-/// An event of a table.
-#[derive(Clone, Copy)]
-pub(super) enum Given {
-    /// A call to a context and an extension.
-    Start(&'static [u8], &'static [u8]),
-    /// A step of the channel of this number.
-    Step(u32),
+/// What a new machine with the dialplan of a text answers.
+pub(crate) fn answer_on<A: Asked>(alloc: Global, text: &[u8], asked: &str) -> Result<String, Fail> {
+    let mut machine = machine_of(alloc, text)?;
+    A::answer(alloc, &mut machine, asked)
 }
 
-/// A call to the extension of the context, of a caller with no number.
-pub(super) fn start(alloc: Global, context: &[u8], exten: &[u8]) -> Result<Event, NoMemory> {
+/// Checks a new machine with the dialplan of a text.
+pub(super) fn check_on<C: Checked, R: Abort>(
+    rt: &R,
+    alloc: Global,
+    text: &[u8],
+) -> Result<(), Fail> {
+    let mut machine = machine_of(alloc, text)?;
+    C::check(rt, alloc, &mut machine)
+}
+
+/// How many notes the dialplan of a text loads with.
+pub(super) fn notes_of(alloc: Global, text: &[u8]) -> Result<usize, Fail> {
+    let (_, notes) = Dialplan::load(alloc, text)?;
+    Ok(notes.len())
+}
+
+/// A call to the extension of the context, of a caller with this number.
+pub(crate) fn call(
+    alloc: Global,
+    context: &[u8],
+    exten: &[u8],
+    caller: &[u8],
+) -> Result<Event, NoMemory> {
     let context = Text::copy_of(alloc, context)?;
     let exten = Text::copy_of(alloc, exten)?;
-    let caller = Text::copy_of(alloc, b"")?;
+    let caller = Text::copy_of(alloc, caller)?;
     Ok(Event::Start {
         context,
         exten,
@@ -57,22 +92,6 @@ pub(super) fn events_of(alloc: Global, script: &[u8]) -> Result<Vec<Event>, Fail
     let mut events = Vec::new(alloc);
     push_events(&mut events, &lines)?;
     Ok(events)
-}
-
-fn event_of(alloc: Global, given: Given) -> Result<Event, NoMemory> {
-    match given {
-        Given::Start(context, exten) => start(alloc, context, exten),
-        Given::Step(channel) => Ok(Event::Step { channel }),
-    }
-}
-
-/// The channel of which the state is shown behind an event: none is numbered 0.
-fn channel_of(given: Given, reply: Reply) -> u32 {
-    match (given, reply) {
-        (Given::Step(channel), _) => channel,
-        (Given::Start(..), Reply::Started(channel)) => channel,
-        (Given::Start(..), _) => 0,
-    }
 }
 
 fn push_entry(
@@ -117,54 +136,100 @@ fn push_reply(
     }
 }
 
+/// The word of a phase.
+fn word_of(phase: &Phase) -> &'static str {
+    match phase {
+        Phase::Ready => "ready",
+        Phase::Digits { .. } => "digits",
+        Phase::Pause => "pause",
+        Phase::Queued { .. } => "queued",
+        Phase::Talking { .. } => "talking",
+        Phase::Ended => "ended",
+    }
+}
+
 /// A channel as the word of its phase with its place, `ready CONTEXT,EXTEN,PRIORITY`, or `none`.
 pub(super) fn push_state(
     out: &mut String,
     machine: &Exchange,
     channel: u32,
 ) -> Result<(), NoMemory> {
-    let word = match machine.phase(channel) {
-        None => return out.push_str("none"),
-        Some(Phase::Ready) => "ready",
-        Some(Phase::Digits { .. }) => "digits",
-        Some(Phase::Pause) => "pause",
-        Some(Phase::Queued { .. }) => "queued",
-        Some(Phase::Talking { .. }) => "talking",
-        Some(Phase::Ended) => "ended",
-    };
-    match machine.place(channel) {
-        None => write!(out, "{word} nowhere"),
-        Some(place) => write!(
+    match (machine.phase(channel), machine.place(channel)) {
+        (None, None) => out.push_str("none"),
+        (Some(phase), Some(place)) => write!(
             out,
-            "{word} {},{},{}",
-            place.context, place.exten, place.priority
+            "{} {},{},{}",
+            word_of(phase),
+            place.context,
+            place.exten,
+            place.priority
         ),
+        _ => out.push_str("a phase without a place, or the other way round"),
     }
 }
 
-/// Gives an event, and adds its line.
-fn push_given(
+/// The state of a channel.
+pub(super) fn state_of(
+    alloc: Global,
+    machine: &Exchange,
+    channel: u32,
+) -> Result<String, NoMemory> {
+    let mut out = String::new(alloc);
+    push_state(&mut out, machine, channel)?;
+    Ok(out)
+}
+
+/// A reply, and the state of a channel behind it: `REPLY -> STATE`.
+fn push_answer(
+    out: &mut String,
+    alloc: Global,
+    machine: &Exchange,
+    reply: Reply,
+    channel: u32,
+) -> Result<(), NoMemory> {
+    push_reply(out, alloc, machine.plan(), reply)?;
+    out.push_str(" -> ")?;
+    push_state(out, machine, channel)
+}
+
+/// The channel of which the state is shown behind a call: none is numbered 0.
+fn started(reply: Reply) -> u32 {
+    match reply {
+        Reply::Started(channel) => channel,
+        _ => 0,
+    }
+}
+
+/// Gives a call, and adds the reply and the state of the channel behind it.
+pub(super) fn push_called(
     out: &mut String,
     alloc: Global,
     machine: &mut Exchange,
-    given: Given,
+    call: Event,
 ) -> Result<(), NoMemory> {
-    let reply = machine.apply(alloc, event_of(alloc, given)?)?;
-    push_reply(out, alloc, machine.plan(), reply)?;
-    out.push_str(" -> ")?;
-    push_state(out, machine, channel_of(given, reply))?;
-    out.push('\n')
+    let reply = machine.apply(alloc, call)?;
+    push_answer(out, alloc, machine, reply, started(reply))
 }
 
-/// The reply to each event and the state of its channel behind it, `REPLY -> STATE`, each on a line.
-pub(super) fn shown(
+/// Gives a step, and adds the reply and the state of the channel behind it.
+pub(super) fn push_stepped(
+    out: &mut String,
     alloc: Global,
     machine: &mut Exchange,
-    events: &[Given],
-) -> Result<String, NoMemory> {
-    let mut out = String::new(alloc);
-    for given in events {
-        push_given(&mut out, alloc, machine, *given)?;
-    }
-    Ok(out)
+    channel: u32,
+) -> Result<(), NoMemory> {
+    let reply = machine.apply(alloc, Event::Step { channel })?;
+    push_answer(out, alloc, machine, reply, channel)
+}
+
+/// Adds the value of a name in a channel, in characters of the numbers of its bytes.
+pub(super) fn push_value(
+    out: &mut String,
+    alloc: Global,
+    machine: &Exchange,
+    channel: u32,
+    name: &str,
+) -> Result<(), NoMemory> {
+    let value = machine.value(alloc, channel, name.as_bytes())?;
+    push_bytes(out, &value)
 }

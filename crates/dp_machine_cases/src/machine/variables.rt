@@ -1,23 +1,9 @@
 //! Dialplans with variables, worked out by hand from the rules.
-use crate::machine::render::Given::{Start, Step};
-use crate::machine::render::{Exchange, Given, machine_of, push_state, shown};
-use dp_machine::{Event, NoMemory, Text};
-use dp_rows::{Question, check, check_same, push_bytes};
+use crate::machine::render::{Asked, Exchange, answer_on, call, push_value, state_of};
+use dp_machine::{Event, NoMemory};
+use dp_rows::{Question, check, push_bytes};
 use std::alloc::Global;
 use std::test::Fail;
-
-/// The value of a name in a channel, in characters of the numbers of its bytes.
-fn value_of(
-    alloc: Global,
-    machine: &Exchange,
-    channel: u32,
-    name: &str,
-) -> Result<String, NoMemory> {
-    let mut out = String::new(alloc);
-    let value = machine.value(alloc, channel, name.as_bytes())?;
-    push_bytes(&mut out, &value)?;
-    Ok(out)
-}
 
 /// A dialplan with the globals that stand between ` ; `, and with `Goto` of these arguments at `main`, `100`, 1.
 fn plan_of(alloc: Global, globals: &str, arguments: &str) -> Result<String, NoMemory> {
@@ -31,44 +17,47 @@ fn plan_of(alloc: Global, globals: &str, arguments: &str) -> Result<String, NoMe
     Ok(text)
 }
 
-/// A machine with such a dialplan.
-fn exchange(alloc: Global, globals: &str, arguments: &str) -> Result<Exchange, Fail> {
+/// What a machine with such a dialplan answers.
+fn answer_with<A: Asked>(
+    alloc: Global,
+    globals: &str,
+    arguments: &str,
+    asked: &str,
+) -> Result<String, Fail> {
     let text = plan_of(alloc, globals, arguments)?;
-    machine_of(alloc, text.as_bytes())
+    answer_on::<A>(alloc, text.as_bytes(), asked)
 }
 
 /// A call of `5551234` to `main`, `100`.
-fn call(alloc: Global) -> Result<Event, NoMemory> {
-    Ok(Event::Start {
-        context: Text::copy_of(alloc, b"main")?,
-        exten: Text::copy_of(alloc, b"100")?,
-        caller: Text::copy_of(alloc, b"5551234")?,
-    })
-}
-
-/// Such a call, then so many steps of it.
-fn call_through(alloc: Global, machine: &mut Exchange, steps: usize) -> Result<(), NoMemory> {
-    machine.apply(alloc, call(alloc)?)?;
-    for _ in 0..steps {
-        machine.apply(alloc, Event::Step { channel: 1 })?;
-    }
+fn call_in(alloc: Global, machine: &mut Exchange) -> Result<(), NoMemory> {
+    machine.apply(alloc, call(alloc, b"main", b"100", b"5551234")?)?;
     Ok(())
 }
 
-/// The value of a name in a channel behind a call.
-fn value_called(
-    alloc: Global,
-    machine: &mut Exchange,
-    channel: u32,
-    name: &str,
-) -> Result<String, Fail> {
-    call_through(alloc, machine, 0)?;
-    Ok(value_of(alloc, machine, channel, name)?)
+/// Such a call, then a step of it.
+fn call_and_step(alloc: Global, machine: &mut Exchange) -> Result<(), NoMemory> {
+    call_in(alloc, machine)?;
+    machine.apply(alloc, Event::Step { channel: 1 })?;
+    Ok(())
 }
 
 /// What stands before the last ` ; `, and what behind it.
 fn cut(asked: &str) -> (&str, &str) {
     asked.rsplit_once(" ; ").unwrap_or(("", asked))
+}
+
+/// The value of a name in a channel behind a call: `CHANNEL NAME`.
+struct ValueOf;
+
+impl Asked for ValueOf {
+    fn answer(alloc: Global, machine: &mut Exchange, asked: &str) -> Result<String, Fail> {
+        let (channel, name) = asked.split_once(' ').ok_or("no name")?;
+        let channel: u32 = channel.parse().ok().ok_or("no number")?;
+        call_in(alloc, machine)?;
+        let mut out = String::new(alloc);
+        push_value(&mut out, alloc, machine, channel, name)?;
+        Ok(out)
+    }
 }
 
 /// The value of a name in a channel, where globals stand before it: `NAME=VALUE ; .. ; CHANNEL NAME`.
@@ -77,10 +66,7 @@ struct Valued;
 impl Question for Valued {
     fn answer(alloc: Global, asked: &str) -> Result<String, Fail> {
         let (globals, wanted) = cut(asked);
-        let (channel, name) = wanted.split_once(' ').ok_or("no name")?;
-        let channel: u32 = channel.parse().ok().ok_or("no number")?;
-        let mut machine = exchange(alloc, globals, "")?;
-        value_called(alloc, &mut machine, channel, name)
+        answer_with::<ValueOf>(alloc, globals, "", wanted)
     }
 }
 
@@ -130,33 +116,26 @@ N=1 ; 2 EXTEN→
 N=1 ; 4294967295 CHANNEL→
 ";
 
-#[test]
-fn names_have_these_values(rt: HostRuntime) -> Result<(), Fail> {
-    check::<Valued>(rt.alloc(), VALUES)
-}
-
 /// The extension at which a call stands behind its first step, which stands between `<` and `>`, without these two.
-fn gone_to(alloc: Global, machine: &mut Exchange) -> Result<String, Fail> {
-    call_through(alloc, machine, 1)?;
-    let place = machine.place(1).ok_or("no channel")?;
-    let bytes = place.exten.bytes();
-    let bytes = bytes.strip_prefix(b"<".as_slice()).ok_or("not gone")?;
-    let bytes = bytes.strip_suffix(b">".as_slice()).ok_or("cut off")?;
-    let mut out = String::new(alloc);
-    push_bytes(&mut out, bytes)?;
-    Ok(out)
+struct GoneTo;
+
+impl Asked for GoneTo {
+    fn answer(alloc: Global, machine: &mut Exchange, _asked: &str) -> Result<String, Fail> {
+        call_and_step(alloc, machine)?;
+        let place = machine.place(1).ok_or("no channel")?;
+        let bytes = place.exten.bytes();
+        let bytes = bytes.strip_prefix(b"<".as_slice()).ok_or("not gone")?;
+        let bytes = bytes.strip_suffix(b">".as_slice()).ok_or("cut off")?;
+        let mut out = String::new(alloc);
+        push_bytes(&mut out, bytes)?;
+        Ok(out)
+    }
 }
 
 /// The extension to which a `Goto` of a text between `<` and `>` goes, without these two.
 fn sent(alloc: Global, globals: &str, text: &str) -> Result<String, Fail> {
     let arguments = format!(in alloc; "<{text}>,1")?;
-    sent_by(alloc, globals, &arguments)
-}
-
-/// The same of whole arguments.
-fn sent_by(alloc: Global, globals: &str, arguments: &str) -> Result<String, Fail> {
-    let mut machine = exchange(alloc, globals, arguments)?;
-    gone_to(alloc, &mut machine)
+    answer_with::<GoneTo>(alloc, globals, &arguments, "")
 }
 
 /// What arguments are expanded to where globals stand before them: `NAME=VALUE ; .. ; ARGUMENTS`.
@@ -235,17 +214,14 @@ $[1 2]→
 N=3 ; $[${N} + ${LEN(${N})}]→4
 "#;
 
-#[test]
-fn arguments_are_expanded(rt: HostRuntime) -> Result<(), Fail> {
-    check::<Arguments>(rt.alloc(), ARGUMENTS)
-}
-
 /// The state of a call behind its first step.
-fn state_behind(alloc: Global, machine: &mut Exchange) -> Result<String, Fail> {
-    call_through(alloc, machine, 1)?;
-    let mut out = String::new(alloc);
-    push_state(&mut out, machine, 1)?;
-    Ok(out)
+struct StateBehind;
+
+impl Asked for StateBehind {
+    fn answer(alloc: Global, machine: &mut Exchange, _asked: &str) -> Result<String, Fail> {
+        call_and_step(alloc, machine)?;
+        Ok(state_of(alloc, machine, 1)?)
+    }
 }
 
 /// The state of the call behind a `Goto` of these arguments: `NAME=VALUE ; .. ; ARGUMENTS`.
@@ -254,8 +230,7 @@ struct Went;
 impl Question for Went {
     fn answer(alloc: Global, asked: &str) -> Result<String, Fail> {
         let (globals, arguments) = cut(asked);
-        let mut machine = exchange(alloc, globals, arguments)?;
-        state_behind(alloc, &mut machine)
+        answer_with::<StateBehind>(alloc, globals, arguments, "")
     }
 }
 
@@ -280,11 +255,6 @@ T=2 ; 200,$[${T} - 2]→ended main,100,1
 ${EXTEN:1},${PRIORITY}→ready main,00,1
 ${CHANNEL},1→ready main,Channel/1,1
 ";
-
-#[test]
-fn values_are_cut_as_arguments(rt: HostRuntime) -> Result<(), Fail> {
-    check::<Went>(rt.alloc(), TARGETS)
-}
 
 fn repeated(alloc: Global, openings: usize, ends: usize) -> Result<String, NoMemory> {
     let mut text = String::new(alloc);
@@ -334,68 +304,15 @@ const NESTING: &str = r"
 32 33→1 1
 ";
 
+fn check_variables(alloc: Global) -> Result<(), Fail> {
+    check::<Valued>(alloc, VALUES)?;
+    check::<Arguments>(alloc, ARGUMENTS)?;
+    check::<Went>(alloc, TARGETS)?;
+    check::<Nested>(alloc, NESTING)
+}
+
+/// The values of names, what arguments are expanded to, where a `Goto` of such goes, and the limit of nesting.
 #[test]
-fn nesting_limit(rt: HostRuntime) -> Result<(), Fail> {
-    check::<Nested>(rt.alloc(), NESTING)
-}
-
-/// Asserts what a machine replies to events.
-fn check_trace(
-    alloc: Global,
-    machine: &mut Exchange,
-    events: &[Given],
-    want: &str,
-) -> Result<(), Fail> {
-    let got = shown(alloc, machine, events)?;
-    check_same("the machine", &got, want)
-}
-
-/// Asserts the value of a name in the first channel.
-fn check_value(alloc: Global, machine: &Exchange, name: &str, want: &str) -> Result<(), Fail> {
-    let got = value_of(alloc, machine, 1, name)?;
-    check_same(name, &got, want)
-}
-
-fn check_globals_expanded(alloc: Global, machine: &mut Exchange) -> Result<(), Fail> {
-    let events = [Start(b"main", b"100"), Step(1), Step(1)];
-    let want = "started 1 -> ready main,100,1\nran main,100,1 Goto -> ready main,200,1\n\
-ran main,200,1 NoOp -> ready main,200,2\n";
-    check_trace(alloc, machine, &events, want)?;
-    check_value(alloc, machine, "M", "2001")?;
-    check_value(alloc, machine, "EXTEN", "200")?;
-    check_value(alloc, machine, "PRIORITY", "2")?;
-    // An ended channel keeps its values.
-    machine.apply(alloc, Event::Step { channel: 1 })?;
-    check_value(alloc, machine, "EXTEN", "200")
-}
-
-#[test]
-fn globals_expanded(rt: HostRuntime) -> Result<(), Fail> {
-    let text = b"[globals]\nN=200\nM=${N}1\n[main]\nexten => 100,1,Goto(${N},1)\n\
-exten => 200,1,NoOp()\n";
-    let mut machine = machine_of(rt.alloc(), text)?;
-    check_globals_expanded(rt.alloc(), &mut machine)
-}
-
-fn check_a_call_sees_itself(alloc: Global, machine: &mut Exchange) -> Result<(), Fail> {
-    let events = [
-        Start(b"main", b"1"),
-        Start(b"main", b"2"),
-        Step(2),
-        Start(b"main", b"3"),
-        Step(1),
-        Step(3),
-    ];
-    let want = "started 1 -> ready main,1,1\nstarted 2 -> ready main,2,1\n\
-ran main,_X,1 Goto -> ready main,Channel/2-2,1\nstarted 3 -> ready main,3,1\n\
-ran main,_X,1 Goto -> ready main,Channel/1-1,1\nran main,_X,1 Goto -> ready main,Channel/3-3,1\n";
-    check_trace(alloc, machine, &events, want)
-}
-
-/// A step is expanded in what its own call sees.
-#[test]
-fn a_call_sees_itself(rt: HostRuntime) -> Result<(), Fail> {
-    let text = b"[main]\nexten => _X,1,Goto(${CHANNEL}-${EXTEN},1)\n";
-    let mut machine = machine_of(rt.alloc(), text)?;
-    check_a_call_sees_itself(rt.alloc(), &mut machine)
+fn variables_are_expanded_so(rt: HostRuntime) -> Result<(), Fail> {
+    check_variables(rt.alloc())
 }

@@ -1,9 +1,9 @@
 //! Runs in threads, with the line that is printed of them and their histories, worked out by hand from the rules.
 use crate::board::gates::{Crossed, gate_of};
 use crate::commands::render::{check_outcome, make_sink, outcome};
-use dp_board::{Entry, Gate};
-use dp_commands::{PbxFault, run_threads};
-use dp_machine::{Event, Reply};
+use dp_board::Gate;
+use dp_commands::run_threads;
+use dp_machine::Reply;
 use dp_rows::{bytes_of, is_heading};
 use std::alloc::Global;
 use std::process::Abort;

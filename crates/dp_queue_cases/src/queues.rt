@@ -8,7 +8,7 @@ mod steps;
 
 use crate::queues::render::{push_fault, shown};
 use crate::queues::steps::take;
-use dp_queue::{NoMemory, QueueFault, Queues};
+use dp_queue::{QueueFault, Queues};
 use dp_rows::{Question, bytes_of, check_all};
 use std::alloc::Global;
 use std::test::Fail;
