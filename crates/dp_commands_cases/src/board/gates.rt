@@ -12,7 +12,7 @@ use std::thread::Threads;
 
 /// Waits until a flag is set, and marks a failure where that takes too long.
 pub(super) fn hold(flag: &AtomicU64, marks: &AtomicU64) {
-    for _ in 0..10_000_000u32 {
+    for _ in 0..1_000_000_000u32 {
         if flag.load(Ordering::SeqCst) != 0 {
             return;
         }
