@@ -18,7 +18,8 @@ use Rattle.dp_plan.proofs.Canonical.{IsKey, IsValue, IsHeaderName, IsGlobal, IsE
 use Rattle.dp_plan.proofs.EntryAgain.{entry_text-value}
 use Rattle.dp_plan.proofs.PlanAgain.{IsOnUnknown, canonical_notes, canonical_notes-only, loaded-canonical}
 use Rattle.dp_plan.proofs.PlanKnown.{loaded-known}
-use Rattle.dp_lister.specs.Again.{IsLoaded, LoadsAs}
+use Rattle.dp_lister.specs.Again.{LoadsAs}
+use Rattle.dp_plan.specs.Loaded.{IsLoaded}
 use Rattle.dp_lister.specs.Listing.{global_line, global_lines, label_text, application_text, behind_name, entry_line, include_line, header_line, context_lines, text_of, listing}
 use Rattle.dp_lister.proofs.LinesAgain.{header_reads, pair_line, pair_reads, ReadsAs, ReadAs, conf_lines, lines_of-written, lines_of-nothing}
 

@@ -1,17 +1,10 @@
 -- What a text that is listed loads as.
-use Rattle.std.specs.Prelude.{◌≡◌, ℕ, ◌<◌, List, Ok, EachIndex, slice_index}
+use Rattle.std.specs.Prelude.{◌≡◌, ℕ, List, Ok}
 use Rattle.std.specs.List.{All}
 use Rattle.dp_plan.specs.Loaded.{loaded}
 use Rattle.dp_plan.specs.Plan.{PlanOf}
 use Rattle.dp_plan.specs.declared.note.Note.{Note}
 use Rattle.dp_plan.specs.declared.note.NoteKind.TheVariants.{UnknownContext}
-
--- some text of bytes loads as the dialplan
-pub record IsLoaded (plan : PlanOf) : Type 0 where
-  pub text : List ℕ
-  pub bytes : EachIndex text (λ k. slice_index text k < 256)
-  pub notes : List Note
-  pub loads : loaded text ≡ Ok (plan, notes)
 
 -- the text loads as the dialplan, with no note but on includes of unknown contexts
 pub record LoadsAs (plan : PlanOf) (text : List ℕ) : Type 0 where

@@ -1,8 +1,9 @@
 //! The canonical listing of a dialplan.
 ghost use Rattle.std.specs.Prelude.{◌≡◌, ◌++◌, [], ◌∷◌, IfOk, OnOk, map};
 ghost use Rattle.dp_conf.specs.Escape.{escaped};
-ghost use Rattle.dp_lister.specs.Again.{IsLoaded, LoadsAs};
+ghost use Rattle.dp_lister.specs.Again.{LoadsAs};
 ghost use Rattle.dp_lister.specs.Listing as spec;
+ghost use Rattle.dp_plan.specs.Loaded.{IsLoaded};
 ghost use Rattle.dp_plan.specs.Plan.{PlanOf};
 
 use dp_conf::{Text, push_escaped};
@@ -170,13 +171,14 @@ fn listing_of(alloc: Global, plan: &Dialplan) -> Result<Vec<u8>, NoMemory>
 /// each priority as a number, each application with parentheses, and each `;` as `\;`. That there is one such text is
 /// this program's own choice.
 ///
-/// The listing of a dialplan that was loaded loads as this dialplan again, with no note but `UnknownContext`.
+/// The listing loads as this dialplan again, with no note but `UnknownContext`.
 ///
 /// The error comes only where a growth was refused.
 pub fn list(alloc: Global, plan: &Dialplan) -> Result<Vec<u8>, NoMemory>
     ensures listing { IfOk result (λ text. text.items ≡ spec.listing plan.now) }
-    ensures again { IsLoaded plan.now → IfOk result (λ text. LoadsAs plan.now text.items) }
+    ensures again { IfOk result (λ text. LoadsAs plan.now text.items) }
 {
+    plan.is_loaded();
     let text = listing_of(alloc, plan)?;
     Ok(text)
 }

@@ -5,6 +5,7 @@ ghost use Rattle.std.specs.Option.{option_to_list};
 ghost use Rattle.dp_plan.specs.Contexts.{with_entry, with_include};
 ghost use Rattle.dp_plan.specs.Draft as spec;
 ghost use Rattle.dp_conf.specs.Words.{same_text};
+ghost use Rattle.dp_plan.specs.Loaded.{IsLoaded};
 ghost use Rattle.dp_plan.specs.Plan.{is_named};
 ghost use Rattle.dp_plan.specs.Ranking.{AreApart};
 
@@ -95,6 +96,7 @@ fn empty_context(alloc: Global, name: &Text) -> Result<Context, NoMemory>
 fn plan_of(alloc: Global, parts: Parts) -> Result<Dialplan, NoMemory>
     requires names { parts.names.keys ≡ map (λ context. context.name) parts.contexts.items }
     requires apart { All (λ context. AreApart context.entries) parts.contexts.items }
+    requires loaded { IsLoaded (record { globals = parts.globals.items; contexts = parts.contexts.items }) }
     ensures { IfOk result (λ plan. plan ≡ record { globals = parts.globals.items; contexts = parts.contexts.items }) }
 {
     let rankings = rank_contexts(alloc, &parts.contexts)?;
@@ -402,6 +404,7 @@ impl Draft {
     pub(crate) fn into_plan(self, alloc: Global) -> Result<(Dialplan, Vec<Note>), NoMemory>
         requires names { self.names ≡ map (λ context. context.name) self.contexts }
         requires apart { All (λ context. AreApart context.entries) self.contexts }
+        requires loaded { IsLoaded (record { globals = self.globals; contexts = self.contexts }) }
         ensures plan { IfOk result (λ made. made.0 ≡ record { globals = self.globals; contexts = self.contexts }) }
         ensures notes { IfOk result (λ made. made.1.items ≡ flat_map (spec.settled self.names) self.remarks) }
     {

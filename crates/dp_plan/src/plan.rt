@@ -5,7 +5,7 @@ ghost use Rattle.std.specs.Option.{option_copied};
 ghost use Rattle.dp_conf.specs.Answers.{Answers};
 ghost use Rattle.dp_plan.specs.Contexts.{AreNamed};
 ghost use Rattle.dp_plan.specs.Faults.{reason_of};
-ghost use Rattle.dp_plan.specs.Loaded.{loaded};
+ghost use Rattle.dp_plan.specs.Loaded.{IsLoaded, loaded};
 ghost use Rattle.dp_plan.specs.Plan.{PlanOf};
 ghost use Rattle.dp_plan.specs.Ranking.{AreRanked, AreApart};
 ghost use Rattle.dp_plan.specs.declared.note.Note.{Note};
@@ -42,6 +42,7 @@ impl Model for Dialplan {
     ghost use Rattle.std.specs.Prelude.{◌≡◌, map};
     ghost use Rattle.std.specs.List.{All};
     ghost use Rattle.dp_plan.specs.Contexts.{AreNamed};
+    ghost use Rattle.dp_plan.specs.Loaded.{IsLoaded};
     ghost use Rattle.dp_plan.specs.Plan.{PlanOf};
     ghost use Rattle.dp_plan.specs.Ranking.{AreRanked, AreApart};
 
@@ -53,7 +54,8 @@ impl Model for Dialplan {
         (plan.names.keys ≡ map (λ context. context.name) plan.contexts.items)
         × AreRanked plan.contexts.items plan.rankings.items
         × All (λ context. AreNamed context.entries) plan.contexts.items
-        × All (λ context. AreApart context.entries) plan.contexts.items };
+        × All (λ context. AreApart context.entries) plan.contexts.items
+        × IsLoaded (record { globals = plan.globals.items; contexts = plan.contexts.items }) };
 }
 
 /// The parts of a dialplan beside its rankings.
@@ -85,6 +87,7 @@ impl Dialplan {
         requires ranked { AreRanked parts.contexts.items rankings.items }
         requires named { All (λ context. AreNamed context.entries) parts.contexts.items }
         requires apart { All (λ context. AreApart context.entries) parts.contexts.items }
+        requires loaded { IsLoaded (record { globals = parts.globals.items; contexts = parts.contexts.items }) }
         ensures { result ≡ record { globals = parts.globals.items; contexts = parts.contexts.items } }
     {
         let Parts {
@@ -98,6 +101,13 @@ impl Dialplan {
             contexts,
             rankings,
         }
+    }
+
+    /// That some text loads as the dialplan, as is so of every dialplan. It does nothing.
+    pub fn is_loaded(&self)
+        ensures { IsLoaded self.now }
+    {
+        let _contexts = &self.contexts;
     }
 
     /// What is known of the entries of every dialplan: the name of each is one that some text means, and no two of a

@@ -1,10 +1,10 @@
-use Rattle.std.proofs.Common.{Ok, sym, ap, ◌∙◌}
+use Rattle.std.proofs.Common.{rules, Ok, sym, ap, ◌∙◌}
 use Rattle.std.proofs.lemmas.Result.{err_from_is_err_and}
 use Rattle.dp_conf.proofs.AnswersLemmas.{Refuses-passed_on}
 use Rattle.dp_plan.specs.Faults.{reason_of}
 use Rattle.dp_plan.specs.Loaded.{loaded}
 use Rattle.dp_plan.specs.Loading.{drafted_of}
-use Rattle.dp_plan.proofs.LoadingLemmas.{plan_of_draft, loaded-drafted, drafted-fit}
+use Rattle.dp_plan.proofs.LoadingLemmas.{plan_of_draft, plan_in, loaded-drafted, drafted-fit}
 use Rattle.dp_plan.proofs.plan.Dialplan.load.Goals as goal
 
 pub returns-in_err-draft : goal.returns-in_err-draft
@@ -19,6 +19,15 @@ into_plan-requires-clause-names c = (drafted-fit c.args.text.now c.in_ok-draft.d
 
 pub into_plan-requires-clause-apart : goal.into_plan-requires-clause-apart
 into_plan-requires-clause-apart c = (drafted-fit c.args.text.now c.in_ok-draft.draft c.in_ok-draft.ensures).apart
+
+-- the text itself is one that loads as the dialplan
+pub into_plan-requires-clause-loaded : goal.into_plan-requires-clause-loaded
+into_plan-requires-clause-loaded c = record {
+  text = c.args.text.now;
+  bytes = search rules;
+  notes = (plan_in c.in_ok-draft.draft).1;
+  loads = sym (loaded-drafted c.args.text.now) ∙ ap plan_of_draft c.in_ok-draft.ensures;
+}
 
 pub returns : goal.returns
 returns c =
