@@ -1,6 +1,6 @@
 -- What is kept by rows that leave parts of a cell as they are, for the laws of applications.
-use Rattle.std.specs.Prelude.{◌≡◌, ℕ, List, length, refl}
-use Rattle.std.proofs.Common.{ap, ◌∙◌, rules}
+use Rattle.std.specs.Prelude.{◌≡◌, ℕ, false, List, length, refl}
+use Rattle.std.proofs.Common.{ap, subst, ◌∙◌, rules}
 use Rattle.std.proofs.Math.Seq.{take-length}
 use Rattle.dp_queue.specs.Queues.{QueuesOf}
 use Rattle.dp_vars.specs.Stores.{StoreOf}
@@ -9,6 +9,7 @@ use Rattle.dp_app.specs.Rows.{Row}
 use Rattle.dp_app.specs.declared.cell.Cell.{Cell}
 use Rattle.dp_app.specs.declared.going.Move.{Move}
 use Rattle.dp_app.specs.declared.going.Move.TheVariants.{Next, Jump, Park, Hang}
+use Rattle.dp_app.specs.declared.phase.Phase.{Phase}
 use Rattle.dp_app.specs.declared.place.Place.{Place}
 use Rattle.dp_app.specs.declared.touch.Touch.{Touch}
 
@@ -38,6 +39,10 @@ going_waits lists number (Jump target) g = refl
 going_waits lists number (Park phase) g = absurd g
 going_waits lists number Hang g = refl
 
+-- such a move is no park
+pub not_parked : {X : Type 0} (going : Move) (phase : Phase) → IsGoing going → going ≡ Park phase → X
+not_parked going phase g parks = absurd (subst (λ move. IsGoing move) parks g)
+
 -- a row that parks the channel nowhere and leaves the queues keeps the laws, if it keeps the touch law
 pub going_lawful : (touch : Touch) (row : Row)
     → ((arguments : List ℕ) (cell : Cell) → KeepsUntouched touch cell (row arguments cell).cell)
@@ -50,4 +55,6 @@ going_lawful touch row keeps same goes = record {
   waits = λ arguments cell. ap waiting_lists (same arguments cell)
       ∙ going_waits (waiting_lists cell.queues) cell.number (row arguments cell).next (goes arguments cell);
   closes = λ arguments cell closing. goes arguments cell;
+  hangs = λ arguments cell phase closing parks.
+      not_parked (row arguments (record cell { is_closing = false })).next phase (goes arguments (record cell { is_closing = false })) parks;
 }

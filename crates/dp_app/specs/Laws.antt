@@ -1,5 +1,6 @@
 -- The laws that the rows of a table keep, so that a machine may trust any table whose rows keep them.
-use Rattle.std.specs.Prelude.{◌≡◌, ℕ, ◌<◌, ◌≤◌, true, false, List, [], ◌∷◌, ◌++◌, Some, None, length, map, min, take}
+use Rattle.std.specs.Prelude.{◌≡◌, ℕ, ◌<◌, ◌≤◌, true, false, List, [], ◌∷◌, ◌++◌, Some, None, length, map, take}
+use Rattle.dp_conf.specs.Words.{same_word}
 use Rattle.dp_queue.specs.Agents.{state_at, is_talking}
 use Rattle.dp_queue.specs.Changes.{changed_at}
 use Rattle.dp_queue.specs.Joining.{waits_in}
@@ -23,17 +24,12 @@ places_of store = map (λ frame. frame.back) store.frames
 abbrev pub locals_of : StoreOf Place → List Named
 locals_of store = map (λ frame. frame.locals) store.frames
 
--- how many of the outermost frames stand in both stores
-abbrev pub common : StoreOf Place → StoreOf Place → ℕ
-common before after = min (length before.frames) (length after.frames)
-
--- a frame that stands in both stores goes back to one place; without the touch on frames the same frames stand in both, and
--- without the touch on variables the variables, and the locals of the frames that stand in both, are as before
+-- with the touch on frames these may be any; without it there are as many, which go back to the same places, and their locals
+-- change under the touch on variables alone. The channel's own variables change under that touch alone
 pub record KeepsStore (touch : Touch) (before after : StoreOf Place) : Type 0 where
-  pub places : take (common before after) (places_of after) ≡ take (common before after) (places_of before)
-  pub frames : touch.frames ≡ false → length after.frames ≡ length before.frames
+  pub places : touch.frames ≡ false → places_of after ≡ places_of before
   pub variables : touch.variables ≡ false → after.variables ≡ before.variables
-  pub locals : touch.variables ≡ false → take (common before after) (locals_of after) ≡ take (common before after) (locals_of before)
+  pub locals : touch.frames ≡ false → touch.variables ≡ false → locals_of after ≡ locals_of before
 
 -- the waiting list of each queue
 abbrev pub waiting_lists : QueuesOf → List (List ℕ)
@@ -78,7 +74,7 @@ MayGo count (Jump target) = Unit {0}
 MayGo count (Park phase) = MayPark count phase
 MayGo count Hang = Unit {0}
 
--- the closing law: the move parks the channel nowhere
+-- the first half of the closing law: the move parks the channel nowhere
 abbrev pub IsGoing : Move → Type 0
 IsGoing Next = Unit {0}
 IsGoing (Jump target) = Unit {0}
@@ -101,17 +97,29 @@ waiting_after lists number (Jump target) = lists
 waiting_after lists number (Park phase) = waiting_parked lists number phase
 waiting_after lists number Hang = lists
 
--- the laws of a row
+-- the row would park the channel in this phase, were it not closing
+abbrev pub WouldPark : Row → List ℕ → Cell → Phase → Type 0
+WouldPark row arguments cell phase = (row arguments (record cell { is_closing = false })).next ≡ Park phase
+
+-- the laws of a row: the touch law, the park law in two halves, and the closing law: with the closing mark the channel is parked
+-- nowhere, and where it would be parked without the mark the call ends, with nothing changed
 pub record IsLawfulRow (touch : Touch) (row : Row) : Type 0 where
   pub keeps : (arguments : List ℕ) (cell : Cell) → KeepsUntouched touch cell (row arguments cell).cell
   pub parks : (arguments : List ℕ) (cell : Cell) → MayGo (length cell.queues.queues) (row arguments cell).next
   pub waits : (arguments : List ℕ) (cell : Cell) →
       waiting_lists (row arguments cell).cell.queues ≡ waiting_after (waiting_lists cell.queues) cell.number (row arguments cell).next
   pub closes : (arguments : List ℕ) (cell : Cell) → cell.is_closing ≡ true → IsGoing (row arguments cell).next
+  pub hangs : (arguments : List ℕ) (cell : Cell) (phase : Phase) → cell.is_closing ≡ true
+      → WouldPark row arguments cell phase → row arguments cell ≡ record { cell = cell; next = Hang }
 
 -- the laws of a table: of each row that it has, with the touch of its name
 abbrev pub IsLawful : (List ℕ → Touch) → Rows → Type 0
 IsLawful touches rows = (name : List ℕ) (row : Row) → rows name ≡ Some row → IsLawfulRow (touches name) row
+
+-- a table is blind to ASCII case: where it has a name, it has each spelling of it with the same row and the same touch
+pub record IsBlind (touches : List ℕ → Touch) (rows : Rows) : Type 0 where
+  pub row : (name spelling : List ℕ) → same_word name spelling ≡ true → rows spelling ≡ rows name
+  pub touch : (name spelling : List ℕ) → same_word name spelling ≡ true → touches spelling ≡ touches name
 
 -- the greatest priority of an entry
 abbrev pub most_priority : ℕ

@@ -1,9 +1,11 @@
 -- Tables put together from applications.
-use Rattle.std.specs.Prelude.{◌≡◌, ℕ, Bool, true, false, List, Option, Some, None, if◌then◌else◌}
-use Rattle.std.proofs.Common.{subst}
+use Rattle.std.specs.Prelude.{◌≡◌, ℕ, Bool, true, false, List, Option, Some, None, if◌then◌else◌, map, nat_eq, refl}
+use Rattle.std.specs.Cmp.Lexicographic.{bytes_decides, pointwise}
+use Rattle.std.specs.Char.{to_ascii_lowercase}
+use Rattle.std.proofs.Common.{ap, subst, sym, ◌∙◌}
 use Rattle.std.proofs.lemmas.Option.{none-some, same_Some}
 use Rattle.dp_conf.specs.Words.{same_word}
-use Rattle.dp_app.specs.Laws.{IsLawful, IsLawfulRow}
+use Rattle.dp_app.specs.Laws.{IsBlind, IsLawful, IsLawfulRow}
 use Rattle.dp_app.specs.Rows.{Row, Rows}
 use Rattle.dp_app.specs.declared.touch.Touch.{Touch}
 
@@ -38,3 +40,28 @@ pub with_row_lawful : (title : List ℕ) (touch : Touch) (meaning : Row) (touche
     IsLawfulRow touch meaning → IsLawful touches rows → IsLawful (with_touch title touch touches) (with_row title meaning rows)
 with_row_lawful title touch meaning touches rows lawful_row lawful name row h =
     lawful_by (same_word name title) touch meaning (touches name) (rows name) row lawful_row (lawful name) h
+
+-- the table with no name is blind
+pub no_rows_blind : IsBlind no_touch no_rows
+no_rows_blind = record {
+  row = λ name spelling same. refl;
+  touch = λ name spelling same. refl;
+}
+
+-- two spellings of a word are one spelling in lower case, and so each of them is the same word as a third where the other is
+spelled_same : (name spelling title : List ℕ) → same_word name spelling ≡ true → same_word spelling title ≡ same_word name title
+spelled_same name spelling title same =
+    ap (λ lower. pointwise nat_eq lower (map to_ascii_lowercase title))
+    (sym ((bytes_decides (map to_ascii_lowercase name) (map to_ascii_lowercase spelling)).0 same))
+
+-- a blind table with one more application is blind
+pub with_row_blind : (title : List ℕ) (touch : Touch) (meaning : Row) (touches : List ℕ → Touch) (rows : Rows) →
+    IsBlind touches rows → IsBlind (with_touch title touch touches) (with_row title meaning rows)
+with_row_blind title touch meaning touches rows blind = record {
+  row = λ name spelling same.
+      ap (λ b. if◌then◌else◌ {A = Option Row} b (Some meaning) (rows spelling)) (spelled_same name spelling title same)
+      ∙ ap (λ found. if◌then◌else◌ {A = Option Row} (same_word name title) (Some meaning) found) (blind.row name spelling same);
+  touch = λ name spelling same.
+      ap (λ b. if◌then◌else◌ {A = Touch} b touch (touches spelling)) (spelled_same name spelling title same)
+      ∙ ap (λ found. if◌then◌else◌ {A = Touch} (same_word name title) touch found) (blind.touch name spelling same);
+}

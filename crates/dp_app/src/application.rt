@@ -1,6 +1,6 @@
 //! Applications, and tables of them.
 ghost use Rattle.std.specs.Prelude.{◌≡◌, ℕ, List, IfOk, OnErr, IfSome, Some};
-ghost use Rattle.dp_app.specs.Laws.{IsLawful, IsLawfulRow, MayRun};
+ghost use Rattle.dp_app.specs.Laws.{IsBlind, IsLawful, IsLawfulRow, MayRun};
 ghost use Rattle.dp_app.specs.Rows.{Row, Rows, dispatched};
 ghost use Rattle.dp_app.specs.declared.cell.Cell.{Cell};
 ghost use Rattle.dp_app.specs.declared.touch.Touch as touches;
@@ -15,7 +15,8 @@ use std::alloc::Global;
 /// that runs it, and where it sends it.
 ///
 /// Its row has to keep the laws of rows: it changes no part of the cell but those that `TOUCH` names, parks a channel only
-/// in a phase that an application may choose, and never while the channel is closing.
+/// in a phase that an application may choose, and never while the channel is closing: where it would park such a channel, the
+/// call ends instead, with nothing changed.
 pub trait Application {
     // What the application makes of its arguments and of a cell.
     ghost meaning: { Row };
@@ -52,7 +53,8 @@ pub trait Application {
     }
 }
 
-/// A table of applications, each of which keeps the laws of rows.
+/// A table of applications, each of which keeps the laws of rows. It knows no case: each spelling of a name that it has, in
+/// ASCII letters of either case, has the same row and the same touch.
 pub trait AppTable {
     // The row of each name that the table has.
     ghost rows: { Rows };
@@ -61,6 +63,8 @@ pub trait AppTable {
     ghost touches: { List ℕ → touches.Touch };
 
     ghost lawful: { IsLawful touches rows };
+
+    ghost blind: { IsBlind touches rows };
 
     /// Runs the application of this name on its expanded arguments, or gives None where the table lacks the name. After a
     /// refused growth the cell is as before.

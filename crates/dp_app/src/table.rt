@@ -25,13 +25,15 @@ fn is_name_of<A: Application>(name: &[u8]) -> bool
 }
 
 impl AppTable for NoApps {
-    ghost use Rattle.dp_app.specs.Tables.{no_rows, no_touch, no_rows_lawful};
+    ghost use Rattle.dp_app.specs.Tables.{no_rows, no_touch, no_rows_blind, no_rows_lawful};
 
     ghost rows = { no_rows };
 
     ghost touches = { no_touch };
 
     ghost lawful = { no_rows_lawful };
+
+    ghost blind = { no_rows_blind };
 
     fn dispatch(
         _alloc: Global,
@@ -44,13 +46,15 @@ impl AppTable for NoApps {
 }
 
 impl<A: Application, T: AppTable> AppTable for With<A, T> {
-    ghost use Rattle.dp_app.specs.Tables.{with_row, with_touch, with_row_lawful};
+    ghost use Rattle.dp_app.specs.Tables.{with_row, with_touch, with_row_blind, with_row_lawful};
 
     ghost rows = { with_row A.title A.meaning T.rows };
 
     ghost touches = { with_touch A.title A.TOUCH T.touches };
 
     ghost lawful = { with_row_lawful A.title A.TOUCH A.meaning T.touches T.rows A.lawful T.lawful };
+
+    ghost blind = { with_row_blind A.title A.TOUCH A.meaning T.touches T.rows T.blind };
 
     fn dispatch(
         alloc: Global,

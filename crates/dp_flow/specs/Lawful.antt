@@ -1,6 +1,7 @@
 -- Each row keeps the laws of rows with its touch.
 use Rattle.std.specs.Prelude.{◌≡◌, ℕ, Bool, true, false, List, [], ◌∷◌, ◌-◌, length, map, take, Option, Some, None, codes, refl, if◌then◌else◌}
 use Rattle.std.specs.FinMap.{insert}
+use Rattle.std.proofs.Common.{ap}
 use Rattle.dp_conf.specs.Blanks.{trim}
 use Rattle.dp_conf.specs.Cut.{cut_once}
 use Rattle.dp_conf.specs.Levels.{arguments_of}
@@ -206,6 +207,7 @@ module _ (phase : Phase) (may : (count : ℕ) → MayPark count phase)
     parks = λ arguments cell. parked_parks (length cell.queues.queues) cell.is_closing;
     waits = λ arguments cell. parked_waits (map (λ queue. queue.waiting) cell.queues.queues) cell.number cell.is_closing;
     closes = λ arguments cell closing. parked_closes cell.is_closing closing;
+    hangs = λ arguments cell asked closing parks. ap (λ b. jumps.stays cell (waits.parked phase b)) closing;
   }
 
 -- the row of `Wait`

@@ -1,5 +1,6 @@
 -- The rows of two applications that are not of this program, for a table of another maker.
 use Rattle.std.specs.Prelude.{◌≡◌, ℕ, Bool, true, false, List, codes, length, if◌then◌else◌, refl}
+use Rattle.std.proofs.Common.{ap}
 use Rattle.dp_vars.specs.Stores.{set}
 use Rattle.dp_app.specs.Keeping.{cell_kept, going_lawful, store_kept}
 use Rattle.dp_app.specs.Laws.{IsGoing, IsLawfulRow, MayGo, waiting_after, waiting_lists}
@@ -59,4 +60,5 @@ stay_lawful touch = record {
   parks = λ arguments cell. stay_parks (length cell.queues.queues) cell.is_closing;
   waits = λ arguments cell. stay_waits (waiting_lists cell.queues) cell.number cell.is_closing;
   closes = λ arguments cell closing. stay_closes cell.is_closing closing;
+  hangs = λ arguments cell phase closing parks. ap (λ b. record { cell = cell; next = stays_unless b }) closing;
 }

@@ -1,15 +1,18 @@
 -- Each row keeps the laws of rows with its touch.
 use Rattle.std.specs.Prelude.{◌≡◌, ℕ, ◌<◌, Bool, true, false, List, length, codes, refl}
+use Rattle.std.proofs.Common.{ap}
 use Rattle.dp_conf.specs.Levels.{arguments_of}
 use Rattle.dp_queue.specs.Joining.{IsWithin, joined, would_join}
 use Rattle.dp_queue.specs.Members.{add_row, remove_row}
 use Rattle.dp_queue.specs.Queues.{QueuesOf}
 use Rattle.dp_queue.specs.declared.join.Join.{Join}
 use Rattle.dp_queue.specs.declared.join.Join.TheVariants.{Unknown, Empty, Full, Joined}
-use Rattle.dp_app.specs.Keeping.{cell_kept, queues_kept, store_kept}
+use Rattle.dp_app.specs.Keeping.{cell_kept, not_parked, queues_kept, store_kept}
 use Rattle.dp_app.specs.Laws.{IsGoing, IsLawfulRow, KeepsQueues, KeepsUntouched, MayGo, waiting_after, waiting_lists}
 use Rattle.dp_app.specs.StoreKept.{set_kept}
 use Rattle.dp_app.specs.declared.cell.Cell.{Cell}
+use Rattle.dp_app.specs.declared.going.Move.TheVariants.{Next, Park, Hang}
+use Rattle.dp_app.specs.declared.phase.Phase.{Phase}
 use Rattle.dp_app.specs.declared.touch.Touch.{Touch}
 use Rattle.dp_qapps.specs.Membership as membership
 use Rattle.dp_qapps.specs.Pausing as pausing
@@ -43,6 +46,7 @@ members_lawful queues name status kept = record {
   parks = λ arguments cell. tt;
   waits = λ arguments cell. (kept arguments cell).waiting refl;
   closes = λ arguments cell closing. tt;
+  hangs = λ arguments cell phase closing parks. not_parked Next phase tt parks;
 }
 
 -- the row of `AddQueueMember`
@@ -144,6 +148,15 @@ module _ (cell : Cell) (goes_on has_timer : Bool) where
   asked_closes queues Full closing = tt
   asked_closes queues (Joined number) closing = queued_closes number cell.is_closing queues closing
 
+  -- where it would wait without the mark, its call ends with nothing changed
+  asked_hangs : (queues : QueuesOf) (j : Join) (phase : Phase) → cell.is_closing ≡ true
+      → (queueing.asked (record cell { is_closing = false }) goes_on has_timer queues j).next ≡ Park phase
+      → queueing.asked cell goes_on has_timer queues j ≡ record { cell = cell; next = Hang }
+  asked_hangs queues Unknown phase closing parks = not_parked Next phase tt parks
+  asked_hangs queues Empty phase closing parks = not_parked Next phase tt parks
+  asked_hangs queues Full phase closing parks = not_parked Next phase tt parks
+  asked_hangs queues (Joined number) phase closing parks = ap (λ b. queueing.queued b cell queues number goes_on has_timer) closing
+
 -- what the options of `Queue` ask for, by its parts
 abbrev goes_on_of : List ℕ → Bool
 goes_on_of arguments = queueing.asks_to_go_on (part 1 (arguments_of arguments))
@@ -165,4 +178,6 @@ queue_lawful = record {
   waits = λ arguments cell. asked_waits cell (goes_on_of arguments) (has_timer_of arguments) (told arguments cell);
   closes = λ arguments cell closing. asked_closes cell (goes_on_of arguments) (has_timer_of arguments)
       (joined cell.queues cell.number (told arguments cell)) (told arguments cell) closing;
+  hangs = λ arguments cell phase closing parks. asked_hangs cell (goes_on_of arguments) (has_timer_of arguments)
+      (joined cell.queues cell.number (told arguments cell)) (told arguments cell) phase closing parks;
 }

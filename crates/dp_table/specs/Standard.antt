@@ -1,8 +1,8 @@
 -- The table of the applications that this program has.
 use Rattle.std.specs.Prelude.{ℕ, List, codes}
-use Rattle.dp_app.specs.Laws.{IsLawful, IsLawfulRow}
+use Rattle.dp_app.specs.Laws.{IsBlind, IsLawful, IsLawfulRow}
 use Rattle.dp_app.specs.Rows.{Row, Rows}
-use Rattle.dp_app.specs.Tables.{no_rows, no_rows_lawful, no_touch, with_row, with_row_lawful, with_touch}
+use Rattle.dp_app.specs.Tables.{no_rows, no_rows_blind, no_rows_lawful, no_touch, with_row, with_row_blind, with_row_lawful, with_touch}
 use Rattle.dp_app.specs.declared.touch.Touch.{Touch}
 use Rattle.dp_flow.specs.Jumps.{goto_row, goto_if_row, gosub_row, gosub_if_row, return_row, stack_pop_row}
 use Rattle.dp_flow.specs.Lawful.{goto_lawful, goto_if_lawful, gosub_lawful, gosub_if_lawful, hangup_lawful, next_lawful, return_lawful, set_lawful, stack_pop_lawful, wait_lawful, wait_exten_lawful, background_lawful}
@@ -16,15 +16,16 @@ use Rattle.dp_qapps.specs.Pausing.{pause_member_row, unpause_member_row}
 use Rattle.dp_qapps.specs.Queueing.{queue_row}
 use Rattle.dp_qapps.specs.Touches.{variables_and_members, variables_and_waiting}
 
--- a table: the row of each name, what each may change, and that each row keeps the laws with that
+-- a table: the row of each name, what each may change, that each row keeps the laws with that, and that names have no case
 pub record Table : Type 0 where
   pub touches : List ℕ → Touch
   pub rows : Rows
   pub lawful : IsLawful touches rows
+  pub blind : IsBlind touches rows
 
 -- the table with no name
 abbrev pub no_table : Table
-no_table = record { touches = no_touch; rows = no_rows; lawful = no_rows_lawful }
+no_table = record { touches = no_touch; rows = no_rows; lawful = no_rows_lawful; blind = no_rows_blind }
 
 -- a table with one more application: its name, what it may change, its row, and that the row keeps the laws
 abbrev pub with_application : (title : List ℕ) (touch : Touch) (row : Row) → IsLawfulRow touch row → Table → Table
@@ -32,6 +33,7 @@ with_application title touch row lawful table = record {
   touches = with_touch title touch table.touches;
   rows = with_row title row table.rows;
   lawful = with_row_lawful title touch row table.touches table.rows lawful table.lawful;
+  blind = with_row_blind title touch row table.touches table.rows table.blind;
 }
 
 -- the table of this program
@@ -69,3 +71,7 @@ standard_touches = standard_table.touches
 -- each of its rows keeps the laws
 pub standard_lawful : IsLawful standard_touches standard_rows
 standard_lawful = standard_table.lawful
+
+-- each of its names has each of its spellings
+pub standard_blind : IsBlind standard_touches standard_rows
+standard_blind = standard_table.blind

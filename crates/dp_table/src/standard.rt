@@ -32,13 +32,15 @@ type Everyday = With<NoOp, With<Goto, With<Set, With<GotoIf, Calling>>>>;
 pub struct StandardApps;
 
 impl AppTable for StandardApps {
-    ghost use Rattle.dp_table.specs.Standard.{standard_rows, standard_touches, standard_lawful};
+    ghost use Rattle.dp_table.specs.Standard.{standard_blind, standard_lawful, standard_rows, standard_touches};
 
     ghost rows = { standard_rows };
 
     ghost touches = { standard_touches };
 
     ghost lawful = { standard_lawful };
+
+    ghost blind = { standard_blind };
 
     #[tactic(auto, unfolding(crate::specs::Standard::standard_table))]
     fn dispatch(
