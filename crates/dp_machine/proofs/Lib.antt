@@ -2,6 +2,7 @@ pub mod AskLemmas
 pub mod IsolationLemmas
 pub mod IsolationRows
 pub mod LookupLemmas
+pub mod RefusedLemmas
 pub mod ReplayLemmas
 pub mod StepLemmas
 pub mod StepRows

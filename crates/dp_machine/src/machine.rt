@@ -1,5 +1,5 @@
 //! The machine: a world that events change one after another.
-ghost use Rattle.std.specs.Prelude.{◌≡◌, ◌≤◌, ◌++◌, IfOk, OnOk, OnErr, Some, false, length};
+ghost use Rattle.std.specs.Prelude.{◌≡◌, ◌≤◌, ◌++◌, IfOk, OnOk, OnErr, Some, false, length, true};
 ghost use Rattle.std.specs.Option.{option_copied, option_map};
 ghost use Rattle.dp_machine.specs.LastOrder.{IsLastOrder};
 ghost use Rattle.dp_queue.specs.Rest.{IsAtRest};
@@ -318,6 +318,7 @@ impl<T: AppTable> Machine<T> {
     /// the machine is as before.
     pub fn apply(&mut self, alloc: Global, event: Event) -> Result<Reply, NoMemory>
         ensures ok { IfOk result (λ reply. spec.event_row T.rows self.old event ≡ (self.new, reply)) }
+        ensures unchanged { IfOk result (λ reply. spec.is_refused reply ≡ true → self.new ≡ self.old) }
         ensures good { good.IsGoodWorld self.new }
         ensures err { OnErr result (self.new ≡ self.old) }
         ensures refused { OnErr result (spec.is_refused (spec.event_row T.rows self.old event).1 ≡ false) }

@@ -1,0 +1,230 @@
+-- A refused event leaves the world as it was.
+use Rattle.std.proofs.Common.{◌≡◌, ℕ, zero, suc, ◌-◌, ◌+◌, ◌++◌, ◌==◌, nat_lt, length, Bool, true, false, ◌&&◌, ◌||◌, List, [], ◌∷◌, Option, Some, None, Result, Ok, Err, IfOk, slice_get, slice_set, if◌then◌else◌, codes, refl, sym, ap, subst, ◌∙◌}
+use Rattle.std.specs.declared.alloc.AllocError.{AllocError as NoMemory}
+use Rattle.std.proofs.lemmas.Option.{none-some, same_Some}
+use Rattle.dp_plan.specs.Plan.{PlanOf}
+use Rattle.dp_queue.specs.Agents.{agent_number, state_at}
+use Rattle.dp_queue.specs.Calls.{answer_row, answer_row_at, decline_row, decline_row_at, done_row, done_row_at}
+use Rattle.dp_queue.specs.Joining.{should_leave}
+use Rattle.dp_queue.specs.Offers.{offer_row}
+use Rattle.dp_queue.specs.Queues.{QueuesOf}
+use Rattle.dp_queue.specs.declared.offer.Offered.{Offered as Rung}
+use Rattle.dp_queue.proofs.RefusedLemmas.{offer-refused}
+use Rattle.dp_queue.specs.declared.agent.AgentState.{AgentState}
+use Rattle.dp_queue.specs.declared.agent.AgentState.TheVariants.{Idle, Ringing as agent_rings, Talking as agent_talks}
+use Rattle.dp_queue.specs.declared.fault.OfferFault.{OfferFault}
+use Rattle.dp_app.specs.Rows.{Rows}
+use Rattle.dp_app.specs.declared.phase.Phase.{Phase}
+use Rattle.dp_app.specs.declared.phase.Phase.TheVariants.{Ready, Digits, Pause, Queued, Talking, Ended}
+use Rattle.dp_machine.specs.Channels.{invalid, is_invalid, hung_up, ready_at}
+use Rattle.dp_machine.specs.Events as spec
+use Rattle.dp_machine.specs.Events.{Own, Served, is_refused}
+use Rattle.dp_machine.specs.Found.{Located, entry_found, is_found}
+use Rattle.dp_machine.specs.Targets.{place_of}
+use Rattle.dp_machine.specs.World.{World, channel_at, most_channels, with_channel}
+use Rattle.dp_machine.specs.declared.asked.Asked.{Asked}
+use Rattle.dp_machine.specs.declared.asked.Asked.TheVariants.{Step as asked_step, Digit as asked_digit, Timeout as asked_timeout, Poll as asked_poll, Hangup as asked_hangup}
+use Rattle.dp_machine.specs.declared.channel.Channel.{Channel}
+use Rattle.dp_machine.specs.declared.event.Event.{Event}
+use Rattle.dp_machine.specs.declared.event.Event.TheVariants.{Start, Step, Digit, Timeout, Poll, Hangup, Offer, Answer, Decline, AgentDone}
+use Rattle.dp_machine.specs.declared.refusal.Refusal.TheVariants.{BadDigit, NotRinging, NumbersSpent}
+use Rattle.dp_machine.specs.declared.reply.Reply.{Reply}
+use Rattle.dp_machine.specs.declared.reply.Reply.TheVariants.{Done, Invalid, NoEntry, Refused, Started}
+use Rattle.dp_machine.specs.declared.shared.Shared.{Shared}
+
+not_refused : {X : Type 0} → false ≡ true → X
+not_refused e = absurd cc
+
+-- a refusal leaves the channel and what all channels share
+abbrev OwnKept : Shared → Channel → Own → Type 0
+OwnKept shared c own = is_refused own.reply ≡ true → (own.channel ≡ c) × (own.shared ≡ shared)
+
+module _ (plan : PlanOf) (shared : Shared) (number : ℕ) (c : Channel) where
+  unfound_by : (b : Bool) → OwnKept shared c (if◌then◌else◌ {A = Own} b
+      (record { channel = invalid c; shared = shared; reply = Invalid }) (record { channel = hung_up plan c; shared = shared; reply = NoEntry }))
+  unfound_by true = λ h. not_refused h
+  unfound_by false = λ h. not_refused h
+
+  unfound_kept : OwnKept shared c (spec.unfound plan shared c)
+  unfolding spec.unfound
+  unfound_kept = unfound_by (is_invalid plan c.place)
+
+  step_at_kept : (rows : Rows) (o : Option Located) → OwnKept shared c (spec.step_at rows plan shared number c o)
+  step_at_kept rows None = unfound_kept
+  step_at_kept rows (Some found) = λ h. not_refused h
+
+  step_kept : (rows : Rows) (p : Phase) → OwnKept shared c (spec.step_in rows p plan shared number c)
+  step_kept rows Ready = step_at_kept rows (entry_found plan c.place)
+  step_kept rows (Digits digits is_background) = λ h. (refl, refl)
+  step_kept rows Pause = λ h. (refl, refl)
+  step_kept rows (Queued queue goes_on has_timer) = λ h. (refl, refl)
+  step_kept rows (Talking queue agent goes_on) = λ h. (refl, refl)
+  step_kept rows Ended = λ h. (refl, refl)
+
+  way_out_by : (digit : ℕ) (context : List ℕ) (b : Bool) → OwnKept shared c (if◌then◌else◌ {A = Own} b
+      (spec.take_event (spec.without_caller shared number) (ready_at c (place_of context (digit ∷ []) 1))) (spec.take_event shared c))
+  way_out_by digit context true = λ h. not_refused h
+  way_out_by digit context false = λ h. not_refused h
+
+  dial_kept : (digit : ℕ) (p : Phase) → OwnKept shared c (spec.dial_in p digit plan shared number c)
+  dial_kept digit Ready = λ h. (refl, refl)
+  dial_kept digit (Digits digits is_background) = λ h. not_refused h
+  dial_kept digit Pause = λ h. not_refused h
+  dial_kept digit (Queued queue goes_on has_timer) =
+      way_out_by digit (spec.way_out_of shared.queues queue) (is_found plan (spec.way_out_of shared.queues queue) (digit ∷ []) 1)
+  dial_kept digit (Talking queue agent goes_on) = λ h. (refl, refl)
+  dial_kept digit Ended = λ h. (refl, refl)
+
+  digit_by : (digit : ℕ) (b : Bool) → OwnKept shared c
+      (if◌then◌else◌ {A = Own} b (spec.dial_in c.phase digit plan shared number c) (spec.refuse BadDigit shared c))
+  digit_by digit true = dial_kept digit c.phase
+  digit_by digit false = λ h. (refl, refl)
+
+  digit_kept : (digit : ℕ) → OwnKept shared c (spec.digit_row digit plan shared number c)
+  unfolding spec.digit_row
+  digit_kept digit = digit_by digit (spec.is_over c.phase || spec.is_digit digit)
+
+  time_kept : (has_timer : Bool) → OwnKept shared c (spec.time_in_queue has_timer shared number c)
+  time_kept false = λ h. (refl, refl)
+  time_kept true = λ h. not_refused h
+
+  timeout_kept : (p : Phase) → OwnKept shared c (spec.timeout_in p plan shared number c)
+  timeout_kept Ready = λ h. (refl, refl)
+  timeout_kept (Digits digits is_background) = λ h. not_refused h
+  timeout_kept Pause = λ h. not_refused h
+  timeout_kept (Queued queue goes_on has_timer) = time_kept has_timer
+  timeout_kept (Talking queue agent goes_on) = λ h. (refl, refl)
+  timeout_kept Ended = λ h. (refl, refl)
+
+  polled_kept : (b : Bool) → OwnKept shared c (spec.poll_queue b shared number c)
+  polled_kept false = λ h. not_refused h
+  polled_kept true = λ h. not_refused h
+
+  poll_kept : (p : Phase) → OwnKept shared c (spec.poll_in p plan shared number c)
+  poll_kept Ready = λ h. (refl, refl)
+  poll_kept (Digits digits is_background) = λ h. (refl, refl)
+  poll_kept Pause = λ h. (refl, refl)
+  poll_kept (Queued queue goes_on has_timer) = polled_kept (should_leave shared.queues queue)
+  poll_kept (Talking queue agent goes_on) = λ h. (refl, refl)
+  poll_kept Ended = λ h. (refl, refl)
+
+  hang_up_kept : (p : Phase) → OwnKept shared c (spec.hang_up_in p plan shared number c)
+  hang_up_kept Ready = λ h. not_refused h
+  hang_up_kept (Digits digits is_background) = λ h. not_refused h
+  hang_up_kept Pause = λ h. not_refused h
+  hang_up_kept (Queued queue goes_on has_timer) = λ h. not_refused h
+  hang_up_kept (Talking queue agent goes_on) = λ h. not_refused h
+  hang_up_kept Ended = λ h. (refl, refl)
+
+  -- the row of each of a channel's events
+  own_kept : (rows : Rows) (asked : Asked) → OwnKept shared c (spec.own_row rows asked plan shared number c)
+  unfolding spec.step_row spec.timeout_row spec.poll_row spec.hang_up_row
+  own_kept rows asked_step = step_kept rows c.phase
+  own_kept rows (asked_digit digit) = digit_kept digit
+  own_kept rows asked_timeout = timeout_kept c.phase
+  own_kept rows asked_poll = poll_kept c.phase
+  own_kept rows asked_hangup = hang_up_kept c.phase
+
+-- what stands at a place, written there again
+set-get : {X : Type 0} (xs : List X) (k : ℕ) (x : X) → slice_get xs k ≡ Some x → slice_set xs k x ≡ xs
+set-get [] k x here = refl
+set-get (y ∷ ys) zero x here = ap (λ z. z ∷ ys) (sym (same_Some y x here))
+set-get (y ∷ ys) (suc k) x here = ap (λ zs. y ∷ zs) (set-get ys k x here)
+
+with_channel-same : (channels : List Channel) (number : ℕ) (c : Channel) → channel_at channels number ≡ Some c → with_channel channels number c ≡ channels
+with_channel-same channels number c here = by (number == 0) here
+  where
+    by : (b : Bool) → (if b then None else slice_get channels (number - 1)) ≡ Some c → slice_set channels (number - 1) c ≡ channels
+    by true here = absurd (none-some c here)
+    by false here = set-get channels (number - 1) c here
+
+-- a refusal leaves the world
+abbrev IsKept : World → World × Reply → Type 0
+IsKept w behind = is_refused behind.1 ≡ true → behind.0 ≡ w
+
+owned_kept : (w : World) (number : ℕ) (c : Channel) (own : Own) → channel_at w.channels number ≡ Some c → OwnKept w.shared c own → IsKept w (spec.owned w number own)
+owned_kept w number c own here kept h =
+    let same : (own.channel ≡ c) × (own.shared ≡ w.shared) = kept h in
+    λ i. record { plan = w.plan; channels = (ap (with_channel w.channels number) same.0 ∙ with_channel-same w.channels number c here) i; shared = same.1 i }
+
+asked_kept : (rows : Rows) (w : World) (number : ℕ) (asked : Asked) → IsKept w (spec.own_event w number (spec.own_row rows asked) (channel_at w.channels number))
+asked_kept rows w number asked = by (channel_at w.channels number) refl
+  where
+    by : (o : Option Channel) → channel_at w.channels number ≡ o → IsKept w (spec.own_event w number (spec.own_row rows asked) o)
+    by None here = λ h. refl
+    by (Some c) here = owned_kept w number c (spec.own_row rows asked w.plan w.shared number c) here (own_kept w.plan w.shared number c rows asked)
+
+-- an offer that is refused
+offer_by : (w : World) (queues : QueuesOf) (found : Result Rung OfferFault) → ((fault : OfferFault) → found ≡ Err fault → queues ≡ w.shared.queues)
+    → IsKept w (spec.agent_event w (spec.unmet (spec.with_queues w.shared queues) (spec.offer_reply found)))
+offer_by w queues (Err fault) same = λ h. ap (λ q. record w { shared = spec.with_queues w.shared q }) (same fault refl)
+offer_by w queues (Ok offered) same = λ h. not_refused h
+
+offer_kept : (w : World) (queue : List ℕ) → IsKept w (spec.agent_event w (spec.offered w.shared queue))
+unfolding spec.offered
+offer_kept w queue = offer_by w (offer_row w.shared.queues queue).0 (offer_row w.shared.queues queue).1 (offer-refused w.shared.queues queue)
+
+-- an answer that is refused, by the agent's state
+answer_by : (w : World) (a : ℕ) (s : AgentState)
+    → IsKept w (spec.agent_event w (spec.met (spec.with_queues w.shared (answer_row_at w.shared.queues a s).0) (answer_row_at w.shared.queues a s).1))
+answer_by w a Idle = λ h. refl
+answer_by w a (agent_rings queue channel) = λ h. not_refused h
+answer_by w a (agent_talks queue channel) = λ h. refl
+
+answer_kept : (w : World) (agent : List ℕ) → IsKept w (spec.agent_event w (spec.answered w.shared agent))
+unfolding spec.answered
+answer_kept w agent = answer_by w (agent_number w.shared.queues.agents agent) (state_at w.shared.queues.agents (agent_number w.shared.queues.agents agent))
+
+-- one who declines nothing
+decline_by : (w : World) (a : ℕ) (s : AgentState)
+    → IsKept w (spec.agent_event w (spec.unmet (spec.with_queues w.shared (decline_row_at w.shared.queues a s).0) (if (decline_row_at w.shared.queues a s).1 then Done else Refused NotRinging)))
+decline_by w a Idle = λ h. refl
+decline_by w a (agent_rings queue channel) = λ h. not_refused h
+decline_by w a (agent_talks queue channel) = λ h. refl
+
+decline_kept : (w : World) (agent : List ℕ) → IsKept w (spec.agent_event w (spec.declined w.shared agent))
+unfolding spec.declined
+decline_kept w agent = decline_by w (agent_number w.shared.queues.agents agent) (state_at w.shared.queues.agents (agent_number w.shared.queues.agents agent))
+
+-- one who is done with nothing
+done_by : (w : World) (a : ℕ) (s : AgentState)
+    → IsKept w (spec.agent_event w (spec.parted (spec.with_queues w.shared (done_row_at w.shared.queues a s).0) (done_row_at w.shared.queues a s).1))
+done_by w a Idle = λ h. refl
+done_by w a (agent_rings queue channel) = λ h. refl
+done_by w a (agent_talks queue channel) = λ h. not_refused h
+
+done_kept : (w : World) (agent : List ℕ) → IsKept w (spec.agent_event w (spec.agent_done w.shared agent))
+unfolding spec.agent_done
+done_kept w agent = done_by w (agent_number w.shared.queues.agents agent) (state_at w.shared.queues.agents (agent_number w.shared.queues.agents agent))
+
+-- a call that is not let in
+start_by : (w : World) (context exten caller : List ℕ) (b : Bool)
+    → IsKept w (spec.entered w (if◌then◌else◌ {A = spec.Entered} b
+    (record { channels = w.channels ++ spec.opened context exten caller ∷ []; reply = Started (length w.channels + 1) })
+    (record { channels = w.channels; reply = Refused NumbersSpent })))
+start_by w context exten caller true = λ h. not_refused h
+start_by w context exten caller false = λ h. refl
+
+start_kept : (w : World) (context exten caller : List ℕ) → IsKept w (spec.entered w (spec.started w.channels context exten caller))
+unfolding spec.started
+start_kept w context exten caller = start_by w context exten caller (nat_lt (length w.channels) most_channels)
+
+-- a refused event leaves the world as it was
+pub refused-kept : (rows : Rows) (w : World) (event : Event) → IsKept w (spec.event_row rows w event)
+refused-kept rows w (Start context exten caller) = start_kept w context exten caller
+refused-kept rows w (Step number) = asked_kept rows w number asked_step
+refused-kept rows w (Digit number digit) = asked_kept rows w number (asked_digit digit)
+refused-kept rows w (Timeout number) = asked_kept rows w number asked_timeout
+refused-kept rows w (Poll number) = asked_kept rows w number asked_poll
+refused-kept rows w (Hangup number) = asked_kept rows w number asked_hangup
+refused-kept rows w (Offer queue) = offer_kept w queue
+refused-kept rows w (Answer agent) = answer_kept w agent
+refused-kept rows w (Decline agent) = decline_kept w agent
+refused-kept rows w (AgentDone agent) = done_kept w agent
+
+-- so what an event answers says whether it changed anything
+pub refused_behind : (rows : Rows) (w behind : World) (event : Event) (result : Result Reply NoMemory)
+    → IfOk result (λ reply. spec.event_row rows w event ≡ (behind, reply)) → IfOk result (λ reply. is_refused reply ≡ true → behind ≡ w)
+refused_behind rows w behind event (Ok reply) row =
+    λ h. sym (ap (λ p. p.0) row) ∙ refused-kept rows w event (ap (λ p. is_refused p.1) row ∙ h)
+refused_behind rows w behind event (Err fault) row = tt
