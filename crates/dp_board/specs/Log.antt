@@ -56,6 +56,24 @@ is_parked_at (Some channel) = is_parked_in channel.phase
 abbrev pub is_parked : Log → ℕ → Bool
 is_parked log number = is_parked_at (channel_at log.world.channels number)
 
+-- whether a channel in this phase has ended
+abbrev pub has_ended_in : Phase → Bool
+has_ended_in Ready = false
+has_ended_in (Digits text is_background) = false
+has_ended_in Pause = false
+has_ended_in (Queued queue goes_on has_timer) = false
+has_ended_in (Talking queue agent goes_on) = false
+has_ended_in Ended = true
+
+-- whether a channel, if there is one, has ended
+abbrev pub has_ended_at : Option Channel → Bool
+has_ended_at None = false
+has_ended_at (Some channel) = has_ended_in channel.phase
+
+-- whether the channel of a number is there and has ended
+abbrev pub has_ended : Log → ℕ → Bool
+has_ended log number = has_ended_at (channel_at log.world.channels number)
+
 -- the world of an empty dialplan and no queues in which nothing has happened
 abbrev pub nothing_yet : World
 nothing_yet = opening (record { globals = []; contexts = [] }) no_queues

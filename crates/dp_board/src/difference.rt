@@ -12,11 +12,25 @@ pub struct Disagree {
     pub index: usize,
 }
 
+/// Whether two events are one.
+fn is_same_event(left: &Event, right: &Event) -> bool
+    ensures { IsTrue result ↔ (left.now ≡ right.now) }
+{
+    left == right
+}
+
+/// Whether two replies are one.
+fn is_same_reply(left: Reply, right: Reply) -> bool
+    ensures { IsTrue result ↔ (left ≡ right) }
+{
+    left == right
+}
+
 /// Whether a seat was told of the entry at a place.
 fn is_told(call: &(usize, Event, Reply), place: usize, entry: &Entry) -> bool
     ensures { IsTrue result ↔ (call.now ≡ spec.told_of place entry.now) }
 {
-    call.0 == place && call.1 == entry.event && call.2 == entry.reply
+    call.0 == place && is_same_event(&call.1, &entry.event) && is_same_reply(call.2, entry.reply)
 }
 
 /// Whether a record has the entry at a place as its item of this index.

@@ -14,8 +14,6 @@ mod session;
 mod settle;
 mod shared;
 mod sheet;
-#[cfg(test)]
-mod tests;
 
 pub use attend::{Attended, Gate, Why};
 pub use board::Board;

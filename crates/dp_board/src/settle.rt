@@ -81,10 +81,29 @@ fn sheets_of_all<S: Session>(
     }
 }
 
+/// The calls of all seats of a board in one history. The seats are the same behind it.
+fn history_of<T: AppTable, S: Session>(
+    board: Board<T, S>,
+    mut sheets: Vec<Sheet<S>>,
+    seats: &mut Vec<Seat<S>>,
+) -> History<T>
+    requires present { settled.AllPresent board seats.old.items × (board ≤ length seats.old.items) }
+    requires room { (sheets.items ≡ []) × (vec_len seats.old ≤ vec_capacity sheets) }
+    ensures whole { settled.IsWhole T.rows S.opening board seats.old.items result }
+    ensures same { seats.new.items ≡ seats.old.items }
+{
+    let shared = board.shared.into_inner();
+    let mut all = board.rest.into_inner().share;
+    join_parts(seats, &mut sheets, &mut all);
+    let history = shared.closed(&mut all);
+    split_parts(&mut sheets, seats, &mut all);
+    history
+}
+
 /// The history of a board whose seats are all there.
 fn close<T: AppTable, S: Session>(
     board: Board<T, S>,
-    mut sheets: Vec<Sheet<S>>,
+    sheets: Vec<Sheet<S>>,
     mut seats: Vec<Seat<S>>,
 ) -> Result<History<T>, Unsettled<T, S>>
     requires present { settled.AllPresent board seats.items × (board ≤ length seats.items) }
@@ -92,20 +111,13 @@ fn close<T: AppTable, S: Session>(
     ensures ok { IfOk result (λ history. settled.IsSettled T.rows S.opening board seats.items history) }
     ensures err { IfErr result (λ it. unsettled.IsUnsettled T.rows S.opening board seats.items it.fault it.back) }
 {
-    let shared = board.shared.into_inner();
-    let mut all = board.rest.into_inner().share;
-    let found = least_difference(shared.entries(), &seats);
-    join_parts(&mut seats, &mut sheets, &mut all);
-    let history = shared.closed(&mut all);
-    match found {
+    let history = history_of(board, sheets, &mut seats);
+    match least_difference(history.entries(), &seats) {
         None => Ok(history),
-        Some(found) => {
-            split_parts(&mut sheets, &mut seats, &mut all);
-            Err(Unsettled {
-                fault: SettleFault::Differs(found),
-                back: Back::Closed { history, seats },
-            })
-        }
+        Some(found) => Err(Unsettled {
+            fault: SettleFault::Differs(found),
+            back: Back::Closed { history, seats },
+        }),
     }
 }
 

@@ -1,7 +1,8 @@
 //! What lies under the lock of a board.
-ghost use Rattle.std.specs.Prelude.{◌≡◌, ◌++◌, ◌∷◌, [], length, IfOk, OnErr};
+ghost use Rattle.std.specs.Prelude.{◌≡◌, ◌++◌, ◌∷◌, ◌<◌, [], length, vec_len, vec_capacity, IfOk, OnOk, OnErr};
 ghost use Rattle.dp_board.specs.Log as log;
 ghost use Rattle.dp_board.specs.Sittings as sittings;
+ghost use Rattle.dp_machine.specs.Events as events;
 
 use crate::entry::Entry;
 use crate::history::History;
@@ -51,6 +52,85 @@ fn is_parked(phase: &Phase) -> bool
     }
 }
 
+/// Whether a channel in this phase has ended.
+fn is_ended(phase: &Phase) -> bool
+    ensures { result ≡ log.has_ended_in phase.now }
+{
+    match phase {
+        Phase::Ended => true,
+        Phase::Ready
+        | Phase::Digits { .. }
+        | Phase::Pause
+        | Phase::Queued { .. }
+        | Phase::Talking { .. } => false,
+    }
+}
+
+/// An event twice more: once for the entry of its call, and once for the record of the seat.
+#[derive(Drop)]
+struct Copies {
+    logged: Event,
+    told: Event,
+}
+
+/// Two copies of an event.
+fn copies_of(event: &Event) -> Result<Copies, NoMemory>
+    ensures { IfOk result (λ copies. copies ≡ record { logged = event.now; told = event.now }) }
+{
+    let logged = event.copy()?;
+    let told = event.copy()?;
+    Ok(Copies { logged, told })
+}
+
+/// Makes room for one more entry, and for one more call in a record.
+fn make_room(
+    entries: &mut Vec<Entry>,
+    told: &mut Vec<(usize, Event, Reply)>,
+) -> Result<(), NoMemory>
+    ensures entries { entries.new.items ≡ entries.old.items }
+    ensures told { told.new.items ≡ told.old.items }
+    ensures room { OnOk result ((vec_len entries.new < vec_capacity entries.new) × (vec_len told.new < vec_capacity told.new)) }
+{
+    entries.reserve(1)?;
+    told.reserve(1)
+}
+
+/// Copies an event, and makes room for its entry and for its place in a record.
+fn prepare(
+    entries: &mut Vec<Entry>,
+    told: &mut Vec<(usize, Event, Reply)>,
+    event: &Event,
+) -> Result<Copies, NoMemory>
+    ensures entries { entries.new.items ≡ entries.old.items }
+    ensures told { told.new.items ≡ told.old.items }
+    ensures room { OnOk result ((vec_len entries.new < vec_capacity entries.new) × (vec_len told.new < vec_capacity told.new)) }
+    ensures copies { IfOk result (λ copies. copies ≡ record { logged = event.now; told = event.now }) }
+{
+    make_room(entries, told)?;
+    let copies = copies_of(event)?;
+    Ok(copies)
+}
+
+/// Applies an event behind its copies, with room for what is written of it. Where memory is refused the machine is as before.
+fn apply_copied<T: AppTable>(
+    alloc: Global,
+    machine: &mut Machine<T>,
+    entries: &mut Vec<Entry>,
+    told: &mut Vec<(usize, Event, Reply)>,
+    event: Event,
+) -> Result<(Copies, Reply), NoMemory>
+    ensures entries { entries.new.items ≡ entries.old.items }
+    ensures told { told.new.items ≡ told.old.items }
+    ensures room { OnOk result ((vec_len entries.new < vec_capacity entries.new) × (vec_len told.new < vec_capacity told.new)) }
+    ensures copies { IfOk result (λ applied. applied.0 ≡ record { logged = event; told = event }) }
+    ensures row { IfOk result (λ applied. events.event_row T.rows machine.old event ≡ (machine.new, applied.1)) }
+    ensures err { OnErr result (machine.new ≡ machine.old) }
+{
+    let copies = prepare(entries, told, &event)?;
+    let reply = machine.apply(alloc, event)?;
+    Ok((copies, reply))
+}
+
 impl<T: AppTable, S: Session> Shared<T, S> {
     /// A machine that no seat has acted on.
     pub(crate) fn new(alloc: Global, machine: Machine<T>, calls: Book<S>) -> Self
@@ -81,11 +161,14 @@ impl<T: AppTable, S: Session> Shared<T, S> {
         ensures kept { IfOk result (λ told. seat.new ≡ sittings.with_call seat.old told.0 event told.1) }
         ensures err { OnErr result ((self.new ≡ self.old) × (seat.new ≡ seat.old)) }
     {
-        let logged = event.copy()?;
-        let told = event.copy()?;
-        self.entries.reserve(1)?;
-        seat.told.reserve(1)?;
-        let reply = self.machine.apply(alloc, event)?;
+        let (copies, reply) = apply_copied(
+            alloc,
+            &mut self.machine,
+            &mut self.entries,
+            &mut seat.told,
+            event,
+        )?;
+        let Copies { logged, told } = copies;
         let place = self.entries.len();
         self.entries.push_reserved(Entry {
             seat: seat.number,
@@ -108,8 +191,13 @@ impl<T: AppTable, S: Session> Shared<T, S> {
     }
 
     /// Whether the channel is there and has ended.
-    pub(crate) fn has_ended(&self, channel: u32) -> bool {
-        self.machine.phase(channel) == Some(&Phase::Ended)
+    pub(crate) fn has_ended(&self, channel: u32) -> bool
+        ensures { result ≡ log.has_ended self.now channel }
+    {
+        match self.machine.phase(channel) {
+            Some(phase) => is_ended(phase),
+            None => false,
+        }
     }
 
     /// The entries of the calls so far.
