@@ -1,7 +1,8 @@
 //! Reports on a dialplan: what it loads as, and which entry answers a call.
-ghost use Rattle.std.specs.Prelude.{◌≡◌, ◌++◌, ◌||◌, IfOk, OnOk, length};
+ghost use Rattle.std.specs.Prelude.{◌≡◌, ◌++◌, ◌||◌, IfOk, OnOk, length, false};
 ghost use Rattle.std.specs.List.{flat_map};
-ghost use Rattle.dp_commands.specs.Faults.{is_write_failed};
+ghost use Rattle.dp_conf.specs.Answers.{Answers};
+ghost use Rattle.dp_commands.specs.Faults.{is_write_failed, reason_of};
 ghost use Rattle.dp_commands.specs.Report as spec;
 
 use crate::block::Block;
@@ -68,33 +69,51 @@ fn check_text(alloc: Global, plan: &Dialplan, notes: &[Note]) -> Result<Block, N
     Ok(text)
 }
 
+/// What is reported of a dialplan's text, or its fault.
+#[tactic(auto, unfolding(crate::specs::Report::check_of))]
+fn checked(alloc: Global, plan: &[u8]) -> Result<Block, PbxFault>
+    ensures text { Answers (λ text. text.begun) reason_of result (spec.check_of plan.now) }
+    ensures quiet { is_write_failed result ≡ false }
+{
+    let (plan, notes) = Dialplan::load(alloc, plan)?;
+    let text = check_text(alloc, &plan, &notes)?;
+    Ok(text)
+}
+
 /// Loads a dialplan and writes what it loads as: a line `note LINE KIND` for each note, in the order of the lines, and
 /// then `ok C contexts E entries`. The status is 0. A context counts where only its header stands, and an include is no
 /// entry.
 ///
 /// A faulty dialplan has its first fault, and nothing is written. All is written at once; where that write fails,
 /// what was written stays written.
-#[tactic(auto, unfolding(crate::specs::Report::check_of))]
 pub fn check<W: WriteTold>(alloc: Global, plan: &[u8], writer: &mut W) -> Result<u8, PbxFault>
     ensures writes { spec.Reports (W.contents writer.old) (W.contents writer.new) (spec.check_of plan.now) result }
     ensures told { W.has_failed writer.new ≡ (W.has_failed writer.old || is_write_failed result) }
 {
-    let (plan, notes) = Dialplan::load(alloc, plan)?;
-    let text = check_text(alloc, &plan, &notes)?;
+    let text = checked(alloc, plan)?;
     writer.write_told(text.begun())?;
     Ok(0)
+}
+
+/// The canonical listing of a dialplan's text, or its fault.
+#[tactic(auto, unfolding(crate::specs::Report::list_of))]
+fn listed(alloc: Global, plan: &[u8]) -> Result<Vec<u8>, PbxFault>
+    ensures text { Answers (λ text. text.items) reason_of result (spec.list_of plan.now) }
+    ensures quiet { is_write_failed result ≡ false }
+{
+    let (plan, _) = Dialplan::load(alloc, plan)?;
+    let text = list(alloc, &plan)?;
+    Ok(text)
 }
 
 /// Loads a dialplan and writes its canonical listing. The status is 0; its notes are not written.
 ///
 /// A faulty dialplan has its first fault, and nothing is written. Where the write fails, what was written stays written.
-#[tactic(auto, unfolding(crate::specs::Report::list_of))]
 pub fn list_plan<W: WriteTold>(alloc: Global, plan: &[u8], writer: &mut W) -> Result<u8, PbxFault>
     ensures writes { spec.Reports (W.contents writer.old) (W.contents writer.new) (spec.list_of plan.now) result }
     ensures told { W.has_failed writer.new ≡ (W.has_failed writer.old || is_write_failed result) }
 {
-    let (plan, _) = Dialplan::load(alloc, plan)?;
-    let text = list(alloc, &plan)?;
+    let text = listed(alloc, plan)?;
     writer.write_told(&text)?;
     Ok(0)
 }
@@ -127,13 +146,44 @@ fn match_line(alloc: Global, plan: &Dialplan, found: Option<EntryId>) -> Result<
     Ok(line)
 }
 
+/// The line of the entry of a dialplan that answers a dialled text.
+fn answer_line(
+    alloc: Global,
+    plan: &Dialplan,
+    context: &[u8],
+    text: &[u8],
+    priority: Priority,
+) -> Result<Block, NoMemory>
+    ensures { IfOk result (λ line. line.begun ≡ spec.match_line plan.now (spec.answering plan.now context.now text.now priority)) }
+{
+    let found = find_answer(alloc, plan, context, text, priority)?;
+    let line = match_line(alloc, plan, found)?;
+    Ok(line)
+}
+
+/// The line of the entry that answers a dialled text, or the fault of the dialplan's text.
+#[tactic(auto, unfolding(crate::specs::Report::match_of))]
+fn matched(
+    alloc: Global,
+    plan: &[u8],
+    context: &[u8],
+    text: &[u8],
+    priority: Priority,
+) -> Result<Block, PbxFault>
+    ensures line { Answers (λ line. line.begun) reason_of result (spec.match_of plan.now context.now text.now priority) }
+    ensures quiet { is_write_failed result ≡ false }
+{
+    let (plan, _) = Dialplan::load(alloc, plan)?;
+    let line = answer_line(alloc, &plan, context, text, priority)?;
+    Ok(line)
+}
+
 /// Loads a dialplan and writes which of its entries answers the dialled text at the priority, where a call begins in the
 /// context: `CONTEXT,NAME,PRIORITY APP` with the entry's own context and name, or `none`. The status is 0.
 ///
 /// The context is searched first and then what it includes; of the names that match, the most specific one that has the
 /// priority answers (dialplan, pattern matching). A context that the dialplan lacks has no entries. A faulty dialplan
 /// has its first fault, and nothing is written. Where the write fails, what was written stays written.
-#[tactic(auto, unfolding(crate::specs::Report::match_of))]
 pub fn match_one<W: WriteTold>(
     alloc: Global,
     plan: &[u8],
@@ -146,9 +196,7 @@ pub fn match_one<W: WriteTold>(
         (spec.match_of plan.now context.now text.now priority) result }
     ensures told { W.has_failed writer.new ≡ (W.has_failed writer.old || is_write_failed result) }
 {
-    let (plan, _) = Dialplan::load(alloc, plan)?;
-    let found = find_answer(alloc, &plan, context, text, priority)?;
-    let line = match_line(alloc, &plan, found)?;
+    let line = matched(alloc, plan, context, text, priority)?;
     writer.write_told(line.begun())?;
     Ok(0)
 }
