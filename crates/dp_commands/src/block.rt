@@ -17,7 +17,7 @@ pub(crate) const ROOM: usize = 65_536;
 const LEAST_LEFT: usize = 4_096;
 
 /// Bytes that wait to be written: whole lines, and what is begun behind them.
-#[derive(Debug, Drop)]
+#[derive(Drop)]
 pub(crate) struct Block {
     bytes: Vec<u8>,
     // How many of the bytes are whole lines.

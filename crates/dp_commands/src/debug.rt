@@ -13,8 +13,8 @@ ghost use Rattle.dp_commands.specs.Trace.{reply_text};
 
 use crate::block::Block;
 use crate::fault::{Code, PbxFault};
-use crate::run::{begin, run_all};
-use crate::script::{ScriptLine, Turn, number_within};
+use crate::run::{Begun, begin, run_begun};
+use crate::script::{Turn, number_within};
 use crate::taker::Taker;
 use crate::trace::{push_number, push_reply};
 use dp_conf::WriteTold;
@@ -246,18 +246,16 @@ impl Watched {
     }
 }
 
-/// Runs the turns of all lines under a debugger with a break, and writes their trace. Nothing waits before.
+/// Takes the turns of a run that has begun under a debugger with a break, and writes their trace. Nothing waits before.
 fn debug_all<W: WriteTold>(
     alloc: Global,
     held: Break,
-    machine: &mut Machine<StandardApps>,
-    lines: &[ScriptLine],
-    block: &mut Block,
+    begun: &mut Begun,
     writer: &mut W,
 ) -> Result<u8, PbxFault>
-    requires { block.old.whole ≡ [] }
+    requires { begun.old.block.whole ≡ [] }
     ensures writes { spec.WritesDebug (W.contents writer.old) (W.contents writer.new)
-        (Ok (spec.debug_on held (run_on machine.old (turns_of lines.now)))) result }
+        (Ok (spec.debug_on held (run_on begun.old.machine (turns_of begun.old.lines.items)))) result }
     ensures told { W.has_failed writer.new ≡ (W.has_failed writer.old || is_write_failed result) }
 {
     let mut watched = Watched {
@@ -265,7 +263,7 @@ fn debug_all<W: WriteTold>(
         held,
         taken: 0,
     };
-    run_all(alloc, &mut watched, machine, lines, block, writer)
+    run_begun(alloc, &mut watched, begun, writer)
 }
 
 /// Runs a script on a dialplan with its queues under a debugger, and writes the trace as it goes, a block of lines at a time.
@@ -290,12 +288,5 @@ pub fn debug_script<W: WriteTold>(
 {
     let held = read_break(alloc, held)?;
     let mut begun = begin(alloc, plan, queues, script)?;
-    debug_all(
-        alloc,
-        held,
-        &mut begun.machine,
-        &begun.lines,
-        &mut begun.block,
-        writer,
-    )
+    debug_all(alloc, held, &mut begun, writer)
 }

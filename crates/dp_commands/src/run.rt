@@ -273,7 +273,7 @@ fn run_through<T: Taker, W: WriteTold>(
 }
 
 /// Takes the turns of all lines, and writes all of their lines. Nothing waits before.
-pub(crate) fn run_all<T: Taker, W: WriteTold>(
+fn run_all<T: Taker, W: WriteTold>(
     alloc: Global,
     taker: &mut T,
     machine: &mut Machine<StandardApps>,
@@ -290,19 +290,39 @@ pub(crate) fn run_all<T: Taker, W: WriteTold>(
     end(block, writer, ran)
 }
 
-/// Runs the turns of all lines as they stand, and writes their trace. Nothing waits before.
-fn run_plainly<W: WriteTold>(
+/// Takes the turns of a run that has begun, and writes all of their lines. Nothing waits before.
+pub(crate) fn run_begun<T: Taker, W: WriteTold>(
     alloc: Global,
-    machine: &mut Machine<StandardApps>,
-    lines: &[ScriptLine],
-    block: &mut Block,
+    taker: &mut T,
+    begun: &mut Begun,
     writer: &mut W,
 ) -> Result<u8, PbxFault>
-    requires { block.old.whole ≡ [] }
-    ensures writes { spec.Writes (W.contents writer.old) (W.contents writer.new) (Ok (spec.run_on machine.old (turns_of lines.now))) result }
+    requires { begun.old.block.whole ≡ [] }
+    ensures writes { WritesTurns T.step (λ at. T.last at.0) (taker.old, begun.old.machine) (turns_of begun.old.lines.items)
+        (W.contents writer.old) (W.contents writer.new) result }
     ensures told { W.has_failed writer.new ≡ (W.has_failed writer.old || is_write_failed result) }
 {
-    run_all(alloc, &mut Plain, machine, lines, block, writer)
+    run_all(
+        alloc,
+        taker,
+        &mut begun.machine,
+        &begun.lines,
+        &mut begun.block,
+        writer,
+    )
+}
+
+/// Takes the turns of a run that has begun as they stand, and writes their trace. Nothing waits before.
+fn run_plainly<W: WriteTold>(
+    alloc: Global,
+    begun: &mut Begun,
+    writer: &mut W,
+) -> Result<u8, PbxFault>
+    requires { begun.old.block.whole ≡ [] }
+    ensures writes { spec.Writes (W.contents writer.old) (W.contents writer.new) (Ok (spec.run_on begun.old.machine (turns_of begun.old.lines.items))) result }
+    ensures told { W.has_failed writer.new ≡ (W.has_failed writer.old || is_write_failed result) }
+{
+    run_begun(alloc, &mut Plain, begun, writer)
 }
 
 /// Runs a script on a dialplan with its queues, and writes the trace as it goes, a block of lines at a time. The status is 1 where a turn
@@ -322,11 +342,5 @@ pub fn run_script<W: WriteTold>(
     ensures told { W.has_failed writer.new ≡ (W.has_failed writer.old || is_write_failed result) }
 {
     let mut begun = begin(alloc, plan, queues, script)?;
-    run_plainly(
-        alloc,
-        &mut begun.machine,
-        &begun.lines,
-        &mut begun.block,
-        writer,
-    )
+    run_plainly(alloc, &mut begun, writer)
 }

@@ -5,4 +5,5 @@ use Rattle.dp_commands.proofs.run.run_plainly.Goals as goal
 -- the turns are taken plainly
 pub returns-clause-writes : goal.returns-clause-writes
 returns-clause-writes g c =
-    Writes_plainly _ c.args.machine.now (turns_of c.args.lines.now) (g.W.WriteTold.contents c.args.writer.now) (g.W.WriteTold.contents c.run_all.new.writer) c.run_all.result c.run_all.ensures.writes
+    let begun = c.args.begun.now in
+    Writes_plainly _ begun.machine (turns_of begun.lines.items) (g.W.WriteTold.contents c.args.writer.now) (g.W.WriteTold.contents c.run_begun.new.writer) c.run_begun.result c.run_begun.ensures.writes
