@@ -17,10 +17,10 @@ ghost use Rattle.dp_commands.specs.declared.script.Turn.TheVariants as turns;
 
 use crate::block::Block;
 use crate::fault::{Code, PbxFault};
-use crate::run::begin;
+use crate::run::{Begun, begin};
 use crate::script::{ScriptLine, Turn};
 use crate::trace::push_number;
-use dp_board::{Board, Entry, Gate, History, Seat, Session};
+use dp_board::{Board, Entry, Gate, History, Seat, Session, Unsettled};
 use dp_conf::WriteTold;
 use dp_machine::{Event, Machine};
 use dp_plan::NoMemory;
@@ -180,6 +180,16 @@ fn act_at_once<S: Session + Send + Sync, R: Threads + Wait + Sync, G: Gate + Syn
     for_each_mut(rt, seats, count, &give);
 }
 
+/// Why a board was not settled. What was handed back is let go.
+fn settle_fault<S: Session>(unsettled: Unsettled<StandardApps, S>) -> PbxFault
+    ensures { spec.is_settle_fault result ≡ true }
+{
+    PbxFault::Coded {
+        code: Code::Settle(unsettled.fault),
+        line: None,
+    }
+}
+
 /// The history of a board that was settled, or why it was not.
 fn settled<S: Session>(
     alloc: Global,
@@ -191,10 +201,7 @@ fn settled<S: Session>(
 {
     match board.settle(alloc, seats) {
         Ok(history) => Ok(history),
-        Err(unsettled) => Err(PbxFault::Coded {
-            code: Code::Settle(unsettled.fault),
-            line: None,
-        }),
+        Err(unsettled) => Err(settle_fault(unsettled)),
     }
 }
 
@@ -221,6 +228,13 @@ fn act_and_settle<S: Session + Send + Sync, R: Threads + Wait + Sync, G: Gate + 
     }
 }
 
+/// Why a board did not open. The machine that was handed back is let go.
+fn open_fault(_back: (Machine<StandardApps>, NoMemory)) -> PbxFault
+    ensures { spec.is_settle_fault result ≡ true }
+{
+    PbxFault::NoMemory
+}
+
 /// The history of events that are dealt to so many seats of a board over the machine.
 fn history_of<S: Session + Send + Sync, R: Threads + Wait + Sync, G: Gate + Sync>(
     rt: &R,
@@ -240,7 +254,7 @@ fn history_of<S: Session + Send + Sync, R: Threads + Wait + Sync, G: Gate + Sync
 {
     match Board::<StandardApps, S>::open(alloc, blank, machine, count) {
         Ok((board, seats)) => act_and_settle(rt, alloc, board, seats, events, gate),
-        Err(_) => Err(PbxFault::NoMemory),
+        Err(back) => Err(open_fault(back)),
     }
 }
 
@@ -265,29 +279,45 @@ fn has_refusal(entries: &[Entry]) -> bool
     entries.iter().any(|entry| entry.reply.is_refusal())
 }
 
-/// Gives the machine the calls that come in first. Answers the events behind them, and whether a call was refused.
+/// What is left to share behind the calls that come in first: the events behind them, and whether a call was refused.
+#[derive(Drop)]
+struct Given {
+    events: Vec<Event>,
+    is_refused: bool,
+}
+
+/// Gives the machine the calls that come in first.
 fn give_calls(
     alloc: Global,
     machine: &mut Machine<StandardApps>,
     lines: &[ScriptLine],
-) -> Result<(Vec<Event>, bool), NoMemory>
+) -> Result<Given, NoMemory>
     ensures world { OnOk result (machine.new ≡ world_after standard_rows machine.old (spec.leading_calls (spec.events_in (turns_of lines.now)))) }
-    ensures events { IfOk result (λ given. given.0.items ≡ spec.shared_events (spec.events_in (turns_of lines.now))) }
-    ensures refused { IfOk result (λ given. given.1 ≡ list_any refuses (replies_to standard_rows machine.old (spec.leading_calls (spec.events_in (turns_of lines.now))))) }
+    ensures events { IfOk result (λ given. given.events.items ≡ spec.shared_events (spec.events_in (turns_of lines.now))) }
+    ensures refused { IfOk result (λ given. given.is_refused ≡ list_any refuses (replies_to standard_rows machine.old (spec.leading_calls (spec.events_in (turns_of lines.now))))) }
 {
     let mut calls = events_of(alloc, lines)?;
     let events = calls.split_off(leading_calls(&calls))?;
-    let refused = run_events(alloc, machine, &calls)?;
-    Ok((events, refused))
+    let is_refused = run_events(alloc, machine, &calls)?;
+    Ok(Given { events, is_refused })
 }
 
-/// What a run in threads has before its board opens: the machine behind the calls that come in first, the events behind them,
-/// and whether a call was refused.
+/// What a run in threads has before its board opens: the machine behind the calls that come in first, and what these leave.
 #[derive(Drop)]
 struct Opened {
     machine: Machine<StandardApps>,
-    events: Vec<Event>,
-    is_refused: bool,
+    given: Given,
+}
+
+/// The run that has begun and was given the calls that come in first.
+fn opened_of(begun: Begun, given: Given) -> Opened
+    ensures machine { result.machine ≡ begun.machine }
+    ensures given { result.given ≡ given }
+{
+    Opened {
+        machine: begun.machine,
+        given,
+    }
 }
 
 /// What a run in threads has before its board opens.
@@ -297,17 +327,13 @@ fn begin_shared(
     queues: Option<&[u8]>,
     script: &[u8],
 ) -> Result<Opened, PbxFault>
-    ensures begun { Answers (λ opened. (opened.machine, opened.events.items, opened.is_refused)) reason_of result
+    ensures begun { Answers (λ opened. (opened.machine, opened.given.events.items, opened.given.is_refused)) reason_of result
         (spec.begun_of (run.run_of plan.now (option_map (λ text. text.now) queues.entry) script.now)) }
     ensures quiet { is_write_failed result ≡ false }
 {
     let mut begun = begin(alloc, plan, queues, script)?;
-    let (events, is_refused) = give_calls(alloc, &mut begun.machine, &begun.lines)?;
-    Ok(Opened {
-        machine: begun.machine,
-        events,
-        is_refused,
-    })
+    let given = give_calls(alloc, &mut begun.machine, &begun.lines)?;
+    Ok(opened_of(begun, given))
 }
 
 /// Adds the line of a settled history to what waits.
@@ -358,6 +384,41 @@ fn report<W: WriteTold>(
     Ok(u8::from(is_refused || has_refusal(history.entries())))
 }
 
+/// The history of a run in threads whose board is yet to open.
+fn share<G: Gate + Sync, R: Threads + Wait + Sync>(
+    rt: &R,
+    alloc: Global,
+    opened: Opened,
+    count: u32,
+    gate: &G,
+) -> Result<History<StandardApps>, PbxFault>
+    requires some { 0 < count }
+    ensures dealt { IfOk result (λ history. spec.IsDealt opened.machine count opened.given.events.items history) }
+    ensures code { IfErr result (λ fault. spec.is_settle_fault fault ≡ true) }
+{
+    let blank = Blank::new(u64::from(count) + 1);
+    let machine = opened.machine;
+    history_of::<Brand, _, _>(rt, alloc, blank, machine, count, &opened.given.events, gate)
+}
+
+/// A history and the status of its run, where its line is written.
+fn conclude<W: WriteTold>(
+    alloc: Global,
+    history: History<StandardApps>,
+    seats: u32,
+    is_refused: bool,
+    writer: &mut W,
+) -> Result<(u8, History<StandardApps>), PbxFault>
+    ensures ok { OnOk result (Appends (W.contents writer.old) (W.contents writer.new) (spec.settled_line seats (length history.entries))) }
+    ensures history { IfOk result (λ ran. ran.1 ≡ history) }
+    ensures status { IfOk result (λ ran. ran.0 ≡ run.status_by (is_refused || list_any (λ entry. refuses entry.reply) history.entries)) }
+    ensures err { IfErr result (spec.IsUnwritten seats (W.contents writer.old) (W.contents writer.new)) }
+    ensures told { W.has_failed writer.new ≡ (W.has_failed writer.old || is_write_failed result) }
+{
+    let status = report(alloc, &history, seats, is_refused, writer)?;
+    Ok((status, history))
+}
+
 /// Runs a script on a dialplan with its queues in so many threads, and writes `settled N seats M calls`: so many seats, and how many
 /// calls their history has. With 0 threads it runs in one. The calls that the script begins with come in first; then a board opens, and
 /// the events behind these are dealt to its seats in turn, each of which gives its own in a thread, between the calls of the gate.
@@ -380,17 +441,8 @@ pub fn run_threads<G: Gate + Sync, W: WriteTold, R: Threads + Wait + Sync>(
 {
     let opened = begin_shared(alloc, plan, queues, script)?;
     let count = threads.max(1);
-    let blank = Blank::new(u64::from(count) + 1);
-    let machine = opened.machine;
-    let history = history_of::<Brand, _, _>(
-        rt,
-        alloc,
-        blank,
-        machine,
-        count,
-        &opened.events,
-        gate,
-    )?;
-    let status = report(alloc, &history, count, opened.is_refused, writer)?;
-    Ok((status, history))
+    let is_refused = opened.given.is_refused;
+    let history = share(rt, alloc, opened, count, gate)?;
+    let ran = conclude(alloc, history, count, is_refused, writer)?;
+    Ok(ran)
 }

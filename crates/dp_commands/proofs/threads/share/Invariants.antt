@@ -1,4 +1,4 @@
-use Rattle.dp_commands.proofs.threads.run_threads.Given as goal
+use Rattle.dp_commands.proofs.threads.share.Given as goal
 
 abbrev pub ghosts-history_of-S-Session : goal.ghosts-history_of-S-Session
 ghosts-history_of-S-Session g a = record { opening = a.machine }
