@@ -2,4 +2,5 @@ mod DebugLemmas
 mod JoinedLemmas
 mod ScriptLemmas
 mod StreamsLemmas
+mod TextsLemmas
 mod ThreadsLemmas

@@ -7,13 +7,11 @@ ghost use Rattle.dp_machine.specs.Events.{event_row};
 ghost use Rattle.dp_table.specs.Standard.{standard_rows};
 ghost use Rattle.dp_commands.specs.Debug as spec;
 ghost use Rattle.dp_commands.specs.Faults.{is_write_failed, reason_of};
-ghost use Rattle.dp_commands.specs.Run.{run_of, run_on};
-ghost use Rattle.dp_commands.specs.Script.{turns_of};
 ghost use Rattle.dp_commands.specs.Trace.{reply_text};
 
 use crate::block::Block;
 use crate::fault::{Code, PbxFault};
-use crate::run::{Begun, begin, run_begun};
+use crate::run::run_texts;
 use crate::script::{Turn, number_within};
 use crate::taker::Taker;
 use crate::trace::{push_number, push_reply};
@@ -246,24 +244,15 @@ impl Watched {
     }
 }
 
-/// Takes the turns of a run that has begun under a debugger with a break, and writes their trace. Nothing waits before.
-fn debug_all<W: WriteTold>(
-    alloc: Global,
-    held: Break,
-    begun: &mut Begun,
-    writer: &mut W,
-) -> Result<u8, PbxFault>
-    requires { begun.old.block.whole ≡ [] }
-    ensures writes { spec.WritesDebug (W.contents writer.old) (W.contents writer.new)
-        (Ok (spec.debug_on held (run_on begun.old.machine (turns_of begun.old.lines.items)))) result }
-    ensures told { W.has_failed writer.new ≡ (W.has_failed writer.old || is_write_failed result) }
+/// A debugger that has a break, before the first event.
+fn watch(alloc: Global, held: Break) -> Watched
+    ensures { result ≡ record { held = held; taken = 0 } }
 {
-    let mut watched = Watched {
+    Watched {
         debugger: Debugger::new(alloc),
         held,
         taken: 0,
-    };
-    run_begun(alloc, &mut watched, begun, writer)
+    }
 }
 
 /// Runs a script on a dialplan with its queues under a debugger, and writes the trace as it goes, a block of lines at a time.
@@ -287,6 +276,6 @@ pub fn debug_script<W: WriteTold>(
     ensures told { W.has_failed writer.new ≡ (W.has_failed writer.old || is_write_failed result) }
 {
     let held = read_break(alloc, held)?;
-    let mut begun = begin(alloc, plan, queues, script)?;
-    debug_all(alloc, held, &mut begun, writer)
+    let mut watched = watch(alloc, held);
+    run_texts(alloc, plan, queues, script, &mut watched, writer)
 }

@@ -9,6 +9,7 @@ ghost use Rattle.dp_commands.specs.Block.{Flows, waiting};
 ghost use Rattle.dp_commands.specs.Faults.{is_write_failed, reason_of};
 ghost use Rattle.dp_commands.specs.Run as spec;
 ghost use Rattle.dp_commands.specs.Script.{line_turns, turns_of};
+ghost use Rattle.dp_commands.specs.Texts.{WritesRun};
 ghost use Rattle.dp_commands.specs.Trace.{turned};
 ghost use Rattle.dp_commands.specs.Turns.{Streams, StreamsAll, WritesTurns};
 
@@ -291,15 +292,15 @@ fn run_all<T: Taker, W: WriteTold>(
 }
 
 /// Takes the turns of a run that has begun, and writes all of their lines. Nothing waits before.
-pub(crate) fn run_begun<T: Taker, W: WriteTold>(
+fn run_begun<T: Taker, W: WriteTold>(
     alloc: Global,
     taker: &mut T,
     begun: &mut Begun,
     writer: &mut W,
 ) -> Result<u8, PbxFault>
     requires { begun.old.block.whole ≡ [] }
-    ensures writes { WritesTurns T.step (λ at. T.last at.0) (taker.old, begun.old.machine) (turns_of begun.old.lines.items)
-        (W.contents writer.old) (W.contents writer.new) result }
+    ensures writes { WritesRun T.step (λ at. T.last at.0) taker.old (W.contents writer.old) (W.contents writer.new)
+        (Ok (spec.run_on begun.old.machine (turns_of begun.old.lines.items))) result }
     ensures told { W.has_failed writer.new ≡ (W.has_failed writer.old || is_write_failed result) }
 {
     run_all(
@@ -312,17 +313,21 @@ pub(crate) fn run_begun<T: Taker, W: WriteTold>(
     )
 }
 
-/// Takes the turns of a run that has begun as they stand, and writes their trace. Nothing waits before.
-fn run_plainly<W: WriteTold>(
+/// Begins the run of the texts, takes its turns, and writes all of their lines.
+pub(crate) fn run_texts<T: Taker, W: WriteTold>(
     alloc: Global,
-    begun: &mut Begun,
+    plan: &[u8],
+    queues: Option<&[u8]>,
+    script: &[u8],
+    taker: &mut T,
     writer: &mut W,
 ) -> Result<u8, PbxFault>
-    requires { begun.old.block.whole ≡ [] }
-    ensures writes { spec.Writes (W.contents writer.old) (W.contents writer.new) (Ok (spec.run_on begun.old.machine (turns_of begun.old.lines.items))) result }
+    ensures writes { WritesRun T.step (λ at. T.last at.0) taker.old (W.contents writer.old) (W.contents writer.new)
+        (spec.run_of plan.now (option_map (λ text. text.now) queues.entry) script.now) result }
     ensures told { W.has_failed writer.new ≡ (W.has_failed writer.old || is_write_failed result) }
 {
-    run_begun(alloc, &mut Plain, begun, writer)
+    let mut begun = begin(alloc, plan, queues, script)?;
+    run_begun(alloc, taker, &mut begun, writer)
 }
 
 /// Runs a script on a dialplan with its queues, and writes the trace as it goes, a block of lines at a time. The status is 1 where a turn
@@ -341,6 +346,5 @@ pub fn run_script<W: WriteTold>(
     ensures writes { spec.Writes (W.contents writer.old) (W.contents writer.new) (spec.run_of plan.now (option_map (λ text. text.now) queues.entry) script.now) result }
     ensures told { W.has_failed writer.new ≡ (W.has_failed writer.old || is_write_failed result) }
 {
-    let mut begun = begin(alloc, plan, queues, script)?;
-    run_plainly(alloc, &mut begun, writer)
+    run_texts(alloc, plan, queues, script, &mut Plain, writer)
 }

@@ -1,0 +1,22 @@
+use Rattle.std.proofs.Common.{List, ℕ, Option, Result, Ok, subst, sym}
+use Rattle.std.specs.Option.{option_map}
+use Rattle.dp_conf.specs.Answers.{◌>>=◌}
+use Rattle.dp_debug.specs.declared.breaks.Break.{Break}
+use Rattle.dp_commands.specs.Debug.{WritesDebug, break_of, debug_of, debug_on, debugged, end_text}
+use Rattle.dp_commands.specs.Run.{run_of}
+use Rattle.dp_commands.specs.Texts.{WritesRun}
+use Rattle.dp_commands.specs.declared.fault.PbxFault.{PbxFault}
+use Rattle.dp_commands.proofs.TextsLemmas.{WritesDebug_run}
+use Rattle.dp_commands.proofs.debug.debug_script.Goals as goal
+
+-- the turns are taken under a debugger with the break that was read
+pub returns-clause-writes : goal.returns-clause-writes
+unfolding debug_of
+returns-clause-writes g c =
+    let old = g.W.WriteTold.contents c.args.writer.now in
+    let new = g.W.WriteTold.contents c.run_texts.new.writer in
+    let run = run_of c.args.plan.now (option_map (λ text. text.now) c.args.queues) c.args.script.now in
+    let held = c.in_ok-held.held in
+    subst (λ (found : Result Break PbxFault). WritesDebug old new (found >>= λ it. run >>= λ all. Ok (debug_on it all)) c.run_texts.result) (sym c.in_ok-held.ensures.held)
+    (WritesDebug_run held run old new c.run_texts.result
+    (subst (λ watch. WritesRun debugged (λ at. end_text at.0) watch old new run c.run_texts.result) c.watch-watched.ensures c.run_texts.ensures.writes))
