@@ -2,7 +2,7 @@
 use Rattle.std.proofs.Common.{ℕ, List, [], Option, Result, Ok, Err}
 use Rattle.dp_conf.specs.Answers.{◌>>=◌}
 use Rattle.dp_debug.specs.declared.breaks.Break.{Break}
-use Rattle.dp_commands.specs.Debug.{DebugRun, WritesDebug, debug_on, debugged, end_text}
+use Rattle.dp_commands.specs.Debug.{WritesDebug, debug_on, debugged, end_text}
 use Rattle.dp_commands.specs.Run.{Run, Writes}
 use Rattle.dp_commands.specs.Texts.{WritesRun}
 use Rattle.dp_commands.specs.Turns.{plainly}

@@ -1,8 +1,8 @@
-use Rattle.std.proofs.Common.{List, ℕ, Option, Result, Ok, subst, sym}
+use Rattle.std.proofs.Common.{Result, Ok, subst, sym}
 use Rattle.std.specs.Option.{option_map}
 use Rattle.dp_conf.specs.Answers.{◌>>=◌}
 use Rattle.dp_debug.specs.declared.breaks.Break.{Break}
-use Rattle.dp_commands.specs.Debug.{WritesDebug, break_of, debug_of, debug_on, debugged, end_text}
+use Rattle.dp_commands.specs.Debug.{WritesDebug, debug_of, debug_on, debugged, end_text}
 use Rattle.dp_commands.specs.Run.{run_of}
 use Rattle.dp_commands.specs.Texts.{WritesRun}
 use Rattle.dp_commands.specs.declared.fault.PbxFault.{PbxFault}
