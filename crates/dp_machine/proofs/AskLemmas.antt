@@ -1,17 +1,21 @@
 -- The event of a channel that stands at an index.
-use Rattle.std.proofs.Common.{◌≡◌, ℕ, ◌+◌, ◌-◌, ◌<◌, ◌==◌, Bool, true, false, List, Some, None, Result, Ok, Err, IfOk, OnOk, OnErr, get_or, length, slice_get, slice_set, if◌then◌else◌, refl, sym, ap, ◌∙◌, arith, subst}
+use Rattle.std.proofs.Common.{◌≡◌, ℕ, ◌+◌, ◌-◌, ◌<◌, ◌==◌, Bool, true, false, List, Some, None, Result, Ok, Err, OnOk, get_or, length, slice_get, slice_set, if◌then◌else◌, refl, sym, ap, ◌∙◌, arith, subst}
+use Rattle.std.proofs.lemmas.List.{set-get_or}
 use Rattle.std.proofs.lemmas.Option.{same_Some, slice_get_read}
-use Rattle.dp_plan.specs.Plan.{PlanOf}
-use Rattle.dp_machine.specs.Events.{Own, own_event, owned, is_refused}
-use Rattle.dp_machine.specs.GoodWorld.{IsGoodWorld, IsSoundIn, IsSoundOwn, MayAct}
-use Rattle.dp_machine.specs.World.{channel_at, world_of}
+use Rattle.std.specs.declared.alloc.AllocError.{AllocError as NoMemory}
+use Rattle.dp_app.specs.Rows.{Rows}
+use Rattle.dp_machine.specs.Events.{Own, asked_event, own_event, own_row, owned, is_refused}
+use Rattle.dp_machine.specs.Follows.{Follows, Makes}
+use Rattle.dp_machine.specs.GoodWorld.{IsGoodWorld, IsSoundAsked, IsSoundBehind, MayAct}
+use Rattle.dp_machine.specs.World.{World, channel_at, world_in, world_of}
+use Rattle.dp_machine.specs.declared.asked.Asked.{Asked}
 use Rattle.dp_machine.specs.declared.channel.Channel.{Channel}
+use Rattle.dp_machine.specs.declared.exchange.Exchange.{Exchange}
 use Rattle.dp_machine.specs.declared.reply.Reply.{Reply}
-use Rattle.dp_machine.specs.declared.shared.Shared.{Shared}
 use Rattle.dp_machine.proofs.TieLemmas.{may_act}
 use borrow.Author.Tests.{eqb-true}
 
-module _ (plan : PlanOf) (channels : List Channel) (shared : Shared) (number index : ℕ) (c : Channel)
+module _ (before : Exchange) (channels : List Channel) (number index : ℕ) (c : Channel)
     (at : index + 1 ≡ number) (within : index < length channels) (value : c ≡ get_or channels index c) where
   before_number : number - 1 ≡ index
   before_number = omega (arith, at)
@@ -25,43 +29,51 @@ module _ (plan : PlanOf) (channels : List Channel) (shared : Shared) (number ind
       by false other = ap (slice_get channels) before_number ∙ slice_get_read channels (length channels) index c refl within value
 
   -- it may act in a good world
-  pub acts-at : IsGoodWorld (world_of plan channels shared) → MayAct shared number c
-  acts-at good = may_act (world_of plan channels shared) number c good here
+  pub acts-at : IsGoodWorld (world_in before channels) → MayAct before.shared number c
+  acts-at good = may_act (world_in before channels) number c good here
 
-  module _ {E : Type 0} (row : PlanOf → Shared → ℕ → Channel → Own) (d : Channel) (after : Shared) (r : Result Reply E) where
+  -- the channels with it written back as it was
+  kept-at : (d : Channel) → d ≡ c → slice_set channels index d ≡ channels
+  kept-at d same = ap (slice_set channels index) (same ∙ value) ∙ set-get_or channels index c
+
+  module _ (rows : Rows) (asked : Asked) (d : Channel) (after : Exchange) where
+    -- the world before the event
+    abbrev w : World
+    w = world_in before channels
+
+    -- the world behind it
+    abbrev behind : World
+    behind = world_in after (slice_set channels index d)
+
+    -- what its row says of the channel
+    abbrev own : Own
+    own = own_row rows asked before.plan before.shared number c
+
+    -- what its row says of the world
+    asked_here : asked_event rows w number asked ≡ owned w number own
+    asked_here = ap (own_event w number (own_row rows asked)) here
+
     -- what its row makes of it, it makes of the world
-    pub ok-at : IfOk r (λ reply. row plan shared number c ≡ record { channel = d; shared = after; reply = reply })
-        → IfOk r (λ reply. own_event (world_of plan channels shared) number row (channel_at channels number)
-        ≡ (world_of plan (slice_set channels index d) after, reply))
-    ok-at ran = by r ran
-      where
-        by : (r : Result Reply E) → IfOk r (λ reply. row plan shared number c ≡ record { channel = d; shared = after; reply = reply })
-            → IfOk r (λ reply. own_event (world_of plan channels shared) number row (channel_at channels number)
-            ≡ (world_of plan (slice_set channels index d) after, reply))
-        by (Ok reply) ran =
-            ap (own_event (world_of plan channels shared) number row) here
-            ∙ (ap (owned (world_of plan channels shared) number) ran
-            ∙ ap (λ n. (world_of plan (slice_set channels n d) after, reply)) before_number)
-        by (Err e) ran = tt
+    pub makes-at : (r : Result Reply NoMemory) → Follows own before after c d r → Makes (asked_event rows w number asked) w behind r
+    makes-at (Ok reply) follows = record {
+      ok =
+          let written : slice_set channels (number - 1) d ≡ slice_set channels index d = ap (λ i. slice_set channels i d) before_number in
+          let world : world_of before.plan (slice_set channels (number - 1) d) after.shared ≡ behind
+          = (λ i. world_of (sym follows.plan i) (written i) after.shared) in
+          asked_here ∙ (ap (owned w number) follows.ok ∙ ap (λ (v : World). (v, reply)) world);
+      err = tt;
+      refused = tt;
+    }
+    makes-at (Err e) follows = record {
+      ok = tt;
+      err = λ i. world_of (follows.plan i) (kept-at d follows.channel i) (follows.shared i);
+      refused = ap (λ o. is_refused o.1) asked_here ∙ follows.refused;
+    }
 
-    -- the channel behind it is sound
-    pub sound-at : IfOk r (λ reply. row plan shared number c ≡ record { channel = d; shared = after; reply = reply }) → IsSoundIn d.phase d
-        → OnOk r ((e : Channel) → channel_at channels number ≡ Some e → IsSoundOwn (row plan shared number e))
-    sound-at ran sound = by r ran
-      where
-        by : (r : Result Reply E) → IfOk r (λ reply. row plan shared number c ≡ record { channel = d; shared = after; reply = reply })
-            → OnOk r ((e : Channel) → channel_at channels number ≡ Some e → IsSoundOwn (row plan shared number e))
-        by (Ok reply) ran = λ e found.
-            let is : c ≡ e = same_Some c e (sym here ∙ found) in
-            subst (λ x. IsSoundOwn (row plan shared number x)) is (subst IsSoundOwn (sym ran) sound)
-        by (Err x) ran = tt
-
-    -- where memory was wanting it was not refused
-    pub refused-at : OnErr r (is_refused (row plan shared number c).reply ≡ false)
-        → OnErr r (is_refused (own_event (world_of plan channels shared) number row (channel_at channels number)).1 ≡ false)
-    refused-at taken = by r taken
-      where
-        by : (r : Result Reply E) → OnErr r (is_refused (row plan shared number c).reply ≡ false)
-            → OnErr r (is_refused (own_event (world_of plan channels shared) number row (channel_at channels number)).1 ≡ false)
-        by (Ok reply) taken = tt
-        by (Err x) taken = ap (λ o. is_refused (own_event (world_of plan channels shared) number row o).1) here ∙ taken
+    -- behind a step the channel is sound
+    pub sound-at : (r : Result Reply NoMemory) → Follows own before after c d r → IsSoundBehind asked d → OnOk r (IsSoundAsked rows w number asked)
+    sound-at (Ok reply) follows sound = λ e found.
+        let is : c ≡ e = same_Some c e (sym here ∙ found) in
+        subst (λ x. IsSoundBehind asked (own_row rows asked before.plan before.shared number x).channel) is
+        (subst (λ (o : Own). IsSoundBehind asked o.channel) (sym follows.ok) sound)
+    sound-at (Err x) follows sound = tt

@@ -4,6 +4,7 @@ pub mod IsolationRows
 pub mod LookupLemmas
 pub mod RefusedLemmas
 pub mod ReplayLemmas
+pub mod ServedLemmas
 pub mod StepLemmas
 pub mod StepRows
 pub mod TieApps
@@ -14,5 +15,4 @@ pub mod TieQueues
 pub mod TieRows
 pub mod TieServed
 pub mod TieSteps
-pub mod WaitingLemmas
 pub mod WaitingRows

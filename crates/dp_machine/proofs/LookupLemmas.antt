@@ -1,19 +1,62 @@
--- What is known of the entry that a look-up finds.
-use Rattle.std.proofs.Common.{◌≡◌, ℕ, List, Option, Some, MatchOption, sym, ap, subst, ◌∙◌}
+-- What is known of the entry whose numbers a look-up answers.
+use Rattle.std.proofs.Common.{◌≡◌, ◌≤◌, ℕ, Option, Some, None, MatchOption, IsSome, refl, sym, ap, subst, ◌∙◌}
 use Rattle.std.proofs.lemmas.Option.{same_Some}
+use Rattle.std.specs.Option.{option_and_then, option_map}
 use Rattle.dp_lookup.specs.Found.{HasPriority, NoneAsked, IsFound}
-use Rattle.dp_lookup.specs.FoundEntry.{found_entry}
+use Rattle.dp_lookup.specs.SearchOrder.{search_order}
 use Rattle.dp_lookup.proofs.FoundLemmas.{found_entry-least}
 use Rattle.dp_plan.specs.Lookup.{entry_at}
 use Rattle.dp_plan.specs.Plan.{PlanOf}
+use Rattle.dp_plan.specs.Priority.{IsPriority, most_priority}
 use Rattle.dp_plan.specs.declared.entry.Entry.{Entry}
 use Rattle.dp_plan.specs.declared.entry.EntryId.{EntryId}
+use Rattle.dp_app.specs.declared.place.Place.{Place}
+use Rattle.dp_machine.specs.Found.{Located, entry_found, id_at, id_found, located}
+
+-- it is the least of those that are asked for
+least_at : (plan : PlanOf) (place : Place) (id : EntryId) → id_at plan place ≡ Some id
+    → IsFound plan (search_order plan place.context) place.exten place.priority id
+unfolding id_found
+least_at plan place id found =
+    subst (λ (o : Option EntryId). MatchOption o (NoneAsked (HasPriority place.exten place.priority) plan (search_order plan place.context))
+    (IsFound plan (search_order plan place.context) place.exten place.priority)) found
+    (found_entry-least plan (search_order plan place.context) place.exten place.priority)
+
+-- it stands in the dialplan
+pub stands_there : (plan : PlanOf) (place : Place) (id : EntryId) → id_at plan place ≡ Some id → IsSome (entry_at plan id)
+stands_there plan place id found = subst IsSome (sym (least_at plan place id found).least.stands.there) refl
 
 -- it has the priority that was asked for
-pub found_has_priority : (plan : PlanOf) (order text : List ℕ) (priority : ℕ) (id : EntryId) (entry : Entry)
-    → Some id ≡ found_entry plan order text priority → Some entry ≡ entry_at plan id → entry.priority ≡ priority
-found_has_priority plan order text priority id entry found there =
-    let least : IsFound plan order text priority id =
-    subst (λ (o : Option EntryId). MatchOption o (NoneAsked (HasPriority text priority) plan order) (IsFound plan order text priority)) (sym found)
-    (found_entry-least plan order text priority) in
+has_priority : (plan : PlanOf) (place : Place) (id : EntryId) (entry : Entry) → id_at plan place ≡ Some id → Some entry ≡ entry_at plan id
+    → entry.priority ≡ place.priority
+has_priority plan place id entry found there =
+    let least : IsFound plan (search_order plan place.context) place.exten place.priority id = least_at plan place id found in
     ap (λ (e : Entry). e.priority) (same_Some entry least.entry (there ∙ least.least.stands.there)) ∙ least.least.asked.same
+
+-- so the place is at a priority of an entry
+pub within_most : (plan : PlanOf) (place : Place) (id : EntryId) (entry : Entry) → id_at plan place ≡ Some id → Some entry ≡ entry_at plan id
+    → IsPriority entry.priority → place.priority ≤ most_priority
+within_most plan place id entry found there range =
+    subst (λ (p : ℕ). p ≤ most_priority) (has_priority plan place id entry found there) range.1
+
+-- it is the entry at the place
+pub found_there : (plan : PlanOf) (place : Place) (id : EntryId) (entry : Entry) → id_at plan place ≡ Some id → Some entry ≡ entry_at plan id
+    → entry_found plan place ≡ Some (record { id = id; entry = entry })
+unfolding entry_found id_found
+found_there plan place id entry found there =
+    ap (option_and_then (located plan)) found ∙ ap (option_map (λ (e : Entry). record { id = id; entry = e })) (sym there)
+
+-- no numbers, no entry
+pub not_found : (plan : PlanOf) (place : Place) → id_at plan place ≡ None → entry_found plan place ≡ None
+unfolding entry_found id_found
+not_found plan place none = ap (option_and_then (located plan)) none
+
+-- the numbers of the entry at a place
+pub located_id : (plan : PlanOf) (place : Place) → option_map (λ (found : Located). found.id) (entry_found plan place) ≡ id_at plan place
+located_id plan place = by (id_at plan place) refl
+  where
+    by : (o : Option EntryId) → id_at plan place ≡ o → option_map (λ (found : Located). found.id) (entry_found plan place) ≡ id_at plan place
+    by None none = ap (option_map (λ (found : Located). found.id)) (not_found plan place none) ∙ sym none
+    by (Some id) found =
+        let least : IsFound plan (search_order plan place.context) place.exten place.priority id = least_at plan place id found in
+        ap (option_map (λ (found : Located). found.id)) (found_there plan place id least.entry found (sym least.least.stands.there)) ∙ sym found

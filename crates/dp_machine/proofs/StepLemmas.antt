@@ -2,6 +2,8 @@
 use Rattle.std.proofs.Common.{◌≡◌, ◌≤◌, if◌then◌else◌, codes, ℕ, Bool, true, false, List, length, Option, Some, None, Result, Ok, Err, IfOk, OnErr, refl, sym, ap, subst, ◌∙◌, rules}
 use Rattle.std.specs.declared.alloc.AllocError.{AllocError as NoMemory}
 use Rattle.dp_plan.specs.Plan.{PlanOf}
+use Rattle.dp_plan.specs.declared.entry.Entry.{Entry}
+use Rattle.dp_plan.specs.declared.entry.EntryId.{EntryId}
 use Rattle.dp_app.specs.Laws.{IsGoing, IsLawful, IsLawfulRow, MayGo, MayPark, MayRun, most_priority}
 use Rattle.dp_app.specs.Rows.{Row, Rows, dispatched}
 use Rattle.dp_app.specs.declared.cell.Cell.{Cell}
@@ -12,13 +14,15 @@ use Rattle.dp_app.specs.declared.phase.Phase.TheVariants.{Ready, Digits, Pause, 
 use Rattle.dp_app.specs.declared.place.Place.{Place}
 use Rattle.dp_app.specs.declared.touch.Touch.{Touch}
 use Rattle.dp_machine.specs.Channels.{hung_up, invalid, is_invalid, landed, moved, ready_in, runs_hang_up, went, without_frames}
-use Rattle.dp_machine.specs.Events.{Applied, Own, applied, cell_of, is_refused, step_at, step_in, step_row, unfound}
+use Rattle.dp_machine.specs.Events.{Applied, Own, applied, cell_of, is_refused, ran, step_at, unfound}
+use Rattle.dp_machine.specs.Follows.{Follows, Runs}
 use Rattle.dp_machine.specs.Found.{Located, entry_found}
 use Rattle.dp_machine.specs.GoodWorld.{IsSoundIn, MayAct, queue_in, talk_in}
+use Rattle.dp_machine.specs.Seen.{arguments_seen}
 use Rattle.dp_machine.specs.Targets.{target_place}
 use Rattle.dp_machine.specs.declared.channel.Channel.{Channel}
-use Rattle.dp_machine.specs.declared.reply.Reply.{Reply}
-use Rattle.dp_machine.specs.declared.reply.Reply.TheVariants.{Invalid, NoEntry}
+use Rattle.dp_machine.specs.declared.exchange.Exchange.{Exchange}
+use Rattle.dp_machine.specs.declared.reply.Reply.TheVariants.{Invalid, NoEntry, Ran}
 use Rattle.dp_machine.specs.declared.shared.Shared.{Shared}
 
 -- the channel behind an application is sound where it goes
@@ -54,15 +58,22 @@ pub applied_kept : (touches : List ℕ → Touch) (rows : Rows) → IsLawful tou
     → (behind.place ≡ c.place → now ≡ record c { caller = behind.caller; store = behind.store })
     → shared_now ≡ record { globals = behind.globals; queues = behind.queues }
     → (result : Result (Option Move) NoMemory) → IfOk result (λ going. dispatched (rows name) arguments taken ≡ (behind, going))
-    → IfOk result (λ going. applied c (dispatched (rows name) arguments (cell_of shared number c)) ≡ record { channel = now; shared = shared_now; going = going })
-applied_kept touches rows lawful name arguments shared number c taken behind same now shared_now channel_put shared_put (Ok going) ok =
+    → OnErr result (behind ≡ taken)
+    → Runs (dispatched (rows name) arguments (cell_of shared number c)) shared shared_now c now result
+applied_kept touches rows lawful name arguments shared number c taken behind same now shared_now channel_put shared_put (Ok going) ok err =
     let place : taken.place ≡ c.place = ap (λ cell. cell.place) same in
     let channel : record c { caller = behind.caller; store = behind.store } ≡ now
     = sym (channel_put (place_kept touches rows lawful name arguments taken behind going ok ∙ place)) in
     let rest : record { globals = behind.globals; queues = behind.queues } ≡ shared_now = sym shared_put in
     let all : applied c (behind, going) ≡ record { channel = now; shared = shared_now; going = going } = search (rules, channel, rest) in
-    ap (λ cell. applied c (dispatched (rows name) arguments cell)) (sym same) ∙ ap (applied c) ok ∙ all
-applied_kept touches rows lawful name arguments shared number c taken behind same now shared_now channel_put shared_put (Err e) ok = tt
+    record { ok = ap (λ cell. applied c (dispatched (rows name) arguments cell)) (sym same) ∙ ap (applied c) ok ∙ all; channel = tt; shared = tt }
+applied_kept touches rows lawful name arguments shared number c taken behind same now shared_now channel_put shared_put (Err e) ok err =
+    let is : behind ≡ cell_of shared number c = err ∙ same in
+    record {
+      ok = tt;
+      channel = channel_put (ap (λ cell. cell.place) is) ∙ ap (λ (cell : Cell). record c { caller = cell.caller; store = cell.store }) is;
+      shared = shared_put ∙ ap (λ (cell : Cell). record { globals = cell.globals; queues = cell.queues }) is;
+    }
 
 -- a channel that is hung up is sound
 hung_up_sound_by : (runs : Bool) (c closed : Channel) → closed.phase ≡ Ready
@@ -131,23 +142,28 @@ unfound_taken plan shared c =
     unfound_taken_by (is_invalid plan c.place) (record { channel = invalid c; shared = shared; reply = Invalid })
     (record { channel = hung_up plan c; shared = shared; reply = NoEntry }) refl refl
 
--- a step of a channel that is ready is not refused
-found_taken : (rows : Rows) (plan : PlanOf) (shared : Shared) (number : ℕ) (c : Channel) (found : Option Located)
+-- nor is one that finds its entry
+pub found_taken : (rows : Rows) (plan : PlanOf) (shared : Shared) (number : ℕ) (c : Channel) (found : Option Located)
     → is_refused (step_at rows plan shared number c found).reply ≡ false
 found_taken rows plan shared number c None = unfound_taken plan shared c
 found_taken rows plan shared number c (Some found) = refl
 
-pub step_taken : (rows : Rows) (plan : PlanOf) (shared : Shared) (number : ℕ) (c : Channel) → c.phase ≡ Ready
-    → is_refused (step_row rows plan shared number c).reply ≡ false
-unfolding step_row
-step_taken rows plan shared number c ready =
-    subst (λ phase. is_refused (step_in rows phase plan shared number c).reply ≡ false) (sym ready)
-    (found_taken rows plan shared number c (entry_found plan c.place))
-
--- what holds always holds where memory is refused
-pub on_refused : (P : Type 0) (result : Result Reply NoMemory) → P → OnErr result P
-on_refused P (Ok reply) p = tt
-on_refused P (Err fault) p = p
+-- a step that finds its entry, runs its application and goes where that sends the channel
+pub follows-found : (rows : Rows) (number : ℕ) (before after : Exchange) (c d behind : Channel) (shared : Shared) (id : EntryId) (entry : Entry) (going : Option Move)
+    → entry_found before.plan c.place ≡ Some (record { id = id; entry = entry })
+    → applied c (dispatched (rows entry.application) (arguments_seen before.shared number c entry.arguments) (cell_of before.shared number c))
+    ≡ record { channel = behind; shared = shared; going = going }
+    → d ≡ went before.plan behind going → after.plan ≡ before.plan → after.shared ≡ shared
+    → Follows (step_at rows before.plan before.shared number c (entry_found before.plan c.place)) before after c d (Ok (Ran id))
+follows-found rows number before after c d behind shared id entry going found run went same_plan same_shared = record {
+  ok =
+      ap (step_at rows before.plan before.shared number c) found
+      ∙ (ap (ran before.plan id) run ∙ (λ i. record { channel = sym went i; shared = sym same_shared i; reply = Ran id }));
+  plan = same_plan;
+  channel = tt;
+  shared = tt;
+  refused = tt;
+}
 
 -- a ready channel at a priority of an entry may run an application
 pub ready_may_run : (shared : Shared) (number : ℕ) (c : Channel) → MayAct shared number c → c.phase ≡ Ready → c.place.priority ≤ most_priority

@@ -1,7 +1,8 @@
 -- The world is good before the first call, and stays good behind each event.
-use Rattle.std.proofs.Common.{◌≡◌, ℕ, zero, suc, ◌+◌, ◌-◌, ◌<◌, ◌==◌, nat_lt, Bool, true, false, List, [], ◌∷◌, ◌++◌, Option, Some, None, refl, sym, ap, ◌∙◌, arith, slice_get, subst, length, if◌then◌else◌, Result, Ok, Err, IfOk, OnOk, OnErr}
+use Rattle.std.proofs.Common.{◌≡◌, ℕ, zero, suc, ◌+◌, ◌-◌, ◌<◌, ◌==◌, nat_lt, Bool, true, false, List, [], ◌∷◌, ◌++◌, Option, Some, None, refl, sym, ap, ◌∙◌, arith, slice_get, subst, length, if◌then◌else◌, Result, Ok, Err, OnOk}
 use Rattle.std.proofs.Common.{length-append}
 use Rattle.std.proofs.lemmas.Option.{none-some}
+use Rattle.std.specs.declared.alloc.AllocError.{AllocError as NoMemory}
 use Rattle.dp_queue.specs.Good.{IsGood}
 use Rattle.dp_queue.specs.Queues.{QueuesOf}
 use Rattle.dp_queue.specs.Rest.{IsAtRest}
@@ -11,11 +12,13 @@ use Rattle.dp_app.specs.Laws.{IsLawful}
 use Rattle.dp_app.specs.Rows.{Rows}
 use Rattle.dp_app.specs.declared.touch.Touch.{Touch}
 use Rattle.dp_machine.specs.Events.{Own, digit_row, entered, event_row, hang_up_row, opened, own_event, owned, poll_row, started, step_row, timeout_row}
+use Rattle.dp_machine.specs.Follows.{Makes}
 use Rattle.dp_machine.specs.GoodWorld.{AreTied, IsGoodWorld, IsSoundAt, IsSoundOwn, StepsSoundly, queue_of, talk_of}
-use Rattle.dp_machine.specs.World.{World, channel_at, most_channels, opening, world_of}
+use Rattle.dp_machine.specs.World.{World, channel_at, most_channels, opening, world_in}
 use Rattle.dp_machine.specs.declared.channel.Channel.{Channel}
 use Rattle.dp_machine.specs.declared.event.Event.{Event}
 use Rattle.dp_machine.specs.declared.event.Event.TheVariants.{Start, Step, Digit, Timeout, Poll, Hangup, Offer, Answer, Decline, AgentDone}
+use Rattle.dp_machine.specs.declared.exchange.Exchange.{Exchange}
 use Rattle.dp_machine.specs.declared.refusal.Refusal.TheVariants.{NumbersSpent}
 use Rattle.dp_machine.specs.declared.reply.Reply.{Reply}
 use Rattle.dp_machine.specs.declared.reply.Reply.TheVariants.{Refused, Started}
@@ -167,18 +170,15 @@ good-event touches rows w (Decline agent) lawful linked good steps = good-declin
 good-event touches rows w (AgentDone agent) lawful linked good steps = good-agent_done w good linked agent
 
 -- and so it does behind what a call of the machine answers: the world of the event's row, or the world as it was
-pub good-behind : {E : Type 0} (touches : List ℕ → Touch) (rows : Rows) (plan : PlanOf) (channels after : List Channel) (shared behind : Shared) (event : Event)
-    (r : Result Reply E) → IsLawful touches rows → IsGood shared.queues → IsGoodWorld (world_of plan channels shared)
-    → IfOk r (λ reply. event_row rows (world_of plan channels shared) event ≡ (world_of plan after behind, reply))
-    → OnErr r (after ≡ channels) → OnErr r (behind ≡ shared) → OnOk r (StepsSoundly rows (world_of plan channels shared) event)
-    → IsGoodWorld (world_of plan after behind)
-good-behind touches rows plan channels after shared behind event (Ok reply) lawful linked good row same_channels same_shared steps =
-    subst IsGoodWorld (ap (λ (p : World × Reply). p.0) row) (good-event touches rows (world_of plan channels shared) event lawful linked good steps)
-good-behind touches rows plan channels after shared behind event (Err e) lawful linked good row same_channels same_shared steps =
-    subst IsGoodWorld (λ i. world_of plan (sym same_channels i) (sym same_shared i)) good
+pub good-behind : (touches : List ℕ → Touch) (rows : Rows) (before after : World) (event : Event) (r : Result Reply NoMemory)
+    → IsLawful touches rows → IsGood before.shared.queues → IsGoodWorld before → Makes (event_row rows before event) before after r
+    → OnOk r (StepsSoundly rows before event) → IsGoodWorld after
+good-behind touches rows before after event (Ok reply) lawful linked good makes steps =
+    subst IsGoodWorld (ap (λ (p : World × Reply). p.0) makes.ok) (good-event touches rows before event lawful linked good steps)
+good-behind touches rows before after event (Err e) lawful linked good makes steps = subst IsGoodWorld (sym makes.err) good
 
--- and so does any world with no channel
-pub good-fresh : (plan : PlanOf) (channels : List Channel) (shared : Shared) → channels ≡ [] → IsAtRest shared.queues
-    → IsGoodWorld (world_of plan channels shared)
-good-fresh plan channels shared none rest = subst (λ cs. IsGoodWorld (world_of plan cs shared)) (sym none)
-    (record { within = omega arith; tied = (good-opening plan shared.queues rest).tied })
+-- and so does the world of an exchange before the first call, with no channel
+pub good-fresh : (plan : PlanOf) (queues : QueuesOf) (exchange : Exchange) (channels : List Channel) → channels ≡ []
+    → world_in exchange [] ≡ opening plan queues → IsAtRest queues → IsGoodWorld (world_in exchange channels)
+good-fresh plan queues exchange channels none first rest = subst (λ cs. IsGoodWorld (world_in exchange cs)) (sym none)
+    (subst IsGoodWorld (sym first) (good-opening plan queues rest))

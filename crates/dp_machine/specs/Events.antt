@@ -301,6 +301,10 @@ abbrev pub own_event : World → ℕ → (PlanOf → Shared → ℕ → Channel 
 own_event w number row None = (w, Refused NoChannel)
 own_event w number row (Some c) = owned w number (row w.plan w.shared number c)
 
+-- the world behind an event of the channel of a number, by what it asks, and the reply
+abbrev pub asked_event : Rows → World → ℕ → Asked → World × Reply
+asked_event rows w number asked = own_event w number (own_row rows asked) (channel_at w.channels number)
+
 -- the channels behind an agent's event
 abbrev pub served_channels : World → Served → Option Channel → List Channel
 served_channels w s None = w.channels

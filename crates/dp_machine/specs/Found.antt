@@ -1,5 +1,5 @@
 -- The entry at a place: of the contexts that are searched from the place's own, for its extension and its priority.
-use Rattle.std.specs.Prelude.{ℕ, Bool, List, Option, Some, None, is_some}
+use Rattle.std.specs.Prelude.{ℕ, Bool, List, Option, is_some}
 use Rattle.std.specs.Option.{option_and_then, option_map}
 use Rattle.dp_lookup.specs.FoundEntry.{found_entry, found_label, goes_on_more}
 use Rattle.dp_lookup.specs.SearchOrder.{search_order}
@@ -8,7 +8,6 @@ use Rattle.dp_plan.specs.Plan.{PlanOf}
 use Rattle.dp_plan.specs.declared.entry.Entry.{Entry}
 use Rattle.dp_plan.specs.declared.entry.EntryId.{EntryId}
 use Rattle.dp_app.specs.declared.place.Place.{Place}
-use Rattle.dp_machine.specs.declared.lookup.Found.{Found}
 
 -- an entry, and which one it is
 pub record Located : Type 0 where
@@ -24,6 +23,14 @@ unfoldable pub entry_found : PlanOf → Place → Option Located
 entry_found plan place =
     option_and_then (located plan) (found_entry plan (search_order plan place.context) place.exten place.priority)
 
+-- the numbers of the entry that is found for an extension of a context at a priority
+unfoldable pub id_found : PlanOf → List ℕ → List ℕ → ℕ → Option EntryId
+id_found plan context exten priority = found_entry plan (search_order plan context) exten priority
+
+-- the same at a place
+abbrev pub id_at : PlanOf → Place → Option EntryId
+id_at plan place = id_found plan place.context place.exten place.priority
+
 -- whether an entry is found for an extension of a context at a priority
 unfoldable pub is_found : PlanOf → List ℕ → List ℕ → ℕ → Bool
 is_found plan context exten priority = is_some (found_entry plan (search_order plan context) exten priority)
@@ -35,8 +42,3 @@ could_go_on plan context digits = goes_on_more plan (search_order plan context) 
 -- the priority that has the label, of an extension in a context
 unfoldable pub label_found : PlanOf → List ℕ → List ℕ → List ℕ → Option ℕ
 label_found plan context exten label = found_label plan (search_order plan context) exten label
-
--- an entry that was found, as contracts see it
-abbrev pub located_now : Option Found → Option Located
-located_now None = None
-located_now (Some found) = Some (record { id = found.id; entry = found.entry.now })

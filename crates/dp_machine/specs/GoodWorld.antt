@@ -9,8 +9,10 @@ use Rattle.dp_plan.specs.Priority.{most_priority}
 use Rattle.dp_app.specs.Rows.{Rows}
 use Rattle.dp_app.specs.declared.phase.Phase.{Phase}
 use Rattle.dp_app.specs.declared.phase.Phase.TheVariants.{Ready, Digits, Pause, Queued, Talking, Ended}
-use Rattle.dp_machine.specs.Events.{Own, step_row}
+use Rattle.dp_machine.specs.Events.{Own, own_row, step_row}
 use Rattle.dp_machine.specs.World.{World, most_channels, channel_at}
+use Rattle.dp_machine.specs.declared.asked.Asked.{Asked}
+use Rattle.dp_machine.specs.declared.asked.Asked.TheVariants.{Step as asked_step, Digit as asked_digit, Timeout as asked_timeout, Poll as asked_poll, Hangup as asked_hangup}
 use Rattle.dp_machine.specs.declared.channel.Channel.{Channel}
 use Rattle.dp_machine.specs.declared.event.Event.{Event}
 use Rattle.dp_machine.specs.declared.event.Event.TheVariants.{Start, Step, Digit, Timeout, Poll, Hangup, Offer, Answer, Decline, AgentDone}
@@ -81,6 +83,19 @@ pub record AreTied (channels : List Channel) (queues : QueuesOf) : Type 0 where
 pub record IsGoodWorld (w : World) : Type 0 where
   pub within : length w.channels ≤ most_channels
   pub tied : AreTied w.channels w.shared.queues
+
+-- where a step is asked, this channel is sound
+abbrev pub IsSoundBehind : Asked → Channel → Type 0
+IsSoundBehind asked_step c = IsSoundIn c.phase c
+IsSoundBehind (asked_digit digit) c = Unit {0}
+IsSoundBehind asked_timeout c = Unit {0}
+IsSoundBehind asked_poll c = Unit {0}
+IsSoundBehind asked_hangup c = Unit {0}
+
+-- where a step is asked, the channel of a number is sound behind it
+abbrev pub IsSoundAsked : Rows → World → ℕ → Asked → Type 0
+IsSoundAsked rows w number asked = (c : Channel) → channel_at w.channels number ≡ Some c
+    → IsSoundBehind asked (own_row rows asked w.plan w.shared number c).channel
 
 -- where the event is a step, the channel is sound behind it
 abbrev pub StepsSoundly : Rows → World → Event → Type 0

@@ -4,6 +4,7 @@ use Rattle.dp_plan.specs.Plan.{PlanOf}
 use Rattle.dp_queue.specs.Queues.{QueuesOf}
 use Rattle.dp_machine.specs.Seen.{globals_of, value_seen}
 use Rattle.dp_machine.specs.declared.channel.Channel.{Channel}
+use Rattle.dp_machine.specs.declared.exchange.Exchange.{Exchange}
 use Rattle.dp_machine.specs.declared.shared.Shared.{Shared}
 
 -- the dialplan in force, the channels by their numbers, the first of which is 1, and what they share
@@ -19,6 +20,10 @@ most_channels = 65535
 -- the world of a dialplan, its channels and what they share
 abbrev pub world_of : PlanOf → List Channel → Shared → World
 world_of plan channels shared = record { plan = plan; channels = channels; shared = shared }
+
+-- the world of an exchange and its channels
+abbrev pub world_in : Exchange → List Channel → World
+world_in exchange channels = world_of exchange.plan channels exchange.shared
 
 -- the world in which no call has come, with these queues: the globals are expanded
 abbrev pub opening : PlanOf → QueuesOf → World

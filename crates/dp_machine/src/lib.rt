@@ -5,12 +5,11 @@
 mod agents;
 mod asked;
 mod channel;
-mod compiled;
+mod directory;
 mod ending;
 mod event;
-mod last_order;
+mod exchange;
 pub mod laws;
-mod lookup;
 mod machine;
 mod numbered;
 mod queues;

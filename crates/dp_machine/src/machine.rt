@@ -1,9 +1,9 @@
 //! The machine: a world that events change one after another.
 ghost use Rattle.std.specs.Prelude.{◌≡◌, ◌≤◌, ◌++◌, IfOk, OnOk, OnErr, Some, false, length, true};
 ghost use Rattle.std.specs.Option.{option_copied, option_map};
-ghost use Rattle.dp_machine.specs.LastOrder.{IsLastOrder};
 ghost use Rattle.dp_queue.specs.Rest.{IsAtRest};
 ghost use Rattle.dp_machine.specs.Events as spec;
+ghost use Rattle.dp_machine.specs.Follows.{Follows, Makes};
 ghost use Rattle.dp_machine.specs.GoodWorld as good;
 ghost use Rattle.dp_machine.specs.Replay as replay;
 ghost use Rattle.dp_machine.specs.World as worlds;
@@ -11,15 +11,13 @@ ghost use Rattle.dp_machine.specs.World as worlds;
 use crate::agents::{agent_done, answer, decline, offer};
 use crate::asked::Asked;
 use crate::channel::Channel;
-use crate::compiled::Compiled;
+use crate::directory::Directory;
 use crate::event::Event;
-use crate::last_order::LastOrder;
-use crate::lookup::find;
+use crate::exchange::Exchange;
 use crate::numbered::{channel_at, index_of};
 use crate::refusal::Refusal;
 use crate::reply::Reply;
 use crate::seen::channel_value;
-use crate::shared::{Shared, expand_globals};
 use crate::step::step_channel;
 use crate::waiting::{dial, end_time, hang_up_channel, poll};
 use dp_app::{AppTable, Phase, Place};
@@ -36,13 +34,8 @@ pub const MOST_CHANNELS: usize = 65_535;
 /// world, which is a good one at all times.
 #[derive(Drop)]
 pub struct Machine<T> {
-    plan: Compiled,
-    // Look-ups search in it and take no memory.
-    order: LastOrder,
-    // The name of the extension at which a hang-up goes on, so that a hang-up behind an application takes no memory.
-    spare: Text,
+    exchange: Exchange,
     channels: Vec<Channel>,
-    shared: Shared,
     table: PhantomData<T>,
 }
 
@@ -50,18 +43,15 @@ impl<T> Model for Machine<T> {
     ghost use Rattle.std.specs.Coded.{codes};
     ghost use Rattle.dp_vars.specs.Variables.{named_code};
     ghost use Rattle.dp_machine.specs.GoodWorld.{IsGoodWorld};
-    ghost use Rattle.dp_machine.specs.LastOrder.{IsLastOrder};
-    ghost use Rattle.dp_machine.specs.World.{World, world_of};
+    ghost use Rattle.dp_machine.specs.World.{World, world_in};
 
     ghost Value = { World };
 
     ghost coded = { Prim.hlevel (codes, named_code) };
 
-    ghost view = { λ machine. world_of machine.plan machine.channels.items machine.shared };
+    ghost view = { λ machine. world_in machine.exchange machine.channels.items };
 
-    ghost invariant = { λ machine.
-        IsGoodWorld (world_of machine.plan machine.channels.items machine.shared)
-        × IsLastOrder machine.plan machine.order };
+    ghost invariant = { λ machine. IsGoodWorld (world_in machine.exchange machine.channels.items) };
 }
 
 /// A call comes in. The event is refused where all numbers of channels were given, and then takes no memory.
@@ -73,10 +63,8 @@ fn start(
     exten: Text,
     caller: Text,
 ) -> Result<Reply, NoMemory>
-    requires { length channels.old.items ≤ worlds.most_channels }
     ensures ok { IfOk result (λ reply. spec.started channels.old.items context exten caller
         ≡ record { channels = channels.new.items; reply = reply }) }
-    ensures bound { length channels.new.items ≤ worlds.most_channels }
     ensures err { OnErr result (channels.new.items ≡ channels.old.items) }
     ensures memory { OnErr result (spec.is_refused (spec.started channels.old.items context exten caller).reply ≡ false) }
 {
@@ -100,84 +88,58 @@ fn start(
 }
 
 /// An event of the channel.
-fn ask<T: AppTable>(
+fn answer_to<T: AppTable>(
     alloc: Global,
-    plan: &Compiled,
-    order: &mut LastOrder,
-    shared: &mut Shared,
+    exchange: &mut Exchange,
     number: u32,
     channel: &mut Channel,
-    spare: &mut Text,
     asked: Asked,
 ) -> Result<Reply, NoMemory>
-    requires order { IsLastOrder plan.now order.old }
-    requires good { good.MayAct shared.old number channel.old }
-    ensures order { IsLastOrder plan.now order.new }
-    ensures ok { IfOk result (λ reply. spec.own_row T.rows asked plan.now shared.old number channel.old
-        ≡ record { channel = channel.new; shared = shared.new; reply = reply }) }
-    ensures sound { good.IsSoundIn channel.new.phase channel.new }
-    ensures channel { OnErr result (channel.new ≡ channel.old) }
-    ensures shared { OnErr result (shared.new ≡ shared.old) }
-    ensures refused { OnErr result (spec.is_refused (spec.own_row T.rows asked plan.now shared.old number channel.old).reply ≡ false) }
+    requires { good.MayAct exchange.old.shared number channel.old }
+    ensures follows { Follows (spec.own_row T.rows asked exchange.old.plan exchange.old.shared number channel.old)
+        exchange.old exchange.new channel.old channel.new result }
+    ensures sound { good.IsSoundBehind asked channel.new }
 {
     match asked {
-        Asked::Step => step_channel::<T>(alloc, plan, order, shared, number, channel, spare),
-        Asked::Digit(digit) => dial(alloc, plan, order, shared, number, channel, digit),
-        Asked::Timeout => end_time(alloc, plan, order, shared, number, channel, spare),
-        Asked::Poll => poll(alloc, plan, shared, number, channel),
-        Asked::Hangup => hang_up_channel(alloc, plan, order, shared, number, channel, spare),
+        Asked::Step => step_channel::<T>(alloc, exchange, number, channel),
+        Asked::Digit(digit) => dial(alloc, exchange, number, channel, digit),
+        Asked::Timeout => end_time(alloc, exchange, number, channel),
+        Asked::Poll => poll(alloc, exchange, number, channel),
+        Asked::Hangup => hang_up_channel(alloc, exchange, number, channel),
     }
 }
 
 /// An event of the channel of a number.
-fn ask_channel<T: AppTable>(
+fn ask<T: AppTable>(
     alloc: Global,
-    plan: &Compiled,
-    order: &mut LastOrder,
-    spare: &mut Text,
+    exchange: &mut Exchange,
     channels: &mut Vec<Channel>,
-    shared: &mut Shared,
     number: u32,
     asked: Asked,
 ) -> Result<Reply, NoMemory>
-    requires order { IsLastOrder plan.now order.old }
-    requires good { good.IsGoodWorld (worlds.world_of plan.now channels.old.items shared.old) }
-    ensures order { IsLastOrder plan.now order.new }
-    ensures ok { IfOk result (λ reply. spec.own_event (worlds.world_of plan.now channels.old.items shared.old) number (spec.own_row T.rows asked)
-        (worlds.channel_at channels.old.items number) ≡ (worlds.world_of plan.now channels.new.items shared.new, reply)) }
-    ensures sound { OnOk result ((c : Channel) → worlds.channel_at channels.old.items number ≡ Some c
-        → good.IsSoundOwn (spec.own_row T.rows asked plan.now shared.old number c)) }
-    ensures channels { OnErr result (channels.new.items ≡ channels.old.items) }
-    ensures shared { OnErr result (shared.new ≡ shared.old) }
-    ensures refused { OnErr result (spec.is_refused (spec.own_event (worlds.world_of plan.now channels.old.items shared.old) number
-        (spec.own_row T.rows asked) (worlds.channel_at channels.old.items number)).1 ≡ false) }
+    requires { good.IsGoodWorld (worlds.world_in exchange.old channels.old.items) }
+    ensures makes { Makes (spec.asked_event T.rows (worlds.world_in exchange.old channels.old.items) number asked)
+        (worlds.world_in exchange.old channels.old.items) (worlds.world_in exchange.new channels.new.items) result }
+    ensures sound { OnOk result (good.IsSoundAsked T.rows (worlds.world_in exchange.old channels.old.items) number asked) }
 {
     let Some(index) = index_of(number, channels.len()) else {
         return Ok(Reply::Refused(Refusal::NoChannel));
     };
     let channel = &mut channels[index];
-    ask::<T>(alloc, plan, order, shared, number, channel, spare, asked)
+    answer_to::<T>(alloc, exchange, number, channel, asked)
 }
 
-/// Applies one event to the parts of a machine.
+/// Applies one event to an exchange and its channels.
 fn apply_to<T: AppTable>(
     alloc: Global,
-    plan: &Compiled,
-    order: &mut LastOrder,
-    spare: &mut Text,
+    exchange: &mut Exchange,
     channels: &mut Vec<Channel>,
-    shared: &mut Shared,
     event: Event,
 ) -> Result<Reply, NoMemory>
-    requires order { IsLastOrder plan.now order.old }
-    requires good { good.IsGoodWorld (worlds.world_of plan.now channels.old.items shared.old) }
-    ensures order { IsLastOrder plan.now order.new }
-    ensures ok { IfOk result (λ reply. spec.event_row T.rows (worlds.world_of plan.now channels.old.items shared.old) event
-        ≡ (worlds.world_of plan.now channels.new.items shared.new, reply)) }
-    ensures steps { OnOk result (good.StepsSoundly T.rows (worlds.world_of plan.now channels.old.items shared.old) event) }
-    ensures channels { OnErr result (channels.new.items ≡ channels.old.items) }
-    ensures shared { OnErr result (shared.new ≡ shared.old) }
-    ensures refused { OnErr result (spec.is_refused (spec.event_row T.rows (worlds.world_of plan.now channels.old.items shared.old) event).1 ≡ false) }
+    requires { good.IsGoodWorld (worlds.world_in exchange.old channels.old.items) }
+    ensures makes { Makes (spec.event_row T.rows (worlds.world_in exchange.old channels.old.items) event)
+        (worlds.world_in exchange.old channels.old.items) (worlds.world_in exchange.new channels.new.items) result }
+    ensures sound { OnOk result (good.StepsSoundly T.rows (worlds.world_in exchange.old channels.old.items) event) }
 {
     match event {
         Event::Start {
@@ -185,105 +147,31 @@ fn apply_to<T: AppTable>(
             exten,
             caller,
         } => start(alloc, channels, context, exten, caller),
-        Event::Step { channel } => {
-            ask_channel::<T>(
-                alloc,
-                plan,
-                order,
-                spare,
-                channels,
-                shared,
-                channel,
-                Asked::Step,
-            )
-        }
+        Event::Step { channel } => ask::<T>(alloc, exchange, channels, channel, Asked::Step),
         Event::Digit { channel, digit } => {
-            let asked = Asked::Digit(digit);
-            ask_channel::<T>(alloc, plan, order, spare, channels, shared, channel, asked)
+            ask::<T>(alloc, exchange, channels, channel, Asked::Digit(digit))
         }
-        Event::Timeout { channel } => {
-            ask_channel::<T>(
-                alloc,
-                plan,
-                order,
-                spare,
-                channels,
-                shared,
-                channel,
-                Asked::Timeout,
-            )
-        }
-        Event::Poll { channel } => {
-            ask_channel::<T>(
-                alloc,
-                plan,
-                order,
-                spare,
-                channels,
-                shared,
-                channel,
-                Asked::Poll,
-            )
-        }
-        Event::Hangup { channel } => {
-            ask_channel::<T>(
-                alloc,
-                plan,
-                order,
-                spare,
-                channels,
-                shared,
-                channel,
-                Asked::Hangup,
-            )
-        }
-        Event::Offer { queue } => Ok(offer(shared, queue.bytes())),
-        Event::Answer { agent } => Ok(answer(channels, shared, agent.bytes())),
-        Event::Decline { agent } => Ok(decline(shared, agent.bytes())),
-        Event::AgentDone { agent } => {
-            agent_done(alloc, plan, order, channels, shared, agent.bytes(), spare)
-        }
+        Event::Timeout { channel } => ask::<T>(alloc, exchange, channels, channel, Asked::Timeout),
+        Event::Poll { channel } => ask::<T>(alloc, exchange, channels, channel, Asked::Poll),
+        Event::Hangup { channel } => ask::<T>(alloc, exchange, channels, channel, Asked::Hangup),
+        Event::Offer { queue } => Ok(offer(exchange, queue.bytes())),
+        Event::Answer { agent } => Ok(answer(exchange, channels, agent.bytes())),
+        Event::Decline { agent } => Ok(decline(exchange, agent.bytes())),
+        Event::AgentDone { agent } => agent_done(alloc, exchange, channels, agent.bytes()),
     }
 }
 
-/// Applies one event to the parts of a machine, whose world stays good.
-fn apply_well<T: AppTable>(
-    alloc: Global,
-    plan: &Compiled,
-    order: &mut LastOrder,
-    spare: &mut Text,
-    channels: &mut Vec<Channel>,
-    shared: &mut Shared,
-    event: Event,
-) -> Result<Reply, NoMemory>
-    requires order { IsLastOrder plan.now order.old }
-    requires good { good.IsGoodWorld (worlds.world_of plan.now channels.old.items shared.old) }
-    ensures order { IsLastOrder plan.now order.new }
-    ensures ok { IfOk result (λ reply. spec.event_row T.rows (worlds.world_of plan.now channels.old.items shared.old) event
-        ≡ (worlds.world_of plan.now channels.new.items shared.new, reply)) }
-    ensures good { good.IsGoodWorld (worlds.world_of plan.now channels.new.items shared.new) }
-    ensures channels { OnErr result (channels.new.items ≡ channels.old.items) }
-    ensures shared { OnErr result (shared.new ≡ shared.old) }
-    ensures refused { OnErr result (spec.is_refused (spec.event_row T.rows (worlds.world_of plan.now channels.old.items shared.old) event).1 ≡ false) }
-{
-    shared.queues.are_good();
-    apply_to::<T>(alloc, plan, order, spare, channels, shared, event)
-}
-
 /// The entry that the next step of the channel would run.
+#[tactic(auto, using(crate::proofs::LookupLemmas::located_id))]
 fn next_entry_of(
     alloc: Global,
-    plan: &Compiled,
+    plan: &Directory,
     channel: &Channel,
 ) -> Result<Option<EntryId>, NoMemory>
     ensures { IfOk result (λ entry. entry ≡ spec.next_in channel.now.phase plan.now channel.now) }
 {
     match channel.phase {
-        Phase::Ready => {
-            let mut order = LastOrder::room(alloc, plan.plan())?;
-            let found = find(plan, &mut order, &channel.place);
-            Ok(found.map(|found| found.id))
-        }
+        Phase::Ready => plan.entry_of(alloc, &channel.place),
         Phase::Digits { .. }
         | Phase::Pause
         | Phase::Queued { .. }
@@ -300,16 +188,10 @@ impl<T: AppTable> Machine<T> {
         requires { IsAtRest queues }
         ensures { IfOk result (λ machine. machine ≡ worlds.opening plan queues) }
     {
-        let globals = expand_globals(alloc, plan.globals())?;
-        let order = LastOrder::room(alloc, &plan)?;
-        let plan = Compiled::of(alloc, plan)?;
-        let spare = Text::copy_of(alloc, b"h")?;
+        let exchange = Exchange::of(alloc, plan, queues)?;
         Ok(Machine {
-            plan,
-            order,
-            spare,
+            exchange,
             channels: Vec::new(alloc),
-            shared: Shared { globals, queues },
             table: PhantomData,
         })
     }
@@ -323,16 +205,10 @@ impl<T: AppTable> Machine<T> {
         ensures err { OnErr result (self.new ≡ self.old) }
         ensures refused { OnErr result (spec.is_refused (spec.event_row T.rows self.old event).1 ≡ false) }
     {
-        apply_well::<T>(
-            alloc,
-            &self.plan,
-            &mut self.order,
-            &mut self.spare,
-            &mut self.channels,
-            &mut self.shared,
-            event,
-        )
+        self.exchange.shared.queues.are_good();
+        apply_to::<T>(alloc, &mut self.exchange, &mut self.channels, event)
     }
+
     /// Applies the events one after another, and adds the reply to each at the end of the replies. Where memory is
     /// refused it stops: the replies say how many events were applied.
     pub fn run(
@@ -380,7 +256,7 @@ impl<T: AppTable> Machine<T> {
         ensures { IfOk result (λ value. value.items ≡ worlds.value_in self.now channel name.now) }
     {
         match channel_at(&self.channels, channel) {
-            Some(found) => channel_value(alloc, &self.shared, channel, found, name),
+            Some(found) => channel_value(alloc, &self.exchange.shared, channel, found, name),
             None => Ok(Vec::new(alloc)),
         }
     }
@@ -393,7 +269,7 @@ impl<T: AppTable> Machine<T> {
         ensures { IfOk result (λ entry. entry ≡ spec.next_entry self.now channel) }
     {
         match channel_at(&self.channels, channel) {
-            Some(found) => next_entry_of(alloc, &self.plan, found),
+            Some(found) => next_entry_of(alloc, &self.exchange.plan, found),
             None => Ok(None),
         }
     }
@@ -402,20 +278,20 @@ impl<T: AppTable> Machine<T> {
     pub fn queues(&self) -> &Queues
         ensures { result.now ≡ self.now.shared.queues }
     {
-        &self.shared.queues
+        &self.exchange.shared.queues
     }
 
     /// What is true at all times: channels, waiting lists and agents say the same of who waits and who talks. It does nothing.
     pub fn is_good(&self)
         ensures { good.IsGoodWorld self.now }
     {
-        let _plan = &self.plan;
+        let _exchange = &self.exchange;
     }
 
     /// The dialplan in force.
     pub fn plan(&self) -> &Dialplan
         ensures { result.now ≡ self.now.plan }
     {
-        self.plan.plan()
+        self.exchange.plan.plan()
     }
 }

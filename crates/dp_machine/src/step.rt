@@ -1,27 +1,26 @@
 //! The step of a channel, after the Asterisk documentation's pages on dialplans and on their special extensions.
-ghost use Rattle.std.specs.Prelude.{◌≡◌, ◌+◌, ◌^◌, ◌<◌, ◌≤◌, IfOk, OnErr, OnOk, Some, false, codes};
+ghost use Rattle.std.specs.Prelude.{◌≡◌, ◌+◌, ◌^◌, ◌<◌, ◌≤◌, OnErr, OnOk, Some, codes};
 ghost use Rattle.dp_app.specs.Laws.{IsLawful, MayRun, most_priority};
 ghost use Rattle.dp_app.specs.Rows.{dispatched};
 ghost use Rattle.dp_app.specs.declared.phase.Phase.TheVariants.{Ready};
-ghost use Rattle.dp_machine.specs.LastOrder.{IsLastOrder};
 ghost use Rattle.dp_machine.specs.Channels as channels;
 ghost use Rattle.dp_machine.specs.Events as spec;
-ghost use Rattle.dp_machine.specs.Found.{entry_found};
+ghost use Rattle.dp_machine.specs.Follows.{Follows, Runs, Stays};
+ghost use Rattle.dp_machine.specs.Found.{entry_found, id_at};
 ghost use Rattle.dp_machine.specs.GoodWorld.{IsSoundIn, MayAct};
 ghost use Rattle.dp_machine.specs.Seen.{arguments_seen};
 
 use crate::channel::Channel;
-use crate::compiled::Compiled;
+use crate::directory::Directory;
 use crate::ending::{hang_up, make_ready};
-use crate::last_order::LastOrder;
-use crate::lookup::{Found, find, is_found};
+use crate::exchange::Exchange;
 use crate::refusal::Refusal;
 use crate::reply::Reply;
 use crate::seen::expand_arguments;
 use crate::shared::Shared;
 use crate::target::land;
 use dp_app::{AppTable, Cell, Move, Phase, Place};
-use dp_plan::{Entry, NoMemory, Text};
+use dp_plan::{Entry, EntryId, NoMemory, Text};
 use dp_queue::Queues;
 use dp_vars::{Globals, Store, has_opening};
 use std::alloc::Global;
@@ -71,25 +70,18 @@ fn put_back(cell: Cell, channel: &mut Channel, shared: &mut Shared)
 }
 
 /// Moves the channel, behind an application that a table may lack.
-fn go(
-    plan: &Compiled,
-    order: &mut LastOrder,
-    channel: &mut Channel,
-    going: Option<Move>,
-    spare: &mut Text,
-)
+fn go(exchange: &mut Exchange, channel: &mut Channel, going: Option<Move>)
     requires priority { channel.old.place.priority ≤ most_priority }
-    requires order { IsLastOrder plan.now order.old }
-    requires spare { spare.old ≡ codes "h" }
-    ensures channel { channel.new ≡ channels.went plan.now channel.old going }
-    ensures order { IsLastOrder plan.now order.new }
+    requires spare { exchange.old.spare ≡ codes "h" }
+    ensures channel { channel.new ≡ channels.went exchange.old.plan channel.old going }
+    ensures same { Stays exchange.old exchange.new }
 {
     match going {
         Some(Move::Next) => go_on(channel),
-        Some(Move::Jump(target)) => land(plan, order, channel, target, spare),
+        Some(Move::Jump(target)) => land(exchange, channel, target),
         Some(Move::Park(phase)) => channel.phase = phase,
-        Some(Move::Hang) => hang_up(plan, order, channel, spare),
-        None => hang_up(plan, order, channel, spare),
+        Some(Move::Hang) => hang_up(exchange, channel),
+        None => hang_up(exchange, channel),
     }
 }
 
@@ -112,10 +104,8 @@ fn run_in_cell<T: AppTable>(
     arguments: &[u8],
 ) -> Result<Option<Move>, NoMemory>
     requires { MayRun (spec.cell_of shared.old number channel.old) }
-    ensures ok { IfOk result (λ going. spec.applied channel.old (dispatched (T.rows name.now) arguments.now (spec.cell_of shared.old number channel.old))
-        ≡ record { channel = channel.new; shared = shared.new; going = going }) }
-    ensures channel { OnErr result (channel.new ≡ channel.old) }
-    ensures shared { OnErr result (shared.new ≡ shared.old) }
+    ensures { Runs (dispatched (T.rows name.now) arguments.now (spec.cell_of shared.old number channel.old))
+        shared.old shared.new channel.old channel.new result }
 {
     let mut cell = carve(alloc, number, channel, shared);
     let going = T::dispatch(alloc, name, arguments, &mut cell);
@@ -134,10 +124,8 @@ fn run_application<T: AppTable>(
     arguments: &[u8],
 ) -> Result<Option<Move>, NoMemory>
     requires { MayRun (spec.cell_of shared.old number channel.old) }
-    ensures ok { IfOk result (λ going. spec.applied channel.old (dispatched (T.rows name.now) arguments.now (spec.cell_of shared.old number channel.old))
-        ≡ record { channel = channel.new; shared = shared.new; going = going }) }
-    ensures channel { OnErr result (channel.new ≡ channel.old) }
-    ensures shared { OnErr result (shared.new ≡ shared.old) }
+    ensures { Runs (dispatched (T.rows name.now) arguments.now (spec.cell_of shared.old number channel.old))
+        shared.old shared.new channel.old channel.new result }
 {
     let going = T::going(alloc, name, arguments)?;
     if going.is_some() {
@@ -157,11 +145,9 @@ fn run_entry<T: AppTable>(
     entry: &Entry,
 ) -> Result<Option<Move>, NoMemory>
     requires { MayRun (spec.cell_of shared.old number channel.old) }
-    ensures ok { IfOk result (λ going. spec.applied channel.old (dispatched (T.rows entry.now.application)
+    ensures { Runs (dispatched (T.rows entry.now.application)
         (arguments_seen shared.old number channel.old entry.now.arguments) (spec.cell_of shared.old number channel.old))
-        ≡ record { channel = channel.new; shared = shared.new; going = going }) }
-    ensures channel { OnErr result (channel.new ≡ channel.old) }
-    ensures shared { OnErr result (shared.new ≡ shared.old) }
+        shared.old shared.new channel.old channel.new result }
 {
     let name = entry.application.bytes();
     let arguments = entry.arguments.bytes();
@@ -172,42 +158,15 @@ fn run_entry<T: AppTable>(
     run_application::<T>(alloc, shared, number, channel, name, arguments)
 }
 
-/// A step where no entry is found: to the extension `i` if the extension is not there at all, else a hang-up.
-#[tactic(auto, using(crate::proofs::StepLemmas::hung_up_sound), unfolding(crate::specs::Events::unfound))]
-fn step_unfound(
-    alloc: Global,
-    plan: &Compiled,
-    order: &mut LastOrder,
-    shared: &Shared,
-    channel: &mut Channel,
-    spare: &mut Text,
-) -> Result<Reply, NoMemory>
-    requires { IsLastOrder plan.now order.old }
-    ensures order { IsLastOrder plan.now order.new }
-    ensures ok { IfOk result (λ reply. spec.unfound plan.now shared.now channel.old
-        ≡ record { channel = channel.new; shared = shared.now; reply = reply }) }
-    ensures err { OnErr result (channel.new ≡ channel.old) }
-    ensures sound { OnOk result (IsSoundIn channel.new.phase channel.new) }
-{
-    if is_invalid(plan, order, &channel.place) {
-        go_to_invalid(alloc, channel)?;
-        return Ok(Reply::Invalid);
-    }
-    make_ready(alloc, spare)?;
-    hang_up(plan, order, channel, spare);
-    Ok(Reply::NoEntry)
-}
-
 /// Whether the extension of a place is not there, and `i` is found in its context.
-fn is_invalid(plan: &Compiled, order: &mut LastOrder, place: &Place) -> bool
-    requires { IsLastOrder plan.now order.old }
-    ensures invalid { result ≡ channels.is_invalid plan.now place.now }
-    ensures order { IsLastOrder plan.now order.new }
+fn is_invalid(plan: &mut Directory, place: &Place) -> bool
+    ensures invalid { result ≡ channels.is_invalid plan.old place.now }
+    ensures same { plan.new ≡ plan.old }
 {
-    if is_found(plan, order, &place.context, place.exten.bytes(), 1) {
+    if plan.is_found(&place.context, place.exten.bytes(), 1) {
         return false;
     }
-    is_found(plan, order, &place.context, b"i", 1)
+    plan.is_found(&place.context, b"i", 1)
 }
 
 /// Makes the channel ready at the extension `i` of its context, which reads what was dialled.
@@ -225,61 +184,69 @@ fn go_to_invalid(alloc: Global, channel: &mut Channel) -> Result<(), NoMemory>
     Ok(())
 }
 
-/// Runs the entry that stands where the channel stands.
-fn step_found<T: AppTable>(
+/// A step where no entry is found: to the extension `i` if the extension is not there at all, else a hang-up.
+#[tactic(auto, using(crate::proofs::StepLemmas::hung_up_sound, crate::proofs::StepLemmas::unfound_taken), unfolding(crate::specs::Events::unfound))]
+fn step_unfound(
     alloc: Global,
-    plan: &Compiled,
-    order: &mut LastOrder,
-    shared: &mut Shared,
-    number: u32,
+    exchange: &mut Exchange,
     channel: &mut Channel,
-    spare: &mut Text,
-    found: Found<'_>,
 ) -> Result<Reply, NoMemory>
-    requires may_run { MayRun (spec.cell_of shared.old number channel.old) }
-    requires order { IsLastOrder plan.now order.old }
-    ensures order { IsLastOrder plan.now order.new }
-    ensures ok { IfOk result (λ reply. spec.step_at T.rows plan.now shared.old number channel.old
-        (Some (record { id = found.entry.id; entry = found.entry.entry.now }))
-        ≡ record { channel = channel.new; shared = shared.new; reply = reply }) }
-    ensures channel { OnErr result (channel.new ≡ channel.old) }
-    ensures shared { OnErr result (shared.new ≡ shared.old) }
+    ensures follows { Follows (spec.unfound exchange.old.plan exchange.old.shared channel.old)
+        exchange.old exchange.new channel.old channel.new result }
     ensures sound { OnOk result (IsSoundIn channel.new.phase channel.new) }
 {
-    make_ready(alloc, spare)?;
-    let going = run_entry::<T>(alloc, shared, number, channel, found.entry)?;
-    go(plan, order, channel, going, spare);
-    Ok(Reply::Ran(found.id))
+    if is_invalid(&mut exchange.plan, &channel.place) {
+        go_to_invalid(alloc, channel)?;
+        return Ok(Reply::Invalid);
+    }
+    make_ready(alloc, &mut exchange.spare)?;
+    hang_up(exchange, channel);
+    Ok(Reply::NoEntry)
+}
+
+/// Runs the entry of these numbers, which answers where the channel stands.
+#[tactic(auto, using(crate::proofs::StepLemmas::found_taken))]
+fn step_found<T: AppTable>(
+    alloc: Global,
+    exchange: &mut Exchange,
+    number: u32,
+    channel: &mut Channel,
+    id: EntryId,
+) -> Result<Reply, NoMemory>
+    requires found { id_at exchange.old.plan channel.old.place ≡ Some id }
+    requires act { MayAct exchange.old.shared number channel.old }
+    requires ready { channel.old.phase ≡ Ready }
+    ensures follows { Follows (spec.step_at T.rows exchange.old.plan exchange.old.shared number channel.old
+        (entry_found exchange.old.plan channel.old.place)) exchange.old exchange.new channel.old channel.new result }
+    ensures sound { OnOk result (IsSoundIn channel.new.phase channel.new) }
+{
+    make_ready(alloc, &mut exchange.spare)?;
+    let entry = exchange.plan.entry(id);
+    // The channel stands at the entry's priority, which is at most 2,147,483,647.
+    let _ = entry.priority.get();
+    let going = run_entry::<T>(alloc, &mut exchange.shared, number, channel, entry)?;
+    go(exchange, channel, going);
+    Ok(Reply::Ran(id))
 }
 
 /// A step of a channel that is ready.
-#[tactic(auto, using(crate::proofs::StepLemmas::ready_may_run))]
+#[tactic(auto, using(crate::proofs::LookupLemmas::not_found))]
 fn step_ready<T: AppTable>(
     alloc: Global,
-    plan: &Compiled,
-    order: &mut LastOrder,
-    shared: &mut Shared,
+    exchange: &mut Exchange,
     number: u32,
     channel: &mut Channel,
-    spare: &mut Text,
 ) -> Result<Reply, NoMemory>
-    requires order { IsLastOrder plan.now order.old }
-    requires act { MayAct shared.old number channel.old }
+    requires act { MayAct exchange.old.shared number channel.old }
     requires ready { channel.old.phase ≡ Ready }
-    ensures order { IsLastOrder plan.now order.new }
-    ensures ok { IfOk result (λ reply. spec.step_at T.rows plan.now shared.old number channel.old (entry_found plan.now channel.old.place)
-        ≡ record { channel = channel.new; shared = shared.new; reply = reply }) }
-    ensures channel { OnErr result (channel.new ≡ channel.old) }
-    ensures shared { OnErr result (shared.new ≡ shared.old) }
+    ensures follows { Follows (spec.step_at T.rows exchange.old.plan exchange.old.shared number channel.old
+        (entry_found exchange.old.plan channel.old.place)) exchange.old exchange.new channel.old channel.new result }
     ensures sound { OnOk result (IsSoundIn channel.new.phase channel.new) }
 {
-    match find(plan, order, &channel.place) {
-        Some(found) => {
-            // The channel stands at the entry's priority, which is at most 2,147,483,647.
-            let _ = found.entry.priority.get();
-            step_found::<T>(alloc, plan, order, shared, number, channel, spare, found)
-        }
-        None => step_unfound(alloc, plan, order, shared, channel, spare),
+    let place = &channel.place;
+    match exchange.plan.find(&place.context, place.exten.bytes(), place.priority) {
+        Some(id) => step_found::<T>(alloc, exchange, number, channel, id),
+        None => step_unfound(alloc, exchange, channel),
     }
 }
 
@@ -287,25 +254,17 @@ fn step_ready<T: AppTable>(
 #[tactic(auto, unfolding(crate::specs::Events::step_row))]
 pub(crate) fn step_channel<T: AppTable>(
     alloc: Global,
-    plan: &Compiled,
-    order: &mut LastOrder,
-    shared: &mut Shared,
+    exchange: &mut Exchange,
     number: u32,
     channel: &mut Channel,
-    spare: &mut Text,
 ) -> Result<Reply, NoMemory>
-    requires order { IsLastOrder plan.now order.old }
-    requires act { MayAct shared.old number channel.old }
-    ensures order { IsLastOrder plan.now order.new }
-    ensures ok { IfOk result (λ reply. spec.step_row T.rows plan.now shared.old number channel.old
-        ≡ record { channel = channel.new; shared = shared.new; reply = reply }) }
-    ensures channel { OnErr result (channel.new ≡ channel.old) }
-    ensures shared { OnErr result (shared.new ≡ shared.old) }
-    ensures refused { OnErr result (spec.is_refused (spec.step_row T.rows plan.now shared.old number channel.old).reply ≡ false) }
+    requires { MayAct exchange.old.shared number channel.old }
+    ensures follows { Follows (spec.step_row T.rows exchange.old.plan exchange.old.shared number channel.old)
+        exchange.old exchange.new channel.old channel.new result }
     ensures sound { IsSoundIn channel.new.phase channel.new }
 {
     match channel.phase {
-        Phase::Ready => step_ready::<T>(alloc, plan, order, shared, number, channel, spare),
+        Phase::Ready => step_ready::<T>(alloc, exchange, number, channel),
         Phase::Digits { .. } | Phase::Pause | Phase::Queued { .. } | Phase::Talking { .. } => {
             Ok(Reply::Refused(Refusal::NotReady))
         }

@@ -1,15 +1,14 @@
 //! Where a target sends a channel, after the Asterisk documentation's page on the application `Goto`.
 ghost use Rattle.std.specs.Prelude.{◌≡◌, ◌≤◌, codes, reverse, slice_get};
 ghost use Rattle.std.specs.Option.{option_map};
-ghost use Rattle.dp_machine.specs.LastOrder.{IsLastOrder};
 ghost use Rattle.dp_machine.specs.Channels as channels;
+ghost use Rattle.dp_machine.specs.Follows.{Stays};
 ghost use Rattle.dp_machine.specs.Targets as spec;
 
 use crate::channel::Channel;
-use crate::compiled::Compiled;
+use crate::directory::Directory;
 use crate::ending::hang_up;
-use crate::last_order::LastOrder;
-use crate::lookup::{find_label, is_found};
+use crate::exchange::Exchange;
 use dp_app::{Parts, Phase, Place, Target};
 use dp_conf::read_number;
 use dp_plan::{MOST_PRIORITY, Text};
@@ -26,23 +25,16 @@ fn target_priority(number: u64) -> Option<u32>
 }
 
 /// The priority that the text asks for at the extension of the context, where it asks for one.
-fn priority_of(
-    plan: &Compiled,
-    order: &mut LastOrder,
-    context: &Text,
-    exten: &Text,
-    text: &[u8],
-) -> Option<u32>
-    requires { IsLastOrder plan.now order.old }
-    ensures priority { result ≡ spec.priority_of plan.now context.now exten.now text.now }
-    ensures order { IsLastOrder plan.now order.new }
+fn priority_of(plan: &mut Directory, context: &Text, exten: &Text, text: &[u8]) -> Option<u32>
+    ensures priority { result ≡ spec.priority_of plan.old context.now exten.now text.now }
+    ensures same { plan.new ≡ plan.old }
 {
     if text.is_empty() {
         return None;
     }
     match read_number(text) {
         Some(number) => target_priority(number),
-        None => find_label(plan, order, context, exten.bytes(), text),
+        None => plan.find_label(context, exten.bytes(), text),
     }
 }
 
@@ -55,23 +47,22 @@ fn part_or<'a>(own: &'a Text, part: &'a Text) -> &'a Text
 
 /// The priority that the parts ask for, for a channel at its own place, where they ask for one.
 #[tactic(auto, unfolding(crate::specs::Targets::parts_place))]
-fn parts_priority(plan: &Compiled, order: &mut LastOrder, own: &Place, parts: &Parts) -> Option<u32>
-    requires { IsLastOrder plan.now order.old }
-    ensures place { spec.parts_place plan.now own.now parts.now
+fn parts_priority(plan: &mut Directory, own: &Place, parts: &Parts) -> Option<u32>
+    ensures place { spec.parts_place plan.old own.now parts.now
         ≡ option_map (spec.place_of (spec.parts_context own.now parts.now) (spec.parts_exten own.now parts.now)) result }
-    ensures order { IsLastOrder plan.now order.new }
+    ensures same { plan.new ≡ plan.old }
 {
     let (front, priority) = parts.split_last();
     match front {
-        [] => priority_of(plan, order, &own.context, &own.exten, priority),
+        [] => priority_of(plan, &own.context, &own.exten, priority),
         [exten] => {
             let exten = part_or(&own.exten, exten);
-            priority_of(plan, order, &own.context, exten, priority)
+            priority_of(plan, &own.context, exten, priority)
         }
         [context, exten] => {
             let context = part_or(&own.context, context);
             let exten = part_or(&own.exten, exten);
-            priority_of(plan, order, context, exten, priority)
+            priority_of(plan, context, exten, priority)
         }
         _ => None,
     }
@@ -106,64 +97,43 @@ fn go_to_parts(channel: &mut Channel, parts: Parts, priority: u32)
 }
 
 /// Makes the channel ready at the place of a target, or hangs it up where the target has none.
-pub(crate) fn land(
-    plan: &Compiled,
-    order: &mut LastOrder,
-    channel: &mut Channel,
-    target: Target,
-    spare: &mut Text,
-)
-    requires order { IsLastOrder plan.now order.old }
-    requires spare { spare.old ≡ codes "h" }
-    ensures channel { channel.new ≡ channels.landed plan.now channel.old (spec.target_place plan.now channel.old.place target) }
-    ensures order { IsLastOrder plan.now order.new }
+pub(crate) fn land(exchange: &mut Exchange, channel: &mut Channel, target: Target)
+    requires { exchange.old.spare ≡ codes "h" }
+    ensures channel { channel.new ≡ channels.landed exchange.old.plan channel.old (spec.target_place exchange.old.plan channel.old.place target) }
+    ensures same { Stays exchange.old exchange.new }
 {
     match target {
         Target::To(place) => {
             channel.place = place;
             channel.phase = Phase::Ready;
         }
-        Target::Existing(parts) => land_at_existing(plan, order, channel, parts, spare),
-        Target::Parts(parts) => land_at_parts(plan, order, channel, parts, spare),
+        Target::Existing(parts) => land_at_existing(exchange, channel, parts),
+        Target::Parts(parts) => land_at_parts(exchange, channel, parts),
     }
 }
 
 /// Makes the channel ready at the place that the parts name.
-fn land_at_parts(
-    plan: &Compiled,
-    order: &mut LastOrder,
-    channel: &mut Channel,
-    parts: Parts,
-    spare: &mut Text,
-)
-    requires order { IsLastOrder plan.now order.old }
-    requires spare { spare.old ≡ codes "h" }
-    ensures channel { channel.new ≡ channels.landed plan.now channel.old (spec.parts_place plan.now channel.old.place parts) }
-    ensures order { IsLastOrder plan.now order.new }
+fn land_at_parts(exchange: &mut Exchange, channel: &mut Channel, parts: Parts)
+    requires { exchange.old.spare ≡ codes "h" }
+    ensures channel { channel.new ≡ channels.landed exchange.old.plan channel.old (spec.parts_place exchange.old.plan channel.old.place parts) }
+    ensures same { Stays exchange.old exchange.new }
 {
-    match parts_priority(plan, order, &channel.place, &parts) {
+    match parts_priority(&mut exchange.plan, &channel.place, &parts) {
         Some(priority) => go_to_parts(channel, parts, priority),
-        None => hang_up(plan, order, channel, spare),
+        None => hang_up(exchange, channel),
     }
 }
 
 /// Makes the channel ready at the place that the parts name, if an entry is found there.
-fn land_at_existing(
-    plan: &Compiled,
-    order: &mut LastOrder,
-    channel: &mut Channel,
-    parts: Parts,
-    spare: &mut Text,
-)
-    requires order { IsLastOrder plan.now order.old }
-    requires spare { spare.old ≡ codes "h" }
-    ensures channel { channel.new ≡ channels.landed plan.now channel.old
-        (spec.if_found plan.now (spec.parts_place plan.now channel.old.place parts)) }
-    ensures order { IsLastOrder plan.now order.new }
+fn land_at_existing(exchange: &mut Exchange, channel: &mut Channel, parts: Parts)
+    requires { exchange.old.spare ≡ codes "h" }
+    ensures channel { channel.new ≡ channels.landed exchange.old.plan channel.old
+        (spec.if_found exchange.old.plan (spec.parts_place exchange.old.plan channel.old.place parts)) }
+    ensures same { Stays exchange.old exchange.new }
 {
-    match existing_priority(plan, order, &channel.place, &parts) {
+    match existing_priority(&mut exchange.plan, &channel.place, &parts) {
         Some(priority) => go_to_parts(channel, parts, priority),
-        None => hang_up(plan, order, channel, spare),
+        None => hang_up(exchange, channel),
     }
 }
 
@@ -178,22 +148,16 @@ fn part_from_last<'a>(own: &'a Text, texts: &'a [Text], number: usize) -> &'a Te
 }
 
 /// The priority that the parts ask for, if an entry is found there.
-fn existing_priority(
-    plan: &Compiled,
-    order: &mut LastOrder,
-    own: &Place,
-    parts: &Parts,
-) -> Option<u32>
-    requires { IsLastOrder plan.now order.old }
-    ensures place { spec.if_found plan.now (spec.parts_place plan.now own.now parts.now)
+fn existing_priority(plan: &mut Directory, own: &Place, parts: &Parts) -> Option<u32>
+    ensures place { spec.if_found plan.old (spec.parts_place plan.old own.now parts.now)
         ≡ option_map (spec.place_of (spec.parts_context own.now parts.now) (spec.parts_exten own.now parts.now)) result }
-    ensures order { IsLastOrder plan.now order.new }
+    ensures same { plan.new ≡ plan.old }
 {
-    let priority = parts_priority(plan, order, own, parts)?;
+    let priority = parts_priority(plan, own, parts)?;
     let (front, _) = parts.split_last();
     let context = part_from_last(&own.context, front, 1);
     let exten = part_from_last(&own.exten, front, 0);
-    if is_found(plan, order, context, exten.bytes(), priority) {
+    if plan.is_found(context, exten.bytes(), priority) {
         Some(priority)
     } else {
         None

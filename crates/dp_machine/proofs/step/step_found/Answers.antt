@@ -1,11 +1,38 @@
+use Rattle.std.proofs.Common.{◌≤◌, ap, subst}
+use Rattle.dp_app.specs.Laws.{most_priority}
+use Rattle.dp_app.specs.declared.place.Place.{Place}
+use Rattle.dp_machine.specs.Events.{Applied}
 use Rattle.dp_machine.specs.Seen.{arguments_seen}
-use Rattle.dp_machine.proofs.StepLemmas.{went_sound}
+use Rattle.dp_machine.proofs.LookupLemmas.{found_there, stands_there, within_most}
+use Rattle.dp_machine.proofs.StepLemmas.{follows-found, ready_may_run, went_sound}
 use Rattle.dp_machine.proofs.step.step_found.Goals as goal
+
+pub entry-entry-requires : goal.entry-entry-requires
+entry-entry-requires g c = stands_there c.args.exchange.now.plan c.args.channel.now.place c.args.id c.requires.found
+
+pub run_entry-requires : goal.run_entry-requires
+run_entry-requires g c =
+    ready_may_run c.args.exchange.now.shared c.args.number c.args.channel.now c.requires.act c.requires.ready
+    (within_most c.args.exchange.now.plan c.args.channel.now.place c.args.id c.entry-entry.result.now c.requires.found c.entry-entry.ensures c.get.ensures.range)
+
+-- its application leaves the channel's place
+pub go-requires-clause-priority : goal.go-requires-clause-priority
+go-requires-clause-priority g c =
+    subst (λ (p : Place). p.priority ≤ most_priority) (ap (λ (a : Applied). a.channel.place) c.in_ok-going.ensures.ok)
+    (within_most c.args.exchange.now.plan c.args.channel.now.place c.args.id c.entry-entry.result.now c.requires.found c.entry-entry.ensures c.get.ensures.range)
+
+pub returns-clause-follows : goal.returns-clause-follows
+returns-clause-follows g c =
+    follows-found g.T.AppTable.rows c.args.number c.args.exchange.now c.go.new.exchange c.args.channel.now c.go.new.channel c.run_entry.new.channel
+    c.run_entry.new.shared c.args.id c.entry-entry.result.now c.in_ok-going.going
+    (found_there c.args.exchange.now.plan c.args.channel.now.place c.args.id c.entry-entry.result.now c.requires.found c.entry-entry.ensures)
+    c.in_ok-going.ensures.ok c.go.ensures.channel c.go.ensures.same.plan c.go.ensures.same.shared
 
 pub returns-clause-sound : goal.returns-clause-sound
 returns-clause-sound g c =
-    went_sound g.T.AppTable.touches g.T.AppTable.rows g.T.AppTable.lawful c.args.plan.now c.args.found.entry.now.application
-    (arguments_seen c.args.shared.now c.args.number c.args.channel.now c.args.found.entry.now.arguments)
-    c.args.shared.now c.args.number c.args.channel.now c.requires.may_run.within
+    went_sound g.T.AppTable.touches g.T.AppTable.rows g.T.AppTable.lawful c.args.exchange.now.plan c.entry-entry.result.now.application
+    (arguments_seen c.args.exchange.now.shared c.args.number c.args.channel.now c.entry-entry.result.now.arguments)
+    c.args.exchange.now.shared c.args.number c.args.channel.now
+    (within_most c.args.exchange.now.plan c.args.channel.now.place c.args.id c.entry-entry.result.now c.requires.found c.entry-entry.ensures c.get.ensures.range)
     (record { channel = c.run_entry.new.channel; shared = c.run_entry.new.shared; going = c.in_ok-going.going })
     c.in_ok-going.ensures.ok c.go.new.channel c.go.ensures.channel

@@ -1,13 +1,26 @@
 use Rattle.std.proofs.Common.{◌≡◌, true, IfOk, subst}
 use Rattle.dp_machine.specs.Events.{is_refused}
-use Rattle.dp_machine.specs.World.{World, world_of}
+use Rattle.dp_machine.specs.World.{World, world_in}
 use Rattle.dp_machine.proofs.RefusedLemmas.{refused_behind}
+use Rattle.dp_machine.proofs.TieEvents.{good-behind}
 use Rattle.dp_machine.proofs.machine.Machine.apply.Goals as goal
+
+pub invariant_of-self : goal.invariant_of-self
+invariant_of-self g c =
+    good-behind g.T.AppTable.touches g.T.AppTable.rows (world_in c.self.inside.exchange c.self.inside.channels.items)
+    (world_in c.apply_to.new.exchange c.apply_to.new.channels.items) c.args.event c.apply_to.result g.T.AppTable.lawful c.are_good.ensures
+    c.self.invariant c.apply_to.ensures.makes c.apply_to.ensures.sound
+
+pub returns-clause-good : goal.returns-clause-good
+returns-clause-good g c =
+    good-behind g.T.AppTable.touches g.T.AppTable.rows (world_in c.self.inside.exchange c.self.inside.channels.items)
+    (world_in c.apply_to.new.exchange c.apply_to.new.channels.items) c.args.event c.apply_to.result g.T.AppTable.lawful c.are_good.ensures
+    c.self.invariant c.apply_to.ensures.makes c.apply_to.ensures.sound
 
 -- a refused event leaves the world as it was
 pub returns-clause-unchanged : goal.returns-clause-unchanged
 returns-clause-unchanged g c =
-    let behind : World = world_of c.self.inside.plan c.apply_well.new.channels.items c.apply_well.new.shared in
-    let before : World = world_of c.self.inside.plan c.self.inside.channels.items c.self.inside.shared in
-    subst (λ w. IfOk c.apply_well.result (λ reply. is_refused reply ≡ true → behind ≡ w)) c.self.view_is
-    (refused_behind g.T.AppTable.rows before behind c.args.event c.apply_well.result c.apply_well.ensures.ok)
+    let before : World = world_in c.self.inside.exchange c.self.inside.channels.items in
+    let behind : World = world_in c.apply_to.new.exchange c.apply_to.new.channels.items in
+    subst (λ w. IfOk c.apply_to.result (λ reply. is_refused reply ≡ true → behind ≡ w)) c.self.view_is
+    (refused_behind g.T.AppTable.rows before behind c.args.event c.apply_to.result c.apply_to.ensures.makes.ok)
