@@ -9,8 +9,8 @@ use Rattle.dp_commands.specs.Report.{Reports, check_of, list_of, match_of}
 use Rattle.dp_commands.specs.Debug.{WritesDebug, debug_of}
 use Rattle.dp_commands.specs.Run.{Run, Writes, run_of}
 use Rattle.dp_commands.specs.Threads.{Shares}
-use Rattle.dp_program.specs.declared.command_line.Request.{Request}
-use Rattle.dp_program.specs.declared.command_line.Request.TheVariants.{Joined, Check, Listing, Match, Run as run_request, QueueRun, ThreadRun, QueueThreadRun, Debug, QueueDebug}
+use Rattle.dp_program.specs.declared.request.Request.{Request}
+use Rattle.dp_program.specs.declared.request.Request.TheVariants.{Joined, Check, Listing, Match, Run as run_request, QueueRun, ThreadRun, QueueThreadRun, Debug, QueueDebug}
 use Rattle.dp_commands.specs.declared.fault.Code.TheVariants.{Line, Name, Plan, Queue, ReadFailed, TooLong, WriteFailed, Settle, BadScript, BadBreak}
 use Rattle.dp_commands.specs.declared.fault.PbxFault.{PbxFault}
 use Rattle.dp_commands.specs.declared.fault.PbxFault.TheVariants.{Coded, NoMemory}

@@ -1,8 +1,6 @@
 -- The status of the program, and what is printed beside it.
 use Rattle.std.specs.Prelude.{ℕ, List, [], Option, Result, Ok, Err}
 use Rattle.std.specs.Io.KnownBytes.{Appends}
-use Rattle.clap.specs.declared.error.kind.ErrorKind.{ErrorKind}
-use Rattle.clap.specs.declared.error.kind.ErrorKind.TheVariants as kind
 use Rattle.dp_commands.specs.Codes.{fault_line}
 use Rattle.dp_commands.specs.declared.fault.PbxFault.{PbxFault}
 
@@ -15,9 +13,3 @@ status_after (Err fault) = 1
 abbrev pub Prints : Option (List ℕ) → Option (List ℕ) → Result ℕ PbxFault → Type 0
 Prints old new (Ok status) = Appends old new []
 Prints old new (Err fault) = Appends old new (fault_line fault)
-
--- the status where the words are no request: 0 where help was asked for, and 2 of a mistake
-abbrev pub explained_status : ErrorKind → ℕ
-explained_status kind.DisplayHelp = 0
-explained_status kind.DisplayVersion = 0
-explained_status _ = 2

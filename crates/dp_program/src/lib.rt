@@ -1,11 +1,13 @@
-//! What the program `pbx` does with the words of its command line, over files, an input and outputs that the caller gives.
+//! What the program `pbx` does with a request, over files, an input and outputs that the caller gives.
 #![tactic(auto)]
 
-mod command_line;
+mod fault;
 mod files;
 mod program;
+mod request;
 
-pub use command_line::{Request, read_words};
 pub use dp_commands::{Code, PbxFault};
+pub use fault::{finish, print_fault};
 pub use files::ReadFiles;
-pub use program::{answer, print_fault};
+pub use program::serve;
+pub use request::Request;

@@ -1,31 +1,21 @@
-//! What the program does with its command line.
-ghost use Rattle.std.specs.Prelude.{◌≡◌, ◌≢◌, ◌||◌, ◌++◌, [], OnOk, IfOk, decimal, codes, false, max, None, Some};
+//! What a request does with the files and the input.
+ghost use Rattle.std.specs.Prelude.{◌≡◌, ◌||◌, max, None, Some};
 ghost use Rattle.std.specs.Option.{option_map};
-ghost use Rattle.std.specs.Result.{is_err};
-ghost use Rattle.std.specs.Io.KnownBytes.{Appends};
-ghost use Rattle.clap.specs.Faults.{fault_of};
-ghost use Rattle.clap.specs.Values.{kind_of};
-ghost use Rattle.dp_commands.specs.Codes.{code_text, fault_line};
-ghost use Rattle.dp_program.specs.CommandLine.{pbx_app, texts};
 ghost use Rattle.dp_commands.specs.Faults.{is_write_failed};
 ghost use Rattle.dp_program.specs.Files as files_spec;
 ghost use Rattle.dp_program.specs.Files.{whole_text, length_reason, is_read_fault};
 ghost use Rattle.dp_commands.specs.Report.{check_of, list_of, match_of};
 ghost use Rattle.dp_commands.specs.Run.{run_of};
-ghost use Rattle.dp_program.specs.Status.{status_after, explained_status, Prints};
 
-use crate::command_line::{Request, read_words};
 use crate::files::ReadFiles;
-use clap::Error;
-use clap::error::ErrorKind;
+use crate::request::Request;
 use dp_board::Gate;
 use dp_commands::{
-    Code, PbxFault, check, debug_script, list_plan, match_one, run_joined, run_script, run_threads,
+    PbxFault, check, debug_script, list_plan, match_one, run_joined, run_script, run_threads,
 };
-use dp_conf::{ReadTold, WriteFailed, WriteTold, read_whole};
+use dp_conf::{ReadTold, WriteTold, read_whole};
 use dp_machine::Reply;
 use dp_plan::Priority;
-use itoa::{Buffer, Integer};
 use std::alloc::Global;
 use std::sync::Wait;
 use std::thread::Threads;
@@ -141,6 +131,14 @@ fn serve_queue_run<F: ReadFiles, W: WriteTold>(
     run_script(alloc, &plan, Some(&queues), &script, output)
 }
 
+/// The status of a run whose history is let go.
+fn status_of<H: Drop>(ran: (u8, H)) -> u8
+    ensures { result ≡ ran.0 }
+{
+    let (status, _history) = ran;
+    status
+}
+
 /// Runs a script in so many threads that nobody holds, and gives the status.
 fn run_in_threads<W: WriteTold, R: Threads + Wait + Sync>(
     rt: &R,
@@ -155,10 +153,8 @@ fn run_in_threads<W: WriteTold, R: Threads + Wait + Sync>(
         (run_of plan.now (option_map (λ text. text.now) queues.entry) script.now) result }
     ensures told { W.has_failed output.new ≡ (W.has_failed output.old || is_write_failed result) }
 {
-    let (status, _history) = run_threads(
-        rt, alloc, plan, queues, script, threads, &OpenGate, output,
-    )?;
-    Ok(status)
+    let ran = run_threads(rt, alloc, plan, queues, script, threads, &OpenGate, output)?;
+    Ok(status_of(ran))
 }
 
 /// Runs the script of a file on the dialplan of another in so many threads.
@@ -247,7 +243,9 @@ fn serve_queue_debug<F: ReadFiles, W: WriteTold>(
 }
 
 /// Does what was asked for, and gives the status: the files are read first, and then their texts.
-fn serve<F: ReadFiles, I: ReadTold, W: WriteTold, R: Threads + Wait + Sync>(
+///
+/// `rt` is for the threads of a run that asks for them.
+pub fn serve<F: ReadFiles, I: ReadTold, W: WriteTold, R: Threads + Wait + Sync>(
     rt: &R,
     files: &F,
     alloc: Global,
@@ -296,117 +294,4 @@ fn serve<F: ReadFiles, I: ReadTold, W: WriteTold, R: Threads + Wait + Sync>(
             held,
         } => serve_queue_debug(files, alloc, file, queues, script, held, output),
     }
-}
-
-/// Prints what stands in place of a request: help on the output, with the status 0, and a mistake on the errors, with 2.
-fn explain<W: WriteTold, E: WriteTold>(
-    alloc: Global,
-    error: &Error,
-    output: &mut W,
-    errors: &mut E,
-) -> Result<u8, PbxFault>
-    ensures status { IfOk result (λ status. status ≡ explained_status (kind_of error.now)) }
-    ensures help { explained_status (kind_of error.now) ≡ 0 → errors.new ≡ errors.old }
-    ensures mistake { explained_status (kind_of error.now) ≡ 2 → output.new ≡ output.old }
-{
-    if error.kind() == ErrorKind::OutOfMemory {
-        return Err(PbxFault::NoMemory);
-    }
-    let text = format!(in alloc; "{error}")?;
-    if error.use_stderr() {
-        let _ = errors.write_told(text.as_bytes());
-        return Ok(2);
-    }
-    output.write_told(text.as_bytes())?;
-    Ok(0)
-}
-
-/// Prints a number in decimal.
-fn print_number<E: WriteTold, I: Integer>(errors: &mut E, number: I) -> Result<(), WriteFailed>
-    ensures ok { OnOk result (Appends (E.contents errors.old) (E.contents errors.new) (I.text number)) }
-    ensures told { E.has_failed errors.new ≡ (E.has_failed errors.old || is_err result) }
-{
-    let mut buffer = Buffer::new();
-    errors.write_told(buffer.format(number).as_bytes())
-}
-
-/// Prints a code with its name.
-fn print_code<E: WriteTold>(errors: &mut E, code: Code) -> Result<(), WriteFailed>
-    ensures ok { OnOk result (Appends (E.contents errors.old) (E.contents errors.new) (code_text code)) }
-    ensures told { E.has_failed errors.new ≡ (E.has_failed errors.old || is_err result) }
-{
-    errors.write_told(b"fault ")?;
-    print_number(errors, code.number())?;
-    errors.write_told(b" ")?;
-    errors.write_told(code.name().as_bytes())
-}
-
-/// Prints a code with its line.
-fn print_code_at<E: WriteTold>(errors: &mut E, code: Code, line: usize) -> Result<(), WriteFailed>
-    ensures ok { OnOk result (Appends (E.contents errors.old) (E.contents errors.new) (code_text code ++ codes " line " ++ decimal line)) }
-    ensures told { E.has_failed errors.new ≡ (E.has_failed errors.old || is_err result) }
-{
-    print_code(errors, code)?;
-    errors.write_told(b" line ")?;
-    print_number(errors, line)
-}
-
-/// Prints a fault. No memory is asked for.
-pub fn print_fault<E: WriteTold>(errors: &mut E, fault: PbxFault) -> Result<(), WriteFailed>
-    ensures ok { OnOk result (Appends (E.contents errors.old) (E.contents errors.new) (fault_line fault)) }
-    ensures told { E.has_failed errors.new ≡ (E.has_failed errors.old || is_err result) }
-{
-    match fault {
-        PbxFault::Coded {
-            code,
-            line: Some(line),
-        } => {
-            print_code_at(errors, code, line)?;
-            errors.write_told(b"\n")
-        }
-        PbxFault::Coded { code, line: None } => {
-            print_code(errors, code)?;
-            errors.write_told(b"\n")
-        }
-        PbxFault::NoMemory => errors.write_told(b"fault out of memory\n"),
-    }
-}
-
-/// The status of what was answered, where a fault is printed.
-fn finish<E: WriteTold>(errors: &mut E, answered: Result<u8, PbxFault>) -> u8
-    ensures status { result ≡ status_after answered }
-    ensures prints { E.has_failed errors.new ≡ false → Prints (E.contents errors.old) (E.contents errors.new) answered }
-{
-    match answered {
-        Ok(status) => status,
-        Err(fault) => {
-            let _ = print_fault(errors, fault);
-            1
-        }
-    }
-}
-
-/// Does what the words of the command line ask for, the program's own name first among them, and gives the status: 0; 1
-/// where a fault was printed or an event was refused; 2 where the command line was refused.
-///
-/// What was asked for goes to `output`, and faults and mistakes go to `errors`; where these cannot be written, the
-/// status tells alone. `input` is read where there is no command, and never where the words have a fault.
-///
-/// `rt` is for the threads of a run that asks for them.
-pub fn answer<F: ReadFiles, I: ReadTold, W: WriteTold, E: WriteTold, R: Threads + Wait + Sync>(
-    rt: &R,
-    files: &F,
-    alloc: Global,
-    words: &[String],
-    input: &mut I,
-    output: &mut W,
-    errors: &mut E,
-) -> u8
-    ensures refused { fault_of pbx_app (texts words.now) ≢ [] → input.new ≡ input.old }
-{
-    let answered = match read_words(alloc, words) {
-        Ok(request) => serve(rt, files, alloc, request, input, output),
-        Err(error) => explain(alloc, &error, output, errors),
-    };
-    finish(errors, answered)
 }

@@ -2,7 +2,8 @@
 #![tactic(auto)]
 
 use dp_conf::Told;
-use dp_program::{PbxFault, answer, print_fault};
+use dp_program::{PbxFault, print_fault};
+use dp_words::answer;
 use std::io::ErrorKind;
 use std::process::ExitCode;
 use std::sync::Wait;

@@ -1,7 +1,7 @@
 //! A folder of files, and command lines that are run over it.
 use dp_conf::{MOST_BYTES, Told};
 use dp_plan::NoMemory;
-use dp_program::answer;
+use dp_words::answer;
 use std::alloc::Global;
 use std::env::Env;
 use std::process::Abort;

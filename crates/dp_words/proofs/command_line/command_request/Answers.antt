@@ -3,8 +3,8 @@ use Rattle.clap.specs.Matches.{found_of}
 use Rattle.clap.specs.Values.{kind_of}
 use Rattle.clap.specs.Walk.{rows_of}
 use Rattle.clap.specs.declared.error.kind.ErrorKind.TheVariants.{OutOfMemory}
-use Rattle.dp_program.specs.CommandLine.{command_asked}
-use Rattle.dp_program.proofs.command_line.command_request.Goals as goal
+use Rattle.dp_words.specs.CommandLine.{command_asked}
+use Rattle.dp_words.proofs.command_line.command_request.Goals as goal
 
 pub returns-in-match-clause-refused : goal.returns-in-match-clause-refused
 returns-in-match-clause-refused c =

@@ -6,8 +6,8 @@ use Rattle.clap.specs.Values.{kind_of}
 use Rattle.clap.specs.Walk.{Row, rows_of}
 use Rattle.clap.specs.declared.error.kind.ErrorKind.TheVariants.{OutOfMemory}
 use Rattle.clap.specs.declared.parser.matches.ArgMatches.TheViews.{out-ArgMatches, out-SubCommand}
-use Rattle.dp_program.specs.CommandLine.{asked_by}
-use Rattle.dp_program.proofs.command_line.request_of.Goals as goal
+use Rattle.dp_words.specs.CommandLine.{asked_by}
+use Rattle.dp_words.proofs.command_line.request_of.Goals as goal
 
 -- what is there has a name and words
 both_are : {B : Type 0} (name_of : B → List ℕ) (words_of : B → List Row) (found : Option B) (name : List ℕ) (words : List Row)

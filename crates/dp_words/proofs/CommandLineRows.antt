@@ -3,7 +3,7 @@ use Rattle.std.proofs.Common.{◌≡◌, [], ◌∷◌, Some, None, codes, refl}
 use Rattle.clap.proofs.OnLiterals.{clap_on_literals}
 use Rattle.clap.specs.Faults.{fault_of}
 use Rattle.clap.specs.declared.error.kind.ErrorKind.TheVariants as kind
-use Rattle.dp_program.specs.CommandLine.{pbx_app, asked_of, joined, check, listing, matching, run, debug}
+use Rattle.dp_words.specs.CommandLine.{pbx_app, asked_of, joined, check, listing, matching, run, debug}
 
 no_command : asked_of (codes "pbx" ∷ []) ≡ Some joined
 unfolding clap_on_literals asked_of

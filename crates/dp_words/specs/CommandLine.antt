@@ -8,8 +8,8 @@ use Rattle.clap.specs.Walk.{Row, Rule, first_of}
 use Rattle.dp_conf.specs.Words.{same_text}
 use Rattle.dp_commands.specs.Script.{number_within}
 use Rattle.dp_plan.specs.Priority.{most_priority}
-use Rattle.dp_program.specs.declared.command_line.Request.{Request}
-use Rattle.dp_program.specs.declared.command_line.Request.TheVariants.{Joined, Check, Listing, Match, Run, QueueRun, ThreadRun, QueueThreadRun, Debug, QueueDebug}
+use Rattle.dp_program.specs.declared.request.Request.{Request}
+use Rattle.dp_program.specs.declared.request.Request.TheVariants.{Joined, Check, Listing, Match, Run, QueueRun, ThreadRun, QueueThreadRun, Debug, QueueDebug}
 
 -- a word that has to be given
 abbrev pub required_word : List ℕ → Rule

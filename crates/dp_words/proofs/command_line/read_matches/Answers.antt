@@ -8,8 +8,8 @@ use Rattle.clap.specs.Values.{kind_of}
 use Rattle.clap.specs.declared.error.kind.ErrorKind.TheVariants.{OutOfMemory}
 use Rattle.clap.specs.declared.error.Error.{Error}
 use Rattle.clap.specs.declared.parser.matches.ArgMatches.{ArgMatches}
-use Rattle.dp_program.specs.CommandLine.{texts, pbx_app}
-use Rattle.dp_program.proofs.command_line.read_matches.Goals as goal
+use Rattle.dp_words.specs.CommandLine.{texts, pbx_app}
+use Rattle.dp_words.proofs.command_line.read_matches.Goals as goal
 
 -- the program's commands are of those whose matches are told
 has_simple_rules : is_simple pbx_app ≡ true

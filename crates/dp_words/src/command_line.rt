@@ -1,0 +1,268 @@
+//! The command line: what its words ask for.
+ghost use Rattle.std.specs.Prelude.{◌≡◌, ◌≢◌, IfOk, IfErr, Some, is_some, map, option_map, true, []};
+ghost use Rattle.clap.specs.Faults.{fault_of};
+ghost use Rattle.clap.specs.Kinds.{FailsBy, HasKind};
+ghost use Rattle.clap.specs.Matches.{found_of};
+ghost use Rattle.clap.specs.Simple.{subcommand_of, subcommand_rows_of};
+ghost use Rattle.clap.specs.Takes.{takes};
+ghost use Rattle.clap.specs.Values.{kind_of};
+ghost use Rattle.clap.specs.Walk.{first_of, rows_of};
+ghost use Rattle.clap.specs.declared.error.kind.ErrorKind.TheVariants.{OutOfMemory};
+ghost use Rattle.dp_words.specs.CommandLine as spec;
+
+use crate::commands::{match_command, pbx_command, run_command};
+use clap::error::ErrorKind;
+use clap::{ArgMatches, Command, Error};
+use dp_commands::number_within;
+use dp_plan::{MOST_PRIORITY, NoMemory, Priority};
+use dp_program::Request;
+use std::alloc::Global;
+
+/// The greatest number of threads of a run; this is the program's own limit.
+const MOST_THREADS: u32 = 64;
+
+/// The priority that a word writes: digits, and a number from 1 to 2,147,483,647.
+fn read_priority(word: &str) -> Option<Priority>
+    ensures { result ≡ spec.priority_in word.now }
+{
+    let number = number_within(MOST_PRIORITY, word.as_bytes())?;
+    Priority::new(number)
+}
+
+/// The refusal of a command line for a command, which help calls by its whole name.
+fn refuse<'a>(
+    command: Result<Command<'a>, NoMemory>,
+    name: &'a str,
+    kind: ErrorKind,
+    message: &str,
+) -> Result<Error, NoMemory> {
+    command?.bin_name(name)?.error(kind, message)
+}
+
+/// The refusal of a word that writes no priority.
+fn refuse_priority(alloc: Global, word: &str) -> Result<Error, NoMemory> {
+    let message = format!(in alloc;
+        "invalid value '{word}' for '[PRIORITY]': a priority is a number from 1 to {MOST_PRIORITY}"
+    )?;
+    refuse(
+        match_command(alloc),
+        "pbx match",
+        ErrorKind::ValueValidation,
+        &message,
+    )
+}
+
+/// The number of threads that a word writes: digits, and a number from 1 to 64.
+fn read_threads(word: &str) -> Option<u32>
+    ensures { result ≡ spec.threads_in word.now }
+{
+    let number = number_within(MOST_THREADS, word.as_bytes())?;
+    if number == 0 {
+        return None;
+    }
+    Some(number)
+}
+
+/// The refusal of a word that writes no number of threads.
+fn refuse_threads(alloc: Global, word: &str) -> Result<Error, NoMemory> {
+    let message = format!(in alloc;
+        "invalid value '{word}' for '--threads <N>': the number of threads is from 1 to {MOST_THREADS}"
+    )?;
+    refuse(
+        run_command(alloc),
+        "pbx run",
+        ErrorKind::ValueValidation,
+        &message,
+    )
+}
+
+/// The word of this name among those of a command.
+fn word_of<'a>(given: &ArgMatches<'a>, name: &str) -> Option<&'a str>
+    ensures { option_map (λ word. word.now) result ≡ first_of name.now (rows_of (found_of given.now)) }
+{
+    given.get_str(name)
+}
+
+/// What the words of `check` ask for.
+fn check_request<'a>(given: &ArgMatches<'a>) -> Option<Request<'a>>
+    ensures { option_map spec.asked result ≡ spec.check_asked (rows_of (found_of given.now)) }
+{
+    Some(Request::Check {
+        file: word_of(given, "FILE")?,
+    })
+}
+
+/// What the words of `list` ask for.
+fn list_request<'a>(given: &ArgMatches<'a>) -> Option<Request<'a>>
+    ensures { option_map spec.asked result ≡ spec.list_asked (rows_of (found_of given.now)) }
+{
+    Some(Request::Listing {
+        file: word_of(given, "FILE")?,
+    })
+}
+
+/// What the words of `match` ask for, or its refusal where they name no priority.
+fn match_request<'a>(alloc: Global, given: &ArgMatches<'a>) -> Result<Option<Request<'a>>, Error>
+    ensures asked { IfOk result (λ request. option_map spec.asked request ≡ spec.match_asked (rows_of (found_of given.now))) }
+    ensures refused { IfErr result (λ error. is_some (spec.match_asked (rows_of (found_of given.now))) ≡ true → kind_of error ≡ OutOfMemory) }
+{
+    let Some(word) = word_of(given, "PRIORITY") else {
+        return Ok(None);
+    };
+    match read_priority(word) {
+        Some(priority) => Ok(match_at(given, priority)),
+        None => Err(refuse_priority(alloc, word)?),
+    }
+}
+
+/// What the other words of `match` ask for at a priority.
+fn match_at<'a>(given: &ArgMatches<'a>, priority: Priority) -> Option<Request<'a>>
+    ensures { option_map spec.asked result ≡ spec.match_at (rows_of (found_of given.now)) priority }
+{
+    Some(Request::Match {
+        file: word_of(given, "FILE")?,
+        context: word_of(given, "CONTEXT")?,
+        text: word_of(given, "TEXT")?,
+        priority,
+    })
+}
+
+/// What the words of `run` ask for, or its refusal where they name threads but no number of them.
+fn run_request<'a>(alloc: Global, given: &ArgMatches<'a>) -> Result<Option<Request<'a>>, Error>
+    ensures asked { IfOk result (λ request. option_map spec.asked request ≡ spec.run_asked (rows_of (found_of given.now))) }
+    ensures refused { IfErr result (λ error. is_some (spec.run_asked (rows_of (found_of given.now))) ≡ true → kind_of error ≡ OutOfMemory) }
+{
+    let Some(word) = word_of(given, "N") else {
+        return Ok(plain_run(given));
+    };
+    match read_threads(word) {
+        Some(threads) => Ok(thread_run(given, threads)),
+        None => Err(refuse_threads(alloc, word)?),
+    }
+}
+
+/// What the other words of `run` ask for in so many threads.
+fn thread_run<'a>(given: &ArgMatches<'a>, threads: u32) -> Option<Request<'a>>
+    ensures { option_map spec.asked result ≡ spec.thread_run_of (rows_of (found_of given.now)) threads }
+{
+    let file = word_of(given, "FILE")?;
+    let script = word_of(given, "SCRIPT")?;
+    match word_of(given, "QUEUES") {
+        None => Some(Request::ThreadRun {
+            file,
+            script,
+            threads,
+        }),
+        Some(queues) => Some(Request::QueueThreadRun {
+            file,
+            queues,
+            script,
+            threads,
+        }),
+    }
+}
+
+/// What the words of `run` ask for without threads.
+fn plain_run<'a>(given: &ArgMatches<'a>) -> Option<Request<'a>>
+    ensures { option_map spec.asked result ≡ spec.plain_run_of (rows_of (found_of given.now)) }
+{
+    let file = word_of(given, "FILE")?;
+    let script = word_of(given, "SCRIPT")?;
+    match word_of(given, "QUEUES") {
+        None => Some(Request::Run { file, script }),
+        Some(queues) => Some(Request::QueueRun {
+            file,
+            queues,
+            script,
+        }),
+    }
+}
+
+/// What the words of `debug` ask for.
+fn debug_request<'a>(given: &ArgMatches<'a>) -> Option<Request<'a>>
+    ensures { option_map spec.asked result ≡ spec.debug_asked (rows_of (found_of given.now)) }
+{
+    let file = word_of(given, "FILE")?;
+    let script = word_of(given, "SCRIPT")?;
+    let held = word_of(given, "CONTEXT,EXTEN,PRIORITY")?;
+    match word_of(given, "QUEUES") {
+        None => Some(Request::Debug { file, script, held }),
+        Some(queues) => Some(Request::QueueDebug {
+            file,
+            queues,
+            script,
+            held,
+        }),
+    }
+}
+
+/// What the words of a command ask for, or None where one that is required is missing.
+fn command_request<'a>(
+    alloc: Global,
+    name: &str,
+    given: &ArgMatches<'a>,
+) -> Result<Option<Request<'a>>, Error>
+    ensures asked { IfOk result (λ request. option_map spec.asked request
+        ≡ spec.command_asked name.now (rows_of (found_of given.now))) }
+    ensures refused { IfErr result (λ error. is_some (spec.command_asked name.now (rows_of (found_of given.now))) ≡ true
+        → kind_of error ≡ OutOfMemory) }
+{
+    match name {
+        "check" => Ok(check_request(given)),
+        "list" => Ok(list_request(given)),
+        "match" => match_request(alloc, given),
+        "run" => run_request(alloc, given),
+        "debug" => Ok(debug_request(given)),
+        _ => Ok(None),
+    }
+}
+
+/// What the matches of the program's commands ask for, or None where a word that is required is missing.
+fn request_of<'a>(alloc: Global, matches: &ArgMatches<'a>) -> Result<Option<Request<'a>>, Error>
+    ensures asked { IfOk result (λ request. option_map spec.asked request ≡ spec.asked_by (subcommand_rows_of matches.now)) }
+    ensures refused { IfErr result (λ error. is_some (spec.asked_by (subcommand_rows_of matches.now)) ≡ true
+        → kind_of error ≡ OutOfMemory) }
+{
+    match matches.subcommand() {
+        Some((name, given)) => command_request(alloc, name, given),
+        None => Ok(Some(Request::Joined)),
+    }
+}
+
+/// The refusal of a command line that lacks a word that is required.
+fn refuse_missing(alloc: Global) -> Result<Error, NoMemory> {
+    refuse(
+        pbx_command(alloc),
+        "pbx",
+        ErrorKind::MissingRequiredArgument,
+        "one or more required arguments were not provided",
+    )
+}
+
+/// What `clap` makes of the words.
+fn read_matches<'a>(alloc: Global, words: &'a [String]) -> Result<ArgMatches<'a>, Error>
+    ensures command { IfOk result (λ matches. subcommand_rows_of matches ≡ subcommand_of spec.pbx_app (spec.texts words.now)) }
+    ensures refused { IfErr result (λ error. takes spec.pbx_app (spec.texts words.now) ≡ true → kind_of error ≡ OutOfMemory) }
+    ensures faults { FailsBy (fault_of spec.pbx_app (spec.texts words.now)) result }
+{
+    let commands = pbx_command(alloc)?;
+    commands.try_get_matches_from(words)
+}
+
+/// What a command line asks for, the program's own name first among its words; or the help that it asks for, or what is
+/// wrong with it.
+#[tactic(auto, unfolding(crate::specs::CommandLine::asked_of))]
+pub fn read_words<'a>(alloc: Global, words: &'a [String]) -> Result<Request<'a>, Error>
+    ensures asked { IfOk result (λ request. spec.asked_of (spec.texts words.now) ≡ Some (spec.asked request)) }
+    ensures refused { IfErr result (λ error. takes spec.pbx_app (spec.texts words.now) ≡ true
+        → is_some (spec.asked_of (spec.texts words.now)) ≡ true → kind_of error ≡ OutOfMemory) }
+    ensures faultless { IfOk result (λ _. fault_of spec.pbx_app (spec.texts words.now) ≡ []) }
+    ensures mistaken { IfErr result (λ error. fault_of spec.pbx_app (spec.texts words.now) ≢ []
+        → HasKind (fault_of spec.pbx_app (spec.texts words.now)) error) }
+{
+    let matches = read_matches(alloc, words)?;
+    match request_of(alloc, &matches)? {
+        Some(request) => Ok(request),
+        None => Err(refuse_missing(alloc)?),
+    }
+}

@@ -1,0 +1,90 @@
+//! What the help says beside the words of the commands.
+
+/// What the help says below the commands.
+pub(crate) const PBX_NOTES: &str = "\
+With no command, pbx reads one text from the standard input and runs it: a dialplan, a line `;; script`, and a script.
+
+Examples:
+  pbx check extensions.conf
+  pbx list extensions.conf
+  pbx match extensions.conf main 555-1234
+  pbx run extensions.conf calls.script
+  pbx debug --break main,100,2 extensions.conf calls.script
+  pbx < joined.conf
+
+Status: 0; 1 where a fault was printed or an event was refused; 2 where the command line was refused.";
+
+/// What the help of `check` says below its words.
+pub(crate) const CHECK_NOTES: &str = "\
+Prints `note LINE KIND` for each line that is dropped and for each include that finds nothing, and then the counts.
+A dialplan that does not load has its first fault on standard error, with its line, and the status 1.
+
+Example:
+  $ pbx check extensions.conf
+  note 13 UnknownContext
+  ok 1 contexts 4 entries";
+
+/// What the help of `list` says below its words.
+pub(crate) const LIST_NOTES: &str = "\
+Prints the dialplan in one canonical text: its global variables, and each context with its entries and its includes. Each
+priority is a number, and each name stands in its one spelling. The notes of the dialplan are not printed.
+
+Example:
+  $ pbx list extensions.conf
+  [main]
+  exten => _NXXXXXX,1,Answer()
+  exten => _NXXXXXX,2(q),Queue(support,c)
+  include => out";
+
+/// What the help of `match` says below its words.
+pub(crate) const MATCH_NOTES: &str = "\
+Prints `CONTEXT,NAME,PRIORITY APPLICATION` of the entry that answers, or `none`. The context is searched first, and then
+what it includes. A word that begins with `-` may stand behind `--`.
+
+Example:
+  $ pbx match extensions.conf main 555-1234 3
+  main,_NXXXXXX,3 Queue";
+
+/// What the help of `run` says below its words.
+pub(crate) const RUN_NOTES: &str = "\
+A script has one event a line. Channels are numbered from 1 as they start, queues and agents are named:
+  start CONTEXT EXTEN [CALLER]   a call comes in
+  step CHANNEL [COUNT]           the channel takes so many steps
+  digit CHANNEL D                the caller dials a digit
+  timeout CHANNEL                what the channel waits for does not come in time
+  poll CHANNEL                   the channel leaves its queue, if that is too empty
+  hangup CHANNEL                 the caller hangs up
+  offer QUEUE                    a call of the queue rings at agents
+  answer AGENT, decline AGENT    the agent takes the call that it rings for, or not
+  done AGENT                     the agent is done with its call
+  show CHANNEL NAME              prints a variable
+Prints a line for each of them.
+
+With --threads N the calls that the script begins with come in first. Then N threads give the other events at once, each in
+turn one, and each thread its own in their order; `show` is passed over. One line is printed: `settled N seats M calls`.
+
+Example:
+  $ cat calls.script
+  start main 100
+  step 1 2
+  $ pbx run extensions.conf calls.script
+  started 1
+  ran 1 main,100,1 NoOp -> ready main,100,2
+  ran 1 main,100,2 Hangup -> ended";
+
+/// What the help of `debug` says below its words.
+pub(crate) const DEBUG_NOTES: &str = "\
+Runs the script as `run` does, but passes over `show`. Before a step of a channel that is ready at the place of the break it prints
+`break TAKEN`, and goes on; last it prints `end TAKEN`. TAKEN is how many events of the script were taken. The context and the
+extension are compared byte by byte with those of the channel: a pattern, or a context that is included, is no place.
+
+Example:
+  $ cat calls.script
+  start main 100
+  step 1 2
+  $ pbx debug --break main,100,2 extensions.conf calls.script
+  started 1
+  ran 1 main,100,1 NoOp -> ready main,100,2
+  break 2
+  ran 1 main,100,2 Hangup -> ended
+  end 3";

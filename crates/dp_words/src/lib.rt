@@ -1,0 +1,10 @@
+//! What the words of a command line ask the program `pbx` for, and its answer to them.
+#![tactic(auto)]
+
+mod command_line;
+mod commands;
+mod help;
+mod program;
+
+pub use command_line::read_words;
+pub use program::answer;
