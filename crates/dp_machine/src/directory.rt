@@ -136,7 +136,9 @@ impl Directory {
         ensures same { self.new ≡ self.old }
     {
         self.tables.turn_to(&self.plan, context);
-        self.tables.trie.find_label(&self.tables.order, exten, label)
+        self.tables
+            .trie
+            .find_label(&self.tables.order, exten, label)
     }
 
     /// The entry of these numbers, which stands in the dialplan.
@@ -156,6 +158,7 @@ impl Directory {
         ensures { IfOk result (λ id. id ≡ spec.id_at self.now place.now) }
     {
         let order = SearchOrder::of(alloc, &self.plan, &place.context)?;
-        Ok(self.tables.trie.find(&order, place.exten.bytes(), place.priority))
+        let exten = place.exten.bytes();
+        Ok(self.tables.trie.find(&order, exten, place.priority))
     }
 }

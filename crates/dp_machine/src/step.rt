@@ -244,7 +244,10 @@ fn step_ready<T: AppTable>(
     ensures sound { OnOk result (IsSoundIn channel.new.phase channel.new) }
 {
     let place = &channel.place;
-    match exchange.plan.find(&place.context, place.exten.bytes(), place.priority) {
+    match exchange
+        .plan
+        .find(&place.context, place.exten.bytes(), place.priority)
+    {
         Some(id) => step_found::<T>(alloc, exchange, number, channel, id),
         None => step_unfound(alloc, exchange, channel),
     }

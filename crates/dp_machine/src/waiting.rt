@@ -187,11 +187,7 @@ fn leave_queue(
 }
 
 /// No digit came in time for `WaitExten`: the channel goes on, or else to the extension `t`, or is hung up.
-fn end_wait(
-    alloc: Global,
-    exchange: &mut Exchange,
-    channel: &mut Channel,
-) -> Result<(), NoMemory>
+fn end_wait(alloc: Global, exchange: &mut Exchange, channel: &mut Channel) -> Result<(), NoMemory>
     requires { channel.old.place.priority ≤ most_priority }
     ensures ok { OnOk result (channel.new ≡ channels.waited exchange.old.plan channel.old) }
     ensures err { OnErr result (channel.new ≡ channel.old) }
@@ -199,7 +195,10 @@ fn end_wait(
 {
     let place = &channel.place;
     let exten = place.exten.bytes();
-    if exchange.plan.is_found(&place.context, exten, place.priority + 1) {
+    if exchange
+        .plan
+        .is_found(&place.context, exten, place.priority + 1)
+    {
         go_on(channel);
         return Ok(());
     }
