@@ -11,7 +11,6 @@ mod rows;
 
 use crate::lookup::render::check;
 use std::alloc::Global;
-use std::process::Abort;
 use std::test::Fail;
 
 const TABLES: &[&str] = &[
@@ -23,14 +22,14 @@ const TABLES: &[&str] = &[
     more::MORE,
 ];
 
-fn check_tables(rt: &impl Abort, alloc: Global) -> Result<(), Fail> {
+fn check_tables(alloc: Global) -> Result<(), Fail> {
     for table in TABLES {
-        check(rt, alloc, table)?;
+        check(alloc, table)?;
     }
     Ok(())
 }
 
 #[test]
 fn look_ups_have_these_answers(rt: HostRuntime) -> Result<(), Fail> {
-    check_tables(&rt, rt.alloc())
+    check_tables(rt.alloc())
 }

@@ -4,7 +4,6 @@ use dp_lookup::{
 };
 use dp_rows::{bytes_of, is_heading};
 use std::alloc::Global;
-use std::process::Abort;
 use std::test::Fail;
 
 fn push_entry(out: &mut String, plan: &Dialplan, id: EntryId) -> Result<(), NoMemory> {
@@ -97,9 +96,27 @@ fn answer(
     Ok(out)
 }
 
+fn check_answer(asked: &str, got: &str, want: &str, of: &str) -> Result<(), Fail> {
+    if got == want {
+        return Ok(());
+    }
+    Err(Fail::new(format_args!("{asked} gives {got}, not {want}, in {of}")))
+}
+
+fn check_row(
+    alloc: Global,
+    plan: &Dialplan,
+    order: &SearchOrder,
+    of: &str,
+    row: &str,
+) -> Result<(), Fail> {
+    let (asked, want) = row.split_once('→').ok_or("no answer")?;
+    let got = answer(alloc, plan, order, asked)?;
+    check_answer(asked, &got, want, of)
+}
+
 /// Holds each answer in the order of one context against the one that is wanted. `of` says where the rows stand.
 fn check_rows(
-    rt: &impl Abort,
     alloc: Global,
     plan: &Dialplan,
     order: &SearchOrder,
@@ -107,36 +124,22 @@ fn check_rows(
     rows: &str,
 ) -> Result<(), Fail> {
     for row in rows.lines() {
-        let (asked, want) = row.split_once('→').ok_or("no answer")?;
-        let got = answer(alloc, plan, order, asked)?;
-        assert_eq!(rt; got.as_str(), want, "{asked} in {of}");
+        check_row(alloc, plan, order, of, row)?;
     }
     Ok(())
 }
 
 /// The rows that stand behind the name of a context.
-fn check_context(
-    rt: &impl Abort,
-    alloc: Global,
-    plan: &Dialplan,
-    of: &str,
-    asked: &str,
-) -> Result<(), Fail> {
+fn check_context(alloc: Global, plan: &Dialplan, of: &str, asked: &str) -> Result<(), Fail> {
     let (name, rows) = asked.split_once('\n').ok_or("no rows")?;
     let name = Text::copy_of(alloc, name.as_bytes())?;
     let order = SearchOrder::of(alloc, plan, &name)?;
-    check_rows(rt, alloc, plan, &order, of, rows)
+    check_rows(alloc, plan, &order, of, rows)
 }
 
-fn check_contexts(
-    rt: &impl Abort,
-    alloc: Global,
-    plan: &Dialplan,
-    of: &str,
-    contexts: &str,
-) -> Result<(), Fail> {
+fn check_contexts(alloc: Global, plan: &Dialplan, of: &str, contexts: &str) -> Result<(), Fail> {
     for asked in contexts.split("\nfrom ") {
-        check_context(rt, alloc, plan, of, asked)?;
+        check_context(alloc, plan, of, asked)?;
     }
     Ok(())
 }
@@ -152,10 +155,10 @@ fn plan_of(alloc: Global, head: &str) -> Result<Dialplan, Fail> {
     Ok(plan)
 }
 
-fn check_block(rt: &impl Abort, alloc: Global, block: &str) -> Result<(), Fail> {
+fn check_block(alloc: Global, block: &str) -> Result<(), Fail> {
     let (head, contexts) = block.split_once("\nfrom ").ok_or("no context")?;
     let plan = plan_of(alloc, head)?;
-    check_contexts(rt, alloc, &plan, head, contexts)
+    check_contexts(alloc, &plan, head, contexts)
 }
 
 /// Holds the answers to the questions of a table against those that are wanted.
@@ -164,9 +167,9 @@ fn check_block(rt: &impl Abort, alloc: Global, block: &str) -> Result<(), Fail> 
 /// context that is asked a line `from CONTEXT` with its rows behind it. A row is a question, an arrow and the answer:
 /// `find TEXT,PRIORITY` is `CONTEXT APPLICATION` or `none`, `label TEXT,LABEL` the priority or `none`, `more TEXT` is
 /// `more` or `no more`, and `order` the names of the contexts in the order of the search, each before a blank.
-pub(super) fn check(rt: &impl Abort, alloc: Global, table: &str) -> Result<(), Fail> {
+pub(super) fn check(alloc: Global, table: &str) -> Result<(), Fail> {
     for block in table.split("\n\n") {
-        check_block(rt, alloc, block)?;
+        check_block(alloc, block)?;
     }
     Ok(())
 }

@@ -1,5 +1,6 @@
 //! A long name.
-use dp_lookup::{Text, find};
+use crate::render::order_from;
+use dp_lookup::find;
 use dp_trie::{Dialplan, EntryId, NoMemory, SearchOrder, Trie};
 use std::alloc::Global;
 use std::process::Abort;
@@ -37,21 +38,34 @@ const ONLY: EntryId = EntryId {
     entry: 0,
 };
 
-fn check_digits(rt: &impl Abort, alloc: Global, plan: &Dialplan) -> Result<(), Fail> {
-    let trie = Trie::build(alloc, plan)?;
-    let context = Text::copy_of(alloc, b"main")?;
-    let order = SearchOrder::of(alloc, plan, &context)?;
-    let found = find_digits(alloc, plan, &trie, &order, CLASSES)?;
+fn check_found(
+    rt: &impl Abort,
+    alloc: Global,
+    plan: &Dialplan,
+    trie: &Trie,
+    order: &SearchOrder,
+) -> Result<(), Fail> {
+    let found = find_digits(alloc, plan, trie, order, CLASSES)?;
     assert_eq!(rt; found, (Some(ONLY), Some(ONLY)));
-    let found = find_digits(alloc, plan, &trie, &order, CLASSES - 1)?;
+    let found = find_digits(alloc, plan, trie, order, CLASSES - 1)?;
     assert_eq!(rt; found, (None, None));
     assert_eq!(rt; trie.nodes(0), CLASSES + 1);
     Ok(())
 }
 
+fn check_digits(rt: &impl Abort, alloc: Global, plan: &Dialplan) -> Result<(), Fail> {
+    let trie = Trie::build(alloc, plan)?;
+    let order = order_from(alloc, plan, b"main")?;
+    check_found(rt, alloc, plan, &trie, &order)
+}
+
+fn check_long_name(rt: &impl Abort, alloc: Global) -> Result<(), Fail> {
+    let plan = long_name(alloc)?;
+    check_digits(rt, alloc, &plan)
+}
+
 /// A name of 1,000,000 classes is matched by as many digits, and not by one fewer.
 #[test]
 fn a_long_name_is_matched(rt: HostRuntime) -> Result<(), Fail> {
-    let plan = long_name(rt.alloc())?;
-    check_digits(&rt, rt.alloc(), &plan)
+    check_long_name(&rt, rt.alloc())
 }

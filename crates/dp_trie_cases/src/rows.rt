@@ -1,6 +1,8 @@
 //! Worked cases, with their answers.
-use crate::trie::render::check;
+use crate::render::check;
 use dp_trie::{Dialplan, Trie};
+use std::alloc::Global;
+use std::process::Abort;
 use std::test::Fail;
 
 #[test]
@@ -41,6 +43,18 @@ more 1234→more";
     check(&rt, rt.alloc(), text, b"main", asked)
 }
 
+fn check_trie(rt: &impl Abort, alloc: Global, plan: &Dialplan) -> Result<(), Fail> {
+    let trie = Trie::build(alloc, plan)?;
+    assert_eq!(rt; (trie.nodes(0), trie.nodes(1)), (4, 0));
+    Ok(())
+}
+
+/// A tree of four nodes, and none where there is no such context.
+fn check_nodes(rt: &impl Abort, alloc: Global, text: &[u8]) -> Result<(), Fail> {
+    let (plan, _) = Dialplan::load(alloc, text)?;
+    check_trie(rt, alloc, &plan)
+}
+
 /// The count is at most the number of the tree's nodes, and at least that of the classes of a pattern that is found.
 #[test]
 fn counted_trie(rt: HostRuntime) -> Result<(), Fail> {
@@ -54,12 +68,10 @@ count 15,1→3
 count 2,1→0
 count ,1→0";
     check(&rt, rt.alloc(), text, b"main", asked)?;
-    let (plan, _) = Dialplan::load(rt.alloc(), text)?;
-    let trie = Trie::build(rt.alloc(), &plan)?;
-    assert_eq!(rt; (trie.nodes(0), trie.nodes(1)), (4, 0));
-    Ok(())
+    check_nodes(&rt, rt.alloc(), text)
 }
 
+/// The nodes that are entered count in each context that is asked, up to the one that answers.
 #[test]
 fn rows_of_several_contexts(rt: HostRuntime) -> Result<(), Fail> {
     let text = b"[a]\ninclude => b\nexten => 5,1,own\nexten => _X,4(out),any\n[b]\ninclude => a\n\
@@ -75,7 +87,11 @@ label 6,out→4
 more 5→no more
 more 6→more
 more 67→more
-more 678→no more";
+more 678→no more
+count 5,1→0
+count 5,2→4
+count 678,1→2
+count 77,1→4";
     check(&rt, rt.alloc(), text, b"a", asked)?;
     let asked = "\
 find 5,1→b first

@@ -1,5 +1,6 @@
 //! Generated dialplans, of which the tries and the look-up in the dialplan are asked the same questions.
-use dp_lookup::{Text, could_be_more, find, find_label};
+use crate::render::order_from;
+use dp_lookup::{could_be_more, find, find_label};
 use dp_trie::{Dialplan, NoMemory, SearchOrder, Trie};
 use std::alloc::Global;
 use std::process::Abort;
@@ -65,26 +66,51 @@ fn agree(plan: &Dialplan, trie: &Trie, order: &SearchOrder, text: &[u8], number:
         && trie.more(order, text) == could_be_more(plan, order, text)
 }
 
-/// Asks a generated dialplan, and holds each count against its bound.
-fn check_plan(rt: &impl Abort, alloc: Global, seed: &mut u32) -> Result<(), Fail> {
-    let text = plan_text(alloc, seed)?;
-    let (plan, _) = Dialplan::load(alloc, text.as_bytes())?;
-    let trie = Trie::build(alloc, &plan)?;
-    let context = Text::copy_of(alloc, b"c0")?;
-    let order = SearchOrder::of(alloc, &plan, &context)?;
+/// Asks a generated dialplan of this text, and holds each count against its bound.
+fn ask_all(
+    rt: &impl Abort,
+    alloc: Global,
+    text: &str,
+    plan: &Dialplan,
+    trie: &Trie,
+    order: &SearchOrder,
+    seed: &mut u32,
+) -> Result<(), Fail> {
     let mut asked = Vec::new(alloc);
     for turn in 0..112 {
         push_text(&mut asked, seed)?;
         let number = 1 + turn % 3;
         assert!(rt;
-            agree(&plan, &trie, &order, &asked, number),
+            agree(plan, trie, order, &asked, number),
             "{text} {asked:?} {number}"
         );
-        let (_, count) = trie.find_counted(&order, &asked, number);
+        let (_, count) = trie.find_counted(order, &asked, number);
         let nodes = trie.nodes(0).saturating_add(trie.nodes(1));
         assert!(rt; count <= nodes, "{text} {asked:?} {number}");
     }
     Ok(())
+}
+
+fn check_trie(
+    rt: &impl Abort,
+    alloc: Global,
+    text: &str,
+    plan: &Dialplan,
+    seed: &mut u32,
+) -> Result<(), Fail> {
+    let trie = Trie::build(alloc, plan)?;
+    let order = order_from(alloc, plan, b"c0")?;
+    ask_all(rt, alloc, text, plan, &trie, &order, seed)
+}
+
+fn check_plan(rt: &impl Abort, alloc: Global, text: &str, seed: &mut u32) -> Result<(), Fail> {
+    let (plan, _) = Dialplan::load(alloc, text.as_bytes())?;
+    check_trie(rt, alloc, text, &plan, seed)
+}
+
+fn check_generated(rt: &impl Abort, alloc: Global, seed: &mut u32) -> Result<(), Fail> {
+    let text = plan_text(alloc, seed)?;
+    check_plan(rt, alloc, &text, seed)
 }
 
 /// Thirty dialplans, of each of which 336 questions are asked.
@@ -92,7 +118,7 @@ fn check_plan(rt: &impl Abort, alloc: Global, seed: &mut u32) -> Result<(), Fail
 fn tries_agree_with_the_look_up_in_the_dialplan(rt: HostRuntime) -> Result<(), Fail> {
     let mut seed = 1;
     for _ in 0..30 {
-        check_plan(&rt, rt.alloc(), &mut seed)?;
+        check_generated(&rt, rt.alloc(), &mut seed)?;
     }
     Ok(())
 }

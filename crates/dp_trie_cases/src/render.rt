@@ -85,6 +85,40 @@ fn check_rows(
     Ok(())
 }
 
+/// The search order from a context.
+pub(super) fn order_from(
+    alloc: Global,
+    plan: &Dialplan,
+    context: &[u8],
+) -> Result<SearchOrder, NoMemory> {
+    let context = Text::copy_of(alloc, context)?;
+    let order = SearchOrder::of(alloc, plan, &context)?;
+    Ok(order)
+}
+
+fn check_from(
+    rt: &impl Abort,
+    alloc: Global,
+    plan: &Dialplan,
+    trie: &Trie,
+    context: &[u8],
+    rows: &str,
+) -> Result<(), Fail> {
+    let order = order_from(alloc, plan, context)?;
+    check_rows(rt, alloc, plan, trie, &order, rows)
+}
+
+fn check_in(
+    rt: &impl Abort,
+    alloc: Global,
+    plan: &Dialplan,
+    context: &[u8],
+    rows: &str,
+) -> Result<(), Fail> {
+    let trie = Trie::build(alloc, plan)?;
+    check_from(rt, alloc, plan, &trie, context, rows)
+}
+
 /// Loads the dialplan and makes its tries, and holds each answer from the context against the one that is wanted.
 ///
 /// A row is a question, an arrow and the answer: `find TEXT,PRIORITY` is `CONTEXT APPLICATION` or `none`,
@@ -98,8 +132,5 @@ pub(super) fn check(
     rows: &str,
 ) -> Result<(), Fail> {
     let (plan, _) = Dialplan::load(alloc, text)?;
-    let trie = Trie::build(alloc, &plan)?;
-    let context = Text::copy_of(alloc, context)?;
-    let order = SearchOrder::of(alloc, &plan, &context)?;
-    check_rows(rt, alloc, &plan, &trie, &order, rows)
+    check_in(rt, alloc, &plan, context, rows)
 }

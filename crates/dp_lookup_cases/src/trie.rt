@@ -1,4 +1,0 @@
-mod agreement;
-mod large;
-mod render;
-mod rows;
