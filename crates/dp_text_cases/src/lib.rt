@@ -1,4 +1,4 @@
-//! Cases of configuration texts, names, expressions and variables, as tables with their answers.
+//! Cases of configuration texts, names and expressions, as tables with their answers.
 //!
 //! A crate with tests is proved twice, so the cases of the libraries stand in crates of their own, where each is proved once.
 #![tactic(auto)]
@@ -9,5 +9,3 @@ mod conf;
 mod expr;
 #[cfg(test)]
 mod pattern;
-#[cfg(test)]
-mod vars;

@@ -14,6 +14,7 @@ use dp_vars::{
     ChannelSeen, Counts, Globals, Scope, Store, Template, TemplateFault, Variable, expand,
 };
 use std::alloc::Global;
+use std::slice;
 use std::test::Fail;
 
 /// Three calls wait in the queue `sales`, and none in any other.
@@ -81,13 +82,16 @@ fn shown(alloc: Global, world: &World, text: &[u8]) -> Result<String, NoMemory> 
     Ok(out)
 }
 
-/// A frame with one local, which goes back to its number.
-fn push_frame(alloc: Global, world: &mut World, name: &[u8], value: &[u8]) -> Result<(), NoMemory> {
-    let mut locals = Vec::new(alloc);
+fn variable(alloc: Global, name: &[u8], value: &[u8]) -> Result<Variable, NoMemory> {
     let name = Text::copy_of(alloc, name)?;
     let value = Text::copy_of(alloc, value)?;
-    locals.push(Variable { name, value })?;
-    world.store.push_frame(alloc, 1, &locals)
+    Ok(Variable { name, value })
+}
+
+/// A frame with one local, which goes back to its number.
+fn push_frame(alloc: Global, world: &mut World, name: &[u8], value: &[u8]) -> Result<(), NoMemory> {
+    let local = variable(alloc, name, value)?;
+    world.store.push_frame(alloc, 1, slice::from_ref(&local))
 }
 
 /// A global that is expanded before it is put, with no channel.
@@ -142,6 +146,17 @@ fn take(alloc: Global, world: &mut World, step: &str) -> Result<(), NoMemory> {
     Ok(())
 }
 
+/// The expansion in a world of what stands behind the last ` ; `, after the steps between those before it.
+fn expanded_in(alloc: Global, world: &mut World, asked: &str) -> Result<String, Fail> {
+    let (steps, text) = asked.rsplit_once(" ; ").unwrap_or(("", asked));
+    for step in steps.split(" ; ") {
+        take(alloc, world, step)?;
+    }
+    let text = bytes_of(alloc, text)?;
+    let out = shown(alloc, world, &text)?;
+    Ok(out)
+}
+
 /// The expansion of what stands behind the last ` ; `, after the steps between those before it.
 ///
 /// `set NAME=VALUE` sets a variable, `local` a local of the innermost frame, `push` adds a frame with one local, `pop`
@@ -152,13 +167,7 @@ struct Expanded;
 impl Question for Expanded {
     fn answer(alloc: Global, asked: &str) -> Result<String, Fail> {
         let mut world = World::new(alloc);
-        let (steps, text) = asked.rsplit_once(" ; ").unwrap_or(("", asked));
-        for step in steps.split(" ; ") {
-            take(alloc, &mut world, step)?;
-        }
-        let text = bytes_of(alloc, text)?;
-        let out = shown(alloc, &world, &text)?;
-        Ok(out)
+        expanded_in(alloc, &mut world, asked)
     }
 }
 

@@ -1,7 +1,7 @@
 //! Variables of a channel, frames and locals.
-use crate::vars::{World, push_frame};
-use dp_conf::{NoMemory, Text};
-use dp_vars::{Globals, Store, Variable};
+use crate::vars::{World, push_frame, variable};
+use dp_conf::NoMemory;
+use dp_vars::{Globals, Store};
 use std::alloc::Global;
 use std::process::Abort;
 use std::test::Fail;
@@ -32,12 +32,6 @@ push A=1 ; pop ; pop ; ${A}→
 push A=1 ; pop ; push B=2 ; ${A}→
 ";
 
-fn variable(alloc: Global, name: &[u8], value: &[u8]) -> Result<Variable, NoMemory> {
-    let name = Text::copy_of(alloc, name)?;
-    let value = Text::copy_of(alloc, value)?;
-    Ok(Variable { name, value })
-}
-
 fn check_frames(rt: &impl Abort, alloc: Global, store: &mut Store<u32>) -> Result<(), Fail> {
     store.push_frame(alloc, 1, &[])?;
     store.push_frame(alloc, 2, &[])?;
@@ -54,9 +48,7 @@ fn frames(rt: &impl Abort, alloc: Global) -> Result<(), Fail> {
 }
 
 fn push_doubled(alloc: Global, store: &mut Store<u32>) -> Result<(), NoMemory> {
-    let mut locals = Vec::new(alloc);
-    locals.push(variable(alloc, b"A", b"1")?)?;
-    locals.push(variable(alloc, b"A", b"2")?)?;
+    let locals = [variable(alloc, b"A", b"1")?, variable(alloc, b"A", b"2")?];
     store.push_frame(alloc, 1, &locals)
 }
 
