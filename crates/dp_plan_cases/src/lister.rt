@@ -1,7 +1,7 @@
 //! Listings of dialplans.
 use crate::plan::LOADED;
 use crate::plan::orders::ORDERS;
-use crate::plan::render::shown;
+use crate::plan::render::shown_plan;
 use dp_conf::{NoMemory, escape};
 use dp_lister::list;
 use dp_plan::{Dialplan, Note, NoteKind};
@@ -63,40 +63,49 @@ const LISTINGS: &str = r"
 [general]\nstatic=yes\nwriteprotect=no\n\n[globals]\nTRUNK=Line/9\n\n[main]\nexten => _NXXXXXX,1,Answer()\n same => n,Playback(hello-world)\n same => n(q),Queue(support,c)\n same => n,Hangup()\ninclude => out\n→[globals]\nTRUNK => Line/9\n[main]\nexten => _NXXXXXX,1,Answer()\nexten => _NXXXXXX,2,Playback(hello-world)\nexten => _NXXXXXX,3(q),Queue(support,c)\nexten => _NXXXXXX,4,Hangup()\ninclude => out\n
 ";
 
-/// What a dialplan is, without its notes.
-fn shown_plan(alloc: Global, plan: Dialplan) -> Result<String, NoMemory> {
-    shown(alloc, &Ok((plan, Vec::new(alloc))))
-}
-
 fn check_notes(rt: &impl Abort, notes: &[Note]) {
     for note in notes {
         assert_eq!(rt; note.kind, NoteKind::UnknownContext);
     }
 }
 
-/// The dialplan of a listing and its own listing.
-fn listed_again(rt: &impl Abort, alloc: Global, listed: &[u8]) -> Result<(String, Vec<u8>), Fail> {
-    let (plan, notes) = Dialplan::load(alloc, listed)?;
-    check_notes(rt, &notes);
-    let again = list(alloc, &plan)?;
+/// A dialplan as it is shown without its notes, and its listing.
+#[derive(Drop)]
+struct Listed {
+    shown: String,
+    bytes: Vec<u8>,
+}
+
+fn shown_and_listed(alloc: Global, plan: &Dialplan) -> Result<Listed, NoMemory> {
     let shown = shown_plan(alloc, plan)?;
-    Ok((shown, again))
+    let bytes = list(alloc, plan)?;
+    Ok(Listed { shown, bytes })
+}
+
+/// The dialplan of a listing and its own listing.
+fn listed_again(rt: &impl Abort, alloc: Global, listing: &[u8]) -> Result<Listed, Fail> {
+    let (plan, notes) = Dialplan::load(alloc, listing)?;
+    check_notes(rt, &notes);
+    Ok(shown_and_listed(alloc, &plan)?)
+}
+
+fn check_same(rt: &impl Abort, got: &Listed, want: &Listed, asked: &str) {
+    assert!(rt; got.shown.as_str() == want.shown.as_str(), "of {asked}");
+    assert!(rt; got.bytes.as_slice() == want.bytes.as_slice(), "of {asked}");
 }
 
 /// A listing loads as the same dialplan, without notes but on includes, and lists as the same text.
-fn check_listing(rt: &impl Abort, alloc: Global, plan: Dialplan, asked: &str) -> Result<(), Fail> {
-    let listed = list(alloc, &plan)?;
-    let want = shown_plan(alloc, plan)?;
-    let (got, again) = listed_again(rt, alloc, &listed)?;
-    assert!(rt; got.as_str() == want.as_str(), "of {asked}");
-    assert!(rt; again.as_slice() == listed.as_slice(), "of {asked}");
+fn check_listing(rt: &impl Abort, alloc: Global, plan: &Dialplan, asked: &str) -> Result<(), Fail> {
+    let first = shown_and_listed(alloc, plan)?;
+    let again = listed_again(rt, alloc, &first.bytes)?;
+    check_same(rt, &again, &first, asked);
     Ok(())
 }
 
 fn check_text(rt: &impl Abort, alloc: Global, asked: &str) -> Result<(), Fail> {
     let text = bytes_of(alloc, asked)?;
     match Dialplan::load(alloc, &text) {
-        Ok((plan, _)) => check_listing(rt, alloc, plan, asked),
+        Ok((plan, _)) => check_listing(rt, alloc, &plan, asked),
         Err(_) => Ok(()),
     }
 }

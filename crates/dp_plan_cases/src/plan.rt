@@ -1,5 +1,4 @@
-//! Dialplans, how they load and what is read of them, worked out by hand from the rules.
-mod codes;
+//! Dialplans and how they load, worked out by hand from the rules.
 pub(crate) mod faults;
 pub(crate) mod includes;
 pub(crate) mod labels;
@@ -9,7 +8,6 @@ pub(crate) mod numbering;
 pub(crate) mod orders;
 pub(crate) mod places;
 pub(crate) mod plans;
-pub(crate) mod readers;
 pub(crate) mod render;
 pub(crate) mod rows;
 
@@ -46,7 +44,7 @@ pub(crate) const LOADED: &[&str] = &[
     includes::WITH_TIMES,
     faults::OF_A_LINE,
     faults::OF_A_TEXT,
-    readers::ONE_DIALPLAN,
+    plans::ONE_DIALPLAN,
 ];
 
 #[test]

@@ -59,10 +59,13 @@ struct Ranks;
 impl Question for Ranks {
     fn answer(alloc: Global, asked: &str) -> Result<String, Fail> {
         let text = bytes_of(alloc, asked)?;
-        let (plan, _) = Dialplan::load(alloc, &text)?;
-        let got = ranking(alloc, &plan, 0)?;
-        Ok(got)
+        ranking_of(alloc, &text)
     }
+}
+
+fn ranking_of(alloc: Global, text: &[u8]) -> Result<String, Fail> {
+    let (plan, _) = Dialplan::load(alloc, text)?;
+    Ok(ranking(alloc, &plan, 0)?)
 }
 
 #[test]

@@ -256,3 +256,10 @@ pub(crate) const WHOLE: &str = r"
 # A usual file.
 [general]\nstatic=yes\n\n[globals]\nTRUNK=Line/9\n\n[main]\nexten => 100,1,NoOp(hello)\nexten => 100,2,Goto(200,1)\n\n[out]\nexten => 5,1,Hangup ; away\n\n[main]\nexten => 200,1,Hangup()\n→{TRUNK=Line/9}[main]<100,1,NoOp(hello)><100,2,Goto(200,1)><200,1,Hangup()>[out]<5,1,Hangup()>
 ";
+
+/// Three ways to write one dialplan.
+pub(crate) const ONE_DIALPLAN: &str = r"
+[m]\nexten => _NX,1,A(x)\nexten => _NX,2(b),B()\ninclude => m\n→[m]<_NX,1,A(x)><_NX,2(b),B()>{+m}
+[m]\nEXTEN = _[2-9]x,01,A (x)\nsame => n( b ),B\ninclude = m ; y\n→[m]<_NX,1,A(x)><_NX,2(b),B()>{+m}
+[m]\ninclude => m\n[m]\nexten => _n-X,1,A(x)\n[m]\nexten => _[98765432][0-9],n(b) , B()\n→[m]<_NX,1,A(x)><_NX,2(b),B()>{+m}
+";

@@ -20,12 +20,12 @@ impl Question for Loads {
 }
 
 /// Adds the canonical spelling of a name.
-pub(super) fn push_name(out: &mut String, alloc: Global, name: &Name) -> Result<(), NoMemory> {
+fn push_name(out: &mut String, alloc: Global, name: &Name) -> Result<(), NoMemory> {
     let spelled = Text::new(name.text(alloc)?);
     write!(out, "{spelled}")
 }
 
-pub(super) fn push_label(out: &mut String, label: &Option<SharedText>) -> Result<(), NoMemory> {
+fn push_label(out: &mut String, label: &Option<SharedText>) -> Result<(), NoMemory> {
     match label {
         Some(label) => write!(out, "({label})"),
         None => Ok(()),
@@ -69,6 +69,13 @@ fn push_plan(out: &mut String, alloc: Global, plan: &Dialplan) -> Result<(), NoM
     Ok(())
 }
 
+/// A dialplan as `shown` says, without its notes.
+pub(crate) fn shown_plan(alloc: Global, plan: &Dialplan) -> Result<String, NoMemory> {
+    let mut out = String::new(alloc);
+    push_plan(&mut out, alloc, plan)?;
+    Ok(out)
+}
+
 fn push_fault(out: &mut String, fault: LoadFault) -> Result<(), NoMemory> {
     match fault {
         LoadFault::Conf(ConfFault::At { line, kind }) => {
@@ -92,7 +99,7 @@ fn push_fault(out: &mut String, fault: LoadFault) -> Result<(), NoMemory> {
 /// `<NAME,PRIORITY,APPLICATION(ARGUMENTS)>`, or `<NAME,PRIORITY(LABEL),APPLICATION(ARGUMENTS)>` where there is a label,
 /// and with its includes `{+NAME}`, and its notes ` note LINE KIND`; a fault as `fault CODE line L`, and as
 /// `fault 24 WORD line L` where the line asks for what is left out.
-pub(crate) fn shown(
+fn shown(
     alloc: Global,
     read: &Result<(Dialplan, Vec<Note>), LoadFault>,
 ) -> Result<String, NoMemory> {

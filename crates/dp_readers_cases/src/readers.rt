@@ -1,5 +1,4 @@
 //! The readers of a loaded dialplan, and priorities.
-use crate::plan::render::{push_label, push_name};
 use dp_plan::{Context, Dialplan, Entry, EntryId, MOST_PRIORITY, NoMemory, Note, Priority, Text};
 use dp_rows::{Question, bytes_of, check, text_of};
 use std::alloc::Global;
@@ -19,14 +18,22 @@ exten => 1-23,1( top ),Plain()\nexten => _[1]xx,1,First()\ninclude => out\n\
 /// The empty name may be included, and is no context.
 const EMPTY: &[u8] = b"[m]\ninclude =>\nexten => s,1,A\n";
 
+/// An entry as its name in its one spelling, and its priority with the label.
+fn push_place(out: &mut String, alloc: Global, entry: &Entry) -> Result<(), NoMemory> {
+    let name = Text::new(entry.name.name().text(alloc)?);
+    write!(out, "{name} {}", entry.priority.get())?;
+    match &entry.label {
+        Some(label) => write!(out, "({label})"),
+        None => Ok(()),
+    }
+}
+
 /// An entry as its name, its priority with the label, its application and its arguments, or `none`.
 fn push_found(out: &mut String, alloc: Global, found: Option<&Entry>) -> Result<(), NoMemory> {
     match found {
         None => out.push_str("none"),
         Some(entry) => {
-            push_name(out, alloc, entry.name.name())?;
-            write!(out, " {}", entry.priority.get())?;
-            push_label(out, &entry.label)?;
+            push_place(out, alloc, entry)?;
             write!(out, " {} ({})", entry.application, entry.arguments)
         }
     }
@@ -352,13 +359,6 @@ const SAME_GLOBALS: &str = r"
 [globals]\nA=1\n|[globals]\nA=2\n→other
 ";
 
-/// Three ways to write one dialplan.
-pub(crate) const ONE_DIALPLAN: &str = r"
-[m]\nexten => _NX,1,A(x)\nexten => _NX,2(b),B()\ninclude => m\n→[m]<_NX,1,A(x)><_NX,2(b),B()>{+m}
-[m]\nEXTEN = _[2-9]x,01,A (x)\nsame => n( b ),B\ninclude = m ; y\n→[m]<_NX,1,A(x)><_NX,2(b),B()>{+m}
-[m]\ninclude => m\n[m]\nexten => _n-X,1,A(x)\n[m]\nexten => _[98765432][0-9],n(b) , B()\n→[m]<_NX,1,A(x)><_NX,2(b),B()>{+m}
-";
-
 fn push_bytes_of_entry(out: &mut String, alloc: Global, entry: &Entry) -> Result<(), NoMemory> {
     let name = Text::new(entry.name.name().text(alloc)?);
     let Entry {
@@ -399,12 +399,20 @@ struct Bytes;
 impl Question for Bytes {
     fn answer(alloc: Global, asked: &str) -> Result<String, Fail> {
         let text = bytes_of(alloc, asked)?;
-        let (plan, notes) = Dialplan::load(alloc, &text)?;
-        let mut out = String::new(alloc);
-        push_bytes(&mut out, alloc, &plan)?;
-        push_notes(&mut out, &notes)?;
-        Ok(out)
+        bytes_shown(alloc, &text)
     }
+}
+
+fn bytes_shown(alloc: Global, text: &[u8]) -> Result<String, Fail> {
+    let (plan, notes) = Dialplan::load(alloc, text)?;
+    Ok(shown(alloc, &plan, &notes)?)
+}
+
+fn shown(alloc: Global, plan: &Dialplan, notes: &[Note]) -> Result<String, NoMemory> {
+    let mut out = String::new(alloc);
+    push_bytes(&mut out, alloc, plan)?;
+    push_notes(&mut out, notes)?;
+    Ok(out)
 }
 
 /// Bytes above 127 are kept as they are, and those of a set are in byte order.
