@@ -1,14 +1,13 @@
-//! Cases of machines, applications and debugged runs, as tables with their answers.
+//! Cases of machines: what happens in a dialplan, as stories and tables with their answers.
 //!
 //! A crate with tests is proved twice, so the cases of the libraries stand in crates of their own, where each is proved once.
 #![tactic(auto)]
 
 #[cfg(test)]
-mod apps;
+mod codes;
 #[cfg(test)]
-mod debug;
+mod machines;
 #[cfg(test)]
-mod machine;
-mod own_table;
-
-pub use own_table::{OwnApps, Ping, Stay};
+mod numbers;
+#[cfg(test)]
+mod stories;

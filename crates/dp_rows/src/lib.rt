@@ -7,7 +7,7 @@
 //! This is for tests alone: what is wrong with a case is the message of a test that fails.
 #![tactic(auto)]
 
-ghost use Rattle.std.specs.Prelude.{◌≡◌, ◌≢◌, IfOk, IfErr};
+ghost use Rattle.std.specs.Prelude.{◌≡◌, ◌≢◌, IfOk, IfErr, true, false};
 
 use std::alloc::{AllocError, Global};
 use std::test::Fail;
@@ -44,6 +44,17 @@ pub fn check_same(of: &str, got: &str, want: &str) -> Result<(), Fail>
     Err(Fail::new(format_args!("{of} gives {got}, not {want}")))
 }
 
+/// Whether something holds: where it does not, the failure says what should.
+pub fn check_that(holds: bool, what: &str) -> Result<(), Fail>
+    ensures holds { IfOk result (λ _. holds ≡ true) }
+    ensures other { IfErr result (λ _. holds ≡ false) }
+{
+    if holds {
+        return Ok(());
+    }
+    Err(Fail::new(format_args!("{what} is not so")))
+}
+
 /// Whether a line with no case is a heading.
 pub fn is_heading(line: &str) -> bool {
     line.is_empty() || line.starts_with("# ")
@@ -57,14 +68,19 @@ fn check_bytes(asked: &str, got: &str, want: &str, bytes: &[u8]) -> Result<(), F
     Err(Fail::new(format_args!("{asked} gives {got}, not {want}")))
 }
 
+/// Whether an answer is the one that is wanted, in which `want` has the escapes of `bytes_of`.
+pub fn check_answer(alloc: Global, asked: &str, got: &str, want: &str) -> Result<(), Fail> {
+    let bytes = bytes_of(alloc, want)?;
+    check_bytes(asked, got, want, &bytes)
+}
+
 fn check_case<Q: Question>(alloc: Global, asked: &str, want: &str) -> Result<(), Fail> {
     let got = Q::answer(alloc, asked)?;
-    let bytes = bytes_of(alloc, want)?;
-    check_bytes(asked, &got, want, &bytes)
+    check_answer(alloc, asked, &got, want)
 }
 
 /// Whether a line with no case is right to have none.
-fn check_heading(line: &str) -> Result<(), Fail> {
+pub fn check_heading(line: &str) -> Result<(), Fail> {
     if is_heading(line) {
         return Ok(());
     }

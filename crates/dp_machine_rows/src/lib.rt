@@ -1,28 +1,30 @@
-//! Machines that are asked and told things, and what they answer, as text.
+//! Machines that are asked and told things in cases, and what they answer, as text.
 //!
-//! Each way out of a function that owns a machine is proved with the drop of all that a machine holds. So two functions here own one, and
-//! whoever asks or checks something takes it by reference.
-use dp_commands::{ScriptLine, Turn, read_script};
+//! Each way out of a function that owns a machine is proved with the drop of all that a machine holds. So the functions that own one stand
+//! here alone, where they are proved once, and whoever asks or checks something takes it by reference.
+//!
+//! This is for tests alone.
+#![tactic(auto)]
+
 use dp_machine::{Dialplan, EntryId, Event, Machine, NoMemory, Phase, Queues, Reply, Text};
 use dp_rows::push_bytes;
 use dp_table::StandardApps;
 use std::alloc::Global;
-use std::process::Abort;
 use std::test::Fail;
 
 /// A machine with the applications of the program.
-pub(crate) type Exchange = Machine<StandardApps>;
+pub type Exchange = Machine<StandardApps>;
 
 /// What is asked of a machine.
-pub(crate) trait Asked {
+pub trait Asked {
     /// The answer of a machine to what is asked, as text.
     fn answer(alloc: Global, machine: &mut Exchange, asked: &str) -> Result<String, Fail>;
 }
 
 /// What is checked on a machine.
-pub(super) trait Checked {
+pub trait Checked {
     /// Whether the machine does what it should.
-    fn check<R: Abort>(rt: &R, alloc: Global, machine: &mut Exchange) -> Result<(), Fail>;
+    fn check(alloc: Global, machine: &mut Exchange) -> Result<(), Fail>;
 }
 
 /// A machine with the dialplan of a text, and no queues.
@@ -33,34 +35,25 @@ fn machine_of(alloc: Global, text: &[u8]) -> Result<Exchange, Fail> {
 }
 
 /// What a new machine with the dialplan of a text answers.
-pub(crate) fn answer_on<A: Asked>(alloc: Global, text: &[u8], asked: &str) -> Result<String, Fail> {
+pub fn answer_on<A: Asked>(alloc: Global, text: &[u8], asked: &str) -> Result<String, Fail> {
     let mut machine = machine_of(alloc, text)?;
     A::answer(alloc, &mut machine, asked)
 }
 
 /// Checks a new machine with the dialplan of a text.
-pub(super) fn check_on<C: Checked, R: Abort>(
-    rt: &R,
-    alloc: Global,
-    text: &[u8],
-) -> Result<(), Fail> {
+pub fn check_on<C: Checked>(alloc: Global, text: &[u8]) -> Result<(), Fail> {
     let mut machine = machine_of(alloc, text)?;
-    C::check(rt, alloc, &mut machine)
+    C::check(alloc, &mut machine)
 }
 
 /// How many notes the dialplan of a text loads with.
-pub(super) fn notes_of(alloc: Global, text: &[u8]) -> Result<usize, Fail> {
+pub fn notes_of(alloc: Global, text: &[u8]) -> Result<usize, Fail> {
     let (_, notes) = Dialplan::load(alloc, text)?;
     Ok(notes.len())
 }
 
 /// A call to the extension of the context, of a caller with this number.
-pub(crate) fn call(
-    alloc: Global,
-    context: &[u8],
-    exten: &[u8],
-    caller: &[u8],
-) -> Result<Event, NoMemory> {
+pub fn call(alloc: Global, context: &[u8], exten: &[u8], caller: &[u8]) -> Result<Event, NoMemory> {
     let context = Text::copy_of(alloc, context)?;
     let exten = Text::copy_of(alloc, exten)?;
     let caller = Text::copy_of(alloc, caller)?;
@@ -71,29 +64,7 @@ pub(crate) fn call(
     })
 }
 
-/// Adds the event of a line of a script.
-fn push_event(events: &mut Vec<Event>, turn: &Turn) -> Result<(), NoMemory> {
-    if let Turn::Event(event) = turn {
-        events.push(event.copy()?)?;
-    }
-    Ok(())
-}
-
-fn push_events(events: &mut Vec<Event>, lines: &[ScriptLine]) -> Result<(), NoMemory> {
-    for line in lines {
-        push_event(events, &line.turn)?;
-    }
-    Ok(())
-}
-
-/// The events of a script.
-pub(super) fn events_of(alloc: Global, script: &[u8]) -> Result<Vec<Event>, Fail> {
-    let lines = read_script(alloc, script).ok().ok_or("a faulty script")?;
-    let mut events = Vec::new(alloc);
-    push_events(&mut events, &lines)?;
-    Ok(events)
-}
-
+/// The entry of a number as `CONTEXT,NAME,PRIORITY APPLICATION`.
 fn push_entry(
     out: &mut String,
     alloc: Global,
@@ -149,11 +120,7 @@ fn word_of(phase: &Phase) -> &'static str {
 }
 
 /// A channel as the word of its phase with its place, `ready CONTEXT,EXTEN,PRIORITY`, or `none`.
-pub(super) fn push_state(
-    out: &mut String,
-    machine: &Exchange,
-    channel: u32,
-) -> Result<(), NoMemory> {
+pub fn push_state(out: &mut String, machine: &Exchange, channel: u32) -> Result<(), NoMemory> {
     match (machine.phase(channel), machine.place(channel)) {
         (None, None) => out.push_str("none"),
         (Some(phase), Some(place)) => write!(
@@ -169,11 +136,7 @@ pub(super) fn push_state(
 }
 
 /// The state of a channel.
-pub(super) fn state_of(
-    alloc: Global,
-    machine: &Exchange,
-    channel: u32,
-) -> Result<String, NoMemory> {
+pub fn state_of(alloc: Global, machine: &Exchange, channel: u32) -> Result<String, NoMemory> {
     let mut out = String::new(alloc);
     push_state(&mut out, machine, channel)?;
     Ok(out)
@@ -201,7 +164,7 @@ fn started(reply: Reply) -> u32 {
 }
 
 /// Gives a call, and adds the reply and the state of the channel behind it.
-pub(super) fn push_called(
+pub fn push_called(
     out: &mut String,
     alloc: Global,
     machine: &mut Exchange,
@@ -212,7 +175,7 @@ pub(super) fn push_called(
 }
 
 /// Gives a step, and adds the reply and the state of the channel behind it.
-pub(super) fn push_stepped(
+pub fn push_stepped(
     out: &mut String,
     alloc: Global,
     machine: &mut Exchange,
@@ -223,7 +186,7 @@ pub(super) fn push_stepped(
 }
 
 /// Adds the value of a name in a channel, in characters of the numbers of its bytes.
-pub(super) fn push_value(
+pub fn push_value(
     out: &mut String,
     alloc: Global,
     machine: &Exchange,

@@ -1,9 +1,9 @@
 //! Stories of machines: a dialplan, and what happens in it, worked out by hand from the rules.
-use crate::machine::render::{
+use dp_machine::NoMemory;
+use dp_machine_rows::{
     Asked, Exchange, answer_on, call, notes_of, push_called, push_state, push_stepped, push_value,
 };
-use dp_machine::NoMemory;
-use dp_rows::{bytes_of, check_same};
+use dp_rows::{bytes_of, check_heading, check_same};
 use std::alloc::Global;
 use std::test::Fail;
 
@@ -246,23 +246,27 @@ fn push_told(
     alloc: Global,
     machine: &mut Exchange,
     line: &str,
-) -> Result<(), NoMemory> {
+) -> Result<(), Fail> {
     match line.split_once('→') {
         Some((asked, _)) => {
             write!(out, "{asked}→")?;
             push_line(out, alloc, machine, asked)?;
         }
-        None => out.push_str(line)?,
+        None => {
+            check_heading(line)?;
+            out.push_str(line)?;
+        }
     }
-    out.push('\n')
+    out.push('\n')?;
+    Ok(())
 }
 
-/// Checks a story as it was told against the one that is wanted, line by line.
+/// Checks a story as it was told against the one that is wanted: line by line, so that the first other line is named, and as a whole.
 fn check_lines(told: &str, wanted: &str) -> Result<(), Fail> {
     for (got, want) in told.lines().zip(wanted.lines()) {
         check_same(want, got, want)?;
     }
-    Ok(())
+    check_same("the story", told.trim_end(), wanted.trim_end())
 }
 
 fn check_notes(alloc: Global, text: &[u8], want: &str) -> Result<(), Fail> {

@@ -1,7 +1,7 @@
 //! Debugged runs of a machine: where they halt.
-use crate::machine::render::{Asked, Exchange, answer_on, call};
 use dp_conf::read_number;
 use dp_debug::{Break, Debugger, Event, NoMemory, Place, Text};
+use dp_machine_rows::{Asked, Exchange, answer_on, call};
 use dp_rows::{Question, bytes_of, check};
 use std::alloc::Global;
 use std::test::Fail;

@@ -1,89 +1,100 @@
 //! Machines, their readers, runs of events, and copies of events.
-use crate::machine::render::{Checked, Exchange, call, check_on, events_of, push_state, state_of};
-use dp_machine::{EntryId, Event, Phase, Refusal, Reply};
+use dp_commands::{ScriptLine, Turn, read_script};
+use dp_machine::{EntryId, Event, NoMemory, Phase, Refusal, Reply};
+use dp_machine_rows::{Checked, Exchange, call, check_on, push_state, state_of};
+use dp_rows::{check_same, check_that};
 use std::alloc::Global;
-use std::process::Abort;
 use std::test::Fail;
 
 const PLAN: &[u8] = b"[globals]\nN=1\n[main]\nexten => s,1,NoOp()\nexten => s,2,Goto(out,t,1)\n\
 [out]\nexten => t,1,Hangup()\n";
+
+/// Adds the event of a line of a script.
+fn push_event(events: &mut Vec<Event>, turn: &Turn) -> Result<(), NoMemory> {
+    if let Turn::Event(event) = turn {
+        events.push(event.copy()?)?;
+    }
+    Ok(())
+}
+
+fn push_events(events: &mut Vec<Event>, lines: &[ScriptLine]) -> Result<(), NoMemory> {
+    for line in lines {
+        push_event(events, &line.turn)?;
+    }
+    Ok(())
+}
+
+/// The events of a script.
+fn events_of(alloc: Global, script: &[u8]) -> Result<Vec<Event>, Fail> {
+    let lines = read_script(alloc, script).ok().ok_or("a faulty script")?;
+    let mut events = Vec::new(alloc);
+    push_events(&mut events, &lines)?;
+    Ok(events)
+}
 
 fn ran(context: usize, entry: usize) -> Reply {
     Reply::Ran(EntryId { context, entry })
 }
 
 /// A machine that is new has its dialplan.
-fn check_plan(rt: &impl Abort, machine: &Exchange) {
-    assert_eq!(rt; machine.plan().globals().len(), 1);
-    assert_eq!(rt; machine.plan().contexts().len(), 2);
-    assert_eq!(rt;
-        machine.plan().contexts()[1].name().bytes(),
-        b"out".as_slice()
-    );
+fn check_plan(machine: &Exchange) -> Result<(), Fail> {
+    check_that(machine.plan().globals().len() == 1, "one global variable")?;
+    match machine.plan().contexts() {
+        [_, second] => check_that(second.name().bytes() == b"out".as_slice(), "the name"),
+        _ => check_that(false, "two contexts"),
+    }
 }
 
 /// Asserts what a channel is, at priority 1 of an extension.
-fn check_place(
-    rt: &impl Abort,
-    machine: &Exchange,
-    channel: u32,
-    phase: Phase,
-    exten: &[u8],
-) -> Result<(), Fail> {
-    assert_eq!(rt; machine.phase(channel), Some(&phase));
+fn check_place(machine: &Exchange, channel: u32, phase: &Phase, exten: &[u8]) -> Result<(), Fail> {
+    check_that(machine.phase(channel) == Some(phase), "the phase")?;
     let place = machine.place(channel).ok_or("no place")?;
-    assert_eq!(rt; place.context.bytes(), b"main".as_slice());
-    assert_eq!(rt; place.exten.bytes(), exten);
-    assert_eq!(rt; place.priority, 1);
-    assert!(rt; place.clone()? == *place);
-    Ok(())
+    check_that(place.context.bytes() == b"main".as_slice(), "the context")?;
+    check_that(place.exten.bytes() == exten, "the extension")?;
+    check_that(place.priority == 1, "the priority")?;
+    let copy = place.clone()?;
+    check_that(copy == *place, "the copy")
 }
 
 /// A new machine has its dialplan, and a channel that has ended keeps its place.
 struct Read;
 
 impl Checked for Read {
-    fn check<R: Abort>(rt: &R, alloc: Global, machine: &mut Exchange) -> Result<(), Fail> {
-        check_plan(rt, machine);
-        let events = events_of(alloc, b"start main s\nstart main x\nstep 2")?;
-        let mut replies = Vec::new(alloc);
-        machine.run(alloc, &events, &mut replies)?;
-        check_place(rt, machine, 1, Phase::Ready, b"s")?;
-        check_place(rt, machine, 2, Phase::Ended, b"x")
+    fn check(alloc: Global, machine: &mut Exchange) -> Result<(), Fail> {
+        check_plan(machine)?;
+        let script = b"start main s\nstart main x\nstep 2";
+        run_of(alloc, machine, script, &mut Vec::new(alloc))?;
+        check_place(machine, 1, &Phase::Ready, b"s")?;
+        check_place(machine, 2, &Phase::Ended, b"x")
     }
 }
 
 /// Asserts that nothing is added behind the reply that is there where there is no event.
 fn check_an_empty_run(
-    rt: &impl Abort,
     alloc: Global,
     machine: &mut Exchange,
     replies: &mut Vec<Reply>,
 ) -> Result<(), Fail> {
     machine.run(alloc, &[], replies)?;
-    assert_eq!(rt; replies.as_slice(), [Reply::NoEntry].as_slice());
-    assert!(rt; machine.phase(1).is_none());
-    Ok(())
+    check_that(
+        replies.as_slice() == [Reply::NoEntry].as_slice(),
+        "the reply that was there",
+    )?;
+    check_that(machine.phase(1).is_none(), "no channel")
 }
 
 /// Asserts the states of three channels, each on a line.
-fn check_states(
-    rt: &impl Abort,
-    alloc: Global,
-    machine: &Exchange,
-    want: &str,
-) -> Result<(), Fail> {
+fn check_states(alloc: Global, machine: &Exchange, want: &str) -> Result<(), Fail> {
     let mut got = String::new(alloc);
     for channel in 1..4 {
         push_state(&mut got, machine, channel)?;
         got.push('\n')?;
     }
-    assert_eq!(rt; got.as_str(), want);
-    Ok(())
+    check_same("the machine", &got, want)
 }
 
 /// The replies to the two runs, behind the one that is there before.
-fn check_replies(rt: &impl Abort, replies: &[Reply]) {
+fn check_replies(replies: &[Reply]) -> Result<(), Fail> {
     let want = [
         Reply::NoEntry,
         Reply::Started(1),
@@ -96,7 +107,7 @@ fn check_replies(rt: &impl Abort, replies: &[Reply]) {
         ran(1, 0),
         Reply::Refused(Refusal::Ended),
     ];
-    assert_eq!(rt; replies, want.as_slice());
+    check_that(replies == want.as_slice(), "the replies")
 }
 
 fn run_of(
@@ -110,13 +121,8 @@ fn run_of(
     Ok(())
 }
 
-fn check_runs(
-    rt: &impl Abort,
-    alloc: Global,
-    machine: &mut Exchange,
-    replies: &mut Vec<Reply>,
-) -> Result<(), Fail> {
-    check_an_empty_run(rt, alloc, machine, replies)?;
+fn check_runs(alloc: Global, machine: &mut Exchange, replies: &mut Vec<Reply>) -> Result<(), Fail> {
+    check_an_empty_run(alloc, machine, replies)?;
     run_of(
         alloc,
         machine,
@@ -124,23 +130,22 @@ fn check_runs(
         replies,
     )?;
     run_of(alloc, machine, b"step 1\nstep 2\nstep 1\nstep 1", replies)?;
-    check_replies(rt, replies);
-    check_states(rt, alloc, machine, "ended out,t,1\nended out,t,1\nnone\n")
+    check_replies(replies)?;
+    check_states(alloc, machine, "ended out,t,1\nended out,t,1\nnone\n")
 }
 
 /// The replies stand behind those that are there already, and the machine is the one behind the last event.
 struct Runs;
 
 impl Checked for Runs {
-    fn check<R: Abort>(rt: &R, alloc: Global, machine: &mut Exchange) -> Result<(), Fail> {
+    fn check(alloc: Global, machine: &mut Exchange) -> Result<(), Fail> {
         let mut replies = vec![in alloc; Reply::NoEntry]?;
-        check_runs(rt, alloc, machine, &mut replies)
+        check_runs(alloc, machine, &mut replies)
     }
 }
 
 /// Gives an event, and once more where memory is refused; then the channel is as before.
 fn give_again(
-    rt: &impl Abort,
     alloc: Global,
     machine: &mut Exchange,
     event: &Event,
@@ -150,7 +155,7 @@ fn give_again(
     let again = event.copy()?;
     if machine.apply(alloc, once).is_err() {
         let behind = state_of(alloc, machine, 1)?;
-        assert_eq!(rt; behind.as_str(), before);
+        check_same("a refused event", &behind, before)?;
         machine.apply(alloc, again)?;
     }
     Ok(())
@@ -158,14 +163,13 @@ fn give_again(
 
 /// Gives an event so, and adds the state behind it.
 fn push_given_again(
-    rt: &impl Abort,
     out: &mut String,
     alloc: Global,
     machine: &mut Exchange,
     event: &Event,
 ) -> Result<(), Fail> {
     let before = state_of(alloc, machine, 1)?;
-    give_again(rt, alloc, machine, event, &before)?;
+    give_again(alloc, machine, event, &before)?;
     push_state(out, machine, 1)?;
     out.push('\n')?;
     Ok(())
@@ -175,17 +179,14 @@ fn push_given_again(
 struct GivenAgain;
 
 impl Checked for GivenAgain {
-    fn check<R: Abort>(rt: &R, alloc: Global, machine: &mut Exchange) -> Result<(), Fail> {
+    fn check(alloc: Global, machine: &mut Exchange) -> Result<(), Fail> {
         let events = events_of(alloc, b"start main s\nstep 1\nstep 1\nstep 1")?;
         let mut got = String::new(alloc);
         for event in &events {
-            push_given_again(rt, &mut got, alloc, machine, event)?;
+            push_given_again(&mut got, alloc, machine, event)?;
         }
-        assert_eq!(rt;
-            got.as_str(),
-            "ready main,s,1\nready main,s,2\nready out,t,1\nended out,t,1\n"
-        );
-        Ok(())
+        let want = "ready main,s,1\nready main,s,2\nready out,t,1\nended out,t,1\n";
+        check_same("the events", &got, want)
     }
 }
 
@@ -204,7 +205,6 @@ fn run_on(
 }
 
 fn check_a_run_goes_on(
-    rt: &impl Abort,
     alloc: Global,
     machine: &mut Exchange,
     replies: &mut Vec<Reply>,
@@ -218,79 +218,85 @@ fn check_a_run_goes_on(
         ran(0, 1),
         ran(1, 0),
     ];
-    assert_eq!(rt; replies.as_slice(), want.as_slice());
-    Ok(())
+    check_that(replies.as_slice() == want.as_slice(), "the replies")
 }
 
 /// Where memory is refused the replies say how far a run came, so that it goes on from there.
 struct GoesOn;
 
 impl Checked for GoesOn {
-    fn check<R: Abort>(rt: &R, alloc: Global, machine: &mut Exchange) -> Result<(), Fail> {
+    fn check(alloc: Global, machine: &mut Exchange) -> Result<(), Fail> {
         let mut replies = Vec::new(alloc);
-        check_a_run_goes_on(rt, alloc, machine, &mut replies)
+        check_a_run_goes_on(alloc, machine, &mut replies)
     }
 }
 
-fn check_the_start(rt: &impl Abort, event: &Event) -> Result<(), Fail> {
+fn check_the_start(event: &Event) -> Result<(), Fail> {
     match event {
         Event::Start {
             context,
             exten,
             caller,
         } => {
-            assert_eq!(rt; context.bytes(), b"main".as_slice());
-            assert_eq!(rt; exten.bytes(), b"2-00".as_slice());
-            assert_eq!(rt; caller.bytes(), b"555\xFF".as_slice());
+            check_that(context.bytes() == b"main".as_slice(), "the context")?;
+            check_that(exten.bytes() == b"2-00".as_slice(), "the extension")?;
+            check_that(caller.bytes() == b"555\xFF".as_slice(), "the caller")
         }
-        _ => assert!(rt; false),
+        _ => check_that(false, "a call"),
     }
-    Ok(())
 }
 
-fn check_copies(rt: &impl Abort, events: &[Event]) -> Result<(), Fail> {
+fn check_copy(event: &Event) -> Result<(), Fail> {
+    let copy = event.copy()?;
+    if copy == *event {
+        return Ok(());
+    }
+    Err(Fail::new(format_args!("{event:?} has another copy")))
+}
+
+fn check_copies(events: &[Event]) -> Result<(), Fail> {
     for event in events {
-        assert!(rt; event.copy()? == *event, "{event:?}");
+        check_copy(event)?;
     }
     Ok(())
 }
 
-fn an_event_is_copied_whole(rt: &impl Abort, alloc: Global) -> Result<(), Fail> {
+fn an_event_is_copied_whole(alloc: Global) -> Result<(), Fail> {
     let call = call(alloc, b"main", b"2-00", b"555\xFF")?;
     let copy = call.copy()?;
-    check_the_start(rt, &copy)
+    check_the_start(&copy)
 }
 
 /// An event of each other kind.
 const EVENTS: &[u8] = b"step 4294967295\ndigit 1 5\ntimeout 1\npoll 2\nhangup 3\n\
 offer q\nanswer Line/1\ndecline Line/2\ndone Line/3\n";
 
-fn other_events_are_copied_whole(rt: &impl Abort, alloc: Global) -> Result<(), Fail> {
+fn other_events_are_copied_whole(alloc: Global) -> Result<(), Fail> {
     let events = events_of(alloc, EVENTS)?;
-    assert_eq!(rt; events.len(), 9);
-    check_copies(rt, &events)
+    check_that(events.len() == 9, "the count")?;
+    check_copies(&events)
 }
 
-fn check_machines(rt: &impl Abort, alloc: Global) -> Result<(), Fail> {
-    check_on::<Read, _>(rt, alloc, PLAN)?;
-    check_on::<Runs, _>(rt, alloc, PLAN)?;
-    an_event_is_copied_whole(rt, alloc)?;
-    other_events_are_copied_whole(rt, alloc)
+fn check_machines(alloc: Global) -> Result<(), Fail> {
+    check_on::<Read>(alloc, PLAN)?;
+    check_on::<Runs>(alloc, PLAN)?;
+    an_event_is_copied_whole(alloc)?;
+    other_events_are_copied_whole(alloc)
 }
 
 /// Machines and their readers, runs, and copies of events.
 #[test]
 fn machines_are_read_and_run(rt: HostRuntime) -> Result<(), Fail> {
-    check_machines(&rt, rt.alloc())
+    check_machines(rt.alloc())
 }
 
-fn check_again(rt: &impl Abort, alloc: Global) -> Result<(), Fail> {
-    check_on::<GivenAgain, _>(rt, alloc, PLAN)?;
-    check_on::<GoesOn, _>(rt, alloc, PLAN)
+fn check_again(alloc: Global) -> Result<(), Fail> {
+    check_on::<GivenAgain>(alloc, PLAN)?;
+    check_on::<GoesOn>(alloc, PLAN)
 }
 
 /// What goes on where memory is refused.
 #[test]
 fn events_are_given_again(rt: HostRuntime) -> Result<(), Fail> {
-    check_again(&rt, rt.alloc())
+    check_again(rt.alloc())
 }

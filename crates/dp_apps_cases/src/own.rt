@@ -1,7 +1,7 @@
 //! A machine over a table of applications of another maker.
-use crate::machine::render::call;
 use crate::own_table::OwnApps;
 use dp_machine::{Dialplan, EntryId, Event, Machine, Phase, Queues, Refusal, Reply};
+use dp_machine_rows::call;
 use std::alloc::Global;
 use std::process::Abort;
 use std::test::Fail;
@@ -73,10 +73,15 @@ fn check_machine(
     check_behind(rt, alloc, machine)
 }
 
+/// Runs a machine over this dialplan.
+fn run_own(rt: &impl Abort, alloc: Global, text: &[u8]) -> Result<(), Fail> {
+    let mut machine = own_machine(alloc, text)?;
+    check_machine(rt, alloc, &mut machine)
+}
+
 /// A table of two applications that the program has not.
 #[test]
 fn another_table_runs(rt: HostRuntime) -> Result<(), Fail> {
     let text = b"[main]\nexten => s,1,Ping(7)\nexten => s,2,Stay()\nexten => s,3,NoOp()\n";
-    let mut machine = own_machine(rt.alloc(), text)?;
-    check_machine(&rt, rt.alloc(), &mut machine)
+    run_own(&rt, rt.alloc(), text)
 }

@@ -10,7 +10,7 @@ pub struct Ping;
 
 impl Application for Ping {
     ghost use Rattle.std.specs.Prelude.{codes, refl};
-    ghost use Rattle.dp_machine_cases.specs.OwnTable.{ping_lawful, ping_row, the_variables};
+    ghost use Rattle.dp_apps_cases.specs.OwnTable.{ping_lawful, ping_row, the_variables};
 
     ghost meaning = { ping_row };
 
@@ -40,7 +40,7 @@ pub struct Stay;
 
 impl Application for Stay {
     ghost use Rattle.std.specs.Prelude.{codes};
-    ghost use Rattle.dp_machine_cases.specs.OwnTable.{nothing, stay_lawful, stay_row};
+    ghost use Rattle.dp_apps_cases.specs.OwnTable.{nothing, stay_lawful, stay_row};
 
     ghost meaning = { stay_row };
 

@@ -1,34 +1,34 @@
 //! The numbers of channels, of which there are as many as there may be calls.
-use crate::machine::render::{Checked, Exchange, call, check_on};
 use dp_machine::{EntryId, Event, MOST_CHANNELS, Refusal, Reply};
+use dp_machine_rows::{Checked, Exchange, call, check_on};
+use dp_rows::check_that;
 use std::alloc::Global;
-use std::process::Abort;
 use std::test::Fail;
 
+/// Whether a reply is the one that is wanted, to a step of a channel, or to a call for channel 0.
+fn check_reply(channel: u32, got: Reply, want: Reply) -> Result<(), Fail> {
+    if got == want {
+        return Ok(());
+    }
+    Err(Fail::new(format_args!("{got:?}, not {want:?}, at {channel}")))
+}
+
 /// Asserts the reply to a call.
-fn check_call(
-    rt: &impl Abort,
-    alloc: Global,
-    machine: &mut Exchange,
-    want: Reply,
-) -> Result<(), Fail> {
+fn check_call(alloc: Global, machine: &mut Exchange, want: Reply) -> Result<(), Fail> {
     let call = call(alloc, b"main", b"s", b"")?;
     let reply = machine.apply(alloc, call)?;
-    assert_eq!(rt; reply, want);
-    Ok(())
+    check_reply(0, reply, want)
 }
 
 /// Asserts the reply to a step.
 fn check_step(
-    rt: &impl Abort,
     alloc: Global,
     machine: &mut Exchange,
     channel: u32,
     want: Reply,
 ) -> Result<(), Fail> {
     let reply = machine.apply(alloc, Event::Step { channel })?;
-    assert_eq!(rt; reply, want, "at {channel}");
-    Ok(())
+    check_reply(channel, reply, want)
 }
 
 const HUNG_UP: Reply = Reply::Ran(EntryId {
@@ -47,22 +47,21 @@ const STEPS: [(u32, Reply); 4] = [
 struct Spent;
 
 impl Checked for Spent {
-    fn check<R: Abort>(rt: &R, alloc: Global, machine: &mut Exchange) -> Result<(), Fail> {
-        assert_eq!(rt; MOST_CHANNELS, 65_535);
+    fn check(alloc: Global, machine: &mut Exchange) -> Result<(), Fail> {
+        check_that(MOST_CHANNELS == 65_535, "the greatest number")?;
         for number in 1..65_536 {
-            check_call(rt, alloc, machine, Reply::Started(number))?;
+            check_call(alloc, machine, Reply::Started(number))?;
         }
         for (channel, want) in STEPS {
-            check_call(rt, alloc, machine, Reply::Refused(Refusal::NumbersSpent))?;
-            check_step(rt, alloc, machine, channel, want)?;
+            check_call(alloc, machine, Reply::Refused(Refusal::NumbersSpent))?;
+            check_step(alloc, machine, channel, want)?;
         }
-        assert!(rt; machine.phase(65_536).is_none());
-        Ok(())
+        check_that(machine.phase(65_536).is_none(), "no further channel")
     }
 }
 
 /// After 65,535 calls each further one is refused, also where calls have ended.
 #[test]
 fn numbers_are_spent(rt: HostRuntime) -> Result<(), Fail> {
-    check_on::<Spent, _>(&rt, rt.alloc(), b"[main]\nexten => s,1,Hangup()\n")
+    check_on::<Spent>(rt.alloc(), b"[main]\nexten => s,1,Hangup()\n")
 }

@@ -1,8 +1,6 @@
 //! Applications in a dialplan of two contexts, worked out by hand from the rules.
-use crate::machine::render::{
-    Asked, Exchange, answer_on, call, notes_of, push_called, push_stepped,
-};
 use dp_machine::NoMemory;
+use dp_machine_rows::{Asked, Exchange, answer_on, call, notes_of, push_called, push_stepped};
 use dp_rows::{Question, bytes_of, check, check_same};
 use std::alloc::Global;
 use std::test::Fail;

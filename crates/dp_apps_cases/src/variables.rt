@@ -1,6 +1,6 @@
 //! Dialplans with variables, worked out by hand from the rules.
-use crate::machine::render::{Asked, Exchange, answer_on, call, push_value, state_of};
 use dp_machine::{Event, NoMemory};
+use dp_machine_rows::{Asked, Exchange, answer_on, call, push_value, state_of};
 use dp_rows::{Question, check, push_bytes};
 use std::alloc::Global;
 use std::test::Fail;

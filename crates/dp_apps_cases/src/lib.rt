@@ -1,0 +1,18 @@
+//! Cases of applications, of variables in their arguments, of debugged runs, and of a machine with another table of applications.
+//!
+//! A crate with tests is proved twice, so the cases of the libraries stand in crates of their own, where each is proved once.
+#![tactic(auto)]
+
+#[cfg(test)]
+mod applications;
+#[cfg(test)]
+mod apps;
+#[cfg(test)]
+mod debug;
+#[cfg(test)]
+mod own;
+mod own_table;
+#[cfg(test)]
+mod variables;
+
+pub use own_table::{OwnApps, Ping, Stay};
