@@ -8,5 +8,4 @@ mod render;
 mod reports;
 mod runs;
 mod scripts;
-mod threads;
 mod writers;

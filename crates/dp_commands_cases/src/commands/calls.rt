@@ -1,6 +1,6 @@
 //! Calls through dialplans with queues, with all that is printed of them, worked out by hand from the rules.
 use crate::commands::manual::PAGES;
-use crate::commands::render::{check_outcome, make_sink, outcome};
+use crate::commands::render::{check_ended, in_main, make_sink};
 use dp_commands::run_script;
 use dp_rows::{bytes_of, is_heading};
 use std::alloc::Global;
@@ -153,7 +153,21 @@ exten => s,1,A¦¦Done A→fault 70 BadScript line 1
 
 const TABLES: &[&str] = &[ROWS, DIALOGUES, ENDS, QUEUES, FAULTS, PAGES];
 
-/// Asserts all that the run of a case writes, and what it ends with behind it.
+/// Asserts all that a run writes, and what it ends with behind it.
+fn check_run(
+    rt: &impl Abort,
+    alloc: Global,
+    plan: &[u8],
+    queues: &[u8],
+    script: &[u8],
+    want: &str,
+) -> Result<(), Fail> {
+    let mut writer = make_sink(alloc, 4096, None);
+    let ended = run_script(alloc, plan, Some(queues), script, &mut writer);
+    check_ended(rt, alloc, script, ended, writer, want)
+}
+
+/// Asserts the same of the run of a case.
 pub(super) fn check_call(
     rt: &impl Abort,
     alloc: Global,
@@ -162,15 +176,10 @@ pub(super) fn check_call(
     script: &str,
     want: &str,
 ) -> Result<(), Fail> {
-    let mut text = bytes_of(alloc, r"[main]\n")?;
-    text.extend_from_slice(&bytes_of(alloc, plan)?)?;
+    let plan = in_main(alloc, plan)?;
     let queues = bytes_of(alloc, queues)?;
     let script = bytes_of(alloc, script)?;
-    let want = bytes_of(alloc, want)?;
-    let mut writer = make_sink(alloc, 4096, None);
-    let ended = run_script(alloc, &text, Some(&queues), &script, &mut writer);
-    let got = outcome(alloc, ended, writer)?;
-    check_outcome(rt, alloc, &script, &got, &want)
+    check_run(rt, alloc, &plan, &queues, &script, want)
 }
 
 fn check_row(rt: &impl Abort, alloc: Global, asked: &str, want: &str) -> Result<(), Fail> {

@@ -1,5 +1,5 @@
 //! Debugged runs, with all that is printed of them, worked out by hand from the rules.
-use crate::commands::render::{check_outcome, make_sink, outcome};
+use crate::commands::render::{check_ended, in_main, make_sink};
 use dp_commands::debug_script;
 use dp_rows::{bytes_of, is_heading};
 use std::alloc::Global;
@@ -79,7 +79,22 @@ main,s,1¦¦[q]\nmaxlen=x¦jump 1→fault 31 BadNumber line 2
 main,s,1¦¦¦start main s\njump 1→fault 70 BadScript line 2
 ";
 
-/// Asserts all that a debugged run writes, and what it ends with behind it.
+/// Asserts all that a debugged run of these texts writes, and what it ends with behind it.
+fn check_run(
+    rt: &impl Abort,
+    alloc: Global,
+    held: &str,
+    texts: (&[u8], &[u8], &[u8]),
+    want: &str,
+) -> Result<(), Fail> {
+    let (plan, queues, script) = texts;
+    let mut writer = make_sink(alloc, 4096, None);
+    let held = held.as_bytes();
+    let ended = debug_script(alloc, plan, Some(queues), script, held, &mut writer);
+    check_ended(rt, alloc, script, ended, writer, want)
+}
+
+/// Asserts the same of the debugged run of a case.
 fn check_debugged(
     rt: &impl Abort,
     alloc: Global,
@@ -88,22 +103,10 @@ fn check_debugged(
     want: &str,
 ) -> Result<(), Fail> {
     let (plan, queues, script) = texts;
-    let mut text = bytes_of(alloc, r"[main]\n")?;
-    text.extend_from_slice(&bytes_of(alloc, plan)?)?;
+    let plan = in_main(alloc, plan)?;
     let queues = bytes_of(alloc, queues)?;
     let script = bytes_of(alloc, script)?;
-    let want = bytes_of(alloc, want)?;
-    let mut writer = make_sink(alloc, 4096, None);
-    let ended = debug_script(
-        alloc,
-        &text,
-        Some(&queues),
-        &script,
-        held.as_bytes(),
-        &mut writer,
-    );
-    let got = outcome(alloc, ended, writer)?;
-    check_outcome(rt, alloc, &script, &got, &want)
+    check_run(rt, alloc, held, (&plan, &queues, &script), want)
 }
 
 fn check_row(rt: &impl Abort, alloc: Global, asked: &str, want: &str) -> Result<(), Fail> {

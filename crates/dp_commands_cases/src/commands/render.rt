@@ -1,7 +1,7 @@
 //! A writer over memory, and what commands write and end with.
 use dp_commands::{PbxFault, check, run_joined};
 use dp_conf::{NoMemory, Text, Told};
-use dp_rows::bytes_of;
+use dp_rows::{bytes_of, check_heading};
 use std::alloc::Global;
 use std::io;
 use std::io::{ErrorKind, Write};
@@ -125,6 +125,26 @@ pub(super) fn check_outcome(
     Ok(())
 }
 
+/// Asserts the same, where the answer that is wanted has the escapes of `bytes_of`.
+pub(super) fn check_ended(
+    rt: &impl Abort,
+    alloc: Global,
+    of: &[u8],
+    ended: Result<u8, PbxFault>,
+    writer: Told<Sink>,
+    want: &str,
+) -> Result<(), Fail> {
+    let got = outcome(alloc, ended, writer)?;
+    let want = bytes_of(alloc, want)?;
+    check_outcome(rt, alloc, of, &got, &want)
+}
+
+/// The dialplan of a cell, which begins in `[main]`.
+pub(super) fn in_main(alloc: Global, plan: &str) -> Result<Vec<u8>, NoMemory> {
+    let text = format!(in alloc; "[main]\\n{plan}")?;
+    bytes_of(alloc, &text)
+}
+
 /// Asserts all that a command writes into this writer, and what it ends with behind it.
 pub(super) fn check_into<C: Command>(
     rt: &impl Abort,
@@ -166,8 +186,9 @@ pub(super) fn check_table<C: Command>(
     table: &str,
 ) -> Result<(), Fail> {
     for line in table.lines() {
-        if let Some((asked, want)) = line.split_once('→') {
-            check_row::<C>(rt, alloc, asked, want)?;
+        match line.split_once('→') {
+            Some((asked, want)) => check_row::<C>(rt, alloc, asked, want)?,
+            None => check_heading(line)?,
         }
     }
     Ok(())

@@ -2,10 +2,10 @@
 //! and the plays ask it by reference.
 ghost use Rattle.std.specs.Prelude.{◌≡◌, ◌+◌};
 
-use crate::board::acts::{Told, act_not, act_steps, check_steps};
-use crate::board::gates::{Crossed, act_crossed};
-use crate::board::pauses::{Paced, act_paced};
-use crate::board::turns::act_turns;
+use crate::acts::{Told, act_not, act_steps, check_steps};
+use crate::gates::{Crossed, act_crossed};
+use crate::pauses::{Paced, act_paced};
+use crate::turns::act_turns;
 use dp_board::{Back, Board, History, Seat, Session, Unsettled};
 use dp_machine::{Dialplan, Event, Machine, NoMemory, Queues, Reply, Text};
 use dp_table::StandardApps;
@@ -112,10 +112,14 @@ fn check(
         Play::Nothing => 0,
     };
     assert_eq!(rt; history.entries().len(), calls);
-    if let Play::Steps = play {
-        let add = told.0.expect(rt, "added");
-        let ask = told.1.expect(rt, "asked");
-        check_steps(rt, alloc, add, ask, history);
+    match play {
+        Play::Steps => {
+            let add = told.0.expect(rt, "added");
+            let ask = told.1.expect(rt, "asked");
+            check_steps(rt, alloc, add, ask, history);
+        }
+        Play::Crossed(gate) => assert!(rt; gate.fits(history.entries())),
+        _ => {}
     }
 }
 

@@ -1,5 +1,5 @@
 //! Two seats act on two threads.
-use crate::board::play::{Exchange, Play, perform, put_back};
+use crate::play::{Exchange, Play, perform, put_back};
 use dp_board::{Board, History, Seat, Session};
 use dp_machine::{EntryId, Event, Phase, Reply};
 use dp_table::StandardApps;

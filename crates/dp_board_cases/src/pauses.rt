@@ -1,6 +1,6 @@
 //! A channel pauses, and the other seat dials digits and ends the pause.
-use crate::board::gates::{attend, hold};
-use crate::board::play::{Play, perform, put_back};
+use crate::gates::{attend, hold};
+use crate::play::{Play, perform, put_back};
 use dp_board::{Attended, Board, Gate, Seat, Session, Why};
 use dp_machine::{Event, Reply};
 use dp_table::StandardApps;

@@ -1,6 +1,6 @@
 //! A seat attends one channel after another.
-use crate::board::gates::gate_of;
-use crate::board::play::{Play, perform};
+use crate::gates::gate_of;
+use crate::play::{Play, perform};
 use dp_board::{Attended, Board, Seat, Session, Why};
 use dp_machine::Refusal;
 use dp_table::StandardApps;
@@ -19,6 +19,9 @@ const TURNS: &[(u32, u64, u64, Why)] = &[
     (3, 9, 1, Why::Refused(Refusal::NoChannel)),
 ];
 
+/// The calls that the gate gets of channel 1, and of the others: each attendance counts its turns from 0.
+const GIVEN: (&str, &str) = ("0 ran 0 none 0 refused", "0 ran 1 none 0 refused");
+
 /// The first seat attends all.
 pub(super) fn act_turns<S: Session + Send + Sync, R: Threads + Wait + Abort + Sync>(
     rt: &R,
@@ -26,13 +29,14 @@ pub(super) fn act_turns<S: Session + Send + Sync, R: Threads + Wait + Abort + Sy
     board: &Board<StandardApps, S>,
     seats: &mut Vec<Seat<S>>,
 ) {
-    let gate = gate_of(0, 0);
+    let gate = gate_of(0, 0, GIVEN.0, GIVEN.1);
     if let [seat, _second] = seats.as_mut_slice() {
         for &(channel, turns, steps, why) in TURNS {
             let attended = board.attend(rt, alloc, seat, channel, &gate, turns);
             assert_eq!(rt; attended.ok(), Some(Attended { steps, why }));
         }
     }
+    assert!(rt; gate.fits(&[]));
 }
 
 /// The turns are spent at once where there are none, and a channel that is not there is refused.

@@ -1,0 +1,19 @@
+//! Cases of boards, whose seats act in threads of their own, and of runs of scripts in threads.
+//!
+//! A crate with tests is proved twice, so the cases of the libraries stand in crates of their own, where each is proved once.
+#![tactic(auto)]
+
+#[cfg(test)]
+mod acts;
+#[cfg(test)]
+mod differences;
+#[cfg(test)]
+mod gates;
+#[cfg(test)]
+mod pauses;
+#[cfg(test)]
+mod play;
+#[cfg(test)]
+mod threads;
+#[cfg(test)]
+mod turns;
