@@ -332,8 +332,10 @@ fn begin_shared(
     ensures quiet { is_write_failed result ≡ false }
 {
     let mut begun = begin(alloc, plan, queues, script)?;
-    let given = give_calls(alloc, &mut begun.machine, &begun.lines)?;
-    Ok(opened_of(begun, given))
+    match give_calls(alloc, &mut begun.machine, &begun.lines) {
+        Ok(given) => Ok(opened_of(begun, given)),
+        Err(_) => Err(PbxFault::NoMemory),
+    }
 }
 
 /// Adds the line of a settled history to what waits.
