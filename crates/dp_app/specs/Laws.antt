@@ -9,8 +9,8 @@ use Rattle.dp_vars.specs.Stores.{StoreOf}
 use Rattle.dp_vars.specs.Variables.{Named}
 use Rattle.dp_app.specs.Rows.{Row, Rows}
 use Rattle.dp_app.specs.declared.cell.Cell.{Cell}
-use Rattle.dp_app.specs.declared.going.Move.{Move}
-use Rattle.dp_app.specs.declared.going.Move.TheVariants.{Next, Jump, Park, Hang}
+use Rattle.dp_app.specs.declared.moves.Move.{Move}
+use Rattle.dp_app.specs.declared.moves.Move.TheVariants.{Next, Jump, Park, Hang}
 use Rattle.dp_app.specs.declared.phase.Phase.{Phase}
 use Rattle.dp_app.specs.declared.phase.Phase.TheVariants.{Ready, Digits, Pause, Queued, Talking, Ended}
 use Rattle.dp_app.specs.declared.place.Place.{Place}
@@ -25,11 +25,13 @@ abbrev pub locals_of : StoreOf Place → List Named
 locals_of store = map (λ frame. frame.locals) store.frames
 
 -- with the touch on frames these may be any; without it there are as many, which go back to the same places, and their locals
--- change under the touch on variables alone. The channel's own variables change under that touch alone
+-- change under the touch on variables alone. The channel's own variables change under that touch alone. With neither touch the
+-- names keep their numbers and no name is new
 pub record KeepsStore (touch : Touch) (before after : StoreOf Place) : Type 0 where
   pub places : touch.frames ≡ false → places_of after ≡ places_of before
   pub variables : touch.variables ≡ false → after.variables ≡ before.variables
   pub locals : touch.frames ≡ false → touch.variables ≡ false → locals_of after ≡ locals_of before
+  pub names : touch.frames ≡ false → touch.variables ≡ false → after.names ≡ before.names
 
 -- the waiting list of each queue
 abbrev pub waiting_lists : QueuesOf → List (List ℕ)
@@ -75,11 +77,11 @@ MayGo count (Park phase) = MayPark count phase
 MayGo count Hang = Unit {0}
 
 -- the first half of the closing law: the move parks the channel nowhere
-abbrev pub IsGoing : Move → Type 0
-IsGoing Next = Unit {0}
-IsGoing (Jump target) = Unit {0}
-IsGoing (Park phase) = ⊥
-IsGoing Hang = Unit {0}
+abbrev pub ParksNowhere : Move → Type 0
+ParksNowhere Next = Unit {0}
+ParksNowhere (Jump target) = Unit {0}
+ParksNowhere (Park phase) = ⊥
+ParksNowhere Hang = Unit {0}
 
 -- the waiting lists behind a park of the channel: it stands last in the list of the queue in which it waits
 abbrev pub waiting_parked : List (List ℕ) → ℕ → Phase → List (List ℕ)
@@ -108,7 +110,7 @@ pub record IsLawfulRow (touch : Touch) (row : Row) : Type 0 where
   pub parks : (arguments : List ℕ) (cell : Cell) → MayGo (length cell.queues.queues) (row arguments cell).next
   pub waits : (arguments : List ℕ) (cell : Cell) →
       waiting_lists (row arguments cell).cell.queues ≡ waiting_after (waiting_lists cell.queues) cell.number (row arguments cell).next
-  pub closes : (arguments : List ℕ) (cell : Cell) → cell.is_closing ≡ true → IsGoing (row arguments cell).next
+  pub closes : (arguments : List ℕ) (cell : Cell) → cell.is_closing ≡ true → ParksNowhere (row arguments cell).next
   pub hangs : (arguments : List ℕ) (cell : Cell) (phase : Phase) → cell.is_closing ≡ true
       → WouldPark row arguments cell phase → row arguments cell ≡ record { cell = cell; next = Hang }
 
@@ -128,5 +130,5 @@ most_priority = 2147483647
 -- the channel of a cell may run an application: it stands at a priority of an entry, waits in no queue and talks with no agent
 pub record MayRun (cell : Cell) : Type 0 where
   pub within : cell.place.priority ≤ most_priority
-  pub waits : waits_in cell.queues.queues cell.number ≡ None
-  pub talks : is_talking cell.queues.agents cell.number ≡ false
+  pub waits_nowhere : waits_in cell.queues.queues cell.number ≡ None
+  pub talks_with_nobody : is_talking cell.queues.agents cell.number ≡ false

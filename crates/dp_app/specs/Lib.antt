@@ -1,3 +1,4 @@
+pub mod Extensions
 pub mod Keeping
 pub mod Laws
 pub mod Rows

@@ -1,7 +1,7 @@
 -- What applications are in a table: rows, each of which says what an application makes of its arguments and of a cell.
 use Rattle.std.specs.Prelude.{ℕ, List, Option, Some, None}
 use Rattle.dp_app.specs.declared.cell.Cell.{Cell}
-use Rattle.dp_app.specs.declared.going.Move.{Move}
+use Rattle.dp_app.specs.declared.moves.Move.{Move}
 
 -- the cell behind an application, and where its channel goes
 pub record Outcome : Type 0 where

@@ -1,9 +1,8 @@
 -- What is kept of a store by a frame that is pushed or dropped, and by a name that is set.
 use Rattle.std.specs.Prelude.{◌≡◌, ℕ, zero, suc, ◌-◌, Bool, true, false, List, [], ◌∷◌, Option, Some, None, length, map, refl}
 use Rattle.std.proofs.Common.{ap, sym, ◌∙◌}
-use Rattle.dp_vars.specs.Stores.{StoreOf, changed_at, holder, set, set_in, set_local, with_frame, with_local, without_frame}
-use Rattle.dp_vars.specs.Variables.{Named, map_of}
-use Rattle.dp_vars.specs.declared.frame.Frame.{Frame}
+use Rattle.dp_vars.specs.Stores.{Frame, StoreOf, changed_at, holder, set, set_in, set_local, with_frame, with_local, without_frame}
+use Rattle.dp_vars.specs.Variables.{Named}
 use Rattle.dp_vars.specs.declared.variables.Variable.{Variable}
 use Rattle.dp_app.specs.Keeping.{store_kept, queues_kept}
 use Rattle.dp_app.specs.Laws.{KeepsStore, KeepsUntouched, places_of}
@@ -26,6 +25,7 @@ pushed_kept touch store back locals touches =
       places = no_false touch.frames touches;
       variables = λ h. refl;
       locals = no_false touch.frames touches;
+      names = no_false touch.frames touches;
     }
 
 -- a frame is dropped
@@ -35,6 +35,7 @@ dropped_kept touch store touches =
       places = no_false touch.frames touches;
       variables = λ h. refl;
       locals = no_false touch.frames touches;
+      names = no_false touch.frames touches;
     }
 
 -- a local that is set leaves the places
@@ -52,6 +53,7 @@ kept_by touch before after changed touches kept places =
       places = λ h. places ∙ kept.places h;
       variables = no_false touch.variables touches;
       locals = λ h. no_false touch.variables touches;
+      names = λ h. no_false touch.variables touches;
     }
 
 -- a name is set

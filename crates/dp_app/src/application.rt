@@ -6,7 +6,7 @@ ghost use Rattle.dp_app.specs.declared.cell.Cell.{Cell};
 ghost use Rattle.dp_app.specs.declared.touch.Touch as touches;
 
 use crate::cell::Cell;
-use crate::going::Move;
+use crate::moves::Move;
 use crate::touch::Touch;
 use dp_conf::NoMemory;
 use std::alloc::Global;

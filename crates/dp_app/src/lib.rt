@@ -4,16 +4,20 @@
 
 mod application;
 mod cell;
-mod going;
+mod exten;
+mod moves;
 mod phase;
 mod place;
 mod table;
+mod target;
 mod touch;
 
 pub use application::{AppTable, Application};
 pub use cell::Cell;
-pub use going::{Move, Parts, Target};
+pub use exten::Exten;
+pub use moves::Move;
 pub use phase::Phase;
 pub use place::Place;
 pub use table::{NoApps, With};
+pub use target::{Target, TargetParts};
 pub use touch::Touch;

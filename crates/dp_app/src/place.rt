@@ -1,6 +1,7 @@
 //! Where a channel stands, after the Asterisk documentation's page on dialplans.
 ghost use Rattle.std.specs.Prelude.{◌≡◌, IfOk};
 
+use crate::exten::Exten;
 use dp_conf::{NoMemory, Text};
 
 /// Where a channel stands: a context, an extension as it was dialled, and a priority. The priority may be one above the
@@ -8,7 +9,7 @@ use dp_conf::{NoMemory, Text};
 #[derive(Debug, PartialEq, Eq, Drop)]
 pub struct Place {
     pub context: Text,
-    pub exten: Text,
+    pub exten: Exten,
     pub priority: u32,
 }
 

@@ -4,7 +4,7 @@ ghost use Rattle.dp_conf.specs.Words.{same_word};
 
 use crate::application::{AppTable, Application};
 use crate::cell::Cell;
-use crate::going::Move;
+use crate::moves::Move;
 use dp_conf::{NoMemory, same_word};
 use std::alloc::Global;
 use std::marker::PhantomData;

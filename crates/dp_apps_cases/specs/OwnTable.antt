@@ -1,13 +1,16 @@
 -- The rows of two applications that are not of this program, for a table of another maker.
-use Rattle.std.specs.Prelude.{◌≡◌, ℕ, Bool, true, false, List, codes, length, if◌then◌else◌, refl}
-use Rattle.std.proofs.Common.{ap}
+use Rattle.std.specs.Prelude.{◌≡◌, ℕ, Bool, true, false, List, Option, Some, None, codes, length, if◌then◌else◌, refl}
+use Rattle.std.proofs.Common.{ap, subst}
+use Rattle.std.proofs.lemmas.Option.{none-some, same_Some}
+use Rattle.dp_conf.specs.Words.{same_text, same_word}
 use Rattle.dp_vars.specs.Stores.{set}
 use Rattle.dp_app.specs.Keeping.{cell_kept, going_lawful, store_kept}
-use Rattle.dp_app.specs.Laws.{IsGoing, IsLawfulRow, MayGo, waiting_after, waiting_lists}
-use Rattle.dp_app.specs.Rows.{Row}
+use Rattle.dp_app.specs.Laws.{IsBlind, ParksNowhere, IsLawful, IsLawfulRow, MayGo, waiting_after, waiting_lists}
+use Rattle.dp_app.specs.Rows.{Row, Rows}
 use Rattle.dp_app.specs.StoreKept.{set_kept, with_store_kept}
-use Rattle.dp_app.specs.declared.going.Move.{Move}
-use Rattle.dp_app.specs.declared.going.Move.TheVariants.{Next, Park, Hang}
+use Rattle.dp_app.specs.Tables.{no_rows, no_rows_blind, no_touch, with_row, with_row_blind, with_touch}
+use Rattle.dp_app.specs.declared.moves.Move.{Move}
+use Rattle.dp_app.specs.declared.moves.Move.TheVariants.{Next, Park, Hang}
 use Rattle.dp_app.specs.declared.phase.Phase.TheVariants.{Pause}
 use Rattle.dp_app.specs.declared.touch.Touch.{Touch}
 
@@ -49,7 +52,7 @@ stay_waits : (lists : List (List ℕ)) (number : ℕ) (b : Bool) → lists ≡ w
 stay_waits lists number true = refl
 stay_waits lists number false = refl
 
-stay_closes : (b : Bool) → b ≡ true → IsGoing (stays_unless b)
+stay_closes : (b : Bool) → b ≡ true → ParksNowhere (stays_unless b)
 stay_closes true closing = tt
 stay_closes false closing = absurd (false_is_true closing)
 
@@ -62,3 +65,33 @@ stay_lawful touch = record {
   closes = λ arguments cell closing. stay_closes cell.is_closing closing;
   hangs = λ arguments cell phase closing parks. ap (λ b. record { cell = cell; next = stays_unless b }) closing;
 }
+
+-- the table of the two, by how names are held against its own
+abbrev pub own_rows : (List ℕ → List ℕ → Bool) → Rows
+own_rows same name =
+    if same name (codes "Ping") then Some ping_row else (if same name (codes "Stay") then Some stay_row else None)
+
+-- the touches of its names
+abbrev pub own_touches : (List ℕ → List ℕ → Bool) → List ℕ → Touch
+own_touches same name =
+    if same name (codes "Ping") then the_variables else (if same name (codes "Stay") then nothing else nothing)
+
+own_row_lawful : (is_ping is_stay : Bool) (row : Row) → (if is_ping then Some ping_row else (if is_stay then Some stay_row else None)) ≡ Some row →
+    IsLawfulRow (if is_ping then the_variables else (if is_stay then nothing else nothing)) row
+own_row_lawful true is_stay row there = subst (λ r. IsLawfulRow the_variables r) (same_Some ping_row row there) (ping_lawful the_variables refl)
+own_row_lawful false true row there = subst (λ r. IsLawfulRow nothing r) (same_Some stay_row row there) (stay_lawful nothing)
+own_row_lawful false false row there = absurd (none-some row there)
+
+-- the table is lawful, however names are held against its own
+pub own_lawful : (same : List ℕ → List ℕ → Bool) → IsLawful (own_touches same) (own_rows same)
+own_lawful same name row there = own_row_lawful (same name (codes "Ping")) (same name (codes "Stay")) row there
+
+-- where letters are the same in either case, the table is blind to case
+pub own_blind : IsBlind (own_touches same_word) (own_rows same_word)
+own_blind =
+    with_row_blind (codes "Ping") the_variables ping_row (with_touch (codes "Stay") nothing no_touch) (with_row (codes "Stay") stay_row no_rows)
+    (with_row_blind (codes "Stay") nothing stay_row no_touch no_rows no_rows_blind)
+
+-- where the names are to be the same byte by byte, it is not
+pub own_sees_case : IsBlind (own_touches same_text) (own_rows same_text) → ⊥
+own_sees_case blind = none-some ping_row (blind.row (codes "Ping") (codes "ping") refl)

@@ -1,6 +1,6 @@
 //! What applications make of their arguments where no cell is seen, worked out by hand from their pages in the Asterisk
 //! documentation's application reference.
-use dp_app::{AppTable, Move, Parts, Target};
+use dp_app::{AppTable, Move, Target, TargetParts};
 use dp_conf::{NoMemory, cut_once};
 use dp_rows::{Question, bytes_of, check, push_bytes, text_of};
 use dp_table::StandardApps;
@@ -51,7 +51,7 @@ Dial|SIP/1→a cell is seen
 ";
 
 /// The parts of a target between bars.
-fn push_parts(out: &mut String, parts: &Parts) -> Result<(), NoMemory> {
+fn push_parts(out: &mut String, parts: &TargetParts) -> Result<(), NoMemory> {
     let (front, last) = parts.split_last();
     out.push('|')?;
     for part in front {

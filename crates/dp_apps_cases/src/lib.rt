@@ -1,4 +1,4 @@
-//! Cases of applications, of variables in their arguments, of debugged runs, and of a machine with another table of applications.
+//! Cases of applications, of variables in their arguments, and of a machine with another table of applications.
 //!
 //! A crate with tests is proved twice, so the cases of the libraries stand in crates of their own, where each is proved once.
 #![tactic(auto)]
@@ -7,8 +7,6 @@
 mod applications;
 #[cfg(test)]
 mod apps;
-#[cfg(test)]
-mod debug;
 #[cfg(test)]
 mod own;
 mod own_table;

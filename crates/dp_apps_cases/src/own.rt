@@ -1,87 +1,88 @@
 //! A machine over a table of applications of another maker.
 use crate::own_table::OwnApps;
-use dp_machine::{Dialplan, EntryId, Event, Machine, Phase, Queues, Refusal, Reply};
+use dp_machine::{Dialplan, Event, Machine, NoMemory, Queues};
 use dp_machine_rows::call;
+use dp_rows::{check_same, push_bytes};
 use std::alloc::Global;
-use std::process::Abort;
 use std::test::Fail;
 
-fn own_machine(alloc: Global, text: &[u8]) -> Result<Machine<OwnApps>, Fail> {
-    let (plan, _) = Dialplan::load(alloc, text)?;
-    let machine = Machine::new(alloc, plan, Queues::none(alloc))?;
-    Ok(machine)
-}
+type OwnMachine = Machine<OwnApps>;
 
-fn ran(entry: usize) -> Reply {
-    Reply::Ran(EntryId { context: 0, entry })
-}
+/// A dialplan that names both applications, one of them in another case, and one that the table has not.
+const PLAN: &[u8] = b"[main]\nexten => s,1,Ping(7)\nexten => s,2,sTAY()\nexten => s,3,NoOp()\n";
 
-/// Gives a call and three steps.
-fn run_steps(
+/// `Ping` sets `P` and goes on, `Stay` waits, and a step does not end the wait. A time-out ends it, and a name of the program's own
+/// table ends the call.
+const STORY: &str = "\
+Started(1)
+Ran(EntryId { context: 0, entry: 0 })
+Ran(EntryId { context: 0, entry: 1 })
+Refused(NotReady)
+P is 7, Some(Pause)
+Done
+Some(3)
+Ran(EntryId { context: 0, entry: 2 })
+Some(Ended)
+";
+
+/// Gives an event, and adds the reply.
+fn push_applied(
+    out: &mut String,
     alloc: Global,
-    machine: &mut Machine<OwnApps>,
-    replies: &mut Vec<Reply>,
-) -> Result<(), Fail> {
-    let events = [
-        call(alloc, b"main", b"s", b"")?,
-        Event::Step { channel: 1 },
-        Event::Step { channel: 1 },
-        Event::Step { channel: 1 },
-    ];
-    machine.run(alloc, &events, replies)?;
+    machine: &mut OwnMachine,
+    event: Event,
+) -> Result<(), NoMemory> {
+    let reply = machine.apply(alloc, event)?;
+    write!(out, "{reply:?}\n")
+}
+
+/// A call and three steps of it.
+fn push_steps(out: &mut String, alloc: Global, machine: &mut OwnMachine) -> Result<(), NoMemory> {
+    let call = call(alloc, b"main", b"s", b"")?;
+    push_applied(out, alloc, machine, call)?;
+    for _step in 0..3 {
+        push_applied(out, alloc, machine, Event::Step { channel: 1 })?;
+    }
     Ok(())
 }
 
-/// `Ping` sets `P` and goes on, `Stay` waits, and a step does not end the wait.
-fn check_own(rt: &impl Abort, alloc: Global, machine: &mut Machine<OwnApps>) -> Result<(), Fail> {
-    let mut replies = Vec::new(alloc);
-    run_steps(alloc, machine, &mut replies)?;
-    let want = [
-        Reply::Started(1),
-        ran(0),
-        ran(1),
-        Reply::Refused(Refusal::NotReady),
-    ];
-    assert_eq!(rt; replies.as_slice(), want.as_slice());
-    let value = machine.value(alloc, 1, b"P")?;
-    assert_eq!(rt; value.as_slice(), b"7".as_slice());
-    assert_eq!(rt; machine.phase(1), Some(&Phase::Pause));
+/// The value that was set, and that the channel waits.
+fn push_waiting(out: &mut String, alloc: Global, machine: &OwnMachine) -> Result<(), NoMemory> {
+    out.push_str("P is ")?;
+    push_bytes(out, &machine.value(alloc, 1, b"P")?)?;
+    write!(out, ", {:?}\n", machine.phase(1))
+}
+
+/// A time-out with the priority behind it, and one more step with the phase behind it.
+fn push_end(out: &mut String, alloc: Global, machine: &mut OwnMachine) -> Result<(), NoMemory> {
+    push_applied(out, alloc, machine, Event::Timeout { channel: 1 })?;
+    write!(out, "{:?}\n", machine.place(1).map(|place| place.priority))?;
+    push_applied(out, alloc, machine, Event::Step { channel: 1 })?;
+    write!(out, "{:?}\n", machine.phase(1))
+}
+
+fn push_story(out: &mut String, alloc: Global, machine: &mut OwnMachine) -> Result<(), Fail> {
+    push_steps(out, alloc, machine)?;
+    push_waiting(out, alloc, machine)?;
+    push_end(out, alloc, machine)?;
     Ok(())
 }
 
-/// A time-out ends the wait. A name of the program's own table ends the call.
-fn check_behind(
-    rt: &impl Abort,
-    alloc: Global,
-    machine: &mut Machine<OwnApps>,
-) -> Result<(), Fail> {
-    let reply = machine.apply(alloc, Event::Timeout { channel: 1 })?;
-    assert_eq!(rt; reply, Reply::Done);
-    assert_eq!(rt; machine.place(1).map(|place| place.priority), Some(3));
-    let reply = machine.apply(alloc, Event::Step { channel: 1 })?;
-    assert_eq!(rt; reply, ran(2));
-    assert_eq!(rt; machine.phase(1), Some(&Phase::Ended));
-    Ok(())
+fn own_machine(alloc: Global) -> Result<OwnMachine, Fail> {
+    let (plan, _) = Dialplan::load(alloc, PLAN)?;
+    Ok(Machine::new(alloc, plan, Queues::none(alloc))?)
 }
 
-fn check_machine(
-    rt: &impl Abort,
-    alloc: Global,
-    machine: &mut Machine<OwnApps>,
-) -> Result<(), Fail> {
-    check_own(rt, alloc, machine)?;
-    check_behind(rt, alloc, machine)
-}
-
-/// Runs a machine over this dialplan.
-fn run_own(rt: &impl Abort, alloc: Global, text: &[u8]) -> Result<(), Fail> {
-    let mut machine = own_machine(alloc, text)?;
-    check_machine(rt, alloc, &mut machine)
+/// What becomes of a call in a machine over the table.
+fn push_run(out: &mut String, alloc: Global) -> Result<(), Fail> {
+    let mut machine = own_machine(alloc)?;
+    push_story(out, alloc, &mut machine)
 }
 
 /// A table of two applications that the program has not.
 #[test]
 fn another_table_runs(rt: HostRuntime) -> Result<(), Fail> {
-    let text = b"[main]\nexten => s,1,Ping(7)\nexten => s,2,Stay()\nexten => s,3,NoOp()\n";
-    run_own(&rt, rt.alloc(), text)
+    let mut story = String::new(rt.alloc());
+    push_run(&mut story, rt.alloc())?;
+    check_same("the call", &story, STORY)
 }

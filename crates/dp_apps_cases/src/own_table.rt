@@ -1,8 +1,8 @@
 //! A table of applications of another maker, over which a machine is proved as it is over the program's own.
 ghost use Rattle.std.specs.Prelude.{◌≡◌};
 
-use dp_app::{Application, Cell, Move, NoApps, Phase, Touch, With};
-use dp_conf::NoMemory;
+use dp_app::{AppTable, Application, Cell, Move, Phase, Touch};
+use dp_conf::{NoMemory, same_word};
 use std::alloc::Global;
 
 /// `Ping(text)`: sets `P` to the text, and the channel goes on.
@@ -64,5 +64,35 @@ impl Application for Stay {
     }
 }
 
-/// The table of these two.
-pub type OwnApps = With<Ping, With<Stay, NoApps>>;
+/// The table of these two, written by hand.
+pub struct OwnApps;
+
+impl AppTable for OwnApps {
+    ghost use Rattle.dp_apps_cases.specs.OwnTable.{own_blind, own_lawful, own_rows, own_touches};
+    ghost use Rattle.dp_conf.specs.Words.{same_word};
+
+    ghost rows = { own_rows same_word };
+
+    ghost touches = { own_touches same_word };
+
+    ghost lawful = { own_lawful same_word };
+
+    ghost blind = { own_blind };
+
+    fn dispatch(
+        alloc: Global,
+        name: &[u8],
+        arguments: &[u8],
+        cell: &mut Cell,
+    ) -> Result<Option<Move>, NoMemory> {
+        if same_word(name, b"Ping") {
+            let going = Ping::apply(alloc, arguments, cell)?;
+            return Ok(Some(going));
+        }
+        if same_word(name, b"Stay") {
+            let going = Stay::apply(alloc, arguments, cell)?;
+            return Ok(Some(going));
+        }
+        Ok(None)
+    }
+}

@@ -1,4 +1,5 @@
 pub mod DifferenceLemmas
+pub mod HistoryLemmas
 pub mod LogLemmas
 pub mod PresenceLemmas
 pub mod SettledLemmas

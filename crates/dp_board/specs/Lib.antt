@@ -3,6 +3,7 @@ pub mod Difference
 pub mod Log
 pub mod Presence
 pub mod Settled
+pub mod Silence
 pub mod Sittings
 pub mod Steps
 pub mod Unsettled

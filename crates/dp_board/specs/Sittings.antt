@@ -1,5 +1,6 @@
 -- Seats, and what each was told.
-use Rattle.std.specs.Prelude.{ℕ, List, [], ◌∷◌, ◌++◌}
+use Rattle.std.specs.Prelude.{ℕ, List, [], ◌∷◌, ◌++◌, map}
+use Rattle.std.specs.List.Sorted.{IsStrictlyIncreasing}
 use Rattle.dp_machine.specs.declared.event.Event.{Event}
 use Rattle.dp_machine.specs.declared.reply.Reply.{Reply}
 
@@ -19,3 +20,7 @@ with_call seat place event reply = record seat { told = seat.told ++ (place, eve
 -- a seat that was told of no call yet
 abbrev pub unheard : ℕ → Sitting
 unheard number = record { number = number; told = [] }
+
+-- the places of the calls in a record rise: each call stands once, in its order
+abbrev pub PlacesRise : Sitting → Type 0
+PlacesRise seat = IsStrictlyIncreasing (map (λ call. call.0) seat.told)

@@ -1,7 +1,7 @@
 -- What a seat gains that attends a channel.
-use Rattle.std.specs.Prelude.{◌≡◌, ℕ, List, [], ◌∷◌, ◌++◌, Option, Some, None, All}
+use Rattle.std.specs.Prelude.{◌≡◌, ◌≢◌, ℕ, ◌-◌, ◌≤◌, List, [], ◌∷◌, ◌++◌, length, take, drop, Option, Some, None, All}
 use Rattle.dp_machine.specs.declared.event.Event.TheVariants.{Step as step}
-use Rattle.dp_machine.specs.declared.refusal.Refusal.TheVariants.{NoChannel}
+use Rattle.dp_machine.specs.declared.refusal.Refusal.TheVariants.{NoChannel, Ended as is_over}
 use Rattle.dp_machine.specs.declared.reply.Reply.{Reply}
 use Rattle.dp_machine.specs.declared.reply.Reply.TheVariants.{Refused as refused}
 use Rattle.dp_board.specs.Sittings.{Told, Sitting, with_call}
@@ -12,12 +12,15 @@ use Rattle.dp_board.specs.declared.attend.Why.TheVariants.{Ended, TurnsSpent, Re
 abbrev pub IsStepOf : ℕ → Told → Type 0
 IsStepOf channel told = told.1 ≡ step channel
 
+-- the calls that a seat was told of since
+abbrev pub added : Sitting → Sitting → List Told
+added old new = drop (length old.told) new.told
+
 -- the seat was told of some more calls, and all of them are steps of the channel
 pub record AddsSteps (channel : ℕ) (old new : Sitting) : Type 0 where
-  pub added : List Told
   pub number : new.number ≡ old.number
-  pub told : new.told ≡ old.told ++ added
-  pub steps : All (IsStepOf channel) added
+  pub told : new.told ≡ old.told ++ added old new
+  pub steps : All (IsStepOf channel) (added old new)
 
 -- a seat that was told of one more step of the channel
 abbrev pub with_step : Sitting → ℕ → ℕ → Reply → Sitting
@@ -29,15 +32,28 @@ last_reply [] = None
 last_reply (told ∷ []) = Some told.2
 last_reply (told ∷ next ∷ rest) = last_reply (next ∷ rest)
 
--- an attendance is over as refused by this reply alone
+-- an attendance goes on behind this reply: it does not refuse the step since the channel has ended, nor since there is no such channel
+abbrev pub GoesOn : Reply → Type 0
+GoesOn reply = (reply ≢ refused is_over) × (reply ≢ refused NoChannel)
+
+-- it goes on behind each of these calls
+abbrev pub GoesOnBehind : List Told → Type 0
+GoesOnBehind given = All (λ told. GoesOn told.2) given
+
+-- it goes on behind each of them but the last
+abbrev pub GoesOnToLast : List Told → Type 0
+GoesOnToLast given = GoesOnBehind (take (length given - 1) given)
+
+-- whether an attendance is over behind this reply, by the reply alone
 abbrev pub IsEnd : Reply → Option Why → Type 0
-IsEnd reply None = Unit {0}
+IsEnd reply None = GoesOn reply
 IsEnd reply (Some Ended) = Unit {0}
 IsEnd reply (Some TurnsSpent) = ⊥
 IsEnd reply (Some (Refused reason)) = (reason ≡ NoChannel) × (reply ≡ refused NoChannel)
 
--- the reason of an attendance: the turns are spent where all were taken, and it was refused where the last reply says so
+-- the reason of an attendance, by the calls that it gave: the channel has ended behind one of them, the turns are spent where all
+-- were taken and none ended it, and it was refused where there is a last one, to which the reply says so
 abbrev pub IsReason : Why → ℕ → ℕ → List Told → Type 0
-IsReason Ended steps turns told = Unit {0}
-IsReason TurnsSpent steps turns told = steps ≡ turns
-IsReason (Refused reason) steps turns told = (reason ≡ NoChannel) × (last_reply told ≡ Some (refused NoChannel))
+IsReason Ended steps turns given = 1 ≤ steps
+IsReason TurnsSpent steps turns given = (steps ≡ turns) × GoesOnBehind given
+IsReason (Refused reason) steps turns given = (reason ≡ NoChannel) × (last_reply given ≡ Some (refused NoChannel))

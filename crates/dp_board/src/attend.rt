@@ -117,7 +117,8 @@ impl<T: AppTable, S: Session> Board<T, S> {
         ensures steps { steps.AddsSteps channel seat.old seat.new }
         ensures bound { length seat.new.told ≤ length seat.old.told + turns }
         ensures count { IfOk result (λ attended. length seat.new.told ≡ length seat.old.told + attended.steps) }
-        ensures why { IfOk result (λ attended. steps.IsReason attended.why attended.steps turns seat.new.told) }
+        ensures on { steps.GoesOnToLast (steps.added seat.old seat.new) }
+        ensures why { IfOk result (λ attended. steps.IsReason attended.why attended.steps turns (steps.added seat.old seat.new)) }
     {
         for turn in 0..turns {
             let (_place, _reply, end) = self.turn(rt, alloc, seat, channel, gate, turn)?;

@@ -8,6 +8,7 @@ mod entry;
 mod fault;
 mod history;
 mod joining;
+pub mod laws;
 mod presence;
 mod seat;
 mod session;

@@ -66,22 +66,6 @@ fn is_ended(phase: &Phase) -> bool
     }
 }
 
-/// An event twice more: once for the entry of its call, and once for the record of the seat.
-#[derive(Drop)]
-struct Copies {
-    logged: Event,
-    told: Event,
-}
-
-/// Two copies of an event.
-fn copies_of(event: &Event) -> Result<Copies, NoMemory>
-    ensures { IfOk result (λ copies. copies ≡ record { logged = event.now; told = event.now }) }
-{
-    let logged = event.copy()?;
-    let told = event.copy()?;
-    Ok(Copies { logged, told })
-}
-
 /// Makes room for one more entry, and for one more call in a record.
 fn make_room(
     entries: &mut Vec<Entry>,
@@ -95,40 +79,26 @@ fn make_room(
     told.reserve(1)
 }
 
-/// Copies an event, and makes room for its entry and for its place in a record.
-fn prepare(
-    entries: &mut Vec<Entry>,
-    told: &mut Vec<(usize, Event, Reply)>,
-    event: &Event,
-) -> Result<Copies, NoMemory>
-    ensures entries { entries.new.items ≡ entries.old.items }
-    ensures told { told.new.items ≡ told.old.items }
-    ensures room { OnOk result ((vec_len entries.new < vec_capacity entries.new) × (vec_len told.new < vec_capacity told.new)) }
-    ensures copies { IfOk result (λ copies. copies ≡ record { logged = event.now; told = event.now }) }
-{
-    make_room(entries, told)?;
-    let copies = copies_of(event)?;
-    Ok(copies)
-}
-
-/// Applies an event behind its copies, with room for what is written of it. Where memory is refused the machine is as before.
+/// Applies an event, with room for what is written of it, and gives a copy of it with the reply. Where memory is refused the machine
+/// is as before.
 fn apply_copied<T: AppTable>(
     alloc: Global,
     machine: &mut Machine<T>,
     entries: &mut Vec<Entry>,
     told: &mut Vec<(usize, Event, Reply)>,
-    event: Event,
-) -> Result<(Copies, Reply), NoMemory>
+    event: &Event,
+) -> Result<(Event, Reply), NoMemory>
     ensures entries { entries.new.items ≡ entries.old.items }
     ensures told { told.new.items ≡ told.old.items }
     ensures room { OnOk result ((vec_len entries.new < vec_capacity entries.new) × (vec_len told.new < vec_capacity told.new)) }
-    ensures copies { IfOk result (λ applied. applied.0 ≡ record { logged = event; told = event }) }
-    ensures row { IfOk result (λ applied. events.event_row T.rows machine.old event ≡ (machine.new, applied.1)) }
+    ensures copy { IfOk result (λ applied. applied.0 ≡ event.now) }
+    ensures row { IfOk result (λ applied. events.event_row T.rows machine.old event.now ≡ (machine.new, applied.1)) }
     ensures err { OnErr result (machine.new ≡ machine.old) }
 {
-    let copies = prepare(entries, told, &event)?;
-    let reply = machine.apply(alloc, event)?;
-    Ok((copies, reply))
+    make_room(entries, told)?;
+    let copy = event.copy()?;
+    let reply = machine.apply_kept(alloc, event)?;
+    Ok((copy, reply))
 }
 
 impl<T: AppTable, S: Session> Shared<T, S> {
@@ -161,18 +131,17 @@ impl<T: AppTable, S: Session> Shared<T, S> {
         ensures kept { IfOk result (λ told. seat.new ≡ sittings.with_call seat.old told.0 event told.1) }
         ensures err { OnErr result ((self.new ≡ self.old) × (seat.new ≡ seat.old)) }
     {
-        let (copies, reply) = apply_copied(
+        let (told, reply) = apply_copied(
             alloc,
             &mut self.machine,
             &mut self.entries,
             &mut seat.told,
-            event,
+            &event,
         )?;
-        let Copies { logged, told } = copies;
         let place = self.entries.len();
         self.entries.push_reserved(Entry {
             seat: seat.number,
-            event: logged,
+            event,
             reply,
         });
         seat.told.push_reserved((place, told, reply));

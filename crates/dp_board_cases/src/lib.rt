@@ -1,4 +1,4 @@
-//! Cases of boards, whose seats act in threads of their own, and of runs of scripts in threads.
+//! Cases of boards, whose seats act in threads of their own.
 //!
 //! A crate with tests is proved twice, so the cases of the libraries stand in crates of their own, where each is proved once.
 #![tactic(auto)]
@@ -13,7 +13,5 @@ mod gates;
 mod pauses;
 #[cfg(test)]
 mod play;
-#[cfg(test)]
-mod threads;
 #[cfg(test)]
 mod turns;

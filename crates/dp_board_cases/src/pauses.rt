@@ -1,7 +1,8 @@
 //! A channel pauses, and the other seat dials digits and ends the pause.
-use crate::gates::{attend, hold};
+use crate::gates::attend;
 use crate::play::{Play, perform, put_back};
 use dp_board::{Attended, Board, Gate, Seat, Session, Why};
+use dp_board_rows::hold;
 use dp_machine::{Event, Reply};
 use dp_table::StandardApps;
 use std::alloc::Global;

@@ -3,10 +3,11 @@
 ghost use Rattle.std.specs.Prelude.{◌≡◌, ◌+◌};
 
 use crate::acts::{Told, act_not, act_steps, check_steps};
-use crate::gates::{Crossed, act_crossed};
+use crate::gates::act_crossed;
 use crate::pauses::{Paced, act_paced};
 use crate::turns::act_turns;
 use dp_board::{Back, Board, History, Seat, Session, Unsettled};
+use dp_board_rows::Crossed;
 use dp_machine::{Dialplan, Event, Machine, NoMemory, Queues, Reply, Text};
 use dp_table::StandardApps;
 use std::alloc::Global;
@@ -108,7 +109,7 @@ fn check(
         Play::Steps => 2,
         Play::Crossed(_) => 4,
         Play::Paced(_) => 5,
-        Play::Turns => 6,
+        Play::Turns => 7,
         Play::Nothing => 0,
     };
     assert_eq!(rt; history.entries().len(), calls);

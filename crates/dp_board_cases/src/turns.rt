@@ -1,7 +1,7 @@
 //! A seat attends one channel after another.
-use crate::gates::gate_of;
 use crate::play::{Play, perform};
 use dp_board::{Attended, Board, Seat, Session, Why};
+use dp_board_rows::gate_of;
 use dp_machine::Refusal;
 use dp_table::StandardApps;
 use std::alloc::Global;
@@ -15,12 +15,15 @@ const TURNS: &[(u32, u64, u64, Why)] = &[
     (1, 1, 1, Why::TurnsSpent),
     (1, 9, 1, Why::Ended),
     (1, 9, 1, Why::Ended),
+    (3, 1, 1, Why::Refused(Refusal::NoChannel)),
+    // The refusal stands in the record from here on.
+    (3, 0, 0, Why::TurnsSpent),
     (2, 2, 2, Why::Ended),
     (3, 9, 1, Why::Refused(Refusal::NoChannel)),
 ];
 
 /// The calls that the gate gets of channel 1, and of the others: each attendance counts its turns from 0.
-const GIVEN: (&str, &str) = ("0 ran 0 none 0 refused", "0 ran 1 none 0 refused");
+const GIVEN: (&str, &str) = ("0 ran 0 none 0 refused", "0 refused 0 ran 1 none 0 refused");
 
 /// The first seat attends all.
 pub(super) fn act_turns<S: Session + Send + Sync, R: Threads + Wait + Abort + Sync>(
@@ -39,7 +42,7 @@ pub(super) fn act_turns<S: Session + Send + Sync, R: Threads + Wait + Abort + Sy
     assert!(rt; gate.fits(&[]));
 }
 
-/// The turns are spent at once where there are none, and a channel that is not there is refused.
+/// The turns are spent at once where there are none, and a channel that is not there is refused, whatever stands in the record before.
 #[test]
 fn turns(rt: HostRuntime) {
     perform(&rt, rt.alloc(), b"say", b"say", 2, &Play::Turns);

@@ -1,3 +1,4 @@
+mod DealLemmas
 mod DebugLemmas
 mod JoinedLemmas
 mod ScriptLemmas

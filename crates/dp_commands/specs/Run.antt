@@ -71,17 +71,27 @@ abbrev pub queues_of : Option (List ℕ) → Result QueuesOf PbxFault
 queues_of None = Ok no_queues
 queues_of (Some text) = queue_fault (queues_loaded text)
 
+-- what the files of a run say
+pub record Files : Type 0 where
+  pub plan : PlanOf
+  pub queues : QueuesOf
+
 -- what the texts of a run say
 pub record Told : Type 0 where
   pub plan : PlanOf
   pub queues : QueuesOf
   pub lines : List ScriptLine
 
+-- what the texts of a dialplan and its queues say, or the first fault: the dialplan's, the queues'
+abbrev pub files_of : List ℕ → Option (List ℕ) → Result Files PbxFault
+files_of plan queues =
+    plan_fault (loaded plan) >>= λ read. queues_of queues >>= λ held. Ok (record { plan = read.0; queues = held })
+
 -- what the texts of a dialplan, its queues and a script say, or the first fault: the dialplan's, the queues', the script's
 abbrev pub told_of : List ℕ → Option (List ℕ) → List ℕ → Result Told PbxFault
 told_of plan queues script =
-    plan_fault (loaded plan) >>= λ read. queues_of queues >>= λ held. script_of script >>= λ lines.
-    Ok (record { plan = read.0; queues = held; lines = lines })
+    files_of plan queues >>= λ files. script_of script >>= λ lines.
+    Ok (record { plan = files.plan; queues = files.queues; lines = lines })
 
 -- the run of a dialplan, its queues and a script, or the first fault
 unfoldable pub run_of : List ℕ → Option (List ℕ) → List ℕ → Result Run PbxFault

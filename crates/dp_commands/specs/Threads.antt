@@ -1,10 +1,12 @@
 -- Runs in threads: the calls that come before the board opens, and the events that each seat gives.
-use Rattle.std.specs.Prelude.{◌≡◌, ℕ, ◌+◌, ◌<◌, ◌%◌, ◌==◌, Bool, true, false, ◌||◌, ◌⊎◌, List, [], ◌∷◌, ◌++◌, length, map, take, drop, Option, None, is_none, Result, Ok, Err, All, codes, decimal, if◌then◌else◌}
+use Rattle.std.specs.Prelude.{◌≡◌, ℕ, ◌+◌, ◌<◌, ◌%◌, ◌==◌, Bool, true, false, ◌&&◌, ◌||◌, ◌⊎◌, List, [], ◌∷◌, ◌++◌, length, map, take, drop, slice_index_or, Option, None, is_none, Result, Ok, Err, All, codes, decimal, if◌then◌else◌}
 use Rattle.std.specs.Io.KnownBytes.{Appends}
-use Rattle.std.specs.List.{flat_map, list_any, prefix_len}
+use Rattle.std.specs.List.{flat_map, list_any, prefix_len, range_with_len}
 use Rattle.dp_board.specs.Difference.{told_to}
 use Rattle.dp_board.specs.Log.{Log, Replays}
 use Rattle.dp_board.specs.Sittings.{Told, Sitting}
+use Rattle.dp_board.specs.declared.fault.SettleFault.{SettleFault}
+use Rattle.dp_board.specs.declared.fault.SettleFault.TheVariants.{SeatMissing, Differs, NoMemory as settle_no_memory}
 use Rattle.dp_conf.specs.Fronts.{AppendsFront}
 use Rattle.dp_machine.specs.Events.{is_refused}
 use Rattle.dp_machine.specs.Replay.{replies_to, world_after}
@@ -59,6 +61,10 @@ dealt_from count seat at (x ∷ xs) =
 abbrev pub dealt : {X : Type 0} → ℕ → ℕ → List X → List X
 dealt count seat xs = dealt_from count seat 0 xs
 
+-- which turn of its seat the item at a place is, counted from 0: how many of the places before it are dealt to the same seat
+abbrev pub turn_of : ℕ → ℕ → ℕ
+turn_of count at = length (dealt count (at % count) (range_with_len 0 at))
+
 -- the events that a seat was told of
 abbrev pub events_told : List Told → List Event
 events_told told = map (λ it. it.1) told
@@ -67,16 +73,26 @@ events_told told = map (λ it. it.1) told
 abbrev pub GaveFront : ℕ → List Event → Sitting → Type 0
 GaveFront count events seat = events_told seat.told ≡ take (length seat.told) (dealt count seat.number events)
 
--- a history of the events as they are dealt to so many seats: it replays from the first world, and each seat's entries are
--- its own events, in their order
+-- seats that keep their numbers
+abbrev pub KeepNumbers : List Sitting → List Sitting → Type 0
+KeepNumbers old new =
+    (place : ℕ) (other : Sitting) → place < length old → (slice_index_or new place other).number ≡ (slice_index_or old place other).number
+
+-- a history of the events as they are dealt to so many seats: it replays from the first world, each seat's entries are its own
+-- events, in their order, and there are as many entries as events
 pub record IsDealt (first : World) (count : ℕ) (events : List Event) (history : Log) : Type 0 where
   pub replays : Replays standard_rows first history
   pub seated : All (λ entry. entry.seat < count) history.entries
   pub in_turn : (seat : ℕ) → seat < count → events_told (told_to seat history.entries) ≡ dealt count seat events
+  pub calls : length history.entries ≡ length events
 
 -- the world behind the leading calls of a run, in which its board opens
 abbrev pub opened_world : Run → World
 opened_world run = world_after standard_rows run.world (leading_calls (events_in run.turns))
+
+-- the events of a run that its seats share
+abbrev pub shared_in : Run → List Event
+shared_in run = shared_events (events_in run.turns)
 
 -- whether a call that comes in first is refused
 abbrev pub is_call_refused : Run → Bool
@@ -85,7 +101,7 @@ is_call_refused run = list_any is_refused (replies_to standard_rows run.world (l
 -- what a run is before its board opens: the world behind the calls that come in first, the events behind them, and whether a call was
 -- refused
 abbrev pub begun_of : Result Run PbxFault → Result (World × List Event × Bool) PbxFault
-begun_of (Ok run) = Ok (opened_world run, shared_events (events_in run.turns), is_call_refused run)
+begun_of (Ok run) = Ok (opened_world run, shared_in run, is_call_refused run)
 begun_of (Err fault) = Err fault
 
 -- the line that is printed of a settled history
@@ -96,15 +112,21 @@ settled_line seats calls = codes "settled " ++ decimal seats ++ codes " seats " 
 abbrev pub any_refusal : Run → Log → Bool
 any_refusal run history = is_call_refused run || list_any (λ entry. is_refused entry.reply) history.entries
 
--- a run in threads that ended well: its history, its status and its line
+-- a run in threads that ended well: its history, its status, and its line, which counts the shared events as calls
 pub record RanShared (run : Run) (count : ℕ) (old new : Option (List ℕ)) (status : ℕ) (history : Log) : Type 0 where
-  pub replay : IsDealt (opened_world run) count (shared_events (events_in run.turns)) history
+  pub replay : IsDealt (opened_world run) count (shared_in run) history
   pub told : status ≡ status_by (any_refusal run history)
-  pub line : Appends old new (settled_line count (length history.entries))
+  pub line : Appends old new (settled_line count (length (shared_in run)))
 
--- whether a fault is of settling, or want of memory
+-- whether settling has this fault where every seat is handed in: it misses none
+abbrev pub misses_no_seat : SettleFault → Bool
+misses_no_seat (SeatMissing seat) = false
+misses_no_seat (Differs found) = true
+misses_no_seat settle_no_memory = true
+
+-- whether a fault is of settling with every seat, or want of memory
 abbrev pub is_settle_fault : PbxFault → Bool
-is_settle_fault (Coded (Settle fault) line) = is_none line
+is_settle_fault (Coded (Settle fault) line) = misses_no_seat fault && is_none line
 is_settle_fault (Coded (Line kind) line) = false
 is_settle_fault (Coded (Name fault) line) = false
 is_settle_fault (Coded (Plan kind) line) = false
@@ -116,23 +138,22 @@ is_settle_fault (Coded BadScript line) = false
 is_settle_fault (Coded BadBreak line) = false
 is_settle_fault NoMemory = true
 
--- the line of some number of calls was not written: a front of it was where the write failed, and else nothing
-pub record WroteFront (count : ℕ) (old new : Option (List ℕ)) : Type 0 where
-  pub calls : ℕ
-  pub front : AppendsFront old new (settled_line count calls)
+-- the line of so many calls was not written: a front of it was where the write failed, and else nothing
+abbrev pub IsUnwritten : ℕ → ℕ → Option (List ℕ) → Option (List ℕ) → PbxFault → Type 0
+IsUnwritten count calls old new (Coded code line) =
+    AppendsFront old new (settled_line count calls) × (code ≡ WriteFailed) × (line ≡ None)
+IsUnwritten count calls old new NoMemory = Appends old new []
 
-abbrev pub IsUnwritten : ℕ → Option (List ℕ) → Option (List ℕ) → PbxFault → Type 0
-IsUnwritten count old new (Coded code line) = WroteFront count old new × (code ≡ WriteFailed) × (line ≡ None)
-IsUnwritten count old new NoMemory = Appends old new []
-
--- why a run in threads of faultless texts fails: its seats were not settled, or its line was not written, or memory was refused
-abbrev pub IsUnshared : ℕ → Option (List ℕ) → Option (List ℕ) → PbxFault → Type 0
-IsUnshared count old new fault = (Appends old new [] × (is_settle_fault fault ≡ true)) ⊎ IsUnwritten count old new fault
+-- why a run in threads of faultless texts fails: its seats, all of which were handed in, were not settled, or its line was not written,
+-- or memory was refused
+abbrev pub IsUnshared : Run → ℕ → Option (List ℕ) → Option (List ℕ) → PbxFault → Type 0
+IsUnshared run count old new fault =
+    (Appends old new [] × (is_settle_fault fault ≡ true)) ⊎ IsUnwritten count (length (shared_in run)) old new fault
 
 -- what a run in threads by so many seats writes and answers, by the run or the fault that its texts are
 abbrev pub Shares : ℕ → Option (List ℕ) → Option (List ℕ) → Result Run PbxFault → Result (ℕ × Log) PbxFault → Type 0
 Shares count old new (Ok run) (Ok ran) = RanShared run count old new ran.0 ran.1
-Shares count old new (Ok run) (Err fault) = IsUnshared count old new fault
+Shares count old new (Ok run) (Err fault) = IsUnshared run count old new fault
 Shares count old new (Err fault) (Ok ran) = ⊥
 Shares count old new (Err fault) (Err (Coded code line)) = Appends old new [] × (fault ≡ Coded code line)
 Shares count old new (Err fault) (Err NoMemory) = Appends old new []

@@ -52,8 +52,7 @@ impl Block {
         ensures kept { self.new.whole ≡ self.old.whole }
         ensures ok { OnOk result (self.new.begun ≡ self.old.begun ++ bytes.now) }
     {
-        self.bytes.extend_from_slice(bytes)?;
-        Ok(())
+        self.bytes.extend_from_slice(bytes)
     }
 
     /// What is begun.

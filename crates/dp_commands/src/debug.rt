@@ -17,7 +17,7 @@ use crate::taker::Taker;
 use crate::trace::{push_number, push_reply};
 use dp_conf::WriteTold;
 use dp_debug::{Break, Debugger, Why};
-use dp_machine::{Event, Machine, Place, Reply};
+use dp_machine::{Event, Exten, Machine, Place, Reply};
 use dp_plan::{MOST_PRIORITY, NoMemory, Text};
 use dp_table::StandardApps;
 use std::alloc::Global;
@@ -54,7 +54,7 @@ fn read_parts(alloc: Global, parts: &[&[u8]]) -> Result<Option<Break>, NoMemory>
         return Ok(None);
     };
     let context = Text::copy_of(alloc, context)?;
-    let exten = Text::copy_of(alloc, exten)?;
+    let exten = Exten::new(Text::copy_of(alloc, exten)?);
     Ok(Some(Break::At(Place {
         context,
         exten,
@@ -62,19 +62,27 @@ fn read_parts(alloc: Global, parts: &[&[u8]]) -> Result<Option<Break>, NoMemory>
     })))
 }
 
-/// The break of a text, `CONTEXT,EXTEN,PRIORITY`, or its fault. Its parts are not trimmed.
+/// The break of a text, `CONTEXT,EXTEN,PRIORITY`, or None where it is none. Its parts are not trimmed.
+fn cut_break(alloc: Global, text: &[u8]) -> Result<Option<Break>, NoMemory>
+    ensures { IfOk result (λ held. held ≡ spec.break_by (spec.parts_of text.now)) }
+{
+    let parts = parts(alloc, text)?;
+    read_parts(alloc, &parts)
+}
+
+/// The break of a text, or its fault.
 #[tactic(auto, unfolding(crate::specs::Debug::break_of))]
 fn read_break(alloc: Global, text: &[u8]) -> Result<Break, PbxFault>
     ensures held { Answers (λ held. held) reason_of result (spec.break_of text.now) }
     ensures quiet { is_write_failed result ≡ false }
 {
-    let parts = parts(alloc, text)?;
-    match read_parts(alloc, &parts)? {
-        Some(held) => Ok(held),
-        None => Err(PbxFault::Coded {
+    match cut_break(alloc, text) {
+        Ok(Some(held)) => Ok(held),
+        Ok(None) => Err(PbxFault::Coded {
             code: Code::BadBreak,
             line: None,
         }),
+        Err(_) => Err(PbxFault::NoMemory),
     }
 }
 
@@ -85,8 +93,7 @@ fn push_halt(out: &mut Block, taken: u64) -> Result<(), NoMemory>
 {
     out.push(b"break ")?;
     push_number(out, taken)?;
-    out.push(b"\n")?;
-    Ok(())
+    out.push(b"\n")
 }
 
 /// What became of an event under the debugger: whether it has halted before the event, and the reply.
@@ -98,7 +105,6 @@ struct Stepped {
 
 /// Adds the line of a reply to what waits, and before it that of a halt, where there was one.
 fn push_stepped(
-    alloc: Global,
     block: &mut Block,
     machine: &Machine<StandardApps>,
     channel: u32,
@@ -113,9 +119,8 @@ fn push_stepped(
     if stepped.halted {
         push_halt(block, taken)?;
     }
-    push_reply(alloc, block, machine, channel, stepped.reply)?;
-    block.end_line()?;
-    Ok(())
+    push_reply(block, machine, channel, stepped.reply)?;
+    block.end_line()
 }
 
 /// Goes on with the event before which the debugger has halted, and gives the reply.
@@ -218,8 +223,7 @@ fn push_end(block: &mut Block, taken: u64) -> Result<(), NoMemory>
     block.begin_line();
     block.push(b"end ")?;
     push_number(block, taken)?;
-    block.end_line()?;
-    Ok(())
+    block.end_line()
 }
 
 impl Watched {
@@ -238,7 +242,7 @@ impl Watched {
         ensures err { OnErr result (block.new.whole ≡ block.old.whole) }
     {
         let stepped = step(alloc, &mut self.debugger, machine, event, &self.held)?;
-        push_stepped(alloc, block, machine, event.channel(), self.taken, stepped)?;
+        push_stepped(block, machine, event.channel(), self.taken, stepped)?;
         self.taken = self.taken.saturating_add(1);
         Ok(stepped.reply.is_refusal())
     }

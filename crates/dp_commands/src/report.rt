@@ -4,6 +4,8 @@ ghost use Rattle.std.specs.List.{flat_map};
 ghost use Rattle.dp_conf.specs.Answers.{Answers};
 ghost use Rattle.dp_commands.specs.Faults.{is_write_failed, reason_of};
 ghost use Rattle.dp_commands.specs.Report as spec;
+ghost use Rattle.dp_commands.specs.Run.{plan_fault};
+ghost use Rattle.dp_plan.specs.Loaded.{loaded};
 
 use crate::block::Block;
 use crate::fault::PbxFault;
@@ -22,8 +24,7 @@ fn push_note(out: &mut Block, note: Note) -> Result<(), NoMemory>
     push_number(out, note.line)?;
     out.push(b" ")?;
     out.push(note.kind.name().as_bytes())?;
-    out.push(b"\n")?;
-    Ok(())
+    out.push(b"\n")
 }
 
 /// Adds the lines of the notes.
@@ -55,8 +56,37 @@ fn push_counts(out: &mut Block, plan: &Dialplan) -> Result<(), NoMemory>
     push_number(out, plan.contexts().len())?;
     out.push(b" contexts ")?;
     push_number(out, count_entries(plan.contexts()))?;
-    out.push(b" entries\n")?;
-    Ok(())
+    out.push(b" entries\n")
+}
+
+/// A dialplan that was read, and its notes. Its drop is one function, so that it is proved once, and not on each way out of all that hold
+/// one.
+struct Read {
+    plan: Dialplan,
+    notes: Vec<Note>,
+}
+
+impl Drop for Read {
+    fn drop(self) {
+        let Read { plan: _, notes: _ } = self;
+    }
+}
+
+/// The dialplan of a text with its notes, or its fault.
+fn read_plan(alloc: Global, text: &[u8]) -> Result<Read, PbxFault>
+    ensures read { Answers (λ read. (read.plan, read.notes.items)) reason_of result (plan_fault (loaded text.now)) }
+    ensures quiet { is_write_failed result ≡ false }
+{
+    let (plan, notes) = Dialplan::load(alloc, text)?;
+    Ok(Read { plan, notes })
+}
+
+/// Adds what is reported of a dialplan with its notes.
+fn push_check(out: &mut Block, plan: &Dialplan, notes: &[Note]) -> Result<(), NoMemory>
+    ensures { OnOk result (out.new.begun ≡ out.old.begun ++ spec.check_text (plan.now, notes.now)) }
+{
+    push_notes(out, notes)?;
+    push_counts(out, plan)
 }
 
 /// What is reported of a dialplan with its notes.
@@ -64,8 +94,7 @@ fn check_text(alloc: Global, plan: &Dialplan, notes: &[Note]) -> Result<Block, N
     ensures { IfOk result (λ text. text.begun ≡ spec.check_text (plan.now, notes.now)) }
 {
     let mut text = Block::new(alloc, 0)?;
-    push_notes(&mut text, notes)?;
-    push_counts(&mut text, plan)?;
+    push_check(&mut text, plan, notes)?;
     Ok(text)
 }
 
@@ -75,8 +104,8 @@ fn checked(alloc: Global, plan: &[u8]) -> Result<Block, PbxFault>
     ensures text { Answers (λ text. text.begun) reason_of result (spec.check_of plan.now) }
     ensures quiet { is_write_failed result ≡ false }
 {
-    let (plan, notes) = Dialplan::load(alloc, plan)?;
-    let text = check_text(alloc, &plan, &notes)?;
+    let read = read_plan(alloc, plan)?;
+    let text = check_text(alloc, &read.plan, &read.notes)?;
     Ok(text)
 }
 
@@ -101,8 +130,8 @@ fn listed(alloc: Global, plan: &[u8]) -> Result<Vec<u8>, PbxFault>
     ensures text { Answers (λ text. text.items) reason_of result (spec.list_of plan.now) }
     ensures quiet { is_write_failed result ≡ false }
 {
-    let (plan, _) = Dialplan::load(alloc, plan)?;
-    let text = list(alloc, &plan)?;
+    let read = read_plan(alloc, plan)?;
+    let text = list(alloc, &read.plan)?;
     Ok(text)
 }
 
@@ -133,16 +162,25 @@ fn find_answer(
     Ok(find(plan, &order, text, priority.get()))
 }
 
+/// Adds the line of an entry that was looked for.
+fn push_match(out: &mut Block, plan: &Dialplan, found: Option<EntryId>) -> Result<(), NoMemory>
+    ensures { OnOk result (out.new.begun ≡ out.old.begun ++ spec.match_line plan.now found) }
+{
+    match found {
+        Some(id) => {
+            push_entry(out, plan, id)?;
+            out.push(b"\n")
+        }
+        None => out.push(b"none\n"),
+    }
+}
+
 /// The line of an entry that was looked for.
 fn match_line(alloc: Global, plan: &Dialplan, found: Option<EntryId>) -> Result<Block, NoMemory>
     ensures { IfOk result (λ line. line.begun ≡ spec.match_line plan.now found) }
 {
     let mut line = Block::new(alloc, 0)?;
-    match found {
-        Some(id) => push_entry(alloc, &mut line, plan, id)?,
-        None => line.push(b"none")?,
-    }
-    line.push(b"\n")?;
+    push_match(&mut line, plan, found)?;
     Ok(line)
 }
 
@@ -157,8 +195,7 @@ fn answer_line(
     ensures { IfOk result (λ line. line.begun ≡ spec.match_line plan.now (spec.answering plan.now context.now text.now priority)) }
 {
     let found = find_answer(alloc, plan, context, text, priority)?;
-    let line = match_line(alloc, plan, found)?;
-    Ok(line)
+    match_line(alloc, plan, found)
 }
 
 /// The line of the entry that answers a dialled text, or the fault of the dialplan's text.
@@ -173,8 +210,8 @@ fn matched(
     ensures line { Answers (λ line. line.begun) reason_of result (spec.match_of plan.now context.now text.now priority) }
     ensures quiet { is_write_failed result ≡ false }
 {
-    let (plan, _) = Dialplan::load(alloc, plan)?;
-    let line = answer_line(alloc, &plan, context, text, priority)?;
+    let read = read_plan(alloc, plan)?;
+    let line = answer_line(alloc, &read.plan, context, text, priority)?;
     Ok(line)
 }
 

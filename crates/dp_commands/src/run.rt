@@ -38,9 +38,8 @@ fn take_event(
     ensures refused { IfOk result (λ refused. refused ≡ (turned machine.old (Turn.Event event.now)).refused) }
     ensures err { OnErr result (block.new.whole ≡ block.old.whole) }
 {
-    let copy = event.copy()?;
-    let reply = machine.apply(alloc, copy)?;
-    push_line(alloc, block, machine, event.channel(), reply)?;
+    let reply = machine.apply_kept(alloc, event)?;
+    push_line(block, machine, event.channel(), reply)?;
     Ok(reply.is_refusal())
 }
 
@@ -97,7 +96,7 @@ fn send_full<W: WriteTold>(block: &mut Block, writer: &mut W) -> Result<(), Writ
     ensures told { W.has_failed writer.new ≡ (W.has_failed writer.old || is_err result) }
 {
     if block.is_full() {
-        block.send(writer)?;
+        return block.send(writer);
     }
     Ok(())
 }
@@ -170,42 +169,106 @@ fn load_queues(alloc: Global, text: Option<&[u8]>) -> Result<Queues, PbxFault>
     Ok(queues)
 }
 
+/// The dialplan of a run and its queues. Their drop is one function, so that it is proved once, and not on each way out of all that
+/// hold them.
+struct Files {
+    plan: Dialplan,
+    queues: Queues,
+}
+
+impl Drop for Files {
+    fn drop(self) {
+        let Files { plan: _, queues: _ } = self;
+    }
+}
+
+impl Files {
+    ghost use Rattle.std.specs.Prelude.{◌≡◌, IfOk};
+    ghost use Rattle.dp_machine.specs.World.{opening};
+    ghost use Rattle.dp_queue.specs.Rest.{IsAtRest};
+
+    /// A machine in which nothing has happened.
+    fn into_machine(self, alloc: Global) -> Result<Machine<StandardApps>, NoMemory>
+        requires { IsAtRest self.queues }
+        ensures { IfOk result (λ machine. machine ≡ opening self.plan self.queues) }
+    {
+        let Files { plan, queues } = self;
+        Machine::new(alloc, plan, queues)
+    }
+}
+
+/// What the files of a run say: the dialplan is read first, then the queues.
+fn read_files(alloc: Global, plan: &[u8], queues: Option<&[u8]>) -> Result<Files, PbxFault>
+    ensures files { Answers (λ files. record { plan = files.plan; queues = files.queues }) reason_of result
+        (spec.files_of plan.now (option_map (λ text. text.now) queues.entry)) }
+    ensures rest { IfOk result (λ files. IsAtRest files.queues) }
+    ensures quiet { is_write_failed result ≡ false }
+{
+    let (plan, _) = Dialplan::load(alloc, plan)?;
+    match load_queues(alloc, queues) {
+        Ok(queues) => Ok(Files { plan, queues }),
+        Err(fault) => Err(fault),
+    }
+}
+
 /// What the texts of a run say.
 #[derive(Drop)]
 struct Told {
-    plan: Dialplan,
-    queues: Queues,
+    files: Files,
     lines: Vec<ScriptLine>,
 }
 
-/// What the texts of a run say: the dialplan is read first, then the queues, then the script.
+/// What the texts of a run say: its files are read first, then the script.
 fn read_texts(
     alloc: Global,
     plan: &[u8],
     queues: Option<&[u8]>,
     script: &[u8],
 ) -> Result<Told, PbxFault>
-    ensures told { Answers (λ told. record { plan = told.plan; queues = told.queues; lines = told.lines.items }) reason_of result
+    ensures told { Answers (λ told. record { plan = told.files.plan; queues = told.files.queues; lines = told.lines.items }) reason_of result
         (spec.told_of plan.now (option_map (λ text. text.now) queues.entry) script.now) }
-    ensures rest { IfOk result (λ told. IsAtRest told.queues) }
+    ensures rest { IfOk result (λ told. IsAtRest told.files.queues) }
     ensures quiet { is_write_failed result ≡ false }
 {
-    let (plan, _) = Dialplan::load(alloc, plan)?;
-    let queues = load_queues(alloc, queues)?;
-    let lines = read_script(alloc, script)?;
-    Ok(Told {
-        plan,
-        queues,
-        lines,
-    })
+    let files = read_files(alloc, plan, queues)?;
+    match read_script(alloc, script) {
+        Ok(lines) => Ok(Told { files, lines }),
+        Err(fault) => Err(fault),
+    }
 }
 
-/// What a run has before its first turn: its machine, the lines of its script, and a block in which nothing waits.
-#[derive(Drop)]
+/// What a run has before its first turn: its machine, the lines of its script, and a block in which nothing waits. Its drop is one
+/// function, as that of the files is.
 pub(crate) struct Begun {
     pub(crate) machine: Machine<StandardApps>,
     pub(crate) lines: Vec<ScriptLine>,
     pub(crate) block: Block,
+}
+
+impl Drop for Begun {
+    fn drop(self) {
+        let Begun {
+            machine: _,
+            lines: _,
+            block: _,
+        } = self;
+    }
+}
+
+impl Begun {
+    ghost use Rattle.std.specs.Prelude.{◌≡◌};
+
+    /// The machine alone.
+    pub(crate) fn into_machine(self) -> Machine<StandardApps>
+        ensures { result ≡ self.machine }
+    {
+        let Begun {
+            machine,
+            lines: _,
+            block: _,
+        } = self;
+        machine
+    }
 }
 
 /// What a run has before its first turn.
@@ -222,13 +285,15 @@ pub(crate) fn begin(
     ensures quiet { is_write_failed result ≡ false }
 {
     let block = Block::new(alloc, ROOM)?;
-    let told = read_texts(alloc, plan, queues, script)?;
-    let machine = Machine::new(alloc, told.plan, told.queues)?;
-    Ok(Begun {
-        machine,
-        lines: told.lines,
-        block,
-    })
+    let Told { files, lines } = read_texts(alloc, plan, queues, script)?;
+    match files.into_machine(alloc) {
+        Ok(machine) => Ok(Begun {
+            machine,
+            lines,
+            block,
+        }),
+        Err(_) => Err(PbxFault::NoMemory),
+    }
 }
 
 /// Ends a run by what it came to: the lines that wait are written, unless a write has failed. The status is 1 where a

@@ -227,8 +227,7 @@ fn read_words(alloc: Global, words: &[&[u8]]) -> Result<Option<ScriptLine>, NoMe
         return Ok(None);
     };
     if *word == b"start".as_slice() {
-        let line = read_start(alloc, rest)?;
-        return Ok(line);
+        return read_start(alloc, rest);
     }
     if *word == b"step".as_slice() {
         return Ok(read_step(rest));
@@ -237,14 +236,34 @@ fn read_words(alloc: Global, words: &[&[u8]]) -> Result<Option<ScriptLine>, NoMe
         return Ok(read_digit(rest));
     }
     if *word == b"show".as_slice() {
-        let line = read_show(alloc, rest)?;
-        return Ok(line);
+        return read_show(alloc, rest);
     }
     if let Some(line) = read_channel_line(word, rest) {
         return Ok(Some(line));
     }
-    let line = read_agent_line(alloc, word, rest)?;
-    Ok(line)
+    read_agent_line(alloc, word, rest)
+}
+
+/// What the line of this number stands for by its words, or None where it is passed over.
+fn read_numbered(
+    alloc: Global,
+    line: usize,
+    words: &[&[u8]],
+) -> Result<Option<ScriptLine>, PbxFault>
+    ensures line { Answers option_to_list reason_of result (spec.numbered line (spec.line_of (map (λ word. word.now) words.now))) }
+    ensures quiet { is_write_failed result ≡ false }
+{
+    if is_skipped(words) {
+        return Ok(None);
+    }
+    match read_words(alloc, words) {
+        Ok(Some(item)) => Ok(Some(item)),
+        Ok(None) => Err(PbxFault::Coded {
+            code: Code::BadScript,
+            line: Some(line),
+        }),
+        Err(_) => Err(PbxFault::NoMemory),
+    }
 }
 
 /// What the line of this number stands for, or None where it is passed over.
@@ -253,16 +272,7 @@ fn read_line(alloc: Global, line: usize, part: &[u8]) -> Result<Option<ScriptLin
     ensures quiet { is_write_failed result ≡ false }
 {
     let words = words(alloc, part)?;
-    if is_skipped(&words) {
-        return Ok(None);
-    }
-    match read_words(alloc, &words)? {
-        Some(item) => Ok(Some(item)),
-        None => Err(PbxFault::Coded {
-            code: Code::BadScript,
-            line: Some(line),
-        }),
-    }
+    read_numbered(alloc, line, &words)
 }
 
 /// Adds the line at the end, where there is one.

@@ -1,9 +1,10 @@
 //! Runs in threads: the events of a script are dealt to the seats of a board, which act at once.
-ghost use Rattle.std.specs.Prelude.{◌≡◌, ◌++◌, ◌∷◌, ◌<◌, ◌≤◌, ◌||◌, [], IfOk, IfErr, OnOk, OnErr, All, length, max, replicate, true, false, ◌+◌};
-ghost use Rattle.std.specs.List.{list_any, prefix_len};
+ghost use Rattle.std.specs.Prelude.{◌≡◌, ◌++◌, ◌∷◌, ◌<◌, ◌≤◌, ◌||◌, [], IfOk, IfErr, OnOk, OnErr, All, length, map, max, replicate, true, false, ◌+◌};
+ghost use Rattle.std.specs.List.{list_any, prefix_len, range_with_len};
 ghost use Rattle.std.specs.Io.KnownBytes.{Appends};
 ghost use Rattle.std.specs.Option.{option_map};
-ghost use Rattle.dp_board.specs.Settled.{IsSettled};
+ghost use Rattle.dp_board.specs.Settled.{AllPresent, IsSettled};
+ghost use Rattle.dp_board.specs.Sittings.{unheard};
 ghost use Rattle.dp_machine.specs.Events.{is_refused as refuses};
 ghost use Rattle.dp_machine.specs.Replay.{replies_to, world_after};
 ghost use Rattle.dp_table.specs.Standard.{standard_rows};
@@ -20,7 +21,7 @@ use crate::fault::{Code, PbxFault};
 use crate::run::{Begun, begin};
 use crate::script::{ScriptLine, Turn};
 use crate::trace::push_number;
-use dp_board::{Board, Entry, Gate, History, Seat, Session, Unsettled};
+use dp_board::{Back, Board, Entry, Gate, History, Seat, Session, SettleFault, Unsettled};
 use dp_conf::WriteTold;
 use dp_machine::{Event, Machine};
 use dp_plan::NoMemory;
@@ -75,7 +76,23 @@ fn leading_calls(events: &[Event]) -> usize
     events.iter().take_while(|event| is_start(event)).count()
 }
 
-/// Gives the machine one event for a seat, between the calls of the gate. Turns of a seat are counted from 0.
+/// The calls that events begin with, and the events behind these.
+fn parted(events: &[Event]) -> (&[Event], &[Event])
+    ensures calls { result.0.now ≡ spec.leading_calls events.now }
+    ensures shared { result.1.now ≡ spec.shared_events events.now }
+{
+    events.split_at(leading_calls(events))
+}
+
+/// Which turn of its seat the event at a place is, where so many seats take turns. Turns of a seat are counted from 0.
+fn turn_at(at: usize, count: usize) -> u64
+    requires { 0 < count }
+    ensures { result ≡ spec.turn_of count at }
+{
+    (at / count) as u64
+}
+
+/// Gives the machine one event for a seat, between the calls of the gate, which are told the turn of the seat.
 fn act_one<S: Session, R: Wait, G: Gate>(
     rt: &R,
     alloc: Global,
@@ -85,6 +102,7 @@ fn act_one<S: Session, R: Wait, G: Gate>(
     gate: &G,
     turn: u64,
 ) -> Result<(), NoMemory>
+    requires { turn ≡ length seat.old.told }
     ensures number { seat.new.number ≡ seat.old.number }
     ensures ok { OnOk result (spec.events_told seat.new.told ≡ spec.events_told seat.old.told ++ event.now ∷ []) }
     ensures err { OnErr result (seat.new ≡ seat.old) }
@@ -115,15 +133,8 @@ fn act_all<S: Session, R: Wait, G: Gate>(
     let number = seat.number() as usize;
     for at in 0..events.len() {
         if at % count == number {
-            act_one(
-                rt,
-                alloc,
-                board,
-                seat,
-                &events[at],
-                gate,
-                (at / count) as u64,
-            )?;
+            let turn = turn_at(at, count);
+            act_one(rt, alloc, board, seat, &events[at], gate, turn)?;
         }
     }
     Ok(())
@@ -167,12 +178,13 @@ fn act_at_once<S: Session + Send + Sync, R: Threads + Wait + Sync, G: Gate + Syn
 )
     requires some { 0 < length seats.old }
     requires fresh { All (λ seat. seat.told ≡ []) seats.old }
-    ensures { All (spec.GaveFront (length seats.old) events.now) seats.new }
+    ensures gave { All (spec.GaveFront (length seats.old) events.now) seats.new }
+    ensures numbers { spec.KeepNumbers seats.old seats.new }
 {
     let count = seats.len();
     let give = |_place: usize, seat: &mut Seat<S>|
         requires { (0 < count) × (seat.now.told ≡ []) }
-        ensures { spec.GaveFront count events.entry.now seat.exit.now }
+        ensures { spec.GaveFront count events.entry.now seat.exit.now × (seat.exit.now.number ≡ seat.entry.now.number) }
     {
         // Where memory was refused, the seat was told of fewer events than are its own.
         let _ = act_all(rt, alloc, board, seat, count, events, gate);
@@ -180,28 +192,48 @@ fn act_at_once<S: Session + Send + Sync, R: Threads + Wait + Sync, G: Gate + Syn
     for_each_mut(rt, seats, count, &give);
 }
 
-/// Why a board was not settled. What was handed back is let go.
-fn settle_fault<S: Session>(unsettled: Unsettled<StandardApps, S>) -> PbxFault
+/// Lets go of a board that is open, and of its seats.
+fn let_go_open<S: Session>(_board: Board<StandardApps, S>, _seats: Vec<Seat<S>>) {}
+
+/// Lets go of a history, and of the seats that it was settled from.
+fn let_go_closed<S: Session>(_history: History<StandardApps>, _seats: Vec<Seat<S>>) {}
+
+/// Lets go of what was handed back.
+fn let_go<S: Session>(back: Back<StandardApps, S>) {
+    match back {
+        Back::Open { board, seats } => let_go_open(board, seats),
+        Back::Closed { history, seats } => let_go_closed(history, seats),
+    }
+}
+
+/// Why a board was not settled, though each seat was handed in.
+fn settle_fault(fault: SettleFault) -> PbxFault
+    requires { spec.misses_no_seat fault ≡ true }
     ensures { spec.is_settle_fault result ≡ true }
 {
     PbxFault::Coded {
-        code: Code::Settle(unsettled.fault),
+        code: Code::Settle(fault),
         line: None,
     }
 }
 
-/// The history of a board that was settled, or why it was not.
+/// The history of a board that was settled by all of its seats, or why it was not.
 fn settled<S: Session>(
     alloc: Global,
     board: Board<StandardApps, S>,
     seats: Vec<Seat<S>>,
 ) -> Result<History<StandardApps>, PbxFault>
+    requires { AllPresent board seats.items }
     ensures settled { IfOk result (λ history. IsSettled standard_rows S.opening board seats.items history) }
     ensures code { IfErr result (λ fault. spec.is_settle_fault fault ≡ true) }
 {
     match board.settle(alloc, seats) {
         Ok(history) => Ok(history),
-        Err(unsettled) => Err(settle_fault(unsettled)),
+        Err(unsettled) => {
+            let Unsettled { fault, back } = unsettled;
+            let_go(back);
+            Err(settle_fault(fault))
+        }
     }
 }
 
@@ -214,9 +246,8 @@ fn act_and_settle<S: Session + Send + Sync, R: Threads + Wait + Sync, G: Gate + 
     events: &[Event],
     gate: &G,
 ) -> Result<History<StandardApps>, PbxFault>
-    requires count { board ≡ length seats.items }
-    requires some { 0 < length seats.items }
-    requires fresh { All (λ seat. seat.told ≡ []) seats.items }
+    requires some { 0 < board }
+    requires seats { seats.items ≡ map unheard (range_with_len 0 board) }
     ensures dealt { IfOk result (λ history. spec.IsDealt S.opening board events.now history) }
     ensures code { IfErr result (λ fault. spec.is_settle_fault fault ≡ true) }
 {
@@ -279,7 +310,7 @@ fn has_refusal(entries: &[Entry]) -> bool
     entries.iter().any(|entry| entry.reply.is_refusal())
 }
 
-/// What is left to share behind the calls that come in first: the events behind them, and whether a call was refused.
+/// The events of a run, of which the calls that come in first were given, and whether one of these was refused.
 #[derive(Drop)]
 struct Given {
     events: Vec<Event>,
@@ -293,12 +324,12 @@ fn give_calls(
     lines: &[ScriptLine],
 ) -> Result<Given, NoMemory>
     ensures world { OnOk result (machine.new ≡ world_after standard_rows machine.old (spec.leading_calls (spec.events_in (turns_of lines.now)))) }
-    ensures events { IfOk result (λ given. given.events.items ≡ spec.shared_events (spec.events_in (turns_of lines.now))) }
+    ensures events { IfOk result (λ given. given.events.items ≡ spec.events_in (turns_of lines.now)) }
     ensures refused { IfOk result (λ given. given.is_refused ≡ list_any refuses (replies_to standard_rows machine.old (spec.leading_calls (spec.events_in (turns_of lines.now))))) }
 {
-    let mut calls = events_of(alloc, lines)?;
-    let events = calls.split_off(leading_calls(&calls))?;
-    let is_refused = run_events(alloc, machine, &calls)?;
+    let events = events_of(alloc, lines)?;
+    let (calls, _) = parted(&events);
+    let is_refused = run_events(alloc, machine, calls)?;
     Ok(Given { events, is_refused })
 }
 
@@ -315,7 +346,7 @@ fn opened_of(begun: Begun, given: Given) -> Opened
     ensures given { result.given ≡ given }
 {
     Opened {
-        machine: begun.machine,
+        machine: begun.into_machine(),
         given,
     }
 }
@@ -327,7 +358,7 @@ fn begin_shared(
     queues: Option<&[u8]>,
     script: &[u8],
 ) -> Result<Opened, PbxFault>
-    ensures begun { Answers (λ opened. (opened.machine, opened.given.events.items, opened.given.is_refused)) reason_of result
+    ensures begun { Answers (λ opened. (opened.machine, spec.shared_events opened.given.events.items, opened.given.is_refused)) reason_of result
         (spec.begun_of (run.run_of plan.now (option_map (λ text. text.now) queues.entry) script.now)) }
     ensures quiet { is_write_failed result ≡ false }
 {
@@ -360,7 +391,7 @@ fn write_settled<W: WriteTold>(
 ) -> Result<(), PbxFault>
     requires { block.old ≡ waiting [] [] }
     ensures ok { OnOk result (Appends (W.contents writer.old) (W.contents writer.new) (spec.settled_line seats calls)) }
-    ensures err { IfErr result (spec.IsUnwritten seats (W.contents writer.old) (W.contents writer.new)) }
+    ensures err { IfErr result (spec.IsUnwritten seats calls (W.contents writer.old) (W.contents writer.new)) }
     ensures told { W.has_failed writer.new ≡ (W.has_failed writer.old || is_write_failed result) }
 {
     push_settled(block, seats, calls)?;
@@ -378,7 +409,7 @@ fn report<W: WriteTold>(
 ) -> Result<u8, PbxFault>
     ensures ok { OnOk result (Appends (W.contents writer.old) (W.contents writer.new) (spec.settled_line seats (length history.now.entries))) }
     ensures status { IfOk result (λ status. status ≡ run.status_by (is_refused || list_any (λ entry. refuses entry.reply) history.now.entries)) }
-    ensures err { IfErr result (spec.IsUnwritten seats (W.contents writer.old) (W.contents writer.new)) }
+    ensures err { IfErr result (spec.IsUnwritten seats (length history.now.entries) (W.contents writer.old) (W.contents writer.new)) }
     ensures told { W.has_failed writer.new ≡ (W.has_failed writer.old || is_write_failed result) }
 {
     let mut block = Block::new(alloc, 64)?;
@@ -395,12 +426,13 @@ fn share<G: Gate + Sync, R: Threads + Wait + Sync>(
     gate: &G,
 ) -> Result<History<StandardApps>, PbxFault>
     requires some { 0 < count }
-    ensures dealt { IfOk result (λ history. spec.IsDealt opened.machine count opened.given.events.items history) }
+    ensures dealt { IfOk result (λ history. spec.IsDealt opened.machine count (spec.shared_events opened.given.events.items) history) }
     ensures code { IfErr result (λ fault. spec.is_settle_fault fault ≡ true) }
 {
     let blank = Blank::new(u64::from(count) + 1);
-    let machine = opened.machine;
-    history_of::<Brand, _, _>(rt, alloc, blank, machine, count, &opened.given.events, gate)
+    let Opened { machine, given } = opened;
+    let (_, shared) = parted(&given.events);
+    history_of::<Brand, _, _>(rt, alloc, blank, machine, count, shared, gate)
 }
 
 /// A history and the status of its run, where its line is written.
@@ -414,19 +446,22 @@ fn conclude<W: WriteTold>(
     ensures ok { OnOk result (Appends (W.contents writer.old) (W.contents writer.new) (spec.settled_line seats (length history.entries))) }
     ensures history { IfOk result (λ ran. ran.1 ≡ history) }
     ensures status { IfOk result (λ ran. ran.0 ≡ run.status_by (is_refused || list_any (λ entry. refuses entry.reply) history.entries)) }
-    ensures err { IfErr result (spec.IsUnwritten seats (W.contents writer.old) (W.contents writer.new)) }
+    ensures err { IfErr result (spec.IsUnwritten seats (length history.entries) (W.contents writer.old) (W.contents writer.new)) }
     ensures told { W.has_failed writer.new ≡ (W.has_failed writer.old || is_write_failed result) }
 {
-    let status = report(alloc, &history, seats, is_refused, writer)?;
-    Ok((status, history))
+    match report(alloc, &history, seats, is_refused, writer) {
+        Ok(status) => Ok((status, history)),
+        Err(fault) => Err(fault),
+    }
 }
 
 /// Runs a script on a dialplan with its queues in so many threads, and writes `settled N seats M calls`: so many seats, and how many
-/// calls their history has. With 0 threads it runs in one. The calls that the script begins with come in first; then a board opens, and
+/// events they shared, each of which is a call of the history. With 0 threads it runs in one. The calls that the script begins with come in first; then a board opens, and
 /// the events behind these are dealt to its seats in turn, each of which gives its own in a thread, between the calls of the gate.
 /// Lines that show a value are passed over. The history is answered, and the status: 1 where an event was refused, else 0.
 ///
-/// All texts are read first, and their faults come as in a run without threads. Where memory is refused nothing is written.
+/// All texts are read first, and their faults come as in a run without threads. Where memory is refused nothing is written. Each seat
+/// is handed in, so none is missing where the board is settled.
 pub fn run_threads<G: Gate + Sync, W: WriteTold, R: Threads + Wait + Sync>(
     rt: &R,
     alloc: Global,
@@ -445,6 +480,5 @@ pub fn run_threads<G: Gate + Sync, W: WriteTold, R: Threads + Wait + Sync>(
     let count = threads.max(1);
     let is_refused = opened.given.is_refused;
     let history = share(rt, alloc, opened, count, gate)?;
-    let ran = conclude(alloc, history, count, is_refused, writer)?;
-    Ok(ran)
+    conclude(alloc, history, count, is_refused, writer)
 }

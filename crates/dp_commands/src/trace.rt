@@ -1,13 +1,11 @@
 //! The lines of a trace.
 ghost use Rattle.std.specs.Prelude.{◌≡◌, ◌++◌, ◌∷◌, [], IfOk, OnOk, OnErr, Some, codes, decimal};
 ghost use Rattle.std.specs.Option.{option_copied};
-ghost use Rattle.dp_pattern.specs.Spelling.{spelling};
 ghost use Rattle.dp_machine.specs.World.{value_in};
 ghost use Rattle.dp_commands.specs.Trace as spec;
 
 use crate::block::Block;
 use dp_machine::{EntryId, Machine, Phase, Place, Queues, Refusal, Reply};
-use dp_pattern::{Name, Parts};
 use dp_plan::{Context, Dialplan, Entry, NoMemory};
 use dp_table::StandardApps;
 use itoa::{Buffer, Integer};
@@ -19,8 +17,7 @@ pub(crate) fn push_number<I: Integer>(out: &mut Block, number: I) -> Result<(), 
     ensures ok { OnOk result (out.new.begun ≡ out.old.begun ++ I.text number) }
 {
     let mut buffer = Buffer::new();
-    out.push(buffer.format(number).as_bytes())?;
-    Ok(())
+    out.push(buffer.format(number).as_bytes())
 }
 
 /// Adds `CONTEXT,EXTEN,PRIORITY`.
@@ -32,8 +29,7 @@ fn push_place(out: &mut Block, context: &[u8], exten: &[u8], priority: u32) -> R
     out.push(b",")?;
     out.push(exten)?;
     out.push(b",")?;
-    push_number(out, priority)?;
-    Ok(())
+    push_number(out, priority)
 }
 
 /// Adds the state of a channel that is ready.
@@ -50,8 +46,7 @@ fn push_ready(out: &mut Block, place: Option<&Place>) -> Result<(), NoMemory>
         place.context.bytes(),
         place.exten.bytes(),
         place.priority,
-    )?;
-    Ok(())
+    )
 }
 
 /// Adds the state of the channel of this number.
@@ -63,8 +58,7 @@ fn push_state(out: &mut Block, machine: &Machine<StandardApps>, number: u32) -> 
     let Some(phase) = machine.phase(number) else {
         return Ok(());
     };
-    push_phase(out, machine.queues(), phase, machine.place(number))?;
-    Ok(())
+    push_phase(out, machine.queues(), phase, machine.place(number))
 }
 
 /// Adds the state of a channel by its phase and its place.
@@ -78,17 +72,22 @@ fn push_phase(
     ensures ok { OnOk result (out.new.begun ≡ out.old.begun ++ spec.state_by queues.now (Some phase.now) (option_copied place.entry)) }
 {
     match phase {
-        Phase::Ready => push_ready(out, place)?,
-        Phase::Digits { .. } => out.push(b"digits")?,
-        Phase::Pause => out.push(b"pause")?,
-        Phase::Queued { queue, .. } => {
-            out.push(b"queued ")?;
-            push_queue(out, queues, *queue)?;
-        }
-        Phase::Talking { queue, agent, .. } => push_talking(out, queues, *queue, *agent)?,
-        Phase::Ended => out.push(b"ended")?,
+        Phase::Ready => push_ready(out, place),
+        Phase::Digits { .. } => out.push(b"digits"),
+        Phase::Pause => out.push(b"pause"),
+        Phase::Queued { queue, .. } => push_queued(out, queues, *queue),
+        Phase::Talking { queue, agent, .. } => push_talking(out, queues, *queue, *agent),
+        Phase::Ended => out.push(b"ended"),
     }
-    Ok(())
+}
+
+/// Adds the state of a channel that waits in the queue of a number.
+fn push_queued(out: &mut Block, queues: &Queues, queue: usize) -> Result<(), NoMemory>
+    ensures kept { out.new.whole ≡ out.old.whole }
+    ensures ok { OnOk result (out.new.begun ≡ out.old.begun ++ (codes "queued " ++ spec.queue_name queues.now queue)) }
+{
+    out.push(b"queued ")?;
+    push_queue(out, queues, queue)
 }
 
 /// Adds the state of a channel that talks with the agent of a number, in the queue of a number.
@@ -105,8 +104,7 @@ fn push_talking(
     out.push(b"talking ")?;
     push_queue(out, queues, queue)?;
     out.push(b" ")?;
-    push_agent(out, queues, agent)?;
-    Ok(())
+    push_agent(out, queues, agent)
 }
 
 /// Adds the name of the queue of a number.
@@ -114,10 +112,10 @@ fn push_queue(out: &mut Block, queues: &Queues, number: usize) -> Result<(), NoM
     ensures kept { out.new.whole ≡ out.old.whole }
     ensures ok { OnOk result (out.new.begun ≡ out.old.begun ++ spec.queue_name queues.now number) }
 {
-    if let Some(queue) = queues.queues().get(number) {
-        out.push(queue.name().bytes())?;
+    match queues.queues().get(number) {
+        Some(queue) => out.push(queue.name().bytes()),
+        None => Ok(()),
     }
-    Ok(())
 }
 
 /// Adds the name of the agent of a number.
@@ -125,53 +123,29 @@ fn push_agent(out: &mut Block, queues: &Queues, number: usize) -> Result<(), NoM
     ensures kept { out.new.whole ≡ out.old.whole }
     ensures ok { OnOk result (out.new.begun ≡ out.old.begun ++ spec.agent_name queues.now number) }
 {
-    if let Some(agent) = queues.agents().get(number) {
-        out.push(agent.name.bytes())?;
+    match queues.agents().get(number) {
+        Some(agent) => out.push(agent.name.bytes()),
+        None => Ok(()),
     }
-    Ok(())
-}
-
-/// Adds the canonical spelling of a name. That of a plain name takes no memory of its own.
-#[tactic(auto, unfolding(dp_pattern::specs::Spelling::spelling))]
-fn push_name(alloc: Global, out: &mut Block, name: &Name) -> Result<(), NoMemory>
-    ensures kept { out.new.whole ≡ out.old.whole }
-    ensures ok { OnOk result (out.new.begun ≡ out.old.begun ++ spelling name.now) }
-{
-    match name.parts() {
-        Parts::Plain(text) => out.push(text)?,
-        Parts::Pattern(..) => out.push(&name.text(alloc)?)?,
-    }
-    Ok(())
 }
 
 /// Adds an entry of a context, `CONTEXT,NAME,PRIORITY APP`, its name in the canonical spelling.
-fn push_entry_of(
-    alloc: Global,
-    out: &mut Block,
-    context: &Context,
-    entry: &Entry,
-) -> Result<(), NoMemory>
+fn push_entry_of(out: &mut Block, context: &Context, entry: &Entry) -> Result<(), NoMemory>
     ensures kept { out.new.whole ≡ out.old.whole }
     ensures ok { OnOk result (out.new.begun ≡ out.old.begun ++ spec.entry_by context.now (Some entry.now)) }
 {
     out.push(context.name().bytes())?;
     out.push(b",")?;
-    push_name(alloc, out, entry.name.name())?;
+    out.push(entry.name.spelling())?;
     out.push(b",")?;
     push_number(out, entry.priority.get())?;
     out.push(b" ")?;
-    out.push(entry.application.bytes())?;
-    Ok(())
+    out.push(entry.application.bytes())
 }
 
 /// Adds the entry of the dialplan that has these numbers.
 #[tactic(auto, unfolding(crate::specs::Trace::entry_text))]
-pub(crate) fn push_entry(
-    alloc: Global,
-    out: &mut Block,
-    plan: &Dialplan,
-    id: EntryId,
-) -> Result<(), NoMemory>
+pub(crate) fn push_entry(out: &mut Block, plan: &Dialplan, id: EntryId) -> Result<(), NoMemory>
     ensures kept { out.new.whole ≡ out.old.whole }
     ensures ok { OnOk result (out.new.begun ≡ out.old.begun ++ spec.entry_text plan.now id) }
 {
@@ -181,8 +155,7 @@ pub(crate) fn push_entry(
     let Some(entry) = context.entries().get(id.entry) else {
         return Ok(());
     };
-    push_entry_of(alloc, out, context, entry)?;
-    Ok(())
+    push_entry_of(out, context, entry)
 }
 
 /// Adds ` -> ` and the state of the channel of this number.
@@ -195,8 +168,7 @@ fn push_behind(
     ensures ok { OnOk result (out.new.begun ≡ out.old.begun ++ codes " -> " ++ spec.state_text machine.now number) }
 {
     out.push(b" -> ")?;
-    push_state(out, machine, number)?;
-    Ok(())
+    push_state(out, machine, number)
 }
 
 /// Adds the line of a refusal.
@@ -207,13 +179,11 @@ fn push_refused(out: &mut Block, refusal: Refusal) -> Result<(), NoMemory>
     out.push(b"refused ")?;
     push_number(out, u32::from(refusal.code()))?;
     out.push(b" ")?;
-    out.push(refusal.name().as_bytes())?;
-    Ok(())
+    out.push(refusal.name().as_bytes())
 }
 
 /// Adds the line of a step that ran an entry.
 fn push_ran(
-    alloc: Global,
     out: &mut Block,
     machine: &Machine<StandardApps>,
     number: u32,
@@ -225,9 +195,31 @@ fn push_ran(
     out.push(b"ran ")?;
     push_number(out, number)?;
     out.push(b" ")?;
-    push_entry(alloc, out, machine.plan(), id)?;
-    push_behind(out, machine, number)?;
-    Ok(())
+    push_entry(out, machine.plan(), id)?;
+    push_behind(out, machine, number)
+}
+
+/// Adds the line of a channel that comes in.
+fn push_started(out: &mut Block, channel: u32) -> Result<(), NoMemory>
+    ensures kept { out.new.whole ≡ out.old.whole }
+    ensures ok { OnOk result (out.new.begun ≡ out.old.begun ++ (codes "started " ++ decimal channel)) }
+{
+    out.push(b"started ")?;
+    push_number(out, channel)
+}
+
+/// Adds the line of a channel whose place has no entry.
+fn push_no_entry(
+    out: &mut Block,
+    machine: &Machine<StandardApps>,
+    number: u32,
+) -> Result<(), NoMemory>
+    ensures kept { out.new.whole ≡ out.old.whole }
+    ensures ok { OnOk result (out.new.begun ≡ out.old.begun ++ spec.reply_text machine.now number Reply.NoEntry) }
+{
+    out.push(b"no entry ")?;
+    push_number(out, number)?;
+    push_behind(out, machine, number)
 }
 
 /// Adds the line of a channel that went to the extension `i`.
@@ -241,8 +233,7 @@ fn push_invalid(
 {
     out.push(b"invalid ")?;
     push_number(out, number)?;
-    push_behind(out, machine, number)?;
-    Ok(())
+    push_behind(out, machine, number)
 }
 
 /// Adds the line of an offer.
@@ -253,8 +244,7 @@ fn push_offered(out: &mut Block, channel: u32, rung: usize) -> Result<(), NoMemo
     out.push(b"offered ")?;
     push_number(out, channel)?;
     out.push(b" ")?;
-    push_number(out, rung)?;
-    Ok(())
+    push_number(out, rung)
 }
 
 /// Adds the line of an event that was taken.
@@ -263,18 +253,15 @@ fn push_done(out: &mut Block, machine: &Machine<StandardApps>, number: u32) -> R
     ensures ok { OnOk result (out.new.begun ≡ out.old.begun ++ spec.done_text machine.now number) }
 {
     if number == 0 {
-        out.push(b"ok")?;
-        return Ok(());
+        return out.push(b"ok");
     }
     out.push(b"ok ")?;
     push_number(out, number)?;
-    push_behind(out, machine, number)?;
-    Ok(())
+    push_behind(out, machine, number)
 }
 
 /// Adds the line of a reply to an event of the channel of this number, with the machine behind the event.
 pub(crate) fn push_reply(
-    alloc: Global,
     out: &mut Block,
     machine: &Machine<StandardApps>,
     number: u32,
@@ -284,28 +271,19 @@ pub(crate) fn push_reply(
     ensures ok { OnOk result (out.new.begun ≡ out.old.begun ++ spec.reply_text machine.now number reply) }
 {
     match reply {
-        Reply::Started(channel) => {
-            out.push(b"started ")?;
-            push_number(out, channel)?;
-        }
-        Reply::Ran(id) => push_ran(alloc, out, machine, number, id)?,
-        Reply::NoEntry => {
-            out.push(b"no entry ")?;
-            push_number(out, number)?;
-            push_behind(out, machine, number)?;
-        }
-        Reply::Invalid => push_invalid(out, machine, number)?,
-        Reply::Offered { channel, rung } => push_offered(out, channel, rung)?,
-        Reply::Done => push_done(out, machine, number)?,
-        Reply::Refused(refusal) => push_refused(out, refusal)?,
+        Reply::Started(channel) => push_started(out, channel),
+        Reply::Ran(id) => push_ran(out, machine, number, id),
+        Reply::NoEntry => push_no_entry(out, machine, number),
+        Reply::Invalid => push_invalid(out, machine, number),
+        Reply::Offered { channel, rung } => push_offered(out, channel, rung),
+        Reply::Done => push_done(out, machine, number),
+        Reply::Refused(refusal) => push_refused(out, refusal),
     }
-    Ok(())
 }
 
 /// Adds the line of a reply to what waits, by the channel that the event names and the machine behind the event. Where
 /// memory is refused the whole lines stay as they were.
 pub(crate) fn push_line(
-    alloc: Global,
     block: &mut Block,
     machine: &Machine<StandardApps>,
     number: u32,
@@ -315,9 +293,8 @@ pub(crate) fn push_line(
     ensures err { OnErr result (block.new.whole ≡ block.old.whole) }
 {
     block.begin_line();
-    push_reply(alloc, block, machine, number, reply)?;
-    block.end_line()?;
-    Ok(())
+    push_reply(block, machine, number, reply)?;
+    block.end_line()
 }
 
 /// Adds the value of a name in a channel, `NAME=VALUE`.
@@ -334,8 +311,7 @@ fn push_value(
     let value = machine.value(alloc, channel, name)?;
     out.push(name)?;
     out.push(b"=")?;
-    out.push(&value)?;
-    Ok(())
+    out.push(&value)
 }
 
 /// Adds the value of a name in a channel, or the refusal where no channel has the number.
@@ -351,10 +327,9 @@ fn push_show(
     ensures ok { OnOk result (out.new.begun ≡ out.old.begun ++ spec.show_text machine.now channel name.now) }
 {
     match machine.phase(channel) {
-        Some(_) => push_value(alloc, out, machine, channel, name)?,
-        None => push_refused(out, Refusal::NoChannel)?,
+        Some(_) => push_value(alloc, out, machine, channel, name),
+        None => push_refused(out, Refusal::NoChannel),
     }
-    Ok(())
 }
 
 /// Adds the line that shows a name in a channel to what waits. Where memory is refused the whole lines stay as they were.
@@ -370,6 +345,5 @@ pub(crate) fn push_show_line(
 {
     block.begin_line();
     push_show(alloc, block, machine, channel, name)?;
-    block.end_line()?;
-    Ok(())
+    block.end_line()
 }

@@ -2,6 +2,8 @@
 use Rattle.std.proofs.Common.{suc, ◌≡◌, ℕ, ◌+◌, ◌-◌, ◌<◌, ◌≤◌, List, [], ◌∷◌, ◌++◌, length, take, drop, get_or, Option, refl, sym, ap, subst, ◌∙◌, arith}
 use Rattle.std.specs.Option.{option_and_then}
 use Rattle.std.specs.List.{slice_get, slice_range}
+use Rattle.std.proofs.Math.Seq.{take-add}
+use Rattle.std.proofs.lemmas.List.Sums.{fold-append}
 use Rattle.std.proofs.lemmas.List.{append_assoc, drop_more, get_or-drop, length-drop, take_more}
 use Rattle.std.proofs.lemmas.Option.{slice_get_read}
 use Rattle.dp_app.specs.Rows.{Rows}
@@ -11,7 +13,7 @@ use Rattle.dp_machine.specs.World.{World}
 use Rattle.dp_machine.specs.declared.event.Event.{Event}
 use Rattle.dp_machine.specs.declared.reply.Reply.{Reply}
 use Rattle.dp_debug.specs.Breaks.{first_before}
-use Rattle.dp_debug.specs.Cut.{IsRun, IsWhy, first_at}
+use Rattle.dp_debug.specs.Cut.{HasTaken, IsRun, IsWhy, first_at}
 use Rattle.dp_debug.specs.declared.breaks.Break.{Break}
 use Rattle.dp_debug.specs.declared.halt.Halt.{Halt}
 use Rattle.dp_debug.specs.declared.halt.Why.{Why}
@@ -79,4 +81,53 @@ IsRun-behind rows w events breaks from event old halt new after within here run 
           ∙ ap (λ es. old ++ replies_to rows w es) (sym more));
       none = λ n later l. sym (first n later) ∙ run.none n later l;
       why = subst (λ f. IsWhy (length events) (from + 1) halt.taken f halt.why) (first halt.taken run.begun) run.why;
+    }
+
+-- the events from the first on
+range-all : (events : List Event) (n : ℕ) → slice_range events 0 n ≡ take n events
+range-all events n =
+    let same : n - 0 ≡ n = omega arith in
+    ap (λ k. take k events) same
+
+-- the first events, and those behind them
+range-behind : (events : List Event) (from n : ℕ) → from ≤ n → take from events ++ slice_range events from n ≡ take n events
+range-behind events from n begun =
+    let same : from + (n - from) ≡ n = omega (arith, begun) in
+    sym (take-add from (n - from) events) ∙ ap (λ k. take k events) same
+
+-- the replies to events and to more behind them
+replies_to-append : (rows : Rows) (w : World) (events more : List Event)
+    → replies_to rows w (events ++ more) ≡ replies_to rows w events ++ replies_to rows (world_after rows w events) more
+replies_to-append rows w [] more = refl
+replies_to-append rows w (event ∷ events) more =
+    ap (λ (later : List Reply). (event_row rows w event).1 ∷ later) (replies_to-append rows (world_behind rows w event) events more)
+
+-- a run from the first event on
+pub HasTaken-first : (rows : Rows) (w : World) (events : List Event) (breaks : List Break) (halt : Halt) (trace : List Reply) (after : World)
+    → IsRun rows w events breaks 0 0 [] halt trace after → HasTaken rows w events halt.taken trace after
+HasTaken-first rows w events breaks halt trace after run = record {
+  within = run.within;
+  replies = run.replies ∙ ap (replies_to rows w) (range-all events halt.taken);
+  world = run.world ∙ ap (world_after rows w) (range-all events halt.taken);
+}
+
+-- a run that goes on behind so many events
+pub HasTaken-further : (rows : Rows) (w between after : World) (events : List Event) (breaks : List Break) (taken asked : ℕ) (halt : Halt) (trace whole : List Reply)
+    → HasTaken rows w events taken trace between → IsRun rows between events breaks taken asked trace halt whole after
+    → HasTaken rows w events halt.taken whole after
+HasTaken-further rows w between after events breaks taken asked halt trace whole before run =
+    let so_far = take taken events in
+    let more = slice_range events taken halt.taken in
+    let both : so_far ++ more ≡ take halt.taken events = range-behind events taken halt.taken run.begun in
+    record {
+      within = run.within;
+      replies =
+          run.replies
+          ∙ (ap (λ rs. rs ++ replies_to rows between more) before.replies
+          ∙ (ap (λ (now : World). replies_to rows w so_far ++ replies_to rows now more) before.world
+          ∙ (sym (replies_to-append rows w so_far more) ∙ ap (replies_to rows w) both)));
+      world =
+          run.world
+          ∙ (ap (λ (now : World). world_after rows now more) before.world
+          ∙ (sym (fold-append (world_behind rows) w so_far more) ∙ ap (world_after rows w) both));
     }

@@ -1,2 +1,2 @@
+pub mod BreakLemmas
 pub mod CutLemmas
-pub mod PlaceLemmas

@@ -45,11 +45,20 @@ abbrev pub runs_at : PlanOf → Option EntryId → List ℕ → Bool
 runs_at plan None name = false
 runs_at plan (Some id) name = has_application (entry_at plan id) name
 
--- whether a break holds before a step of the channel of a number: the channel is ready and stands at that place, or the entry
--- that it would run has that application
+-- whether a break names an application
+abbrev pub names_app : Break → Bool
+names_app (At place) = false
+names_app (App name) = true
+
+-- whether a break holds before a step of the channel of a number that would run this entry: the channel is ready and stands at that
+-- place, or the entry has that application
+abbrev pub holds_at : World → ℕ → Option EntryId → Break → Bool
+holds_at w number entry (At place) = stands_at (channel_at w.channels number) place
+holds_at w number entry (App name) = runs_at w.plan entry name
+
+-- whether a break holds before a step of the channel of a number
 abbrev pub holds_for : World → ℕ → Break → Bool
-holds_for w number (At place) = stands_at (channel_at w.channels number) place
-holds_for w number (App name) = runs_at w.plan (next_entry w number) name
+holds_for w number held = holds_at w number (next_entry w number) held
 
 -- the first of the breaks that holds before a step of the channel of a number
 unfoldable pub first_for : World → ℕ → List Break → Option ℕ

@@ -1,5 +1,5 @@
 -- Where a debugged run halts: before the least event, of those whose breaks are asked, before which a break holds.
-use Rattle.std.specs.Prelude.{◌≡◌, ℕ, ◌≤◌, ◌<◌, List, ◌++◌, length, slice_get, slice_range, Option, Some, None}
+use Rattle.std.specs.Prelude.{◌≡◌, ℕ, ◌≤◌, ◌<◌, List, ◌++◌, length, slice_get, slice_range, take, Option, Some, None}
 use Rattle.std.specs.Option.{option_and_then}
 use Rattle.dp_app.specs.Rows.{Rows}
 use Rattle.dp_machine.specs.Replay.{replies_to, world_after}
@@ -34,3 +34,9 @@ pub record IsRun (rows : Rows) (w : World) (events : List Event) (breaks : List 
   pub replies : new ≡ old ++ replies_to rows w (slice_range events from halt.taken)
   pub none : (number : ℕ) → asked ≤ number → number < halt.taken → first_at rows w events from breaks number ≡ None
   pub why : IsWhy (length events) asked halt.taken (first_at rows w events from breaks halt.taken) halt.why
+
+-- so many events were taken, the first of the list: the replies to them, and the world behind them
+pub record HasTaken (rows : Rows) (w : World) (events : List Event) (taken : ℕ) (trace : List Reply) (after : World) : Type 0 where
+  pub within : taken ≤ length events
+  pub replies : trace ≡ replies_to rows w (take taken events)
+  pub world : after ≡ world_after rows w (take taken events)

@@ -1,12 +1,13 @@
 //! Breaks: where a debugged run halts.
-ghost use Rattle.std.specs.Prelude.{◌≡◌, IfOk};
+ghost use Rattle.std.specs.Prelude.{◌≡◌, true};
+ghost use Rattle.std.specs.List.{list_any, position};
+ghost use Rattle.dp_machine.specs.Events.{next_entry};
 ghost use Rattle.dp_machine.specs.World as worlds;
 ghost use Rattle.dp_debug.specs.Breaks as spec;
 
 use dp_app::AppTable;
 use dp_conf::same_word;
-use dp_machine::{Dialplan, EntryId, Event, Machine, NoMemory, Phase, Place, Text};
-use std::alloc::Global;
+use dp_machine::{Dialplan, EntryId, Event, Machine, Phase, Place, Text};
 
 /// Where a debugged run halts.
 #[derive(Debug, PartialEq, Eq, Drop)]
@@ -63,53 +64,88 @@ fn runs_at(plan: &Dialplan, id: Option<EntryId>, name: &[u8]) -> bool
     }
 }
 
-/// Whether the break holds before a step of the channel of this number.
-fn holds_for<T: AppTable>(
-    alloc: Global,
-    machine: &Machine<T>,
-    channel: u32,
-    held: &Break,
-) -> Result<bool, NoMemory>
-    ensures { IfOk result (λ holds. holds ≡ spec.holds_for machine.now channel held.now) }
+/// Whether the break names an application.
+fn names_app(held: &Break) -> bool
+    ensures { result ≡ spec.names_app held.now }
 {
     match held {
-        Break::At(place) => Ok(stands_at(machine, channel, place)),
-        Break::App(name) => {
-            let id = machine.next_entry(alloc, channel)?;
-            Ok(runs_at(machine.plan(), id, name.bytes()))
-        }
+        Break::At(_) => false,
+        Break::App(_) => true,
     }
+}
+
+/// Whether a break among these names an application.
+fn asks_entry(breaks: &[Break]) -> bool
+    ensures { result ≡ list_any spec.names_app breaks.now }
+{
+    breaks.iter().any(|held| names_app(held))
+}
+
+/// The entry that a step of the channel of this number would run, where a break asks for it.
+fn entry_for<T: AppTable>(
+    machine: &mut Machine<T>,
+    channel: u32,
+    breaks: &[Break],
+) -> Option<EntryId>
+    ensures entry { list_any spec.names_app breaks.now ≡ true → result ≡ next_entry machine.old channel }
+    ensures same { machine.new ≡ machine.old }
+{
+    if asks_entry(breaks) {
+        machine.entry_ahead(channel)
+    } else {
+        None
+    }
+}
+
+/// Whether the break holds before a step of the channel of this number, which would run this entry.
+fn holds_at<T: AppTable>(
+    machine: &Machine<T>,
+    channel: u32,
+    entry: Option<EntryId>,
+    held: &Break,
+) -> bool
+    ensures { result ≡ spec.holds_at machine.now channel entry held.now }
+{
+    match held {
+        Break::At(place) => stands_at(machine, channel, place),
+        Break::App(name) => runs_at(machine.plan(), entry, name.bytes()),
+    }
+}
+
+/// The number of the first break that holds before a step of the channel of this number, which would run this entry.
+fn first_at<T: AppTable>(
+    machine: &Machine<T>,
+    channel: u32,
+    entry: Option<EntryId>,
+    breaks: &[Break],
+) -> Option<usize>
+    ensures { result ≡ position (spec.holds_at machine.now channel entry) breaks.now }
+{
+    breaks
+        .iter()
+        .position(|held| holds_at(machine, channel, entry, held))
 }
 
 /// The number of the first break that holds before a step of the channel of this number.
-#[tactic(auto, unfolding(crate::specs::Breaks::first_for))]
-fn first_for<T: AppTable>(
-    alloc: Global,
-    machine: &Machine<T>,
-    channel: u32,
-    breaks: &[Break],
-) -> Result<Option<usize>, NoMemory>
-    ensures { IfOk result (λ first. first ≡ spec.first_for machine.now channel breaks.now) }
+fn first_for<T: AppTable>(machine: &mut Machine<T>, channel: u32, breaks: &[Break]) -> Option<usize>
+    ensures first { result ≡ spec.first_for machine.old channel breaks.now }
+    ensures same { machine.new ≡ machine.old }
 {
-    for number in 0..breaks.len() {
-        if holds_for(alloc, machine, channel, &breaks[number])? {
-            return Ok(Some(number));
-        }
-    }
-    Ok(None)
+    let entry = entry_for(machine, channel, breaks);
+    first_at(machine, channel, entry, breaks)
 }
 
-/// The number of the first break that holds before the event. Before others than steps none does.
+/// The number of the first break that holds before the event. Before others than steps none does. It takes no memory.
 pub(crate) fn first_before<T: AppTable>(
-    alloc: Global,
-    machine: &Machine<T>,
+    machine: &mut Machine<T>,
     event: &Event,
     breaks: &[Break],
-) -> Result<Option<usize>, NoMemory>
-    ensures { IfOk result (λ first. first ≡ spec.first_before machine.now event.now breaks.now) }
+) -> Option<usize>
+    ensures first { result ≡ spec.first_before machine.old event.now breaks.now }
+    ensures same { machine.new ≡ machine.old }
 {
     match event {
-        Event::Step { channel } => first_for(alloc, machine, *channel, breaks),
+        Event::Step { channel } => first_for(machine, *channel, breaks),
         Event::Start { .. }
         | Event::Digit { .. }
         | Event::Timeout { .. }
@@ -118,6 +154,6 @@ pub(crate) fn first_before<T: AppTable>(
         | Event::Offer { .. }
         | Event::Answer { .. }
         | Event::Decline { .. }
-        | Event::AgentDone { .. } => Ok(None),
+        | Event::AgentDone { .. } => None,
     }
 }

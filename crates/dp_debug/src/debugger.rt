@@ -130,10 +130,8 @@ fn turn<T: AppTable>(
     ensures same_trace { IfSome result (λ why. trace.new.items ≡ trace.old.items) }
     ensures same_world { IfSome result (λ why. machine.new ≡ machine.old) }
 {
-    match first_before(alloc, machine, event, breaks) {
-        Ok(None) => {}
-        Ok(Some(number)) => return Some(Why::Break(number)),
-        Err(_) => return Some(Why::NoMemory),
+    if let Some(number) = first_before(machine, event, breaks) {
+        return Some(Why::Break(number));
     }
     match take(alloc, trace, machine, event) {
         Ok(()) => None,
@@ -153,9 +151,8 @@ fn take<T: AppTable>(
     ensures trace { OnErr result (trace.new.items ≡ trace.old.items) }
     ensures err { OnErr result (machine.new ≡ machine.old) }
 {
-    let event = event.copy()?;
     trace.reserve(1)?;
-    let reply = machine.apply(alloc, event)?;
+    let reply = machine.apply_kept(alloc, event)?;
     trace.push(reply).unwrap();
     Ok(())
 }

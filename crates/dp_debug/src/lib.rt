@@ -4,6 +4,7 @@
 mod breaks;
 mod debugger;
 mod halt;
+pub mod laws;
 
 pub use breaks::Break;
 pub use debugger::Debugger;

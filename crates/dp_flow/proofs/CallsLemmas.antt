@@ -6,7 +6,7 @@ use Rattle.std.proofs.lemmas.List.{length-append, map-append}
 use Rattle.std.proofs.Math.Seq.{take-append_seam}
 use Rattle.dp_conf.specs.Cut.{cut_once}
 use Rattle.dp_app.specs.declared.cell.Cell.{Cell}
-use Rattle.dp_app.specs.declared.going.Move.TheVariants.{Hang}
+use Rattle.dp_app.specs.declared.moves.Move.TheVariants.{Hang}
 use Rattle.dp_flow.specs.Jumps.{called_by, entered, gosub_parts, numbered}
 
 -- one value more is one local more

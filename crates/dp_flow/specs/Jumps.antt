@@ -9,9 +9,9 @@ use Rattle.dp_vars.specs.Stores.{StoreOf, innermost, popped_setting, with_frame,
 use Rattle.dp_vars.specs.declared.variables.Variable.{Variable}
 use Rattle.dp_app.specs.Rows.{Outcome, Row}
 use Rattle.dp_app.specs.declared.cell.Cell.{Cell}
-use Rattle.dp_app.specs.declared.going.Move.{Move}
-use Rattle.dp_app.specs.declared.going.Move.TheVariants.{Next, Jump, Hang}
-use Rattle.dp_app.specs.declared.going.Target.TheVariants.{To, Existing, Parts}
+use Rattle.dp_app.specs.declared.moves.Move.{Move}
+use Rattle.dp_app.specs.declared.moves.Move.TheVariants.{Next, Jump, Hang}
+use Rattle.dp_app.specs.declared.target.Target.TheVariants.{To, Existing, Parts}
 use Rattle.dp_app.specs.declared.place.Place.{Place}
 use Rattle.dp_flow.specs.Conditions.{chosen}
 

@@ -6,16 +6,15 @@ use Rattle.dp_conf.specs.Blanks.{trim}
 use Rattle.dp_conf.specs.Cut.{cut_once}
 use Rattle.dp_conf.specs.Levels.{arguments_of}
 use Rattle.dp_conf.specs.Words.{same_text}
-use Rattle.dp_vars.specs.Stores.{innermost, popped_setting, set, set_local, with_frame, without_frame}
-use Rattle.dp_vars.specs.declared.frame.Frame.{Frame}
+use Rattle.dp_vars.specs.Stores.{Frame, innermost, popped_setting, set, set_local, with_frame, without_frame}
 use Rattle.dp_app.specs.Keeping.{cell_kept, going_lawful, store_kept}
-use Rattle.dp_app.specs.Laws.{IsGoing, IsLawfulRow, KeepsUntouched, MayGo, MayPark, waiting_after, waiting_parked}
+use Rattle.dp_app.specs.Laws.{ParksNowhere, IsLawfulRow, KeepsUntouched, MayGo, MayPark, waiting_after, waiting_parked}
 use Rattle.dp_app.specs.declared.cell.Cell.{Cell}
 use Rattle.dp_app.specs.declared.phase.Phase.{Phase}
 use Rattle.dp_app.specs.declared.phase.Phase.TheVariants.{Digits, Pause}
 use Rattle.dp_app.specs.declared.place.Place.{Place}
-use Rattle.dp_app.specs.declared.going.Move.{Move}
-use Rattle.dp_app.specs.declared.going.Move.TheVariants.{Next, Hang}
+use Rattle.dp_app.specs.declared.moves.Move.{Move}
+use Rattle.dp_app.specs.declared.moves.Move.TheVariants.{Next, Hang}
 use Rattle.dp_flow.specs.Conditions.{chosen}
 use Rattle.dp_flow.specs.Jumps as jumps
 use Rattle.dp_flow.specs.Plain as plain
@@ -26,7 +25,7 @@ use Rattle.dp_flow.specs.Touches.{nothing, settable, the_frames, variables_and_f
 use Rattle.dp_flow.specs.Waiting as waits
 
 -- a row that leaves the cell as it is and parks the channel nowhere
-staying : (move_of : List ℕ → Cell → Move) → ((arguments : List ℕ) (cell : Cell) → IsGoing (move_of arguments cell))
+staying : (move_of : List ℕ → Cell → Move) → ((arguments : List ℕ) (cell : Cell) → ParksNowhere (move_of arguments cell))
     → IsLawfulRow nothing (λ arguments cell. jumps.stays cell (move_of arguments cell))
 staying move_of goes =
     going_lawful nothing (λ arguments cell. jumps.stays cell (move_of arguments cell)) (λ arguments cell. cell_kept nothing cell) (λ arguments cell. refl) goes
@@ -35,7 +34,7 @@ staying move_of goes =
 pub goto_lawful : IsLawfulRow nothing jumps.goto_row
 goto_lawful = staying (λ arguments cell. jumps.jump_to arguments) (λ arguments cell. tt)
 
-going_if : (side : Option (List ℕ)) → IsGoing (jumps.jump_if side)
+going_if : (side : Option (List ℕ)) → ParksNowhere (jumps.jump_if side)
 going_if None = tt
 going_if (Some side) = tt
 
@@ -66,7 +65,7 @@ entered_same : (cell : Cell) (parts : List (List ℕ)) (o : Option Called) → (
 entered_same cell parts None = refl
 entered_same cell parts (Some c) = refl
 
-entered_going : (cell : Cell) (parts : List (List ℕ)) (o : Option Called) → IsGoing (jumps.entered cell parts o).next
+entered_going : (cell : Cell) (parts : List (List ℕ)) (o : Option Called) → ParksNowhere (jumps.entered cell parts o).next
 entered_going cell parts None = tt
 entered_going cell parts (Some c) = tt
 
@@ -87,7 +86,7 @@ unfolding jumps.gosub_row
 gosub_if_same cell None = refl
 gosub_if_same cell (Some side) = entered_same cell (front_of (arguments_of side)) (jumps.called (arguments_of side))
 
-gosub_if_going : (cell : Cell) (side : Option (List ℕ)) → IsGoing (jumps.gosub_if side cell).next
+gosub_if_going : (cell : Cell) (side : Option (List ℕ)) → ParksNowhere (jumps.gosub_if side cell).next
 unfolding jumps.gosub_row
 gosub_if_going cell None = tt
 gosub_if_going cell (Some side) = entered_going cell (front_of (arguments_of side)) (jumps.called (arguments_of side))
@@ -114,7 +113,7 @@ module _ (cell : Cell) (value : List ℕ) where
   return_same None = refl
   return_same (Some frame) = refl
 
-  return_going : (o : Option (Frame Place)) → IsGoing (jumps.returned cell (popped_setting cell.store (codes "GOSUB_RETVAL") value o)).next
+  return_going : (o : Option (Frame Place)) → ParksNowhere (jumps.returned cell (popped_setting cell.store (codes "GOSUB_RETVAL") value o)).next
   return_going None = tt
   return_going (Some frame) = tt
 
@@ -197,7 +196,7 @@ module _ (phase : Phase) (may : (count : ℕ) → MayPark count phase)
   parked_waits lists number true = refl
   parked_waits lists number false = leaves lists number
 
-  parked_closes : (b : Bool) → b ≡ true → IsGoing (waits.parked phase b)
+  parked_closes : (b : Bool) → b ≡ true → ParksNowhere (waits.parked phase b)
   parked_closes true closing = tt
   parked_closes false closing = absurd (false_is_true closing)
 

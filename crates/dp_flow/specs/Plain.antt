@@ -1,6 +1,6 @@
 -- The rows of applications that leave the cell as it is.
 use Rattle.dp_app.specs.Rows.{Row}
-use Rattle.dp_app.specs.declared.going.Move.TheVariants.{Next, Hang}
+use Rattle.dp_app.specs.declared.moves.Move.TheVariants.{Next, Hang}
 use Rattle.dp_flow.specs.Jumps.{stays}
 
 -- the row of an application that only goes on

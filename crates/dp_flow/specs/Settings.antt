@@ -8,7 +8,7 @@ use Rattle.dp_conf.specs.Words.{same_text}
 use Rattle.dp_vars.specs.Stores.{set, set_local}
 use Rattle.dp_app.specs.Rows.{Row}
 use Rattle.dp_app.specs.declared.cell.Cell.{Cell}
-use Rattle.dp_app.specs.declared.going.Move.TheVariants.{Next}
+use Rattle.dp_app.specs.declared.moves.Move.TheVariants.{Next}
 
 -- what stands before a `)`, if that is the last byte
 abbrev pub closed : List ℕ → List ℕ → Option (List ℕ)

@@ -1,8 +1,8 @@
 -- The rows of applications that wait.
 use Rattle.std.specs.Prelude.{Bool, true, false, [], if◌then◌else◌}
 use Rattle.dp_app.specs.Rows.{Row}
-use Rattle.dp_app.specs.declared.going.Move.{Move}
-use Rattle.dp_app.specs.declared.going.Move.TheVariants.{Hang, Park}
+use Rattle.dp_app.specs.declared.moves.Move.{Move}
+use Rattle.dp_app.specs.declared.moves.Move.TheVariants.{Hang, Park}
 use Rattle.dp_app.specs.declared.phase.Phase.{Phase}
 use Rattle.dp_app.specs.declared.phase.Phase.TheVariants.{Digits, Pause}
 use Rattle.dp_flow.specs.Jumps.{stays}

@@ -8,7 +8,7 @@ ghost use Rattle.dp_flow.specs.Calls as calls;
 ghost use Rattle.dp_flow.specs.Jumps as spec;
 
 use crate::choice::chosen;
-use dp_app::{Application, Cell, Move, Parts, Place, Target, Touch};
+use dp_app::{Application, Cell, Move, Place, Target, TargetParts, Touch};
 use dp_conf::{NoMemory, Text, before_last, cut_once, split_args, trim};
 use dp_vars::Variable;
 use itoa::Buffer;
@@ -105,7 +105,7 @@ fn enter(
     ensures ok { IfOk result (λ going. spec.entered cell.old (map (λ part. part.now) front.now) (Some (calls.called_now called.entry)) ≡ record { cell = cell.new; next = going }) }
     ensures err { OnErr result (cell.new ≡ cell.old) }
 {
-    let target = Parts::with_last(alloc, front, called.priority)?;
+    let target = TargetParts::with_last(alloc, front, called.priority)?;
     let locals = locals_of(alloc, called.arguments)?;
     let back = place_after(&cell.place)?;
     cell.store.push_frame(alloc, back, &locals)?;

@@ -4,7 +4,7 @@ ghost use Rattle.dp_flow.specs.Conditions.{chosen};
 ghost use Rattle.dp_flow.specs.Jumps as spec;
 
 use crate::choice::chosen;
-use dp_app::{Application, Cell, Move, Parts, Target, Touch};
+use dp_app::{Application, Cell, Move, Target, TargetParts, Touch};
 use dp_conf::NoMemory;
 use std::alloc::Global;
 
@@ -12,7 +12,7 @@ use std::alloc::Global;
 fn jump_to(alloc: Global, target: &[u8]) -> Result<Move, NoMemory>
     ensures { IfOk result (λ going. going ≡ spec.jump_to target.now) }
 {
-    let parts = Parts::of(alloc, target)?;
+    let parts = TargetParts::of(alloc, target)?;
     Ok(Move::Jump(Target::Parts(parts)))
 }
 

@@ -1,10 +1,10 @@
 -- A refused event leaves the world as it was.
-use Rattle.std.proofs.Common.{◌≡◌, ℕ, zero, suc, ◌-◌, ◌+◌, ◌++◌, ◌==◌, nat_lt, length, Bool, true, false, ◌&&◌, ◌||◌, List, [], ◌∷◌, Option, Some, None, Result, Ok, Err, IfOk, slice_get, slice_set, if◌then◌else◌, codes, refl, sym, ap, subst, ◌∙◌}
+use Rattle.std.proofs.Common.{◌≡◌, ℕ, zero, suc, ◌-◌, ◌+◌, ◌++◌, ◌==◌, nat_lt, length, Bool, true, false, ◌||◌, List, [], ◌∷◌, Option, Some, None, Result, Ok, Err, IfOk, slice_get, slice_set, if◌then◌else◌, refl, sym, ap, ◌∙◌}
 use Rattle.std.specs.declared.alloc.AllocError.{AllocError as NoMemory}
 use Rattle.std.proofs.lemmas.Option.{none-some, same_Some}
 use Rattle.dp_plan.specs.Plan.{PlanOf}
 use Rattle.dp_queue.specs.Agents.{agent_number, state_at}
-use Rattle.dp_queue.specs.Calls.{answer_row, answer_row_at, decline_row, decline_row_at, done_row, done_row_at}
+use Rattle.dp_queue.specs.Calls.{answer_row_at, decline_row_at, done_row_at}
 use Rattle.dp_queue.specs.Joining.{should_leave}
 use Rattle.dp_queue.specs.Offers.{offer_row}
 use Rattle.dp_queue.specs.Queues.{QueuesOf}

@@ -4,11 +4,11 @@ use Rattle.std.specs.declared.alloc.AllocError.{AllocError as NoMemory}
 use Rattle.dp_plan.specs.Plan.{PlanOf}
 use Rattle.dp_plan.specs.declared.entry.Entry.{Entry}
 use Rattle.dp_plan.specs.declared.entry.EntryId.{EntryId}
-use Rattle.dp_app.specs.Laws.{IsGoing, IsLawful, IsLawfulRow, MayGo, MayPark, MayRun, most_priority}
+use Rattle.dp_app.specs.Laws.{ParksNowhere, IsLawful, IsLawfulRow, MayGo, MayPark, MayRun, most_priority}
 use Rattle.dp_app.specs.Rows.{Row, Rows, dispatched}
 use Rattle.dp_app.specs.declared.cell.Cell.{Cell}
-use Rattle.dp_app.specs.declared.going.Move.{Move}
-use Rattle.dp_app.specs.declared.going.Move.TheVariants.{Next, Jump, Park, Hang}
+use Rattle.dp_app.specs.declared.moves.Move.{Move}
+use Rattle.dp_app.specs.declared.moves.Move.TheVariants.{Next, Jump, Park, Hang}
 use Rattle.dp_app.specs.declared.phase.Phase.{Phase}
 use Rattle.dp_app.specs.declared.phase.Phase.TheVariants.{Ready, Digits, Pause, Queued, Talking, Ended}
 use Rattle.dp_app.specs.declared.place.Place.{Place}
@@ -101,12 +101,12 @@ parked_sound count (Talking queue agent goes_on) c may within closing = absurd m
 parked_sound count Ended c may within closing = absurd may
 
 -- a closing channel is never parked
-closed_false : (closing : Bool) (phase : Phase) → (closing ≡ true → IsGoing (Park phase)) → closing ≡ false
+closed_false : (closing : Bool) (phase : Phase) → (closing ≡ true → ParksNowhere (Park phase)) → closing ≡ false
 closed_false true phase closes = absurd (closes refl)
 closed_false false phase closes = refl
 
 -- a channel that an application sends somewhere by the laws is sound
-pub moved_sound : (plan : PlanOf) (count : ℕ) (c : Channel) (going : Move) → MayGo count going → (c.is_closing ≡ true → IsGoing going)
+pub moved_sound : (plan : PlanOf) (count : ℕ) (c : Channel) (going : Move) → MayGo count going → (c.is_closing ≡ true → ParksNowhere going)
     → c.place.priority ≤ most_priority → IsSoundIn (moved plan c going).phase (moved plan c going)
 moved_sound plan count c Next may closes within = tt
 moved_sound plan count c (Jump target) may closes within = landed_sound plan c (target_place plan c.place target)
@@ -170,6 +170,6 @@ pub ready_may_run : (shared : Shared) (number : ℕ) (c : Channel) → MayAct sh
     → MayRun (cell_of shared number c)
 ready_may_run shared number c act ready within = record {
   within = within;
-  waits = act.waits ∙ ap queue_in ready;
-  talks = act.silent (ap talk_in ready);
+  waits_nowhere = act.waits ∙ ap queue_in ready;
+  talks_with_nobody = act.silent (ap talk_in ready);
 }

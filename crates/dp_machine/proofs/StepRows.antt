@@ -13,8 +13,8 @@ use Rattle.dp_vars.specs.Stores.{nothing, set}
 use Rattle.dp_vars.specs.Values.{expanded, group_value, head_value}
 use Rattle.dp_app.specs.Rows.{Row, Rows}
 use Rattle.dp_app.specs.Tables.{no_rows, with_row}
-use Rattle.dp_app.specs.declared.going.Move.TheVariants.{Next, Jump, Park}
-use Rattle.dp_app.specs.declared.going.Target.TheVariants.{To, Existing, Parts}
+use Rattle.dp_app.specs.declared.moves.Move.TheVariants.{Next, Jump, Park}
+use Rattle.dp_app.specs.declared.target.Target.TheVariants.{To, Existing, Parts}
 use Rattle.dp_app.specs.declared.phase.Phase.{Phase}
 use Rattle.dp_app.specs.declared.phase.Phase.TheVariants.{Ready, Pause, Ended as phase_ended}
 use Rattle.dp_app.specs.declared.place.Place.{Place}
@@ -206,7 +206,7 @@ step-no_h = refl
 -- an extension that is not there leads to `i`, which reads what was dialled
 step-invalid : step (channel (at (codes "9") 1) Ready false) ≡
     record {
-      channel = record (channel (at (codes "i") 1) Ready false) { store = record { variables = insert empty (codes "INVALID_EXTEN") (codes "9"); frames = [] } };
+      channel = record (channel (at (codes "i") 1) Ready false) { store = record { variables = insert empty (codes "INVALID_EXTEN") (codes "9"); frames = []; names = codes "INVALID_EXTEN" ∷ [] } };
       shared = shared;
       reply = Invalid;
     }

@@ -4,11 +4,11 @@ use Rattle.dp_queue.specs.Queues.{QueuesOf}
 use Rattle.dp_plan.specs.Plan.{PlanOf}
 use Rattle.dp_plan.specs.declared.entry.EntryId.{EntryId}
 use Rattle.dp_plan.specs.Priority.{most_priority}
-use Rattle.dp_app.specs.Laws.{IsGoing, IsLawful, IsLawfulRow, MayGo, MayPark}
+use Rattle.dp_app.specs.Laws.{ParksNowhere, IsLawful, IsLawfulRow, MayGo, MayPark}
 use Rattle.dp_app.specs.Rows.{Row, Rows, dispatched}
 use Rattle.dp_app.specs.declared.cell.Cell.{Cell}
-use Rattle.dp_app.specs.declared.going.Move.{Move}
-use Rattle.dp_app.specs.declared.going.Move.TheVariants.{Next, Jump, Park, Hang}
+use Rattle.dp_app.specs.declared.moves.Move.{Move}
+use Rattle.dp_app.specs.declared.moves.Move.TheVariants.{Next, Jump, Park, Hang}
 use Rattle.dp_app.specs.declared.phase.Phase.{Phase}
 use Rattle.dp_app.specs.declared.phase.Phase.TheVariants.{Ready, Digits, Pause, Queued, Talking, Ended as phase_ended}
 use Rattle.dp_app.specs.declared.place.Place.{Place}
@@ -45,7 +45,7 @@ parked-sound c count (Queued queue goes_on has_timer) may within stays = (within
 parked-sound c count (Talking queue agent goes_on) may within stays = (within, stays)
 parked-sound c count phase_ended may within stays = absurd may
 
-pub moved-sound : (plan : PlanOf) (c : Channel) (count : ℕ) (going : Move) → MayGo count going → (c.is_closing ≡ true → IsGoing going)
+pub moved-sound : (plan : PlanOf) (c : Channel) (count : ℕ) (going : Move) → MayGo count going → (c.is_closing ≡ true → ParksNowhere going)
     → c.place.priority ≤ most_priority → IsSoundIn (moved plan c going).phase (moved plan c going)
 moved-sound plan c count Next may goes within = tt
 moved-sound plan c count (Jump target) may goes within = landed-sound plan c (target_place plan c.place target)

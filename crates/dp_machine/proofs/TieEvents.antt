@@ -24,7 +24,7 @@ use Rattle.dp_machine.specs.declared.reply.Reply.{Reply}
 use Rattle.dp_machine.specs.declared.reply.Reply.TheVariants.{Refused, Started}
 use Rattle.dp_machine.specs.declared.shared.Shared.{Shared}
 use Rattle.dp_machine.proofs.TieApps.{IsTied, step-ties}
-use Rattle.dp_machine.proofs.TieLemmas.{Ties}
+use Rattle.dp_machine.proofs.TieLemmas.{IsTiedWorld, Ties}
 use Rattle.dp_machine.proofs.TieQueues.{talking_not_idle, ties-self}
 use Rattle.dp_machine.proofs.TieRows.{Acts, digit-acts, hang_up_row-acts, poll_row-acts, timeout_row-acts}
 use Rattle.dp_machine.proofs.TieServed.{good-agent_done, good-answered, good-changed, good-declined, good-offered}
@@ -39,7 +39,7 @@ none-at m = by (m == 0)
     by false = refl
 
 -- before the first call
-pub good-opening : (plan : PlanOf) (queues : QueuesOf) → IsAtRest queues → IsGoodWorld (opening plan queues)
+good-opening : (plan : PlanOf) (queues : QueuesOf) → IsAtRest queues → IsTiedWorld (opening plan queues)
 good-opening plan queues rest = record {
   within = omega arith;
   tied = record {
@@ -86,12 +86,12 @@ tied-opened channels queues context exten caller tied = record {
         (λ none. sym (ap talk_of none))
 
 -- a call comes in
-pub good-started : (w : World) (context exten caller : List ℕ) → IsGoodWorld w → IsGoodWorld (entered w (started w.channels context exten caller)).0
+pub good-started : (w : World) (context exten caller : List ℕ) → IsTiedWorld w → IsTiedWorld (entered w (started w.channels context exten caller)).0
 unfolding started
 good-started w context exten caller good = by (nat_lt (length w.channels) most_channels) refl
   where
     by : (b : Bool) → nat_lt (length w.channels) most_channels ≡ b
-        → IsGoodWorld (entered w (if b then (record { channels = w.channels ++ opened context exten caller ∷ []; reply = Started (length w.channels + 1) })
+        → IsTiedWorld (entered w (if b then (record { channels = w.channels ++ opened context exten caller ∷ []; reply = Started (length w.channels + 1) })
         else (record { channels = w.channels; reply = Refused NumbersSpent }))).0
     by true fits = record {
       within = let room : length w.channels < most_channels = ltb-true (length w.channels) most_channels fits in
@@ -101,58 +101,58 @@ good-started w context exten caller good = by (nat_lt (length w.channels) most_c
     by false full = record { within = good.within; tied = good.tied }
 
 -- the event of a channel behind which it is tied and sound
-pub good-owned : (w : World) (number : ℕ) (c : Channel) (own : Own) → IsGoodWorld w → channel_at w.channels number ≡ Some c
-    → IsTied number w.shared.queues own → IsSoundOwn own → IsGoodWorld (owned w number own).0
+pub good-owned : (w : World) (number : ℕ) (c : Channel) (own : Own) → IsTiedWorld w → channel_at w.channels number ≡ Some c
+    → IsTied number w.shared.queues own → IsSoundOwn own → IsTiedWorld (owned w number own).0
 good-owned w number c own good here ties sound = good-changed w number c own.channel own.shared good here ties sound
 
-module _ (w : World) (number : ℕ) (c : Channel) (good : IsGoodWorld w) (linked : IsGood w.shared.queues) (here : channel_at w.channels number ≡ Some c) where
+module _ (w : World) (number : ℕ) (c : Channel) (good : IsTiedWorld w) (linked : IsGood w.shared.queues) (here : channel_at w.channels number ≡ Some c) where
   -- what is known of the channel before
   ties : Ties number w.shared.queues w.shared.queues c.phase
   ties = ties-self w.channels w.shared.queues number c good.tied here
 
   -- an event behind which the channel acts
-  acted : (own : Own) → Acts number w.shared.queues own → IsGoodWorld (owned w number own).0
+  acted : (own : Own) → Acts number w.shared.queues own → IsTiedWorld (owned w number own).0
   acted own acts = good-owned w number c own good here acts.ties acts.sound
 
   -- a digit
-  pub good-digit : (digit : ℕ) → IsGoodWorld (owned w number (digit_row digit w.plan w.shared number c)).0
+  pub good-digit : (digit : ℕ) → IsTiedWorld (owned w number (digit_row digit w.plan w.shared number c)).0
   good-digit digit = acted (digit_row digit w.plan w.shared number c)
       (digit-acts w.plan w.shared number c linked ties (subst IsSoundAt here (good.tied.sound number)) digit)
 
   -- the end of a time
-  pub good-timeout : IsGoodWorld (owned w number (timeout_row w.plan w.shared number c)).0
+  pub good-timeout : IsTiedWorld (owned w number (timeout_row w.plan w.shared number c)).0
   good-timeout = acted (timeout_row w.plan w.shared number c)
       (timeout_row-acts w.plan w.shared number c linked ties (subst IsSoundAt here (good.tied.sound number)))
 
   -- a question of a channel whether it is to leave
-  pub good-poll : IsGoodWorld (owned w number (poll_row w.plan w.shared number c)).0
+  pub good-poll : IsTiedWorld (owned w number (poll_row w.plan w.shared number c)).0
   good-poll = acted (poll_row w.plan w.shared number c)
       (poll_row-acts w.plan w.shared number c linked ties (subst IsSoundAt here (good.tied.sound number)))
 
   -- a hang-up
-  pub good-hang_up : IsGoodWorld (owned w number (hang_up_row w.plan w.shared number c)).0
+  pub good-hang_up : IsTiedWorld (owned w number (hang_up_row w.plan w.shared number c)).0
   good-hang_up = acted (hang_up_row w.plan w.shared number c)
       (hang_up_row-acts w.plan w.shared number c linked ties (subst IsSoundAt here (good.tied.sound number)))
 
   -- a step over a lawful table, behind which the channel is sound
   pub good-step : (touches : List ℕ → Touch) (rows : Rows) → IsLawful touches rows → IsSoundOwn (step_row rows w.plan w.shared number c)
-      → IsGoodWorld (owned w number (step_row rows w.plan w.shared number c)).0
+      → IsTiedWorld (owned w number (step_row rows w.plan w.shared number c)).0
   good-step touches rows lawful sound = good-owned w number c (step_row rows w.plan w.shared number c) good here
       (step-ties w.plan w.shared number c ties touches rows lawful) sound
 
 -- the event of a channel that there may not be
-pub good-own_event : (w : World) (number : ℕ) (row : PlanOf → Shared → ℕ → Channel → Own) → IsGoodWorld w
-    → ((c : Channel) → channel_at w.channels number ≡ Some c → IsGoodWorld (owned w number (row w.plan w.shared number c)).0)
-    → IsGoodWorld (own_event w number row (channel_at w.channels number)).0
+pub good-own_event : (w : World) (number : ℕ) (row : PlanOf → Shared → ℕ → Channel → Own) → IsTiedWorld w
+    → ((c : Channel) → channel_at w.channels number ≡ Some c → IsTiedWorld (owned w number (row w.plan w.shared number c)).0)
+    → IsTiedWorld (own_event w number row (channel_at w.channels number)).0
 good-own_event w number row good acts = by (channel_at w.channels number) refl
   where
-    by : (o : Option Channel) → channel_at w.channels number ≡ o → IsGoodWorld (own_event w number row o).0
+    by : (o : Option Channel) → channel_at w.channels number ≡ o → IsTiedWorld (own_event w number row o).0
     by None here = good
     by (Some c) here = acts c here
 
 -- the world stays good behind each event, over a lawful table
-pub good-event : (touches : List ℕ → Touch) (rows : Rows) (w : World) (event : Event) → IsLawful touches rows → IsGood w.shared.queues → IsGoodWorld w
-    → StepsSoundly rows w event → IsGoodWorld (event_row rows w event).0
+pub good-event : (touches : List ℕ → Touch) (rows : Rows) (w : World) (event : Event) → IsLawful touches rows → IsGood w.shared.queues → IsTiedWorld w
+    → StepsSoundly rows w event → IsTiedWorld (event_row rows w event).0
 good-event touches rows w (Start context exten caller) lawful linked good steps = good-started w context exten caller good
 good-event touches rows w (Step number) lawful linked good steps = good-own_event w number (step_row rows) good
     (λ c here. good-step w number c good linked here touches rows lawful (steps c here))
@@ -169,16 +169,26 @@ good-event touches rows w (Answer agent) lawful linked good steps = good-answere
 good-event touches rows w (Decline agent) lawful linked good steps = good-declined w agent good
 good-event touches rows w (AgentDone agent) lawful linked good steps = good-agent_done w good linked agent
 
--- and so it does behind what a call of the machine answers: the world of the event's row, or the world as it was
-pub good-behind : (touches : List ℕ → Touch) (rows : Rows) (before after : World) (event : Event) (r : Result Reply NoMemory)
-    → IsLawful touches rows → IsGood before.shared.queues → IsGoodWorld before → Makes (event_row rows before event) before after r
-    → OnOk r (StepsSoundly rows before event) → IsGoodWorld after
-good-behind touches rows before after event (Ok reply) lawful linked good makes steps =
-    subst IsGoodWorld (ap (λ (p : World × Reply). p.0) makes.ok) (good-event touches rows before event lawful linked good steps)
-good-behind touches rows before after event (Err e) lawful linked good makes steps = subst IsGoodWorld (sym makes.err) good
+-- so channels and queues are tied behind what a call of the machine answers: the world of the event's row, or the world as it was
+tied-behind : (touches : List ℕ → Touch) (rows : Rows) (before after : World) (event : Event) (r : Result Reply NoMemory)
+    → IsLawful touches rows → IsGood before.shared.queues → IsTiedWorld before → Makes (event_row rows before event) before after r
+    → OnOk r (StepsSoundly rows before event) → IsTiedWorld after
+tied-behind touches rows before after event (Ok reply) lawful linked tied makes steps =
+    subst IsTiedWorld (ap (λ (p : World × Reply). p.0) makes.ok) (good-event touches rows before event lawful linked tied steps)
+tied-behind touches rows before after event (Err e) lawful linked tied makes steps = subst IsTiedWorld (sym makes.err) tied
 
--- and so does the world of an exchange before the first call, with no channel
+-- and the world is good there, since its queues are
+pub good-behind : (touches : List ℕ → Touch) (rows : Rows) (before after : World) (event : Event) (r : Result Reply NoMemory)
+    → IsLawful touches rows → IsGoodWorld before → Makes (event_row rows before event) before after r
+    → OnOk r (StepsSoundly rows before event) → IsGood after.shared.queues → IsGoodWorld after
+good-behind touches rows before after event r lawful good makes steps queues =
+    let tied : IsTiedWorld after = tied-behind touches rows before after event r lawful good.queues (record { within = good.within; tied = good.tied }) makes steps in
+    record { within = tied.within; tied = tied.tied; queues = queues }
+
+-- and so is the world of an exchange before the first call, with no channel
 pub good-fresh : (plan : PlanOf) (queues : QueuesOf) (exchange : Exchange) (channels : List Channel) → channels ≡ []
-    → world_in exchange [] ≡ opening plan queues → IsAtRest queues → IsGoodWorld (world_in exchange channels)
-good-fresh plan queues exchange channels none first rest = subst (λ cs. IsGoodWorld (world_in exchange cs)) (sym none)
-    (subst IsGoodWorld (sym first) (good-opening plan queues rest))
+    → world_in exchange [] ≡ opening plan queues → IsAtRest queues → IsGood exchange.shared.queues → IsGoodWorld (world_in exchange channels)
+good-fresh plan queues exchange channels none first rest linked =
+    let tied : IsTiedWorld (world_in exchange channels) = subst (λ cs. IsTiedWorld (world_in exchange cs)) (sym none)
+    (subst IsTiedWorld (sym first) (good-opening plan queues rest)) in
+    record { within = tied.within; tied = tied.tied; queues = linked }

@@ -1,5 +1,5 @@
 -- Channels and queues stay tied behind a change of one channel and of the queues.
-use Rattle.std.proofs.Common.{◌≡◌, ℕ, zero, suc, ◌-◌, ◌==◌, Bool, true, false, ◌||◌, List, [], ◌∷◌, Some, None, refl, sym, ap, ◌∙◌, arith, slice_get, subst, length, if◌then◌else◌}
+use Rattle.std.proofs.Common.{◌≡◌, ℕ, zero, suc, ◌-◌, ◌==◌, Bool, true, false, ◌||◌, List, [], ◌∷◌, Some, None, refl, sym, ap, ◌∙◌, arith, slice_get, subst, length, ◌≤◌, if◌then◌else◌}
 use Rattle.std.specs.Prelude.{slice_set}
 use Rattle.std.proofs.lemmas.Option.{none-some}
 use Rattle.dp_queue.specs.Agents.{is_talking, state_at, talks_with}
@@ -10,9 +10,14 @@ use Rattle.dp_queue.specs.declared.agent.AgentState.{AgentState}
 use Rattle.dp_queue.specs.declared.agent.AgentState.TheVariants.{Idle, Ringing, Talking}
 use Rattle.dp_app.specs.declared.phase.Phase.{Phase}
 use Rattle.dp_machine.specs.GoodWorld.{AreTied, IsGoodWorld, IsSoundAt, IsSoundIn, MayAct, queue_in, queue_of, talk_in, talk_of}
-use Rattle.dp_machine.specs.World.{World, channel_at, with_channel}
+use Rattle.dp_machine.specs.World.{World, channel_at, most_channels, with_channel}
 use Rattle.dp_machine.specs.declared.channel.Channel.{Channel}
 use borrow.Author.Tests.{eqb-true, eq-eqb}
+
+-- a world in which channels are no more than have numbers, and tied to the queues
+pub record IsTiedWorld (w : World) : Type 0 where
+  pub within : length w.channels ≤ most_channels
+  pub tied : AreTied w.channels w.shared.queues
 
 -- what holds of a number, and of every other number, holds of all
 pub by_number : (P : ℕ → Type 0) (number m : ℕ) → P number → ((number == m) ≡ false → P m) → P m

@@ -1,18 +1,19 @@
 -- Offers and what agents decline leave who waits and who talks as they were.
-use Rattle.std.proofs.Common.{◌≡◌, ℕ, ◌+◌, ◌<◌, ◌==◌, Bool, true, false, List, [], ◌∷◌, Option, Some, None, Ok, Err, refl, sym, ap, ◌∙◌, slice_get, length, if◌then◌else◌, fold}
-use Rattle.std.specs.Option.{option_map, unwrap_or}
+use Rattle.std.proofs.Common.{◌≡◌, ℕ, zero, suc, ◌<◌, ◌==◌, true, List, [], ◌∷◌, Option, Some, None, Ok, Err, refl, sym, ap, ◌∙◌, slice_get, length}
+use Rattle.std.specs.List.{All}
+use Rattle.std.proofs.lemmas.List.Elements.{All-nil, All-head, All-tail, All-weaker}
 use Rattle.dp_queue.specs.Agents.{agent_number, is_idle, state_at, with_state_at}
 use Rattle.dp_queue.specs.Calls.{decline_row, decline_row_at}
 use Rattle.dp_queue.specs.Changes.{changed_at}
-use Rattle.dp_queue.specs.Choices.{is_idle_at}
-use Rattle.dp_queue.specs.Offers.{Rung, asked_at, chosen_of, offer_row, offer_row_at, rung_of, with_choice, with_ring}
+use Rattle.dp_queue.specs.Choices.{is_candidate}
+use Rattle.dp_queue.specs.Offers.{all_ringing, asked_at, chosen_in, chosen_of, offer_row, offer_row_at, with_choice}
 use Rattle.dp_queue.specs.Queues.{QueueOf, QueuesOf, queue_number}
 use Rattle.dp_queue.specs.declared.agent.Agent.{Agent}
 use Rattle.dp_queue.specs.declared.agent.AgentState.{AgentState}
 use Rattle.dp_queue.specs.declared.agent.AgentState.TheVariants.{Idle, Ringing, Talking}
 use Rattle.dp_queue.specs.declared.member.Member.{Member}
 use Rattle.dp_queue.proofs.GoodLemmas.{busy-within, by_test}
-use Rattle.dp_queue.proofs.OfferLemmas.{idle-within}
+use Rattle.dp_queue.proofs.OfferLemmas.{candidate-idle, passes-chosen}
 use Rattle.dp_queue.proofs.WaitingLemmas.{lines-changed_at, waits_in-same}
 use Rattle.dp_machine.proofs.TieQueues.{SameTies, ringing_not_talking, set_here, set_there, talking_not_idle}
 use borrow.Author.Tests.{eqb-true}
@@ -43,31 +44,43 @@ talks-set before agents a s within silent new_silent same = record {
 }
 
 -- an idle agent talks with nobody
-idle-silent : (agents : List Agent) (a : ℕ) → is_idle_at agents a ≡ true → IsSilent (state_at agents a)
-idle-silent agents a idle queue m is = by (slice_get agents a) idle is
-  where
-    by : (o : Option Agent) → unwrap_or (option_map (λ agent. is_idle agent.state) o) false ≡ true
-        → unwrap_or (option_map (λ agent. agent.state) o) Idle ≡ Talking queue m → ⊥
-    by None idle is = talking_not_idle queue m is
-    by (Some x) idle is = let busy : is_idle x.state ≡ false = ap is_idle is in absurd (cc)
+idle-silent : (s : AgentState) → is_idle s ≡ true → IsSilent s
+idle-silent Idle idle queue m is = talking_not_idle queue m is
+idle-silent (Ringing k c) idle queue m is = absurd (cc)
+idle-silent (Talking k c) idle queue m is = absurd (cc)
 
--- one more agent comes to ring
-talks-ring : (before : List Agent) (queue channel : ℕ) (rung : Rung) (a : ℕ) → SameTalks before rung.agents
-    → SameTalks before (with_ring queue channel rung a).agents
-talks-ring before queue channel rung a same = by (is_idle_at rung.agents a) refl
-  where
-    by : (b : Bool) → is_idle_at rung.agents a ≡ b
-        → SameTalks before (if b then record { agents = with_state_at a (Ringing queue channel) rung.agents; count = rung.count + 1 } else rung).agents
-    by true idle = talks-set before rung.agents a (Ringing queue channel) (idle-within rung.agents a idle) (idle-silent rung.agents a idle)
-        (ringing_not_talking queue channel) same
-    by false busy = same
+-- who talks where an agent came to ring talked before
+talking-rung : (k c a b queue m : ℕ) (agents : List Agent) → state_at (with_state_at a (Ringing k c) agents) b ≡ Talking queue m
+    → state_at agents b ≡ Talking queue m
+talking-rung k c a b queue m [] is = is
+talking-rung k c zero zero queue m (x ∷ xs) is = absurd (ringing_not_talking k c queue m is)
+talking-rung k c zero (suc b) queue m (x ∷ xs) is = is
+talking-rung k c (suc a) zero queue m (x ∷ xs) is = is
+talking-rung k c (suc a) (suc b) queue m (x ∷ xs) is = talking-rung k c a b queue m xs is
 
--- the agents of members come to ring
-talks-rings : (before : List Agent) (queue channel : ℕ) (members : List Member) (rung : Rung) → SameTalks before rung.agents
-    → SameTalks before (fold (λ rung member. with_ring queue channel rung member.agent) rung members).agents
-talks-rings before queue channel [] rung same = same
-talks-rings before queue channel (m ∷ ms) rung same =
-    talks-rings before queue channel ms (with_ring queue channel rung m.agent) (talks-ring before queue channel rung m.agent same)
+-- and who talked talks, where it was one that talks with nobody
+talks-rung : (k c a b queue m : ℕ) (agents : List Agent) → IsSilent (state_at agents a) → state_at agents b ≡ Talking queue m
+    → state_at (with_state_at a (Ringing k c) agents) b ≡ Talking queue m
+talks-rung k c a b queue m [] silent is = is
+talks-rung k c zero zero queue m (x ∷ xs) silent is = absurd (silent queue m is)
+talks-rung k c zero (suc b) queue m (x ∷ xs) silent is = is
+talks-rung k c (suc a) zero queue m (x ∷ xs) silent is = is
+talks-rung k c (suc a) (suc b) queue m (x ∷ xs) silent is = talks-rung k c a b queue m xs silent is
+
+-- the agent of a member talks with nobody
+abbrev pub IsSilentIn : List Agent → Member → Type 0
+IsSilentIn agents member = IsSilent (state_at agents member.agent)
+
+-- the agents of such members come to ring
+talks-rings : (before : List Agent) (k c : ℕ) (members : List Member) (agents : List Agent) → SameTalks before agents
+    → All (IsSilentIn before) members → SameTalks before (all_ringing k c members agents)
+talks-rings before k c [] agents same silent = same
+talks-rings before k c (m ∷ ms) agents same silent =
+    talks-rings before k c ms (with_state_at m.agent (Ringing k c) agents) (record {
+      talking = λ agent queue n is. same.talking agent queue n (talking-rung k c m.agent agent queue n agents is);
+      talks = λ agent queue n is. talks-rung k c m.agent agent queue n agents
+          (λ j l talks. All-head (IsSilentIn before) m ms silent j l (same.talking m.agent j l talks)) (same.talks agent queue n is);
+    }) (All-tail (IsSilentIn before) m ms silent)
 
 -- a call is offered
 pub same-offered : (q : QueuesOf) (name : List ℕ) → SameTies q (offer_row q name).0
@@ -81,10 +94,14 @@ same-offered q name = elim (asked_at q.queues q.agents (queue_number q.queues na
   }
 ]
   where
-    rung : (k c p : ℕ) (o : Option QueueOf) → SameTalks q.agents (rung_of q.agents (record { queue = k; channel = c; penalty = p }) o).agents
-    rung k c p None = talks-self q.agents
-    rung k c p (Some queue) =
-        talks-rings q.agents k c (chosen_of q.agents p queue) (record { agents = q.agents; count = 0 }) (talks-self q.agents)
+    silent : (p : ℕ) (o : Option QueueOf) → All (IsSilentIn q.agents) (chosen_in q.agents p o)
+    silent p None = All-nil (IsSilentIn q.agents)
+    silent p (Some queue) = All-weaker (λ (m : Member). is_candidate q.agents p m ≡ true) (IsSilentIn q.agents)
+        (λ m may. idle-silent (state_at q.agents m.agent) (candidate-idle q.agents p m may)) (chosen_of q.agents p queue)
+        (passes-chosen queue.settings.strategy queue.last (is_candidate q.agents p) queue.members)
+
+    rung : (k c p : ℕ) (o : Option QueueOf) → SameTalks q.agents (all_ringing k c (chosen_in q.agents p o) q.agents)
+    rung k c p o = talks-rings q.agents k c (chosen_in q.agents p o) q.agents (talks-self q.agents) (silent p o)
 
 -- an agent declines
 pub same-declined : (q : QueuesOf) (name : List ℕ) → SameTies q (decline_row q name).0

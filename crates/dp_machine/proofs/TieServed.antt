@@ -14,26 +14,26 @@ use Rattle.dp_app.specs.declared.phase.Phase.{Phase}
 use Rattle.dp_app.specs.declared.phase.Phase.TheVariants.{Ready, Digits, Pause, Queued, Talking as PhaseTalking, Ended}
 use Rattle.dp_machine.specs.Channels.{goes_on_behind, talked}
 use Rattle.dp_machine.specs.Events.{agent_done, agent_event, answered, declined, met, offered, parted, served_channels, with_queues}
-use Rattle.dp_machine.specs.GoodWorld.{IsGoodWorld, IsSoundAt, IsSoundIn, queue_in, queue_of, talk_of}
+use Rattle.dp_machine.specs.GoodWorld.{IsSoundAt, IsSoundIn, queue_in, queue_of, talk_of}
 use Rattle.dp_machine.specs.World.{World, channel_at, with_channel}
 use Rattle.dp_machine.specs.declared.channel.Channel.{Channel}
 use Rattle.dp_machine.specs.declared.shared.Shared.{Shared}
-use Rattle.dp_machine.proofs.TieLemmas.{Ties, length-set_at, tied-changed}
+use Rattle.dp_machine.proofs.TieLemmas.{IsTiedWorld, Ties, length-set_at, tied-changed}
 use Rattle.dp_machine.proofs.TieOffers.{same-declined, same-offered}
 use Rattle.dp_machine.proofs.TieQueues.{ties-answered, ties-ended, ties-self, tied-same}
 use Rattle.dp_machine.proofs.TieRows.{IsQuiet, hung_up-quiet}
 
 -- a channel is changed and stays tied and sound
-pub good-changed : (w : World) (number : ℕ) (c d : Channel) (shared : Shared) → IsGoodWorld w → channel_at w.channels number ≡ Some c
+pub good-changed : (w : World) (number : ℕ) (c d : Channel) (shared : Shared) → IsTiedWorld w → channel_at w.channels number ≡ Some c
     → Ties number w.shared.queues shared.queues d.phase → IsSoundIn d.phase d
-    → IsGoodWorld (record w { channels = with_channel w.channels number d; shared = shared })
+    → IsTiedWorld (record w { channels = with_channel w.channels number d; shared = shared })
 good-changed w number c d shared good here ties sound = record {
   within = omega (arith, good.within, length-set_at w.channels (number - 1) d);
   tied = tied-changed w.channels number c d w.shared.queues shared.queues here ties sound good.tied;
 }
 
 -- an offer
-pub good-offered : (w : World) (queue : List ℕ) → IsGoodWorld w → IsGoodWorld (agent_event w (offered w.shared queue)).0
+pub good-offered : (w : World) (queue : List ℕ) → IsTiedWorld w → IsTiedWorld (agent_event w (offered w.shared queue)).0
 unfolding offered
 good-offered w queue good = record {
   within = good.within;
@@ -41,7 +41,7 @@ good-offered w queue good = record {
 }
 
 -- an agent declines
-pub good-declined : (w : World) (agent : List ℕ) → IsGoodWorld w → IsGoodWorld (agent_event w (declined w.shared agent)).0
+pub good-declined : (w : World) (agent : List ℕ) → IsTiedWorld w → IsTiedWorld (agent_event w (declined w.shared agent)).0
 unfolding declined
 good-declined w agent good = record {
   within = good.within;
@@ -62,10 +62,10 @@ talked-quiet : (plan : PlanOf) (c : Channel) (goes_on : Bool) → IsQuiet (talke
 talked-quiet plan c true = ((refl, refl), tt)
 talked-quiet plan c false = hung_up-quiet plan c
 
-module _ (w : World) (good : IsGoodWorld w) (linked : IsGood w.shared.queues) where
+module _ (w : World) (good : IsTiedWorld w) (linked : IsGood w.shared.queues) where
   -- an agent in this state answers
   answered-good : (a : ℕ) (s : AgentState) → state_at w.shared.queues.agents a ≡ s
-      → IsGoodWorld (agent_event w (met (with_queues w.shared (answer_row_at w.shared.queues a s).0) (answer_row_at w.shared.queues a s).1)).0
+      → IsTiedWorld (agent_event w (met (with_queues w.shared (answer_row_at w.shared.queues a s).0) (answer_row_at w.shared.queues a s).1)).0
   answered-good a Idle is = record { within = good.within; tied = good.tied }
   answered-good a (Talking k number) is = record { within = good.within; tied = good.tied }
   answered-good a (Ringing k number) is = by (channel_at w.channels number) refl
@@ -77,7 +77,7 @@ module _ (w : World) (good : IsGoodWorld w) (linked : IsGood w.shared.queues) wh
       waits o here = sym (ap queue_of here) ∙ sym (good.tied.waits number) ∙ ringing-waits w.shared.queues.queues w.shared.queues.agents a k number linked is
 
       by : (o : Option Channel) → channel_at w.channels number ≡ o
-          → IsGoodWorld (record w { channels = served_channels w (met behind (Some (call_of k a number))) o; shared = behind })
+          → IsTiedWorld (record w { channels = served_channels w (met behind (Some (call_of k a number))) o; shared = behind })
       by None here = absurd (none-some k (waits None here))
       by (Some c) here = good-changed w number c (record c { phase = PhaseTalking k a (goes_on_behind c.phase) }) behind good here
           (ties-answered number a k w.shared.queues c.phase (PhaseTalking k a (goes_on_behind c.phase)) linked
@@ -85,14 +85,14 @@ module _ (w : World) (good : IsGoodWorld w) (linked : IsGood w.shared.queues) wh
           (talks-sound c c.phase k (waits (Some c) here) (subst IsSoundAt here (good.tied.sound number)))
 
   -- an agent answers
-  pub good-answered : (agent : List ℕ) → IsGoodWorld (agent_event w (answered w.shared agent)).0
+  pub good-answered : (agent : List ℕ) → IsTiedWorld (agent_event w (answered w.shared agent)).0
   unfolding answered
   good-answered agent = answered-good (agent_number w.shared.queues.agents agent)
       (state_at w.shared.queues.agents (agent_number w.shared.queues.agents agent)) refl
 
   -- an agent in this state is done
   done-good : (a : ℕ) (s : AgentState) → state_at w.shared.queues.agents a ≡ s
-      → IsGoodWorld (agent_event w (parted (with_queues w.shared (done_row_at w.shared.queues a s).0) (done_row_at w.shared.queues a s).1)).0
+      → IsTiedWorld (agent_event w (parted (with_queues w.shared (done_row_at w.shared.queues a s).0) (done_row_at w.shared.queues a s).1)).0
   done-good a Idle is = record { within = good.within; tied = good.tied }
   done-good a (Ringing k number) is = record { within = good.within; tied = good.tied }
   done-good a (Talking k number) is = by (channel_at w.channels number) refl
@@ -101,7 +101,7 @@ module _ (w : World) (good : IsGoodWorld w) (linked : IsGood w.shared.queues) wh
       behind = with_queues w.shared (ended w.shared.queues a k)
 
       by : (o : Option Channel) → channel_at w.channels number ≡ o
-          → IsGoodWorld (record w { channels = served_channels w (parted behind (Some (call_of k a number))) o; shared = behind })
+          → IsTiedWorld (record w { channels = served_channels w (parted behind (Some (call_of k a number))) o; shared = behind })
       by None here = absurd (none-some (k, a) (sym (ap talk_of here) ∙ good.tied.talking a k number is))
       by (Some c) here = good-changed w number c (talked w.plan c (goes_on_behind c.phase)) behind good here
           (ties-ended number a k w.shared.queues c.phase (talked w.plan c (goes_on_behind c.phase)).phase linked
@@ -109,7 +109,7 @@ module _ (w : World) (good : IsGoodWorld w) (linked : IsGood w.shared.queues) wh
           (talked-quiet w.plan c (goes_on_behind c.phase)).1
 
   -- an agent is done
-  pub good-agent_done : (agent : List ℕ) → IsGoodWorld (agent_event w (agent_done w.shared agent)).0
+  pub good-agent_done : (agent : List ℕ) → IsTiedWorld (agent_event w (agent_done w.shared agent)).0
   unfolding agent_done
   good-agent_done agent = done-good (agent_number w.shared.queues.agents agent)
       (state_at w.shared.queues.agents (agent_number w.shared.queues.agents agent)) refl

@@ -7,8 +7,8 @@ use Rattle.dp_queue.specs.Queues.{QueueOf, QueuesOf}
 use Rattle.dp_queue.proofs.WaitingLemmas.{lines, waits_in-joined, waits_in-same}
 use Rattle.dp_plan.specs.Plan.{PlanOf}
 use Rattle.dp_app.specs.Laws.{KeepsQueues, MayGo, MayPark, waiting_after, waiting_lists, waiting_parked}
-use Rattle.dp_app.specs.declared.going.Move.{Move}
-use Rattle.dp_app.specs.declared.going.Move.TheVariants.{Next, Jump, Park, Hang}
+use Rattle.dp_app.specs.declared.moves.Move.{Move}
+use Rattle.dp_app.specs.declared.moves.Move.TheVariants.{Next, Jump, Park, Hang}
 use Rattle.dp_app.specs.declared.phase.Phase.{Phase}
 use Rattle.dp_app.specs.declared.phase.Phase.TheVariants.{Ready, Digits, Pause, Queued, Talking as PhaseTalking, Ended}
 use Rattle.dp_app.specs.declared.place.Place.{Place}

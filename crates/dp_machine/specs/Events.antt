@@ -14,7 +14,7 @@ use Rattle.dp_queue.specs.declared.offer.Offered.{Offered as Rung}
 use Rattle.dp_vars.specs.Stores.{nothing}
 use Rattle.dp_app.specs.Rows.{Rows, dispatched}
 use Rattle.dp_app.specs.declared.cell.Cell.{Cell}
-use Rattle.dp_app.specs.declared.going.Move.{Move}
+use Rattle.dp_app.specs.declared.moves.Move.{Move}
 use Rattle.dp_app.specs.declared.phase.Phase.{Phase}
 use Rattle.dp_app.specs.declared.phase.Phase.TheVariants.{Ready, Digits, Pause, Queued, Talking, Ended as phase_ended}
 use Rattle.dp_machine.specs.Channels.{Change, Stays, Talks, TalkEnds, changed, collected, going_on, hung_up, invalid, is_invalid, left_queue, ready_at, timed_out, went}

@@ -2,18 +2,13 @@
 use Rattle.std.specs.Prelude.{◌≡◌, false, Option, Result, IfOk, OnErr}
 use Rattle.std.specs.declared.alloc.AllocError.{AllocError as NoMemory}
 use Rattle.dp_app.specs.declared.cell.Cell.{Cell}
-use Rattle.dp_app.specs.declared.going.Move.{Move}
+use Rattle.dp_app.specs.declared.moves.Move.{Move}
 use Rattle.dp_machine.specs.Events.{Own, applied, is_refused}
 use Rattle.dp_machine.specs.World.{World}
 use Rattle.dp_machine.specs.declared.channel.Channel.{Channel}
 use Rattle.dp_machine.specs.declared.exchange.Exchange.{Exchange}
 use Rattle.dp_machine.specs.declared.reply.Reply.{Reply}
 use Rattle.dp_machine.specs.declared.shared.Shared.{Shared}
-
--- an exchange has the dialplan and the shared part that it had
-pub record Stays (before after : Exchange) : Type 0 where
-  pub plan : after.plan ≡ before.plan
-  pub shared : after.shared ≡ before.shared
 
 -- an exchange and a channel behind an event of which this is known: answered, they are so; where memory was wanting they are as
 -- before, and the event is none that is refused. The dialplan stays

@@ -2,6 +2,7 @@
 use Rattle.std.specs.Prelude.{◌≡◌, ℕ, ◌≤◌, false, List, [], length, Option, Some, None}
 use Rattle.std.specs.Option.{option_and_then}
 use Rattle.dp_queue.specs.Agents.{is_talking, state_at}
+use Rattle.dp_queue.specs.Good.{IsGood}
 use Rattle.dp_queue.specs.Joining.{waits_in}
 use Rattle.dp_queue.specs.Queues.{QueuesOf}
 use Rattle.dp_queue.specs.declared.agent.AgentState.TheVariants.{Talking as AgentTalking}
@@ -79,10 +80,12 @@ pub record AreTied (channels : List Channel) (queues : QueuesOf) : Type 0 where
       → state_at queues.agents agent ≡ AgentTalking queue number
   pub sound : (number : ℕ) → IsSoundAt (channel_at channels number)
 
--- a good world: no more channels than have numbers, tied to the queues
+-- a good world: no more channels than have numbers, tied to the queues; and these are good, so that a channel stands once in its
+-- waiting list and in no other, an agent rings for a channel of the queue that it names alone, and talks with at most one
 pub record IsGoodWorld (w : World) : Type 0 where
   pub within : length w.channels ≤ most_channels
   pub tied : AreTied w.channels w.shared.queues
+  pub queues : IsGood w.shared.queues
 
 -- where a step is asked, this channel is sound
 abbrev pub IsSoundBehind : Asked → Channel → Type 0

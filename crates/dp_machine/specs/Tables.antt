@@ -1,14 +1,24 @@
 -- What look-ups in a dialplan search in.
-use Rattle.std.specs.Prelude.{◌≡◌, ◌≤◌, []}
+use Rattle.std.specs.Prelude.{◌≡◌, ◌≤◌, [], All}
 use Rattle.std.specs.Option.{option_map_or}
 use Rattle.dp_lookup.specs.SearchOrder.{context_count, visit}
 use Rattle.dp_plan.specs.Plan.{PlanOf}
 use Rattle.dp_trie.specs.Known.{Keeps}
 use Rattle.dp_machine.specs.declared.directory.Tables.{Tables}
+use Rattle.dp_machine.specs.declared.orders.Order.{Order}
+use Rattle.dp_machine.specs.declared.orders.Orders.{Orders}
 
--- the tries keep the dialplan; the order has room for each of its contexts, and is that of the context that it was filled for
-unfoldable pub AreTables : PlanOf → Tables → Type 0
-AreTables plan tables =
-    Keeps plan tables.trie
-    × (context_count plan ≤ tables.order.room)
-    × (tables.order.contexts ≡ option_map_or (visit plan []) tables.context [])
+-- the order has room for each context of the dialplan, and is that of the context that it was filled for
+pub record IsOrder (plan : PlanOf) (held : Order) : Type 0 where
+  pub room : context_count plan ≤ held.order.room
+  pub contexts : held.order.contexts ≡ option_map_or (visit plan []) held.context []
+
+-- each of the orders is one
+pub record AreOrders (plan : PlanOf) (orders : Orders) : Type 0 where
+  pub first : IsOrder plan orders.first
+  pub others : All (IsOrder plan) orders.others
+
+-- the tries keep the dialplan, and the orders are orders of it
+pub record AreTables (plan : PlanOf) (tables : Tables) : Type 0 where
+  pub trie : Keeps plan tables.trie
+  pub orders : AreOrders plan tables.orders

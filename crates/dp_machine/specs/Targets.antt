@@ -1,11 +1,11 @@
 -- Where the parts of a target send a channel: `[[context,]extension,]priority`.
-use Rattle.std.specs.Prelude.{ℕ, ◌+◌, ◌&&◌, nat_le, List, [], ◌∷◌, Option, Some, None, slice_get, reverse, if◌then◌else◌}
-use Rattle.std.specs.Option.{option_map}
+use Rattle.std.specs.Prelude.{ℕ, ◌+◌, ◌&&◌, nat_le, List, [], ◌∷◌, length, Option, Some, None, slice_get, reverse, if◌then◌else◌}
+use Rattle.std.specs.Option.{option_and_then, option_map}
 use Rattle.dp_conf.specs.Numbers.{number_of}
 use Rattle.dp_plan.specs.Plan.{PlanOf}
 use Rattle.dp_plan.specs.Priority.{most_priority}
-use Rattle.dp_app.specs.declared.going.Target.{Target}
-use Rattle.dp_app.specs.declared.going.Target.TheVariants.{To, Existing, Parts}
+use Rattle.dp_app.specs.declared.target.Target.{Target}
+use Rattle.dp_app.specs.declared.target.Target.TheVariants.{To, Existing, Parts}
 use Rattle.dp_app.specs.declared.place.Place.{Place}
 use Rattle.dp_machine.specs.Found.{is_found, label_found}
 
@@ -51,11 +51,9 @@ parts_context own parts = given_or own.context (slice_get (reverse parts) 2)
 
 -- the place that parts ask for, for a channel at its own place: one to three, of which the last is the priority
 unfoldable pub parts_place : PlanOf → Place → List (List ℕ) → Option Place
-parts_place plan own [] = None
-parts_place plan own (priority ∷ []) = place_by plan own.context own.exten priority
-parts_place plan own (exten ∷ priority ∷ []) = place_by plan own.context (part_or own.exten exten) priority
-parts_place plan own (context ∷ exten ∷ priority ∷ []) = place_by plan (part_or own.context context) (part_or own.exten exten) priority
-parts_place plan own (context ∷ exten ∷ priority ∷ more ∷ parts) = None
+parts_place plan own parts =
+    if nat_le (length parts) 3 then option_and_then (place_by plan (parts_context own parts) (parts_exten own parts)) (slice_get (reverse parts) 0)
+    else None
 
 -- the place, where an entry is found there
 abbrev pub if_found : PlanOf → Option Place → Option Place

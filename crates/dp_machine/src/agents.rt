@@ -3,14 +3,15 @@ ghost use Rattle.std.specs.Prelude.{◌≡◌, ℕ, OnOk, OnErr, List, Some};
 ghost use Rattle.dp_plan.specs.Plan.{PlanOf};
 ghost use Rattle.dp_machine.specs.Channels.{goes_on_behind, talked};
 ghost use Rattle.dp_machine.specs.Events as spec;
-ghost use Rattle.dp_machine.specs.Follows.{Makes, Stays};
+ghost use Rattle.dp_machine.specs.Follows.{Makes};
 ghost use Rattle.dp_machine.specs.GoodWorld.{IsSoundAt, IsSoundIn};
 ghost use Rattle.dp_machine.specs.World as worlds;
 ghost use Rattle.dp_machine.specs.declared.reply.Reply.TheVariants.{Done};
 ghost use Rattle.dp_machine.specs.declared.shared.Shared.{Shared};
 
 use crate::channel::Channel;
-use crate::ending::{hang_up, make_ready};
+use crate::directory::Directory;
+use crate::ending::hang_up;
 use crate::exchange::Exchange;
 use crate::numbered::index_of;
 use crate::refusal::Refusal;
@@ -102,40 +103,39 @@ pub(crate) fn decline(exchange: &mut Exchange, agent: &[u8]) -> Reply
 }
 
 /// The talk of the channel ends: it goes on, which it reads, or is hung up.
-fn end_talk(alloc: Global, exchange: &mut Exchange, channel: &mut Channel) -> Result<(), NoMemory>
+fn end_talk(alloc: Global, plan: &mut Directory, channel: &mut Channel) -> Result<(), NoMemory>
     requires { IsSoundIn channel.old.phase channel.old }
-    ensures ok { OnOk result (channel.new ≡ talked exchange.old.plan channel.old (goes_on_behind channel.old.phase)) }
+    ensures ok { OnOk result (channel.new ≡ talked plan.old channel.old (goes_on_behind channel.old.phase)) }
     ensures err { OnErr result (channel.new ≡ channel.old) }
-    ensures same { Stays exchange.old exchange.new }
+    ensures same { plan.new ≡ plan.old }
 {
     if goes_on_behind(&channel.phase) {
         channel.store.set(alloc, b"QUEUESTATUS", b"CONTINUE")?;
         go_on(channel);
         return Ok(());
     }
-    make_ready(alloc, &mut exchange.spare)?;
-    hang_up(exchange, channel);
+    hang_up(plan, channel);
     Ok(())
 }
 
 /// The talk of the channel of a call, if there is one, ends.
 fn part(
     alloc: Global,
-    exchange: &mut Exchange,
+    plan: &mut Directory,
     channels: &mut Vec<Channel>,
     call: Call,
 ) -> Result<(), NoMemory>
     requires { IsSoundAt (worlds.channel_at channels.old.items call.channel) }
-    ensures row { (after : Shared) → OnOk result
-        (spec.agent_event (worlds.world_in exchange.old channels.old.items) (spec.parted after (Some call))
-        ≡ (worlds.world_of exchange.old.plan channels.new.items after, Done)) }
+    ensures row { (before after : Shared) → OnOk result
+        (spec.agent_event (worlds.world_of plan.old channels.old.items before) (spec.parted after (Some call))
+        ≡ (worlds.world_of plan.old channels.new.items after, Done)) }
     ensures err { OnErr result (channels.new.items ≡ channels.old.items) }
-    ensures same { Stays exchange.old exchange.new }
+    ensures same { plan.new ≡ plan.old }
 {
     let Some(index) = index_of(call.channel, channels.len()) else {
         return Ok(());
     };
-    end_talk(alloc, exchange, &mut channels[index])
+    end_talk(alloc, plan, &mut channels[index])
 }
 
 /// The agent of this interface is done with the call that it talks with.
@@ -153,7 +153,7 @@ pub(crate) fn agent_done(
     let Some(call) = exchange.shared.queues.talk_of(agent) else {
         return Ok(Reply::Refused(Refusal::NotTalking));
     };
-    part(alloc, exchange, channels, call)?;
+    part(alloc, &mut exchange.plan, channels, call)?;
     let _call = exchange.shared.queues.done(agent);
     Ok(Reply::Done)
 }

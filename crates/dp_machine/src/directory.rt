@@ -1,10 +1,11 @@
 //! The dialplan, and what look-ups in it search in. No look-up takes memory.
-ghost use Rattle.std.specs.Prelude.{◌≡◌, IfOk, IsSome, IsTrue, Some};
+ghost use Rattle.std.specs.Prelude.{◌≡◌, IfOk, IsSome, Some};
 ghost use Rattle.dp_lookup.specs.SearchOrder.{search_order};
-ghost use Rattle.dp_plan.specs.Lookup.{entry_at, number_of};
+ghost use Rattle.dp_plan.specs.Lookup.{entry_at};
 ghost use Rattle.dp_machine.specs.Found as spec;
 ghost use Rattle.dp_machine.specs.Tables.{AreTables};
 
+use crate::orders::Orders;
 use dp_app::Place;
 use dp_lookup::SearchOrder;
 use dp_plan::{Dialplan, Entry, EntryId, NoMemory, Text};
@@ -12,56 +13,30 @@ use dp_trie::Trie;
 use std::alloc::Global;
 use std::marker::Model;
 
-/// What look-ups in a dialplan search in: its tries, and the search order of the context that was asked last.
+/// What look-ups in a dialplan search in: its tries, and the search orders of the contexts that were asked last.
 #[derive(Drop)]
 pub(crate) struct Tables {
     trie: Trie,
-    order: SearchOrder,
-    // The number of the context that the order was filled for; None where that context is unknown, and before the first.
-    context: Option<usize>,
+    orders: Orders,
 }
 
 impl Tables {
     /// The tables of a dialplan, in which no context was asked yet.
-    #[tactic(auto, unfolding(crate::specs::Tables::AreTables))]
     pub(crate) fn of(alloc: Global, plan: &Dialplan) -> Result<Self, NoMemory>
         ensures { IfOk result (λ tables. AreTables plan.now tables) }
     {
         let trie = Trie::build(alloc, plan)?;
-        let order = SearchOrder::room(alloc, plan)?;
-        Ok(Tables {
-            trie,
-            order,
-            context: None,
-        })
+        let orders = Orders::room(alloc, plan)?;
+        Ok(Tables { trie, orders })
     }
 
-    /// Makes the order that of the context of this name. It is filled anew only where another context was asked before, and
-    /// takes no memory.
-    #[tactic(auto, unfolding(crate::specs::Tables::AreTables))]
+    /// Makes the first order that of the context of this name. It takes no memory.
     fn turn_to(&mut self, plan: &Dialplan, context: &Text)
         requires { AreTables plan.now self.old }
-        ensures contexts { self.new.order.contexts ≡ search_order plan.now context.now }
+        ensures contexts { self.new.orders.first.order.contexts ≡ search_order plan.now context.now }
         ensures tables { AreTables plan.now self.new }
     {
-        if self.is_of(plan, context) {
-            return;
-        }
-        let number = plan.number_of(context);
-        if self.context != number {
-            self.order.fill(plan, context);
-            self.context = number;
-        }
-    }
-
-    /// Whether the order is that of the context of this name, which is known. No table of names is asked.
-    fn is_of(&self, plan: &Dialplan, context: &Text) -> bool
-        ensures { IsTrue result → self.now.context ≡ number_of plan.now context.now }
-    {
-        match self.context {
-            Some(number) => plan.has_number(context, number),
-            None => false,
-        }
+        self.orders.turn_to(plan, context);
     }
 }
 
@@ -101,13 +76,14 @@ impl Directory {
 
     /// The entry that answers for the extension of the context at the priority: that of the most specific name that matches,
     /// in the first context that has one.
-    #[tactic(auto, unfolding(crate::specs::Found::id_found, crate::specs::Tables::AreTables))]
+    #[tactic(auto, unfolding(crate::specs::Found::id_found))]
     pub(crate) fn find(&mut self, context: &Text, exten: &[u8], priority: u32) -> Option<EntryId>
         ensures found { result ≡ spec.id_found self.old context.now exten.now priority }
         ensures same { self.new ≡ self.old }
     {
         self.tables.turn_to(&self.plan, context);
-        self.tables.trie.find(&self.tables.order, exten, priority)
+        let order = &self.tables.orders.first.order;
+        self.tables.trie.find(order, exten, priority)
     }
 
     /// Whether an entry answers for the extension of the context at the priority.
@@ -120,25 +96,25 @@ impl Directory {
     }
 
     /// Whether a caller who has dialled so far in the context may go on.
-    #[tactic(auto, unfolding(crate::specs::Found::could_go_on, crate::specs::Tables::AreTables))]
+    #[tactic(auto, unfolding(crate::specs::Found::could_go_on))]
     pub(crate) fn could_go_on(&mut self, context: &Text, digits: &[u8]) -> bool
         ensures found { result ≡ spec.could_go_on self.old context.now digits.now }
         ensures same { self.new ≡ self.old }
     {
         self.tables.turn_to(&self.plan, context);
-        self.tables.trie.more(&self.tables.order, digits)
+        let order = &self.tables.orders.first.order;
+        self.tables.trie.more(order, digits)
     }
 
     /// The priority that has the label, of the extension in the context.
-    #[tactic(auto, unfolding(crate::specs::Found::label_found, crate::specs::Tables::AreTables))]
+    #[tactic(auto, unfolding(crate::specs::Found::label_found))]
     pub(crate) fn find_label(&mut self, context: &Text, exten: &[u8], label: &[u8]) -> Option<u32>
         ensures found { result ≡ spec.label_found self.old context.now exten.now label.now }
         ensures same { self.new ≡ self.old }
     {
         self.tables.turn_to(&self.plan, context);
-        self.tables
-            .trie
-            .find_label(&self.tables.order, exten, label)
+        let order = &self.tables.orders.first.order;
+        self.tables.trie.find_label(order, exten, label)
     }
 
     /// The entry of these numbers, which stands in the dialplan.
@@ -153,7 +129,7 @@ impl Directory {
     }
 
     /// The entry that answers at a place, found in an order of its own.
-    #[tactic(auto, unfolding(crate::specs::Found::id_found, crate::specs::Tables::AreTables))]
+    #[tactic(auto, unfolding(crate::specs::Found::id_found))]
     pub(crate) fn entry_of(&self, alloc: Global, place: &Place) -> Result<Option<EntryId>, NoMemory>
         ensures { IfOk result (λ id. id ≡ spec.id_at self.now place.now) }
     {

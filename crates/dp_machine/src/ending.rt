@@ -1,24 +1,18 @@
 //! How a channel is hung up, after the Asterisk documentation's page on the special extensions of dialplans.
-ghost use Rattle.std.specs.Prelude.{◌≡◌, OnOk, codes};
+ghost use Rattle.std.specs.Prelude.{◌≡◌};
 ghost use Rattle.dp_machine.specs.Channels as spec;
-ghost use Rattle.dp_machine.specs.Follows.{Stays};
 
 use crate::channel::Channel;
 use crate::directory::Directory;
-use crate::exchange::Exchange;
-use dp_app::Phase;
-use dp_plan::{NoMemory, Text};
-use std::alloc::Global;
-use std::mem;
+use dp_app::{Exten, Phase};
 
-/// Makes the spare text the name of the extension at which a hang-up goes on, so that the hang-up takes no memory.
-pub(crate) fn make_ready(alloc: Global, spare: &mut Text) -> Result<(), NoMemory>
-    ensures { OnOk result (spare.new ≡ codes "h") }
+/// Makes the channel ready at priority 1 of an extension of its context.
+pub(crate) fn go_to_exten(channel: &mut Channel, exten: Exten)
+    ensures { channel.new ≡ spec.ready_in channel.old exten }
 {
-    if spare.bytes() != b"h".as_slice() {
-        *spare = Text::copy_of(alloc, b"h")?;
-    }
-    Ok(())
+    channel.place.exten = exten;
+    channel.place.priority = 1;
+    channel.phase = Phase::Ready;
 }
 
 /// Whether a hang-up of the channel goes on at the extension `h`.
@@ -35,17 +29,14 @@ fn runs_hang_up(plan: &mut Directory, channel: &Channel) -> bool
 /// Hangs the channel up. It runs the extension `h` of its context, once and where that is found, or is over; its frames
 /// are dropped (a choice of this program).
 #[tactic(auto, unfolding(crate::specs::Channels::hung_up))]
-pub(crate) fn hang_up(exchange: &mut Exchange, channel: &mut Channel)
-    requires { exchange.old.spare ≡ codes "h" }
-    ensures channel { channel.new ≡ spec.hung_up exchange.old.plan channel.old }
-    ensures same { Stays exchange.old exchange.new }
+pub(crate) fn hang_up(plan: &mut Directory, channel: &mut Channel)
+    ensures channel { channel.new ≡ spec.hung_up plan.old channel.old }
+    ensures same { plan.new ≡ plan.old }
 {
-    let runs = runs_hang_up(&mut exchange.plan, channel);
+    let runs = runs_hang_up(plan, channel);
     channel.store.drop_frames();
     if runs {
-        mem::swap(&mut channel.place.exten, &mut exchange.spare);
-        channel.place.priority = 1;
-        channel.phase = Phase::Ready;
+        go_to_exten(channel, Exten::of_byte(b'h'));
         channel.is_closing = true;
     } else {
         channel.phase = Phase::Ended;

@@ -6,7 +6,7 @@ ghost use Rattle.dp_machine.specs.World as worlds;
 
 use crate::directory::{Directory, Tables};
 use crate::shared::{Shared, expand_globals};
-use dp_plan::{Dialplan, NoMemory, Text};
+use dp_plan::{Dialplan, NoMemory};
 use dp_queue::Queues;
 use dp_vars::Globals;
 use std::alloc::Global;
@@ -16,8 +16,6 @@ use std::alloc::Global;
 pub(crate) struct Exchange {
     pub(crate) plan: Directory,
     pub(crate) shared: Shared,
-    /// The name of the extension at which a hang-up goes on, so that a hang-up behind an application takes no memory.
-    pub(crate) spare: Text,
 }
 
 /// What is made of a dialplan before the first call.
@@ -25,7 +23,6 @@ pub(crate) struct Exchange {
 struct Made {
     globals: Globals,
     tables: Tables,
-    spare: Text,
 }
 
 /// Makes what the first call needs.
@@ -35,12 +32,7 @@ fn make(alloc: Global, plan: &Dialplan) -> Result<Made, NoMemory>
 {
     let globals = expand_globals(alloc, plan.globals())?;
     let tables = Tables::of(alloc, plan)?;
-    let spare = Text::copy_of(alloc, b"h")?;
-    Ok(Made {
-        globals,
-        tables,
-        spare,
-    })
+    Ok(Made { globals, tables })
 }
 
 impl Exchange {
@@ -48,15 +40,10 @@ impl Exchange {
     pub(crate) fn of(alloc: Global, plan: Dialplan, queues: Queues) -> Result<Self, NoMemory>
         ensures { IfOk result (λ exchange. worlds.world_in exchange [] ≡ worlds.opening plan queues) }
     {
-        let Made {
-            globals,
-            tables,
-            spare,
-        } = make(alloc, &plan)?;
+        let Made { globals, tables } = make(alloc, &plan)?;
         Ok(Exchange {
             plan: Directory::with(plan, tables),
             shared: Shared { globals, queues },
-            spare,
         })
     }
 }

@@ -12,6 +12,7 @@ mod exchange;
 pub mod laws;
 mod machine;
 mod numbered;
+mod orders;
 mod queues;
 mod refusal;
 mod reply;
@@ -22,7 +23,7 @@ mod target;
 mod waiting;
 
 pub use channel::Channel;
-pub use dp_app::{Phase, Place};
+pub use dp_app::{Exten, Phase, Place};
 pub use dp_plan::{Dialplan, EntryId, NoMemory, Text};
 pub use dp_queue::Queues;
 pub use event::Event;

@@ -20,7 +20,7 @@ use crate::reply::Reply;
 use crate::seen::channel_value;
 use crate::step::step_channel;
 use crate::waiting::{dial, end_time, hang_up_channel, poll};
-use dp_app::{AppTable, Phase, Place};
+use dp_app::{AppTable, Exten, Phase, Place};
 use dp_plan::{Dialplan, EntryId, NoMemory, Text};
 use dp_queue::Queues;
 use dp_vars::Store;
@@ -74,7 +74,7 @@ fn start(
     }
     let place = Place {
         context,
-        exten,
+        exten: Exten::new(exten),
         priority: 1,
     };
     channels.push(Channel {
@@ -85,6 +85,29 @@ fn start(
         store: Store::new(alloc),
     })?;
     Ok(Reply::Started(count as u32 + 1))
+}
+
+/// A call comes in by texts that are kept. Where all numbers of channels were given no text is copied.
+#[tactic(auto, unfolding(crate::specs::Events::started))]
+fn start_kept(
+    alloc: Global,
+    channels: &mut Vec<Channel>,
+    context: &Text,
+    exten: &Text,
+    caller: &Text,
+) -> Result<Reply, NoMemory>
+    ensures ok { IfOk result (λ reply. spec.started channels.old.items context.now exten.now caller.now
+        ≡ record { channels = channels.new.items; reply = reply }) }
+    ensures err { OnErr result (channels.new.items ≡ channels.old.items) }
+    ensures memory { OnErr result (spec.is_refused (spec.started channels.old.items context.now exten.now caller.now).reply ≡ false) }
+{
+    if channels.len() >= MOST_CHANNELS {
+        return Ok(Reply::Refused(Refusal::NumbersSpent));
+    }
+    let context = context.clone()?;
+    let exten = exten.clone()?;
+    let caller = caller.clone()?;
+    start(alloc, channels, context, exten, caller)
 }
 
 /// An event of the channel.
@@ -105,7 +128,7 @@ fn answer_to<T: AppTable>(
         Asked::Digit(digit) => dial(alloc, exchange, number, channel, digit),
         Asked::Timeout => end_time(alloc, exchange, number, channel),
         Asked::Poll => poll(alloc, exchange, number, channel),
-        Asked::Hangup => hang_up_channel(alloc, exchange, number, channel),
+        Asked::Hangup => Ok(hang_up_channel(exchange, number, channel)),
     }
 }
 
@@ -129,7 +152,39 @@ fn ask<T: AppTable>(
     answer_to::<T>(alloc, exchange, number, channel, asked)
 }
 
-/// Applies one event to an exchange and its channels.
+/// Applies one event to an exchange and its channels. The texts of a call that comes in are copied.
+fn apply_kept_to<T: AppTable>(
+    alloc: Global,
+    exchange: &mut Exchange,
+    channels: &mut Vec<Channel>,
+    event: &Event,
+) -> Result<Reply, NoMemory>
+    requires { good.IsGoodWorld (worlds.world_in exchange.old channels.old.items) }
+    ensures makes { Makes (spec.event_row T.rows (worlds.world_in exchange.old channels.old.items) event.now)
+        (worlds.world_in exchange.old channels.old.items) (worlds.world_in exchange.new channels.new.items) result }
+    ensures sound { OnOk result (good.StepsSoundly T.rows (worlds.world_in exchange.old channels.old.items) event.now) }
+{
+    match event {
+        Event::Start {
+            context,
+            exten,
+            caller,
+        } => start_kept(alloc, channels, context, exten, caller),
+        Event::Step { channel } => ask::<T>(alloc, exchange, channels, *channel, Asked::Step),
+        Event::Digit { channel, digit } => {
+            ask::<T>(alloc, exchange, channels, *channel, Asked::Digit(*digit))
+        }
+        Event::Timeout { channel } => ask::<T>(alloc, exchange, channels, *channel, Asked::Timeout),
+        Event::Poll { channel } => ask::<T>(alloc, exchange, channels, *channel, Asked::Poll),
+        Event::Hangup { channel } => ask::<T>(alloc, exchange, channels, *channel, Asked::Hangup),
+        Event::Offer { queue } => Ok(offer(exchange, queue.bytes())),
+        Event::Answer { agent } => Ok(answer(exchange, channels, agent.bytes())),
+        Event::Decline { agent } => Ok(decline(exchange, agent.bytes())),
+        Event::AgentDone { agent } => agent_done(alloc, exchange, channels, agent.bytes()),
+    }
+}
+
+/// Applies one event to an exchange and its channels. A call that comes in gives its texts away; no other event's are kept.
 fn apply_to<T: AppTable>(
     alloc: Global,
     exchange: &mut Exchange,
@@ -147,17 +202,7 @@ fn apply_to<T: AppTable>(
             exten,
             caller,
         } => start(alloc, channels, context, exten, caller),
-        Event::Step { channel } => ask::<T>(alloc, exchange, channels, channel, Asked::Step),
-        Event::Digit { channel, digit } => {
-            ask::<T>(alloc, exchange, channels, channel, Asked::Digit(digit))
-        }
-        Event::Timeout { channel } => ask::<T>(alloc, exchange, channels, channel, Asked::Timeout),
-        Event::Poll { channel } => ask::<T>(alloc, exchange, channels, channel, Asked::Poll),
-        Event::Hangup { channel } => ask::<T>(alloc, exchange, channels, channel, Asked::Hangup),
-        Event::Offer { queue } => Ok(offer(exchange, queue.bytes())),
-        Event::Answer { agent } => Ok(answer(exchange, channels, agent.bytes())),
-        Event::Decline { agent } => Ok(decline(exchange, agent.bytes())),
-        Event::AgentDone { agent } => agent_done(alloc, exchange, channels, agent.bytes()),
+        kept => apply_kept_to::<T>(alloc, exchange, channels, &kept),
     }
 }
 
@@ -180,6 +225,23 @@ fn next_entry_of(
     }
 }
 
+/// The same, looked up as a step looks up.
+#[tactic(auto, using(crate::proofs::LookupLemmas::located_id))]
+fn entry_ahead_of(plan: &mut Directory, channel: &Channel) -> Option<EntryId>
+    ensures entry { result ≡ spec.next_in channel.now.phase plan.old channel.now }
+    ensures same { plan.new ≡ plan.old }
+{
+    let place = &channel.place;
+    match channel.phase {
+        Phase::Ready => plan.find(&place.context, place.exten.bytes(), place.priority),
+        Phase::Digits { .. }
+        | Phase::Pause
+        | Phase::Queued { .. }
+        | Phase::Talking { .. }
+        | Phase::Ended => None,
+    }
+}
+
 impl<T: AppTable> Machine<T> {
     /// A machine with this dialplan and these queues, in which no call has come: nobody waits in the queues, and no agent
     /// rings or talks. The globals are expanded in the order of the file; there is no channel then, and what a channel would
@@ -189,6 +251,7 @@ impl<T: AppTable> Machine<T> {
         ensures { IfOk result (λ machine. machine ≡ worlds.opening plan queues) }
     {
         let exchange = Exchange::of(alloc, plan, queues)?;
+        exchange.shared.queues.are_good();
         Ok(Machine {
             exchange,
             channels: Vec::new(alloc),
@@ -205,8 +268,22 @@ impl<T: AppTable> Machine<T> {
         ensures err { OnErr result (self.new ≡ self.old) }
         ensures refused { OnErr result (spec.is_refused (spec.event_row T.rows self.old event).1 ≡ false) }
     {
+        let reply = apply_to::<T>(alloc, &mut self.exchange, &mut self.channels, event);
         self.exchange.shared.queues.are_good();
-        apply_to::<T>(alloc, &mut self.exchange, &mut self.channels, event)
+        reply
+    }
+
+    /// Applies one event that is kept, as `apply` does: the texts of a call that comes in are copied, and no others.
+    pub fn apply_kept(&mut self, alloc: Global, event: &Event) -> Result<Reply, NoMemory>
+        ensures ok { IfOk result (λ reply. spec.event_row T.rows self.old event.now ≡ (self.new, reply)) }
+        ensures unchanged { IfOk result (λ reply. spec.is_refused reply ≡ true → self.new ≡ self.old) }
+        ensures good { good.IsGoodWorld self.new }
+        ensures err { OnErr result (self.new ≡ self.old) }
+        ensures refused { OnErr result (spec.is_refused (spec.event_row T.rows self.old event.now).1 ≡ false) }
+    {
+        let reply = apply_kept_to::<T>(alloc, &mut self.exchange, &mut self.channels, event);
+        self.exchange.shared.queues.are_good();
+        reply
     }
 
     /// Applies the events one after another, and adds the reply to each at the end of the replies. Where memory is
@@ -222,9 +299,8 @@ impl<T: AppTable> Machine<T> {
         ensures first { replay.RanFirst T.rows self.old events.now replies.old.items replies.new.items self.new }
     {
         for event in events {
-            let event = event.copy()?;
             replies.reserve(1)?;
-            let reply = self.apply(alloc, event)?;
+            let reply = self.apply_kept(alloc, event)?;
             replies.push(reply).unwrap();
         }
         Ok(())
@@ -271,6 +347,17 @@ impl<T: AppTable> Machine<T> {
         match channel_at(&self.channels, channel) {
             Some(found) => next_entry_of(alloc, &self.exchange.plan, found),
             None => Ok(None),
+        }
+    }
+
+    /// The same as `next_entry`, looked up as a step looks up. It takes no memory, and changes nothing that a contract sees.
+    pub fn entry_ahead(&mut self, channel: u32) -> Option<EntryId>
+        ensures entry { result ≡ spec.next_entry self.old channel }
+        ensures same { self.new ≡ self.old }
+    {
+        match channel_at(&self.channels, channel) {
+            Some(found) => entry_ahead_of(&mut self.exchange.plan, found),
+            None => None,
         }
     }
 

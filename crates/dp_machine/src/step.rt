@@ -1,25 +1,25 @@
 //! The step of a channel, after the Asterisk documentation's pages on dialplans and on their special extensions.
-ghost use Rattle.std.specs.Prelude.{◌≡◌, ◌+◌, ◌^◌, ◌<◌, ◌≤◌, OnErr, OnOk, Some, codes};
+ghost use Rattle.std.specs.Prelude.{◌≡◌, ◌+◌, ◌^◌, ◌<◌, ◌≤◌, OnErr, OnOk, Some};
 ghost use Rattle.dp_app.specs.Laws.{IsLawful, MayRun, most_priority};
 ghost use Rattle.dp_app.specs.Rows.{dispatched};
 ghost use Rattle.dp_app.specs.declared.phase.Phase.TheVariants.{Ready};
 ghost use Rattle.dp_machine.specs.Channels as channels;
 ghost use Rattle.dp_machine.specs.Events as spec;
-ghost use Rattle.dp_machine.specs.Follows.{Follows, Runs, Stays};
+ghost use Rattle.dp_machine.specs.Follows.{Follows, Runs};
 ghost use Rattle.dp_machine.specs.Found.{entry_found, id_at};
 ghost use Rattle.dp_machine.specs.GoodWorld.{IsSoundIn, MayAct};
 ghost use Rattle.dp_machine.specs.Seen.{arguments_seen};
 
 use crate::channel::Channel;
 use crate::directory::Directory;
-use crate::ending::{hang_up, make_ready};
+use crate::ending::{go_to_exten, hang_up};
 use crate::exchange::Exchange;
 use crate::refusal::Refusal;
 use crate::reply::Reply;
 use crate::seen::expand_arguments;
 use crate::shared::Shared;
 use crate::target::land;
-use dp_app::{AppTable, Cell, Move, Phase, Place};
+use dp_app::{AppTable, Cell, Exten, Move, Phase, Place};
 use dp_plan::{Entry, EntryId, NoMemory, Text};
 use dp_queue::Queues;
 use dp_vars::{Globals, Store, has_opening};
@@ -34,7 +34,7 @@ fn carve(alloc: Global, number: u32, channel: &mut Channel, shared: &mut Shared)
 {
     let nowhere = Place {
         context: Text::new(Vec::new(alloc)),
-        exten: Text::new(Vec::new(alloc)),
+        exten: Exten::of_byte(0),
         priority: 0,
     };
     Cell {
@@ -70,18 +70,17 @@ fn put_back(cell: Cell, channel: &mut Channel, shared: &mut Shared)
 }
 
 /// Moves the channel, behind an application that a table may lack.
-fn go(exchange: &mut Exchange, channel: &mut Channel, going: Option<Move>)
-    requires priority { channel.old.place.priority ≤ most_priority }
-    requires spare { exchange.old.spare ≡ codes "h" }
-    ensures channel { channel.new ≡ channels.went exchange.old.plan channel.old going }
-    ensures same { Stays exchange.old exchange.new }
+fn go(plan: &mut Directory, channel: &mut Channel, going: Option<Move>)
+    requires { channel.old.place.priority ≤ most_priority }
+    ensures channel { channel.new ≡ channels.went plan.old channel.old going }
+    ensures same { plan.new ≡ plan.old }
 {
     match going {
         Some(Move::Next) => go_on(channel),
-        Some(Move::Jump(target)) => land(exchange, channel, target),
+        Some(Move::Jump(target)) => land(plan, channel, target),
         Some(Move::Park(phase)) => channel.phase = phase,
-        Some(Move::Hang) => hang_up(exchange, channel),
-        None => hang_up(exchange, channel),
+        Some(Move::Hang) => hang_up(plan, channel),
+        None => hang_up(plan, channel),
     }
 }
 
@@ -174,13 +173,10 @@ fn go_to_invalid(alloc: Global, channel: &mut Channel) -> Result<(), NoMemory>
     ensures ok { OnOk result (channel.new ≡ channels.invalid channel.old) }
     ensures err { OnErr result (channel.new ≡ channel.old) }
 {
-    let exten = Text::copy_of(alloc, b"i")?;
     channel
         .store
         .set(alloc, b"INVALID_EXTEN", channel.place.exten.bytes())?;
-    channel.place.exten = exten;
-    channel.place.priority = 1;
-    channel.phase = Phase::Ready;
+    go_to_exten(channel, Exten::of_byte(b'i'));
     Ok(())
 }
 
@@ -199,8 +195,7 @@ fn step_unfound(
         go_to_invalid(alloc, channel)?;
         return Ok(Reply::Invalid);
     }
-    make_ready(alloc, &mut exchange.spare)?;
-    hang_up(exchange, channel);
+    hang_up(&mut exchange.plan, channel);
     Ok(Reply::NoEntry)
 }
 
@@ -220,12 +215,11 @@ fn step_found<T: AppTable>(
         (entry_found exchange.old.plan channel.old.place)) exchange.old exchange.new channel.old channel.new result }
     ensures sound { OnOk result (IsSoundIn channel.new.phase channel.new) }
 {
-    make_ready(alloc, &mut exchange.spare)?;
     let entry = exchange.plan.entry(id);
     // The channel stands at the entry's priority, which is at most 2,147,483,647.
     let _ = entry.priority.get();
     let going = run_entry::<T>(alloc, &mut exchange.shared, number, channel, entry)?;
-    go(exchange, channel, going);
+    go(&mut exchange.plan, channel, going);
     Ok(Reply::Ran(id))
 }
 

@@ -1,23 +1,23 @@
 //! The events of a channel that waits: for digits, for a time, or in a queue. After the Asterisk documentation's pages on
 //! the applications `WaitExten`, `Background`, `Wait` and `Queue`.
-ghost use Rattle.std.specs.Prelude.{◌≡◌, ◌≤◌, ◌++◌, ◌∷◌, [], IfOk, OnOk, OnErr};
+ghost use Rattle.std.specs.Prelude.{◌≡◌, ◌≤◌, ◌++◌, ◌∷◌, [], IfOk, Ok};
 ghost use Rattle.dp_app.specs.Laws.{most_priority};
 ghost use Rattle.dp_queue.specs.Joining.{should_leave};
 ghost use Rattle.dp_machine.specs.Channels as channels;
 ghost use Rattle.dp_machine.specs.Events as spec;
-ghost use Rattle.dp_machine.specs.Follows.{Follows, Stays};
+ghost use Rattle.dp_machine.specs.Follows.{Follows};
 ghost use Rattle.dp_machine.specs.Found as found;
 ghost use Rattle.dp_machine.specs.GoodWorld.{MayAct};
 
 use crate::channel::Channel;
 use crate::directory::Directory;
-use crate::ending::{hang_up, make_ready};
+use crate::ending::{go_to_exten, hang_up};
 use crate::exchange::Exchange;
 use crate::refusal::Refusal;
 use crate::reply::Reply;
 use crate::shared::Shared;
 use crate::step::go_on;
-use dp_app::{Phase, Place};
+use dp_app::{Exten, Phase, Place};
 use dp_plan::{NoMemory, Text};
 use dp_queue::Queues;
 use std::alloc::Global;
@@ -53,15 +53,6 @@ fn with_digit(alloc: Global, digits: &Text, digit: u8) -> Result<Text, NoMemory>
     Ok(Text::new(bytes))
 }
 
-/// Makes the channel ready at priority 1 of an extension of its context.
-fn go_to_exten(channel: &mut Channel, exten: Text)
-    ensures { channel.new ≡ channels.ready_in channel.old exten }
-{
-    channel.place.exten = exten;
-    channel.place.priority = 1;
-    channel.phase = Phase::Ready;
-}
-
 /// The channel has dialled these digits: it waits for more where they may go on, else it goes where they lead.
 fn collect(plan: &mut Directory, channel: &mut Channel, text: Text, is_background: bool)
     ensures channel { channel.new ≡ channels.collected (found.could_go_on plan.old channel.old.place.context text) channel.old text is_background }
@@ -73,7 +64,7 @@ fn collect(plan: &mut Directory, channel: &mut Channel, text: Text, is_backgroun
             is_background,
         };
     } else {
-        go_to_exten(channel, text);
+        go_to_exten(channel, Exten::new(text));
     }
 }
 
@@ -110,7 +101,7 @@ fn dial_in_queue(
     }
     let place = Place {
         context: context.clone()?,
-        exten: Text::copy_of(alloc, &digits)?,
+        exten: Exten::of_byte(digit),
         priority: 1,
     };
     let _left = exchange.shared.queues.leave(number);
@@ -187,48 +178,33 @@ fn leave_queue(
 }
 
 /// No digit came in time for `WaitExten`: the channel goes on, or else to the extension `t`, or is hung up.
-fn end_wait(alloc: Global, exchange: &mut Exchange, channel: &mut Channel) -> Result<(), NoMemory>
+fn end_wait(plan: &mut Directory, channel: &mut Channel)
     requires { channel.old.place.priority ≤ most_priority }
-    ensures ok { OnOk result (channel.new ≡ channels.waited exchange.old.plan channel.old) }
-    ensures err { OnErr result (channel.new ≡ channel.old) }
-    ensures same { Stays exchange.old exchange.new }
+    ensures channel { channel.new ≡ channels.waited plan.old channel.old }
+    ensures same { plan.new ≡ plan.old }
 {
     let place = &channel.place;
     let exten = place.exten.bytes();
-    if exchange
-        .plan
-        .is_found(&place.context, exten, place.priority + 1)
-    {
+    if plan.is_found(&place.context, exten, place.priority + 1) {
         go_on(channel);
-        return Ok(());
+    } else if plan.is_found(&place.context, b"t", 1) {
+        go_to_exten(channel, Exten::of_byte(b't'));
+    } else {
+        hang_up(plan, channel);
     }
-    if exchange.plan.is_found(&place.context, b"t", 1) {
-        let exten = Text::copy_of(alloc, b"t")?;
-        go_to_exten(channel, exten);
-        return Ok(());
-    }
-    make_ready(alloc, &mut exchange.spare)?;
-    hang_up(exchange, channel);
-    Ok(())
 }
 
 /// The time of a channel that waits for digits ends, and none came.
-fn end_undialled(
-    alloc: Global,
-    exchange: &mut Exchange,
-    channel: &mut Channel,
-    is_background: bool,
-) -> Result<(), NoMemory>
+fn end_undialled(plan: &mut Directory, channel: &mut Channel, is_background: bool)
     requires { channel.old.place.priority ≤ most_priority }
-    ensures ok { OnOk result (channel.new ≡ channels.undialled exchange.old.plan channel.old is_background) }
-    ensures err { OnErr result (channel.new ≡ channel.old) }
-    ensures same { Stays exchange.old exchange.new }
+    ensures channel { channel.new ≡ channels.undialled plan.old channel.old is_background }
+    ensures same { plan.new ≡ plan.old }
 {
     if is_background {
         go_on(channel);
-        return Ok(());
+    } else {
+        end_wait(plan, channel);
     }
-    end_wait(alloc, exchange, channel)
 }
 
 /// The time of a channel that waits in a queue ends.
@@ -268,10 +244,10 @@ pub(crate) fn end_time(
         } => {
             if text.bytes().is_empty() {
                 let is_background = *is_background;
-                end_undialled(alloc, exchange, channel, is_background)?;
+                end_undialled(&mut exchange.plan, channel, is_background);
             } else {
                 let digits = mem::replace(text, Text::new(Vec::new(alloc)));
-                go_to_exten(channel, digits);
+                go_to_exten(channel, Exten::new(digits));
             }
             Ok(Reply::Done)
         }
@@ -330,31 +306,22 @@ pub(crate) fn poll(
     }
 }
 
-/// The caller hangs up: the channel leaves its queue, or its talk ends, and it is hung up.
+/// The caller hangs up: the channel leaves its queue, or its talk ends, and it is hung up. It takes no memory.
 #[tactic(auto, unfolding(crate::specs::Events::hang_up_row))]
-pub(crate) fn hang_up_channel(
-    alloc: Global,
-    exchange: &mut Exchange,
-    number: u32,
-    channel: &mut Channel,
-) -> Result<Reply, NoMemory>
+pub(crate) fn hang_up_channel(exchange: &mut Exchange, number: u32, channel: &mut Channel) -> Reply
     ensures { Follows (spec.hang_up_row exchange.old.plan exchange.old.shared number channel.old)
-        exchange.old exchange.new channel.old channel.new result }
+        exchange.old exchange.new channel.old channel.new (Ok result) }
 {
     match &channel.phase {
-        Phase::Ready | Phase::Digits { .. } | Phase::Pause => {
-            make_ready(alloc, &mut exchange.spare)?
-        }
+        Phase::Ready | Phase::Digits { .. } | Phase::Pause => {}
         Phase::Queued { .. } => {
-            make_ready(alloc, &mut exchange.spare)?;
             let _left = exchange.shared.queues.leave(number);
         }
         Phase::Talking { .. } => {
-            make_ready(alloc, &mut exchange.spare)?;
             let _call = exchange.shared.queues.end_talk(number);
         }
-        Phase::Ended => return Ok(Reply::Refused(Refusal::Ended)),
+        Phase::Ended => return Reply::Refused(Refusal::Ended),
     }
-    hang_up(exchange, channel);
-    Ok(Reply::Done)
+    hang_up(&mut exchange.plan, channel);
+    Reply::Done
 }

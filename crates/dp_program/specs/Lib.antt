@@ -1,2 +1,5 @@
 pub mod Files
+pub mod Requests
+pub mod Serves
 pub mod Status
+pub mod Texts

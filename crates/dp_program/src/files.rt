@@ -1,11 +1,11 @@
 //! Files, read whole.
-ghost use Rattle.std.specs.Prelude.{◌≡◌, ℕ, List, Option, Some, None, IfErr, IfSome, true, false};
+ghost use Rattle.std.specs.Prelude.{◌≡◌, ◌||◌, List, ℕ, IfErr, None, true};
 ghost use Rattle.dp_conf.specs.Answers.{Answers};
-ghost use Rattle.dp_commands.specs.Faults.{is_write_fault};
-ghost use Rattle.dp_program.specs.Files.{length_reason, whole_text, is_read_fault};
+ghost use Rattle.dp_commands.specs.Faults.{reason_of};
+ghost use Rattle.dp_program.specs.Files.{Reads, Source, has_read_failed, is_read_fault, source};
 
 use dp_commands::{Code, PbxFault};
-use dp_conf::{Told, read_whole};
+use dp_conf::{ReadTold, Told, read_whole};
 use std::alloc::Global;
 use std::io::Read;
 use std::rt::Files;
@@ -13,20 +13,18 @@ use std::{fs, io};
 
 /// Files that are read whole.
 pub trait ReadFiles {
-    // The bytes of the file of a path, where they are known.
-    ghost bytes_at: { Self → List ℕ → Option (List ℕ) };
+    // What is known of the file of a path.
+    ghost source_at: { Self → List ℕ → Source };
 
     /// All bytes of a file.
     fn read_file(&self, alloc: Global, path: &str) -> Result<Vec<u8>, PbxFault>
-        ensures whole { (bytes : List ℕ) → bytes_at self.now path.now ≡ Some bytes
-            → Answers (λ read. read.items) length_reason result (whole_text bytes) }
+        ensures read { Reads (source_at self.now path.now) (λ text. Answers (λ read. read.items) reason_of result text) }
         ensures fault { IfErr result (λ fault. is_read_fault fault ≡ true) };
 }
 
 /// Why a file could not be opened.
 fn opening_fault(error: &io::Error) -> PbxFault
-    ensures fault { is_read_fault result ≡ true }
-    ensures reason { length_reason result ≡ None }
+    ensures { is_read_fault result ≡ true }
 {
     match error.kind() {
         io::ErrorKind::OutOfMemory => PbxFault::NoMemory,
@@ -37,19 +35,31 @@ fn opening_fault(error: &io::Error) -> PbxFault
     }
 }
 
-/// All bytes of an open file.
-fn read_open<R: Read + Drop>(alloc: Global, file: R) -> Result<Vec<u8>, PbxFault>
-    ensures whole { (bytes : List ℕ) → R.remaining file ≡ Some bytes
-        → Answers (λ read. read.items) length_reason result (whole_text bytes) }
+/// All bytes of a reader.
+pub(crate) fn read_source<R: ReadTold>(alloc: Global, reader: &mut R) -> Result<Vec<u8>, PbxFault>
+    ensures read { Reads (source (R.remaining reader.old) (R.has_failed reader.new))
+        (λ text. Answers (λ read. read.items) reason_of result text) }
+    ensures told { R.has_failed reader.new ≡ (R.has_failed reader.old || has_read_failed result) }
     ensures fault { IfErr result (λ fault. is_read_fault fault ≡ true) }
 {
-    let bytes = read_whole(alloc, &mut Told::new(file))?;
+    let bytes = read_whole(alloc, reader)?;
     Ok(bytes)
 }
 
-/// The files of the system. What they hold is known to no contract.
+/// All bytes of an open file.
+fn read_open<R: Read + Drop>(alloc: Global, file: R) -> Result<Vec<u8>, PbxFault>
+    ensures read { Reads (source (R.remaining file) true) (λ text. Answers (λ read. read.items) reason_of result text) }
+    ensures fault { IfErr result (λ fault. is_read_fault fault ≡ true) }
+{
+    read_source(alloc, &mut Told::new(file))
+}
+
+/// The files of the system. What they hold is known to no contract, and each read of them may fail.
 impl<R: Files> ReadFiles for R {
-    ghost bytes_at = { λ _ _. None };
+    ghost use Rattle.std.specs.Prelude.{None, true};
+    ghost use Rattle.dp_program.specs.Files.{source};
+
+    ghost source_at = { λ _ _. source None true };
 
     fn read_file(&self, alloc: Global, path: &str) -> Result<Vec<u8>, PbxFault> {
         match fs::open(self, path) {

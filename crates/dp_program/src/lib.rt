@@ -5,6 +5,7 @@ mod fault;
 mod files;
 mod program;
 mod request;
+mod texts;
 
 pub use dp_commands::{Code, PbxFault};
 pub use fault::{finish, print_fault};

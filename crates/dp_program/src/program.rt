@@ -1,19 +1,23 @@
 //! What a request does with the files and the input.
-ghost use Rattle.std.specs.Prelude.{◌≡◌, ◌||◌, max, None, Some};
+ghost use Rattle.std.specs.Prelude.{◌≡◌, ◌≢◌, ◌||◌, max};
 ghost use Rattle.std.specs.Option.{option_map};
+ghost use Rattle.dp_commands.specs.Debug.{WritesDebug, debug_of};
 ghost use Rattle.dp_commands.specs.Faults.{is_write_failed};
-ghost use Rattle.dp_program.specs.Files as files_spec;
-ghost use Rattle.dp_program.specs.Files.{whole_text, length_reason, is_read_fault};
 ghost use Rattle.dp_commands.specs.Report.{check_of, list_of, match_of};
 ghost use Rattle.dp_commands.specs.Run.{run_of};
+ghost use Rattle.dp_program.specs.Files.{has_read_failed, source};
+ghost use Rattle.dp_program.specs.Requests.{asked, joined};
+ghost use Rattle.dp_program.specs.Serves as spec;
+ghost use Rattle.dp_program.specs.Texts.{texts_of};
 
-use crate::files::ReadFiles;
+use crate::files::{ReadFiles, read_source};
 use crate::request::Request;
+use crate::texts::{Texts, read_texts};
 use dp_board::Gate;
 use dp_commands::{
     PbxFault, check, debug_script, list_plan, match_one, run_joined, run_script, run_threads,
 };
-use dp_conf::{ReadTold, WriteTold, read_whole};
+use dp_conf::{ReadTold, WriteTold};
 use dp_machine::Reply;
 use dp_plan::Priority;
 use std::alloc::Global;
@@ -35,10 +39,11 @@ fn serve_joined<I: ReadTold, W: WriteTold>(
     input: &mut I,
     output: &mut W,
 ) -> Result<u8, PbxFault>
-    ensures serves { files_spec.RunsJoined (I.remaining input.old) (W.contents output.old) (W.contents output.new) result }
+    ensures serves { spec.RunsJoined (source (I.remaining input.old) (I.has_failed input.new)) (W.contents output.old) (W.contents output.new) result }
     ensures told { W.has_failed output.new ≡ (W.has_failed output.old || is_write_failed result) }
+    ensures heard { I.has_failed input.new ≡ (I.has_failed input.old || has_read_failed result) }
 {
-    let text = read_whole(alloc, input)?;
+    let text = read_source(alloc, input)?;
     run_joined(alloc, &text, output)
 }
 
@@ -49,7 +54,7 @@ fn serve_check<F: ReadFiles, W: WriteTold>(
     file: &str,
     output: &mut W,
 ) -> Result<u8, PbxFault>
-    ensures serves { files_spec.ReportsOn (F.bytes_at files.now file.now) check_of (W.contents output.old) (W.contents output.new) result }
+    ensures serves { spec.ReportsOn (F.source_at files.now file.now) check_of (W.contents output.old) (W.contents output.new) result }
     ensures told { W.has_failed output.new ≡ (W.has_failed output.old || is_write_failed result) }
 {
     let plan = files.read_file(alloc, file)?;
@@ -63,7 +68,7 @@ fn serve_list<F: ReadFiles, W: WriteTold>(
     file: &str,
     output: &mut W,
 ) -> Result<u8, PbxFault>
-    ensures serves { files_spec.ReportsOn (F.bytes_at files.now file.now) list_of (W.contents output.old) (W.contents output.new) result }
+    ensures serves { spec.ReportsOn (F.source_at files.now file.now) list_of (W.contents output.old) (W.contents output.new) result }
     ensures told { W.has_failed output.new ≡ (W.has_failed output.old || is_write_failed result) }
 {
     let plan = files.read_file(alloc, file)?;
@@ -80,7 +85,7 @@ fn serve_match<F: ReadFiles, W: WriteTold>(
     priority: Priority,
     output: &mut W,
 ) -> Result<u8, PbxFault>
-    ensures serves { files_spec.ReportsOn (F.bytes_at files.now file.now) (λ plan. match_of plan context.now text.now priority)
+    ensures serves { spec.ReportsOn (F.source_at files.now file.now) (λ plan. match_of plan context.now text.now priority)
         (W.contents output.old) (W.contents output.new) result }
     ensures told { W.has_failed output.new ≡ (W.has_failed output.old || is_write_failed result) }
 {
@@ -93,42 +98,6 @@ fn serve_match<F: ReadFiles, W: WriteTold>(
         priority,
         output,
     )
-}
-
-/// Runs the script of a file on the dialplan of another.
-fn serve_run<F: ReadFiles, W: WriteTold>(
-    files: &F,
-    alloc: Global,
-    file: &str,
-    script: &str,
-    output: &mut W,
-) -> Result<u8, PbxFault>
-    ensures serves { files_spec.RunsFiles (F.bytes_at files.now file.now) None (F.bytes_at files.now script.now)
-        (W.contents output.old) (W.contents output.new) result }
-    ensures told { W.has_failed output.new ≡ (W.has_failed output.old || is_write_failed result) }
-{
-    let plan = files.read_file(alloc, file)?;
-    let script = files.read_file(alloc, script)?;
-    run_script(alloc, &plan, None, &script, output)
-}
-
-/// Runs the script of a file on the dialplan of another, with the queues of a third.
-fn serve_queue_run<F: ReadFiles, W: WriteTold>(
-    files: &F,
-    alloc: Global,
-    file: &str,
-    queues: &str,
-    script: &str,
-    output: &mut W,
-) -> Result<u8, PbxFault>
-    ensures serves { files_spec.RunsFiles (F.bytes_at files.now file.now) (Some (F.bytes_at files.now queues.now))
-        (F.bytes_at files.now script.now) (W.contents output.old) (W.contents output.new) result }
-    ensures told { W.has_failed output.new ≡ (W.has_failed output.old || is_write_failed result) }
-{
-    let plan = files.read_file(alloc, file)?;
-    let queues = files.read_file(alloc, queues)?;
-    let script = files.read_file(alloc, script)?;
-    run_script(alloc, &plan, Some(&queues), &script, output)
 }
 
 /// The status of a run whose history is let go.
@@ -149,7 +118,7 @@ fn run_in_threads<W: WriteTold, R: Threads + Wait + Sync>(
     threads: u32,
     output: &mut W,
 ) -> Result<u8, PbxFault>
-    ensures shares { files_spec.SharesSome (max 1 threads) (W.contents output.old) (W.contents output.new)
+    ensures shares { spec.SharesSome (max 1 threads) (W.contents output.old) (W.contents output.new)
         (run_of plan.now (option_map (λ text. text.now) queues.entry) script.now) result }
     ensures told { W.has_failed output.new ≡ (W.has_failed output.old || is_write_failed result) }
 {
@@ -157,89 +126,94 @@ fn run_in_threads<W: WriteTold, R: Threads + Wait + Sync>(
     Ok(status_of(ran))
 }
 
-/// Runs the script of a file on the dialplan of another in so many threads.
-fn serve_thread_run<F: ReadFiles, W: WriteTold, R: Threads + Wait + Sync>(
+/// Runs the script of a run on its dialplan, in threads where their number is given.
+fn run_texts<W: WriteTold, R: Threads + Wait + Sync>(
+    rt: &R,
+    alloc: Global,
+    texts: &Texts,
+    threads: Option<u32>,
+    output: &mut W,
+) -> Result<u8, PbxFault>
+    ensures runs { spec.Runs threads (W.contents output.old) (W.contents output.new)
+        (let read = texts_of texts.now in run_of read.plan read.queues read.script) result }
+    ensures told { W.has_failed output.new ≡ (W.has_failed output.old || is_write_failed result) }
+{
+    let queues = texts.queues.as_deref();
+    match threads {
+        None => run_script(alloc, &texts.plan, queues, &texts.script, output),
+        Some(threads) => run_in_threads(
+            rt,
+            alloc,
+            &texts.plan,
+            queues,
+            &texts.script,
+            threads,
+            output,
+        ),
+    }
+}
+
+/// Runs the script of a file on the dialplan of another, with the queues of a third where one is named, in threads where
+/// their number is given.
+fn serve_run<F: ReadFiles, W: WriteTold, R: Threads + Wait + Sync>(
     rt: &R,
     files: &F,
     alloc: Global,
     file: &str,
+    queues: Option<&str>,
     script: &str,
-    threads: u32,
+    threads: Option<u32>,
     output: &mut W,
 ) -> Result<u8, PbxFault>
-    ensures serves { files_spec.SharesFiles (F.bytes_at files.now file.now) None (F.bytes_at files.now script.now) threads
+    ensures serves { spec.RunsFiles (F.source_at files.now file.now)
+        (option_map (F.source_at files.now) (option_map (λ path. path.now) queues.entry)) (F.source_at files.now script.now) threads
         (W.contents output.old) (W.contents output.new) result }
     ensures told { W.has_failed output.new ≡ (W.has_failed output.old || is_write_failed result) }
 {
-    let plan = files.read_file(alloc, file)?;
-    let script = files.read_file(alloc, script)?;
-    run_in_threads(rt, alloc, &plan, None, &script, threads, output)
+    let texts = read_texts(files, alloc, file, queues, script)?;
+    run_texts(rt, alloc, &texts, threads, output)
 }
 
-/// Runs the script of a file on the dialplan of another in so many threads, with the queues of a third.
-fn serve_queue_thread_run<F: ReadFiles, W: WriteTold, R: Threads + Wait + Sync>(
-    rt: &R,
-    files: &F,
+/// Debugs the script of a run on its dialplan, with the break of a text.
+fn debug_texts<W: WriteTold>(
     alloc: Global,
-    file: &str,
-    queues: &str,
-    script: &str,
-    threads: u32,
+    texts: &Texts,
+    held: &str,
     output: &mut W,
 ) -> Result<u8, PbxFault>
-    ensures serves { files_spec.SharesFiles (F.bytes_at files.now file.now) (Some (F.bytes_at files.now queues.now))
-        (F.bytes_at files.now script.now) threads (W.contents output.old) (W.contents output.new) result }
+    ensures debugs { WritesDebug (W.contents output.old) (W.contents output.new)
+        (let read = texts_of texts.now in debug_of read.plan read.queues read.script held.now) result }
     ensures told { W.has_failed output.new ≡ (W.has_failed output.old || is_write_failed result) }
 {
-    let plan = files.read_file(alloc, file)?;
-    let queues = files.read_file(alloc, queues)?;
-    let script = files.read_file(alloc, script)?;
-    run_in_threads(rt, alloc, &plan, Some(&queues), &script, threads, output)
+    let queues = texts.queues.as_deref();
+    debug_script(
+        alloc,
+        &texts.plan,
+        queues,
+        &texts.script,
+        held.as_bytes(),
+        output,
+    )
 }
 
-/// Debugs the script of a file on the dialplan of another, with the break of a text.
+/// Debugs the script of a file on the dialplan of another, with the queues of a third where one is named, and with the break
+/// of a text.
 fn serve_debug<F: ReadFiles, W: WriteTold>(
     files: &F,
     alloc: Global,
     file: &str,
+    queues: Option<&str>,
     script: &str,
     held: &str,
     output: &mut W,
 ) -> Result<u8, PbxFault>
-    ensures serves { files_spec.DebugsFiles (F.bytes_at files.now file.now) None (F.bytes_at files.now script.now) held.now
+    ensures serves { spec.DebugsFiles (F.source_at files.now file.now)
+        (option_map (F.source_at files.now) (option_map (λ path. path.now) queues.entry)) (F.source_at files.now script.now) held.now
         (W.contents output.old) (W.contents output.new) result }
     ensures told { W.has_failed output.new ≡ (W.has_failed output.old || is_write_failed result) }
 {
-    let plan = files.read_file(alloc, file)?;
-    let script = files.read_file(alloc, script)?;
-    debug_script(alloc, &plan, None, &script, held.as_bytes(), output)
-}
-
-/// Debugs the script of a file on the dialplan of another, with the queues of a third and the break of a text.
-fn serve_queue_debug<F: ReadFiles, W: WriteTold>(
-    files: &F,
-    alloc: Global,
-    file: &str,
-    queues: &str,
-    script: &str,
-    held: &str,
-    output: &mut W,
-) -> Result<u8, PbxFault>
-    ensures serves { files_spec.DebugsFiles (F.bytes_at files.now file.now) (Some (F.bytes_at files.now queues.now))
-        (F.bytes_at files.now script.now) held.now (W.contents output.old) (W.contents output.new) result }
-    ensures told { W.has_failed output.new ≡ (W.has_failed output.old || is_write_failed result) }
-{
-    let plan = files.read_file(alloc, file)?;
-    let queues = files.read_file(alloc, queues)?;
-    let script = files.read_file(alloc, script)?;
-    debug_script(
-        alloc,
-        &plan,
-        Some(&queues),
-        &script,
-        held.as_bytes(),
-        output,
-    )
+    let texts = read_texts(files, alloc, file, queues, script)?;
+    debug_texts(alloc, &texts, held, output)
 }
 
 /// Does what was asked for, and gives the status: the files are read first, and then their texts.
@@ -249,13 +223,15 @@ pub fn serve<F: ReadFiles, I: ReadTold, W: WriteTold, R: Threads + Wait + Sync>(
     rt: &R,
     files: &F,
     alloc: Global,
-    request: Request<'_>,
+    request: &Request<'_>,
     input: &mut I,
     output: &mut W,
 ) -> Result<u8, PbxFault>
-    ensures serves { files_spec.Serves (F.bytes_at files.now) (I.remaining input.old) request.entry
+    ensures serves { spec.Serves (F.source_at files.now) (source (I.remaining input.old) (I.has_failed input.new)) (asked request.now)
         (W.contents output.old) (W.contents output.new) result }
     ensures told { W.has_failed output.new ≡ (W.has_failed output.old || is_write_failed result) }
+    ensures heard { I.has_failed input.new ≡ (I.has_failed input.old || spec.fails_on_input (asked request.now) result) }
+    ensures unread { asked request.now ≢ joined → input.new ≡ input.old }
 {
     match request {
         Request::Joined => serve_joined(alloc, input, output),
@@ -266,32 +242,18 @@ pub fn serve<F: ReadFiles, I: ReadTold, W: WriteTold, R: Threads + Wait + Sync>(
             context,
             text,
             priority,
-        } => serve_match(files, alloc, file, context, text, priority, output),
-        Request::Run { file, script } => serve_run(files, alloc, file, script, output),
-        Request::QueueRun {
-            file,
-            queues,
-            script,
-        } => serve_queue_run(files, alloc, file, queues, script, output),
-        Request::ThreadRun {
-            file,
-            script,
-            threads,
-        } => serve_thread_run(rt, files, alloc, file, script, threads, output),
-        Request::QueueThreadRun {
+        } => serve_match(files, alloc, file, context, text, *priority, output),
+        Request::Run {
             file,
             queues,
             script,
             threads,
-        } => serve_queue_thread_run(rt, files, alloc, file, queues, script, threads, output),
-        Request::Debug { file, script, held } => {
-            serve_debug(files, alloc, file, script, held, output)
-        }
-        Request::QueueDebug {
+        } => serve_run(rt, files, alloc, file, *queues, script, *threads, output),
+        Request::Debug {
             file,
             queues,
             script,
             held,
-        } => serve_queue_debug(files, alloc, file, queues, script, held, output),
+        } => serve_debug(files, alloc, file, *queues, script, held, output),
     }
 }

@@ -21,40 +21,19 @@ pub enum Request<'a> {
         text: &'a str,
         priority: Priority,
     },
-    /// `run FILE SCRIPT`: to run a script on a dialplan.
+    /// `run [--queues QUEUES] [--threads N] FILE SCRIPT`: to run a script on a dialplan, with the queues of a file where one
+    /// is named, and in so many threads where a number is given.
     Run {
         file: &'a str,
+        queues: Option<&'a str>,
         script: &'a str,
+        threads: Option<u32>,
     },
-    /// `run --queues QUEUES FILE SCRIPT`: to run a script on a dialplan, with the queues of a file.
-    QueueRun {
-        file: &'a str,
-        queues: &'a str,
-        script: &'a str,
-    },
-    /// `run --threads N FILE SCRIPT`: to run a script on a dialplan in so many threads.
-    ThreadRun {
-        file: &'a str,
-        script: &'a str,
-        threads: u32,
-    },
-    /// `run --queues QUEUES --threads N FILE SCRIPT`: the same with the queues of a file.
-    QueueThreadRun {
-        file: &'a str,
-        queues: &'a str,
-        script: &'a str,
-        threads: u32,
-    },
-    /// `debug --break BREAK FILE SCRIPT`: to run a script on a dialplan, with a halt at each step where the break holds.
+    /// `debug [--queues QUEUES] --break BREAK FILE SCRIPT`: to run a script on a dialplan, with the queues of a file where one
+    /// is named, and with a halt at each step where the break holds.
     Debug {
         file: &'a str,
-        script: &'a str,
-        held: &'a str,
-    },
-    /// `debug --queues QUEUES --break BREAK FILE SCRIPT`: the same with the queues of a file.
-    QueueDebug {
-        file: &'a str,
-        queues: &'a str,
+        queues: Option<&'a str>,
         script: &'a str,
         held: &'a str,
     },

@@ -8,10 +8,10 @@ use Rattle.dp_queue.specs.Queues.{QueuesOf}
 use Rattle.dp_queue.specs.declared.join.Join.{Join}
 use Rattle.dp_queue.specs.declared.join.Join.TheVariants.{Unknown, Empty, Full, Joined}
 use Rattle.dp_app.specs.Keeping.{cell_kept, not_parked, queues_kept, store_kept}
-use Rattle.dp_app.specs.Laws.{IsGoing, IsLawfulRow, KeepsQueues, KeepsUntouched, MayGo, waiting_after, waiting_lists}
+use Rattle.dp_app.specs.Laws.{ParksNowhere, IsLawfulRow, KeepsQueues, KeepsUntouched, MayGo, waiting_after, waiting_lists}
 use Rattle.dp_app.specs.StoreKept.{set_kept}
 use Rattle.dp_app.specs.declared.cell.Cell.{Cell}
-use Rattle.dp_app.specs.declared.going.Move.TheVariants.{Next, Park, Hang}
+use Rattle.dp_app.specs.declared.moves.Move.TheVariants.{Next, Park, Hang}
 use Rattle.dp_app.specs.declared.phase.Phase.{Phase}
 use Rattle.dp_app.specs.declared.touch.Touch.{Touch}
 use Rattle.dp_qapps.specs.Membership as membership
@@ -138,11 +138,11 @@ module _ (cell : Cell) (goes_on has_timer : Bool) where
   asked_waits (Joined number) = queued_waits number cell.is_closing
 
   -- one that is closing does not wait
-  queued_closes : (number : ℕ) (b : Bool) (queues : QueuesOf) → b ≡ true → IsGoing (queueing.queued b cell queues number goes_on has_timer).next
+  queued_closes : (number : ℕ) (b : Bool) (queues : QueuesOf) → b ≡ true → ParksNowhere (queueing.queued b cell queues number goes_on has_timer).next
   queued_closes number true queues closing = tt
   queued_closes number false queues closing = absurd (false_is_true closing)
 
-  asked_closes : (queues : QueuesOf) (j : Join) → cell.is_closing ≡ true → IsGoing (queueing.asked cell goes_on has_timer queues j).next
+  asked_closes : (queues : QueuesOf) (j : Join) → cell.is_closing ≡ true → ParksNowhere (queueing.asked cell goes_on has_timer queues j).next
   asked_closes queues Unknown closing = tt
   asked_closes queues Empty closing = tt
   asked_closes queues Full closing = tt

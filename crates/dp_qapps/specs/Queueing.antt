@@ -7,7 +7,7 @@ use Rattle.dp_queue.specs.declared.join.Join.{Join}
 use Rattle.dp_queue.specs.declared.join.Join.TheVariants.{Unknown, Empty, Full, Joined}
 use Rattle.dp_app.specs.Rows.{Outcome, Row}
 use Rattle.dp_app.specs.declared.cell.Cell.{Cell}
-use Rattle.dp_app.specs.declared.going.Move.TheVariants.{Hang, Park}
+use Rattle.dp_app.specs.declared.moves.Move.TheVariants.{Hang, Park}
 use Rattle.dp_app.specs.declared.phase.Phase.TheVariants.{Queued}
 use Rattle.dp_qapps.specs.Reports.{part, reported}
 

@@ -7,7 +7,7 @@ use Rattle.dp_vars.specs.Sights.{channel_name}
 use Rattle.dp_vars.specs.Stores.{set}
 use Rattle.dp_app.specs.Rows.{Outcome}
 use Rattle.dp_app.specs.declared.cell.Cell.{Cell}
-use Rattle.dp_app.specs.declared.going.Move.TheVariants.{Next}
+use Rattle.dp_app.specs.declared.moves.Move.TheVariants.{Next}
 
 -- the part of a number, from 0; the empty text where there are not so many
 abbrev pub part : ℕ → List (List ℕ) → List ℕ

@@ -1,5 +1,5 @@
 -- The agents behind a change of states.
-use Rattle.std.proofs.Common.{◌≡◌, ℕ, zero, suc, ◌<◌, Bool, true, false, ◌||◌, List, [], ◌∷◌, Option, refl, length, ap, ◌∙◌, arith}
+use Rattle.std.proofs.Common.{◌≡◌, ℕ, zero, suc, ◌<◌, Bool, true, false, ◌||◌, if◌then◌else◌, List, [], ◌∷◌, Option, refl, length, ap, ◌∙◌, arith}
 use Rattle.std.specs.Option.{option_map, unwrap_or}
 use Rattle.dp_queue.specs.Agents.{state_at, rings_for, is_idle, is_rung, with_state, with_state_at, freed_state, all_freed}
 use Rattle.dp_queue.specs.declared.agent.Agent.{Agent}
@@ -37,6 +37,27 @@ is_rung-same n s [] c same = refl
 is_rung-same zero s (a ∷ as') c same = ap (λ (b : Bool). b || is_rung as' c) same
 is_rung-same (suc n) s (a ∷ as') c same = ap (λ (b : Bool). rings_for c a.state || b) (is_rung-same n s as' c same)
 
+-- either or true is true
+pub or_true : (b : Bool) → (b || true) ≡ true
+or_true true = refl
+or_true false = refl
+
+-- where none rings for the channel, none becomes idle
+pub all_freed-unrung : (c : ℕ) (agents : List Agent) → is_rung agents c ≡ false → all_freed c agents ≡ agents
+all_freed-unrung c [] none = refl
+all_freed-unrung c (a ∷ as') none = by (rings_for c a.state) refl none (all_freed-unrung c as')
+  where
+    by : (b : Bool) → rings_for c a.state ≡ b → (b || is_rung as' c) ≡ false → (is_rung as' c ≡ false → all_freed c as' ≡ as')
+        → all_freed c (a ∷ as') ≡ a ∷ as'
+    by true rings none rest = absurd (cc)
+    by false silent none rest = (λ i. with_state (if silent i then Idle else a.state) a ∷ rest none i)
+
+-- where one rings for it, some agent does
+pub is_rung-some : (agents : List Agent) (c k : ℕ) → rings_for c (state_at agents k) ≡ true → is_rung agents c ≡ true
+is_rung-some [] c k rings = absurd (cc)
+is_rung-some (a ∷ as') c zero rings = ap (λ (b : Bool). b || is_rung as' c) rings
+is_rung-some (a ∷ as') c (suc k) rings = ap (λ (b : Bool). rings_for c a.state || b) (is_rung-some as' c k rings) ∙ or_true (rings_for c a.state)
+
 -- an agent that comes to ring for it makes the channel rung
 pub is_rung-set : (n : ℕ) (s : AgentState) (agents : List Agent) (c : ℕ) → n < length agents → rings_for c s ≡ true
     → is_rung (with_state_at n s agents) c ≡ true
@@ -44,7 +65,3 @@ is_rung-set n s [] c within rings = absurd (omega (arith, within))
 is_rung-set zero s (a ∷ as') c within rings = ap (λ (b : Bool). b || is_rung as' c) rings
 is_rung-set (suc n) s (a ∷ as') c within rings =
     ap (λ (b : Bool). rings_for c a.state || b) (is_rung-set n s as' c (omega (arith, within)) rings) ∙ or_true (rings_for c a.state)
-  where
-    or_true : (b : Bool) → (b || true) ≡ true
-    or_true true = refl
-    or_true false = refl

@@ -1,7 +1,8 @@
 -- Lists with one element changed or left out.
-use Rattle.std.proofs.Common.{◌≡◌, ℕ, zero, suc, ◌+◌, ◌<◌, ◌≤◌, Bool, true, false, not, List, [], ◌∷◌, ◌++◌, Option, Some, None, refl, sym, length, get_or, set, ap, ◌∙◌, arith, if◌then◌else◌, slice_get, take, drop, nat_lt, IsSome, OnSome, OnOk, Result, Ok, Err}
-use Rattle.std.specs.List.{position_or_len, position, remove}
-use Rattle.std.proofs.lemmas.Option.{cond_some}
+use Rattle.std.proofs.Common.{◌≡◌, ℕ, zero, suc, ◌+◌, ◌<◌, ◌≤◌, Bool, true, false, not, List, [], ◌∷◌, ◌++◌, Option, Some, None, refl, sym, length, get_or, set, ap, ◌∙◌, arith, if◌then◌else◌, slice_get, take, drop, nat_lt, IsSome, OnSome, OnOk, Result, Ok, Err, subst}
+use Rattle.std.proofs.lemmas.List.Elements.{All-cons, All-head, All-tail}
+use Rattle.std.specs.List.{All, position_or_len, position, remove}
+use Rattle.std.proofs.lemmas.Option.{cond_some, same_Some}
 use borrow.Author.Tests.{ltb-true, ltb-false}
 use Rattle.std.specs.Option.{option_map}
 use Rattle.dp_queue.specs.Changes.{changed_at, without}
@@ -37,6 +38,34 @@ module _ {X : Type 0} where
   slice_get-changed_other change (suc place) zero (x ∷ xs) other = refl
   slice_get-changed_other change (suc place) (suc k) (x ∷ xs) other =
       slice_get-changed_other change place k xs (λ same. other (ap suc same))
+
+  -- two changes that do the same at the place
+  pub changed_at-same : (f g : X → X) (place : ℕ) (xs : List X) (x : X) → slice_get xs place ≡ Some x → f x ≡ g x → changed_at f place xs ≡ changed_at g place xs
+  changed_at-same f g place [] x here same = refl
+  changed_at-same f g zero (y ∷ xs) x here same =
+      let is : y ≡ x = same_Some y x here in ap (λ (t : X). t ∷ xs) (ap f is ∙ same ∙ sym (ap g is))
+  changed_at-same f g (suc place) (y ∷ xs) x here same = ap (λ (t : List X). y ∷ t) (changed_at-same f g place xs x here same)
+
+  -- what holds of each element holds of each behind a change of one that keeps it
+  pub all-changed_at : (P : X → Type 0) (change : X → X) (place : ℕ) (xs : List X)
+      → ((x : X) → slice_get xs place ≡ Some x → P x → P (change x)) → All P xs → All P (changed_at change place xs)
+  all-changed_at P change place [] keeps each = each
+  all-changed_at P change zero (x ∷ xs) keeps each =
+      All-cons P (change x) xs (keeps x refl (All-head P x xs each)) (All-tail P x xs each)
+  all-changed_at P change (suc place) (x ∷ xs) keeps each =
+      All-cons P x (changed_at change place xs) (All-head P x xs each) (all-changed_at P change place xs keeps (All-tail P x xs each))
+
+  -- and of the element at a place
+  pub all-at : (P : X → Type 0) (xs : List X) (place : ℕ) (x : X) → slice_get xs place ≡ Some x → All P xs → P x
+  all-at P [] place x here each = absurd (cc)
+  all-at P (y ∷ ys) zero x here each = subst P (same_Some y x here) (All-head P y ys each)
+  all-at P (y ∷ ys) (suc place) x here each = all-at P ys place x here (All-tail P y ys each)
+
+  -- a change past the end changes nothing
+  pub changed_at-past : (change : X → X) (place : ℕ) (xs : List X) → length xs ≤ place → changed_at change place xs ≡ xs
+  changed_at-past change place [] past = refl
+  changed_at-past change zero (x ∷ xs) past = absurd (omega (arith, past))
+  changed_at-past change (suc place) (x ∷ xs) past = ap (λ (t : List _). x ∷ t) (changed_at-past change place xs (omega (arith, past)))
 
   -- the element at its first place is the one that is left out
   pub remove-first : (p : X → Bool) (xs : List X) → position_or_len p xs < length xs → remove xs (position_or_len p xs) ≡ without p xs

@@ -1,22 +1,23 @@
 -- Waiting lists and agents stay linked, and seats stay those of the waiting lists, behind each change.
-use Rattle.std.proofs.Common.{◌≡◌, ℕ, zero, suc, ◌+◌, ◌<◌, ◌≤◌, ◌==◌, Bool, true, false, ◌||◌, List, [], ◌∷◌, ◌++◌, Option, Some, None, refl, sym, length, ap, ◌∙◌, arith, if◌then◌else◌, subst, nat_lt}
+use Rattle.std.proofs.Common.{◌≡◌, ℕ, zero, suc, ◌+◌, ◌<◌, ◌≤◌, ◌==◌, Bool, true, false, ◌||◌, List, [], ◌∷◌, ◌++◌, Option, Some, None, refl, sym, length, ap, ◌∙◌, arith, if◌then◌else◌, subst, nat_lt, IsSome}
 use Rattle.std.proofs.lemmas.List.{length-map}
 use Rattle.std.proofs.lemmas.Option.{same_Some, none-some}
 use Rattle.std.specs.Option.{option_map}
 use Rattle.dp_queue.specs.Agents.{agent_number, state_at, is_idle, is_rung, is_talking, rings_for, talks_with, with_state_at, freed_state, all_freed}
 use Rattle.dp_queue.specs.Changes.{changed_at}
-use Rattle.dp_queue.specs.Good.{IsRight, AreLinked}
+use Rattle.dp_queue.specs.Good.{IsRight, AreMembers, AreLinked}
 use Rattle.dp_queue.specs.Joining.{waits_in, times_waiting, with_caller, without_caller}
-use Rattle.dp_queue.specs.Members.{with_agent}
+use Rattle.dp_queue.specs.Members.{is_member_at, new_member, with_member, with_agent}
 use Rattle.dp_queue.specs.Queues.{QueueOf}
-use Rattle.dp_queue.specs.Seats.{seat_at, seat_in, AreSeated, ReplacesSeat}
+use Rattle.dp_queue.specs.Seats.{SeatsOf, seat_at, seat_in, AreSeated, ReplacesSeat}
 use Rattle.dp_queue.specs.declared.agent.Agent.{Agent}
 use Rattle.dp_queue.specs.declared.agent.AgentState.{AgentState}
 use Rattle.dp_queue.specs.declared.agent.AgentState.TheVariants.{Idle, Ringing, Talking}
 use Rattle.dp_queue.specs.declared.seat.Seat.{Seat}
 use Rattle.dp_queue.proofs.AgentLemmas.{state_at-same, state_at-other, state_at-freed, state_at-within, is_rung-same}
 use Rattle.dp_queue.proofs.ChangeLemmas.{length-changed_at}
-use Rattle.dp_queue.proofs.WaitingLemmas.{waits_in-joined, times-joined, times-none, waits_in-left, waits_in-within, times-left, waits_in-same, times-same, lines}
+use Rattle.dp_queue.proofs.MemberLemmas.{keeps-same, members-changed, members-freed, members-set, members-added}
+use Rattle.dp_queue.proofs.WaitingLemmas.{waits_in-joined, times-joined, times-none, waits_in-left, waits_in-within, times-left, waits_in-same, times-same, lines, lines-changed_at}
 use borrow.Author.Tests.{eqb-true, eq-eqb}
 
 -- cases of a test, with what it says
@@ -138,6 +139,7 @@ module _ (qs : List QueueOf) (as' : List Agent) (good : AreLinked qs as') where
         (λ d. waits_in-joined qs c k d within nowhere) (right-unrung qs c (state_at as' a) nowhere (good.rings_right a))
         (is_talking-none as' c silent a) (good.rings_right a);
     talks_once = good.talks_once;
+    members = members-changed (with_caller c) k qs (changed_at (with_caller c) k qs) as' (keeps-same (with_caller c) (λ q. refl)) refl good.members;
   }
     where
       once : (d : ℕ) (b : Bool) → (c == d) ≡ b → times_waiting (changed_at (with_caller c) k qs) d ≤ 1
@@ -164,6 +166,8 @@ module _ (qs : List QueueOf) (as' : List Agent) (good : AreLinked qs as') where
         (talks_with-freed c c (state_at as' a) ∙ right-untalked qs c k (state_at as' a) waits (good.rings_right a))
         (right-freed qs c (state_at as' a) (good.rings_right a)));
     talks_once = λ a b d first second. good.talks_once a b d (as_before d a first) (as_before d b second);
+    members = members-freed c (changed_at (without_caller c) k qs) as'
+        (members-changed (without_caller c) k qs (changed_at (without_caller c) k qs) as' (keeps-same (without_caller c) (λ q. refl)) refl good.members);
   }
     where
       as_before : (d a : ℕ) → talks_with d (state_at (all_freed c as') a) ≡ true → talks_with d (state_at as' a) ≡ true
@@ -180,6 +184,7 @@ module _ (qs : List QueueOf) (as' : List Agent) (good : AreLinked qs as') where
         (λ (other : (b == a) ≡ false). let P : AgentState → Type 0 = λ t. IsRight qs t in
         subst P (sym (is_old b other)) (good.rings_right b));
     talks_once = λ x y c first second. pairs x y c (x == a) (y == a) refl refl first second;
+    members = members-set a s qs as' good.members;
   }
     where
       is_new : (b : ℕ) → b ≡ a → state_at (with_state_at a s as') b ≡ s
@@ -208,23 +213,28 @@ module _ (qs : List QueueOf) (as' : List Agent) (good : AreLinked qs as') where
           good.talks_once x y c (ap (talks_with c) (sym (is_old x e)) ∙ first) (ap (talks_with c) (sym (is_old y f)) ∙ second)
 
   -- the waiting lists are as before
-  pub linked-same : (ps : List QueueOf) → length ps ≡ length qs → lines ps ≡ lines qs → AreLinked ps as'
-  linked-same ps same kept = record {
+  pub linked-same : (ps : List QueueOf) → length ps ≡ length qs → lines ps ≡ lines qs → AreMembers ps as' → AreLinked ps as'
+  linked-same ps same kept members = record {
     waits_once = λ d. let e : times_waiting ps d ≡ times_waiting qs d = times-same ps qs d kept in omega (arith, e, good.waits_once d);
     rings_right = λ a. right-same qs ps (state_at as' a) same (λ d. waits_in-same ps qs d kept) (good.rings_right a);
     talks_once = good.talks_once;
+    members = members;
   }
 
-  -- the agents do what they did
-  pub linked-mapped : (bs : List Agent) → ((a : ℕ) → state_at bs a ≡ state_at as' a) → AreLinked qs bs
-  linked-mapped bs same = record {
-    waits_once = good.waits_once;
-    rings_right = λ a. let P : AgentState → Type 0 = λ s. IsRight qs s in subst P (sym (same a)) (good.rings_right a);
+  -- the waiting lists are as before, and the agents do what they did
+  pub linked-mapped : (ps : List QueueOf) (bs : List Agent) → length ps ≡ length qs → lines ps ≡ lines qs
+      → ((a : ℕ) → state_at bs a ≡ state_at as' a) → AreMembers ps bs → AreLinked ps bs
+  linked-mapped ps bs same_length kept same members = record {
+    waits_once = λ d. let e : times_waiting ps d ≡ times_waiting qs d = times-same ps qs d kept in omega (arith, e, good.waits_once d);
+    rings_right = λ a.
+        let P : AgentState → Type 0 = λ s. IsRight ps s in
+        subst P (sym (same a)) (right-same qs ps (state_at as' a) same_length (λ d. waits_in-same ps qs d kept) (good.rings_right a));
+    members = members;
     talks_once = λ a b c first second. good.talks_once a b c (ap (talks_with c) (sym (same a)) ∙ first) (ap (talks_with c) (sym (same b)) ∙ second);
   }
 
 -- the seat of one channel is put in its place, and those of the others stay right
-pub seated-replaced : (seats new : List (Option Seat)) (qs ps : List QueueOf) (as' bs : List Agent) (c : ℕ) (s : Option Seat)
+pub seated-replaced : (seats new : SeatsOf) (qs ps : List QueueOf) (as' bs : List Agent) (c : ℕ) (s : Option Seat)
     → AreSeated seats qs as' → ReplacesSeat c s seats new → s ≡ option_map (seat_in bs c) (waits_in ps c)
     → ((d : ℕ) → (c == d) ≡ false → waits_in ps d ≡ waits_in qs d)
     → ((d : ℕ) → (c == d) ≡ false → is_rung bs d ≡ is_rung as' d) → AreSeated new ps bs
@@ -239,25 +249,25 @@ seated-replaced seats new qs ps as' bs c s seated put here waits rung d = by (c 
         ∙ (λ i. option_map (λ k. record { queue = k; is_rung = sym (rung d other) i }) (sym (waits d other) i))
 
 -- no seat changes
-pub seated-same : (seats new : List (Option Seat)) (qs ps : List QueueOf) (as' bs : List Agent)
+pub seated-same : (seats new : SeatsOf) (qs ps : List QueueOf) (as' bs : List Agent)
     → AreSeated seats qs as' → ((d : ℕ) → seat_at new d ≡ seat_at seats d)
     → ((d : ℕ) → waits_in ps d ≡ waits_in qs d) → ((d : ℕ) → is_rung bs d ≡ is_rung as' d) → AreSeated new ps bs
 seated-same seats new qs ps as' bs seated kept waits rung d =
     kept d ∙ seated d ∙ (λ i. option_map (λ k. record { queue = k; is_rung = sym (rung d) i }) (sym (waits d) i))
 
 -- the waiting lists and the agents are linked, and the seats are theirs
-abbrev pub AreKept : List (Option Seat) → List QueueOf → List Agent → Type 0
+abbrev pub AreKept : SeatsOf → List QueueOf → List Agent → Type 0
 AreKept seats qs as' = AreLinked qs as' × AreSeated seats qs as'
 
 -- the same of equal lists
-pub kept-at : (seats : List (Option Seat)) (qs ps : List QueueOf) (as' bs : List Agent) → ps ≡ qs → bs ≡ as' → AreKept seats qs as' → AreKept seats ps bs
+pub kept-at : (seats : SeatsOf) (qs ps : List QueueOf) (as' bs : List Agent) → ps ≡ qs → bs ≡ as' → AreKept seats qs as' → AreKept seats ps bs
 kept-at seats qs ps as' bs same_queues same_agents kept =
     let P : List QueueOf → Type 0 = λ x. AreKept seats x bs in
     let Q : List Agent → Type 0 = λ x. AreKept seats qs x in
     subst P (sym same_queues) (subst Q (sym same_agents) kept)
 
 -- a channel that has a seat waits in its queue
-pub seated-waits : (seats : List (Option Seat)) (qs : List QueueOf) (as' : List Agent) (c : ℕ) (s : Seat) → AreSeated seats qs as'
+pub seated-waits : (seats : SeatsOf) (qs : List QueueOf) (as' : List Agent) (c : ℕ) (s : Seat) → AreSeated seats qs as'
     → seat_at seats c ≡ Some s → waits_in qs c ≡ Some s.queue
 seated-waits seats qs as' c s seated here = by (waits_in qs c) (sym (seated c) ∙ here)
   where
@@ -265,15 +275,21 @@ seated-waits seats qs as' c s seated here = by (waits_in qs c) (sym (seated c) �
     by None e = absurd (none-some s e)
     by (Some k) e = ap (λ (t : Seat). Some t.queue) (same_Some (seat_in as' c k) s e)
 
--- one that waits has a seat, and its number is within
-pub seated-within : (seats : List (Option Seat)) (qs : List QueueOf) (as' : List Agent) (c k : ℕ) → AreSeated seats qs as'
-    → waits_in qs c ≡ Some k → c < length seats
-seated-within seats qs as' c k seated waits = by seats c (seated c ∙ ap (option_map (seat_in as' c)) waits)
+-- the seat says whether an agent rings for it
+pub seated-rung : (seats : SeatsOf) (qs : List QueueOf) (as' : List Agent) (c : ℕ) (s : Seat) → AreSeated seats qs as'
+    → seat_at seats c ≡ Some s → s.is_rung ≡ is_rung as' c
+seated-rung seats qs as' c s seated here = by (waits_in qs c) (sym (seated c) ∙ here)
   where
-    by : (ss : List (Option Seat)) (n : ℕ) → seat_at ss n ≡ Some (seat_in as' c k) → n < length ss
-    by [] n e = absurd (none-some (seat_in as' c k) e)
-    by (x ∷ ss) zero e = omega arith
-    by (x ∷ ss) (suc n) e = let rest : n < length ss = by ss n e in omega (arith, rest)
+    by : (o : Option ℕ) → option_map (seat_in as' c) o ≡ Some s → s.is_rung ≡ is_rung as' c
+    by None e = absurd (none-some s e)
+    by (Some k) e = ap (λ (t : Seat). t.is_rung) (sym (same_Some (seat_in as' c k) s e))
+
+-- one that waits has a seat
+pub seated-some : (seats : SeatsOf) (qs : List QueueOf) (as' : List Agent) (c k : ℕ) → AreSeated seats qs as'
+    → waits_in qs c ≡ Some k → IsSome (seat_at seats c)
+seated-some seats qs as' c k seated waits =
+    let here : seat_at seats c ≡ Some (seat_in as' c k) = seated c ∙ ap (option_map (seat_in as' c)) waits in
+    subst IsSome (sym here) refl
 
 -- numbers of another channel
 other_waits : (b : Bool) (o p : Option ℕ) → b ≡ false → (if b then o else p) ≡ p
@@ -287,7 +303,7 @@ same_waits false o p e = absurd (cc)
 self_eq : (n : ℕ) → (n == n) ≡ true
 self_eq n = eq-eqb n n refl
 
-module _ (seats new : List (Option Seat)) (qs ps : List QueueOf) (as' : List Agent) (kept : AreKept seats qs as') where
+module _ (seats new : SeatsOf) (qs ps : List QueueOf) (as' : List Agent) (kept : AreKept seats qs as') where
   -- a channel joins
   pub kept-joined : (c k : ℕ) → waits_in qs c ≡ None → is_talking as' c ≡ false → k < length qs → ps ≡ changed_at (with_caller c) k qs
       → ReplacesSeat c (Some (record { queue = k; is_rung = false })) seats new → AreKept new ps as'
@@ -320,9 +336,9 @@ module _ (seats new : List (Option Seat)) (qs ps : List QueueOf) (as' : List Age
       gone d = waits_in-left qs c k d (kept.0.waits_once c) waits
 
   -- the waiting lists stay
-  pub kept-same : length ps ≡ length qs → lines ps ≡ lines qs → AreKept seats ps as'
-  kept-same same kept_lines = (
-    linked-same qs as' kept.0 ps same kept_lines,
+  pub kept-same : length ps ≡ length qs → lines ps ≡ lines qs → AreMembers ps as' → AreKept seats ps as'
+  kept-same same kept_lines members = (
+    linked-same qs as' kept.0 ps same kept_lines members,
     seated-same seats seats qs ps as' as' kept.1 (λ d. refl) (λ d. waits_in-same ps qs d kept_lines) (λ d. refl),
   )
 
@@ -340,7 +356,7 @@ pub talking-right : (qs : List QueueOf) (as' : List Agent) (a k c : ℕ) → Are
 talking-right qs as' a k c good is = let P : AgentState → Type 0 = λ s. IsRight qs s in let right : IsRight qs (Talking k c) = subst P is (good.rings_right a) in right
 
 -- an agent answers
-pub kept-answered : (seats new : List (Option Seat)) (qs ps : List QueueOf) (as' bs cs : List Agent) (a c k : ℕ) → AreKept seats qs as'
+pub kept-answered : (seats new : SeatsOf) (qs ps : List QueueOf) (as' bs cs : List Agent) (a c k : ℕ) → AreKept seats qs as'
     → state_at as' a ≡ Ringing k c → ps ≡ changed_at (without_caller c) k qs → bs ≡ all_freed c as' → cs ≡ with_state_at a (Talking k c) bs
     → ReplacesSeat c None seats new → AreKept new ps cs
 kept-answered seats new qs ps as' bs cs a c k kept is left freed talks put = kept-at new ps ps (with_state_at a (Talking k c) bs) cs refl talks (
@@ -379,7 +395,7 @@ kept-answered seats new qs ps as' bs cs a c k kept is left freed talks put = kep
         ∙ right-untalked qs d k (state_at as' b) (ap (waits_in qs) (sym (eqb-true c d same)) ∙ waits) (kept.0.rings_right b)
 
 -- an agent declines
-pub kept-declined : (seats new : List (Option Seat)) (qs : List QueueOf) (as' bs : List Agent) (a c k : ℕ) (rung : Bool) → AreKept seats qs as'
+pub kept-declined : (seats new : SeatsOf) (qs : List QueueOf) (as' bs : List Agent) (a c k : ℕ) (rung : Bool) → AreKept seats qs as'
     → state_at as' a ≡ Ringing k c → bs ≡ with_state_at a Idle as' → rung ≡ is_rung bs c
     → ReplacesSeat c (Some (record { queue = k; is_rung = rung })) seats new → AreKept new qs bs
 kept-declined seats new qs as' bs a c k rung kept is idle marked put = (
@@ -392,15 +408,15 @@ kept-declined seats new qs as' bs a c k rung kept is idle marked put = (
 )
 
 -- a talk ends
-pub kept-ended : (seats : List (Option Seat)) (qs ps : List QueueOf) (as' bs : List Agent) (a c k : ℕ) → AreKept seats qs as'
-    → state_at as' a ≡ Talking k c → bs ≡ with_state_at a Idle as' → length ps ≡ length qs → lines ps ≡ lines qs → AreKept seats ps bs
-kept-ended seats qs ps as' bs a c k kept is idle same kept_lines = kept-at seats ps ps (with_state_at a Idle as') bs refl idle
+pub kept-ended : (seats : SeatsOf) (qs ps : List QueueOf) (as' bs : List Agent) (a c k : ℕ) → AreKept seats qs as'
+    → state_at as' a ≡ Talking k c → bs ≡ with_state_at a Idle as' → length ps ≡ length qs → lines ps ≡ lines qs → AreMembers ps as' → AreKept seats ps bs
+kept-ended seats qs ps as' bs a c k kept is idle same kept_lines members = kept-at seats ps ps (with_state_at a Idle as') bs refl idle
     (kept-same seats seats qs ps (with_state_at a Idle as') (
       linked-set qs as' kept.0 a Idle (busy-within as' a (Talking k c) is refl) tt (λ d talks. absurd (cc)),
       seated-same seats seats qs qs as' (with_state_at a Idle as') kept.1 (λ d. refl) (λ d. refl)
           (λ d. is_rung-same a Idle as' d (sym (ap (rings_for d) is))),
     )
-    same kept_lines)
+    same kept_lines (members-set a Idle ps as' members))
 
 -- a new agent is idle, as one that is not known
 state_at-new : (name : List ℕ) (xs : List Agent) (a : ℕ) → state_at (xs ++ record { name = name; state = Idle } ∷ []) a ≡ state_at xs a
@@ -413,15 +429,37 @@ is_rung-new : (name : List ℕ) (xs : List Agent) (d : ℕ) → is_rung (xs ++ r
 is_rung-new name [] d = refl
 is_rung-new name (x ∷ xs) d = ap (λ (b : Bool). rings_for d x.state || b) (is_rung-new name xs d)
 
--- an agent comes to be known
-pub kept-added : (seats : List (Option Seat)) (qs ps : List QueueOf) (as' bs : List Agent) (name : List ℕ) → AreKept seats qs as'
-    → bs ≡ with_agent as' name → length ps ≡ length qs → lines ps ≡ lines qs → AreKept seats ps bs
-kept-added seats qs ps as' bs name kept added same kept_lines = kept-at seats ps ps (with_agent as' name) bs refl added
-    (kept-same seats seats qs ps (with_agent as' name) (by (nat_lt (agent_number as' name) (length as'))) same kept_lines)
+-- what agents do stays where one comes to be known
+state_at-known : (name : List ℕ) (xs : List Agent) (a : ℕ) → state_at (with_agent xs name) a ≡ state_at xs a
+state_at-known name xs a = by (nat_lt (agent_number xs name) (length xs))
   where
-    by : (b : Bool) → AreKept seats qs (if b then as' else as' ++ record { name = name; state = Idle } ∷ [])
-    by true = kept
-    by false = (
-      linked-mapped qs as' kept.0 (as' ++ record { name = name; state = Idle } ∷ []) (state_at-new name as'),
-      seated-same seats seats qs qs as' (as' ++ record { name = name; state = Idle } ∷ []) kept.1 (λ d. refl) (λ d. refl) (is_rung-new name as'),
-    )
+    by : (b : Bool) → state_at (if b then xs else xs ++ record { name = name; state = Idle } ∷ []) a ≡ state_at xs a
+    by true = refl
+    by false = state_at-new name xs a
+
+is_rung-known : (name : List ℕ) (xs : List Agent) (d : ℕ) → is_rung (with_agent xs name) d ≡ is_rung xs d
+is_rung-known name xs d = by (nat_lt (agent_number xs name) (length xs))
+  where
+    by : (b : Bool) → is_rung (if b then xs else xs ++ record { name = name; state = Idle } ∷ []) d ≡ is_rung xs d
+    by true = refl
+    by false = is_rung-new name xs d
+
+-- an agent that is no member of a queue becomes its last one
+pub kept-added : (seats : SeatsOf) (qs ps : List QueueOf) (as' bs : List Agent) (number : ℕ) (name : List ℕ) (penalty : ℕ)
+    (is_dynamic : Bool) → AreKept seats qs as' → is_member_at qs number (agent_number as' name) ≡ false
+    → ps ≡ changed_at (with_member (new_member (agent_number as' name) penalty is_dynamic)) number qs → bs ≡ with_agent as' name
+    → AreKept seats ps bs
+kept-added seats qs ps as' bs number name penalty is_dynamic kept absent added known = (
+  linked-mapped qs as' kept.0 ps bs
+      (ap length added ∙ length-changed_at change number qs) kept_lines
+      (λ a. ap (λ x. state_at x a) known ∙ state_at-known name as' a)
+      (members-added qs ps as' bs number name penalty is_dynamic absent added known kept.0.members),
+  seated-same seats seats qs ps as' bs kept.1 (λ d. refl) (λ d. waits_in-same ps qs d kept_lines)
+      (λ d. ap (λ x. is_rung x d) known ∙ is_rung-known name as' d),
+)
+  where
+    change : QueueOf → QueueOf
+    change = with_member (new_member (agent_number as' name) penalty is_dynamic)
+
+    kept_lines : lines ps ≡ lines qs
+    kept_lines = ap lines added ∙ lines-changed_at change number qs (λ q. refl)

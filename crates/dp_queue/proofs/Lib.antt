@@ -1,7 +1,12 @@
 pub mod AgentLemmas
 pub mod ChangeLemmas
 pub mod GoodLemmas
+pub mod HeldLemmas
+pub mod MemberLemmas
 pub mod OfferLemmas
+pub mod PlacesLemmas
 pub mod RefusedLemmas
 pub mod RestLemmas
+pub mod TalkLemmas
 pub mod WaitingLemmas
+pub mod WordLemmas

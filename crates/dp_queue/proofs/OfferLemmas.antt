@@ -1,59 +1,39 @@
 -- What an offer asks for, and the agents that come to ring.
-use Rattle.std.proofs.Common.{◌≡◌, ℕ, zero, suc, ◌+◌, ◌<◌, ◌==◌, nat_lt, Bool, true, false, not, ◌&&◌, ◌||◌, List, [], ◌∷◌, ◌++◌, Option, Some, None, Result, Ok, refl, sym, length, ap, ◌∙◌, arith, if◌then◌else◌, slice_get, subst, fold}
+use Rattle.std.proofs.Common.{◌≡◌, ◌≢◌, ℕ, zero, suc, ◌+◌, ◌<◌, ◌==◌, nat_lt, Bool, true, false, not, ◌&&◌, ◌||◌, List, [], ◌∷◌, ◌++◌, Option, Some, None, Result, Ok, refl, sym, length, ap, ◌∙◌, arith, if◌then◌else◌, slice_get, subst, fold, take, drop}
 use Rattle.std.proofs.lemmas.Option.{same_Some}
 use Rattle.std.proofs.lemmas.Bool.{lt-ltb}
-use Rattle.std.specs.Option.{option_map}
-use Rattle.std.specs.List.{filter, find, list_any}
+use Rattle.std.proofs.lemmas.List.Elements.{All-nil, All-cons, All-head, All-tail, All-append, All-drop, All-take, All-filter, All-weaker, filter_passes}
+use Rattle.std.specs.Option.{option_map, option_to_list}
+use Rattle.std.specs.List.{All, filter, find, list_any, position}
 use Rattle.dp_queue.specs.Agents.{state_at, is_idle, is_rung, rings_for, with_state_at}
-use Rattle.dp_queue.specs.Choices.{is_idle_at, is_candidate, least_penalty}
-use Rattle.dp_queue.specs.Good.{AreLinked}
+use Rattle.dp_queue.specs.Choices.{is_idle_at, is_candidate, least_penalty, lesser, rank, turned_at, turned, chosen}
+use Rattle.dp_queue.specs.Good.{AreKnown, StandOnce, AreLinked}
+use Rattle.dp_queue.specs.Changes.{changed_at}
 use Rattle.dp_queue.specs.Joining.{has_caller, waits_in}
-use Rattle.dp_queue.specs.Offers.{Rung, with_ring, with_candidate, rung_of, chosen_of, asked_at, asked_in, asked_by, asked_for}
+use Rattle.dp_queue.specs.Members.{is_agent}
+use Rattle.dp_queue.specs.Offers.{all_ringing, chosen_in, chosen_of, with_choice, asked_at, asked_in, asked_by, asked_for}
 use Rattle.dp_queue.specs.Queues.{QueueOf}
-use Rattle.dp_queue.specs.Seats.{AreSeated, ReplacesSeat, seat_in, is_unrung, is_unrung_in}
+use Rattle.dp_queue.specs.Seats.{SeatsOf, AreSeated, ReplacesSeat, seat_in, is_unrung, is_unrung_in}
 use Rattle.dp_queue.specs.declared.agent.Agent.{Agent}
 use Rattle.dp_queue.specs.declared.agent.AgentState.{AgentState}
 use Rattle.dp_queue.specs.declared.agent.AgentState.TheVariants.{Idle, Ringing, Talking}
+use Rattle.dp_queue.specs.declared.choice.Key.TheVariants.{Last, Calls}
 use Rattle.dp_queue.specs.declared.member.Member.{Member}
 use Rattle.dp_queue.specs.declared.offer.Asked.{Asked}
-use Rattle.dp_queue.specs.declared.seat.Seat.{Seat}
-use Rattle.dp_queue.proofs.AgentLemmas.{is_rung-same, is_rung-set}
+use Rattle.dp_queue.specs.declared.settings.Strategy.{Strategy}
+use Rattle.dp_queue.specs.declared.settings.Strategy.TheVariants.{RingAll, Linear, LeastRecent, FewestCalls, RrMemory}
+use Rattle.dp_queue.proofs.AgentLemmas.{or_true, state_at-other, is_rung-same, is_rung-set}
+use Rattle.dp_queue.proofs.ChangeLemmas.{all-at, length-changed_at}
 use Rattle.dp_queue.proofs.GoodLemmas.{AreKept, linked-set, seated-replaced, kept-same}
-use Rattle.dp_queue.proofs.WaitingLemmas.{lines, times-none, times-at, waits_in-at}
+use Rattle.dp_queue.proofs.MemberLemmas.{keeps-same, members-changed, pairs-head}
+use Rattle.dp_queue.proofs.WaitingLemmas.{lines, lines-changed_at, times-none, times-at, waits_in-at}
 use borrow.Author.Tests.{eq-eqb}
 
--- an agent that is idle is known
-pub idle-within : (as' : List Agent) (a : ℕ) → is_idle_at as' a ≡ true → a < length as'
-idle-within [] a idle = absurd (cc)
-idle-within (x ∷ as') zero idle = omega arith
-idle-within (x ∷ as') (suc a) idle = let rest : a < length as' = idle-within as' a idle in omega (arith, rest)
-
--- and rings for no channel
-pub idle-rings : (as' : List Agent) (a d : ℕ) → is_idle_at as' a ≡ true → rings_for d (state_at as' a) ≡ false
-idle-rings [] a d idle = refl
-idle-rings (x ∷ as') zero d idle = by x.state idle
-  where
-    by : (s : AgentState) → is_idle s ≡ true → rings_for d s ≡ false
-    by Idle e = refl
-    by (Ringing k e') e = absurd (cc)
-    by (Talking k e') e = refl
-idle-rings (x ∷ as') (suc a) d idle = idle-rings as' a d idle
-
--- what is idle behind a change to ringing was idle before
-still_idle : (s : AgentState) (as' : List Agent) (a n : ℕ) → is_idle_at as' a ≡ true → is_idle_at (with_state_at a s as') n ≡ true → is_idle_at as' n ≡ true
-still_idle s [] a n here idle = idle
-still_idle s (x ∷ as') zero zero here idle = here
-still_idle s (x ∷ as') zero (suc n) here idle = idle
-still_idle s (x ∷ as') (suc a) zero here idle = idle
-still_idle s (x ∷ as') (suc a) (suc n) here idle = still_idle s as' a n here idle
-
-ring_idle : (k c : ℕ) (r : Rung) (a n : ℕ) → is_idle_at (with_ring k c r a).agents n ≡ true → is_idle_at r.agents n ≡ true
-ring_idle k c r a n = by (is_idle_at r.agents a) refl
-  where
-    by : (b : Bool) → is_idle_at r.agents a ≡ b
-        → (is_idle_at (if b then record { agents = with_state_at a (Ringing k c) r.agents; count = r.count + 1 } else r).agents n ≡ true) → is_idle_at r.agents n ≡ true
-    by true here idle = still_idle (Ringing k c) r.agents a n here idle
-    by false here idle = idle
+-- an idle agent rings for no channel
+idle-rings : (s : AgentState) (d : ℕ) → is_idle s ≡ true → rings_for d s ≡ false
+idle-rings Idle d idle = refl
+idle-rings (Ringing k c) d idle = absurd (cc)
+idle-rings (Talking k c) d idle = refl
 
 -- the three parts of a candidate
 candidate_parts : (a b e : Bool) → ((a && b) && e) ≡ true → (a ≡ true) × (b ≡ true) × (e ≡ true)
@@ -62,50 +42,57 @@ candidate_parts true true false h = absurd (cc)
 candidate_parts true false e h = absurd (cc)
 candidate_parts false b e h = absurd (cc)
 
--- ringing each that may be rung by then is ringing those that may be rung at first
-pub candidates-rung : (asked : Asked) (as' : List Agent) (ms : List Member) (r : Rung)
-    → ((n : ℕ) → is_idle_at r.agents n ≡ true → is_idle_at as' n ≡ true)
-    → fold (with_candidate asked) r ms
-    ≡ fold (λ rung member. with_ring asked.queue asked.channel rung member.agent) r (filter (is_candidate as' asked.penalty) ms)
-candidates-rung asked as' [] r idle = refl
-candidates-rung asked as' (m ∷ ms) r idle = by (is_candidate as' asked.penalty m) refl
-    (candidates-rung asked as' ms (with_ring asked.queue asked.channel r m.agent) (λ n e. idle n (ring_idle asked.queue asked.channel r m.agent n e)))
-    (candidates-rung asked as' ms r idle)
-  where
-    by : (b : Bool) → is_candidate as' asked.penalty m ≡ b
-        → fold (with_candidate asked) (with_ring asked.queue asked.channel r m.agent) ms ≡ fold (λ rung member. with_ring asked.queue asked.channel rung member.agent) (with_ring asked.queue asked.channel r m.agent) (filter (is_candidate as' asked.penalty) ms)
-        → fold (with_candidate asked) r ms ≡ fold (λ rung member. with_ring asked.queue asked.channel rung member.agent) r (filter (is_candidate as' asked.penalty) ms)
-        → fold (with_candidate asked) (with_candidate asked r m) ms
-        ≡ fold (λ rung member. with_ring asked.queue asked.channel rung member.agent) r (if b then m ∷ filter (is_candidate as' asked.penalty) ms else filter (is_candidate as' asked.penalty) ms)
-    by true may rung skipped = ap (λ s. fold (with_candidate asked) s ms) same ∙ rung
-      where
-        parts : (not m.is_paused ≡ true) × (is_idle_at as' m.agent ≡ true) × ((m.penalty == asked.penalty) ≡ true)
-        parts = candidate_parts (not m.is_paused) (is_idle_at as' m.agent) (m.penalty == asked.penalty) may
+-- so a candidate is idle
+pub candidate-idle : (as' : List Agent) (penalty : ℕ) (m : Member) → is_candidate as' penalty m ≡ true → is_idle (state_at as' m.agent) ≡ true
+candidate-idle as' penalty m may = (candidate_parts (not m.is_paused) (is_idle_at as' m.agent) (m.penalty == penalty) may).1
 
-        same : with_candidate asked r m ≡ with_ring asked.queue asked.channel r m.agent
-        same = (λ i. if ((parts.0 i && is_idle_at r.agents m.agent) && parts.2 i) then with_ring asked.queue asked.channel r m.agent else r)
-            ∙ at_idle (is_idle_at r.agents m.agent)
-          where
-            at_idle : (e : Bool)
-                → (if (e && true) then (if e then record { agents = with_state_at m.agent (Ringing asked.queue asked.channel) r.agents; count = r.count + 1 } else r) else r)
-                ≡ (if e then record { agents = with_state_at m.agent (Ringing asked.queue asked.channel) r.agents; count = r.count + 1 } else r)
-            at_idle true = refl
-            at_idle false = refl
-    by false may_not rung skipped = ap (λ s. fold (with_candidate asked) s ms) same ∙ skipped
-      where
-        same : with_candidate asked r m ≡ r
-        same = at_candidate (is_candidate r.agents asked.penalty m) refl
-          where
-            at_candidate : (e : Bool) → is_candidate r.agents asked.penalty m ≡ e → (if e then with_ring asked.queue asked.channel r m.agent else r) ≡ r
-            at_candidate true may =
-                let parts : (not m.is_paused ≡ true) × (is_idle_at r.agents m.agent ≡ true) × ((m.penalty == asked.penalty) ≡ true) =
-                candidate_parts (not m.is_paused) (is_idle_at r.agents m.agent) (m.penalty == asked.penalty) may in
-                let is : is_candidate as' asked.penalty m ≡ true = λ i. (parts.0 i && idle m.agent parts.1 i) && parts.2 i in
-                absurd (cc)
-            at_candidate false e = refl
+-- the candidates among other members are the same behind the ringing of one agent
+filter-set : (a : ℕ) (s : AgentState) (as' : List Agent) (penalty : ℕ) (ms : List Member) → All (λ (m : Member). a ≢ m.agent) ms
+    → filter (is_candidate (with_state_at a s as') penalty) ms ≡ filter (is_candidate as' penalty) ms
+filter-set a s as' penalty [] others = refl
+filter-set a s as' penalty (m ∷ ms) others =
+    let other : a ≢ m.agent = All-head (λ (m : Member). a ≢ m.agent) m ms others in
+    let same : is_candidate (with_state_at a s as') penalty m ≡ is_candidate as' penalty m =
+    ap (λ (t : AgentState). (not m.is_paused && is_idle t) && m.penalty == penalty) (state_at-other a s as' m.agent (λ is. other (sym is))) in
+    let rest : filter (is_candidate (with_state_at a s as') penalty) ms ≡ filter (is_candidate as' penalty) ms =
+    filter-set a s as' penalty ms (All-tail (λ (m : Member). a ≢ m.agent) m ms others) in
+    (λ i. if same i then m ∷ rest i else rest i)
+
+-- the agents behind the first of some members
+abbrev pub first_rung : ℕ → ℕ → ℕ → List Agent → Member → List Agent
+first_rung queue channel penalty as' m =
+    if is_candidate as' penalty m then with_state_at m.agent (Ringing queue channel) as' else as'
+
+-- the candidates of some members ring, one after another
+pub ringing-first : (k c penalty : ℕ) (as' : List Agent) (m : Member) (ms : List Member) → StandOnce (m ∷ ms)
+    → all_ringing k c (filter (is_candidate (first_rung k c penalty as' m) penalty) ms) (first_rung k c penalty as' m)
+    ≡ all_ringing k c (filter (is_candidate as' penalty) (m ∷ ms)) as'
+ringing-first k c penalty as' m ms once = by (is_candidate as' penalty m)
+  where
+    by : (b : Bool)
+        → all_ringing k c (filter (is_candidate (if b then with_state_at m.agent (Ringing k c) as' else as') penalty) ms) (if b then with_state_at m.agent (Ringing k c) as' else as')
+        ≡ all_ringing k c (if b then m ∷ filter (is_candidate as' penalty) ms else filter (is_candidate as' penalty) ms) as'
+    by true = ap (λ (xs : List Member). all_ringing k c xs (with_state_at m.agent (Ringing k c) as'))
+        (filter-set m.agent (Ringing k c) as' penalty ms (pairs-head (λ (member : Member) (other : Member). member.agent ≢ other.agent) m ms once))
+    by false = refl
+
+-- and are counted
+pub count-first : (k c penalty : ℕ) (as' : List Agent) (m : Member) (ms : List Member) → StandOnce (m ∷ ms)
+    → (if is_candidate as' penalty m then 1 else 0) + length (filter (is_candidate (first_rung k c penalty as' m) penalty) ms)
+    ≡ length (filter (is_candidate as' penalty) (m ∷ ms))
+count-first k c penalty as' m ms once = by (is_candidate as' penalty m)
+  where
+    by : (b : Bool)
+        → (if b then 1 else 0) + length (filter (is_candidate (if b then with_state_at m.agent (Ringing k c) as' else as') penalty) ms)
+        ≡ length (if b then m ∷ filter (is_candidate as' penalty) ms else filter (is_candidate as' penalty) ms)
+    by true =
+        let same : length (filter (is_candidate (with_state_at m.agent (Ringing k c) as') penalty) ms) ≡ length (filter (is_candidate as' penalty) ms) =
+        ap length (filter-set m.agent (Ringing k c) as' penalty ms (pairs-head (λ (member : Member) (other : Member). member.agent ≢ other.agent) m ms once)) in
+        omega (arith, same)
+    by false = omega arith
 
 -- the first channel that is not rung, by its seat or by the agents
-pub unrung-same : (seats : List (Option Seat)) (qs : List QueueOf) (as' : List Agent) (xs : List ℕ) → AreSeated seats qs as'
+pub unrung-same : (seats : SeatsOf) (qs : List QueueOf) (as' : List Agent) (xs : List ℕ) → AreSeated seats qs as'
     → ((d : ℕ) → list_any (λ e. e == d) xs ≡ true → waits_in qs d ≡ None → ⊥)
     → find (is_unrung seats) xs ≡ find (λ c. not (is_rung as' c)) xs
 unrung-same seats qs as' [] seated waits = refl
@@ -187,51 +174,166 @@ pub asked-waits : (qs : List QueueOf) (as' bs : List Agent) (asked : Asked) → 
 asked-waits qs as' bs asked good is_asked =
     waits_in-at qs asked.channel asked.queue is_asked.queue (good.waits_once asked.channel) is_asked.at is_asked.stands
 
--- the agents that ring so far for a channel that waits in a queue
-pub record RingFor (qs : List QueueOf) (as' : List Agent) (c : ℕ) (r : Rung) : Type 0 where
-  pub linked : AreLinked qs r.agents
-  pub marked : is_rung r.agents c ≡ nat_lt 0 r.count
-  pub others : (d : ℕ) → (c == d) ≡ false → is_rung r.agents d ≡ is_rung as' d
-
-ring_more : (qs : List QueueOf) (as' : List Agent) (k c : ℕ) (r : Rung) (a : ℕ) → waits_in qs c ≡ Some k → RingFor qs as' c r → RingFor qs as' c (with_ring k c r a)
-ring_more qs as' k c r a waits so_far = by (is_idle_at r.agents a) refl
+-- what holds of each member holds of the one that is found
+all-found : (P : Member → Type 0) (test : Member → Bool) (ms : List Member) → All P ms → All P (option_to_list (find test ms))
+all-found P test [] each = each
+all-found P test (m ∷ ms) each = by (test m) (all-found P test ms (All-tail P m ms each))
   where
-    by : (b : Bool) → is_idle_at r.agents a ≡ b
-        → RingFor qs as' c (if b then record { agents = with_state_at a (Ringing k c) r.agents; count = r.count + 1 } else r)
-    by true idle = record {
-      linked = linked-set qs r.agents so_far.linked a (Ringing k c) (idle-within r.agents a idle) waits (λ d talks. absurd (cc));
-      marked = is_rung-set a (Ringing k c) r.agents c (idle-within r.agents a idle) (eq-eqb c c refl) ∙ sym (lt-ltb 0 (r.count + 1) (omega arith));
-      others = λ d other. is_rung-same a (Ringing k c) r.agents d (other ∙ sym (idle-rings r.agents a d idle)) ∙ so_far.others d other;
-    }
-    by false idle = so_far
+    by : (b : Bool) → All P (option_to_list (find test ms)) → All P (option_to_list (if b then Some m else find test ms))
+    by true rest = All-cons P m [] (All-head P m ms each) (All-nil P)
+    by false rest = rest
 
-ring_all : (qs : List QueueOf) (as' : List Agent) (k c : ℕ) (ms : List Member) (r : Rung) → waits_in qs c ≡ Some k → RingFor qs as' c r
-    → RingFor qs as' c (fold (λ rung member. with_ring k c rung member.agent) r ms)
-ring_all qs as' k c [] r waits so_far = so_far
-ring_all qs as' k c (m ∷ ms) r waits so_far = ring_all qs as' k c ms (with_ring k c r m.agent) waits (ring_more qs as' k c r m.agent waits so_far)
+-- of the one that has the least
+all-least : (P : Member → Type 0) (f : Member → ℕ) (best : Option Member) (ms : List Member) → All P (option_to_list best) → All P ms
+    → All P (option_to_list (fold (lesser f) best ms))
+all-least P f best [] first each = first
+all-least P f best (m ∷ ms) first each = all-least P f (lesser f best m) ms (by best first) (All-tail P m ms each)
+  where
+    here : All P (m ∷ [])
+    here = All-cons P m [] (All-head P m ms each) (All-nil P)
+
+    by : (o : Option Member) → All P (option_to_list o) → All P (option_to_list (lesser f o m))
+    by None first = here
+    by (Some other) first = by_less (nat_lt (f m) (f other))
+      where
+        by_less : (b : Bool) → All P ((if b then m else other) ∷ [])
+        by_less true = here
+        by_less false = first
+
+-- of the members turned round
+all-turned : (P : Member → Type 0) (last : Option ℕ) (ms : List Member) → All P ms → All P (turned last ms)
+all-turned P None ms each = each
+all-turned P (Some agent) ms each = by (position (is_agent agent) ms)
+  where
+    by : (o : Option ℕ) → All P (turned_at o ms)
+    by None = each
+    by (Some place) = All-append P (drop (place + 1) ms) (take (place + 1) ms) (All-drop P (place + 1) ms each) (All-take P (place + 1) ms each)
+
+-- and so of all that a strategy chooses
+pub all-chosen : (P : Member → Type 0) (s : Strategy) (last : Option ℕ) (test : Member → Bool) (ms : List Member) → All P ms → All P (chosen s last test ms)
+all-chosen P RingAll last test ms each = All-filter test P ms each
+all-chosen P Linear last test ms each = all-found P test ms each
+all-chosen P LeastRecent last test ms each = all-least P (rank Last) None (filter test ms) (All-nil P) (All-filter test P ms each)
+all-chosen P FewestCalls last test ms each = all-least P (rank Calls) None (filter test ms) (All-nil P) (All-filter test P ms each)
+all-chosen P RrMemory last test ms each = all-found P test (turned last ms) (all-turned P last ms each)
+
+-- each that a strategy chooses is a candidate
+passes-found : (test : Member → Bool) (ms : List Member) → All (λ (m : Member). test m ≡ true) (option_to_list (find test ms))
+passes-found test [] = All-nil (λ (m : Member). test m ≡ true)
+passes-found test (m ∷ ms) = by (test m) refl (passes-found test ms)
+  where
+    by : (b : Bool) → test m ≡ b → All (λ (m : Member). test m ≡ true) (option_to_list (find test ms))
+        → All (λ (m : Member). test m ≡ true) (option_to_list (if b then Some m else find test ms))
+    by true passes rest = All-cons (λ (m : Member). test m ≡ true) m [] passes (All-nil (λ (m : Member). test m ≡ true))
+    by false fails rest = rest
+
+pub passes-chosen : (s : Strategy) (last : Option ℕ) (test : Member → Bool) (ms : List Member) → All (λ (m : Member). test m ≡ true) (chosen s last test ms)
+passes-chosen RingAll last test ms = filter_passes test ms
+passes-chosen Linear last test ms = passes-found test ms
+passes-chosen LeastRecent last test ms =
+    all-least (λ (m : Member). test m ≡ true) (rank Last) None (filter test ms) (All-nil (λ (m : Member). test m ≡ true)) (filter_passes test ms)
+passes-chosen FewestCalls last test ms =
+    all-least (λ (m : Member). test m ≡ true) (rank Calls) None (filter test ms) (All-nil (λ (m : Member). test m ≡ true)) (filter_passes test ms)
+passes-chosen RrMemory last test ms = passes-found test (turned last ms)
+
+-- a state in which an agent rings for no channel but this one
+abbrev IsQuiet : ℕ → AgentState → Type 0
+IsQuiet c s = (d : ℕ) → (c == d) ≡ false → rings_for d s ≡ false
+
+-- such an agent is as quiet where one comes to ring for the channel
+quiet-set : (k c a b : ℕ) (as' : List Agent) → IsQuiet c (state_at as' b) → IsQuiet c (state_at (with_state_at a (Ringing k c) as') b)
+quiet-set k c a b [] quiet = quiet
+quiet-set k c zero zero (x ∷ xs) quiet = λ d other. other
+quiet-set k c zero (suc b) (x ∷ xs) quiet = quiet
+quiet-set k c (suc a) zero (x ∷ xs) quiet = quiet
+quiet-set k c (suc a) (suc b) (x ∷ xs) quiet = quiet-set k c a b xs quiet
+
+-- agents behind the ringing of some for a channel
+pub record Rings (qs : List QueueOf) (c : ℕ) (before after : List Agent) (some : Bool) : Type 0 where
+  pub linked : AreLinked qs after
+  pub marked : is_rung after c ≡ (is_rung before c || some)
+  pub others : (d : ℕ) → (c == d) ≡ false → is_rung after d ≡ is_rung before d
+
+-- one more agent rings, before the others
+rings-more : (qs : List QueueOf) (k c : ℕ) (m : Member) (as' after : List Agent) (some : Bool) → m.agent < length as' → IsQuiet c (state_at as' m.agent)
+    → Rings qs c (with_state_at m.agent (Ringing k c) as') after some → Rings qs c as' after true
+rings-more qs k c m as' after some known quiet rest = record {
+  linked = rest.linked;
+  marked = rest.marked ∙ ap (λ (b : Bool). b || some) (is_rung-set m.agent (Ringing k c) as' c known (eq-eqb c c refl)) ∙ sym (or_true (is_rung as' c));
+  others = λ d other. rest.others d other ∙ is_rung-same m.agent (Ringing k c) as' d (other ∙ sym (quiet d other));
+}
+
+-- the agents of members ring
+rings-all : (qs : List QueueOf) (k c : ℕ) (ms : List Member) (as' : List Agent) → waits_in qs c ≡ Some k → AreLinked qs as'
+    → AreKnown (length as') ms → All (λ (m : Member). IsQuiet c (state_at as' m.agent)) ms
+    → Rings qs c as' (all_ringing k c ms as') (nat_lt 0 (length ms))
+rings-all qs k c [] as' waits linked known quiet = record {
+  linked = linked;
+  marked = by (is_rung as' c);
+  others = λ d other. refl;
+}
+  where
+    by : (b : Bool) → b ≡ (b || false)
+    by true = refl
+    by false = refl
+rings-all qs k c (m ∷ ms) as' waits linked known quiet =
+    let next : List Agent = with_state_at m.agent (Ringing k c) as' in
+    let here : m.agent < length as' = All-head (λ (member : Member). member.agent < length as') m ms known in
+    let some : nat_lt 0 (length (m ∷ ms)) ≡ true = lt-ltb 0 (length (m ∷ ms)) (omega arith) in
+    let P : Bool → Type 0 = λ b. Rings qs c as' (all_ringing k c ms next) b in
+    subst P (sym some) (rings-more qs k c m as' (all_ringing k c ms next) (nat_lt 0 (length ms)) here
+    (All-head (λ (member : Member). IsQuiet c (state_at as' member.agent)) m ms quiet)
+    (rings-all qs k c ms next waits (linked-set qs as' linked m.agent (Ringing k c) here waits (λ d talks. absurd (cc)))
+    (subst (λ count. AreKnown count ms) (sym (length-changed_at _ m.agent as')) (All-tail (λ (member : Member). member.agent < length as') m ms known))
+    (All-weaker (λ (member : Member). IsQuiet c (state_at as' member.agent)) (λ (member : Member). IsQuiet c (state_at next member.agent))
+    (λ member quiet. quiet-set k c m.agent member.agent as' quiet) ms (All-tail (λ (member : Member). IsQuiet c (state_at as' member.agent)) m ms quiet))))
 
 -- an offer is made
-pub kept-offered : (seats new : List (Option Seat)) (qs ps : List QueueOf) (as' : List Agent) (asked : Asked) (rung : Rung) (mark : Bool)
-    → AreKept seats qs as' → IsAsked qs as' asked → rung ≡ rung_of as' asked (slice_get qs asked.queue) → mark ≡ nat_lt 0 rung.count
-    → length ps ≡ length qs → lines ps ≡ lines qs
-    → ReplacesSeat asked.channel (Some (record { queue = asked.queue; is_rung = mark })) seats new → AreKept new ps rung.agents
-kept-offered seats new qs ps as' asked rung mark kept is_asked is marked same kept_lines put =
-    kept-same new new qs ps rung.agents (
+pub kept-offered : (seats new : SeatsOf) (qs ps : List QueueOf) (as' bs : List Agent) (asked : Asked) (mark : Bool)
+    → AreKept seats qs as' → IsAsked qs as' asked
+    → bs ≡ all_ringing asked.queue asked.channel (chosen_in as' asked.penalty (slice_get qs asked.queue)) as'
+    → mark ≡ nat_lt 0 (length (chosen_in as' asked.penalty (slice_get qs asked.queue)))
+    → ps ≡ changed_at (with_choice as' asked.penalty) asked.queue qs
+    → ReplacesSeat asked.channel (Some (record { queue = asked.queue; is_rung = mark })) seats new → AreKept new ps bs
+kept-offered seats new qs ps as' bs asked mark kept is_asked rung marked chose put =
+    kept-same new new qs ps bs (
       all.linked,
-      seated-replaced seats new qs qs as' rung.agents asked.channel (Some (record { queue = asked.queue; is_rung = mark })) kept.1 put
-          ((λ i. Some (record { queue = asked.queue; is_rung = (marked ∙ sym all.marked) i })) ∙ ap (option_map (seat_in rung.agents asked.channel)) (sym waits))
+      seated-replaced seats new qs qs as' bs asked.channel (Some (record { queue = asked.queue; is_rung = mark })) kept.1 put
+          ((λ i. Some (record { queue = asked.queue; is_rung = same_mark i })) ∙ ap (option_map (seat_in bs asked.channel)) (sym waits))
           (λ d other. refl) all.others,
     )
-    same kept_lines
+    (ap length chose ∙ length-changed_at change asked.queue qs)
+    (ap lines chose ∙ lines-changed_at change asked.queue qs (λ q. refl))
+    (members-changed change asked.queue qs ps bs (keeps-same change (λ q. refl)) chose all.linked.members)
   where
+    change : QueueOf → QueueOf
+    change = with_choice as' asked.penalty
+
+    is_chosen : chosen_in as' asked.penalty (slice_get qs asked.queue) ≡ chosen_of as' asked.penalty is_asked.queue
+    is_chosen = ap (chosen_in as' asked.penalty) is_asked.at
+
+    known : AreKnown (length as') (chosen_of as' asked.penalty is_asked.queue)
+    known = all-chosen (λ (member : Member). member.agent < length as') is_asked.queue.settings.strategy is_asked.queue.last
+        (is_candidate as' asked.penalty) is_asked.queue.members
+        (all-at (λ (q : QueueOf). AreKnown (length as') q.members) qs asked.queue is_asked.queue is_asked.at kept.0.members.are_agents)
+
+    quiet : All (λ (m : Member). IsQuiet asked.channel (state_at as' m.agent)) (chosen_of as' asked.penalty is_asked.queue)
+    quiet = All-weaker (λ (m : Member). is_candidate as' asked.penalty m ≡ true) (λ (m : Member). IsQuiet asked.channel (state_at as' m.agent))
+        (λ m may d other. idle-rings (state_at as' m.agent) d (candidate-idle as' asked.penalty m may))
+        (chosen_of as' asked.penalty is_asked.queue)
+        (passes-chosen is_asked.queue.settings.strategy is_asked.queue.last (is_candidate as' asked.penalty) is_asked.queue.members)
+
     waits : waits_in qs asked.channel ≡ Some asked.queue
     waits = asked-waits qs as' as' asked kept.0 is_asked
 
-    all : RingFor qs as' asked.channel rung
-    all = let P : Rung → Type 0 = λ r. RingFor qs as' asked.channel r in
-        subst P (sym (is ∙ ap (rung_of as' asked) is_asked.at))
-        (ring_all qs as' asked.queue asked.channel (chosen_of as' asked.penalty is_asked.queue) (record { agents = as'; count = 0 }) waits
-        (record { linked = kept.0; marked = is_asked.unrung; others = λ d other. refl }))
+    all : Rings qs asked.channel as' bs (nat_lt 0 (length (chosen_of as' asked.penalty is_asked.queue)))
+    all = let P : List Agent → Type 0 = λ xs. Rings qs asked.channel as' xs (nat_lt 0 (length (chosen_of as' asked.penalty is_asked.queue))) in
+        subst P (sym (rung ∙ ap (λ ms. all_ringing asked.queue asked.channel ms as') is_chosen))
+        (rings-all qs asked.queue asked.channel (chosen_of as' asked.penalty is_asked.queue) as' waits kept.0 known quiet)
+
+    same_mark : mark ≡ is_rung bs asked.channel
+    same_mark = marked ∙ ap (λ ms. nat_lt 0 (length ms)) is_chosen
+        ∙ sym (all.marked ∙ ap (λ (b : Bool). b || nat_lt 0 (length (chosen_of as' asked.penalty is_asked.queue))) is_asked.unrung)
 
 -- the first that passes of two lists
 pub find-front : {X : Type 0} (p : X → Bool) (xs ys : List X) (x : X) → Some x ≡ find p xs → Some x ≡ find p (xs ++ ys)

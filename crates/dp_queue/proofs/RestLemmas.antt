@@ -1,6 +1,9 @@
 -- Where nothing goes on, no call waits and each agent is idle; a file leaves its queues so.
-use Rattle.std.proofs.Common.{◌≡◌, ℕ, zero, suc, ◌<◌, ◌==◌, Bool, true, false, List, [], ◌∷◌, ◌++◌, Option, Some, None, Result, Ok, Err, refl, ap, ◌∙◌, sym, length, arith, if◌then◌else◌, subst, IfOk, IfSome, nat_lt, codes}
+use Rattle.std.proofs.Common.{◌≡◌, ℕ, zero, suc, ◌<◌, ◌==◌, Bool, true, false, List, [], ◌∷◌, ◌++◌, Option, Some, None, Result, Ok, Err, refl, ap, ◌∙◌, sym, length, arith, if◌then◌else◌, subst, IfOk, IfSome, nat_lt, nat_eq, codes}
+use Rattle.std.proofs.lemmas.List.Elements.{All-push, All-tail}
+use Rattle.std.specs.HashMap.{IsEmpty}
 use Rattle.std.specs.List.{All, list_any}
+use Rattle.std.specs.Map.{lookup}
 use Rattle.std.specs.Option.{option_map}
 use Rattle.dp_conf.specs.Answers.{◌>>=◌}
 use Rattle.dp_conf.specs.Levels.{arguments_of}
@@ -8,43 +11,22 @@ use Rattle.dp_conf.specs.Words.{same_word}
 use Rattle.dp_conf.specs.declared.lines.ConfLine.{ConfLine}
 use Rattle.dp_conf.specs.declared.lines.ConfLine.TheVariants.{Header, Pair}
 use Rattle.dp_queue.specs.Agents.{agent_number, state_at, talks_with}
-use Rattle.dp_queue.specs.Changes.{changed_at}
 use Rattle.dp_queue.specs.Faults.{at_line}
 use Rattle.dp_queue.specs.File.{FileOf, unread, begun_by, begun, penalty_in, argument_at, is_passed_over, with_named, membered, with_queue_setting, set, paired, behind_pair, behind_line, behind_lines}
-use Rattle.dp_queue.specs.Good.{IsRight, AreLinked}
+use Rattle.dp_queue.specs.Good.{IsRight, AreMembers, AreLinked}
 use Rattle.dp_queue.specs.Joining.{waits_in, times_waiting}
 use Rattle.dp_queue.specs.Keys.{setting_of}
 use Rattle.dp_queue.specs.Members.{with_agent, with_member_at}
 use Rattle.dp_queue.specs.Queues.{QueueOf, QueuesOf, queue_number}
 use Rattle.dp_queue.specs.Rest.{IsAtRest}
-use Rattle.dp_queue.specs.Seats.{AreSeated}
+use Rattle.dp_queue.specs.Seats.{SeatsOf, AreSeated}
 use Rattle.dp_queue.specs.declared.agent.Agent.{Agent}
 use Rattle.dp_queue.specs.declared.agent.AgentState.{AgentState}
 use Rattle.dp_queue.specs.declared.agent.AgentState.TheVariants.{Idle}
 use Rattle.dp_queue.specs.declared.fault.QueueFault.{QueueFault}
 use Rattle.dp_queue.specs.declared.fault.QueueKind.{QueueKind}
+use Rattle.dp_queue.proofs.ChangeLemmas.{all-changed_at}
 use Rattle.dp_queue.proofs.WaitingLemmas.{times-none}
-
--- what holds of each element holds of those behind the first
-rest_of : {X : Type 0} (P : X → Type 0) (x : X) (xs : List X) → All P (x ∷ xs) → All P xs
-rest_of P x xs each k d within = each (suc k) d (omega (arith, within))
-
--- and of one more, where it holds of that
-all-push : {X : Type 0} (P : X → Type 0) (xs : List X) (x : X) → All P xs → P x → All P (xs ++ x ∷ [])
-all-push P [] x each one zero d within = one
-all-push P [] x each one (suc k) d within = absurd (omega (arith, within))
-all-push P (y ∷ ys) x each one zero d within = each zero d (omega arith)
-all-push P (y ∷ ys) x each one (suc k) d within = all-push P ys x (rest_of P y ys each) one k d (omega (arith, within))
-
--- and behind a change of one of them that keeps it
-all-changed_at : {X : Type 0} (P : X → Type 0) (change : X → X) (place : ℕ) (xs : List X) → ((x : X) → P x → P (change x))
-    → All P xs → All P (changed_at change place xs)
-all-changed_at P change place [] keeps each k d within = absurd (omega (arith, within))
-all-changed_at P change zero (x ∷ xs) keeps each zero d within = keeps x (each zero d (omega arith))
-all-changed_at P change zero (x ∷ xs) keeps each (suc k) d within = each (suc k) d (omega (arith, within))
-all-changed_at P change (suc place) (x ∷ xs) keeps each zero d within = each zero d (omega arith)
-all-changed_at P change (suc place) (x ∷ xs) keeps each (suc k) d within =
-    all-changed_at P change place xs keeps (rest_of P x xs each) k d (omega (arith, within))
 
 -- a number that lies within as many
 pub within-same : (o : Option ℕ) (m n : ℕ) → n ≡ m → IfSome o (λ number. number < m) → IfSome o (λ number. number < n)
@@ -56,26 +38,28 @@ pub waits_in-at_rest : (qs : List QueueOf) → All (λ queue. queue.waiting ≡ 
 waits_in-at_rest [] none c = refl
 waits_in-at_rest (q ∷ qs) none c =
     let empty : q.waiting ≡ [] = none zero q (omega arith) in
-    let rest : waits_in qs c ≡ None = waits_in-at_rest qs (rest_of (λ (queue : QueueOf). queue.waiting ≡ []) q qs none) c in
+    let rest : waits_in qs c ≡ None = waits_in-at_rest qs (All-tail (λ (queue : QueueOf). queue.waiting ≡ []) q qs none) c in
     ap (λ (line : List ℕ). if list_any (λ d. d == c) line then Some 0 else option_map suc (waits_in qs c)) empty ∙ ap (option_map suc) rest
 
 -- each agent is idle, by its number
 pub state_at-at_rest : (agents : List Agent) → All (λ agent. agent.state ≡ Idle) agents → (a : ℕ) → state_at agents a ≡ Idle
 state_at-at_rest [] idle a = refl
 state_at-at_rest (x ∷ xs) idle zero = idle zero x (omega arith)
-state_at-at_rest (x ∷ xs) idle (suc a) = state_at-at_rest xs (rest_of (λ (agent : Agent). agent.state ≡ Idle) x xs idle) a
+state_at-at_rest (x ∷ xs) idle (suc a) = state_at-at_rest xs (All-tail (λ (agent : Agent). agent.state ≡ Idle) x xs idle) a
 
--- so waiting lists and agents are linked, with no seat taken
-pub linked-at_rest : (q : QueuesOf) → IsAtRest q → AreLinked q.queues q.agents
-linked-at_rest q rest = record {
+-- so queues whose members are agents are linked with them, with no seat taken
+pub linked-at_rest : (q : QueuesOf) → IsAtRest q → AreMembers q.queues q.agents → AreLinked q.queues q.agents
+linked-at_rest q rest members = record {
   waits_once = λ c. let none : times_waiting q.queues c ≡ 0 = times-none q.queues c (waits_in-at_rest q.queues rest.nobody_waits c) in omega (arith, none);
   rings_right = λ a. let P : AgentState → Type 0 = λ s. IsRight q.queues s in subst P (sym (state_at-at_rest q.agents rest.all_idle a)) tt;
   talks_once = λ a b c first second.
       let silent : talks_with c (state_at q.agents a) ≡ false = ap (talks_with c) (state_at-at_rest q.agents rest.all_idle a) in absurd (cc);
+  members = members;
 }
 
-pub seated-at_rest : (q : QueuesOf) → IsAtRest q → AreSeated [] q.queues q.agents
-seated-at_rest q rest c = sym (ap (option_map _) (waits_in-at_rest q.queues rest.nobody_waits c))
+pub seated-at_rest : (seats : SeatsOf) (q : QueuesOf) → IsEmpty seats → IsAtRest q → AreSeated seats q.queues q.agents
+seated-at_rest seats q empty rest c =
+    ap (lookup (nat_eq c)) empty ∙ sym (ap (option_map _) (waits_in-at_rest q.queues rest.nobody_waits c))
 
 -- what follows of one value and of what comes of it
 if_ok-then : {X Y E : Type 0} (P : X → Type 0) (Q : Y → Type 0) (r : Result X E) (f : X → Result Y E) → ((x : X) → P x → IfOk (f x) Q)
@@ -101,7 +85,7 @@ begun-at_rest file name rest = by (same_word name (codes "general"))
   where
     by_number : (o : Option ℕ) → IfOk (begun_by file name o) is_at_rest
     by_number None = record {
-      nobody_waits = all-push (λ (queue : QueueOf). queue.waiting ≡ []) file.made.queues _ rest.nobody_waits refl;
+      nobody_waits = All-push (λ (queue : QueueOf). queue.waiting ≡ []) file.made.queues _ rest.nobody_waits refl;
       all_idle = rest.all_idle;
     }
     by_number (Some number) = tt
@@ -115,7 +99,7 @@ with_agent-idle agents name idle = by (nat_lt (agent_number agents name) (length
   where
     by : (b : Bool) → All (λ agent. agent.state ≡ Idle) (if b then agents else agents ++ record { name = name; state = Idle } ∷ [])
     by true = idle
-    by false = all-push (λ (agent : Agent). agent.state ≡ Idle) agents _ idle refl
+    by false = All-push (λ (agent : Agent). agent.state ≡ Idle) agents _ idle refl
 
 named-at_rest : (q : QueuesOf) (number : ℕ) (name : List ℕ) (penalty : ℕ) → IsAtRest q → IsAtRest (with_named q number name penalty)
 named-at_rest q number name penalty rest = by (is_passed_over q number name)
@@ -123,7 +107,7 @@ named-at_rest q number name penalty rest = by (is_passed_over q number name)
     by : (b : Bool) → IsAtRest (if b then q else with_member_at q number name penalty false)
     by true = rest
     by false = record {
-      nobody_waits = all-changed_at (λ (queue : QueueOf). queue.waiting ≡ []) _ number q.queues (λ queue none. none) rest.nobody_waits;
+      nobody_waits = all-changed_at (λ (queue : QueueOf). queue.waiting ≡ []) _ number q.queues (λ queue here none. none) rest.nobody_waits;
       all_idle = with_agent-idle q.agents name rest.all_idle;
     }
 
@@ -135,7 +119,7 @@ paired-at_rest q number key value rest = by (same_word key (codes "member"))
         if_ok-any IsAtRest (penalty_in (argument_at (arguments_of value) 1)) (with_named q number (argument_at (arguments_of value) 0))
         (λ penalty. named-at_rest q number (argument_at (arguments_of value) 0) penalty rest)
     by false = if_ok-any IsAtRest (setting_of key value) _ (λ setting. record {
-      nobody_waits = all-changed_at (λ (queue : QueueOf). queue.waiting ≡ []) (with_queue_setting setting) number q.queues (λ queue none. none) rest.nobody_waits;
+      nobody_waits = all-changed_at (λ (queue : QueueOf). queue.waiting ≡ []) (with_queue_setting setting) number q.queues (λ queue here none. none) rest.nobody_waits;
       all_idle = rest.all_idle;
     })
 

@@ -1,9 +1,10 @@
 -- The members of a queue that an offer may ring, and those of them that a strategy chooses.
-use Rattle.std.specs.Prelude.{ℕ, ◌+◌, Bool, false, not, ◌&&◌, ◌==◌, nat_lt, List, ◌++◌, take, drop, fold, Option, Some, None, slice_get, if◌then◌else◌}
+use Rattle.std.specs.Prelude.{ℕ, ◌+◌, Bool, not, ◌&&◌, ◌==◌, nat_lt, List, ◌++◌, take, drop, fold, Option, Some, None, if◌then◌else◌}
 use Rattle.std.specs.List.{filter, find, position}
-use Rattle.std.specs.Option.{option_map, option_to_list, unwrap_or}
-use Rattle.dp_queue.specs.Agents.{is_idle}
+use Rattle.std.specs.Option.{option_map, option_to_list}
+use Rattle.dp_queue.specs.Agents.{is_idle, state_at}
 use Rattle.dp_queue.specs.Members.{is_agent}
+use Rattle.dp_queue.specs.Queues.{QueueOf}
 use Rattle.dp_queue.specs.declared.agent.Agent.{Agent}
 use Rattle.dp_queue.specs.declared.choice.Key.{Key}
 use Rattle.dp_queue.specs.declared.choice.Key.TheVariants.{Penalty, Last, Calls}
@@ -11,9 +12,9 @@ use Rattle.dp_queue.specs.declared.member.Member.{Member}
 use Rattle.dp_queue.specs.declared.settings.Strategy.{Strategy}
 use Rattle.dp_queue.specs.declared.settings.Strategy.TheVariants.{RingAll, Linear, LeastRecent, FewestCalls, RrMemory}
 
--- the agent of a number is idle
+-- the agent of a number is idle, as one that is not known
 abbrev pub is_idle_at : List Agent → ℕ → Bool
-is_idle_at agents number = unwrap_or (option_map (λ agent. is_idle agent.state) (slice_get agents number)) false
+is_idle_at agents number = is_idle (state_at agents number)
 
 -- a member that an offer may ring: it is not paused, and its agent is idle
 abbrev pub is_eligible : List Agent → Member → Bool
@@ -47,13 +48,27 @@ abbrev pub turned : Option ℕ → List Member → List Member
 turned None members = members
 turned (Some last) members = turned_at (position (is_agent last) members) members
 
--- the members that a strategy chooses of the candidates, by the one that was chosen last
+-- what members are compared by
+abbrev pub rank : Key → Member → ℕ
+rank Penalty member = member.penalty
+rank Last member = member.last
+rank Calls member = member.calls
+
+-- the one candidate that a strategy chooses, by the one that was chosen last; `ringall` chooses none alone
+abbrev pub picked : Strategy → Option ℕ → (Member → Bool) → List Member → Option Member
+picked RingAll last test members = None
+picked Linear last test members = find test members
+picked LeastRecent last test members = first_least (rank Last) (filter test members)
+picked FewestCalls last test members = first_least (rank Calls) (filter test members)
+picked RrMemory last test members = find test (turned last members)
+
+-- the candidates that a strategy chooses: `ringall` all of them, and another one at most
 abbrev pub chosen : Strategy → Option ℕ → (Member → Bool) → List Member → List Member
 chosen RingAll last test members = filter test members
-chosen Linear last test members = option_to_list (find test members)
-chosen LeastRecent last test members = option_to_list (first_least (λ member. member.last) (filter test members))
-chosen FewestCalls last test members = option_to_list (first_least (λ member. member.calls) (filter test members))
-chosen RrMemory last test members = option_to_list (find test (turned last members))
+chosen Linear last test members = option_to_list (picked Linear last test members)
+chosen LeastRecent last test members = option_to_list (picked LeastRecent last test members)
+chosen FewestCalls last test members = option_to_list (picked FewestCalls last test members)
+chosen RrMemory last test members = option_to_list (picked RrMemory last test members)
 
 -- the agent of the member that was chosen, and the one before where none was
 abbrev pub remembered : Option ℕ → Option Member → Option ℕ
@@ -66,18 +81,8 @@ last_behind RingAll last test members = last
 last_behind Linear last test members = last
 last_behind LeastRecent last test members = last
 last_behind FewestCalls last test members = last
-last_behind RrMemory last test members = remembered last (find test (turned last members))
+last_behind RrMemory last test members = remembered last (picked RrMemory last test members)
 
--- what members are compared by
-abbrev pub rank : Key → Member → ℕ
-rank Penalty member = member.penalty
-rank Last member = member.last
-rank Calls member = member.calls
-
--- the one member that a strategy chooses; `ringall` chooses none alone
-abbrev pub picked : Strategy → Option ℕ → (Member → Bool) → List Member → Option Member
-picked RingAll last test members = None
-picked Linear last test members = find test members
-picked LeastRecent last test members = first_least (λ member. member.last) (filter test members)
-picked FewestCalls last test members = first_least (λ member. member.calls) (filter test members)
-picked RrMemory last test members = find test (turned last members)
+-- the queue that remembers the agent that was chosen
+abbrev pub with_last : Option ℕ → QueueOf → QueueOf
+with_last last queue = record queue { last = last }

@@ -5,11 +5,13 @@ pub mod Codes
 pub mod Faults
 pub mod File
 pub mod Good
+pub mod Held
 pub mod Joining
 pub mod Keys
 pub mod Members
 pub mod Choices
 pub mod Offers
+pub mod Places
 pub mod Queues
 pub mod Rest
 pub mod Seats

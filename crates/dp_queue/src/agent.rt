@@ -1,5 +1,5 @@
 //! The agents that answer the calls of queues.
-ghost use Rattle.std.specs.Prelude.{◌≡◌, ◌<◌, vec_len};
+ghost use Rattle.std.specs.Prelude.{◌≡◌};
 ghost use Rattle.std.specs.List.{position};
 ghost use Rattle.dp_queue.specs.Agents as spec;
 
@@ -20,20 +20,6 @@ pub enum AgentState {
 pub struct Agent {
     pub name: Text,
     pub state: AgentState,
-}
-
-/// The number of the agent of this name.
-fn find_agent(agents: &[Agent], name: &[u8]) -> Option<usize>
-    ensures { result ≡ position (spec.is_named name.now) agents.now }
-{
-    agents.iter().position(|agent| agent.name.bytes() == name)
-}
-
-/// The number of the agent of this name; the number of the agents where there is none.
-pub(crate) fn agent_number(agents: &[Agent], name: &[u8]) -> usize
-    ensures { result ≡ spec.agent_number agents.now name.now }
-{
-    find_agent(agents, name).unwrap_or(agents.len())
 }
 
 /// The state of the agent of a number; idle where there is none.
@@ -95,13 +81,13 @@ pub(crate) fn talker(agents: &[Agent], channel: u32) -> usize
     find_talker(agents, channel).unwrap_or(agents.len())
 }
 
-/// Puts the agent of a number into a state.
+/// Puts the agent of a number into a state. One that is not known stays idle.
 pub(crate) fn set_state(agents: &mut Vec<Agent>, number: usize, state: AgentState)
-    requires { number < vec_len agents.old }
     ensures { agents.new.items ≡ spec.with_state_at number state agents.old.items }
 {
-    let agent = &mut agents[number];
-    agent.state = state;
+    if let Some(agent) = agents.get_mut(number) {
+        agent.state = state;
+    }
 }
 
 /// The state of an agent behind the end of a channel's waiting.
@@ -115,11 +101,18 @@ fn freed(state: AgentState, channel: u32) -> AgentState
     }
 }
 
-/// Makes the agents idle that ring for the channel.
-pub(crate) fn free_all(agents: &mut [Agent], channel: u32)
+/// Makes the agents of a slice idle that ring for the channel.
+fn free_each(agents: &mut [Agent], channel: u32)
     ensures { agents.new ≡ spec.all_freed channel agents.old }
 {
     for agent in agents.iter_mut() {
         agent.state = freed(agent.state, channel);
     }
+}
+
+/// Makes the agents idle that ring for the channel.
+pub(crate) fn free_all(agents: &mut Vec<Agent>, channel: u32)
+    ensures { agents.new.items ≡ spec.all_freed channel agents.old.items }
+{
+    free_each(agents, channel);
 }

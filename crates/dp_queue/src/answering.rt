@@ -1,25 +1,14 @@
 //! What agents do with the calls that are offered to them.
-ghost use Rattle.std.specs.Prelude.{◌≡◌, ◌<◌, vec_len};
+ghost use Rattle.std.specs.Prelude.{◌≡◌};
 ghost use Rattle.dp_queue.specs.Agents.{state_at};
 ghost use Rattle.dp_queue.specs.Calls as spec;
-ghost use Rattle.dp_queue.specs.Changes.{changed_at};
 
-use crate::agent::{AgentState, agent_number, is_rung, set_state, state_at, talker};
+use crate::agent::{AgentState, is_rung, state_at, talker};
 use crate::call::Call;
 use crate::joining::unseat;
 use crate::member::one_more;
-use crate::queue::Queue;
 use crate::queues::Queues;
 use crate::seat::{Seat, put_seat};
-
-/// Counts a finished call for the member of a queue that is the agent of a number.
-fn finish_at(queues: &mut Vec<Queue>, number: usize, agent: usize, count: u64)
-    requires { number < vec_len queues.old }
-    ensures { queues.new.items ≡ changed_at (spec.finished_queue agent count) number queues.old.items }
-{
-    let queue = &mut queues[number];
-    queue.finish(agent, count);
-}
 
 impl Queues {
     /// The agent of this interface answers the call that it rings for: the call leaves the waiting list, the agent and
@@ -27,21 +16,21 @@ impl Queues {
     pub fn answer(&mut self, agent: &[u8]) -> Option<Call>
         ensures { spec.answer_row self.old agent.now ≡ (self.new, result) }
     {
-        let number = agent_number(&self.agents, agent);
-        match state_at(&self.agents, number) {
+        let number = self.agents.number_of(agent);
+        match state_at(self.agents.list(), number) {
             AgentState::Ringing { queue, channel } => {
                 unseat(
                     &mut self.queues,
                     &mut self.agents,
                     &mut self.seats,
-                    queue,
+                    Seat {
+                        queue,
+                        is_rung: true,
+                    },
                     channel,
                 );
-                set_state(
-                    &mut self.agents,
-                    number,
-                    AgentState::Talking { queue, channel },
-                );
+                self.agents
+                    .set_state(number, AgentState::Talking { queue, channel });
                 Some(Call {
                     queue,
                     agent: number,
@@ -56,12 +45,12 @@ impl Queues {
     pub fn decline(&mut self, agent: &[u8]) -> bool
         ensures { spec.decline_row self.old agent.now ≡ (self.new, result) }
     {
-        let number = agent_number(&self.agents, agent);
-        match state_at(&self.agents, number) {
+        let number = self.agents.number_of(agent);
+        match state_at(self.agents.list(), number) {
             AgentState::Ringing { queue, channel } => {
-                set_state(&mut self.agents, number, AgentState::Idle);
-                let is_rung = is_rung(&self.agents, channel);
-                put_seat(&mut self.seats, channel, Some(Seat { queue, is_rung }));
+                self.agents.set_state(number, AgentState::Idle);
+                let is_rung = is_rung(self.agents.list(), channel);
+                put_seat(&mut self.seats, channel, Seat { queue, is_rung });
                 true
             }
             AgentState::Idle | AgentState::Talking { .. } => false,
@@ -72,12 +61,12 @@ impl Queues {
     fn end_talk_of(&mut self, number: usize) -> Option<Call>
         ensures { spec.done_row_at self.old number (state_at self.old.agents number) ≡ (self.new, result) }
     {
-        match state_at(&self.agents, number) {
+        match state_at(self.agents.list(), number) {
             AgentState::Talking { queue, channel } => {
-                set_state(&mut self.agents, number, AgentState::Idle);
+                self.agents.set_state(number, AgentState::Idle);
                 let finished = one_more(self.finished);
                 self.finished = finished;
-                finish_at(&mut self.queues, queue, number, finished);
+                self.queues.finish(queue, number, finished);
                 Some(Call {
                     queue,
                     agent: number,
@@ -93,7 +82,7 @@ impl Queues {
     pub fn done(&mut self, agent: &[u8]) -> Option<Call>
         ensures { spec.done_row self.old agent.now ≡ (self.new, result) }
     {
-        let number = agent_number(&self.agents, agent);
+        let number = self.agents.number_of(agent);
         self.end_talk_of(number)
     }
 
@@ -101,7 +90,7 @@ impl Queues {
     pub fn end_talk(&mut self, channel: u32) -> Option<Call>
         ensures { spec.end_talk_row self.old channel ≡ (self.new, result) }
     {
-        let number = talker(&self.agents, channel);
+        let number = talker(self.agents.list(), channel);
         self.end_talk_of(number)
     }
 }

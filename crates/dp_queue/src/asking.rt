@@ -3,10 +3,8 @@ ghost use Rattle.std.specs.Prelude.{◌≡◌, ℕ, Bool};
 ghost use Rattle.std.specs.Option.{option_copied};
 ghost use Rattle.dp_queue.specs.Members as spec;
 
-use crate::agent::agent_number;
 use crate::change::{Added, Removed};
 use crate::membership::{is_member, is_member_at, member_at};
-use crate::queue::queue_number;
 use crate::queues::Queues;
 
 impl Queues {
@@ -14,11 +12,11 @@ impl Queues {
     pub fn would_add(&self, queue: &[u8], interface: &[u8]) -> Added
         ensures { (penalty : ℕ) → result ≡ (spec.add_row self.now queue.now interface.now penalty).1 }
     {
-        let Some(number) = queue_number(&self.queues, queue) else {
+        let Some(number) = self.queues.number_of(queue) else {
             return Added::NoSuchQueue;
         };
-        let agent = agent_number(&self.agents, interface);
-        if is_member_at(&self.queues, number, agent) {
+        let agent = self.agents.number_of(interface);
+        if is_member_at(self.queues.list(), number, agent) {
             return Added::MemberAlready;
         }
         Added::Added
@@ -28,11 +26,11 @@ impl Queues {
     pub fn would_remove(&self, queue: &[u8], interface: &[u8]) -> Removed
         ensures { result ≡ (spec.remove_row self.now queue.now interface.now).1 }
     {
-        let Some(number) = queue_number(&self.queues, queue) else {
+        let Some(number) = self.queues.number_of(queue) else {
             return Removed::NoSuchQueue;
         };
-        let agent = agent_number(&self.agents, interface);
-        match member_at(&self.queues, number, agent) {
+        let agent = self.agents.number_of(interface);
+        match member_at(self.queues.list(), number, agent) {
             None => Removed::NotInQueue,
             Some(member) => {
                 if member.is_dynamic {
@@ -50,12 +48,12 @@ impl Queues {
         ensures { (is_paused : Bool)
             → result ≡ (spec.pause_row self.now (option_copied queue.entry) interface.now is_paused).1 }
     {
-        let agent = agent_number(&self.agents, interface);
+        let agent = self.agents.number_of(interface);
         match queue {
-            None => is_member(&self.queues, agent),
-            Some(name) => match queue_number(&self.queues, name) {
+            None => is_member(self.queues.list(), agent),
+            Some(name) => match self.queues.number_of(name) {
                 None => false,
-                Some(number) => is_member_at(&self.queues, number, agent),
+                Some(number) => is_member_at(self.queues.list(), number, agent),
             },
         }
     }

@@ -4,7 +4,7 @@ ghost use Rattle.std.specs.List.{filter, find};
 ghost use Rattle.std.specs.Option.{option_copied};
 ghost use Rattle.dp_queue.specs.Choices as spec;
 
-use crate::agent::{Agent, AgentState};
+use crate::agent::{Agent, AgentState, state_at};
 use crate::member::{Member, place_of};
 use crate::settings::Strategy;
 
@@ -27,14 +27,11 @@ fn rank(key: Key, member: &Member) -> u64
     }
 }
 
-/// Whether the agent of a number is idle.
-pub(crate) fn is_idle_at(agents: &[Agent], number: usize) -> bool
+/// Whether the agent of a number is idle, as one that is not known.
+fn is_idle_at(agents: &[Agent], number: usize) -> bool
     ensures { result ≡ spec.is_idle_at agents.now number }
 {
-    match agents.get(number) {
-        Some(agent) => agent.state == AgentState::Idle,
-        None => false,
-    }
+    state_at(agents, number) == AgentState::Idle
 }
 
 /// Whether an offer may ring the member.

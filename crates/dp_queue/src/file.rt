@@ -1,19 +1,21 @@
 //! How a file of queues is read, after the Asterisk documentation's page on that file.
-ghost use Rattle.std.specs.Prelude.{◌≡◌, ◌<◌, ◌++◌, ◌∷◌, [], Ok, IfOk, length, map, vec_len};
+ghost use Rattle.std.specs.Prelude.{◌≡◌, ◌<◌, ◌++◌, ◌∷◌, [], None, Ok, IfOk, length, map};
 ghost use Rattle.dp_conf.specs.Answers.{Answers};
 ghost use Rattle.dp_conf.specs.Levels.{arguments_of};
-ghost use Rattle.dp_queue.specs.Changes.{changed_at};
+ghost use Rattle.dp_queue.specs.Queues.{queue_number};
 ghost use Rattle.dp_queue.specs.Faults.{at_line, reason_of};
 ghost use Rattle.dp_queue.specs.File as spec;
 ghost use Rattle.dp_queue.specs.Rest.{IsAtRest};
 
-use crate::agent::{Agent, agent_number};
+use crate::agents::Agents;
 use crate::fault::{QueueFault, QueueKind};
 use crate::membership::{add_member, is_member_at};
-use crate::queue::{Queue, queue_number};
+use crate::queue::Queue;
+use crate::queue_list::QueueList;
 use crate::queues::Queues;
+use crate::seat::Seats;
 use crate::setting::{Setting, at_line, read_limited, read_setting};
-use dp_conf::{ConfLine, NoMemory, Text, read_lines, same_word, split_args};
+use dp_conf::{ConfLine, NoMemory, read_lines, same_word, split_args};
 use std::alloc::Global;
 use std::marker::Model;
 
@@ -21,22 +23,23 @@ use std::marker::Model;
 #[derive(Drop)]
 struct File {
     section: Option<usize>,
-    queues: Vec<Queue>,
-    agents: Vec<Agent>,
+    queues: QueueList,
+    agents: Agents,
 }
 
 impl Model for File {
     ghost use Rattle.std.specs.Prelude.{◌<◌, IfSome, length};
     ghost use Rattle.dp_queue.specs.File.{FileOf};
+    ghost use Rattle.dp_queue.specs.Good.{AreMembers};
 
     ghost Value = { FileOf };
 
     ghost view = { λ file. record {
       section = file.section;
-      made = record { queues = file.queues.items; agents = file.agents.items; finished = 0 };
+      made = record { queues = file.queues; agents = file.agents; finished = 0 };
     } };
 
-    ghost invariant = { λ file. IfSome file.section (λ number. number < length file.queues.items) };
+    ghost invariant = { λ file. IfSome file.section (λ number. number < length file.queues) × AreMembers file.queues file.agents };
 }
 
 /// The penalty of a member, empty where none is written.
@@ -66,20 +69,11 @@ fn penalty_of(arguments: &[&[u8]]) -> Result<u32, QueueKind>
     read_penalty(argument_at(arguments, 1))
 }
 
-/// Changes a setting of the queue of a number.
-fn set_at(queues: &mut Vec<Queue>, number: usize, setting: Setting)
-    requires { number < vec_len queues.old }
-    ensures { queues.new.items ≡ changed_at (spec.with_queue_setting setting) number queues.old.items }
-{
-    let queue = &mut queues[number];
-    queue.set(setting);
-}
-
 /// Whether a member of the file is passed over: its name is empty, or it is a member of the queue already.
-fn is_passed_over(queues: &[Queue], agents: &[Agent], number: usize, name: &[u8]) -> bool
+fn is_passed_over(queues: &[Queue], agents: &Agents, number: usize, name: &[u8]) -> bool
     ensures { result ≡ spec.is_passed_over (record { queues = queues.now; agents = agents.now; finished = 0 }) number name.now }
 {
-    name.is_empty() || is_member_at(queues, number, agent_number(agents, name))
+    name.is_empty() || is_member_at(queues, number, agents.number_of(name))
 }
 
 impl File {
@@ -89,18 +83,18 @@ impl File {
     {
         File {
             section: None,
-            queues: Vec::new(alloc),
-            agents: Vec::new(alloc),
+            queues: QueueList::new(alloc),
+            agents: Agents::new(alloc),
         }
     }
 
     /// Begins the section of a queue that is new.
     fn push_queue(&mut self, alloc: Global, name: &[u8]) -> Result<(), NoMemory>
+        requires { queue_number self.old.made.queues name.now ≡ None }
         ensures { IfOk result (λ done. spec.with_queue self.old name.now ≡ self.new) }
     {
-        let name = Text::copy_of(alloc, name)?;
-        let number = self.queues.len();
-        self.queues.push(Queue::new(alloc, name))?;
+        let number = self.queues.list().len();
+        self.queues.push(alloc, name)?;
         self.section = Some(number);
         Ok(())
     }
@@ -113,7 +107,7 @@ impl File {
             self.section = None;
             return Ok(());
         }
-        if queue_number(&self.queues, name).is_some() {
+        if self.queues.number_of(name).is_some() {
             return Err(QueueFault::Queue {
                 line,
                 kind: QueueKind::DoubleQueue,
@@ -134,7 +128,7 @@ impl File {
         requires { number < length self.old.made.queues }
         ensures { IfOk result (λ done. spec.with_made self.old (spec.with_named self.old.made number name.now penalty) ≡ self.new) }
     {
-        if is_passed_over(&self.queues, &self.agents, number, name) {
+        if is_passed_over(self.queues.list(), &self.agents, number, name) {
             return Ok(());
         }
         add_member(
@@ -196,7 +190,7 @@ impl File {
             (at_line line (spec.made_in self.old (spec.set self.old.made number key.now value.now))) }
     {
         let setting = read_setting(alloc, line, key, value)?;
-        set_at(&mut self.queues, number, setting);
+        self.queues.set(number, setting);
         Ok(())
     }
 
@@ -247,7 +241,7 @@ impl File {
         Queues {
             queues,
             agents,
-            seats: Vec::new(alloc),
+            seats: Seats::new(alloc),
             finished: 0,
         }
     }

@@ -1,74 +1,74 @@
 //! How calls join queues and leave them, after the Asterisk documentation's page on the application `Queue`.
-ghost use Rattle.std.specs.Prelude.{◌≡◌, ◌<◌, ℕ, IfOk, OnOk, OnErr, None, Some, false, length, vec_len};
-ghost use Rattle.dp_queue.specs.Agents.{all_freed, is_talking};
+ghost use Rattle.std.specs.Prelude.{◌≡◌, ◌<◌, ℕ, IfOk, OnOk, OnErr, None, Some, false, length};
+ghost use Rattle.dp_queue.specs.Agents.{all_freed, is_rung, is_talking};
 ghost use Rattle.dp_queue.specs.Changes.{changed_at};
 ghost use Rattle.dp_queue.specs.Joining as spec;
 ghost use Rattle.dp_queue.specs.Seats.{seat_at, ReplacesSeat};
 
-use crate::agent::{Agent, free_all};
+use crate::agents::Agents;
 use crate::join::Join;
-use crate::queue::{Queue, queue_number};
+use crate::queue_list::QueueList;
 use crate::queues::Queues;
-use crate::seat::{Seat, make_room, put_seat, seat_at};
+use crate::seat::{Seat, Seats, leave_seat, make_room, seat_at, take_seat};
 use dp_conf::NoMemory;
 use std::alloc::Global;
 
 /// What a call that asks to join the queue of a name is told.
-fn join_answer(queues: &[Queue], name: &[u8]) -> Join
+fn join_answer(queues: &QueueList, name: &[u8]) -> Join
     ensures answer { result ≡ spec.would_join queues.now name.now }
     ensures within { spec.IsWithin (length queues.now) result }
 {
-    match queue_number(queues, name) {
+    match queues.number_of(name) {
         None => Join::Unknown,
-        Some(number) => queues[number].join_answer(number),
+        Some(number) => queues.list()[number].join_answer(number),
     }
 }
 
 /// Puts a channel behind those that wait in a queue.
 fn sit(
-    queues: &mut Vec<Queue>,
-    seats: &mut Vec<Option<Seat>>,
+    queues: &mut QueueList,
+    seats: &mut Seats,
     number: usize,
     channel: u32,
 ) -> Result<(), NoMemory>
-    requires { number < vec_len queues.old }
-    ensures ok { OnOk result (queues.new.items ≡ changed_at (spec.with_caller channel) number queues.old.items) }
-    ensures seated { OnOk result (ReplacesSeat channel (Some (record { queue = number; is_rung = false })) seats.old.items seats.new.items) }
-    ensures err { OnErr result (queues.new.items ≡ queues.old.items) }
-    ensures same { OnErr result ((c : ℕ) → seat_at seats.new.items c ≡ seat_at seats.old.items c) }
+    requires { number < length queues.old }
+    ensures ok { OnOk result (queues.new ≡ changed_at (spec.with_caller channel) number queues.old) }
+    ensures seated { OnOk result (ReplacesSeat channel (Some (record { queue = number; is_rung = false })) seats.old seats.new) }
+    ensures err { OnErr result (queues.new ≡ queues.old) }
+    ensures same { OnErr result ((c : ℕ) → seat_at seats.new c ≡ seat_at seats.old c) }
 {
-    make_room(seats, channel)?;
-    let queue = &mut queues[number];
-    queue.push_caller(channel)?;
-    put_seat(
+    make_room(seats)?;
+    queues.push_caller(number, channel)?;
+    take_seat(
         seats,
         channel,
-        Some(Seat {
+        Seat {
             queue: number,
             is_rung: false,
-        }),
+        },
     );
     Ok(())
 }
 
-/// Takes a channel out of the queue in which it waits. The agents that ring for it become idle.
+/// Takes a channel out of the queue in which it waits. The agents that ring for it, where some do, become idle.
 pub(crate) fn unseat(
-    queues: &mut Vec<Queue>,
-    agents: &mut Vec<Agent>,
-    seats: &mut Vec<Option<Seat>>,
-    number: usize,
+    queues: &mut QueueList,
+    agents: &mut Agents,
+    seats: &mut Seats,
+    seat: Seat,
     channel: u32,
 )
-    requires queue { number < vec_len queues.old }
-    requires seat { channel < vec_len seats.old }
-    ensures queues { queues.new.items ≡ changed_at (spec.without_caller channel) number queues.old.items }
-    ensures agents { agents.new.items ≡ all_freed channel agents.old.items }
-    ensures seats { ReplacesSeat channel None seats.old.items seats.new.items }
+    requires within { seat.queue < length queues.old }
+    requires rung { seat.is_rung ≡ is_rung agents.old channel }
+    ensures queues { queues.new ≡ changed_at (spec.without_caller channel) seat.queue queues.old }
+    ensures agents { agents.new ≡ all_freed channel agents.old }
+    ensures seats { ReplacesSeat channel None seats.old seats.new }
 {
-    let queue = &mut queues[number];
-    queue.remove_caller(channel);
-    free_all(agents, channel);
-    put_seat(seats, channel, None);
+    queues.remove_caller(seat.queue, channel);
+    if seat.is_rung {
+        agents.free_all(channel);
+    }
+    leave_seat(seats, channel);
 }
 
 impl Queues {
@@ -109,7 +109,7 @@ impl Queues {
                     &mut self.queues,
                     &mut self.agents,
                     &mut self.seats,
-                    seat.queue,
+                    seat,
                     channel,
                 );
                 true
@@ -122,7 +122,7 @@ impl Queues {
     pub fn should_leave(&self, queue: usize) -> bool
         ensures { result ≡ spec.should_leave self.now queue }
     {
-        match self.queues.get(queue) {
+        match self.queues.list().get(queue) {
             None => false,
             Some(queue) => queue.should_leave(),
         }

@@ -2,6 +2,7 @@
 #![tactic(auto)]
 
 mod agent;
+mod agents;
 mod answering;
 mod asking;
 mod call;
@@ -12,9 +13,12 @@ mod file;
 mod join;
 mod joining;
 mod member;
+mod members;
 mod membership;
 mod offer;
+mod places;
 mod queue;
+mod queue_list;
 mod queues;
 mod seat;
 mod setting;

@@ -1,9 +1,8 @@
 //! A member of a queue.
-ghost use Rattle.std.specs.Prelude.{◌≡◌, ◌++◌, ◌∷◌, [], map, OnOk, OnErr, IfSome, ◌<◌, length};
-ghost use Rattle.std.specs.List.{find, list_any, position};
-ghost use Rattle.std.specs.Option.{option_copied};
+ghost use Rattle.std.specs.Prelude.{◌≡◌, IfSome, ◌<◌, length};
+ghost use Rattle.std.specs.List.{position};
 ghost use Rattle.dp_queue.specs.Calls as calls;
-ghost use Rattle.dp_queue.specs.Changes.{without, one_more};
+ghost use Rattle.dp_queue.specs.Changes.{one_more};
 ghost use Rattle.dp_queue.specs.Members as spec;
 
 /// A member of a queue, and what the queue knows of it.
@@ -42,20 +41,6 @@ pub(crate) fn has_active(members: &[Member]) -> bool
     members.iter().any(|member| !member.is_paused)
 }
 
-/// Whether some member is this agent.
-pub(crate) fn has_agent(members: &[Member], agent: usize) -> bool
-    ensures { result ≡ list_any (spec.is_agent agent) members.now }
-{
-    members.iter().any(|member| member.agent == agent)
-}
-
-/// The member that is this agent.
-pub(crate) fn find_agent(members: &[Member], agent: usize) -> Option<&Member>
-    ensures { option_copied result ≡ find (spec.is_agent agent) members.now }
-{
-    members.iter().find(|member| member.agent == agent)
-}
-
 /// Where the member that is this agent stands.
 pub(crate) fn place_of(members: &[Member], agent: usize) -> Option<usize>
     ensures place { result ≡ position (spec.is_agent agent) members.now }
@@ -64,17 +49,8 @@ pub(crate) fn place_of(members: &[Member], agent: usize) -> Option<usize>
     members.iter().position(|member| member.agent == agent)
 }
 
-/// Takes the member out that is this agent.
-pub(crate) fn take_member(members: &mut Vec<Member>, agent: usize)
-    ensures { members.new.items ≡ without (spec.is_agent agent) members.old.items }
-{
-    if let Some(place) = place_of(members, agent) {
-        let _member = members.remove(place);
-    }
-}
-
 /// The member, paused or not paused if it is the agent.
-fn paused_member(member: Member, agent: usize, is_paused: bool) -> Member
+pub(crate) fn paused_member(member: Member, agent: usize, is_paused: bool) -> Member
     ensures { result ≡ spec.paused_member agent is_paused member }
 {
     if member.agent == agent {
@@ -87,15 +63,6 @@ fn paused_member(member: Member, agent: usize, is_paused: bool) -> Member
     }
 }
 
-/// Pauses the member that is this agent, or ends its pause.
-pub(crate) fn pause_member(members: &mut [Member], agent: usize, is_paused: bool)
-    ensures { members.new ≡ map (spec.paused_member agent is_paused) members.old }
-{
-    for member in members.iter_mut() {
-        *member = paused_member(*member, agent, is_paused);
-    }
-}
-
 /// One more; the greatest count stays.
 pub(crate) fn one_more(count: u64) -> u64
     ensures { result ≡ one_more count }
@@ -104,7 +71,7 @@ pub(crate) fn one_more(count: u64) -> u64
 }
 
 /// The member behind the end of a call of the agent.
-fn finished_member(member: Member, agent: usize, count: u64) -> Member
+pub(crate) fn finished_member(member: Member, agent: usize, count: u64) -> Member
     ensures { result ≡ calls.finished_member agent count member }
 {
     if member.agent == agent {
@@ -115,14 +82,5 @@ fn finished_member(member: Member, agent: usize, count: u64) -> Member
         }
     } else {
         member
-    }
-}
-
-/// Counts a finished call for the member that is this agent.
-pub(crate) fn finish_call(members: &mut [Member], agent: usize, count: u64)
-    ensures { members.new ≡ map (calls.finished_member agent count) members.old }
-{
-    for member in members.iter_mut() {
-        *member = finished_member(*member, agent, count);
     }
 }

@@ -1,21 +1,24 @@
 //! Which call of a queue is offered next, and to which agents, after the Asterisk documentation's page on queues.
-ghost use Rattle.std.specs.Prelude.{◌≡◌, ◌+◌, ◌<◌, ◌≤◌, ◌^◌, not, fold, slice_get, vec_len, Some};
-ghost use Rattle.std.specs.List.{find};
+ghost use Rattle.std.specs.Prelude.{◌≡◌, ◌+◌, ◌<◌, ◌^◌, not, length, slice_get, Some, if◌then◌else◌};
+ghost use Rattle.std.specs.List.{All, filter, find};
 ghost use Rattle.std.specs.Option.{option_copied, option_to_list};
-ghost use Rattle.dp_queue.specs.Agents.{is_rung};
+ghost use Rattle.dp_queue.specs.Agents.{is_rung, with_state_at};
 ghost use Rattle.dp_queue.specs.Changes.{changed_at};
 ghost use Rattle.dp_queue.specs.Choices as choices;
+ghost use Rattle.dp_queue.specs.Good.{StandOnce};
 ghost use Rattle.dp_queue.specs.Offers as spec;
 ghost use Rattle.dp_queue.specs.Queues.{queue_number};
 ghost use Rattle.dp_queue.specs.Seats.{AreSeated, is_unrung};
 
-use crate::agent::{Agent, AgentState, set_state};
-use crate::choice::{is_candidate, is_idle_at, least_penalty, picked};
+use crate::agent::{Agent, AgentState};
+use crate::agents::Agents;
+use crate::choice::{is_candidate, least_penalty, picked};
 use crate::fault::OfferFault;
 use crate::member::Member;
-use crate::queue::{Queue, queue_number};
+use crate::queue::Queue;
+use crate::queue_list::QueueList;
 use crate::queues::Queues;
-use crate::seat::{Seat, put_seat, seat_at};
+use crate::seat::{Seat, Seats, put_seat, seat_at};
 use crate::settings::Strategy;
 use std::collections::VecDeque;
 
@@ -35,7 +38,7 @@ pub(crate) struct Asked {
 }
 
 /// Whether no agent rings for the channel, by its seat.
-fn is_unrung(seats: &[Option<Seat>], channel: u32) -> bool
+fn is_unrung(seats: &Seats, channel: u32) -> bool
     ensures { result ≡ is_unrung seats.now channel }
 {
     match seat_at(seats, channel) {
@@ -45,7 +48,7 @@ fn is_unrung(seats: &[Option<Seat>], channel: u32) -> bool
 }
 
 /// The first channel of a waiting list for which no agent rings, by the seats.
-fn find_unrung<'a>(waiting: &'a VecDeque<u32>, seats: &[Option<Seat>]) -> Option<&'a u32>
+fn find_unrung<'a>(waiting: &'a VecDeque<u32>, seats: &Seats) -> Option<&'a u32>
     ensures { option_copied result ≡ find (is_unrung seats.now) waiting.now.items }
 {
     waiting.iter().find(|channel| is_unrung(seats, **channel))
@@ -55,7 +58,7 @@ fn find_unrung<'a>(waiting: &'a VecDeque<u32>, seats: &[Option<Seat>]) -> Option
 fn ask_in(
     queue: &Queue,
     agents: &[Agent],
-    seats: &[Option<Seat>],
+    seats: &Seats,
     number: usize,
 ) -> Result<Asked, OfferFault>
     requires { find (is_unrung seats.now) queue.now.waiting ≡ find (λ channel. not (is_rung agents.now channel)) queue.now.waiting }
@@ -76,59 +79,53 @@ fn ask_in(
 
 /// What is asked for by an offer of the queue of a name.
 fn ask(
-    queues: &[Queue],
+    queues: &QueueList,
     agents: &[Agent],
-    seats: &[Option<Seat>],
+    seats: &Seats,
     name: &[u8],
 ) -> Result<Asked, OfferFault>
     requires { AreSeated seats.now queues.now agents.now }
     ensures { result ≡ spec.asked_at queues.now agents.now (queue_number queues.now name.now) }
 {
-    match queue_number(queues, name) {
+    match queues.number_of(name) {
         None => Err(OfferFault::NoQueue),
-        Some(number) => ask_in(&queues[number], agents, seats, number),
+        Some(number) => ask_in(&queues.list()[number], agents, seats, number),
     }
 }
 
-/// Makes the agent of a number ring, if it is idle: how many ring then.
-fn ring_one(agents: &mut Vec<Agent>, asked: Asked, number: usize, count: usize) -> usize
-    requires { count + 1 < 2 ^ 64 }
-    ensures rung { record { agents = agents.new.items; count = result }
-        ≡ spec.with_ring asked.queue asked.channel (record { agents = agents.old.items; count = count }) number }
-    ensures bound { result ≤ count + 1 }
+/// Makes the agent of a number ring.
+fn ring_one(agents: &mut Agents, asked: Asked, number: usize)
+    ensures { agents.new ≡ with_state_at number (AgentState.Ringing asked.queue asked.channel) agents.old }
 {
-    if !is_idle_at(agents, number) {
-        return count;
-    }
-    set_state(
-        agents,
+    agents.set_state(
         number,
         AgentState::Ringing {
             queue: asked.queue,
             channel: asked.channel,
         },
     );
+}
+
+/// Makes the agent of a member ring, if an offer may ring the member and it has the penalty: how many ring then.
+fn ring_candidate(agents: &mut Agents, asked: Asked, member: &Member, count: usize) -> usize
+    requires { count + 1 < 2 ^ 64 }
+    ensures agents { agents.new ≡ (if choices.is_candidate agents.old asked.penalty member.now
+        then with_state_at member.now.agent (AgentState.Ringing asked.queue asked.channel) agents.old else agents.old) }
+    ensures count { result ≡ count + (if choices.is_candidate agents.old asked.penalty member.now then 1 else 0) }
+{
+    if !is_candidate(agents.list(), asked.penalty, member) {
+        return count;
+    }
+    ring_one(agents, asked, member.agent);
     count + 1
 }
 
-/// Makes the agent of a member ring, if the member may be rung by then and has the penalty: how many ring then.
-fn ring_candidate(agents: &mut Vec<Agent>, asked: Asked, member: &Member, count: usize) -> usize
-    requires { count + 1 < 2 ^ 64 }
-    ensures rung { record { agents = agents.new.items; count = result }
-        ≡ spec.with_candidate asked (record { agents = agents.old.items; count = count }) member.now }
-    ensures bound { result ≤ count + 1 }
-{
-    if is_candidate(agents, asked.penalty, member) {
-        ring_one(agents, asked, member.agent, count)
-    } else {
-        count
-    }
-}
-
 /// Makes the agents of all candidates ring: how many do.
-fn ring_candidates(agents: &mut Vec<Agent>, asked: Asked, members: &[Member]) -> usize
-    ensures { record { agents = agents.new.items; count = result }
-        ≡ fold (spec.with_candidate asked) (record { agents = agents.old.items; count = 0 }) members.now }
+fn ring_candidates(agents: &mut Agents, asked: Asked, members: &[Member]) -> usize
+    requires { StandOnce members.now }
+    ensures agents { agents.new ≡ spec.all_ringing asked.queue asked.channel
+        (filter (choices.is_candidate agents.old asked.penalty) members.now) agents.old }
+    ensures count { result ≡ length (filter (choices.is_candidate agents.old asked.penalty) members.now) }
 {
     let mut count: usize = 0;
     let mut left = members;
@@ -140,57 +137,34 @@ fn ring_candidates(agents: &mut Vec<Agent>, asked: Asked, members: &[Member]) ->
 }
 
 /// Makes the agent of the member ring, where there is one: how many do.
-fn ring_picked(agents: &mut Vec<Agent>, asked: Asked, picked: Option<&Member>) -> usize
-    ensures { record { agents = agents.new.items; count = result }
-        ≡ spec.all_rung asked.queue asked.channel agents.old.items (option_to_list (option_copied picked.entry)) }
+fn ring_picked(agents: &mut Agents, asked: Asked, picked: Option<&Member>) -> usize
+    ensures agents { agents.new ≡ spec.all_ringing asked.queue asked.channel (option_to_list (option_copied picked.entry)) agents.old }
+    ensures count { result ≡ length (option_to_list (option_copied picked.entry)) }
 {
     match picked {
         None => 0,
-        Some(member) => ring_one(agents, asked, member.agent, 0),
+        Some(member) => {
+            ring_one(agents, asked, member.agent);
+            1
+        }
     }
 }
 
 /// Makes the agents ring that the strategy of the queue chooses: how many do.
-fn ring(agents: &mut Vec<Agent>, asked: Asked, queue: &Queue) -> usize
-    ensures { record { agents = agents.new.items; count = result } ≡ spec.rung_of agents.old.items asked (Some queue.now) }
+fn ring(agents: &mut Agents, asked: Asked, queue: &Queue) -> usize
+    requires { StandOnce queue.now.members }
+    ensures agents { agents.new ≡ spec.all_ringing asked.queue asked.channel
+        (spec.chosen_of agents.old asked.penalty queue.now) agents.old }
+    ensures count { result ≡ length (spec.chosen_of agents.old asked.penalty queue.now) }
 {
-    match queue.settings().strategy {
+    let strategy = queue.settings().strategy;
+    match strategy {
         Strategy::RingAll => ring_candidates(agents, asked, queue.members()),
-        Strategy::Linear => {
+        Strategy::Linear | Strategy::LeastRecent | Strategy::FewestCalls | Strategy::RrMemory => {
             let chosen = picked(
-                Strategy::Linear,
+                strategy,
                 queue.last(),
-                agents,
-                asked.penalty,
-                queue.members(),
-            );
-            ring_picked(agents, asked, chosen)
-        }
-        Strategy::LeastRecent => {
-            let chosen = picked(
-                Strategy::LeastRecent,
-                queue.last(),
-                agents,
-                asked.penalty,
-                queue.members(),
-            );
-            ring_picked(agents, asked, chosen)
-        }
-        Strategy::FewestCalls => {
-            let chosen = picked(
-                Strategy::FewestCalls,
-                queue.last(),
-                agents,
-                asked.penalty,
-                queue.members(),
-            );
-            ring_picked(agents, asked, chosen)
-        }
-        Strategy::RrMemory => {
-            let chosen = picked(
-                Strategy::RrMemory,
-                queue.last(),
-                agents,
+                agents.list(),
                 asked.penalty,
                 queue.members(),
             );
@@ -214,10 +188,8 @@ fn last_behind(agents: &[Agent], penalty: u32, queue: &Queue) -> Option<usize>
     ensures { result ≡ choices.last_behind queue.now.settings.strategy queue.now.last (choices.is_candidate agents.now penalty) queue.now.members }
 {
     match queue.settings().strategy {
-        Strategy::RingAll => queue.last(),
-        Strategy::Linear => queue.last(),
-        Strategy::LeastRecent => queue.last(),
-        Strategy::FewestCalls => queue.last(),
+        Strategy::RingAll | Strategy::Linear | Strategy::LeastRecent | Strategy::FewestCalls =>
+            queue.last(),
         Strategy::RrMemory => {
             let chosen = picked(
                 Strategy::RrMemory,
@@ -232,15 +204,18 @@ fn last_behind(agents: &[Agent], penalty: u32, queue: &Queue) -> Option<usize>
 }
 
 /// Makes the agents ring that the queue chooses, and lets it remember its choice: how many ring.
-fn ring_at(queues: &mut Vec<Queue>, agents: &mut Vec<Agent>, asked: Asked) -> usize
-    requires { asked.queue < vec_len queues.old }
-    ensures queues { queues.new.items ≡ changed_at (spec.with_choice agents.old.items asked.penalty) asked.queue queues.old.items }
-    ensures agents { record { agents = agents.new.items; count = result } ≡ spec.rung_of agents.old.items asked (slice_get queues.old.items asked.queue) }
+fn ring_at(queues: &mut QueueList, agents: &mut Agents, asked: Asked) -> usize
+    requires queue { asked.queue < length queues.old }
+    requires once { All (λ queue. StandOnce queue.members) queues.old }
+    ensures queues { queues.new ≡ changed_at (spec.with_choice agents.old asked.penalty) asked.queue queues.old }
+    ensures agents { agents.new ≡ spec.all_ringing asked.queue asked.channel
+        (spec.chosen_in agents.old asked.penalty (slice_get queues.old asked.queue)) agents.old }
+    ensures count { result ≡ length (spec.chosen_in agents.old asked.penalty (slice_get queues.old asked.queue)) }
 {
-    let queue = &mut queues[asked.queue];
-    let last = last_behind(agents, asked.penalty, queue);
+    let queue = &queues.list()[asked.queue];
+    let last = last_behind(agents.list(), asked.penalty, queue);
     let count = ring(agents, asked, queue);
-    queue.set_last(last);
+    queues.set_last(asked.queue, last);
     count
 }
 
@@ -251,7 +226,7 @@ impl Queues {
     pub fn offer(&mut self, queue: &[u8]) -> Result<Offered, OfferFault>
         ensures { spec.offer_row self.old queue.now ≡ (self.new, result) }
     {
-        match ask(&self.queues, &self.agents, &self.seats, queue) {
+        match ask(&self.queues, self.agents.list(), &self.seats, queue) {
             Err(fault) => Err(fault),
             Ok(asked) => {
                 let rung = ring_at(&mut self.queues, &mut self.agents, asked);
@@ -259,10 +234,10 @@ impl Queues {
                 put_seat(
                     &mut self.seats,
                     asked.channel,
-                    Some(Seat {
+                    Seat {
                         queue: asked.queue,
                         is_rung,
-                    }),
+                    },
                 );
                 Ok(Offered {
                     channel: asked.channel,

@@ -1,22 +1,19 @@
 //! A call queue.
-ghost use Rattle.std.specs.Prelude.{◌≡◌, ◌==◌, OnOk, OnErr, IfSome, ◌<◌, length};
+ghost use Rattle.std.specs.Prelude.{◌≡◌, ◌==◌, false, OnOk, OnErr, IfSome, ◌<◌, length};
 ghost use Rattle.std.specs.List.{find, position};
-ghost use Rattle.std.specs.Option.{option_copied};
 ghost use Rattle.std.specs.VecDeque.{deque_len};
 ghost use Rattle.dp_queue.specs.Changes.{without};
 ghost use Rattle.dp_queue.specs.Calls as calls;
 ghost use Rattle.dp_queue.specs.File as file;
 ghost use Rattle.dp_queue.specs.Joining as joining;
 ghost use Rattle.dp_queue.specs.Members as members;
-ghost use Rattle.dp_queue.specs.Queues as spec;
 
 use crate::join::Join;
-use crate::member::{
-    Member, find_agent, finish_call, has_active, has_agent, pause_member, take_member,
-};
+use crate::member::{Member, has_active};
+use crate::members::Members;
 use crate::setting::{Setting, put_setting, usual_settings};
 use crate::settings::{EmptyRule, Settings};
-use dp_conf::{NoMemory, Text, same_word};
+use dp_conf::{NoMemory, Text};
 use std::alloc::Global;
 use std::collections::VecDeque;
 use std::marker::Model;
@@ -27,7 +24,7 @@ use std::marker::Model;
 pub struct Queue {
     name: Text,
     settings: Settings,
-    members: Vec<Member>,
+    members: Members,
     waiting: VecDeque<u32>,
     last: Option<usize>,
 }
@@ -40,7 +37,7 @@ impl Model for Queue {
     ghost view = { λ queue. record {
       name = queue.name;
       settings = queue.settings;
-      members = queue.members.items;
+      members = queue.members;
       waiting = queue.waiting.items;
       last = queue.last;
     } };
@@ -93,7 +90,7 @@ impl Queue {
         Queue {
             name,
             settings: usual_settings(alloc),
-            members: Vec::new(alloc),
+            members: Members::new(alloc),
             waiting: VecDeque::new(alloc),
             last: None,
         }
@@ -124,7 +121,7 @@ impl Queue {
     pub fn members(&self) -> &[Member]
         ensures { result.now ≡ self.now.members }
     {
-        &self.members
+        self.members.list()
     }
 
     /// The channels that wait, the first of them first.
@@ -138,7 +135,7 @@ impl Queue {
     pub(crate) fn join_answer(&self, number: usize) -> Join
         ensures { result ≡ joining.join_answer number self.now }
     {
-        if refuses_join(self.settings.joinempty, &self.members) {
+        if refuses_join(self.settings.joinempty, self.members.list()) {
             return Join::Empty;
         }
         let maxlen = self.settings.maxlen as usize;
@@ -152,7 +149,7 @@ impl Queue {
     pub(crate) fn should_leave(&self) -> bool
         ensures { result ≡ joining.refuses_stay self.now.settings.leavewhenempty self.now.members }
     {
-        refuses_stay(self.settings.leavewhenempty, &self.members)
+        refuses_stay(self.settings.leavewhenempty, self.members.list())
     }
 
     /// Adds a call behind the others.
@@ -196,18 +193,19 @@ impl Queue {
     pub(crate) fn has_member(&self, agent: usize) -> bool
         ensures { result ≡ members.has_member agent self.now }
     {
-        has_agent(&self.members, agent)
+        self.members.has(agent)
     }
 
     /// The member that is the agent of a number.
-    pub(crate) fn find_member(&self, agent: usize) -> Option<&Member>
-        ensures { option_copied result ≡ find (members.is_agent agent) self.now.members }
+    pub(crate) fn find_member(&self, agent: usize) -> Option<Member>
+        ensures { result ≡ find (members.is_agent agent) self.now.members }
     {
-        find_agent(&self.members, agent)
+        self.members.find(agent)
     }
 
-    /// Adds a member behind the others.
+    /// Adds a member behind the others, whose agent is none.
     pub(crate) fn push_member(&mut self, member: Member) -> Result<(), NoMemory>
+        requires { members.has_member member.agent self.old ≡ false }
         ensures ok { OnOk result (self.new ≡ members.with_member member self.old) }
         ensures err { OnErr result (self.new ≡ self.old) }
     {
@@ -219,30 +217,20 @@ impl Queue {
     pub(crate) fn remove_member(&mut self, agent: usize)
         ensures { self.new ≡ members.without_member agent self.old }
     {
-        take_member(&mut self.members, agent);
+        self.members.remove(agent);
     }
 
     /// Pauses the member that is the agent of a number, or ends its pause.
     pub(crate) fn pause(&mut self, agent: usize, is_paused: bool)
         ensures { self.new ≡ members.paused_queue agent is_paused self.old }
     {
-        pause_member(&mut self.members, agent, is_paused);
+        self.members.pause(agent, is_paused);
     }
 
     /// Counts a finished call for the member that is the agent of a number.
     pub(crate) fn finish(&mut self, agent: usize, count: u64)
         ensures { self.new ≡ calls.finished_queue agent count self.old }
     {
-        finish_call(&mut self.members, agent, count);
+        self.members.finish(agent, count);
     }
-}
-
-/// The number of the queue of this name, in any ASCII case.
-pub(crate) fn queue_number(queues: &[Queue], name: &[u8]) -> Option<usize>
-    ensures number { result ≡ spec.queue_number queues.now name.now }
-    ensures within { IfSome result (λ number. number < length queues.now) }
-{
-    queues
-        .iter()
-        .position(|queue| same_word(queue.name().bytes(), name))
 }

@@ -1,13 +1,15 @@
 //! The queues of an exchange with their agents.
-ghost use Rattle.std.specs.Prelude.{◌≡◌, ◌<◌, ℕ, List, length, vec_len, IfSome};
+ghost use Rattle.std.specs.Prelude.{◌≡◌, ◌<◌, ℕ, List, length, IfSome};
 ghost use Rattle.dp_queue.specs.Good.{IsGood};
 ghost use Rattle.dp_queue.specs.Joining.{waits_in, waiting_count};
 ghost use Rattle.dp_queue.specs.Queues as spec;
 ghost use Rattle.dp_queue.specs.Seats.{seat_at};
 
 use crate::agent::Agent;
-use crate::queue::{Queue, queue_number};
-use crate::seat::{Seat, seat_at};
+use crate::agents::Agents;
+use crate::queue::Queue;
+use crate::queue_list::QueueList;
+use crate::seat::{Seats, seat_at};
 use dp_vars::Counts;
 use std::marker::Model;
 
@@ -17,10 +19,10 @@ use std::marker::Model;
 /// are never dropped, and the count of finished calls of all queues, which stays at its greatest value.
 #[derive(Debug, Drop)]
 pub struct Queues {
-    pub(crate) queues: Vec<Queue>,
-    pub(crate) agents: Vec<Agent>,
-    // By the number of a channel where it waits, so that no call walks over the waiting lists of all queues.
-    pub(crate) seats: Vec<Option<Seat>>,
+    pub(crate) queues: QueueList,
+    pub(crate) agents: Agents,
+    // Where each channel waits, so that no call walks over the waiting lists of all queues.
+    pub(crate) seats: Seats,
     pub(crate) finished: u64,
 }
 
@@ -31,9 +33,9 @@ impl Model for Queues {
 
     ghost Value = { QueuesOf };
 
-    ghost view = { λ q. record { queues = q.queues.items; agents = q.agents.items; finished = q.finished } };
+    ghost view = { λ q. record { queues = q.queues; agents = q.agents; finished = q.finished } };
 
-    ghost invariant = { λ q. AreLinked q.queues.items q.agents.items × AreSeated q.seats.items q.queues.items q.agents.items };
+    ghost invariant = { λ q. AreLinked q.queues q.agents × AreSeated q.seats q.queues q.agents };
 }
 
 impl Queues {
@@ -41,14 +43,14 @@ impl Queues {
     pub fn queues(&self) -> &[Queue]
         ensures { result.now ≡ self.now.queues }
     {
-        &self.queues
+        self.queues.list()
     }
 
     /// The agents in the order in which they were first named; the number of an agent is its place.
     pub fn agents(&self) -> &[Agent]
         ensures { result.now ≡ self.now.agents }
     {
-        &self.agents
+        self.agents.list()
     }
 
     /// How many calls of all queues are finished.
@@ -63,7 +65,7 @@ impl Queues {
         ensures number { result ≡ spec.queue_number self.now.queues queue.now }
         ensures within { IfSome result (λ number. number < length self.now.queues) }
     {
-        queue_number(&self.queues, queue)
+        self.queues.number_of(queue)
     }
 
     /// The number of the queue in which the channel waits.
@@ -76,9 +78,10 @@ impl Queues {
         }
     }
 
-    /// What is known of all queues: a channel waits at most once, the channel of an agent that rings waits in the queue
-    /// that the agent names, one that an agent talks with waits nowhere, and no two agents talk with one channel. It
-    /// does nothing.
+    /// What is known of all queues: a channel waits at most once; the channel of an agent that rings waits in the queue
+    /// that the agent names; one that an agent talks with waits nowhere, and the queue that the agent names is one of the
+    /// queues; no two agents talk with one channel; each member of a queue is one of the agents; no agent is a member of
+    /// one queue twice; and no two agents have one name. It does nothing.
     pub fn are_good(&self)
         ensures { IsGood self.now }
     {
@@ -90,9 +93,9 @@ impl Counts for Queues {
     ghost count = { λ q queue. waiting_count q.queues queue };
 
     fn waiting(&self, queue: &[u8]) -> usize {
-        match queue_number(&self.queues, queue) {
+        match self.queues.number_of(queue) {
             None => 0,
-            Some(number) => self.queues[number].waiting_count(),
+            Some(number) => self.queues.list()[number].waiting_count(),
         }
     }
 }

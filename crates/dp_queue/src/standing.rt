@@ -4,9 +4,12 @@ ghost use Rattle.dp_queue.specs.Calls as calls;
 ghost use Rattle.dp_queue.specs.Queues.{no_queues};
 ghost use Rattle.dp_queue.specs.Rest.{IsAtRest};
 
-use crate::agent::{AgentState, agent_number, state_at};
+use crate::agent::{AgentState, state_at};
+use crate::agents::Agents;
 use crate::call::Call;
+use crate::queue_list::QueueList;
 use crate::queues::Queues;
+use crate::seat::Seats;
 use std::alloc::Global;
 
 impl Queues {
@@ -16,9 +19,9 @@ impl Queues {
         ensures rest { IsAtRest result }
     {
         Queues {
-            queues: Vec::new(alloc),
-            agents: Vec::new(alloc),
-            seats: Vec::new(alloc),
+            queues: QueueList::new(alloc),
+            agents: Agents::new(alloc),
+            seats: Seats::new(alloc),
             finished: 0,
         }
     }
@@ -27,8 +30,8 @@ impl Queues {
     pub fn talk_of(&self, agent: &[u8]) -> Option<Call>
         ensures { result ≡ (calls.done_row self.now agent.now).1 }
     {
-        let number = agent_number(&self.agents, agent);
-        match state_at(&self.agents, number) {
+        let number = self.agents.number_of(agent);
+        match state_at(self.agents.list(), number) {
             AgentState::Talking { queue, channel } => Some(Call {
                 queue,
                 agent: number,

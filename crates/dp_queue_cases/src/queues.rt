@@ -4,9 +4,11 @@ mod manual;
 mod offers;
 mod render;
 mod rows;
+mod sizes;
 mod steps;
 
 use crate::queues::render::{push_fault, shown};
+use crate::queues::sizes::{count_of, file_of, push_counts};
 use crate::queues::steps::take;
 use dp_queue::{QueueFault, Queues};
 use dp_rows::{Question, bytes_of, check_all};
@@ -22,6 +24,24 @@ impl Question for Loads {
         let read = Queues::load(alloc, &text);
         let got = shown(alloc, &read)?;
         Ok(got)
+    }
+}
+
+/// How much a file of many members or queues loads as.
+struct Counted;
+
+impl Question for Counted {
+    fn answer(alloc: Global, asked: &str) -> Result<String, Fail> {
+        let (word, count) = asked.split_once(' ').unwrap_or((asked, ""));
+        let text = file_of(alloc, word, count_of(count))?;
+        match Queues::load(alloc, text.as_bytes()) {
+            Ok(queues) => {
+                let mut out = String::new(alloc);
+                push_counts(&mut out, &queues)?;
+                Ok(out)
+            }
+            Err(fault) => fault_text(alloc, fault),
+        }
     }
 }
 
@@ -66,6 +86,14 @@ fn files_load_so(rt: HostRuntime) -> Result<(), Fail> {
 }
 
 #[test]
+fn many_load_so(rt: HostRuntime) -> Result<(), Fail> {
+    check_all::<Counted>(rt.alloc(), &[sizes::SIZES])
+}
+
+#[test]
 fn steps_answer_so(rt: HostRuntime) -> Result<(), Fail> {
-    check_all::<Acts>(rt.alloc(), &[rows::WORKED, offers::OFFERS, manual::OFFERS])
+    check_all::<Acts>(
+        rt.alloc(),
+        &[rows::WORKED, offers::OFFERS, manual::OFFERS, sizes::STEPS],
+    )
 }

@@ -20,9 +20,7 @@ use Rattle.dp_plan.specs.declared.entry.EntryId.{EntryId}
 use Rattle.dp_lookup.specs.FoundEntry.{passes, found_by, priority_at}
 use Rattle.dp_lookup.proofs.RankedLemmas.{first_is_least}
 use Rattle.dp_trie.specs.Known.{Known, KeptContext, known_of, known_at, KeepsEntries, Keeps, class_count, kept_at, found_first, FindsPattern}
-use Rattle.dp_trie.specs.Asked.{hit_of}
 use Rattle.dp_trie.specs.Ranked.{IsPattern, ArePlainFirst, AreInOrder, known_cmp}
-use Rattle.dp_trie.specs.declared.question.Hit.{Hit}
 use Rattle.dp_trie.proofs.BuildLemmas.{take-get}
 use Rattle.dp_trie.proofs.RisingLemmas.{sorted-places}
 use Rattle.dp_trie.proofs.TreeLemmas.{drop-get}
@@ -276,23 +274,23 @@ found-pattern plan kept keeps test order count few id entry found there = by (fo
 first-step : (kept : List KeptContext) (test : Known → Bool) (order : List ℕ) (k number : ℕ) → slice_get order k ≡ Some number → found_first kept test (drop k order) ≡ option_or (find test (kept_at kept number)) (found_first kept test (drop (k + 1) order))
 first-step kept test order k number here = ap (found_first kept test) (drop-get order k number here)
 
-some-first : (a b : Option Known) → is_some (option_map hit_of a) ≡ true → option_or a b ≡ a
-some-first None b e = absurd cc
-some-first (Some x) b e = refl
+some-first : {X : Type 0} (f : Known → X) (a b : Option Known) → is_some (option_map f a) ≡ true → option_or a b ≡ a
+some-first f None b e = absurd cc
+some-first f (Some x) b e = refl
 
-none-first : (a b : Option Known) → is_some (option_map hit_of a) ≡ false → option_or a b ≡ b
-none-first None b e = refl
-none-first (Some x) b e = absurd cc
+none-first : {X : Type 0} (f : Known → X) (a b : Option Known) → is_some (option_map f a) ≡ false → option_or a b ≡ b
+none-first f None b e = refl
+none-first f (Some x) b e = absurd cc
 
 -- the first context that has a hit has the first of all
-pub first-found : (kept : List KeptContext) (test : Known → Bool) (order : List ℕ) (k number : ℕ) (r : Option Hit) → slice_get order k ≡ Some number → r ≡ option_map hit_of (find test (kept_at kept number)) → is_some r ≡ true → found_first kept test (drop k order) ≡ found_first kept test order → find test (kept_at kept number) ≡ found_first kept test order
-first-found kept test order k number r here is some same =
-    sym (some-first (find test (kept_at kept number)) (found_first kept test (drop (k + 1) order)) (ap is_some (sym is) ∙ some))
+pub first-found : {X : Type 0} (f : Known → X) (kept : List KeptContext) (test : Known → Bool) (order : List ℕ) (k number : ℕ) (r : Option X) → slice_get order k ≡ Some number → r ≡ option_map f (find test (kept_at kept number)) → is_some r ≡ true → found_first kept test (drop k order) ≡ found_first kept test order → find test (kept_at kept number) ≡ found_first kept test order
+first-found f kept test order k number r here is some same =
+    sym (some-first f (find test (kept_at kept number)) (found_first kept test (drop (k + 1) order)) (ap is_some (sym is) ∙ some))
     ∙ (sym (first-step kept test order k number here) ∙ same)
 
-pub first-past : (kept : List KeptContext) (test : Known → Bool) (order : List ℕ) (k number : ℕ) (r : Option Hit) → slice_get order k ≡ Some number → r ≡ option_map hit_of (find test (kept_at kept number)) → is_some r ≡ false → found_first kept test (drop k order) ≡ found_first kept test order → found_first kept test (drop (k + 1) order) ≡ found_first kept test order
-first-past kept test order k number r here is none same =
-    sym (none-first (find test (kept_at kept number)) (found_first kept test (drop (k + 1) order)) (ap is_some (sym is) ∙ none))
+pub first-past : {X : Type 0} (f : Known → X) (kept : List KeptContext) (test : Known → Bool) (order : List ℕ) (k number : ℕ) (r : Option X) → slice_get order k ≡ Some number → r ≡ option_map f (find test (kept_at kept number)) → is_some r ≡ false → found_first kept test (drop k order) ≡ found_first kept test order → found_first kept test (drop (k + 1) order) ≡ found_first kept test order
+first-past f kept test order k number r here is none same =
+    sym (none-first f (find test (kept_at kept number)) (found_first kept test (drop (k + 1) order)) (ap is_some (sym is) ∙ none))
     ∙ (sym (first-step kept test order k number here) ∙ same)
 
 -- the sum over the first so many, and one more
@@ -332,17 +330,3 @@ keeps-push number plan kept context keeps one = record {
 
 pub keeps-all : (number : ℕ) (plan : PlanOf) (kept : List KeptContext) → number ≡ length plan.contexts → KeepsUpTo number plan kept → Keeps plan kept
 keeps-all number plan kept all keeps = record { count = keeps.counted ∙ all; each = keeps.each }
-
--- ---- what is handed on
-
-pub hit-id : (o : Option Known) → option_map (λ (h : Hit). h.id) (option_map hit_of o) ≡ option_map (λ (k : Known). k.id) o
-hit-id None = refl
-hit-id (Some k) = refl
-
-pub hit-priority : (o : Option Known) → option_map (λ (h : Hit). h.priority) (option_map hit_of o) ≡ option_map (λ (k : Known). k.priority) o
-hit-priority None = refl
-hit-priority (Some k) = refl
-
-pub hit-some : (o : Option Known) → is_some (option_map hit_of o) ≡ is_some (option_map (λ (k : Known). k.id) o)
-hit-some None = refl
-hit-some (Some k) = refl

@@ -1,9 +1,12 @@
 pub mod BuildLemmas
 pub mod DigitLemmas
 pub mod KeepLemmas
+pub mod LabelLemmas
 pub mod LeapLemmas
 pub mod LinkLemmas
+pub mod MatchLemmas
 pub mod PlainLemmas
+pub mod PointLemmas
 pub mod RisingLemmas
 pub mod TableLemmas
 pub mod TreeLemmas

@@ -1,16 +1,16 @@
 -- What is found among plain names, which stand in order.
-use Rattle.std.proofs.Common.{◌≡◌, ℕ, zero, suc, ◌+◌, ◌-◌, ◌<◌, ◌≤◌, Bool, true, false, cond, ◌==◌, ◌||◌, List, [], ◌∷◌, ◌++◌, length, map, take, drop, get_or, Option, Some, None, MatchOption, inl, inr, arith, refl, sym, ap, subst, ◌∙◌, Ordering, Less, Equal, Greater, nat_cmp, is_eq}
+use Rattle.std.proofs.Common.{◌≡◌, ℕ, zero, suc, ◌+◌, ◌-◌, ◌<◌, ◌≤◌, Bool, true, false, cond, ◌==◌, ◌||◌, List, [], ◌∷◌, ◌++◌, length, map, take, drop, Option, Some, None, MatchOption, inl, inr, arith, refl, sym, ap, subst, ◌∙◌, Ordering, Less, Equal, Greater, nat_cmp, is_eq}
 use Rattle.std.specs.Prelude.{slice_get, slice_range, is_some, find, nat_lt}
 use Rattle.std.specs.List.{AllByRecursion}
-use Rattle.std.specs.List.Sorted.{IsPartitionPoint, IsPartitionedBy}
+use Rattle.std.specs.List.Sorted.{IsPartitionedBy}
 use Rattle.std.specs.Option.{option_map, option_or}
 use Rattle.std.specs.Ordering.{ordering_then}
 use Rattle.std.specs.Cmp.Lexicographic.{slice_cmp}
-use Rattle.std.proofs.lemmas.Bool.{eq-eqb, ne_eqb, ltb-true, ltb-false, lt-ltb, cases_order}
+use Rattle.std.proofs.lemmas.Bool.{eq-eqb, ne_eqb}
 use Rattle.std.proofs.lemmas.Cmp.{ranked}
 use Rattle.std.proofs.lemmas.List.{length-take, length-drop, take-append-drop}
 use Rattle.std.proofs.lemmas.List.Folds.{find-append}
-use Rattle.std.proofs.lemmas.Option.{slice_get-get_or, slice_get_cases, slice_get_within, same_Some}
+use Rattle.std.proofs.lemmas.Option.{slice_get_cases, same_Some}
 use Rattle.dp_pattern.specs.Name.{Meaning, Plain, Pattern, is_one_of}
 use Rattle.dp_pattern.specs.Order.{name_cmp}
 use Rattle.dp_pattern.specs.Walk.{Refused, walked, singles, classes_of}
@@ -20,12 +20,13 @@ use Rattle.dp_trie.specs.Known.{Known, class_count}
 use Rattle.dp_trie.specs.Names.{own_plain, known_plain, side_of, rank, rank_of, fitting, ArePlainRanges, RiseEach, NamesRise, AreFitting}
 use Rattle.dp_trie.specs.Ranked.{known_cmp, AreInOrder}
 use Rattle.dp_trie.specs.Tree.{known_held}
+use Rattle.dp_plan.specs.declared.entry.EntryId.{EntryId}
 use Rattle.dp_trie.specs.declared.node.Held.{Held}
 use Rattle.dp_trie.specs.declared.plain.PlainName.{PlainName}
 use Rattle.dp_trie.specs.declared.plain.Side.{Side}
 use Rattle.dp_trie.specs.declared.plain.Side.TheVariants.{Before, Same, Longer, Behind}
-use Rattle.dp_trie.specs.declared.question.Hit.{Hit}
 use Rattle.dp_trie.proofs.BuildLemmas.{all-at, map-get}
+use Rattle.dp_trie.proofs.PointLemmas.{rising-parted}
 use Rattle.dp_trie.proofs.RisingLemmas.{all-left, all-right, sorted-left, sorted-right, sorted-across, held-rise}
 use Rattle.dp_trie.proofs.TreeLemmas.{find_images, drop-get, drop-end}
 
@@ -66,7 +67,7 @@ side-before name digits n few more = ap (λ l. side_of l (drop n digits)) (ended
 pub side-same : (name digits : List ℕ) (n : ℕ) → length name ≤ n → length digits ≤ n → side_of (drop n name) (drop n digits) ≡ Same
 side-same name digits n few many = ap (λ l. side_of l (drop n digits)) (ended name n few) ∙ (side_short n digits).1 many
 
-rank-most : (s : Side) → rank s ≤ 3
+pub rank-most : (s : Side) → rank s ≤ 3
 rank-most Before = omega arith
 rank-most Same = omega arith
 rank-most Longer = omega arith
@@ -132,44 +133,7 @@ names-at (n ∷ names) digits rise (suc i) (suc j) p q before at_i at_j = names-
 
 -- the names below a rank stand first
 pub ranks-parted : (names : List PlainName) (digits : List ℕ) (limit : ℕ) → NamesRise names → IsPartitionedBy (λ (p : PlainName). nat_lt (rank_of digits p) limit) names
-ranks-parted names digits limit rise i j d few within below = elim (cases_order i j) [
-  | inl same ↦ ap (λ k. nat_lt (rank_of digits (get_or names k d)) limit) same ∙ below
-  | inr (inl before) ↦
-      let at_i = slice_get-get_or names i d (omega (arith, before, within)) in
-      let at_j = slice_get-get_or names j d within in
-      let less = names-at names digits rise i j (get_or names i d) (get_or names j d) before at_i at_j in
-      let under = ltb-true (rank_of digits (get_or names j d)) limit below in
-      lt-ltb (rank_of digits (get_or names i d)) limit (omega (arith, less, under))
-  | inr (inr behind) ↦ absurd (omega (arith, few, behind))
-]
-
-all-first : (P : PlainName → Type 0) (names : List PlainName) (n : ℕ) → ((k : ℕ) (p : PlainName) → k < n → slice_get names k ≡ Some p → P p) → AllByRecursion P (take n names)
-all-first P names zero each = tt
-all-first P [] (suc n) each = tt
-all-first P (p ∷ names) (suc n) each = (each 0 p (omega arith) refl, all-first P names n (λ k q few here. each (suc k) q (omega (arith, few)) here))
-
-all-last : (P : PlainName → Type 0) (names : List PlainName) (n : ℕ) → ((k : ℕ) (p : PlainName) → n ≤ k → slice_get names k ≡ Some p → P p) → AllByRecursion P (drop n names)
-all-last P [] zero each = tt
-all-last P (p ∷ names) zero each = (each 0 p (omega arith) refl, all-last P names 0 (λ k q few here. each (suc k) q (omega arith) here))
-all-last P [] (suc n) each = tt
-all-last P (p ∷ names) (suc n) each = all-last P names n (λ k q few here. each (suc k) q (omega (arith, few)) here)
-
-get_here : (names : List PlainName) (k : ℕ) (p : PlainName) → slice_get names k ≡ Some p → get_or names k p ≡ p
-get_here names k p here = (let inside = slice_get_within names k p here in same_Some (get_or names k p) p (sym (slice_get-get_or names k p inside) ∙ here))
-
-abbrev IsPoint : List ℕ → ℕ → List PlainName → ℕ → Type 0
-IsPoint digits limit names i = IsPartitionPoint (λ (p : PlainName). nat_lt (rank_of digits p) limit ≡ true) (λ (p : PlainName). nat_lt (rank_of digits p) limit ≡ false) names i
-
-pub below-point : (names : List PlainName) (digits : List ℕ) (limit i : ℕ) → IsPoint digits limit names i → AllByRecursion (λ (p : PlainName). rank_of digits p < limit) (take i names)
-below-point names digits limit i point =
-    all-first (λ (p : PlainName). rank_of digits p < limit) names i (λ k p few here.
-    ltb-true (rank_of digits p) limit (ap (λ (q : PlainName). nat_lt (rank_of digits q) limit) (sym (get_here names k p here)) ∙ point.0 k p (omega arith) few))
-
-pub above-point : (names : List PlainName) (digits : List ℕ) (limit i : ℕ) → IsPoint digits limit names i → AllByRecursion (λ (p : PlainName). limit ≤ rank_of digits p) (drop i names)
-above-point names digits limit i point =
-    all-last (λ (p : PlainName). limit ≤ rank_of digits p) names i (λ k p few here.
-    let inside = slice_get_within names k p here in
-    ltb-false (rank_of digits p) limit (ap (λ (q : PlainName). nat_lt (rank_of digits q) limit) (sym (get_here names k p here)) ∙ point.1 k p few inside))
+ranks-parted names digits limit rise = rising-parted (rank_of digits) names limit (names-at names digits rise)
 
 pub rise-drop : (names : List PlainName) (n : ℕ) → NamesRise names → NamesRise (drop n names)
 rise-drop [] zero rise = rise
@@ -270,13 +234,13 @@ module _ (held : List Held) (test : Known → Bool) where
   none-or (Some x) b e = absurd cc
 
   -- the first name that has a hit has the first of all
-  pub names-found : (names : List PlainName) (k : ℕ) (plain : PlainName) (r : Option Hit) → slice_get names k ≡ Some plain → r ≡ option_map hit_of (find test (own_plain held plain)) → is_some r ≡ true → found_in (drop k names) ≡ found_in names → r ≡ option_map hit_of (found_in names)
+  pub names-found : (names : List PlainName) (k : ℕ) (plain : PlainName) (r : Option EntryId) → slice_get names k ≡ Some plain → r ≡ option_map hit_of (find test (own_plain held plain)) → is_some r ≡ true → found_in (drop k names) ≡ found_in names → r ≡ option_map hit_of (found_in names)
   names-found names k plain r here is some same =
       is
       ∙ (some-or (find test (own_plain held plain)) (found_in (drop (k + 1) names)) (ap is_some (sym is) ∙ some)
       ∙ ap (option_map hit_of) (sym (first-of names k plain here) ∙ same))
 
-  pub names-past : (names : List PlainName) (k : ℕ) (plain : PlainName) (r : Option Hit) → slice_get names k ≡ Some plain → r ≡ option_map hit_of (find test (own_plain held plain)) → is_some r ≡ false → found_in (drop k names) ≡ found_in names → found_in (drop (k + 1) names) ≡ found_in names
+  pub names-past : (names : List PlainName) (k : ℕ) (plain : PlainName) (r : Option EntryId) → slice_get names k ≡ Some plain → r ≡ option_map hit_of (find test (own_plain held plain)) → is_some r ≡ false → found_in (drop k names) ≡ found_in names → found_in (drop (k + 1) names) ≡ found_in names
   names-past names k plain r here is none same =
       sym (none-or (find test (own_plain held plain)) (found_in (drop (k + 1) names)) (ap is_some (sym is) ∙ none))
       ∙ (sym (first-of names k plain here) ∙ same)
@@ -365,7 +329,7 @@ module _ (held : List Held) (wanted : Wanted) where
 -- ---- plain names and then patterns
 
 module _ (test : Known → Bool) (first rest : List Known) where
-  pub both-some : (hit : Hit) → Some hit ≡ option_map hit_of (find test first) → (find test (first ++ rest) ≡ find test first)
+  pub both-some : (hit : EntryId) → Some hit ≡ option_map hit_of (find test first) → (find test (first ++ rest) ≡ find test first)
   both-some hit e = find-append test first rest ∙ by (find test first) e
     where
       by : (o : Option Known) → Some hit ≡ option_map hit_of o → option_or o (find test rest) ≡ o

@@ -23,6 +23,11 @@ order-parts n ranked first rest front back order =
       subst (λ l. AreInOrder (map known_now l)) (sym back) (sorted-right known_cmp (map known_now (take n ranked)) (map known_now (drop n ranked)) parts),
     )
 
+-- those up to a place and those behind it are all
+pub whole-known : (n : ℕ) (ranked first rest : List Ranked) → first ≡ take n ranked → rest ≡ drop n ranked → map known_now first ++ map known_now rest ≡ map known_now ranked
+whole-known n ranked first rest front back =
+    sym (map-append known_now first rest) ∙ ap (map known_now) (ap (λ l. l ++ rest) front ∙ (ap (λ l. take n ranked ++ l) back ∙ take-append-drop n ranked))
+
 held_count : (ranked : List Ranked) (held : List Held) → held ≡ map hold_of (map known_now ranked) → length held ≡ length ranked
 held_count ranked held same = ap length same ∙ (length-map (map known_now ranked) hold_of ∙ length-map ranked known_now)
 

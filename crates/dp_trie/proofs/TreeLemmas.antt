@@ -11,15 +11,15 @@ use Rattle.dp_pattern.specs.Name.{Pattern}
 use Rattle.dp_pattern.specs.Walk.{walked, classes_of}
 use Rattle.dp_trie.specs.Asked.{Wanted, fits, asked, holds, hit_held, hit_of}
 use Rattle.dp_trie.specs.Known.{Known}
-use Rattle.dp_trie.specs.Tree.{known_held, own, path_below, path_after, known_from, skipped, depth_below, IsRooted, IsEnd, takes, allows, hold_or_pass, step_visit}
+use Rattle.dp_trie.specs.Tree.{known_held, own, path_below, path_after, known_from, skipped, depth_below, IsRooted, IsEnd, alive, takes, allows, hold_or_pass, step_visit}
+use Rattle.dp_plan.specs.declared.entry.EntryId.{EntryId}
 use Rattle.dp_trie.specs.declared.node.Held.{Held}
 use Rattle.dp_trie.specs.declared.node.Leaf as leaf
 use Rattle.dp_trie.specs.declared.node.Node.{Node}
 use Rattle.dp_trie.specs.declared.node.Step.{Step}
 use Rattle.dp_trie.specs.declared.node.Step.TheVariants.{Class, Leaf}
-use Rattle.dp_trie.specs.declared.question.Hit.{Hit}
 use Rattle.dp_trie.specs.declared.walk.Visit.TheVariants.{Enters, Fails, Holds}
-use Rattle.dp_trie.proofs.WalkLemmas.{alive, alive-push, alive-take, dead-fits, fits-allows}
+use Rattle.dp_trie.proofs.WalkLemmas.{alive-push, alive-take, dead-fits, fits-allows}
 
 -- ---- lists
 
@@ -170,13 +170,13 @@ module _ (held : List Held) (more : Bool) (wanted : Wanted) (digits : List ℕ) 
       never false o e = absurd cc
 
   -- what is found at a leaf that holds it
-  pub record IsHeld (path : List (List ℕ)) (step : Step) (nodes : List Node) (depth : ℕ) (hit : Hit) : Type 0 where
+  pub record IsHeld (path : List (List ℕ)) (step : Step) (nodes : List Node) (depth : ℕ) (hit : EntryId) : Type 0 where
     pub known : Known
     pub found : found_step path step nodes ≡ Some known
     pub same : hit_of known ≡ hit
     pub deep : length (classes_of known.name) ≡ depth
 
-  pub held_at : (step : Step) (path : List (List ℕ)) (depth : ℕ) (nodes : List Node) (hit : Hit) → length path ≡ depth → alive more path digits ≡ true → step_visit held more wanted digits depth step ≡ Holds hit → IsHeld path step nodes depth hit
+  pub held_at : (step : Step) (path : List (List ℕ)) (depth : ℕ) (nodes : List Node) (hit : EntryId) → length path ≡ depth → alive more path digits ≡ true → step_visit held more wanted digits depth step ≡ Holds hit → IsHeld path step nodes depth hit
   held_at (Class class) path depth nodes hit size on e = absurd (never (takes more digits class depth) e)
     where
       never : (b : Bool) → cond b Enters Fails ≡ Holds hit → ⊥
@@ -290,12 +290,12 @@ module _ (held : List Held) (more : Bool) (wanted : Wanted) (digits : List ℕ) 
         }
 
     -- what is found in all nodes, where this one holds it
-    pub record IsFoundHere (hit : Hit) : Type 0 where
+    pub record IsFoundHere (hit : EntryId) : Type 0 where
       pub found : Some hit ≡ option_map hit_of (found_from held more wanted digits [] nodes)
       pub most : count + 1 ≤ length nodes
       pub least : MatchOption (found_from held more wanted digits [] nodes) (Unit {0}) (λ known. length (classes_of known.name) ≤ count + 1)
 
-    pub after-hold : (hit : Hit) → step_visit held more wanted digits node.depth node.step ≡ Holds hit → IsFoundHere hit
+    pub after-hold : (hit : EntryId) → step_visit held more wanted digits node.depth node.step ≡ Holds hit → IsFoundHere hit
     after-hold hit e =
         let is_held = held_at held more wanted digits node.step above node.depth rest hit size taken e in
         let inside = slice_get_within nodes place node here in

@@ -8,17 +8,7 @@ use Rattle.dp_pattern.specs.Walk.{Walked, Refused, Short, Behind, walked}
 use Rattle.dp_pattern.specs.declared.tail.Tail.{Tail}
 use Rattle.dp_pattern.specs.declared.tail.Tail.TheVariants.{End, Dot, Bang}
 use Rattle.dp_trie.specs.Asked.{fits}
-use Rattle.dp_trie.specs.Tree.{takes, allows}
-
--- the walk may still come to something below
-abbrev pub is_alive : Bool → Walked → Bool
-is_alive more Refused = false
-is_alive more Short = more
-is_alive more (Behind digits) = true
-
--- the digits are taken by all classes of the path
-abbrev pub alive : Bool → List (List ℕ) → List ℕ → Bool
-alive more path digits = is_alive more (walked path digits)
+use Rattle.dp_trie.specs.Tree.{is_alive, alive, takes, allows}
 
 -- a class below a path that takes the digits takes one more exactly where the test says so
 pub alive-push : (more : Bool) (path : List (List ℕ)) (class digits : List ℕ) → alive more path digits ≡ true → alive more (path ++ class ∷ []) digits ≡ takes more digits class (length path)

@@ -7,9 +7,9 @@ use Rattle.dp_pattern.specs.declared.tail.Tail.{Tail}
 use Rattle.dp_plan.specs.Plan.{shares_label}
 use Rattle.dp_trie.specs.Known.{Known}
 use Rattle.dp_trie.specs.declared.node.Held.{Held}
-use Rattle.dp_trie.specs.declared.question.Hit.{Hit}
+use Rattle.dp_plan.specs.declared.entry.EntryId.{EntryId}
 use Rattle.dp_trie.specs.declared.question.Question.{Question}
-use Rattle.dp_trie.specs.declared.question.Question.TheVariants.{Priority, Label, More}
+use Rattle.dp_trie.specs.declared.question.Question.TheVariants.{Priority, More}
 
 -- a test of a priority and a label
 abbrev pub Wanted : Type 0
@@ -31,13 +31,11 @@ asked more wanted digits known =
 -- whether the question is which names go on
 abbrev pub is_more : Question → Bool
 is_more (Priority number) = false
-is_more (Label text) = false
 is_more More = true
 
 -- what the question asks of a priority and a label
 abbrev pub wants : Question → Wanted
 wants (Priority number) priority label = priority == number
-wants (Label text) priority label = shares_label label (Some text.now)
 wants More priority label = priority == 1
 
 -- whether what is held of an entry is what is wanted
@@ -48,9 +46,13 @@ holds wanted held = wanted held.priority held.label
 abbrev pub Rise : List Held → Type 0
 Rise held = IsStrictlySortedBy (λ a b. nat_cmp a.priority b.priority) held
 
--- what a look-up hands on
-abbrev pub hit_held : Held → Hit
-hit_held held = record { id = held.id; priority = held.priority }
+-- that an entry has the label
+abbrev pub has_label : List ℕ → Wanted
+has_label text priority label = shares_label label (Some text)
 
-abbrev pub hit_of : Known → Hit
-hit_of known = record { id = known.id; priority = known.priority }
+-- what a look-up hands on
+abbrev pub hit_held : Held → EntryId
+hit_held held = held.id
+
+abbrev pub hit_of : Known → EntryId
+hit_of known = known.id

@@ -3,6 +3,7 @@ use Rattle.std.specs.Prelude.{◌≡◌, ℕ, suc, ◌+◌, ◌<◌, ◌≤◌, 
 use Rattle.std.specs.List.{find}
 use Rattle.std.specs.Option.{option_map_or}
 use Rattle.dp_pattern.specs.Name.{Meaning, Pattern, is_one_of}
+use Rattle.dp_pattern.specs.Walk.{Walked, Refused, Short, Behind, walked}
 use Rattle.dp_pattern.specs.declared.tail.Tail.{Tail}
 use Rattle.dp_pattern.specs.declared.tail.Tail.TheVariants.{End, Dot, Bang}
 use Rattle.dp_trie.specs.Asked.{Wanted, Rise, holds, hit_held}
@@ -125,6 +126,16 @@ pub record Pushes (old new : List Node) (classes : List (List ℕ)) (leaf : leav
 -- whether the class takes the digit of a number; where the digits have ended, names that go on are still below
 abbrev pub takes : Bool → List ℕ → List ℕ → ℕ → Bool
 takes more digits class number = option_map_or (is_one_of class) (slice_get digits number) more
+
+-- whether a walk may still come to something below
+abbrev pub is_alive : Bool → Walked → Bool
+is_alive more Refused = false
+is_alive more Short = more
+is_alive more (Behind digits) = true
+
+-- whether the classes of a path take the digits, up to their end where names that go on are asked for
+abbrev pub alive : Bool → List (List ℕ) → List ℕ → Bool
+alive more path digits = is_alive more (walked path digits)
 
 -- whether the tail allows what is left behind so many of so many digits, for a match or for going on
 abbrev pub allows : Bool → Tail → ℕ → ℕ → Bool

@@ -7,8 +7,10 @@
 
 mod build;
 mod digits;
+mod labels;
 mod leap;
 mod link;
+mod matching;
 mod node;
 mod plain;
 mod question;

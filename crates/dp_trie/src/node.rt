@@ -3,7 +3,7 @@ use dp_lookup::EntryId;
 use dp_pattern::{Class, Tail};
 use dp_plan::SharedText;
 
-/// What a look-up reads of an entry beside its name.
+/// What is held of an entry beside its name. A contract sees its label here; a look-up finds it in the table of labels.
 #[derive(Debug, Drop)]
 pub(crate) struct Held {
     pub(crate) id: EntryId,

@@ -9,9 +9,9 @@ ghost use Rattle.dp_trie.specs.Ranked.{known_now, hold_of, IsPlain, AreInOrder};
 
 use crate::digits::Digits;
 use crate::node::Held;
-use crate::question::{Hit, Question, first_wanted, is_more};
+use crate::question::{Question, first_wanted, is_more};
 use crate::ranked::{Ranked, group_end, name_of, plain_of};
-use dp_lookup::{NoMemory, Text};
+use dp_lookup::{EntryId, NoMemory, Text};
 use std::alloc::Global;
 use std::cmp::Ordering;
 
@@ -37,7 +37,7 @@ pub(crate) enum Side {
 }
 
 /// Where the name stands to the digits.
-fn side_of(name: &[u8], digits: &Digits<'_>) -> Side
+pub(crate) fn side_of(name: &[u8], digits: &Digits<'_>) -> Side
     ensures { result ≡ side_of name.now (undashed digits.now.text.now) }
 {
     let mut cursor = digits.first();
@@ -59,7 +59,7 @@ fn side_of(name: &[u8], digits: &Digits<'_>) -> Side
 }
 
 /// The sides in the order in which names stand there.
-fn rank(side: Side) -> u8
+pub(crate) fn rank(side: Side) -> u8
     ensures { result ≡ rank side }
 {
     match side {
@@ -99,20 +99,20 @@ fn fitting_names<'a>(names: &'a [PlainName], digits: &Digits<'_>, more: bool) ->
 }
 
 /// The first entry of one plain name that the question asks for beside its name.
-fn find_own(plain: &PlainName, held: &[Held], question: Question<'_>) -> Option<Hit>
+fn find_own(plain: &PlainName, held: &[Held], question: Question) -> Option<EntryId>
     requires from { plain.now.from ≤ plain.now.until }
     requires until { plain.now.until ≤ length held.now }
     requires rise { Rise (slice_range held.now plain.now.from plain.now.until) }
-    ensures { result ≡ option_map hit_of (find (is_wanted (wants question.entry)) (own_plain held.now plain.now)) }
+    ensures { result ≡ option_map hit_of (find (is_wanted (wants question)) (own_plain held.now plain.now)) }
 {
     first_wanted(question, &held[plain.from..plain.until])
 }
 
 /// The first entry of plain names that the question asks for beside their names.
-fn find_own_of_all(names: &[PlainName], held: &[Held], question: Question<'_>) -> Option<Hit>
+fn find_own_of_all(names: &[PlainName], held: &[Held], question: Question) -> Option<EntryId>
     requires ranges { ArePlainRanges (length held.now) names.now }
     requires rise { RiseEach held.now names.now }
-    ensures { result ≡ option_map hit_of (find (is_wanted (wants question.entry)) (known_plain held.now names.now)) }
+    ensures { result ≡ option_map hit_of (find (is_wanted (wants question)) (known_plain held.now names.now)) }
 {
     for plain in names {
         let found = find_own(plain, held, question);
@@ -127,13 +127,13 @@ fn find_own_of_all(names: &[PlainName], held: &[Held], question: Question<'_>) -
 pub(crate) fn find_plain(
     names: &[PlainName],
     held: &[Held],
-    question: Question<'_>,
+    question: Question,
     digits: &Digits<'_>,
-) -> Option<Hit>
+) -> Option<EntryId>
     requires ranges { ArePlainRanges (length held.now) names.now }
     requires order { AreInOrder (known_plain held.now names.now) }
     ensures { result ≡ option_map hit_of
-        (find (asked (is_more question.entry) (wants question.entry) (undashed digits.now.text.now)) (known_plain held.now names.now)) }
+        (find (asked (is_more question) (wants question) (undashed digits.now.text.now)) (known_plain held.now names.now)) }
 {
     find_own_of_all(
         fitting_names(names, digits, is_more(question)),

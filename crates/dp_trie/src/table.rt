@@ -1,10 +1,11 @@
-//! What is kept of one context: its plain names, and the tree of its patterns.
-ghost use Rattle.std.specs.Prelude.{◌≡◌, ◌≤◌, [], ◌++◌, length, map, take, drop, find, MatchOption, IsTrue, IsFalse, IfOk};
+//! What is kept of one context: its plain names, the tree of its patterns, and the table of its labels.
+ghost use Rattle.std.specs.Prelude.{◌≡◌, ◌≤◌, [], ◌++◌, false, length, map, take, drop, find, MatchOption, IsTrue, IsFalse, IfOk};
 ghost use Rattle.std.specs.List.{AllByRecursion};
 ghost use Rattle.std.specs.Option.{option_map};
 ghost use Rattle.dp_pattern.specs.Dashes.{undashed};
-ghost use Rattle.dp_trie.specs.Asked.{is_more, wants, asked, hit_of};
+ghost use Rattle.dp_trie.specs.Asked.{is_more, wants, asked, has_label, hit_of};
 ghost use Rattle.dp_trie.specs.Known.{KeepsEntries, class_count, most_nodes};
+ghost use Rattle.dp_trie.specs.Labels.{AreLabels};
 ghost use Rattle.dp_trie.specs.Leaps.{AreLeaps};
 ghost use Rattle.dp_trie.specs.Names.{known_plain, ArePlainRanges};
 ghost use Rattle.dp_trie.specs.Ranked.{known_now, IsPattern, IsPlain, ArePlainFirst, AreInOrder};
@@ -12,6 +13,7 @@ ghost use Rattle.dp_trie.specs.Tree.{known_from, IsTree};
 
 use crate::build::build_nodes;
 use crate::digits::Digits;
+use crate::labels::{Labelled, find_labelled, label_rows};
 use crate::leap::{Leap, leaps_of};
 use crate::link::link;
 use crate::node::{Held, Node};
@@ -34,11 +36,13 @@ pub(crate) struct Table {
     ends: Vec<usize>,
     leaps: Vec<Leap>,
     held: Vec<Held>,
+    labels: Vec<Labelled>,
 }
 
 impl Model for Table {
     ghost use Rattle.std.specs.Prelude.{◌≤◌, [], ◌++◌, length};
     ghost use Rattle.dp_trie.specs.Known.{KeptContext, most_nodes};
+    ghost use Rattle.dp_trie.specs.Labels.{AreLabels};
     ghost use Rattle.dp_trie.specs.Leaps.{AreLeaps};
     ghost use Rattle.dp_trie.specs.Names.{known_plain, ArePlainRanges};
     ghost use Rattle.dp_trie.specs.Ranked.{AreInOrder};
@@ -56,6 +60,8 @@ impl Model for Table {
         × AreInOrder (known_plain table.plain.items table.names.items)
         × IsTree table.held.items table.nodes.items table.ends.items
         × AreLeaps table.nodes.items table.ends.items table.leaps.items
+        × AreLabels (known_plain table.plain.items table.names.items ++ known_from table.held.items [] table.nodes.items)
+        table.labels.items
         × (length table.nodes.items
         ≤ most_nodes (known_plain table.plain.items table.names.items ++ known_from table.held.items [] table.nodes.items)) };
 }
@@ -101,6 +107,7 @@ fn build_table(alloc: Global, ranked: &[Ranked<'_>]) -> Result<Table, NoMemory>
     let ends = link(alloc, &nodes)?;
     let leaps = leaps_of(alloc, &nodes, &ends)?;
     let held = hold_all(alloc, rest)?;
+    let labels = label_rows(alloc, ranked)?;
     Ok(Table {
         names,
         plain,
@@ -108,6 +115,7 @@ fn build_table(alloc: Global, ranked: &[Ranked<'_>]) -> Result<Table, NoMemory>
         ends,
         leaps,
         held,
+        labels,
     })
 }
 
@@ -119,7 +127,7 @@ fn find_in_parts(
     ends: &[usize],
     leaps: &[Leap],
     held: &[Held],
-    question: Question<'_>,
+    question: Question,
     digits: &Digits<'_>,
 ) -> Counted
     requires names { ArePlainRanges (length plain.now) names.now }
@@ -127,11 +135,11 @@ fn find_in_parts(
     requires tree { IsTree held.now nodes.now ends.now }
     requires leaps { AreLeaps nodes.now ends.now leaps.now }
     ensures hit { result.hit ≡ option_map hit_of
-        (find (asked (is_more question.entry) (wants question.entry) (undashed digits.now.text.now))
+        (find (asked (is_more question) (wants question) (undashed digits.now.text.now))
         (known_plain plain.now names.now ++ known_from held.now [] nodes.now)) }
     ensures most { result.count ≤ length nodes.now }
     ensures least { MatchOption
-        (find (asked (is_more question.entry) (wants question.entry) (undashed digits.now.text.now))
+        (find (asked (is_more question) (wants question) (undashed digits.now.text.now))
         (known_plain plain.now names.now ++ known_from held.now [] nodes.now))
         (Unit {0}) (λ known. class_count known.name ≤ result.count) }
 {
@@ -163,12 +171,12 @@ impl Table {
     }
 
     /// The first entry that the question asks for, and how many nodes were entered.
-    pub(crate) fn find(&self, question: Question<'_>, digits: &Digits<'_>) -> Counted
+    pub(crate) fn find(&self, question: Question, digits: &Digits<'_>) -> Counted
         ensures hit { result.hit ≡ option_map hit_of
-            (find (asked (is_more question.entry) (wants question.entry) (undashed digits.now.text.now)) self.now.entries) }
+            (find (asked (is_more question) (wants question) (undashed digits.now.text.now)) self.now.entries) }
         ensures most { result.count ≤ self.now.size }
         ensures least { MatchOption
-            (find (asked (is_more question.entry) (wants question.entry) (undashed digits.now.text.now)) self.now.entries)
+            (find (asked (is_more question) (wants question) (undashed digits.now.text.now)) self.now.entries)
             (Unit {0}) (λ known. class_count known.name ≤ result.count) }
     {
         find_in_parts(
@@ -181,5 +189,13 @@ impl Table {
             question,
             digits,
         )
+    }
+
+    /// The priority of the first entry that matches and has the label.
+    pub(crate) fn find_label(&self, label: &[u8], digits: &Digits<'_>) -> Option<u32>
+        ensures { result ≡ option_map (λ known. known.priority)
+            (find (asked false (has_label label.now) (undashed digits.now.text.now)) self.now.entries) }
+    {
+        find_labelled(&self.labels, label, digits)
     }
 }

@@ -1,21 +1,21 @@
 //! A dialplan as tries.
-ghost use Rattle.std.specs.Prelude.{◌≡◌, ◌≤◌, is_some, sum_by, find, IfOk, MatchOption};
+ghost use Rattle.std.specs.Prelude.{◌≡◌, ◌≤◌, false, is_some, sum_by, find, IfOk, MatchOption};
 ghost use Rattle.std.specs.Option.{option_map};
 ghost use Rattle.dp_lookup.specs.FoundEntry.{found_entry, found_label, goes_on_more};
 ghost use Rattle.dp_pattern.specs.Dashes.{undashed};
 ghost use Rattle.dp_plan.specs.Plan.{PlanOf};
-ghost use Rattle.dp_trie.specs.Asked.{is_more, wants, asked, hit_of};
+ghost use Rattle.dp_trie.specs.Asked.{is_more, wants, asked, has_label, hit_of};
 ghost use Rattle.dp_trie.specs.Known.{Keeps, FindsPattern, class_count, kept_at, nodes_at, most_nodes, found_first};
 
 use crate::digits::Digits;
-use crate::question::{Hit, Question};
+use crate::question::Question;
 use crate::table::Table;
 use crate::walk::Counted;
 use dp_lookup::{Dialplan, EntryId, NoMemory, SearchOrder};
 use std::alloc::Global;
 use std::marker::Model;
 
-/// A dialplan as tries: for each of its contexts the plain names in order, and the patterns as a tree.
+/// A dialplan as tries: for each of its contexts the plain names in order, the patterns as a tree, and a table of labels.
 ///
 /// A contract sees it as what it keeps of the dialplan that it was built from: of each context its entries, each with what
 /// its name means, its priority, its label and its number, in the order in which a look-up asks them; and how many nodes
@@ -35,12 +35,12 @@ impl Model for Trie {
 }
 
 /// The first entry of the context of a number that the question asks for; none where there is no such context.
-fn find_at(tables: &[Table], number: usize, question: Question<'_>, digits: &Digits<'_>) -> Counted
+fn find_at(tables: &[Table], number: usize, question: Question, digits: &Digits<'_>) -> Counted
     ensures hit { result.hit ≡ option_map hit_of
-        (find (asked (is_more question.entry) (wants question.entry) (undashed digits.now.text.now)) (kept_at tables.now number)) }
+        (find (asked (is_more question) (wants question) (undashed digits.now.text.now)) (kept_at tables.now number)) }
     ensures most { result.count ≤ nodes_at tables.now number }
     ensures least { MatchOption
-        (find (asked (is_more question.entry) (wants question.entry) (undashed digits.now.text.now)) (kept_at tables.now number))
+        (find (asked (is_more question) (wants question) (undashed digits.now.text.now)) (kept_at tables.now number))
         (Unit {0}) (λ known. class_count known.name ≤ result.count) }
 {
     match tables.get(number) {
@@ -53,17 +53,12 @@ fn find_at(tables: &[Table], number: usize, question: Question<'_>, digits: &Dig
 }
 
 /// The first entry that the question asks for, in the first of the contexts of these numbers that has such an entry.
-fn find_first(
-    tables: &[Table],
-    order: &[usize],
-    question: Question<'_>,
-    digits: &Digits<'_>,
-) -> Counted
+fn find_first(tables: &[Table], order: &[usize], question: Question, digits: &Digits<'_>) -> Counted
     ensures hit { result.hit ≡ option_map hit_of
-        (found_first tables.now (asked (is_more question.entry) (wants question.entry) (undashed digits.now.text.now)) order.now) }
+        (found_first tables.now (asked (is_more question) (wants question) (undashed digits.now.text.now)) order.now) }
     ensures most { result.count ≤ sum_by (nodes_at tables.now) order.now }
     ensures least { MatchOption
-        (found_first tables.now (asked (is_more question.entry) (wants question.entry) (undashed digits.now.text.now)) order.now)
+        (found_first tables.now (asked (is_more question) (wants question) (undashed digits.now.text.now)) order.now)
         (Unit {0}) (λ known. class_count known.name ≤ result.count) }
 {
     let mut count: usize = 0;
@@ -81,35 +76,50 @@ fn find_first(
 }
 
 /// The same by the text.
-fn look_up(tables: &[Table], order: &SearchOrder, question: Question<'_>, text: &[u8]) -> Counted
+fn look_up(tables: &[Table], order: &SearchOrder, question: Question, text: &[u8]) -> Counted
     ensures hit { result.hit ≡ option_map hit_of
-        (found_first tables.now (asked (is_more question.entry) (wants question.entry) (undashed text.now)) order.now.contexts) }
+        (found_first tables.now (asked (is_more question) (wants question) (undashed text.now)) order.now.contexts) }
     ensures most { result.count ≤ sum_by (nodes_at tables.now) order.now.contexts }
     ensures least { MatchOption
-        (found_first tables.now (asked (is_more question.entry) (wants question.entry) (undashed text.now)) order.now.contexts)
+        (found_first tables.now (asked (is_more question) (wants question) (undashed text.now)) order.now.contexts)
         (Unit {0}) (λ known. class_count known.name ≤ result.count) }
 {
     find_first(tables, order.contexts(), question, &Digits::of(text))
 }
 
-/// The number of the entry that was found.
-fn id_of(hit: Option<Hit>) -> Option<EntryId>
-    ensures { result ≡ option_map (λ h. h.id) hit }
+/// The priority of the first entry of the context of a number that matches and has the label; none where there is no such
+/// context.
+fn label_at(tables: &[Table], number: usize, label: &[u8], digits: &Digits<'_>) -> Option<u32>
+    ensures { result ≡ option_map (λ known. known.priority)
+        (find (asked false (has_label label.now) (undashed digits.now.text.now)) (kept_at tables.now number)) }
 {
-    match hit {
-        Some(hit) => Some(hit.id),
+    match tables.get(number) {
+        Some(table) => table.find_label(label, digits),
         None => None,
     }
 }
 
-/// The priority of the entry that was found.
-fn priority_of(hit: Option<Hit>) -> Option<u32>
-    ensures { result ≡ option_map (λ h. h.priority) hit }
+/// The priority of the first entry that matches and has the label, in the first of the contexts of these numbers that has
+/// such an entry.
+fn first_label(tables: &[Table], order: &[usize], label: &[u8], digits: &Digits<'_>) -> Option<u32>
+    ensures { result ≡ option_map (λ known. known.priority)
+        (found_first tables.now (asked false (has_label label.now) (undashed digits.now.text.now)) order.now) }
 {
-    match hit {
-        Some(hit) => Some(hit.priority),
-        None => None,
+    for number in order {
+        let found = label_at(tables, *number, label, digits);
+        if found.is_some() {
+            return found;
+        }
     }
+    None
+}
+
+/// The same by the text.
+fn look_up_label(tables: &[Table], order: &SearchOrder, label: &[u8], text: &[u8]) -> Option<u32>
+    ensures { result ≡ option_map (λ known. known.priority)
+        (found_first tables.now (asked false (has_label label.now) (undashed text.now)) order.now.contexts) }
+{
+    first_label(tables, order.contexts(), label, &Digits::of(text))
 }
 
 impl Trie {
@@ -151,7 +161,7 @@ impl Trie {
         ensures least { (plan : PlanOf) → Keeps plan self.now → FindsPattern plan result.0 result.1 }
     {
         let found = look_up(&self.tables, order, Question::Priority(priority), text);
-        (id_of(found.hit), found.count)
+        (found.hit, found.count)
     }
 
     /// The entry of the order's contexts that matches the dialled text and has the priority, as `dp_lookup::find` gives
@@ -168,8 +178,7 @@ impl Trie {
     pub fn find_label(&self, order: &SearchOrder, text: &[u8], label: &[u8]) -> Option<u32>
         ensures { (plan : PlanOf) → Keeps plan self.now → result ≡ found_label plan order.now.contexts text.now label.now }
     {
-        let found = look_up(&self.tables, order, Question::Label(label), text);
-        priority_of(found.hit)
+        look_up_label(&self.tables, order, label, text)
     }
 
     /// Whether some ending of one or more bytes other than `-` makes the dialled text match an entry of priority 1 whose

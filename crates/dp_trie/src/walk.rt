@@ -12,7 +12,8 @@ ghost use Rattle.dp_trie.specs.Tree.{takes, allows, step_visit, known_from, IsRa
 use crate::digits::{Cursor, Digits};
 use crate::leap::{Leap, leap_over};
 use crate::node::{Held, Leaf, Node, Step};
-use crate::question::{Hit, Question, first_wanted, is_more};
+use crate::question::{Question, first_wanted, is_more};
+use dp_lookup::EntryId;
 use dp_pattern::{Class, Tail};
 
 /// What a walk does at a node.
@@ -23,19 +24,25 @@ pub(crate) enum Visit {
     /// It goes on behind all that stands below the node.
     Fails,
     /// It enters the node, which holds what was asked for.
-    Holds(Hit),
+    Holds(EntryId),
 }
 
 /// What a walk finds, and how many nodes it entered.
 #[derive(Clone, Copy)]
 pub(crate) struct Counted {
-    pub(crate) hit: Option<Hit>,
+    pub(crate) hit: Option<EntryId>,
     pub(crate) count: usize,
 }
 
 /// Whether the class takes the digit of this number. Where the digits have ended, it does if names that go on are asked
 /// for.
-fn takes(class: &Class, number: usize, digits: &Digits<'_>, cursor: &mut Cursor, more: bool) -> bool
+pub(crate) fn takes(
+    class: &Class,
+    number: usize,
+    digits: &Digits<'_>,
+    cursor: &mut Cursor,
+    more: bool,
+) -> bool
     requires { Stands digits.now.text.now cursor.old }
     ensures value { result ≡ takes more (undashed digits.now.text.now) class.now number }
     ensures stands { Stands digits.now.text.now cursor.new }
@@ -84,12 +91,12 @@ fn visit_leaf(
     leaf: Leaf,
     depth: usize,
     held: &[Held],
-    question: Question<'_>,
+    question: Question,
     digits: &Digits<'_>,
 ) -> Visit
     requires range { IsRange (length held.now) (Step.Leaf leaf) }
     requires rises { Rises held.now (Step.Leaf leaf) }
-    ensures { result ≡ step_visit held.now (is_more question.entry) (wants question.entry) (undashed digits.now.text.now) depth
+    ensures { result ≡ step_visit held.now (is_more question) (wants question) (undashed digits.now.text.now) depth
         (Step.Leaf leaf) }
 {
     if !allows(leaf.tail, depth, digits.count(), is_more(question)) {
@@ -105,7 +112,7 @@ fn visit_leaf(
 fn visit_node(
     node: &Node,
     held: &[Held],
-    question: Question<'_>,
+    question: Question,
     digits: &Digits<'_>,
     cursor: &mut Cursor,
 ) -> Visit
@@ -113,7 +120,7 @@ fn visit_node(
     requires rises { Rises held.now node.now.step }
     requires stands { Stands digits.now.text.now cursor.old }
     ensures stands { Stands digits.now.text.now cursor.new }
-    ensures visit { result ≡ step_visit held.now (is_more question.entry) (wants question.entry) (undashed digits.now.text.now)
+    ensures visit { result ≡ step_visit held.now (is_more question) (wants question) (undashed digits.now.text.now)
         node.now.depth node.now.step }
 {
     match &node.step {
@@ -129,16 +136,16 @@ pub(crate) fn find_in_tree(
     ends: &[usize],
     leaps: &[Leap],
     held: &[Held],
-    question: Question<'_>,
+    question: Question,
     digits: &Digits<'_>,
 ) -> Counted
     requires tree { IsTree held.now nodes.now ends.now }
     requires leaps { AreLeaps nodes.now ends.now leaps.now }
     ensures hit { result.hit ≡ option_map hit_of
-        (find (asked (is_more question.entry) (wants question.entry) (undashed digits.now.text.now)) (known_from held.now [] nodes.now)) }
+        (find (asked (is_more question) (wants question) (undashed digits.now.text.now)) (known_from held.now [] nodes.now)) }
     ensures most { result.count ≤ length nodes.now }
     ensures least { MatchOption
-        (find (asked (is_more question.entry) (wants question.entry) (undashed digits.now.text.now)) (known_from held.now [] nodes.now))
+        (find (asked (is_more question) (wants question) (undashed digits.now.text.now)) (known_from held.now [] nodes.now))
         (Unit {0}) (λ known. length (classes_of known.name) ≤ result.count) }
 {
     let mut cursor = digits.first();

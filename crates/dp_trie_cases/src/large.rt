@@ -1,4 +1,4 @@
-//! A long name.
+//! A long name, and an extension of many labels.
 use crate::render::order_from;
 use dp_lookup::find;
 use dp_trie::{Dialplan, EntryId, NoMemory, SearchOrder, Trie};
@@ -68,4 +68,51 @@ fn check_long_name(rt: &impl Abort, alloc: Global) -> Result<(), Fail> {
 #[test]
 fn a_long_name_is_matched(rt: HostRuntime) -> Result<(), Fail> {
     check_long_name(&rt, rt.alloc())
+}
+
+const LABELS: u32 = 10_000;
+
+/// A dialplan with an extension of 10,000 labels, each of its own priority.
+fn many_labels(alloc: Global) -> Result<Dialplan, Fail> {
+    let mut text = String::new(alloc);
+    text.push_str("[main]\n")?;
+    for priority in 1..=LABELS {
+        write!(text, "exten => _X.,{priority}(l{priority}),NoOp()\n")?;
+    }
+    let (plan, _) = Dialplan::load(alloc, text.as_bytes())?;
+    Ok(plan)
+}
+
+fn check_label(
+    rt: &impl Abort,
+    alloc: Global,
+    trie: &Trie,
+    order: &SearchOrder,
+    priority: u32,
+) -> Result<(), Fail> {
+    let label = format!(in alloc; "l{priority}")?;
+    let found = trie.find_label(order, b"55", label.as_bytes());
+    assert_eq!(rt; found, Some(priority));
+    Ok(())
+}
+
+fn check_labels(rt: &impl Abort, alloc: Global, plan: &Dialplan) -> Result<(), Fail> {
+    let trie = Trie::build(alloc, plan)?;
+    let order = order_from(alloc, plan, b"main")?;
+    for priority in 1..=LABELS {
+        check_label(rt, alloc, &trie, &order, priority)?;
+    }
+    assert_eq!(rt; trie.find_label(&order, b"5", b"l1"), None);
+    Ok(())
+}
+
+fn check_many_labels(rt: &impl Abort, alloc: Global) -> Result<(), Fail> {
+    let plan = many_labels(alloc)?;
+    check_labels(rt, alloc, &plan)
+}
+
+/// Each of 10,000 labels of one extension is found, by a text that matches it alone.
+#[test]
+fn many_labels_are_found(rt: HostRuntime) -> Result<(), Fail> {
+    check_many_labels(&rt, rt.alloc())
 }

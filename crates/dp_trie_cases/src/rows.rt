@@ -137,3 +137,39 @@ more 3-1-→more
 more 3-1-4-→no more";
     check(&rt, rt.alloc(), text, b"main", asked)
 }
+
+/// A label of several names that match, of a name that does not, and of two contexts, each by the order of names.
+#[test]
+fn rows_of_labels(rt: HostRuntime) -> Result<(), Fail> {
+    let text =
+        b"[main]\ninclude => far\nexten => _1X,2(both),any\nexten => 12,4(both),exact\nexten => _1.,3(tail),dot\n\
+exten => 99,5(none),other\nexten => _X5,6(none),five\nexten => 12,7(single),single\n\
+exten => _1[0-5],8(class),few\nexten => _1.,9(class),many\n\
+[far]\nexten => _1X,10(both),later\nexten => 12,11(far),seven\nexten => 77,12(far),eight\n";
+    let asked = "\
+label 12,both→4
+label 1-2-,both→4
+label 13,both→2
+label 123,both→none
+label 22,both→none
+label 12,tail→3
+label 123,tail→3
+label 1,tail→none
+label 15,none→6
+label 99,none→5
+label 12,single→7
+label 13,single→none
+label 14,class→8
+label 16,class→9
+label 12,far→11
+label 77,far→12
+label 78,far→none
+label 12,fa→none
+label 12,→none";
+    check(&rt, rt.alloc(), text, b"main", asked)?;
+    let asked = "\
+label 12,both→10
+label 12,far→11
+label 12,single→none";
+    check(&rt, rt.alloc(), text, b"far", asked)
+}

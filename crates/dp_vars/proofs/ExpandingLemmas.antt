@@ -17,7 +17,7 @@ use Rattle.dp_vars.specs.Expanding.{Written, kinds_of, StandIn, AreWritten, with
 use Rattle.dp_vars.specs.declared.expanding.Waiting.{Waiting}
 
 -- the openings stand in any larger size too
-StandIn-more : (waiting : List Waiting) (size more : ℕ) → size ≤ more → StandIn waiting size → StandIn waiting more
+pub StandIn-more : (waiting : List Waiting) (size more : ℕ) → size ≤ more → StandIn waiting size → StandIn waiting more
 StandIn-more [] size more larger stand = tt
 StandIn-more (w ∷ waiting) size more larger stand = (omega (arith, stand.0), stand.1)
 
@@ -52,7 +52,7 @@ module _ (sight : Sight) where
       ap (λ bs. come waiting (with_value sight w bs) outer) (append_assoc bytes (byte ∷ []) (expanded sight rest))
 
   -- a group whose opening is written last
-  value_at_end : (bytes body : List ℕ) (kind : GroupKind)
+  pub value_at_end : (bytes body : List ℕ) (kind : GroupKind)
       → with_value sight (record { kind = kind; start = length bytes }) ((bytes ++ 36 ∷ opener kind ∷ []) ++ body) ≡ bytes ++ group_value sight kind body
   value_at_end bytes body kind =
       ap (with_value sight (record { kind = kind; start = length bytes })) (append_assoc bytes (36 ∷ opener kind ∷ []) body)

@@ -7,17 +7,17 @@ use Rattle.std.specs.Map.{lookup}
 use Rattle.indexmap.specs.IndexMap.{insert_entry}
 use Rattle.dp_vars.specs.Variables.{by_bytes}
 
-shadowed : {A : Type 0} (b : Bool) (x y z : A) → cond b x z ≡ cond b x (cond b y z)
+pub shadowed : {A : Type 0} (b : Bool) (x y z : A) → cond b x z ≡ cond b x (cond b y z)
 shadowed true x y z = refl
 shadowed false x y z = refl
 
-swapped : {A : Type 0} (a b : Bool) (x y z : A) → (b ≡ true → a ≡ false) → cond b y (cond a x z) ≡ cond a x (cond b y z)
+pub swapped : {A : Type 0} (a b : Bool) (x y z : A) → (b ≡ true → a ≡ false) → cond b y (cond a x z) ≡ cond a x (cond b y z)
 swapped true true x y z apart = ap (λ c. cond c y x) (apart refl)
 swapped true false x y z apart = refl
 swapped false b x y z apart = refl
 
 -- two texts that differ are not both the same as a third
-apart : (q k e : List ℕ) → pointwise nat_eq k e ≡ false → pointwise nat_eq q e ≡ true → pointwise nat_eq q k ≡ false
+pub apart : (q k e : List ℕ) → pointwise nat_eq k e ≡ false → pointwise nat_eq q e ≡ true → pointwise nat_eq q k ≡ false
 apart q k e other tied = nat_list_eq_equiv.congr q e k tied ∙ nat_list_eq_equiv.symm e k ∙ other
 
 module _ {K X : Type 0} (bytes : K → List ℕ) where

@@ -1,10 +1,13 @@
 -- What a name had before it was set, so that it can be put back.
-use Rattle.std.specs.Prelude.{ℕ, List, Option, Some, None, slice_get}
+use Rattle.std.specs.Prelude.{ℕ, Bool, not, List, Option, Some, None, slice_get, is_some}
 use Rattle.std.specs.FinMap.{get}
 use Rattle.std.specs.Option.{option_and_then}
-use Rattle.dp_vars.specs.Stores.{StoreOf, holder}
-use Rattle.dp_vars.specs.declared.frame.Frame.{Frame}
-use Rattle.dp_vars.specs.declared.store.Replaced.{Replaced}
+use Rattle.dp_vars.specs.Stores.{Frame, StoreOf, holder, slot}
+
+-- the value that a name had where it was set, and whether it was given to the store then for the first time
+pub record Had : Type 0 where
+  pub value : Option (List ℕ)
+  pub is_new : Bool
 
 module _ {B : Type 0} where
   -- the value of a name among the locals of the frame at a place
@@ -16,6 +19,9 @@ module _ {B : Type 0} where
   value_at store None name = get store.variables name
   value_at store (Some place) name = local_at store.frames place name
 
-  -- where a name is set, and the value that it has there
-  abbrev pub had : StoreOf B → List ℕ → Replaced
-  had store name = record { place = holder name store.frames; value = value_at store (holder name store.frames) name }
+  -- the value that a name has where it is set, and whether it is new
+  abbrev pub had : StoreOf B → List ℕ → Had
+  had store name = record {
+    value = value_at store (holder name store.frames) name;
+    is_new = not (is_some (slot store.names name));
+  }

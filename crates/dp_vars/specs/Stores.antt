@@ -1,20 +1,39 @@
--- The variables of a channel, and the frames above them, which may have locals.
-use Rattle.std.specs.Prelude.{ℕ, zero, suc, ◌-◌, List, [], ◌∷◌, ◌++◌, Option, Some, None, length, map, reverse, take, slice_get, if◌then◌else◌}
+-- The variables of a channel, the frames above them, which may have locals, and the names by their numbers.
+use Rattle.std.specs.Prelude.{ℕ, zero, suc, ◌-◌, List, [], ◌∷◌, ◌++◌, Option, Some, None, length, map, fold, reverse, take, slice_get, nat_eq, position, if◌then◌else◌}
+use Rattle.std.specs.Cmp.Lexicographic.{pointwise}
 use Rattle.std.specs.Option.{option_and_then, option_map, option_or}
 use Rattle.std.specs.FinMap.{contains_key, get, insert, empty}
 use Rattle.dp_vars.specs.Variables.{Named, first_value, map_of}
-use Rattle.dp_vars.specs.declared.frame.Frame.{Frame}
 use Rattle.dp_vars.specs.declared.variables.Variable.{Variable}
 
--- the variables of a channel, and its frames, the innermost last
+-- where a subroutine goes back to, and its locals
+pub record Frame (B : Type 0) : Type 0 where
+  pub back : B
+  pub locals : Named
+
+-- the variables of a channel, its frames, the innermost last, and the names that were given to it, each in the place of its number
 pub record StoreOf (B : Type 0) : Type 0 where
   pub variables : Named
   pub frames : List (Frame B)
+  pub names : List (List ℕ)
+
+-- the number of a name
+abbrev pub slot : List (List ℕ) → List ℕ → Option ℕ
+slot names name = position (pointwise nat_eq name) names
+
+-- the names with one more behind them, where it is new
+abbrev pub with_name : List (List ℕ) → List ℕ → List (List ℕ)
+with_name [] name = name ∷ []
+with_name (n ∷ names) name = if pointwise nat_eq name n then n ∷ names else n ∷ with_name names name
+
+-- the names with those of some variables
+abbrev pub with_names : List (List ℕ) → List Variable → List (List ℕ)
+with_names names variables = fold (λ known variable. with_name known variable.name) names variables
 
 module _ {B : Type 0} where
   -- no variables and no frames
   abbrev pub nothing : StoreOf B
-  nothing = record { variables = empty; frames = [] }
+  nothing = record { variables = empty; frames = []; names = [] }
 
   -- the locals of the frames, from the innermost outwards
   abbrev pub all_locals : List (Frame B) → List Named
@@ -54,23 +73,33 @@ module _ {B : Type 0} where
 
   -- the store with the variable set, or the local of the frame at that place
   abbrev pub set_in : Option ℕ → StoreOf B → List ℕ → List ℕ → StoreOf B
-  set_in None store name value = record store { variables = insert store.variables name value }
+  set_in None store name value =
+      record store { variables = insert store.variables name value; names = with_name store.names name }
   set_in (Some place) store name value =
-      record store { frames = changed_at (with_local name value) place store.frames }
+      record store { frames = changed_at (with_local name value) place store.frames; names = with_name store.names name }
 
   -- the store after a name is set: the local of the innermost frame that has it as one, else the channel's variable
   unfoldable pub set : StoreOf B → List ℕ → List ℕ → StoreOf B
   set store name value = set_in (holder name store.frames) store name value
 
+  -- the names with that of a local, where there is a frame that it is set in
+  abbrev pub with_local_name : List (Frame B) → List (List ℕ) → List ℕ → List (List ℕ)
+  with_local_name [] names name = names
+  with_local_name (frame ∷ frames) names name = with_name names name
+
   -- the store with a local of the innermost frame set, where there is a frame
   unfoldable pub set_local : StoreOf B → List ℕ → List ℕ → StoreOf B
-  set_local store name value =
-      record store { frames = changed_at (with_local name value) (length store.frames - 1) store.frames }
+  set_local store name value = record store {
+    frames = changed_at (with_local name value) (length store.frames - 1) store.frames;
+    names = with_local_name store.frames store.names name;
+  }
 
   -- the store with one more frame, which has these locals
   abbrev pub with_frame : StoreOf B → B → List Variable → StoreOf B
-  with_frame store back locals =
-      record store { frames = store.frames ++ record { back = back; locals = map_of locals } ∷ [] }
+  with_frame store back locals = record store {
+    frames = store.frames ++ record { back = back; locals = map_of locals } ∷ [];
+    names = with_names store.names locals;
+  }
 
   -- the store without its innermost frame
   abbrev pub without_frame : StoreOf B → StoreOf B

@@ -1,11 +1,14 @@
 //! A text on the way to its expansion, in one pass with no recursion.
-ghost use Rattle.std.specs.Prelude.{◌≡◌, ◌+◌, ◌≤◌, [], ◌∷◌, ◌++◌, OnOk, drop, length, take, vec_len};
+ghost use Rattle.std.specs.Prelude.{◌≡◌, ◌+◌, ◌≤◌, [], ◌∷◌, ◌++◌, IfOk, OnOk, drop, length, take, vec_len};
 ghost use Rattle.dp_conf.specs.Groups as groups;
 ghost use Rattle.dp_conf.specs.GroupsRead.{first_of};
 ghost use Rattle.dp_vars.specs.Expanding as steps;
+ghost use Rattle.dp_vars.specs.Pieces.{past, past_all};
 ghost use Rattle.dp_vars.specs.Sights as sights;
 ghost use Rattle.dp_vars.specs.Values as values;
 
+use crate::head::{Head, push_cut, push_full};
+use crate::piece::Piece;
 use crate::reference::{push_reference, read_reference};
 use crate::scope::{Counts, Scope};
 use dp_conf::{GroupKind, Mark, NoMemory};
@@ -166,6 +169,32 @@ impl Expanding {
         }
     }
 
+    /// Goes behind a piece of this text.
+    fn write<B, C: Counts>(
+        &mut self,
+        alloc: Global,
+        scope: &Scope<'_, B, C>,
+        text: &[u8],
+        piece: &Piece,
+    ) -> Result<(), NoMemory>
+        requires { steps.AreWritten self.old }
+        ensures { OnOk result (self.new ≡ past (sights.sight_of C.count scope.now) text.now self.old piece.now) }
+    {
+        let bytes = &mut self.bytes;
+        match piece {
+            Piece::Run(span) => bytes.extend_from_slice(span.of(text)),
+            Piece::Name(name) => push_full(alloc, scope, text, Head::Name(*name), bytes),
+            Piece::Call(function, argument) => {
+                push_full(alloc, scope, text, Head::Call(*function, *argument), bytes)
+            }
+            Piece::Part(cut) => push_cut(alloc, scope, text, **cut, bytes),
+            Piece::Known(value) => bytes.extend_from_slice(value),
+            Piece::Empty => Ok(()),
+            Piece::Begins(kind) => self.open(*kind),
+            Piece::Ends => self.close(alloc, scope),
+        }
+    }
+
     /// What is written, where the text ends.
     pub(crate) fn finish(self) -> Vec<u8>
         ensures { result.items ≡ self.bytes }
@@ -174,4 +203,22 @@ impl Expanding {
         drop(waiting);
         bytes
     }
+}
+
+/// Writes the pieces of a text.
+pub(crate) fn write_pieces<B, C: Counts>(
+    alloc: Global,
+    scope: &Scope<'_, B, C>,
+    text: &[u8],
+    pieces: &[Piece],
+) -> Result<Vec<u8>, NoMemory>
+    ensures { IfOk result (λ bytes. bytes.items ≡ (past_all (sights.sight_of C.count scope.now) text.now pieces.now).bytes) }
+{
+    let mut expanding = Expanding::new(alloc);
+    let mut left = pieces;
+    while let Some((piece, behind)) = left.split_first() {
+        expanding.write(alloc, scope, text, piece)?;
+        left = behind;
+    }
+    Ok(expanding.finish())
 }

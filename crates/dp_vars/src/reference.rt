@@ -18,8 +18,8 @@ use std::alloc::Global;
 /// A value, and which part of it is asked for.
 #[derive(Clone, Copy)]
 pub(crate) struct Reference<'a> {
-    value: Value<'a>,
-    asked: Asked,
+    pub(crate) value: Value<'a>,
+    pub(crate) asked: Asked,
 }
 
 /// What a body in braces refers to.

@@ -1,32 +1,45 @@
 //! The variables of a channel, and its frames, after the Asterisk documentation's page on variables.
-ghost use Rattle.std.specs.Prelude.{◌≡◌, ℕ, List, IfOk, OnErr, OnOk, [], nat_lt, length};
+ghost use Rattle.std.specs.Prelude.{◌≡◌, ℕ, List, IfOk, OnErr, OnOk, [], nat_lt, length, take};
 ghost use Rattle.std.specs.Option.{option_map};
 ghost use Rattle.dp_vars.specs.Replaced as spec;
 ghost use Rattle.dp_vars.specs.Stores as stores;
 ghost use Rattle.dp_vars.specs.Stores.{StoreOf};
+ghost use Rattle.dp_vars.specs.Tables.{HasNamed};
 
-use crate::frame::{self, Frame};
-use crate::variables::{Variable, Variables};
+use crate::frame::{self, Held, Numbers};
+use crate::table::Table;
+use crate::variables::Variable;
 use dp_conf::{NoMemory, Text};
 use std::alloc::Global;
 use std::marker::Model;
 
 /// The variables of a channel, and the frames above them, each with where it goes back to and with locals.
 ///
-/// A contract sees the variables as a finite map, and the frames as a list with the innermost last. Names are case
-/// sensitive. After a refused growth a call leaves all as before.
+/// A contract sees the variables as a finite map, the frames as a list with the innermost last, and the names that were
+/// given to the store in the order of their numbers. Names are case sensitive. After a refused growth a call leaves all
+/// as before. A read and a `set` look at no frame, however many there are.
 #[derive(Drop)]
 pub struct Store<B> {
-    variables: Variables,
-    frames: Vec<Frame<B>>,
+    table: Table,
+    frames: Vec<Held<B>>,
 }
 
-/// What a name had before it was set, and where it was set: among the locals of the frame at a place, or among the
-/// channel's variables.
+/// What a name had where it was set, and whether it was new then.
 #[derive(Debug, Drop)]
 pub struct Replaced {
-    place: Option<usize>,
     value: Option<Text>,
+    is_new: bool,
+}
+
+impl Model for Replaced {
+    ghost use Rattle.std.specs.Prelude.{◌≡◌, true, None};
+    ghost use Rattle.dp_vars.specs.Replaced.{Had};
+
+    ghost Value = { Had };
+
+    ghost view = { λ replaced. record { value = replaced.value; is_new = replaced.is_new } };
+
+    ghost invariant = { λ replaced. replaced.is_new ≡ true → replaced.value ≡ None };
 }
 
 /// A copy of a text, where there is one.
@@ -45,13 +58,16 @@ fn copied(alloc: Global, text: Option<&[u8]>) -> Result<Option<Text>, NoMemory>
 impl<B> Model for Store<B> {
     ghost use Rattle.std.specs.Coded.{codes};
     ghost use Rattle.dp_vars.specs.Stores.{StoreOf};
+    ghost use Rattle.dp_vars.specs.Tables.{IsBound, store_of};
     ghost use Rattle.dp_vars.specs.Variables.{named_code};
 
     ghost Value = { StoreOf B };
 
     ghost coded = { Prim.hlevel (codes, named_code) };
 
-    ghost view = { λ store. record { variables = store.variables; frames = store.frames.items } };
+    ghost view = { λ store. store_of store.table store.frames.items };
+
+    ghost invariant = { λ store. IsBound store.table store.frames.items };
 }
 
 impl<B> Store<B> {
@@ -60,7 +76,7 @@ impl<B> Store<B> {
         ensures { result ≡ stores.nothing }
     {
         Store {
-            variables: Variables::new(alloc),
+            table: Table::new(alloc),
             frames: Vec::new(alloc),
         }
     }
@@ -69,9 +85,9 @@ impl<B> Store<B> {
     pub fn get(&self, name: &[u8]) -> Option<&[u8]>
         ensures { option_map (λ value. value.now) result ≡ stores.value_in self.now name.now }
     {
-        match frame::local_of(&self.frames, name) {
-            Some(value) => Some(value),
-            None => self.variables.get(name),
+        match self.table.stack(name) {
+            Some(stack) => stack.value(),
+            None => None,
         }
     }
 
@@ -79,10 +95,21 @@ impl<B> Store<B> {
     pub(crate) fn local(&self, name: &[u8]) -> Option<&[u8]>
         ensures { option_map (λ value. value.now) result ≡ stores.local_in self.now name.now }
     {
-        match self.frames.last() {
-            Some(frame) => frame.locals.get(name),
+        if self.frames.is_empty() {
+            return None;
+        }
+        match self.table.stack(name) {
+            Some(stack) => stack.value_at(self.frames.len()),
             None => None,
         }
+    }
+
+    /// The number of a name: how many other names were given to the store before it, each to be set or as a local of a
+    /// frame; None for a name that was never given. It takes no memory, and a name keeps its number.
+    pub fn slot(&self, name: &[u8]) -> Option<usize>
+        ensures { result ≡ stores.slot self.now.names name.now }
+    {
+        self.table.slot(name)
     }
 
     /// Sets a name: the local of the innermost frame that has it as one, else the channel's variable (a choice of this
@@ -91,10 +118,8 @@ impl<B> Store<B> {
         ensures ok { OnOk result (self.new ≡ stores.set self.old name.now value.now) }
         ensures err { OnErr result (self.new ≡ self.old) }
     {
-        match frame::holder(&self.frames, name) {
-            Some(place) => frame::set_at(&mut self.frames, place, alloc, name, value),
-            None => self.variables.insert(alloc, name, value),
-        }
+        self.table.rebind(alloc, name, value)?;
+        Ok(())
     }
 
     /// Sets a local of the innermost frame. With no frame it changes nothing and answers false.
@@ -106,9 +131,20 @@ impl<B> Store<B> {
         if self.frames.is_empty() {
             return Ok(false);
         }
-        let place = self.frames.len() - 1;
-        frame::set_at(&mut self.frames, place, alloc, name, value)?;
+        let slot = self.table.slot(name);
+        let number = slot.unwrap_or(self.table.len());
+        frame::note(&mut self.frames, number)?;
+        let depth = self.frames.len();
+        self.table.bind(alloc, slot, name, depth, value)?;
         Ok(true)
+    }
+
+    /// Forgets the names behind the first ones, where no map has one of them.
+    fn forget(&mut self, known: usize)
+        ensures { (before : StoreOf B) → HasNamed before → self.old ≡ record before { names = self.old.names }
+            → take known self.old.names ≡ before.names → self.new ≡ before }
+    {
+        self.table.truncate(known);
     }
 
     /// Adds an innermost frame with these locals. Of two values of one name the later stands.
@@ -123,8 +159,17 @@ impl<B> Store<B> {
         ensures ok { OnOk result (self.new ≡ stores.with_frame self.old back locals.now) }
         ensures err { OnErr result (self.new ≡ self.old) }
     {
-        let locals = Variables::of(alloc, locals)?;
-        self.frames.push(Frame { back, locals })?;
+        let known = self.table.len();
+        let numbers = Numbers::new(alloc);
+        self.frames.push(Held { back, numbers })?;
+        for local in locals {
+            let set = self.set_local(alloc, local.name.bytes(), local.value.bytes());
+            if set.is_err() {
+                let _back = self.pop_frame();
+                self.forget(known);
+                return Err(NoMemory);
+            }
+        }
         Ok(())
     }
 
@@ -133,9 +178,10 @@ impl<B> Store<B> {
         ensures back { result ≡ option_map (λ frame. frame.back) (stores.innermost self.old.frames) }
         ensures left { self.new ≡ stores.without_frame self.old }
     {
+        let depth = self.frames.len();
         let frame = self.frames.pop()?;
-        let Frame { back, locals } = frame;
-        drop(locals);
+        let Held { back, numbers } = frame;
+        self.table.unbind_all(depth, &numbers);
         Some(back)
     }
 
@@ -150,23 +196,12 @@ impl<B> Store<B> {
         ensures ok { IfOk result (λ back. stores.popped_setting self.old name.now value.now (stores.innermost self.old.frames) ≡ (self.new, back)) }
         ensures err { OnErr result (self.new ≡ self.old) }
     {
-        let Some((_, outer)) = self.frames.split_last() else {
+        if self.frames.is_empty() {
             return Ok(None);
-        };
-        match frame::holder(outer, name) {
-            Some(place) => frame::set_at(&mut self.frames, place, alloc, name, value)?,
-            None => self.variables.insert(alloc, name, value)?,
         }
+        self.table
+            .bind_below(alloc, name, self.frames.len(), value)?;
         Ok(self.pop_frame())
-    }
-    /// The value that a name has among the locals of the frame at a place, or among the channel's variables.
-    fn value_at(&self, place: Option<usize>, name: &[u8]) -> Option<&[u8]>
-        ensures { option_map (λ value. value.now) result ≡ spec.value_at self.now place name.now }
-    {
-        match place {
-            Some(place) => frame::local_at(&self.frames, place, name),
-            None => self.variables.get(name),
-        }
     }
 
     /// Sets a name as `set` does, and gives what `put_back` needs to undo that.
@@ -180,10 +215,28 @@ impl<B> Store<B> {
         ensures had { IfOk result (λ had. had ≡ spec.had self.old name.now) }
         ensures err { OnErr result (self.new ≡ self.old) }
     {
-        let place = frame::holder(&self.frames, name);
-        let had = copied(alloc, self.value_at(place, name))?;
+        let had = self.had(alloc, name)?;
         self.set(alloc, name, value)?;
-        Ok(Replaced { place, value: had })
+        Ok(had)
+    }
+
+    /// The value of a name, and whether it is new.
+    fn had(&self, alloc: Global, name: &[u8]) -> Result<Replaced, NoMemory>
+        ensures { IfOk result (λ had. had ≡ spec.had self.now name.now) }
+    {
+        match self.table.stack(name) {
+            None => Ok(Replaced {
+                value: None,
+                is_new: true,
+            }),
+            Some(stack) => {
+                let value = copied(alloc, stack.value())?;
+                Ok(Replaced {
+                    value,
+                    is_new: false,
+                })
+            }
+        }
     }
 
     /// Puts back what a name had before `replace` set it. It takes no memory.
@@ -191,9 +244,12 @@ impl<B> Store<B> {
         ensures { (before : StoreOf B) (value : List ℕ) → self.old ≡ stores.set before name.now value
             → had ≡ spec.had before name.now → self.new ≡ before }
     {
-        match had.place {
-            Some(place) => frame::put_back_at(&mut self.frames, place, name, had.value),
-            None => self.variables.put_back(name, had.value),
+        let Replaced { value, is_new } = had;
+        if is_new {
+            let known = self.table.len().saturating_sub(1);
+            self.table.truncate(known);
+        } else {
+            self.table.restore(name, value);
         }
     }
 }
@@ -203,6 +259,7 @@ impl<B: Drop> Store<B> {
     pub fn drop_frames(&mut self)
         ensures { self.new ≡ record self.old { frames = [] } }
     {
-        self.frames.clear();
+        while self.pop_frame().is_some() {}
+        self.frames.shrink_to_fit();
     }
 }

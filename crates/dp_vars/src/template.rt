@@ -7,6 +7,7 @@ ghost use Rattle.dp_vars.specs.Sights.{sight_of};
 ghost use Rattle.dp_vars.specs.Values.{expanded, expansion};
 
 use crate::expanding::Expanding;
+use crate::pieces::Pieces;
 use crate::scope::{Counts, Scope};
 use dp_conf::{MOST_NESTING, NoMemory, nesting, next_mark};
 use std::alloc::{AllocError, Global};
@@ -35,6 +36,7 @@ impl From<AllocError> for TemplateFault {
 #[derive(Drop)]
 pub struct Template {
     text: Vec<u8>,
+    pieces: Pieces,
 }
 
 impl Model for Template {
@@ -42,7 +44,11 @@ impl Model for Template {
 
     ghost Value = { List ℕ };
 
+    ghost use Rattle.dp_vars.specs.Pieces.{AreOf};
+
     ghost view = { λ template. template.text.items };
+
+    ghost invariant = { λ template. AreOf template.text.items template.pieces };
 }
 
 impl Template {
@@ -55,15 +61,9 @@ impl Template {
         if depth > MOST_NESTING {
             return Err(TemplateFault::TooDeep);
         }
+        let pieces = Pieces::read(alloc, text)?;
         let text = Vec::from_slice(alloc, text)?;
-        Ok(Template { text })
-    }
-
-    /// The text as it was read.
-    fn text(&self) -> &[u8]
-        ensures { result.now ≡ self.now }
-    {
-        &self.text
+        Ok(Template { text, pieces })
     }
 }
 
@@ -104,6 +104,6 @@ pub fn expand<B, C: Counts>(
     // The same by a function.
     ensures exact { IfOk result (λ bytes. bytes.items ≡ expansion (sight_of C.count scope.now) template.now) }
 {
-    let bytes = expand_text(alloc, template.text(), scope)?;
+    let bytes = template.pieces.expand(alloc, &template.text, scope)?;
     Ok(bytes)
 }

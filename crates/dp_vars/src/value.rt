@@ -125,7 +125,7 @@ fn caller<'a>(channel: Option<ChannelSeen<'a>>, argument: &[u8]) -> &'a [u8]
 }
 
 /// The function of a name.
-fn function_of(name: &[u8]) -> Option<Function>
+pub(crate) fn function_of(name: &[u8]) -> Option<Function>
     ensures { result ≡ values.function_of name.now }
 {
     if name == b"GLOBAL".as_slice() {
@@ -144,7 +144,7 @@ fn function_of(name: &[u8]) -> Option<Function>
 }
 
 /// The value of a function of an argument.
-fn function_value<'a, B, C: Counts>(
+pub(crate) fn function_value<'a, B, C: Counts>(
     scope: &Scope<'a, B, C>,
     function: Function,
     argument: &[u8],

@@ -1,8 +1,7 @@
 //! A map from the names of variables to their values.
-ghost use Rattle.std.specs.Prelude.{◌≡◌, ℕ, List, true, OnErr, OnOk, IfOk};
+ghost use Rattle.std.specs.Prelude.{◌≡◌, OnErr, OnOk};
 ghost use Rattle.std.specs.FinMap as finite;
 ghost use Rattle.std.specs.Option.{option_map};
-ghost use Rattle.dp_vars.specs.Variables.{Named, map_of};
 
 use dp_conf::{NoMemory, Text};
 use indexmap::IndexMap;
@@ -46,24 +45,6 @@ impl Variables {
         }
     }
 
-    /// The map of some variables. Of two values of one name the later stands.
-    pub(crate) fn of(alloc: Global, variables: &[Variable]) -> Result<Self, NoMemory>
-        ensures { IfOk result (λ map. map ≡ map_of variables.now) }
-    {
-        let mut map = Variables::new(alloc);
-        for variable in variables {
-            map.insert(alloc, variable.name.bytes(), variable.value.bytes())?;
-        }
-        Ok(map)
-    }
-
-    /// Whether a name has a value.
-    pub(crate) fn has(&self, name: &[u8]) -> bool
-        ensures { result ≡ finite.contains_key self.now name.now }
-    {
-        self.held.contains_key(name)
-    }
-
     /// The value of a name, where it has one.
     pub(crate) fn get(&self, name: &[u8]) -> Option<&[u8]>
         ensures { option_map (λ value. value.now) result ≡ finite.get self.now name.now }
@@ -88,31 +69,5 @@ impl Variables {
         let value = Text::copy_of(alloc, value)?;
         self.held.insert(key, value)?;
         Ok(())
-    }
-    /// Takes the value of a name away, where it has one.
-    fn remove(&mut self, name: &[u8])
-        ensures { self.new ≡ finite.remove self.old name.now }
-    {
-        let _value = self.held.shift_remove(name);
-    }
-
-    /// Gives a name that has a value another one.
-    fn change(&mut self, name: &[u8], value: Text)
-        ensures { finite.contains_key self.old name.now ≡ true → self.new ≡ finite.insert self.old name.now value }
-    {
-        if let Some(old) = self.held.get_mut(name) {
-            *old = value;
-        }
-    }
-
-    /// Puts back what a name had before it was given a value; with None it has none again.
-    pub(crate) fn put_back(&mut self, name: &[u8], value: Option<Text>)
-        ensures { (before : Named) (given : List ℕ) → self.old ≡ finite.insert before name.now given
-            → value ≡ finite.get before name.now → self.new ≡ before }
-    {
-        match value {
-            None => self.remove(name),
-            Some(value) => self.change(name, value),
-        }
     }
 }

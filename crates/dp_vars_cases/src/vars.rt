@@ -2,6 +2,7 @@
 mod functions;
 mod groups;
 mod names;
+mod numbers;
 mod parts;
 mod stores;
 
@@ -107,6 +108,22 @@ fn put_expanded(
     world.globals.put(alloc, name, value.as_bytes())
 }
 
+/// A frame with a local for each name, which goes back to its number.
+fn push_names(alloc: Global, world: &mut World, names: &str) -> Result<(), NoMemory> {
+    let mut locals = Vec::new(alloc);
+    for name in names.split(' ') {
+        locals.push(variable(alloc, name.as_bytes(), b"")?)?;
+    }
+    world.store.push_frame(alloc, 1, &locals)
+}
+
+/// Sets a name and puts back what it had.
+fn undo(alloc: Global, world: &mut World, name: &[u8], value: &[u8]) -> Result<(), NoMemory> {
+    let had = world.store.replace(alloc, name, value)?;
+    world.store.put_back(name, had);
+    Ok(())
+}
+
 /// A step of a name and a value.
 fn set(
     alloc: Global,
@@ -122,22 +139,29 @@ fn set(
             Ok(())
         }
         "push" => push_frame(alloc, world, name, value),
+        "return" => {
+            let _back = world.store.pop_frame_setting(alloc, name, value)?;
+            Ok(())
+        }
+        "undone" => undo(alloc, world, name, value),
         "global" => world.globals.put(alloc, name, value),
         "expanded" => put_expanded(alloc, world, name, value),
         _ => Ok(()),
     }
 }
 
-/// A step: `pop`, `gone`, or a word with `NAME=VALUE`.
+/// A step: `pop`, `drop`, `gone`, `frame` with names, or a word with `NAME=VALUE`.
 fn take(alloc: Global, world: &mut World, step: &str) -> Result<(), NoMemory> {
     match step.split_once(' ') {
         None => match step {
             "pop" => {
                 let _back = world.store.pop_frame();
             }
+            "drop" => world.store.drop_frames(),
             "gone" => world.is_here = false,
             _ => {}
         },
+        Some(("frame", names)) => push_names(alloc, world, names)?,
         Some((word, rest)) => {
             let (name, value) = rest.split_once('=').unwrap_or((rest, ""));
             set(alloc, world, word, name.as_bytes(), value.as_bytes())?;
@@ -159,9 +183,10 @@ fn expanded_in(alloc: Global, world: &mut World, asked: &str) -> Result<String, 
 
 /// The expansion of what stands behind the last ` ; `, after the steps between those before it.
 ///
-/// `set NAME=VALUE` sets a variable, `local` a local of the innermost frame, `push` adds a frame with one local, `pop`
-/// drops the innermost, `global` puts a global, `expanded` puts one whose value is expanded before, and `gone` takes the
-/// channel away. The channel is 7 at `main`, `100`, 2 with the caller `5551234`.
+/// `set NAME=VALUE` sets a variable, `local` a local of the innermost frame, `push` adds a frame with one local, `frame NAME ..`
+/// one with several, `pop` drops the innermost, `return NAME=VALUE` drops it and then sets a variable, `drop` drops all
+/// frames, `undone` sets a variable and puts back what it had, `global` puts a global, `expanded` puts one whose value is
+/// expanded before, and `gone` takes the channel away. The channel is 7 at `main`, `100`, 2 with the caller `5551234`.
 struct Expanded;
 
 impl Question for Expanded {

@@ -3,7 +3,9 @@ use Rattle.std.proofs.Common.{◌≡◌, [], ◌∷◌, Some, None, codes, refl}
 use Rattle.clap.proofs.OnLiterals.{clap_on_literals}
 use Rattle.clap.specs.Faults.{fault_of}
 use Rattle.clap.specs.declared.error.kind.ErrorKind.TheVariants as kind
-use Rattle.dp_words.specs.CommandLine.{pbx_app, asked_of, joined, check, listing, matching, run, debug}
+use Rattle.dp_program.specs.Requests.{joined, check, listing, matching, run, debug}
+use Rattle.dp_words.specs.CommandLine.{pbx_app, asked_of}
+use Rattle.dp_words.specs.Refusals.{refusals_of}
 
 no_command : asked_of (codes "pbx" ∷ []) ≡ Some joined
 unfolding clap_on_literals asked_of
@@ -33,13 +35,21 @@ matched_dashes : asked_of (codes "pbx" ∷ codes "match" ∷ codes "--" ∷ code
 unfolding clap_on_literals asked_of
 matched_dashes = refl
 
-ran : asked_of (codes "pbx" ∷ codes "run" ∷ codes "a.conf" ∷ codes "b.script" ∷ []) ≡ Some (run (codes "a.conf") None (codes "b.script"))
+ran : asked_of (codes "pbx" ∷ codes "run" ∷ codes "a.conf" ∷ codes "b.script" ∷ []) ≡ Some (run (codes "a.conf") None (codes "b.script") None)
 unfolding clap_on_literals asked_of
 ran = refl
 
-ran_with_queues : asked_of (codes "pbx" ∷ codes "run" ∷ codes "--queues" ∷ codes "q.conf" ∷ codes "a.conf" ∷ codes "b.script" ∷ []) ≡ Some (run (codes "a.conf") (Some (codes "q.conf")) (codes "b.script"))
+ran_with_queues : asked_of (codes "pbx" ∷ codes "run" ∷ codes "--queues" ∷ codes "q.conf" ∷ codes "a.conf" ∷ codes "b.script" ∷ []) ≡ Some (run (codes "a.conf") (Some (codes "q.conf")) (codes "b.script") None)
 unfolding clap_on_literals asked_of
 ran_with_queues = refl
+
+ran_in_threads : asked_of (codes "pbx" ∷ codes "run" ∷ codes "--threads" ∷ codes "2" ∷ codes "a.conf" ∷ codes "b.script" ∷ []) ≡ Some (run (codes "a.conf") None (codes "b.script") (Some 2))
+unfolding clap_on_literals asked_of
+ran_in_threads = refl
+
+ran_in_threads_with_queues : asked_of (codes "pbx" ∷ codes "run" ∷ codes "--queues" ∷ codes "q.conf" ∷ codes "--threads" ∷ codes "64" ∷ codes "a.conf" ∷ codes "b.script" ∷ []) ≡ Some (run (codes "a.conf") (Some (codes "q.conf")) (codes "b.script") (Some 64))
+unfolding clap_on_literals asked_of
+ran_in_threads_with_queues = refl
 
 debugged : asked_of (codes "pbx" ∷ codes "debug" ∷ codes "--break" ∷ codes "main,s,1" ∷ codes "a.conf" ∷ codes "b.script" ∷ []) ≡ Some (debug (codes "a.conf") None (codes "b.script") (codes "main,s,1"))
 unfolding clap_on_literals asked_of
@@ -69,3 +79,16 @@ missing_word = refl
 missing_break : fault_of pbx_app (codes "pbx" ∷ codes "debug" ∷ codes "a.conf" ∷ codes "b.script" ∷ []) ≡ kind.MissingRequiredArgument ∷ []
 unfolding clap_on_literals
 missing_break = refl
+
+-- words that are refused for their number alone
+no_priority : refusals_of (codes "pbx" ∷ codes "match" ∷ codes "a.conf" ∷ codes "main" ∷ codes "5" ∷ codes "0" ∷ []) ≡ kind.ValueValidation ∷ []
+unfolding clap_on_literals refusals_of
+no_priority = refl
+
+no_threads : refusals_of (codes "pbx" ∷ codes "run" ∷ codes "--threads" ∷ codes "65" ∷ codes "a.conf" ∷ codes "b.script" ∷ []) ≡ kind.ValueValidation ∷ []
+unfolding clap_on_literals refusals_of
+no_threads = refl
+
+all_numbers : refusals_of (codes "pbx" ∷ codes "run" ∷ codes "--threads" ∷ codes "64" ∷ codes "a.conf" ∷ codes "b.script" ∷ []) ≡ []
+unfolding clap_on_literals refusals_of
+all_numbers = refl

@@ -8,8 +8,7 @@ use Rattle.clap.specs.Walk.{Row, Rule, first_of}
 use Rattle.dp_conf.specs.Words.{same_text}
 use Rattle.dp_commands.specs.Script.{number_within}
 use Rattle.dp_plan.specs.Priority.{most_priority}
-use Rattle.dp_program.specs.declared.request.Request.{Request}
-use Rattle.dp_program.specs.declared.request.Request.TheVariants.{Joined, Check, Listing, Match, Run, QueueRun, ThreadRun, QueueThreadRun, Debug, QueueDebug}
+use Rattle.dp_program.specs.Requests.{Asked, joined, check, listing, matching, run, debug}
 
 -- a word that has to be given
 abbrev pub required_word : List ℕ → Rule
@@ -61,29 +60,6 @@ pbx_app =
     with_subcommand (with_subcommand (with_subcommand (with_subcommand (with_subcommand (new_app (codes "pbx")) check_app.top)
     list_app.top) match_app.top) run_app.top) debug_app.top
 
--- what a command line asks for, with its texts
-pub data Asked : Type 0 where
-  joined : Asked
-  check : List ℕ → Asked
-  listing : List ℕ → Asked
-  matching : List ℕ → List ℕ → List ℕ → ℕ → Asked
-  run : List ℕ → Option (List ℕ) → List ℕ → Asked
-  thread_run : List ℕ → Option (List ℕ) → List ℕ → ℕ → Asked
-  debug : List ℕ → Option (List ℕ) → List ℕ → List ℕ → Asked
-
--- what a request asks for
-abbrev pub asked : Request → Asked
-asked Joined = joined
-asked (Check file) = check file.now
-asked (Listing file) = listing file.now
-asked (Match file context text priority) = matching file.now context.now text.now priority
-asked (Run file script) = run file.now None script.now
-asked (QueueRun file queues script) = run file.now (Some queues.now) script.now
-asked (ThreadRun file script threads) = thread_run file.now None script.now threads
-asked (QueueThreadRun file queues script threads) = thread_run file.now (Some queues.now) script.now threads
-asked (Debug file script held) = debug file.now None script.now held.now
-asked (QueueDebug file queues script held) = debug file.now (Some queues.now) script.now held.now
-
 -- the priority that a word writes: digits, and a number from 1 to the greatest priority
 abbrev pub priority_in : List ℕ → Option ℕ
 priority_in word = option_and_then (λ n. if nat_lt 0 n then Some n else None) (number_within most_priority word)
@@ -115,22 +91,16 @@ abbrev pub match_asked : List Row → Option Asked
 match_asked words =
     option_and_then (λ word. option_and_then (match_at words) (priority_in word)) (first_of (codes "PRIORITY") words)
 
--- what `run` asks for without threads, by its words
-abbrev pub plain_run_of : List Row → Option Asked
-plain_run_of words =
-    option_and_then (λ file. option_map (run file (first_of (codes "QUEUES") words)) (first_of (codes "SCRIPT") words))
-    (first_of (codes "FILE") words)
-
--- what `run` asks for in so many threads, by its other words
-abbrev pub thread_run_of : List Row → ℕ → Option Asked
-thread_run_of words threads =
-    option_and_then (λ file. option_map (λ script. thread_run file (first_of (codes "QUEUES") words) script threads)
+-- what `run` asks for in so many threads, where their number is given, by its other words
+abbrev pub run_in : List Row → Option ℕ → Option Asked
+run_in words threads =
+    option_and_then (λ file. option_map (λ script. run file (first_of (codes "QUEUES") words) script threads)
     (first_of (codes "SCRIPT") words)) (first_of (codes "FILE") words)
 
 -- what `run` asks for, by its words and the one behind `--threads`
 abbrev pub run_by : List Row → Option (List ℕ) → Option Asked
-run_by words None = plain_run_of words
-run_by words (Some word) = option_and_then (thread_run_of words) (threads_in word)
+run_by words None = run_in words None
+run_by words (Some word) = option_and_then (λ threads. run_in words (Some threads)) (threads_in word)
 
 -- what `run` asks for, by its words
 abbrev pub run_asked : List Row → Option Asked

@@ -1,10 +1,54 @@
--- The status of the program where the words of its command line are no request.
-use Rattle.std.specs.Prelude.{ℕ}
+-- What the program writes and answers, by what its words ask for and by the kinds with which they are refused.
+use Rattle.std.specs.Prelude.{◌≡◌, ◌≢◌, ◌⊎◌, ◌||◌, ℕ, Bool, false, List, Option, None, Result, Ok, Err, IfErr}
+use Rattle.clap.specs.Kinds.{IsAmong, Kinds}
 use Rattle.clap.specs.declared.error.kind.ErrorKind.{ErrorKind}
-use Rattle.clap.specs.declared.error.kind.ErrorKind.TheVariants as kind
+use Rattle.clap.specs.declared.error.kind.ErrorKind.TheVariants.{DisplayHelp, DisplayVersion, OutOfMemory}
+use Rattle.dp_commands.specs.Faults.{is_write_failed}
+use Rattle.dp_commands.specs.declared.fault.Code.TheVariants.{WriteFailed}
+use Rattle.dp_commands.specs.declared.fault.PbxFault.{PbxFault}
+use Rattle.dp_commands.specs.declared.fault.PbxFault.TheVariants.{Coded, NoMemory}
+use Rattle.dp_program.specs.Files.{Source}
+use Rattle.dp_program.specs.Requests.{Asked}
+use Rattle.dp_program.specs.Serves.{Serves}
+use Rattle.dp_program.specs.Status.{Prints, status_after}
 
 -- the status where the words are no request: 0 where help was asked for, and 2 of a mistake
 abbrev pub explained_status : ErrorKind → ℕ
-explained_status kind.DisplayHelp = 0
-explained_status kind.DisplayVersion = 0
+explained_status DisplayHelp = 0
+explained_status DisplayVersion = 0
 explained_status _ = 2
+
+-- what is known of a writer: what it holds, and whether a write has failed
+pub record Sink : Type 0 where
+  pub contents : Option (List ℕ)
+  pub failed : Bool
+
+abbrev pub sink : Option (List ℕ) → Bool → Sink
+sink contents failed = record { contents = contents; failed = failed }
+
+-- what the program writes and answers where its words ask for something: what the request does, with its status, and with the
+-- line of its fault on the errors
+pub record Fulfils (files : List ℕ → Source) (input : Source) (want : Asked) (output output_after errors errors_after : Sink) (status : ℕ) : Type 0 where
+  pub answered : Result ℕ PbxFault
+  pub serves : Serves files input want output.contents output_after.contents answered
+  pub written : output_after.failed ≡ (output.failed || is_write_failed answered)
+  pub told : status ≡ status_after answered
+  pub printed : errors_after.failed ≡ false → Prints errors.contents errors_after.contents answered
+
+-- what stands in place of a request, by its kind, comes to the kind's status; else memory was refused, or help was not written
+abbrev pub Explains : ErrorKind → Result ℕ PbxFault → Type 0
+Explains kind (Ok status) = (kind ≢ OutOfMemory) × (status ≡ explained_status kind)
+Explains kind (Err fault) = (fault ≡ NoMemory) ⊎ ((fault ≡ Coded WriteFailed None) × (explained_status kind ≡ 0))
+
+-- the status of words that are refused with a kind, and on the errors the line of the fault where it is one
+pub record RefusesAs (kind : ErrorKind) (errors errors_after : Sink) (status : ℕ) : Type 0 where
+  pub answered : Result ℕ PbxFault
+  pub explains : Explains kind answered
+  pub told : status ≡ status_after answered
+  pub printed : IfErr answered (λ _. errors_after.failed ≡ false → Prints errors.contents errors_after.contents answered)
+
+-- the words are refused with one of these kinds, or for want of memory
+pub record Refuses (kinds : Kinds) (errors errors_after : Sink) (status : ℕ) : Type 0 where
+  pub kind : ErrorKind
+  pub among : (kind ≡ OutOfMemory) ⊎ IsAmong kind kinds
+  pub refuses : RefusesAs kind errors errors_after status

@@ -1,14 +1,16 @@
 //! The command line: what its words ask for.
-ghost use Rattle.std.specs.Prelude.{◌≡◌, ◌≢◌, IfOk, IfErr, Some, is_some, map, option_map, true, []};
+ghost use Rattle.std.specs.Prelude.{◌≡◌, IfOk, IfErr, Some, is_some, codes, option_map, true};
 ghost use Rattle.clap.specs.Faults.{fault_of};
-ghost use Rattle.clap.specs.Kinds.{FailsBy, HasKind};
+ghost use Rattle.clap.specs.Kinds.{FailsBy};
 ghost use Rattle.clap.specs.Matches.{found_of};
 ghost use Rattle.clap.specs.Simple.{subcommand_of, subcommand_rows_of};
 ghost use Rattle.clap.specs.Takes.{takes};
 ghost use Rattle.clap.specs.Values.{kind_of};
 ghost use Rattle.clap.specs.Walk.{first_of, rows_of};
-ghost use Rattle.clap.specs.declared.error.kind.ErrorKind.TheVariants.{OutOfMemory};
+ghost use Rattle.clap.specs.declared.error.kind.ErrorKind.TheVariants.{MissingRequiredArgument, OutOfMemory, ValueValidation};
+ghost use Rattle.dp_program.specs.Requests.{asked};
 ghost use Rattle.dp_words.specs.CommandLine as spec;
+ghost use Rattle.dp_words.specs.Refusals as refusals;
 
 use crate::commands::{match_command, pbx_command, run_command};
 use clap::error::ErrorKind;
@@ -35,12 +37,16 @@ fn refuse<'a>(
     name: &'a str,
     kind: ErrorKind,
     message: &str,
-) -> Result<Error, NoMemory> {
+) -> Result<Error, NoMemory>
+    ensures { IfOk result (λ error. kind_of error ≡ kind) }
+{
     command?.bin_name(name)?.error(kind, message)
 }
 
 /// The refusal of a word that writes no priority.
-fn refuse_priority(alloc: Global, word: &str) -> Result<Error, NoMemory> {
+fn refuse_priority(alloc: Global, word: &str) -> Result<Error, NoMemory>
+    ensures { IfOk result (λ error. kind_of error ≡ ValueValidation) }
+{
     let message = format!(in alloc;
         "invalid value '{word}' for '[PRIORITY]': a priority is a number from 1 to {MOST_PRIORITY}"
     )?;
@@ -64,7 +70,9 @@ fn read_threads(word: &str) -> Option<u32>
 }
 
 /// The refusal of a word that writes no number of threads.
-fn refuse_threads(alloc: Global, word: &str) -> Result<Error, NoMemory> {
+fn refuse_threads(alloc: Global, word: &str) -> Result<Error, NoMemory>
+    ensures { IfOk result (λ error. kind_of error ≡ ValueValidation) }
+{
     let message = format!(in alloc;
         "invalid value '{word}' for '--threads <N>': the number of threads is from 1 to {MOST_THREADS}"
     )?;
@@ -85,7 +93,7 @@ fn word_of<'a>(given: &ArgMatches<'a>, name: &str) -> Option<&'a str>
 
 /// What the words of `check` ask for.
 fn check_request<'a>(given: &ArgMatches<'a>) -> Option<Request<'a>>
-    ensures { option_map spec.asked result ≡ spec.check_asked (rows_of (found_of given.now)) }
+    ensures { option_map asked result ≡ spec.check_asked (rows_of (found_of given.now)) }
 {
     Some(Request::Check {
         file: word_of(given, "FILE")?,
@@ -94,7 +102,7 @@ fn check_request<'a>(given: &ArgMatches<'a>) -> Option<Request<'a>>
 
 /// What the words of `list` ask for.
 fn list_request<'a>(given: &ArgMatches<'a>) -> Option<Request<'a>>
-    ensures { option_map spec.asked result ≡ spec.list_asked (rows_of (found_of given.now)) }
+    ensures { option_map asked result ≡ spec.list_asked (rows_of (found_of given.now)) }
 {
     Some(Request::Listing {
         file: word_of(given, "FILE")?,
@@ -103,8 +111,8 @@ fn list_request<'a>(given: &ArgMatches<'a>) -> Option<Request<'a>>
 
 /// What the words of `match` ask for, or its refusal where they name no priority.
 fn match_request<'a>(alloc: Global, given: &ArgMatches<'a>) -> Result<Option<Request<'a>>, Error>
-    ensures asked { IfOk result (λ request. option_map spec.asked request ≡ spec.match_asked (rows_of (found_of given.now))) }
-    ensures refused { IfErr result (λ error. is_some (spec.match_asked (rows_of (found_of given.now))) ≡ true → kind_of error ≡ OutOfMemory) }
+    ensures asked { IfOk result (λ request. option_map asked request ≡ spec.match_asked (rows_of (found_of given.now))) }
+    ensures kinds { FailsBy (refusals.number_kinds spec.priority_in (first_of (codes "PRIORITY") (rows_of (found_of given.now)))) result }
 {
     let Some(word) = word_of(given, "PRIORITY") else {
         return Ok(None);
@@ -117,7 +125,7 @@ fn match_request<'a>(alloc: Global, given: &ArgMatches<'a>) -> Result<Option<Req
 
 /// What the other words of `match` ask for at a priority.
 fn match_at<'a>(given: &ArgMatches<'a>, priority: Priority) -> Option<Request<'a>>
-    ensures { option_map spec.asked result ≡ spec.match_at (rows_of (found_of given.now)) priority }
+    ensures { option_map asked result ≡ spec.match_at (rows_of (found_of given.now)) priority }
 {
     Some(Request::Match {
         file: word_of(given, "FILE")?,
@@ -129,71 +137,40 @@ fn match_at<'a>(given: &ArgMatches<'a>, priority: Priority) -> Option<Request<'a
 
 /// What the words of `run` ask for, or its refusal where they name threads but no number of them.
 fn run_request<'a>(alloc: Global, given: &ArgMatches<'a>) -> Result<Option<Request<'a>>, Error>
-    ensures asked { IfOk result (λ request. option_map spec.asked request ≡ spec.run_asked (rows_of (found_of given.now))) }
-    ensures refused { IfErr result (λ error. is_some (spec.run_asked (rows_of (found_of given.now))) ≡ true → kind_of error ≡ OutOfMemory) }
+    ensures asked { IfOk result (λ request. option_map asked request ≡ spec.run_asked (rows_of (found_of given.now))) }
+    ensures kinds { FailsBy (refusals.number_kinds spec.threads_in (first_of (codes "N") (rows_of (found_of given.now)))) result }
 {
     let Some(word) = word_of(given, "N") else {
-        return Ok(plain_run(given));
+        return Ok(run_in(given, None));
     };
     match read_threads(word) {
-        Some(threads) => Ok(thread_run(given, threads)),
+        Some(threads) => Ok(run_in(given, Some(threads))),
         None => Err(refuse_threads(alloc, word)?),
     }
 }
 
-/// What the other words of `run` ask for in so many threads.
-fn thread_run<'a>(given: &ArgMatches<'a>, threads: u32) -> Option<Request<'a>>
-    ensures { option_map spec.asked result ≡ spec.thread_run_of (rows_of (found_of given.now)) threads }
+/// What the other words of `run` ask for, in threads where their number is given.
+fn run_in<'a>(given: &ArgMatches<'a>, threads: Option<u32>) -> Option<Request<'a>>
+    ensures { option_map asked result ≡ spec.run_in (rows_of (found_of given.now)) threads }
 {
-    let file = word_of(given, "FILE")?;
-    let script = word_of(given, "SCRIPT")?;
-    match word_of(given, "QUEUES") {
-        None => Some(Request::ThreadRun {
-            file,
-            script,
-            threads,
-        }),
-        Some(queues) => Some(Request::QueueThreadRun {
-            file,
-            queues,
-            script,
-            threads,
-        }),
-    }
-}
-
-/// What the words of `run` ask for without threads.
-fn plain_run<'a>(given: &ArgMatches<'a>) -> Option<Request<'a>>
-    ensures { option_map spec.asked result ≡ spec.plain_run_of (rows_of (found_of given.now)) }
-{
-    let file = word_of(given, "FILE")?;
-    let script = word_of(given, "SCRIPT")?;
-    match word_of(given, "QUEUES") {
-        None => Some(Request::Run { file, script }),
-        Some(queues) => Some(Request::QueueRun {
-            file,
-            queues,
-            script,
-        }),
-    }
+    Some(Request::Run {
+        file: word_of(given, "FILE")?,
+        queues: word_of(given, "QUEUES"),
+        script: word_of(given, "SCRIPT")?,
+        threads,
+    })
 }
 
 /// What the words of `debug` ask for.
 fn debug_request<'a>(given: &ArgMatches<'a>) -> Option<Request<'a>>
-    ensures { option_map spec.asked result ≡ spec.debug_asked (rows_of (found_of given.now)) }
+    ensures { option_map asked result ≡ spec.debug_asked (rows_of (found_of given.now)) }
 {
-    let file = word_of(given, "FILE")?;
-    let script = word_of(given, "SCRIPT")?;
-    let held = word_of(given, "CONTEXT,EXTEN,PRIORITY")?;
-    match word_of(given, "QUEUES") {
-        None => Some(Request::Debug { file, script, held }),
-        Some(queues) => Some(Request::QueueDebug {
-            file,
-            queues,
-            script,
-            held,
-        }),
-    }
+    Some(Request::Debug {
+        file: word_of(given, "FILE")?,
+        queues: word_of(given, "QUEUES"),
+        script: word_of(given, "SCRIPT")?,
+        held: word_of(given, "CONTEXT,EXTEN,PRIORITY")?,
+    })
 }
 
 /// What the words of a command ask for, or None where one that is required is missing.
@@ -202,10 +179,9 @@ fn command_request<'a>(
     name: &str,
     given: &ArgMatches<'a>,
 ) -> Result<Option<Request<'a>>, Error>
-    ensures asked { IfOk result (λ request. option_map spec.asked request
+    ensures asked { IfOk result (λ request. option_map asked request
         ≡ spec.command_asked name.now (rows_of (found_of given.now))) }
-    ensures refused { IfErr result (λ error. is_some (spec.command_asked name.now (rows_of (found_of given.now))) ≡ true
-        → kind_of error ≡ OutOfMemory) }
+    ensures kinds { FailsBy (refusals.command_kinds name.now (rows_of (found_of given.now))) result }
 {
     match name {
         "check" => Ok(check_request(given)),
@@ -219,9 +195,8 @@ fn command_request<'a>(
 
 /// What the matches of the program's commands ask for, or None where a word that is required is missing.
 fn request_of<'a>(alloc: Global, matches: &ArgMatches<'a>) -> Result<Option<Request<'a>>, Error>
-    ensures asked { IfOk result (λ request. option_map spec.asked request ≡ spec.asked_by (subcommand_rows_of matches.now)) }
-    ensures refused { IfErr result (λ error. is_some (spec.asked_by (subcommand_rows_of matches.now)) ≡ true
-        → kind_of error ≡ OutOfMemory) }
+    ensures asked { IfOk result (λ request. option_map asked request ≡ spec.asked_by (subcommand_rows_of matches.now)) }
+    ensures kinds { FailsBy (refusals.kinds_by (subcommand_rows_of matches.now)) result }
 {
     match matches.subcommand() {
         Some((name, given)) => command_request(alloc, name, given),
@@ -230,7 +205,9 @@ fn request_of<'a>(alloc: Global, matches: &ArgMatches<'a>) -> Result<Option<Requ
 }
 
 /// The refusal of a command line that lacks a word that is required.
-fn refuse_missing(alloc: Global) -> Result<Error, NoMemory> {
+fn refuse_missing(alloc: Global) -> Result<Error, NoMemory>
+    ensures { IfOk result (λ error. kind_of error ≡ MissingRequiredArgument) }
+{
     refuse(
         pbx_command(alloc),
         "pbx",
@@ -251,14 +228,12 @@ fn read_matches<'a>(alloc: Global, words: &'a [String]) -> Result<ArgMatches<'a>
 
 /// What a command line asks for, the program's own name first among its words; or the help that it asks for, or what is
 /// wrong with it.
-#[tactic(auto, unfolding(crate::specs::CommandLine::asked_of))]
+#[tactic(auto, unfolding(crate::specs::CommandLine::asked_of, crate::specs::Refusals::refusals_of))]
 pub fn read_words<'a>(alloc: Global, words: &'a [String]) -> Result<Request<'a>, Error>
-    ensures asked { IfOk result (λ request. spec.asked_of (spec.texts words.now) ≡ Some (spec.asked request)) }
+    ensures asked { IfOk result (λ request. spec.asked_of (spec.texts words.now) ≡ Some (asked request)) }
     ensures refused { IfErr result (λ error. takes spec.pbx_app (spec.texts words.now) ≡ true
         → is_some (spec.asked_of (spec.texts words.now)) ≡ true → kind_of error ≡ OutOfMemory) }
-    ensures faultless { IfOk result (λ _. fault_of spec.pbx_app (spec.texts words.now) ≡ []) }
-    ensures mistaken { IfErr result (λ error. fault_of spec.pbx_app (spec.texts words.now) ≢ []
-        → HasKind (fault_of spec.pbx_app (spec.texts words.now)) error) }
+    ensures kinds { FailsBy (refusals.refusals_of (spec.texts words.now)) result }
 {
     let matches = read_matches(alloc, words)?;
     match request_of(alloc, &matches)? {

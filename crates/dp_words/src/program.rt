@@ -1,15 +1,18 @@
 //! What the program does with its command line.
-ghost use Rattle.std.specs.Prelude.{◌≡◌, ◌≢◌, [], IfOk};
-ghost use Rattle.clap.specs.Faults.{fault_of};
+ghost use Rattle.std.specs.Prelude.{◌≡◌, ◌≢◌, ◌||◌, [], All, IfErr, Some};
 ghost use Rattle.clap.specs.Values.{kind_of};
-ghost use Rattle.dp_words.specs.CommandLine.{pbx_app, texts};
-ghost use Rattle.dp_words.specs.Status.{explained_status};
+ghost use Rattle.dp_commands.specs.Faults.{is_write_failed};
+ghost use Rattle.dp_program.specs.Files.{source};
+ghost use Rattle.dp_program.specs.Requests.{Asked, asked};
+ghost use Rattle.dp_words.specs.CommandLine.{asked_of, texts};
+ghost use Rattle.dp_words.specs.Refusals.{refusals_of};
+ghost use Rattle.dp_words.specs.Status.{Explains, Fulfils, Refuses, RefusesAs, explained_status, sink};
 
 use crate::command_line::read_words;
 use clap::Error;
 use clap::error::ErrorKind;
 use dp_conf::{ReadTold, WriteTold};
-use dp_program::{PbxFault, ReadFiles, finish, serve};
+use dp_program::{PbxFault, ReadFiles, Request, finish, serve};
 use std::alloc::Global;
 use std::sync::Wait;
 use std::thread::Threads;
@@ -21,9 +24,11 @@ fn explain<W: WriteTold, E: WriteTold>(
     output: &mut W,
     errors: &mut E,
 ) -> Result<u8, PbxFault>
-    ensures status { IfOk result (λ status. status ≡ explained_status (kind_of error.now)) }
+    ensures explains { Explains (kind_of error.now) result }
     ensures help { explained_status (kind_of error.now) ≡ 0 → errors.new ≡ errors.old }
     ensures mistake { explained_status (kind_of error.now) ≡ 2 → output.new ≡ output.old }
+    ensures fault { IfErr result (λ _. errors.new ≡ errors.old) }
+    ensures told { W.has_failed output.new ≡ (W.has_failed output.old || is_write_failed result) }
 {
     if error.kind() == ErrorKind::OutOfMemory {
         return Err(PbxFault::NoMemory);
@@ -35,6 +40,39 @@ fn explain<W: WriteTold, E: WriteTold>(
     }
     output.write_told(text.as_bytes())?;
     Ok(0)
+}
+
+/// Prints what stands in place of a request, and gives the status.
+fn refuse<W: WriteTold, E: WriteTold>(
+    alloc: Global,
+    error: &Error,
+    output: &mut W,
+    errors: &mut E,
+) -> u8
+    ensures refuses { RefusesAs (kind_of error.now) (sink (E.contents errors.old) (E.has_failed errors.old))
+        (sink (E.contents errors.new) (E.has_failed errors.new)) result }
+    ensures mistake { explained_status (kind_of error.now) ≡ 2 → output.new ≡ output.old }
+{
+    let answered = explain(alloc, error, output, errors);
+    finish(errors, answered)
+}
+
+/// Does what a request asks for, and gives the status.
+fn fulfil<F: ReadFiles, I: ReadTold, W: WriteTold, E: WriteTold, R: Threads + Wait + Sync>(
+    rt: &R,
+    files: &F,
+    alloc: Global,
+    request: &Request<'_>,
+    input: &mut I,
+    output: &mut W,
+    errors: &mut E,
+) -> u8
+    ensures { Fulfils (F.source_at files.now) (source (I.remaining input.old) (I.has_failed input.new)) (asked request.now)
+        (sink (W.contents output.old) (W.has_failed output.old)) (sink (W.contents output.new) (W.has_failed output.new))
+        (sink (E.contents errors.old) (E.has_failed errors.old)) (sink (E.contents errors.new) (E.has_failed errors.new)) result }
+{
+    let answered = serve(rt, files, alloc, request, input, output);
+    finish(errors, answered)
 }
 
 /// Does what the words of the command line ask for, the program's own name first among them, and gives the status: 0; 1
@@ -53,11 +91,18 @@ pub fn answer<F: ReadFiles, I: ReadTold, W: WriteTold, E: WriteTold, R: Threads 
     output: &mut W,
     errors: &mut E,
 ) -> u8
-    ensures refused { fault_of pbx_app (texts words.now) ≢ [] → input.new ≡ input.old }
+    ensures fulfils { (want : Asked) → refusals_of (texts words.now) ≡ [] → asked_of (texts words.now) ≡ Some want
+        → Fulfils (F.source_at files.now) (source (I.remaining input.old) (I.has_failed input.new)) want
+        (sink (W.contents output.old) (W.has_failed output.old)) (sink (W.contents output.new) (W.has_failed output.new))
+        (sink (E.contents errors.old) (E.has_failed errors.old)) (sink (E.contents errors.new) (E.has_failed errors.new)) result }
+    ensures refuses { refusals_of (texts words.now) ≢ [] → Refuses (refusals_of (texts words.now))
+        (sink (E.contents errors.old) (E.has_failed errors.old)) (sink (E.contents errors.new) (E.has_failed errors.new)) result }
+    ensures silent { refusals_of (texts words.now) ≢ [] → All (λ kind. explained_status kind ≡ 2) (refusals_of (texts words.now))
+        → output.new ≡ output.old }
+    ensures unread { refusals_of (texts words.now) ≢ [] → input.new ≡ input.old }
 {
-    let answered = match read_words(alloc, words) {
-        Ok(request) => serve(rt, files, alloc, request, input, output),
-        Err(error) => explain(alloc, &error, output, errors),
-    };
-    finish(errors, answered)
+    match read_words(alloc, words) {
+        Ok(request) => fulfil(rt, files, alloc, &request, input, output, errors),
+        Err(error) => refuse(alloc, &error, output, errors),
+    }
 }

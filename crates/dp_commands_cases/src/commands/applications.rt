@@ -1,9 +1,9 @@
 //! Each application by its arguments, worked out by hand from the rules: with empty and missing parts, with blanks, with its
 //! name in another case, and with values that come from an expansion.
-use crate::commands::calls::check_call;
-use dp_rows::is_heading;
+use crate::commands::calls::answer_of;
+use dp_conf::NoMemory;
+use dp_rows::{check_answer, check_heading};
 use std::alloc::Global;
-use std::process::Abort;
 use std::test::Fail;
 
 /// The dialplan of all cases behind `[main]`, up to the application at `main`, `s`, 1.
@@ -409,20 +409,33 @@ fn status_of(trace: &str) -> u8 {
     }
 }
 
-fn check_row(rt: &impl Abort, alloc: Global, asked: &str, want: &str) -> Result<(), Fail> {
-    let (lines, behind) = asked.split_once('¦').ok_or("no script")?;
-    let plan = format!(in alloc; "{FRONT}{lines}")?;
-    let script = format!(in alloc; "start main s 555\\nstep 1\\n{behind}")?;
-    let status = status_of(want);
-    let want = format!(in alloc; "started 1\\nran 1 main,s,1 {want}\\nstatus {status}")?;
-    check_call(rt, alloc, &plan, QUEUED, &script, &want)
+/// The answer that is wanted to a case with this trace: the trace behind the call and its step, and the status.
+fn wanted(alloc: Global, trace: &str) -> Result<String, NoMemory> {
+    format!(in alloc;
+        "started 1\\nran 1 main,s,1 {trace}\\nstatus {}",
+        status_of(trace)
+    )
 }
 
-fn check_table(rt: &impl Abort, alloc: Global, table: &str) -> Result<(), Fail> {
+/// What the run of a case writes and ends with.
+fn run_of(alloc: Global, lines: &str, behind: &str) -> Result<String, NoMemory> {
+    let plan = format!(in alloc; "{FRONT}{lines}")?;
+    let script = format!(in alloc; "start main s 555\\nstep 1\\n{behind}")?;
+    answer_of(alloc, &plan, QUEUED, &script)
+}
+
+fn check_row(alloc: Global, asked: &str, trace: &str) -> Result<(), Fail> {
+    let (lines, behind) = asked.split_once('¦').ok_or("no script")?;
+    let got = run_of(alloc, lines, behind)?;
+    let want = wanted(alloc, trace)?;
+    check_answer(alloc, asked, &got, &want)
+}
+
+fn check_table(alloc: Global, table: &str) -> Result<(), Fail> {
     for line in table.lines() {
         match line.split_once('→') {
-            Some((asked, want)) => check_row(rt, alloc, asked, want)?,
-            None => assert!(rt; is_heading(line), "no answer in {line:?}"),
+            Some((asked, want)) => check_row(alloc, asked, want)?,
+            None => check_heading(line)?,
         }
     }
     Ok(())
@@ -432,7 +445,7 @@ fn check_table(rt: &impl Abort, alloc: Global, table: &str) -> Result<(), Fail> 
 #[test]
 fn applications_run_so(rt: HostRuntime) -> Result<(), Fail> {
     for table in TABLES {
-        check_table(&rt, rt.alloc(), table)?;
+        check_table(rt.alloc(), table)?;
     }
     Ok(())
 }

@@ -1,10 +1,10 @@
 //! Calls through dialplans with queues, with all that is printed of them, worked out by hand from the rules.
 use crate::commands::manual::PAGES;
-use crate::commands::render::{check_ended, in_main, make_sink};
+use crate::commands::render::{in_main, make_sink, told};
 use dp_commands::run_script;
-use dp_rows::{bytes_of, is_heading};
+use dp_conf::NoMemory;
+use dp_rows::{Question, bytes_of, check_all};
 use std::alloc::Global;
-use std::process::Abort;
 use std::test::Fail;
 
 /// Worked cases. A case is a dialplan that begins in `[main]`, a file of queues and a script, parted by `¦`; then an arrow,
@@ -153,56 +153,40 @@ exten => s,1,A¦¦Done A→fault 70 BadScript line 1
 
 const TABLES: &[&str] = &[ROWS, DIALOGUES, ENDS, QUEUES, FAULTS, PAGES];
 
-/// Asserts all that a run writes, and what it ends with behind it.
-fn check_run(
-    rt: &impl Abort,
-    alloc: Global,
-    plan: &[u8],
-    queues: &[u8],
-    script: &[u8],
-    want: &str,
-) -> Result<(), Fail> {
+/// All that a run of these texts writes, and what it ends with behind it.
+fn answer_to(alloc: Global, plan: &[u8], queues: &[u8], script: &[u8]) -> Result<String, NoMemory> {
     let mut writer = make_sink(alloc, 4096, None);
     let ended = run_script(alloc, plan, Some(queues), script, &mut writer);
-    check_ended(rt, alloc, script, ended, writer, want)
+    told(alloc, ended, writer)
 }
 
-/// Asserts the same of the run of a case.
-pub(super) fn check_call(
-    rt: &impl Abort,
+/// The same of the texts of a case.
+pub(super) fn answer_of(
     alloc: Global,
     plan: &str,
     queues: &str,
     script: &str,
-    want: &str,
-) -> Result<(), Fail> {
+) -> Result<String, NoMemory> {
     let plan = in_main(alloc, plan)?;
     let queues = bytes_of(alloc, queues)?;
     let script = bytes_of(alloc, script)?;
-    check_run(rt, alloc, &plan, &queues, &script, want)
+    answer_to(alloc, &plan, &queues, &script)
 }
 
-fn check_row(rt: &impl Abort, alloc: Global, asked: &str, want: &str) -> Result<(), Fail> {
-    let (plan, rest) = asked.split_once('¦').ok_or("no queues")?;
-    let (queues, script) = rest.split_once('¦').ok_or("no script")?;
-    check_call(rt, alloc, plan, queues, script, want)
-}
+/// What the run of a case writes and ends with.
+struct Call;
 
-fn check_calls(rt: &impl Abort, alloc: Global, table: &str) -> Result<(), Fail> {
-    for line in table.lines() {
-        match line.split_once('→') {
-            Some((asked, want)) => check_row(rt, alloc, asked, want)?,
-            None => assert!(rt; is_heading(line), "no answer in {line:?}"),
-        }
+impl Question for Call {
+    fn answer(alloc: Global, asked: &str) -> Result<String, Fail> {
+        let (plan, rest) = asked.split_once('¦').ok_or("no queues")?;
+        let (queues, script) = rest.split_once('¦').ok_or("no script")?;
+        let answer = answer_of(alloc, plan, queues, script)?;
+        Ok(answer)
     }
-    Ok(())
 }
 
 /// Calls with digits, queues and agents, from their starts to their ends.
 #[test]
 fn calls_run_so(rt: HostRuntime) -> Result<(), Fail> {
-    for table in TABLES {
-        check_calls(&rt, rt.alloc(), table)?;
-    }
-    Ok(())
+    check_all::<Call>(rt.alloc(), TABLES)
 }

@@ -1,9 +1,9 @@
 //! Debugged runs, with all that is printed of them, worked out by hand from the rules.
-use crate::commands::render::{check_ended, in_main, make_sink};
+use crate::commands::render::{in_main, make_sink, told};
 use dp_commands::debug_script;
-use dp_rows::{bytes_of, is_heading};
+use dp_conf::NoMemory;
+use dp_rows::{Question, bytes_of, check_all};
 use std::alloc::Global;
-use std::process::Abort;
 use std::test::Fail;
 
 /// Worked cases. A case is a break, a dialplan that begins in `[main]`, a file of queues and a script, parted by `¦`; then
@@ -79,58 +79,44 @@ main,s,1¦¦[q]\nmaxlen=x¦jump 1→fault 31 BadNumber line 2
 main,s,1¦¦¦start main s\njump 1→fault 70 BadScript line 2
 ";
 
-/// Asserts all that a debugged run of these texts writes, and what it ends with behind it.
-fn check_run(
-    rt: &impl Abort,
-    alloc: Global,
-    held: &str,
-    texts: (&[u8], &[u8], &[u8]),
-    want: &str,
-) -> Result<(), Fail> {
+/// All that a debugged run of these texts writes, and what it ends with behind it.
+fn answer_to(alloc: Global, held: &str, texts: (&[u8], &[u8], &[u8])) -> Result<String, NoMemory> {
     let (plan, queues, script) = texts;
     let mut writer = make_sink(alloc, 4096, None);
     let held = held.as_bytes();
     let ended = debug_script(alloc, plan, Some(queues), script, held, &mut writer);
-    check_ended(rt, alloc, script, ended, writer, want)
+    told(alloc, ended, writer)
 }
 
-/// Asserts the same of the debugged run of a case.
-fn check_debugged(
-    rt: &impl Abort,
+/// The same of the texts of a case.
+fn answer_of(
     alloc: Global,
     held: &str,
-    texts: (&str, &str, &str),
-    want: &str,
-) -> Result<(), Fail> {
-    let (plan, queues, script) = texts;
+    plan: &str,
+    queues: &str,
+    script: &str,
+) -> Result<String, NoMemory> {
     let plan = in_main(alloc, plan)?;
     let queues = bytes_of(alloc, queues)?;
     let script = bytes_of(alloc, script)?;
-    check_run(rt, alloc, held, (&plan, &queues, &script), want)
+    answer_to(alloc, held, (&plan, &queues, &script))
 }
 
-fn check_row(rt: &impl Abort, alloc: Global, asked: &str, want: &str) -> Result<(), Fail> {
-    let (held, rest) = asked.split_once('¦').ok_or("no dialplan")?;
-    let (plan, rest) = rest.split_once('¦').ok_or("no queues")?;
-    let (queues, script) = rest.split_once('¦').ok_or("no script")?;
-    check_debugged(rt, alloc, held, (plan, queues, script), want)
-}
+/// What the debugged run of a case writes and ends with.
+struct Debugged;
 
-fn check_rows(rt: &impl Abort, alloc: Global, table: &str) -> Result<(), Fail> {
-    for line in table.lines() {
-        match line.split_once('→') {
-            Some((asked, want)) => check_row(rt, alloc, asked, want)?,
-            None => assert!(rt; is_heading(line), "no answer in {line:?}"),
-        }
+impl Question for Debugged {
+    fn answer(alloc: Global, asked: &str) -> Result<String, Fail> {
+        let (held, rest) = asked.split_once('¦').ok_or("no dialplan")?;
+        let (plan, rest) = rest.split_once('¦').ok_or("no queues")?;
+        let (queues, script) = rest.split_once('¦').ok_or("no script")?;
+        let answer = answer_of(alloc, held, plan, queues, script)?;
+        Ok(answer)
     }
-    Ok(())
 }
 
 /// Debugged runs of scripts, from their breaks to their ends.
 #[test]
 fn scripts_are_debugged_so(rt: HostRuntime) -> Result<(), Fail> {
-    for table in &[ROWS, ELSEWHERE, FAULTS] {
-        check_rows(&rt, rt.alloc(), table)?;
-    }
-    Ok(())
+    check_all::<Debugged>(rt.alloc(), &[ROWS, ELSEWHERE, FAULTS])
 }

@@ -1,7 +1,7 @@
 //! A writer over memory, and what commands write and end with.
 use dp_commands::{PbxFault, check, run_joined};
 use dp_conf::{NoMemory, Text, Told};
-use dp_rows::{bytes_of, check_heading};
+use dp_rows::{bytes_of, check_heading, push_bytes};
 use std::alloc::Global;
 use std::io;
 use std::io::{ErrorKind, Write};
@@ -82,25 +82,35 @@ pub(super) fn push_fault(out: &mut String, fault: PbxFault) -> Result<(), NoMemo
     }
 }
 
-/// What a command ends with: `status STATUS`, or its fault as it is printed; and that a write failed, where it did.
-pub(super) fn ending(
+/// Adds what a command ends with: `status STATUS`, or its fault as it is printed; and that a write failed, where it did.
+fn push_ending(
+    out: &mut String,
+    ended: Result<u8, PbxFault>,
+    has_failed: bool,
+) -> Result<(), NoMemory> {
+    match ended {
+        Ok(status) => write!(out, "status {status}")?,
+        Err(fault) => push_fault(out, fault)?,
+    }
+    if has_failed {
+        return out.push_str(", told");
+    }
+    Ok(())
+}
+
+/// What a command ends with, as text.
+fn ending(
     alloc: Global,
     ended: Result<u8, PbxFault>,
     has_failed: bool,
 ) -> Result<String, NoMemory> {
     let mut out = String::new(alloc);
-    match ended {
-        Ok(status) => write!(out, "status {status}")?,
-        Err(fault) => push_fault(&mut out, fault)?,
-    }
-    if has_failed {
-        out.push_str(", told")?;
-    }
+    push_ending(&mut out, ended, has_failed)?;
     Ok(out)
 }
 
 /// All that was written, and behind it what the command ended with.
-pub(super) fn outcome(
+fn outcome(
     alloc: Global,
     ended: Result<u8, PbxFault>,
     writer: Told<Sink>,
@@ -111,8 +121,21 @@ pub(super) fn outcome(
     Ok(Text::new(all))
 }
 
+/// The same as text, in which each byte that was written is the character of its number.
+pub(super) fn told(
+    alloc: Global,
+    ended: Result<u8, PbxFault>,
+    writer: Told<Sink>,
+) -> Result<String, NoMemory> {
+    let has_failed = writer.has_failed();
+    let mut out = String::new(alloc);
+    push_bytes(&mut out, &writer.into_inner().held)?;
+    push_ending(&mut out, ended, has_failed)?;
+    Ok(out)
+}
+
 /// Asserts what a command has written and what it ended with. The bytes `of` name the case.
-pub(super) fn check_outcome(
+fn check_outcome(
     rt: &impl Abort,
     alloc: Global,
     of: &[u8],
@@ -123,20 +146,6 @@ pub(super) fn check_outcome(
     let of = Text::copy_of(alloc, of)?;
     assert!(rt; *got == want, "{of:?} gives {got:?}, not {want:?}");
     Ok(())
-}
-
-/// Asserts the same, where the answer that is wanted has the escapes of `bytes_of`.
-pub(super) fn check_ended(
-    rt: &impl Abort,
-    alloc: Global,
-    of: &[u8],
-    ended: Result<u8, PbxFault>,
-    writer: Told<Sink>,
-    want: &str,
-) -> Result<(), Fail> {
-    let got = outcome(alloc, ended, writer)?;
-    let want = bytes_of(alloc, want)?;
-    check_outcome(rt, alloc, of, &got, &want)
 }
 
 /// The dialplan of a cell, which begins in `[main]`.

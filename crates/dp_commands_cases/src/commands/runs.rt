@@ -1,8 +1,8 @@
 //! Joined texts with all that they write and what they end with, worked out by hand from the rules.
-use crate::commands::render::{Run, check_outcome, check_table, make_sink, outcome};
+use crate::commands::render::{Run, check_table, make_sink, told};
 use dp_commands::run_script;
+use dp_rows::check_same;
 use std::alloc::Global;
-use std::process::Abort;
 use std::test::Fail;
 
 /// Worked cases.
@@ -233,18 +233,12 @@ const TABLES: &[&str] = &[
     FAULTY_SCRIPTS,
 ];
 
-/// Asserts all that the run of a script on a dialplan writes, and what it ends with behind it.
-fn check_apart(
-    rt: &impl Abort,
-    alloc: Global,
-    plan: &[u8],
-    script: &[u8],
-    want: &[u8],
-) -> Result<(), Fail> {
+/// Whether the run of a script on a dialplan writes this and ends so.
+fn check_apart(alloc: Global, plan: &[u8], script: &str, want: &str) -> Result<(), Fail> {
     let mut writer = make_sink(alloc, 4096, None);
-    let ended = run_script(alloc, plan, None, script, &mut writer);
-    let got = outcome(alloc, ended, writer)?;
-    check_outcome(rt, alloc, script, &got, want)
+    let ended = run_script(alloc, plan, None, script.as_bytes(), &mut writer);
+    let got = told(alloc, ended, writer)?;
+    check_same(script, &got, want)
 }
 
 #[test]
@@ -254,14 +248,8 @@ fn joined_texts_run_so(rt: HostRuntime) -> Result<(), Fail> {
     }
     let plan = b"[main]\nexten => 100,1,NoOp(hello)\nexten => 100,2,Goto(200,1)\n\
 exten => 200,1,Hangup()\n";
-    let want = b"started 1\nran 1 main,100,1 NoOp -> ready main,100,2\n\
+    let want = "started 1\nran 1 main,100,1 NoOp -> ready main,100,2\n\
 ran 1 main,100,2 Goto -> ready main,200,1\nran 1 main,200,1 Hangup -> ended\nstatus 0";
-    check_apart(&rt, rt.alloc(), plan, b"start main 100\nstep 1 3\n", want)?;
-    check_apart(
-        &rt,
-        rt.alloc(),
-        b"",
-        b"jump 1",
-        b"fault 70 BadScript line 1",
-    )
+    check_apart(rt.alloc(), plan, "start main 100\nstep 1 3\n", want)?;
+    check_apart(rt.alloc(), b"", "jump 1", "fault 70 BadScript line 1")
 }

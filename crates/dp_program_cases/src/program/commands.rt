@@ -96,6 +96,16 @@ run @missing @faulty.script→1→→fault 7 ReadFailed¶
 run @faulty @long→1→→fault 8 TooLong¶
 run @long @missing→1→→fault 8 TooLong¶
 run @first @folder→1→→fault 7 ReadFailed¶
+# With queues.
+run --queues @help @callers @callers.script→0→started 1¶ran 1 main,s,1 Queue -> queued help¶ok 1 -> ready main,s,2¶ran 1 main,s,2 Hangup -> ended¶→
+# The dialplan is read first, then the queues, then the script, and so come the faults of their texts.
+run --queues @missing @long @first.script→1→→fault 8 TooLong¶
+run --queues @missing @first @long→1→→fault 7 ReadFailed¶
+run --queues @long @faulty @missing→1→→fault 8 TooLong¶
+run --queues @missing @faulty @faulty.script→1→→fault 7 ReadFailed¶
+run --queues @help @faulty @missing→1→→fault 7 ReadFailed¶
+run --queues @faulty @first @faulty.script→1→→fault 4 NoEquals line 2¶
+run --queues @help @first @faulty.script→1→→fault 70 BadScript line 2¶
 ";
 
 /// `run --threads`.
@@ -113,6 +123,9 @@ run --threads 4 --queues @faulty @first @first.script→1→→fault 4 NoEquals 
 run --threads 2 @faulty @missing→1→→fault 7 ReadFailed¶
 run --threads 2 --queues @missing @faulty @first.script→1→→fault 7 ReadFailed¶
 run --threads 2 --queues @long @faulty @missing→1→→fault 8 TooLong¶
+run --threads 2 --queues @missing @long @first.script→1→→fault 8 TooLong¶
+run --threads 2 --queues @missing @first @long→1→→fault 7 ReadFailed¶
+run --threads 2 --queues @faulty @first @faulty.script→1→→fault 4 NoEquals line 2¶
 run --threads 2 @faulty @faulty.script→1→→fault 4 NoEquals line 2¶
 run --threads 2 @first @faulty.script→1→→fault 70 BadScript line 2¶
 ";
@@ -133,9 +146,12 @@ debug --break main,s @missing @first.script→1→→fault 7 ReadFailed¶
 debug --break main,s @first @missing→1→→fault 7 ReadFailed¶
 debug --queues @missing --break main,s @first @first.script→1→→fault 7 ReadFailed¶
 debug --queues @long --break main,s @first @missing→1→→fault 8 TooLong¶
+debug --queues @missing --break main,s,1 @long @first.script→1→→fault 8 TooLong¶
+debug --queues @missing --break main,s,1 @first @long→1→→fault 7 ReadFailed¶
 # The texts behind it.
 debug --break main,s,1 @faulty @faulty.script→1→→fault 4 NoEquals line 2¶
 debug --break main,s,1 @first @faulty.script→1→→fault 70 BadScript line 2¶
+debug --queues @faulty --break main,s,1 @first @faulty.script→1→→fault 4 NoEquals line 2¶
 ";
 
 /// The examples of the manual.

@@ -51,6 +51,10 @@ pub(super) const OFFERS: &str = r"
 [q]\nmember=A ; join q 1 ; offer q ; leave 1 ; leave 1 ; show→joined 0, offered #1 1, yes, no, <q A/0>{A}
 [q]\nmember=A\nmember=B,1 ; join q 1 ; join q 2 ; offer q ; offer q ; leave 1 ; show→joined 0, joined 0, offered #1 1, offered #2 1, yes, <q #2 A/0 B/1>{A}{B rings 0 #2}
 [q]\nmember=A ; join q 1 ; offer q ; answer A ; leave 1 ; end 2 ; end 1 ; end 1 ; show→joined 0, offered #1 1, call 0 0 #1, no, none, call 0 0 #1, none, <q A/0 1 calls last 1>{A} finished 1
+# A call of the greatest number takes no more room than another.
+[q]\nmember=A ; join q 4294967295 ; offer q ; answer A ; leave 4294967295 ; end 4294967295 ; show→joined 0, offered #4294967295 1, call 0 0 #4294967295, no, call 0 0 #4294967295, <q A/0 1 calls last 1>{A} finished 1
+[q]\nmember=A ; join q 4294967295 ; join q 1 ; offer q ; decline A ; offer q ; leave 4294967295 ; offer q ; leave 4294967295 ; show→joined 0, joined 0, offered #4294967295 1, yes, offered #4294967295 1, yes, offered #1 1, no, <q #1 A/0>{A rings 0 #1}
+[q] ; join q 7 ; join q 4294967295 ; join q 4294967294 ; leave 7 ; join q 0 ; leave 4294967294 ; leave 7 ; show→joined 0, joined 0, joined 0, yes, joined 0, yes, no, <q #4294967295 #0>
 # A member that is paused, or goes, while its agent rings or talks.
 [q]\nmember=A ; join q 1 ; offer q ; pause q A ; answer A ; show→joined 0, offered #1 1, yes, call 0 0 #1, <q A/0 paused>{A talks 0 #1}
 [q] ; add q A 3 ; join q 1 ; offer q ; remove q A ; answer A ; done A ; show→added, joined 0, offered #1 1, removed, call 0 0 #1, call 0 0 #1, <q>{A} finished 1

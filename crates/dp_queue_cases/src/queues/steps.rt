@@ -111,6 +111,26 @@ fn push_removed(out: &mut String, removed: Removed) -> Result<(), NoMemory> {
     })
 }
 
+/// Adds so many agents to a queue, `Line/0` and those that follow it: how many of them were none of its members.
+fn fill(
+    alloc: Global,
+    out: &mut String,
+    queues: &mut Queues,
+    queue: &str,
+    count: u32,
+) -> Result<(), NoMemory> {
+    let mut name = String::new(alloc);
+    let mut added: u32 = 0;
+    for number in 0..count {
+        name.clear();
+        write!(name, "Line/{number}")?;
+        if queues.add(alloc, queue.as_bytes(), name.as_bytes(), 0)? == Added::Added {
+            added = added.saturating_add(1);
+        }
+    }
+    write!(out, "{added} added")
+}
+
 fn pause(queues: &mut Queues, words: Words<'_>, is_paused: bool) -> bool {
     let queue = if words.first == "*" {
         None
@@ -154,7 +174,7 @@ fn act(out: &mut String, queues: &mut Queues, words: Words<'_>) -> Result<(), No
 
 /// A step's answer: `join QUEUE CHANNEL`, `leave CHANNEL`, `offer QUEUE`, `answer AGENT`, `decline AGENT`, `done AGENT`,
 /// `end CHANNEL`, `add QUEUE AGENT PENALTY`, `remove QUEUE AGENT`, `pause QUEUE AGENT` and `unpause QUEUE AGENT` (`*` is
-/// all queues), `empty NUMBER` (whether its calls are to leave), `count QUEUE`, and `show`.
+/// all queues), `fill QUEUE COUNT`, `empty NUMBER` (whether its calls are to leave), `count QUEUE`, and `show`.
 pub(super) fn take(
     alloc: Global,
     out: &mut String,
@@ -168,6 +188,7 @@ pub(super) fn take(
         "empty" => push_yes(out, queues.should_leave(number_of(words.first) as usize)),
         "count" => write!(out, "{}", queues.waiting(words.first.as_bytes())),
         "show" => push_queues(out, queues, false),
+        "fill" => fill(alloc, out, queues, words.first, number_of(words.second)),
         "add" | "remove" | "pause" | "unpause" => change_members(alloc, out, queues, words),
         _ => act(out, queues, words),
     }

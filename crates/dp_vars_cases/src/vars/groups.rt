@@ -44,6 +44,15 @@ set A=1 ; $[${A} = 1]→1
 $[${}]→
 set =2+3 ; $[${}]→5
 $["a]→
+# Groups of each kind, with plain bytes between them.
+set X=abcdef ; a${X:-2}b${LEN(ab)}c$[1 + 2]d${F(}e→aefb2c3de
+set X=abcdef ; ${LEN(${X:1:-1})}→4
+set X=abcdef ; ${X:${LEN(ab)}}$[${LEN(ab)} + 1]→cdef3
+set X=abcdef ; ${X:$[1 + 1]:$[0 - 1]}→cde
+set X=abcdef ; set ef=v ; ${${X:-2}}→v
+set 3=v ; ${$[1 + 2]}→v
+set X=abcdef ; ${a${X:-2}$[1→${aef$[1
+$[${X:-2→$[${X:-2
 # A `$` at the end of a body opens nothing.
 set A$=1 ; ${A$}→1
 set A$=1 ; ${A$→${A$

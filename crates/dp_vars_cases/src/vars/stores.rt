@@ -30,6 +30,19 @@ local A=1 ; push =x ; ${A}→
 push A=1 ; pop ; ${A}→
 push A=1 ; pop ; pop ; ${A}→
 push A=1 ; pop ; push B=2 ; ${A}→
+set A=1 ; push A=2 ; push A=3 ; drop ; ${A}→1
+push A=1 ; push B=2 ; drop ; ${A}${B}→
+# A name that is set where a frame ends is set below that frame.
+set A=1 ; push A=2 ; return A=3 ; ${A}→3
+set A=1 ; push A=2 ; push A=3 ; return A=4 ; pop ; ${A}→1
+push A=1 ; push A=2 ; return A=3 ; ${LOCAL(A)}→3
+push A=1 ; return A=2 ; push B=3 ; ${A}→2
+return A=1 ; ${A}→
+# What is put back stands where it was.
+undone A=1 ; ${A}→
+set A=1 ; push B=2 ; undone A=3 ; ${A}→1
+set A=1 ; push A=2 ; undone A=3 ; ${A}→2
+set A=1 ; push A=2 ; undone A=3 ; pop ; ${A}→1
 ";
 
 fn check_frames(rt: &impl Abort, alloc: Global, store: &mut Store<u32>) -> Result<(), Fail> {

@@ -1,7 +1,16 @@
-use Rattle.std.proofs.Common.{rules, ◌≡◌, get_or}
-use Rattle.dp_commands.proofs.ThreadsLemmas.{dealt-own, dealt-passed, front-of}
+use Rattle.std.proofs.Common.{rules, ◌≡◌, ◌∙◌, arith, get_or}
+use Rattle.dp_commands.proofs.DealLemmas.{dealt-own, dealt-passed, turn-told}
+use Rattle.dp_commands.proofs.ThreadsLemmas.{front-of}
 use Rattle.dp_commands.proofs.threads.act_all.Goals as goal
 use Rattle.dp_commands.proofs.threads.act_all.Goals.{then-at-count+in_ok-act_one, else-at-count}
+
+-- the turn is how many events the seat was told of
+pub act_one-requires : goal.act_one-requires
+act_one-requires g c =
+    let before = c.loop-at.invariant in
+    let at = c.loop-at.at in
+    c.turn_at-turn.ensures
+    ∙ turn-told c.args.count c.args.seat.now.number at c.args.events.now c.loop-at.seat.told (omega (arith, c.loop-at-test.true)) (search rules) (search (rules, before.told))
 
 pub returns-in_err-act_one-clause-front : goal.returns-in_err-act_one-clause-front
 returns-in_err-act_one-clause-front g c =

@@ -1,5 +1,5 @@
 use Rattle.std.proofs.Common.{rules, ◌+◌, sym, ap, ◌∙◌, arith}
-use Rattle.dp_commands.proofs.ThreadsLemmas.{own-more, other-more}
+use Rattle.dp_commands.proofs.DealLemmas.{own-more, other-more}
 use Rattle.dp_commands.proofs.threads.own_count.Goals as goal
 use Rattle.dp_commands.proofs.threads.own_count.Goals.{then-at-count, else-at-count}
 

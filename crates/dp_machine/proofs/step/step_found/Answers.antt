@@ -1,4 +1,4 @@
-use Rattle.std.proofs.Common.{◌≤◌, ap, subst}
+use Rattle.std.proofs.Common.{◌≤◌, ap, refl, subst}
 use Rattle.dp_app.specs.Laws.{most_priority}
 use Rattle.dp_app.specs.declared.place.Place.{Place}
 use Rattle.dp_machine.specs.Events.{Applied}
@@ -16,17 +16,17 @@ run_entry-requires g c =
     (within_most c.args.exchange.now.plan c.args.channel.now.place c.args.id c.entry-entry.result.now c.requires.found c.entry-entry.ensures c.get.ensures.range)
 
 -- its application leaves the channel's place
-pub go-requires-clause-priority : goal.go-requires-clause-priority
-go-requires-clause-priority g c =
+pub go-requires : goal.go-requires
+go-requires g c =
     subst (λ (p : Place). p.priority ≤ most_priority) (ap (λ (a : Applied). a.channel.place) c.in_ok-going.ensures.ok)
     (within_most c.args.exchange.now.plan c.args.channel.now.place c.args.id c.entry-entry.result.now c.requires.found c.entry-entry.ensures c.get.ensures.range)
 
 pub returns-clause-follows : goal.returns-clause-follows
 returns-clause-follows g c =
-    follows-found g.T.AppTable.rows c.args.number c.args.exchange.now c.go.new.exchange c.args.channel.now c.go.new.channel c.run_entry.new.channel
+    follows-found g.T.AppTable.rows c.args.number c.args.exchange.now (record { plan = c.go.new.plan; shared = c.run_entry.new.shared }) c.args.channel.now c.go.new.channel c.run_entry.new.channel
     c.run_entry.new.shared c.args.id c.entry-entry.result.now c.in_ok-going.going
     (found_there c.args.exchange.now.plan c.args.channel.now.place c.args.id c.entry-entry.result.now c.requires.found c.entry-entry.ensures)
-    c.in_ok-going.ensures.ok c.go.ensures.channel c.go.ensures.same.plan c.go.ensures.same.shared
+    c.in_ok-going.ensures.ok c.go.ensures.channel c.go.ensures.same refl
 
 pub returns-clause-sound : goal.returns-clause-sound
 returns-clause-sound g c =

@@ -1,9 +1,16 @@
-use Rattle.std.proofs.Common.{◌<◌, length, refl, arith}
+use Rattle.std.proofs.Common.{◌≡◌, ◌<◌, ◌≤◌, false, true, length, refl, sym, ⊎_elim, arith}
+use Rattle.std.proofs.lemmas.Bool.{cases_lt}
 use Rattle.dp_queue.specs.Agents.{with_state}
-use Rattle.dp_queue.proofs.ChangeLemmas.{changed_at-set}
+use Rattle.dp_queue.proofs.ChangeLemmas.{changed_at-set, changed_at-past}
 use Rattle.dp_queue.proofs.agent.set_state.Goals as goal
 
-pub returns : goal.returns
-returns c =
-    let within : c.args.number < length c.args.agents.now.items = omega (arith, c.requires, c.args.agents.now.ok) in
-    changed_at-set (with_state c.args.state) c.args.number c.args.agents.now.items c.index_mut-agent.result.now _ within c.index_mut-agent.ensures.value refl
+pub returns-in-Some : goal.returns-in-Some
+returns-in-Some c =
+    let within : c.args.number < length c.args.agents.now.items = omega (arith, c.in-Some.ensures.variant.0 refl, c.args.agents.now.ok) in
+    changed_at-set (with_state c.args.state) c.args.number c.args.agents.now.items c.in-Some.agent.now _ within c.in-Some.ensures.value refl
+
+pub returns-in_default : goal.returns-in_default
+returns-in_default c = sym (changed_at-past (with_state c.args.state) c.args.number c.args.agents.now.items (⊎_elim within (λ past. past) (cases_lt c.args.number (length c.args.agents.now.items))))
+  where
+    within : c.args.number < length c.args.agents.now.items → length c.args.agents.now.items ≤ c.args.number
+    within less = let found : false ≡ true = c.in_default.ensures.variant.1 (omega (arith, less, c.args.agents.now.ok)) in absurd (cc)

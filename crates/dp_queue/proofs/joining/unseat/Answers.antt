@@ -1,10 +1,10 @@
-use Rattle.std.proofs.Common.{◌<◌, length, arith}
-use Rattle.dp_queue.specs.Joining.{without_caller}
-use Rattle.dp_queue.proofs.ChangeLemmas.{changed_at-set}
+use Rattle.std.proofs.Common.{sym, ◌∙◌}
+use Rattle.dp_queue.proofs.AgentLemmas.{all_freed-unrung}
 use Rattle.dp_queue.proofs.joining.unseat.Goals as goal
+use Rattle.dp_queue.proofs.joining.unseat.Goals.{then-seat, else-seat}
 
-pub returns-clause-queues : goal.returns-clause-queues
-returns-clause-queues c =
-    let within : c.args.number < length c.args.queues.now.items = omega (arith, c.requires.queue, c.args.queues.now.ok) in
-    changed_at-set (without_caller c.args.channel) c.args.number c.args.queues.now.items c.index_mut-queue.result.now
-    c.remove_caller.new.self within c.index_mut-queue.ensures.value c.remove_caller.ensures
+pub returns-clause-agents : goal.returns-clause-agents
+returns-clause-agents c = elim c.if-seat.branch [
+  | then-seat w ↦ w.agents-is ∙ w.free_all.ensures
+  | else-seat w ↦ w.agents-is ∙ sym (all_freed-unrung c.args.channel c.args.agents.now (sym c.requires.rung ∙ w.if-seat.false))
+]

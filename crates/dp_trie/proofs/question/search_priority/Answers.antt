@@ -12,7 +12,7 @@ pub returns-in-Some : goal.returns-in-Some
 returns-in-Some c =
     let found = c.in-Some.ensures.lookup.3 in
     let here = slice_get_read c.args.held.now _ c.partition_point-place.result c.in-Some.one.now refl found.0 (found.1 c.in-Some.one.now) in
-    ap Some c.hit_of.ensures ∙ ap (option_map hit_held) (sym (found-at c.args.held.now c.partition_point-place.result c.in-Some.one.now c.args.priority c.requires here c.if-one-priority.true))
+    ap (option_map hit_held) (sym (found-at c.args.held.now c.partition_point-place.result c.in-Some.one.now c.args.priority c.requires here c.if-one-priority.true))
 
 pub returns-in_default : goal.returns-in_default
 returns-in_default c =

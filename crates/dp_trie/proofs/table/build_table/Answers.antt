@@ -1,8 +1,10 @@
-use Rattle.std.proofs.Common.{subst}
+use Rattle.std.proofs.Common.{subst, sym, ap, ◌∙◌, ◌++◌, [], map}
+use Rattle.dp_trie.specs.Labels.{AreLabels}
 use Rattle.dp_trie.specs.Leaps.{AreLeaps}
 use Rattle.dp_trie.specs.Names.{known_plain}
-use Rattle.dp_trie.specs.Tree.{AreLinked}
-use Rattle.dp_trie.proofs.TableLemmas.{order-parts, names-order, names-ranges, is-tree, tree-size}
+use Rattle.dp_trie.specs.Ranked.{known_now}
+use Rattle.dp_trie.specs.Tree.{AreLinked, known_from}
+use Rattle.dp_trie.proofs.TableLemmas.{order-parts, whole-known, names-known, tree-known, names-order, names-ranges, is-tree, tree-size}
 use Rattle.dp_trie.proofs.table.build_table.Goals as goal
 
 pub invariant_of-result : goal.invariant_of-result
@@ -15,6 +17,10 @@ invariant_of-result c =
     let known = c.in_ok-names.ensures.known in
     let tree = c.in_ok-nodes.ensures.known in
     let linked = subst (λ nodes. AreLinked nodes c.in_ok-ends.ends.items) c.deref.ensures.value (c.in_ok-ends.ensures {u = tt}) in
+    let entries =
+    ap (λ l. l ++ known_from c.in_ok-held.held.items [] c.in_ok-nodes.nodes.items) (names-known first c.in_ok-plain.plain.items c.in_ok-names.names.items plain known)
+    ∙ (ap (λ l. map known_now first ++ l) (tree-known rest c.in_ok-held.held.items c.in_ok-nodes.nodes.items held tree)
+    ∙ whole-known c.count_plain.result c.args.ranked.now first rest c.split_at.ensures.front c.split_at.ensures.back) in
     let leaps =
     subst (λ ends. AreLeaps c.in_ok-nodes.nodes.items ends c.in_ok-leaps.leaps.items) c.deref-3.ensures.value
     (subst (λ nodes. AreLeaps nodes c.deref-3.result.now c.in_ok-leaps.leaps.items) c.deref-2.ensures.value (c.in_ok-leaps.ensures {u = tt})) in (
@@ -22,5 +28,6 @@ invariant_of-result c =
       names-order first c.in_ok-plain.plain.items c.in_ok-names.names.items plain known order.0,
       is-tree rest c.in_ok-held.held.items c.in_ok-nodes.nodes.items held tree c.in_ok-ends.ends.items order.1 linked (c.in_ok-nodes.ensures.rooted) (c.in_ok-nodes.ensures.ranges),
       leaps,
+      subst (λ entries. AreLabels entries c.in_ok-labels.labels.items) (sym entries) (c.in_ok-labels.ensures {u = tt}),
       tree-size rest c.in_ok-held.held.items c.in_ok-nodes.nodes.items held tree (known_plain c.in_ok-plain.plain.items c.in_ok-names.names.items) (c.in_ok-nodes.ensures.size),
     )

@@ -7,8 +7,6 @@ use Rattle.dp_vars.proofs.template.expand.Goals as goal
 
 pub returns-clause-reading : goal.returns-clause-reading
 returns-clause-reading g c reading reads =
-    c.in_ok-bytes.ensures ∙ ap (expansion (sight_of g.C.Counts.count c.args.scope.now)) c.text.ensures
+    c.in_ok-bytes.ensures
+    ∙ ap (expansion (sight_of g.C.Counts.count c.args.scope.now)) (c.deref.ensures.value ∙ c.template.view_is)
     ∙ ap (expanded (sight_of g.C.Counts.count c.args.scope.now)) (sym ((one_reading c.args.template.now reading).0 reads))
-
-pub returns-clause-exact : goal.returns-clause-exact
-returns-clause-exact g c = c.in_ok-bytes.ensures ∙ ap (expansion (sight_of g.C.Counts.count c.args.scope.now)) c.text.ensures

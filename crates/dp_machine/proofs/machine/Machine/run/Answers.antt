@@ -7,17 +7,13 @@ use Rattle.dp_machine.specs.declared.reply.Reply.{Reply}
 use Rattle.dp_machine.proofs.ReplayLemmas.{RanFirst-so_far, replies_to-push, world_after-push}
 use Rattle.dp_machine.proofs.machine.Machine.run.Goals as goal
 
-pub returns-in_err-event-clause-first : goal.returns-in_err-event-clause-first
-returns-in_err-event-clause-first g c =
-    RanFirst-so_far g.T.AppTable.rows c.args.self.now c.args.events.now c.args.replies.now.items c.loop-event.replies.items c.loop-event.self c.loop-event.event-index (omega arith) c.loop-event.invariant.replies c.loop-event.invariant.world
-
 pub returns-in_err-reserve-clause-first : goal.returns-in_err-reserve-clause-first
 returns-in_err-reserve-clause-first g c =
     RanFirst-so_far g.T.AppTable.rows c.args.self.now c.args.events.now c.args.replies.now.items c.reserve.new.self.items c.loop-event.self c.loop-event.event-index (omega arith) (c.in_err-reserve.ensures.items ∙ c.loop-event.invariant.replies) c.loop-event.invariant.world
 
 pub returns-in_err-reply-clause-first : goal.returns-in_err-reply-clause-first
 returns-in_err-reply-clause-first g c =
-    RanFirst-so_far g.T.AppTable.rows c.args.self.now c.args.events.now c.args.replies.now.items c.reserve.new.self.items c.apply.new.self c.loop-event.event-index (omega arith) (c.in_ok-reserve.ensures.items ∙ c.loop-event.invariant.replies) (c.in_err-reply.ensures.err ∙ c.loop-event.invariant.world)
+    RanFirst-so_far g.T.AppTable.rows c.args.self.now c.args.events.now c.args.replies.now.items c.reserve.new.self.items c.apply_kept.new.self c.loop-event.event-index (omega arith) (c.in_ok-reserve.ensures.items ∙ c.loop-event.invariant.replies) (c.in_err-reply.ensures.err ∙ c.loop-event.invariant.world)
 
 pub returns-clause-first : goal.returns-clause-first
 returns-clause-first g c =
@@ -29,8 +25,8 @@ loop-event-preserved g c =
     let w = c.args.self.now in
     let events = c.args.events.now in
     let i = c.loop-event.event-index in
-    let event = c.in_ok-event.event in
-    let there : get_or events i event ≡ event = ap (λ e. get_or events i e) c.in_ok-event.ensures ∙ (sym c.event-item.is ∙ sym c.in_ok-event.ensures) in
+    let event = c.event-item.result in
+    let there : get_or events i event ≡ event = sym c.event-item.is in
     let more : take (i + 1) events ≡ take i events ++ event ∷ [] = take_more events i event c.loop-event-test.true ∙ ap (λ e. take i events ++ e ∷ []) there in
     let ran = c.in_ok-reply.ensures.ok in
     let met : event_row rows (world_after rows w (take i events)) event ≡ event_row rows c.loop-event.self event = ap (λ s. event_row rows s event) (sym c.loop-event.invariant.world) in

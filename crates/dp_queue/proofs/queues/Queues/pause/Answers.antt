@@ -8,35 +8,40 @@ use Rattle.dp_queue.specs.Queues.{QueueOf, QueuesOf}
 use Rattle.dp_queue.proofs.ChangeLemmas.{length-changed_at}
 use Rattle.dp_queue.proofs.WaitingLemmas.{lines, lines-changed_at, lines-map}
 use Rattle.dp_queue.proofs.GoodLemmas.{kept-same}
+use Rattle.dp_queue.proofs.MemberLemmas.{keeps-paused, members-changed, members-mapped}
 use Rattle.dp_queue.proofs.queues.Queues.pause.Goals as goal
 
 pub invariant_of-self : goal.invariant_of-self
 invariant_of-self c =
     let q = c.self.inside in
-    let change = paused_queue c.agent_number-agent.result c.args.is_paused in
-    kept-same q.seats.items q.seats.items q.queues.items c.pause_everywhere.new.queues.items q.agents.items c.self.invariant
-    (ap length c.pause_everywhere.ensures ∙ length-map q.queues.items change)
-    (ap lines c.pause_everywhere.ensures ∙ lines-map change q.queues.items (λ _. refl))
+    let change = paused_queue c.number_of-agent.result c.args.is_paused in
+    kept-same q.seats q.seats q.queues c.pause_all.new.self q.agents c.self.invariant
+    (ap length c.pause_all.ensures ∙ length-map q.queues change)
+    (ap lines c.pause_all.ensures ∙ lines-map change q.queues (λ _. refl))
+    (members-mapped change q.queues c.pause_all.new.self q.agents
+    (keeps-paused c.number_of-agent.result c.args.is_paused) c.pause_all.ensures c.self.invariant.0.members)
 
-pub invariant_of-self-in-Some-queue_number : goal.invariant_of-self-in-Some-queue_number
-invariant_of-self-in-Some-queue_number c =
+pub invariant_of-self-in-Some-number_of : goal.invariant_of-self-in-Some-number_of
+invariant_of-self-in-Some-number_of c =
     let q = c.self.inside in
-    let change = paused_queue c.agent_number-agent.result c.args.is_paused in
-    let number = c.in-Some-queue_number.number in
-    kept-same q.seats.items q.seats.items q.queues.items c.pause_at.new.queues.items q.agents.items c.self.invariant
-    (ap length c.pause_at.ensures ∙ length-changed_at change number q.queues.items)
-    (ap lines c.pause_at.ensures ∙ lines-changed_at change number q.queues.items (λ _. refl))
+    let change = paused_queue c.number_of-agent.result c.args.is_paused in
+    let number = c.in-Some-number_of.number in
+    kept-same q.seats q.seats q.queues c.pause.new.self q.agents c.self.invariant
+    (ap length c.pause.ensures ∙ length-changed_at change number q.queues)
+    (ap lines c.pause.ensures ∙ lines-changed_at change number q.queues (λ _. refl))
+    (members-changed change number q.queues c.pause.new.self q.agents
+    (keeps-paused c.number_of-agent.result c.args.is_paused) c.pause.ensures c.self.invariant.0.members)
 
 pub returns-in-None : goal.returns-in-None
 returns-in-None c =
     let q = c.self.inside in
     let name = c.args.interface.now in
-    let known = c.agent_number-agent.ensures ∙ ap (λ x. agent_number x name) c.deref.ensures.value in
-    let paused : c.pause_everywhere.new.queues.items ≡ map (paused_queue (agent_number q.agents.items name) c.args.is_paused) q.queues.items =
-    c.pause_everywhere.ensures ∙ ap (λ n. map (paused_queue n c.args.is_paused) q.queues.items) known in
-    let there : c.is_member-is_there.result ≡ list_any (has_member (agent_number q.agents.items name)) q.queues.items =
-    c.is_member-is_there.ensures ∙ (λ i. list_any (has_member (known i)) (c.deref-in-None.ensures.value i)) in
-    let answer : List QueueOf → Bool → QueuesOf × Bool = λ queues is_there. (record { queues = queues; agents = q.agents.items; finished = q.finished }, is_there) in
+    let known = c.number_of-agent.ensures in
+    let paused : c.pause_all.new.self ≡ map (paused_queue (agent_number q.agents name) c.args.is_paused) q.queues =
+    c.pause_all.ensures ∙ ap (λ n. map (paused_queue n c.args.is_paused) q.queues) known in
+    let there : c.is_member-is_there.result ≡ list_any (has_member (agent_number q.agents name)) q.queues =
+    c.is_member-is_there.ensures ∙ (λ i. list_any (has_member (known i)) (c.list.ensures i)) in
+    let answer : List QueueOf → Bool → QueuesOf × Bool = λ queues is_there. (record { queues = queues; agents = q.agents; finished = q.finished }, is_there) in
     ap (λ o. pause_row c.args.self.now (option_copied o) name c.args.is_paused) c.in-None.is
     ∙ ap (λ (x : QueuesOf). pause_row x None name c.args.is_paused) (sym c.self.view_is)
     ∙ (λ i. answer (sym paused i) (sym there i))

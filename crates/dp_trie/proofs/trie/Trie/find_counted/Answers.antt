@@ -5,9 +5,8 @@ use Rattle.dp_pattern.specs.Dashes.{undashed}
 use Rattle.dp_plan.specs.declared.entry.EntryId.{EntryId}
 use Rattle.dp_trie.specs.Asked.{is_more, wants, asked, hit_of}
 use Rattle.dp_trie.specs.Known.{KeptContext, found_first, FindsPattern}
-use Rattle.dp_trie.specs.declared.question.Hit.{Hit}
 use Rattle.dp_trie.specs.declared.question.Question.TheVariants.{Priority}
-use Rattle.dp_trie.proofs.KeepLemmas.{found-first, found-pattern, hit-id}
+use Rattle.dp_trie.proofs.KeepLemmas.{found-first, found-pattern}
 use Rattle.dp_trie.proofs.PlainLemmas.{HasAtMost}
 use Rattle.dp_trie.proofs.trie.Trie.find_counted.Goals as goal
 
@@ -16,19 +15,16 @@ unfolding found_entry
 returns-clause-found c = λ plan keeps.
     let test = asked (is_more (Priority c.args.priority)) (wants (Priority c.args.priority)) (undashed c.args.text.now) in
     let order = c.args.order.now.contexts in
-    c.id_of.ensures
-    ∙ (ap (option_map (λ (h : Hit). h.id)) (c.look_up-found.ensures.hit ∙ ap (λ (kept : List KeptContext). option_map hit_of (found_first kept test order)) (c.deref.ensures.value ∙ c.self.view_is))
-    ∙ (hit-id (found_first c.args.self.now test order)
-    ∙ sym (found-first plan c.args.self.now keeps (has_priority c.args.text.now c.args.priority) test (λ id entry. refl) order)))
+    c.look_up-found.ensures.hit
+    ∙ (ap (λ (kept : List KeptContext). option_map hit_of (found_first kept test order)) (c.deref.ensures.value ∙ c.self.view_is)
+    ∙ sym (found-first plan c.args.self.now keeps (has_priority c.args.text.now c.args.priority) test (λ id entry. refl) order))
 
 pub returns-clause-least : goal.returns-clause-least
 returns-clause-least c = λ plan keeps.
     let test = asked (is_more (Priority c.args.priority)) (wants (Priority c.args.priority)) (undashed c.args.text.now) in
     let order = c.args.order.now.contexts in
     let same =
-    c.id_of.ensures
-    ∙ (ap (option_map (λ (h : Hit). h.id)) (c.look_up-found.ensures.hit ∙ ap (λ (kept : List KeptContext). option_map hit_of (found_first kept test order)) (c.deref.ensures.value ∙ c.self.view_is))
-    ∙ hit-id (found_first c.args.self.now test order)) in
+    c.look_up-found.ensures.hit ∙ ap (λ (kept : List KeptContext). option_map hit_of (found_first kept test order)) (c.deref.ensures.value ∙ c.self.view_is) in
     subst (λ (o : Option EntryId). FindsPattern plan o c.look_up-found.result.count) (sym same)
     (found-pattern plan c.args.self.now keeps test order c.look_up-found.result.count
     (subst (λ (kept : List KeptContext). HasAtMost (found_first kept test order) c.look_up-found.result.count) (c.deref.ensures.value ∙ c.self.view_is) c.look_up-found.ensures.least))

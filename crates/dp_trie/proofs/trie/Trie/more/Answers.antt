@@ -6,7 +6,7 @@ use Rattle.dp_pattern.specs.Dashes.{undashed}
 use Rattle.dp_trie.specs.Asked.{is_more, wants, asked, hit_of}
 use Rattle.dp_trie.specs.Known.{KeptContext, found_first}
 use Rattle.dp_trie.specs.declared.question.Question.TheVariants.{More}
-use Rattle.dp_trie.proofs.KeepLemmas.{found-first, hit-some}
+use Rattle.dp_trie.proofs.KeepLemmas.{found-first}
 use Rattle.dp_trie.proofs.trie.Trie.more.Goals as goal
 
 pub returns : goal.returns
@@ -16,5 +16,4 @@ returns c = λ plan keeps.
     let order = c.args.order.now.contexts in
     c.is_some.ensures
     ∙ (ap is_some (c.look_up-found.ensures.hit ∙ ap (λ (kept : List KeptContext). option_map hit_of (found_first kept test order)) (c.deref.ensures.value ∙ c.self.view_is))
-    ∙ (hit-some (found_first c.args.self.now test order)
-    ∙ ap is_some (sym (found-first plan c.args.self.now keeps (begins_later c.args.text.now) test (λ id entry. refl) order))))
+    ∙ ap is_some (sym (found-first plan c.args.self.now keeps (begins_later c.args.text.now) test (λ id entry. refl) order)))

@@ -1,17 +1,22 @@
-use Rattle.std.proofs.Common.{ap, ◌∙◌}
-use Rattle.dp_vars.specs.Variables.{first_value}
-use Rattle.dp_vars.specs.Stores.{value_in, all_locals}
-use Rattle.dp_vars.proofs.StoresLemmas.{value_in-local, value_in-variable}
+use Rattle.std.proofs.Common.{ap, sym, ◌∙◌, Some, None}
+use Rattle.dp_vars.specs.Bindings.{innermost_value}
+use Rattle.dp_vars.specs.Stores.{value_in}
+use Rattle.dp_vars.proofs.BoundLemmas.{falls_of}
+use Rattle.dp_vars.proofs.StoresLemmas.{value_in-is}
+use Rattle.dp_vars.proofs.TablesLemmas.{stack_of-lookup}
 use Rattle.dp_vars.proofs.store.Store.get.Goals as goal
 
 pub returns-in-Some : goal.returns-in-Some
 returns-in-Some g c =
-    value_in-local c.self.inside.variables c.self.inside.frames.items c.args.name.now c.in-Some.value.now
-    (c.in-Some.ensures ∙ ap (λ frames. first_value (all_locals frames) c.args.name.now) c.deref.ensures.value)
+    c.value.ensures
+    ∙ ap innermost_value (sym (stack_of-lookup c.self.inside.table c.args.name.now (Some c.in-Some.stack.now) c.in-Some.ensures))
+    ∙ value_in-is c.self.inside.table c.args.name.now c.self.inside.frames.items
+    (falls_of c.self.inside.table c.self.inside.frames.items c.args.name.now c.self.invariant)
     ∙ ap (λ store. value_in store c.args.name.now) c.self.view_is
 
 pub returns-in-None : goal.returns-in-None
 returns-in-None g c =
-    value_in-variable c.self.inside.variables c.self.inside.frames.items c.args.name.now
-    (c.in-None.ensures ∙ ap (λ frames. first_value (all_locals frames) c.args.name.now) c.deref.ensures.value) _ c.get.ensures
+    ap innermost_value (sym (stack_of-lookup c.self.inside.table c.args.name.now None c.in-None.ensures))
+    ∙ value_in-is c.self.inside.table c.args.name.now c.self.inside.frames.items
+    (falls_of c.self.inside.table c.self.inside.frames.items c.args.name.now c.self.invariant)
     ∙ ap (λ store. value_in store c.args.name.now) c.self.view_is

@@ -1,0 +1,219 @@
+-- Items that are dealt to seats in turn.
+use Rattle.std.proofs.Common.{rules, ◌≡◌, ℕ, ◌+◌, ◌-◌, ◌*◌, ◌%◌, ◌/◌, ◌==◌, ◌≤◌, ◌<◌, Bool, true, false, List, [], ◌∷◌, ◌++◌, length, map, take, drop, get_or, zero, suc, refl, sym, ap, ◌∙◌, arith, if◌then◌else◌, All, nat_lt}
+use Rattle.std.proofs.lemmas.Bool.Decides.{nat_tests}
+use Rattle.std.proofs.lemmas.List.{append-nil, take_more, take-append-drop, length-append, length-map, length-take-le}
+use Rattle.std.proofs.lemmas.List.FromFn.{length-range_with_len}
+use Rattle.std.proofs.lemmas.Nat.{mod-mul-add, div-add-mod', mod_below}
+use Rattle.std.proofs.Math.Seq.{take-append_seam}
+use Rattle.std.specs.List.{range_with_len}
+use Rattle.dp_board.specs.Difference.{told_from, told_of, told_to}
+use Rattle.dp_board.specs.Sittings.{Told}
+use Rattle.dp_board.specs.declared.entry.Entry.{Entry}
+use Rattle.dp_machine.specs.declared.event.Event.{Event}
+use Rattle.dp_commands.specs.Threads.{dealt_from, dealt, events_told, turn_of}
+
+-- one item before what is dealt of two lists, by whether it is the seat's
+dealt-before : {X : Type 0} (own : Bool) (x : X) (all front behind : List X) → all ≡ front ++ behind → (if own then x ∷ all else all) ≡ (if own then x ∷ front else front) ++ behind
+dealt-before {X} true x all front behind parted = ap (λ (l : List X). x ∷ l) parted
+dealt-before false x all front behind parted = parted
+
+-- what is dealt of two lists, one behind the other
+pub dealt_from-append : {X : Type 0} (count seat at : ℕ) (xs ys : List X) → dealt_from count seat at (xs ++ ys) ≡ dealt_from count seat at xs ++ dealt_from count seat (at + length xs) ys
+dealt_from-append count seat at [] ys = ap (λ n. dealt_from count seat n ys) (omega arith)
+dealt_from-append count seat at (x ∷ xs) ys =
+    dealt-before (at % count == seat) x (dealt_from count seat (at + 1) (xs ++ ys)) (dealt_from count seat (at + 1) xs) (dealt_from count seat (at + length (x ∷ xs)) ys)
+    (dealt_from-append count seat (at + 1) xs ys ∙ ap (λ n. dealt_from count seat (at + 1) xs ++ dealt_from count seat n ys) (omega arith))
+
+-- one item more, by whether it is the seat's
+dealt-more : {X : Type 0} (count seat i : ℕ) (xs : List X) (x : X) → i < length xs → get_or xs i x ≡ x → dealt count seat (take (i + 1) xs) ≡ dealt count seat (take i xs) ++ (if i % count == seat then x ∷ [] else [])
+dealt-more {X} count seat i xs x within there =
+    ap (dealt count seat) (take_more xs i x within ∙ ap (λ (y : X). take i xs ++ y ∷ []) there)
+    ∙ (dealt_from-append count seat 0 (take i xs) (x ∷ [])
+    ∙ ap (λ n. dealt count seat (take i xs) ++ (if n % count == seat then x ∷ [] else [])) (search (rules, within)))
+
+-- one item more that is the seat's
+pub dealt-own : {X : Type 0} (count seat i : ℕ) (xs : List X) (x : X) → i < length xs → get_or xs i x ≡ x → (i % count == seat) ≡ true → dealt count seat (take (i + 1) xs) ≡ dealt count seat (take i xs) ++ x ∷ []
+dealt-own {X} count seat i xs x within there own =
+    dealt-more count seat i xs x within there ∙ ap (λ (b : Bool). dealt count seat (take i xs) ++ (if b then x ∷ [] else [])) own
+
+-- one item more that is another seat's
+pub dealt-other : {X : Type 0} (count seat i : ℕ) (xs : List X) (x : X) → i < length xs → get_or xs i x ≡ x → (i % count == seat) ≡ false → dealt count seat (take (i + 1) xs) ≡ dealt count seat (take i xs)
+dealt-other {X} count seat i xs x within there other =
+    dealt-more count seat i xs x within there
+    ∙ (ap (λ (b : Bool). dealt count seat (take i xs) ++ (if b then x ∷ [] else [])) other ∙ append-nil (dealt count seat (take i xs)))
+
+-- what is dealt of a front is a front of what is dealt
+pub dealt-front : {X : Type 0} (count seat i : ℕ) (xs : List X) → dealt count seat (take i xs) ≡ take (length (dealt count seat (take i xs))) (dealt count seat xs)
+dealt-front {X} count seat i xs =
+    let front = dealt count seat (take i xs) in
+    let behind = dealt_from count seat (0 + length (take i xs)) (drop i xs) in
+    let whole : dealt count seat xs ≡ front ++ behind = ap (dealt count seat) (sym (take-append-drop i xs)) ∙ dealt_from-append count seat 0 (take i xs) (drop i xs) in
+    sym (ap (take (length front)) whole ∙ take-append_seam front behind)
+
+-- there is an item at a place
+item_at : {X : Type 0} (xs : List X) (i : ℕ) → i < length xs → (x : X) × (get_or xs i x ≡ x)
+item_at [] i within = absurd (omega (arith, within))
+item_at (x ∷ xs) zero within = (x, refl)
+item_at (x ∷ xs) (suc i) within = item_at xs i (omega (arith, within))
+
+-- the count of what is dealt, by whether the next item is the seat's
+pub own-more : (i count seat : ℕ) (xs : List Event) → i < length xs → (i % count == seat) ≡ true → length (dealt count seat (take (i + 1) xs)) ≡ length (dealt count seat (take i xs)) + 1
+own-more i count seat xs within own =
+    let at : (x : Event) × (get_or xs i x ≡ x) = item_at xs i within in
+    ap length (dealt-own count seat i xs at.0 within at.1 own) ∙ length-append (dealt count seat (take i xs)) (at.0 ∷ [])
+
+-- one item more that is another seat's, whatever it is
+pub dealt-passed : (count seat i : ℕ) (xs : List Event) → i < length xs → (i % count == seat) ≡ false → dealt count seat (take (i + 1) xs) ≡ dealt count seat (take i xs)
+dealt-passed count seat i xs within other =
+    let at : (x : Event) × (get_or xs i x ≡ x) = item_at xs i within in
+    dealt-other count seat i xs at.0 within at.1 other
+
+pub other-more : (i count seat : ℕ) (xs : List Event) → i < length xs → (i % count == seat) ≡ false → length (dealt count seat (take (i + 1) xs)) ≡ length (dealt count seat (take i xs))
+other-more i count seat xs within other = ap length (dealt-passed count seat i xs within other)
+
+-- what the numbers below this one give, all together
+abbrev sum_below : ℕ → (ℕ → ℕ) → ℕ
+sum_below zero f = 0
+sum_below (suc n) f = sum_below n f + f n
+
+-- numbers that give the same have the same sum
+sum_below-same : (n : ℕ) (f g : ℕ → ℕ) → ((k : ℕ) → k < n → f k ≡ g k) → sum_below n f ≡ sum_below n g
+sum_below-same zero f g same = refl
+sum_below-same (suc n) f g same = omega (arith, sum_below-same n f g (λ k lt. same k (omega (arith, lt))), same n (omega arith))
+
+-- a sum of sums
+sum_below-plus : (n : ℕ) (f g : ℕ → ℕ) → sum_below n (λ k. f k + g k) ≡ sum_below n f + sum_below n g
+sum_below-plus zero f g = refl
+sum_below-plus (suc n) f g = omega (arith, sum_below-plus n f g)
+
+sum_below-nothing : (n : ℕ) → sum_below n (λ k. 0) ≡ 0
+sum_below-nothing zero = refl
+sum_below-nothing (suc n) = omega (arith, sum_below-nothing n)
+
+-- one, where two numbers are the same
+abbrev one_if : Bool → ℕ
+one_if b = if b then 1 else 0
+
+one-other : (x n : ℕ) → n < x → one_if (x == n) ≡ 0
+one-other x n lt = grind (arith, nat_tests)
+
+one-same : (x n : ℕ) → x ≡ n → one_if (x == n) ≡ 1
+one-same x n e = grind (arith, nat_tests)
+
+-- no number below is the one above
+sum_below-above : (n x : ℕ) → n ≤ x → sum_below n (λ k. one_if (x == k)) ≡ 0
+sum_below-above zero x above = refl
+sum_below-above (suc n) x above = omega (arith, sum_below-above n x (omega (arith, above)), one-other x n (omega (arith, above)))
+
+one-below : (x n : ℕ) → x < n → one_if (x == n) ≡ 0
+one-below x n lt = grind (arith, nat_tests)
+
+-- just one number below is a number that is below
+one-more : (n x sum : ℕ) (b : Bool) → (x == n) ≡ b → x < suc n → (x < n → sum ≡ 1) → (n ≤ x → sum ≡ 0) → sum + one_if b ≡ 1
+one-more n x sum true is lt below above = let same : x ≡ n = grind (arith, nat_tests) in omega (arith, above (omega arith))
+one-more n x sum false is lt below above = let other : x < n = grind (arith, nat_tests) in omega (arith, below other)
+
+sum_below-one : (n x : ℕ) → x < n → sum_below n (λ k. one_if (x == k)) ≡ 1
+sum_below-one zero x lt = absurd (omega (arith, lt))
+sum_below-one (suc n) x lt = one-more n x (sum_below n (λ k. one_if (x == k))) (x == n) refl lt (sum_below-one n x) (sum_below-above n x)
+
+-- one item before what is dealt adds one where it is the seat's
+length-before : {X : Type 0} (own : Bool) (x : X) (all : List X) → length (if own then x ∷ all else all) ≡ one_if own + length all
+length-before true x all = omega arith
+length-before false x all = omega arith
+
+-- every item is dealt to just one seat
+dealt_from-shared : {X : Type 0} (count at : ℕ) (xs : List X) → 0 < count → sum_below count (λ seat. length (dealt_from count seat at xs)) ≡ length xs
+dealt_from-shared count at [] some = sum_below-nothing count
+dealt_from-shared count at (x ∷ xs) some =
+    sum_below-same count (λ seat. length (dealt_from count seat at (x ∷ xs))) (λ seat. one_if (at % count == seat) + length (dealt_from count seat (at + 1) xs)) (λ seat lt. length-before (at % count == seat) x (dealt_from count seat (at + 1) xs))
+    ∙ (sum_below-plus count (λ seat. one_if (at % count == seat)) (λ seat. length (dealt_from count seat (at + 1) xs))
+    ∙ omega (arith, sum_below-one count (at % count) (mod_below at count some), dealt_from-shared count (at + 1) xs some))
+
+-- every entry is told to just one seat
+told_from-shared : (count place : ℕ) (entries : List Entry) → All (λ entry. entry.seat < count) entries → sum_below count (λ seat. length (told_from seat place entries)) ≡ length entries
+told_from-shared count place [] seated = sum_below-nothing count
+told_from-shared count place (entry ∷ entries) seated =
+    sum_below-same count (λ seat. length (told_from seat place (entry ∷ entries))) (λ seat. one_if (entry.seat == seat) + length (told_from seat (place + 1) entries)) (λ seat lt. length-before (entry.seat == seat) (told_of place entry) (told_from seat (place + 1) entries))
+    ∙ (sum_below-plus count (λ seat. one_if (entry.seat == seat)) (λ seat. length (told_from seat (place + 1) entries))
+    ∙ omega (arith, sum_below-one count entry.seat (seated 0 entry (omega arith)), told_from-shared count (place + 1) entries (λ k d lt. seated (suc k) d (omega (arith, lt)))))
+
+-- where each seat's entries are the events that are dealt to it, there are as many entries as events
+pub calls-dealt : (count : ℕ) (events : List Event) (entries : List Entry) → 0 < count → All (λ entry. entry.seat < count) entries →
+    ((seat : ℕ) → seat < count → events_told (told_to seat entries) ≡ dealt count seat events) → length entries ≡ length events
+calls-dealt count events entries some seated in_turn =
+    sym (told_from-shared count 0 entries seated)
+    ∙ (sum_below-same count (λ seat. length (told_to seat entries)) (λ seat. length (dealt count seat events))
+    (λ seat lt. sym (length-map (told_to seat entries) (λ (it : Told). it.1)) ∙ ap length (in_turn seat lt))
+    ∙ dealt_from-shared count 0 events some)
+
+-- places, and the one behind them
+range-push : (a n : ℕ) → range_with_len a (suc n) ≡ range_with_len a n ++ (a + n) ∷ []
+range-push a zero = ap (λ n. n ∷ []) (omega arith)
+range-push a (suc n) = ap (λ (ns : List ℕ). a ∷ ns) (range-push (a + 1) n ∙ ap (λ x. range_with_len (a + 1) n ++ x ∷ []) (omega arith))
+
+-- as many are dealt of one list as of another of its length
+pub dealt_from-lengths : {X Y : Type 0} (count seat at : ℕ) (xs : List X) (ys : List Y) → length xs ≡ length ys → length (dealt_from count seat at xs) ≡ length (dealt_from count seat at ys)
+dealt_from-lengths count seat at [] [] same = refl
+dealt_from-lengths count seat at (x ∷ xs) [] same = absurd (omega (arith, same))
+dealt_from-lengths count seat at [] (y ∷ ys) same = absurd (omega (arith, same))
+dealt_from-lengths count seat at (x ∷ xs) (y ∷ ys) same =
+    length-before (at % count == seat) x (dealt_from count seat (at + 1) xs)
+    ∙ (ap (λ n. one_if (at % count == seat) + n) (dealt_from-lengths count seat (at + 1) xs ys (omega (arith, same)))
+    ∙ sym (length-before (at % count == seat) y (dealt_from count seat (at + 1) ys)))
+
+-- how many of the places before the next one are dealt to a seat
+places-more : (count seat n : ℕ) → length (dealt count seat (range_with_len 0 (suc n))) ≡ length (dealt count seat (range_with_len 0 n)) + one_if (n % count == seat)
+places-more count seat n =
+    let front = dealt count seat (range_with_len 0 n) in
+    let here : 0 + length (range_with_len 0 n) ≡ n = omega (arith, length-range_with_len 0 n) in
+    let last : length (dealt_from count seat n ((0 + n) ∷ [])) ≡ one_if (n % count == seat) = length-before (n % count == seat) (0 + n) [] ∙ omega arith in
+    ap (λ (ns : List ℕ). length (dealt count seat ns)) (range-push 0 n)
+    ∙ (ap length (dealt_from-append count seat 0 (range_with_len 0 n) ((0 + n) ∷ []))
+    ∙ (length-append front (dealt_from count seat (0 + length (range_with_len 0 n)) ((0 + n) ∷ []))
+    ∙ (ap (λ k. length front + length (dealt_from count seat k ((0 + n) ∷ []))) here ∙ ap (λ k. length front + k) last)))
+
+seat-passed : (seat r : ℕ) → one_if (nat_lt seat r) + one_if (r == seat) ≡ one_if (nat_lt seat (suc r))
+seat-passed seat r = grind (arith, nat_tests)
+
+seat-below : (seat r : ℕ) → seat < r → one_if (nat_lt seat r) ≡ 1
+seat-below seat r lt = grind (arith, nat_tests)
+
+seat-behind : (seat r : ℕ) → r ≤ seat → one_if (nat_lt seat r) ≡ 0
+seat-behind seat r le = grind (arith, nat_tests)
+
+-- one place more, in a row and a column
+column-more : (count seat n q r : ℕ) → r < count → n ≡ q * count + r → length (dealt count seat (range_with_len 0 n)) ≡ q + one_if (nat_lt seat r) → length (dealt count seat (range_with_len 0 (suc n))) ≡ q + one_if (nat_lt seat (suc r))
+column-more count seat n q r within is before =
+    let column : n % count ≡ r = ap (λ k. k % count) is ∙ mod-mul-add q count r within in
+    let own : one_if (n % count == seat) ≡ one_if (r == seat) = ap (λ k. one_if (k == seat)) column in
+    omega (arith, places-more count seat n, before, own, seat-passed seat r)
+
+-- how many of the places before the one in a row and a column are dealt to a seat
+places-at : (count seat n q r : ℕ) → seat < count → r < count → n ≡ q * count + r → length (dealt count seat (range_with_len 0 n)) ≡ q + one_if (nat_lt seat r)
+places-at count seat zero zero r below within is = omega (arith, seat-behind seat r (omega (arith, is)))
+places-at count seat zero (suc q) r below within is = absurd (omega (arith, is, below))
+places-at count seat (suc n) q (suc r) below within is =
+    let here : n ≡ q * count + r = omega (arith, is) in
+    column-more count seat n q r (omega (arith, within)) here (places-at count seat n q r below (omega (arith, within)) here)
+places-at count seat (suc n) (suc q) zero below within is =
+    let here : n ≡ q * count + (count - 1) = omega (arith, is, within) in
+    let before = column-more count seat n q (count - 1) (omega (arith, within)) here (places-at count seat n q (count - 1) below (omega (arith, within)) here) in
+    omega (arith, before, seat-below seat (suc (count - 1)) (omega (arith, below)), seat-behind seat 0 (omega arith))
+places-at count seat (suc n) zero zero below within is = absurd (omega (arith, is))
+
+-- as many of the places before one are its seat's as there are whole rounds of the seats
+pub turn_of-div : (count at : ℕ) → 0 < count → at / count ≡ turn_of count at
+turn_of-div count at some =
+    let column = at % count in
+    let lower : at % count < count = mod_below at count some in
+    omega (arith, places-at count (at % count) at (at / count) (at % count) lower lower (sym (div-add-mod' at count)), seat-behind (at % count) (at % count) (omega arith))
+
+-- a seat that was told of the events before a place that are dealt to it was told of as many as its turn there
+pub turn-told : (count number at : ℕ) (events : List Event) (told : List Told) → at ≤ length events → (at % count == number) ≡ true → events_told told ≡ dealt count number (take at events) → turn_of count at ≡ length told
+turn-told count number at events told within own is =
+    let mine : at % count ≡ number = grind (arith, nat_tests) in
+    let long : length (range_with_len 0 at) ≡ length (take at events) = length-range_with_len 0 at ∙ sym (length-take-le at events within) in
+    ap (λ k. length (dealt count k (range_with_len 0 at))) mine
+    ∙ (dealt_from-lengths count number 0 (range_with_len 0 at) (take at events) long
+    ∙ (ap length (sym is) ∙ length-map told (λ (it : Told). it.1)))

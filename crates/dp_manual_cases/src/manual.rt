@@ -1,0 +1,6 @@
+//! The examples of the documents, each run by the program.
+mod calls;
+mod examples;
+mod faults;
+mod shelf;
+mod values;

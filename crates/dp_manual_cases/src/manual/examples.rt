@@ -1,0 +1,480 @@
+//! The examples of the documents, in their order: files, command lines, and what these print.
+
+/// A file is a line `@ NAME`, its lines, and a line `@`; a command line is a line `$ WORDS`, all that it prints, and a line
+/// `? STATUS`.
+pub(super) const EXAMPLES: &str = r##"
+@ sample/extensions.conf
+; The telephones of a small house.
+[globals]
+DESK=100
+
+[phones]
+exten => 100,1(desk),NoOp(the front desk)
+ same => n,Hangup()
+exten => _1XX,1,NoOp(a room)
+ same => n,Goto(${DESK},desk)         ; nobody is in: to the front desk
+exten => _NXXXXXX,1,NoOp(a call to town)
+ same => n,Hangup()
+include => rest
+
+[rest]
+exten => _X.,1,NoOp(no such number)
+ same => n,Hangup()
+@
+@ sample/calls.script
+; Room 123 is called, and then a number in town.
+start phones 123
+step 1 4
+start phones 555-1234
+step 2 2
+@
+$ pbx run sample/extensions.conf sample/calls.script
+started 1
+ran 1 phones,_1XX,1 NoOp -> ready phones,123,2
+ran 1 phones,_1XX,2 Goto -> ready phones,100,1
+ran 1 phones,100,1 NoOp -> ready phones,100,2
+ran 1 phones,100,2 Hangup -> ended
+started 2
+ran 2 phones,_NXXXXXX,1 NoOp -> ready phones,555-1234,2
+ran 2 phones,_NXXXXXX,2 Hangup -> ended
+? 0
+@ sample/menu.conf
+; A menu that leads to a call queue.
+[main]
+exten => s,1,Background(welcome)
+ same => n,WaitExten(5)
+exten => 1,1,Queue(sales,c)
+ same => n,Hangup()
+exten => i,1,Goto(s,1)
+exten => t,1,Hangup()
+exten => h,1,NoOp(${QUEUESTATUS})
+@
+@ sample/queues.conf
+[sales]
+strategy = ringall
+member => Line/1
+member => Line/2
+@
+$ pbx match sample/menu.conf main 1 2
+main,1,2 Hangup
+? 0
+$ pbx match sample/menu.conf main 7
+none
+? 0
+@ sample/menu.script
+start main s
+step 1
+digit 1 1
+step 1
+offer sales
+answer Line/1
+done Line/1
+show 1 QUEUESTATUS
+step 1 2
+@
+$ pbx run --queues sample/queues.conf sample/menu.conf sample/menu.script
+started 1
+ran 1 main,s,1 Background -> digits
+ok 1 -> ready main,1,1
+ran 1 main,1,1 Queue -> queued sales
+offered 1 2
+ok
+ok
+QUEUESTATUS=CONTINUE
+ran 1 main,1,2 Hangup -> ready main,h,1
+ran 1 main,h,1 NoOp -> ready main,h,2
+? 0
+@ dashed.conf
+[-in]
+exten => s,1,NoOp()
+@
+@ dashed.script
+start -in s
+step 1
+@
+$ pbx match -- dashed.conf -in s
+-in,s,1 NoOp
+? 0
+$ pbx debug --break=-in,s,1 dashed.conf dashed.script
+started 1
+break 1
+ran 1 -in,s,1 NoOp -> ready -in,s,2
+end 2
+? 0
+$ pbx --version
+error: unexpected argument '--version' found
+
+Usage: pbx [COMMAND]
+
+For more information, try '--help'.
+? 2
+$ pbx run --threads 2 --threads=3 dashed.conf dashed.script
+error: the argument '--threads <N>' cannot be used multiple times
+
+Usage: pbx run [OPTIONS] <FILE> <SCRIPT>
+
+For more information, try '--help'.
+? 2
+$ pbx debug --break -in,s,1 dashed.conf dashed.script
+error: unexpected argument '-i' found
+
+  tip: to pass '-i' as a value, use '-- -i'
+
+Usage: pbx debug [OPTIONS] --break <CONTEXT,EXTEN,PRIORITY> <FILE> <SCRIPT>
+
+For more information, try '--help'.
+? 2
+$ pbx check sample/extensions.conf
+ok 2 contexts 8 entries
+? 0
+@ usual.conf
+[general]
+static=yes
+writeprotect=no
+
+[globals]
+TRUNK=Line/9
+
+[main]
+exten => _NXXXXXX,1,Answer()
+ same => n,Playback(hello-world)
+ same => n(q),Queue(support,c)
+ same => n,Hangup()
+include => out
+@
+$ pbx check usual.conf
+note 13 UnknownContext
+ok 1 contexts 4 entries
+? 0
+@ faulty.conf
+[main]
+exten => s,0,NoOp()
+@
+$ pbx check faulty.conf
+fault 20 BadPriority line 2
+? 1
+$ pbx list sample/extensions.conf
+[globals]
+DESK => 100
+[phones]
+exten => 100,1(desk),NoOp(the front desk)
+exten => 100,2,Hangup()
+exten => _1XX,1,NoOp(a room)
+exten => _1XX,2,Goto(${DESK},desk)
+exten => _NXXXXXX,1,NoOp(a call to town)
+exten => _NXXXXXX,2,Hangup()
+include => rest
+[rest]
+exten => _X.,1,NoOp(no such number)
+exten => _X.,2,Hangup()
+? 0
+$ pbx match sample/extensions.conf phones 100
+phones,100,1 NoOp
+? 0
+$ pbx match sample/extensions.conf phones 123
+phones,_1XX,1 NoOp
+? 0
+$ pbx match sample/extensions.conf phones 123 2
+phones,_1XX,2 Goto
+? 0
+$ pbx match sample/extensions.conf phones 555-1234
+phones,_NXXXXXX,1 NoOp
+? 0
+$ pbx match sample/extensions.conf phones 12345
+rest,_X.,1 NoOp
+? 0
+$ pbx match sample/extensions.conf phones 1
+none
+? 0
+@ pair.conf
+[main]
+exten => s,1,NoOp()
+@
+@ pair.script
+start main s
+start main s
+step 1
+step 2
+@
+$ pbx run --threads 2 pair.conf pair.script
+settled 2 seats 2 calls
+? 0
+$ pbx run --threads 65 pair.conf pair.script
+error: invalid value '65' for '--threads <N>': the number of threads is from 1 to 64
+
+Usage: pbx run [OPTIONS] <FILE> <SCRIPT>
+
+For more information, try '--help'.
+? 2
+$ pbx debug --break phones,123,2 sample/extensions.conf sample/calls.script
+started 1
+ran 1 phones,_1XX,1 NoOp -> ready phones,123,2
+break 2
+ran 1 phones,_1XX,2 Goto -> ready phones,100,1
+ran 1 phones,100,1 NoOp -> ready phones,100,2
+ran 1 phones,100,2 Hangup -> ended
+started 2
+ran 2 phones,_NXXXXXX,1 NoOp -> ready phones,555-1234,2
+ran 2 phones,_NXXXXXX,2 Hangup -> ended
+end 8
+? 0
+$ pbx debug --queues sample/queues.conf --break main,1,2 sample/menu.conf sample/menu.script
+started 1
+ran 1 main,s,1 Background -> digits
+ok 1 -> ready main,1,1
+ran 1 main,1,1 Queue -> queued sales
+offered 1 2
+ok
+ok
+break 7
+ran 1 main,1,2 Hangup -> ready main,h,1
+ran 1 main,h,1 NoOp -> ready main,h,2
+end 9
+? 0
+$ pbx debug --break phones,123 sample/extensions.conf sample/calls.script
+fault 71 BadBreak
+? 1
+@ joined.text
+[main]
+exten => 100,1,NoOp()
+;; script
+start main 100
+;; script
+step 1
+@
+@ marked.text
+﻿[main]
+exten => 100,1,NoOp()
+;; script
+start main 100
+step 1
+@
+@ unparted.text
+﻿;; script
+start main 100
+@
+$ pbx < joined.text
+started 1
+ran 1 main,100,1 NoOp -> ready main,100,2
+? 0
+$ pbx -- < joined.text
+started 1
+ran 1 main,100,1 NoOp -> ready main,100,2
+? 0
+$ pbx < marked.text
+started 1
+ran 1 main,100,1 NoOp -> ready main,100,2
+? 0
+$ pbx < unparted.text
+fault 2 NoSection line 2
+? 1
+@ comments.conf
+[main]                              ; a comment
+exten => s,1,NoOp(a\;b)             ; the value is s,1,NoOp(a;b)
+@
+$ pbx list comments.conf
+[main]
+exten => s,1,NoOp(a\;b)
+? 0
+@ commas.conf
+[main]
+exten => s,1,Gosub(sub,s,1(a(b,c), d))
+exten => s,2,Gosub(sub,s,1("a,b",c\,d,[e,f]))
+[sub]
+exten => s,1,NoOp()
+exten => s,2,Return()
+@
+@ commas.script
+start main s
+step 1
+show 1 ARG1
+show 1 ARG2
+step 1 3
+show 1 ARG1
+show 1 ARG2
+show 1 ARG3
+show 1 ARG4
+show 1 ARG5
+show 1 ARG6
+@
+$ pbx run commas.conf commas.script
+started 1
+ran 1 main,s,1 Gosub -> ready sub,s,1
+ARG1=a(b,c)
+ARG2=d
+ran 1 sub,s,1 NoOp -> ready sub,s,2
+ran 1 sub,s,2 Return -> ready main,s,2
+ran 1 main,s,2 Gosub -> ready sub,s,1
+ARG1="a
+ARG2=b"
+ARG3=c\
+ARG4=d
+ARG5=[e
+ARG6=f]
+? 0
+@ small.conf
+[globals]
+GREETING = hello
+
+[main]
+exten => 100,1,NoOp(first)
+exten => 100,2,Goto(200,1)     ; to 200, priority 1, of this context
+exten => 200,1,Hangup()
+@
+$ pbx check small.conf
+ok 1 contexts 3 entries
+? 0
+$ pbx list small.conf
+[globals]
+GREETING => hello
+[main]
+exten => 100,1,NoOp(first)
+exten => 100,2,Goto(200,1)
+exten => 200,1,Hangup()
+? 0
+@ names.conf
+[names]
+exten => 555-1234,1,NoOp()     ; the name 5551234
+exten => 5551234,1,Hangup()    ; the same one: dropped
+exten => 1.,1,NoOp()           ; plain, and no pattern
+exten => s,1,NoOp()
+exten => S,1,Hangup()          ; another name
+@
+$ pbx check names.conf
+note 3 DoublePriority
+ok 1 contexts 4 entries
+? 0
+$ pbx list names.conf
+[names]
+exten => 5551234,1,NoOp()
+exten => 1.,1,NoOp()
+exten => s,1,NoOp()
+exten => S,1,Hangup()
+? 0
+$ pbx match names.conf names 55-51-234
+names,5551234,1 NoOp
+? 0
+@ classes.conf
+[main]
+exten => _NX,1,NoOp()
+exten => _[4-8]X,1,NoOp()
+exten => _[0-4]X,1,NoOp()
+exten => _[2-9]X,1,NoOp()      ; the name _NX: dropped
+@
+$ pbx check classes.conf
+note 5 DoublePriority
+ok 1 contexts 3 entries
+? 0
+$ pbx list classes.conf
+[main]
+exten => _NX,1,NoOp()
+exten => _[45678]X,1,NoOp()
+exten => _[01234]X,1,NoOp()
+? 0
+$ pbx match classes.conf main 45
+main,_[01234]X,1 NoOp
+? 0
+@ calls.conf
+[calls]
+exten => 123,1,NoOp(one)
+exten => _1XX,1,NoOp(three)
+exten => _X.,1,NoOp(any)
+exten => _X.,2,NoOp(two)
+@
+$ pbx match calls.conf calls 123
+calls,123,1 NoOp
+? 0
+$ pbx match calls.conf calls 123 2
+calls,_X.,2 NoOp
+? 0
+$ pbx match calls.conf calls 124
+calls,_1XX,1 NoOp
+? 0
+$ pbx match calls.conf calls 12
+calls,_X.,1 NoOp
+? 0
+$ pbx match calls.conf calls 1
+none
+? 0
+@ ends.conf
+[main]
+exten => _1X!,1,NoOp()
+exten => _1X,1,Answer()
+exten => _1XX,1,Hangup()
+@
+$ pbx match ends.conf main 15
+main,_1X,1 Answer
+? 0
+$ pbx match ends.conf main 156
+main,_1XX,1 Hangup
+? 0
+$ pbx match ends.conf main 1567
+main,_1X!,1 NoOp
+? 0
+@ priorities.conf
+[main]
+exten => 100,1,Answer()
+ same => n,NoOp(two)
+exten => 200,5,NoOp(five)
+ same => n,Hangup()
+exten => 100,1,NoOp(again)     ; dropped
+ same => n,NoOp(again)         ; one more than the line before: 2, dropped too
+ same => n,Hangup()            ; 3
+@
+$ pbx check priorities.conf
+note 6 DoublePriority
+note 7 DoublePriority
+ok 1 contexts 5 entries
+? 0
+$ pbx list priorities.conf
+[main]
+exten => 100,1,Answer()
+exten => 100,2,NoOp(two)
+exten => 200,5,NoOp(five)
+exten => 200,6,Hangup()
+exten => 100,3,Hangup()
+? 0
+@ labels.conf
+[main]
+exten => s,1(top),Answer()
+ same => n(ask),NoOp(one)
+ same => n(top),NoOp(two)      ; a label that s has: dropped
+ same => n(end),Hangup()       ; 4
+exten => t,1( top ),Hangup()   ; another extension
+@
+$ pbx check labels.conf
+note 4 DoubleLabel
+ok 1 contexts 4 entries
+? 0
+$ pbx list labels.conf
+[main]
+exten => s,1(top),Answer()
+exten => s,2(ask),NoOp(one)
+exten => s,4(end),Hangup()
+exten => t,1(top),Hangup()
+? 0
+@ night.conf
+[main]
+exten => _1XX,1,NoOp(main)
+include => late
+include => night               ; there is none
+
+[late]
+exten => 123,1,NoOp(late)
+exten => 200,1,NoOp(late)
+include => main
+@
+$ pbx check night.conf
+note 4 UnknownContext
+ok 2 contexts 3 entries
+? 0
+$ pbx match night.conf main 123
+main,_1XX,1 NoOp
+? 0
+$ pbx match night.conf late 123
+late,123,1 NoOp
+? 0
+$ pbx match night.conf main 200
+late,200,1 NoOp
+? 0
+"##;

@@ -1,0 +1,3 @@
+mod ReadsLemmas
+mod RunLemmas
+pub mod ServesLemmas

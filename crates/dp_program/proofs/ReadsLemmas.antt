@@ -1,0 +1,122 @@
+-- What reading sources came to.
+use Rattle.std.proofs.Common.{◌≡◌, ◌||◌, ℕ, Bool, true, false, List, [], Option, Some, None, IfSome, Result, Ok, Err, inl, inr, refl, sym, ap, subst, ◌∙◌}
+use Rattle.dp_conf.specs.Answers.{Refuses, ◌>>=◌}
+use Rattle.dp_conf.specs.Whole.{whole_of, length_fault, is_read_failed}
+use Rattle.dp_conf.specs.declared.fault.ReadFault.{ReadFault}
+use Rattle.dp_conf.specs.declared.fault.ReadFault.TheVariants.{ReadFailed as read_failed, TooLong as too_long, NoMemory as no_memory}
+use Rattle.dp_commands.specs.Faults.{fault_of_read, reason_of}
+use Rattle.dp_commands.specs.declared.fault.Code.{Code}
+use Rattle.dp_commands.specs.declared.fault.Code.TheVariants.{Line, Name, Plan, Queue, ReadFailed, TooLong, WriteFailed, Settle, BadScript, BadBreak}
+use Rattle.dp_commands.specs.declared.fault.PbxFault.{PbxFault}
+use Rattle.dp_commands.specs.declared.fault.PbxFault.TheVariants.{Coded, NoMemory}
+use Rattle.dp_program.specs.Files.{Source, IsTextOf, Reads, is_read_fault, read_fault, source, whole_text}
+use Rattle.dp_program.specs.Texts.{TextsOf, ReadsSome, ReadsTexts, all_texts}
+
+-- what holds of what was read, and what follows from it
+pub Reads-weaker : {source : Source} (P Q : Result (List ℕ) PbxFault → Type 0) → ((text : Result (List ℕ) PbxFault) → P text → Q text) → Reads source P → Reads source Q
+Reads-weaker P Q weaker reads = record { text = reads.text; given = reads.given; holds = weaker reads.text reads.holds }
+
+-- some text of the bytes, or that they are too many
+text_by : Option (List ℕ) → Result (List ℕ) PbxFault
+text_by None = Ok []
+text_by (Some bytes) = whole_text bytes
+
+IsTextOf-text_by : (bytes : Option (List ℕ)) → IsTextOf bytes (text_by bytes)
+unfolding text_by
+IsTextOf-text_by None = tt
+IsTextOf-text_by (Some bytes) = refl
+
+-- each source gives something
+pub Reads-any : (source : Source) (P : Result (List ℕ) PbxFault → Type 0) → ((text : Result (List ℕ) PbxFault) → P text) → Reads source P
+Reads-any source P all =
+    record { text = text_by source.bytes; given = inl (IsTextOf-text_by source.bytes); holds = all (text_by source.bytes) }
+
+-- the same of a source that may be none
+pub ReadsSome-weaker : (source : Option Source) (P Q : Result (Option (List ℕ)) PbxFault → Type 0) → ((text : Result (Option (List ℕ)) PbxFault) → P text → Q text) → ReadsSome source P → ReadsSome source Q
+ReadsSome-weaker None P Q weaker reads = weaker (Ok None) reads
+ReadsSome-weaker (Some source) P Q weaker reads =
+    Reads-weaker (λ text. P (text >>= λ text. Ok (Some text))) (λ text. Q (text >>= λ text. Ok (Some text)))
+    (λ text. weaker (text >>= λ text. Ok (Some text))) reads
+
+pub ReadsSome-any : (source : Option Source) (P : Result (Option (List ℕ)) PbxFault → Type 0) → ((text : Result (Option (List ℕ)) PbxFault) → P text) → ReadsSome source P
+ReadsSome-any None P all = all (Ok None)
+ReadsSome-any (Some source) P all = Reads-any source _ (λ text. all (text >>= λ text. Ok (Some text)))
+
+-- what holds of all texts by what holds of each
+pub ReadsTexts-of : (plan : Source) (queues : Option Source) (script : Source)
+    (P : Result (List ℕ) PbxFault → Type 0) (Q : Result (Option (List ℕ)) PbxFault → Type 0) (S : Result (List ℕ) PbxFault → Type 0)
+    (R : Result TextsOf PbxFault → Type 0)
+    → ((p : Result (List ℕ) PbxFault) (q : Result (Option (List ℕ)) PbxFault) (s : Result (List ℕ) PbxFault) → P p → Q q → S s → R (all_texts p q s))
+    → Reads plan P → ReadsSome queues Q → Reads script S → ReadsTexts plan queues script R
+ReadsTexts-of plan queues script P Q S R all p_read q_read s_read =
+    Reads-weaker P _ (λ p p_holds. ReadsSome-weaker queues Q _ (λ q q_holds. Reads-weaker S _ (λ s s_holds. all p q s p_holds q_holds s_holds) s_read) q_read) p_read
+
+-- what holds of all texts, and what follows from it
+pub ReadsTexts-weaker : (plan : Source) (queues : Option Source) (script : Source) (P Q : Result TextsOf PbxFault → Type 0)
+    → ((texts : Result TextsOf PbxFault) → P texts → Q texts) → ReadsTexts plan queues script P → ReadsTexts plan queues script Q
+ReadsTexts-weaker plan queues script P Q weaker reads =
+    Reads-weaker _ _ (λ p. ReadsSome-weaker queues _ _ (λ q. Reads-weaker _ _ (λ s. weaker (all_texts p q s)))) reads
+
+-- what a fault comes to, where want of memory says nothing
+pub by_reason : {X : Type 0} (P : PbxFault → Result X PbxFault → Type 0)
+    → ((code : Code) (line : Option ℕ) → P (Coded code line) (Err (Coded code line))) → ((text : Result X PbxFault) → P NoMemory text)
+    → (fault : PbxFault) (text : Result X PbxFault) → Refuses (reason_of fault) text → P fault text
+by_reason P coded lacks (Coded code line) text refused = subst (P (Coded code line)) (sym refused) (coded code line)
+by_reason P coded lacks NoMemory text refused = lacks text
+
+-- what was refused is refused with what comes behind it
+Refuses-next : {X Y : Type 0} (fault : PbxFault) (text : Result X PbxFault) (next : X → Result Y PbxFault) → Refuses (reason_of fault) text → Refuses (reason_of fault) (text >>= next)
+Refuses-next (Coded code line) text next refused = ap (λ read. read >>= next) refused
+Refuses-next NoMemory text next refused = tt
+
+-- the texts of which the dialplan's is refused
+pub texts_refused_plan : (plan : Source) (queues : Option Source) (script : Source) (fault : PbxFault)
+    → Reads plan (λ text. Refuses (reason_of fault) text) → ReadsTexts plan queues script (λ texts. Refuses (reason_of fault) texts)
+texts_refused_plan plan queues script fault reads =
+    ReadsTexts-of plan queues script (λ text. Refuses (reason_of fault) text) (λ text. Unit {0}) (λ text. Unit {0}) (λ texts. Refuses (reason_of fault) texts)
+    (λ p q s refused any all. Refuses-next fault p _ refused) reads (ReadsSome-any queues _ (λ text. tt)) (Reads-any script _ (λ text. tt))
+
+-- that of the queues behind it
+pub texts_refused_queues : (plan : Source) (queues : Option Source) (script : Source) (fault : PbxFault) (read : List ℕ)
+    → Reads plan (λ text. text ≡ Ok read) → ReadsSome queues (λ text. Refuses (reason_of fault) text)
+    → ReadsTexts plan queues script (λ texts. Refuses (reason_of fault) texts)
+texts_refused_queues plan queues script fault read is reads =
+    ReadsTexts-of plan queues script (λ text. text ≡ Ok read) (λ text. Refuses (reason_of fault) text) (λ text. Unit {0}) (λ texts. Refuses (reason_of fault) texts)
+    (λ p q s p_is refused any. subst (λ p. Refuses (reason_of fault) (all_texts p q s)) (sym p_is) (Refuses-next fault q _ refused))
+    is reads (Reads-any script _ (λ text. tt))
+
+-- and that of the script behind both
+pub texts_refused_script : (plan : Source) (queues : Option Source) (script : Source) (fault : PbxFault) (read : List ℕ) (held : Option (List ℕ))
+    → Reads plan (λ text. text ≡ Ok read) → ReadsSome queues (λ text. text ≡ Ok held) → Reads script (λ text. Refuses (reason_of fault) text)
+    → ReadsTexts plan queues script (λ texts. Refuses (reason_of fault) texts)
+texts_refused_script plan queues script fault read held is are reads =
+    ReadsTexts-of plan queues script (λ text. text ≡ Ok read) (λ text. text ≡ Ok held) (λ text. Refuses (reason_of fault) text) (λ texts. Refuses (reason_of fault) texts)
+    (λ p q s p_is q_is refused. subst (λ p. Refuses (reason_of fault) (all_texts p q s)) (sym p_is)
+    (subst (λ q. Refuses (reason_of fault) (all_texts (Ok read) q s)) (sym q_is) (Refuses-next fault s _ refused)))
+    is are reads
+
+-- a source that was not read whole, by the reader's fault
+pub refused_source : (bytes : Option (List ℕ)) (old new : Bool) (fault : ReadFault)
+    → IfSome bytes (λ bytes. Refuses (length_fault fault) (whole_of bytes)) → new ≡ (old || is_read_failed {T = List ℕ} (Err fault))
+    → Reads (source bytes new) (λ text. Refuses (reason_of (fault_of_read fault)) text)
+refused_source bytes true new read_failed refused told = record { text = Err (Coded ReadFailed None); given = inr (refl, told); holds = refl }
+refused_source bytes false new read_failed refused told = record { text = Err (Coded ReadFailed None); given = inr (refl, told); holds = refl }
+refused_source None old new too_long refused told = record { text = Err (Coded TooLong None); given = inl refl; holds = refl }
+refused_source (Some bytes) old new too_long refused told = record { text = whole_text bytes; given = inl refl; holds = ap read_fault refused }
+refused_source bytes old new no_memory refused told = Reads-any (source bytes new) _ (λ text. tt)
+
+-- a source of which nothing is known may have each fault of a reader
+pub refused_unknown : (fault : PbxFault) → is_read_fault fault ≡ true → Reads (source None true) (λ text. Refuses (reason_of fault) text)
+refused_unknown (Coded (Line kind) line) is = absurd cc
+refused_unknown (Coded (Name fault) line) is = absurd cc
+refused_unknown (Coded (Plan kind) line) is = absurd cc
+refused_unknown (Coded (Queue kind) line) is = absurd cc
+refused_unknown (Coded ReadFailed None) is = record { text = Err (Coded ReadFailed None); given = inr (refl, refl); holds = refl }
+refused_unknown (Coded ReadFailed (Some line)) is = absurd cc
+refused_unknown (Coded TooLong None) is = record { text = Err (Coded TooLong None); given = inl refl; holds = refl }
+refused_unknown (Coded TooLong (Some line)) is = absurd cc
+refused_unknown (Coded WriteFailed line) is = absurd cc
+refused_unknown (Coded (Settle fault) line) is = absurd cc
+refused_unknown (Coded BadScript line) is = absurd cc
+refused_unknown (Coded BadBreak line) is = absurd cc
+refused_unknown NoMemory is = Reads-any (source None true) _ (λ text. tt)

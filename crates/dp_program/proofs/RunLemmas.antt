@@ -1,0 +1,84 @@
+-- Runs read no file: their faults are none of a reader's.
+use Rattle.std.proofs.Common.{◌≡◌, ℕ, ◌+◌, false, List, [], ◌∷◌, ◌++◌, length, Option, Some, None, Result, Ok, Err, refl, ap, sym, ◌∙◌}
+use Rattle.dp_conf.specs.Answers.{◌>>=◌, all_of, each_after, with_front}
+use Rattle.dp_conf.specs.Lines.{parts_of}
+use Rattle.dp_conf.specs.declared.fault.ConfFault.TheVariants.{At, NoMemory as conf_no_memory}
+use Rattle.dp_plan.specs.Loaded.{loaded}
+use Rattle.dp_plan.specs.declared.fault.LoadFault.{LoadFault}
+use Rattle.dp_plan.specs.declared.fault.LoadFault.TheVariants.{Conf, Pattern, Plan, NoMemory as load_no_memory}
+use Rattle.dp_queue.specs.File.{loaded as queues_loaded}
+use Rattle.dp_queue.specs.declared.fault.QueueFault.{QueueFault}
+use Rattle.dp_queue.specs.declared.fault.QueueFault.TheVariants.{Conf as queue_conf, Queue, NoMemory as queue_no_memory}
+use Rattle.dp_machine.specs.World.{opening}
+use Rattle.dp_commands.specs.Run.{Files, Run, Told, Writes, files_of, plan_fault, queue_fault, queues_of, run_of, run_on, told_of}
+use Rattle.dp_commands.specs.Script.{line_of, numbered, reading_of, script_of, turns_of, words_of}
+use Rattle.dp_commands.specs.declared.fault.Code.TheVariants.{WriteFailed}
+use Rattle.dp_commands.specs.declared.fault.PbxFault.{PbxFault}
+use Rattle.dp_commands.specs.declared.fault.PbxFault.TheVariants.{Coded, NoMemory}
+use Rattle.dp_commands.specs.declared.script.ScriptLine.{ScriptLine}
+use Rattle.dp_program.specs.Files.{has_read_failed, is_failed_read}
+
+-- what comes behind what did not fail to be read
+next_reads : {X Y : Type 0} (read : Result X PbxFault) (next : X → Result Y PbxFault) → has_read_failed read ≡ false
+    → ((x : X) → has_read_failed (next x) ≡ false) → has_read_failed (read >>= next) ≡ false
+next_reads (Ok x) next quiet all = all x
+next_reads (Err fault) next quiet all = quiet
+
+plan_reads : {X : Type 0} (read : Result X LoadFault) → has_read_failed (plan_fault read) ≡ false
+plan_reads (Ok x) = refl
+plan_reads (Err (Conf (At line kind))) = refl
+plan_reads (Err (Conf conf_no_memory)) = refl
+plan_reads (Err (Pattern line fault)) = refl
+plan_reads (Err (Plan line kind)) = refl
+plan_reads (Err load_no_memory) = refl
+
+queue_reads : {X : Type 0} (read : Result X QueueFault) → has_read_failed (queue_fault read) ≡ false
+queue_reads (Ok x) = refl
+queue_reads (Err (queue_conf (At line kind))) = refl
+queue_reads (Err (queue_conf conf_no_memory)) = refl
+queue_reads (Err (Queue line kind)) = refl
+queue_reads (Err queue_no_memory) = refl
+
+queues_read : (text : Option (List ℕ)) → has_read_failed (queues_of text) ≡ false
+queues_read None = refl
+queues_read (Some text) = queue_reads (queues_loaded text)
+
+line_reads : (line : ℕ) (read : Option (List ScriptLine)) → has_read_failed (numbered line read) ≡ false
+line_reads line None = refl
+line_reads line (Some lines) = refl
+
+lines_read : (before parts : List (List ℕ)) → has_read_failed (all_of (each_after reading_of before parts)) ≡ false
+lines_read before [] = refl
+lines_read before (part ∷ parts) =
+    let later : Result (List ScriptLine) PbxFault = all_of (each_after reading_of (before ++ part ∷ []) parts) in
+    next_reads (reading_of before part) (λ xs. with_front xs later) (line_reads (length before + 1) (line_of (words_of part)))
+    (λ xs. next_reads later (λ ys. Ok (xs ++ ys)) (lines_read (before ++ part ∷ []) parts) (λ ys. refl))
+
+script_reads : (text : List ℕ) → has_read_failed (script_of text) ≡ false
+unfolding script_of
+script_reads text = lines_read [] (parts_of text)
+
+files_read : (plan : List ℕ) (queues : Option (List ℕ)) → has_read_failed (files_of plan queues) ≡ false
+files_read plan queues =
+    next_reads {Y = Files} (plan_fault (loaded plan)) (λ read. queues_of queues >>= λ held. Ok (record { plan = read.0; queues = held })) (plan_reads (loaded plan))
+    (λ read. next_reads {Y = Files} (queues_of queues) (λ held. Ok (record { plan = read.0; queues = held })) (queues_read queues) (λ held. refl))
+
+told_reads : (plan : List ℕ) (queues : Option (List ℕ)) (script : List ℕ) → has_read_failed (told_of plan queues script) ≡ false
+told_reads plan queues script =
+    next_reads {Y = Told} (files_of plan queues)
+    (λ files. script_of script >>= λ lines. Ok (record { plan = files.plan; queues = files.queues; lines = lines })) (files_read plan queues)
+    (λ files. next_reads {Y = Told} (script_of script) (λ lines. Ok (record { plan = files.plan; queues = files.queues; lines = lines })) (script_reads script) (λ lines. refl))
+
+-- a run is none whose files were not read
+pub run_of_reads : (plan : List ℕ) (queues : Option (List ℕ)) (script : List ℕ) → has_read_failed (run_of plan queues script) ≡ false
+unfolding run_of
+run_of_reads plan queues script =
+    next_reads (told_of plan queues script) (λ told. Ok (run_on (opening told.plan told.queues) (turns_of told.lines))) (told_reads plan queues script) (λ told. refl)
+
+-- nor does it answer so
+pub writes_reads : (old new : Option (List ℕ)) (given : Result Run PbxFault) (result : Result ℕ PbxFault)
+    → has_read_failed given ≡ false → Writes old new given result → has_read_failed result ≡ false
+writes_reads old new given (Ok status) quiet writes = refl
+writes_reads old new (Ok run) (Err (Coded code line)) quiet writes = ap (λ code. is_failed_read (Coded code line)) writes.1
+writes_reads old new (Err fault) (Err (Coded code line)) quiet writes = ap is_failed_read (sym writes.1) ∙ quiet
+writes_reads old new given (Err NoMemory) quiet writes = refl

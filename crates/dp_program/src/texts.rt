@@ -1,0 +1,60 @@
+//! The texts of the files of a run.
+ghost use Rattle.std.specs.Prelude.{◌≡◌, IfErr, true};
+ghost use Rattle.std.specs.Option.{option_map};
+ghost use Rattle.dp_conf.specs.Answers.{Answers};
+ghost use Rattle.dp_commands.specs.Faults.{reason_of};
+ghost use Rattle.dp_program.specs.Files.{is_read_fault};
+ghost use Rattle.dp_program.specs.Texts as spec;
+
+use crate::files::ReadFiles;
+use dp_commands::PbxFault;
+use std::alloc::Global;
+
+/// The texts of the files of a run: its dialplan, its queues, where a file of them is named, and its script.
+#[derive(Drop)]
+pub(crate) struct Texts {
+    pub(crate) plan: Vec<u8>,
+    pub(crate) queues: Option<Vec<u8>>,
+    pub(crate) script: Vec<u8>,
+}
+
+/// All bytes of the file of queues, where one is named.
+fn read_queues<F: ReadFiles>(
+    files: &F,
+    alloc: Global,
+    path: Option<&str>,
+) -> Result<Option<Vec<u8>>, PbxFault>
+    ensures read { spec.ReadsSome (option_map (F.source_at files.now) (option_map (λ path. path.now) path.entry))
+        (λ text. Answers (λ read. option_map (λ text. text.items) read) reason_of result text) }
+    ensures fault { IfErr result (λ fault. is_read_fault fault ≡ true) }
+{
+    let Some(path) = path else {
+        return Ok(None);
+    };
+    let text = files.read_file(alloc, path)?;
+    Ok(Some(text))
+}
+
+/// The texts of the files of a run: the dialplan is read first, then the queues, then the script, up to the first that has a
+/// fault.
+pub(crate) fn read_texts<F: ReadFiles>(
+    files: &F,
+    alloc: Global,
+    file: &str,
+    queues: Option<&str>,
+    script: &str,
+) -> Result<Texts, PbxFault>
+    ensures read { spec.ReadsTexts (F.source_at files.now file.now)
+        (option_map (F.source_at files.now) (option_map (λ path. path.now) queues.entry)) (F.source_at files.now script.now)
+        (λ texts. Answers spec.texts_of reason_of result texts) }
+    ensures fault { IfErr result (λ fault. is_read_fault fault ≡ true) }
+{
+    let plan = files.read_file(alloc, file)?;
+    let queues = read_queues(files, alloc, queues)?;
+    let script = files.read_file(alloc, script)?;
+    Ok(Texts {
+        plan,
+        queues,
+        script,
+    })
+}

@@ -1,0 +1,369 @@
+-- The places of hashes behind one more element, and the walk along the places of one hash.
+use Rattle.std.proofs.Common.{◌≡◌, ◌≢◌, ◌&&◌, get_or, nat_lt, not, ℕ, zero, suc, ◌+◌, ◌<◌, ◌≤◌, ◌==◌, Bool, true, false, List, [], ◌∷◌, ◌++◌, map, take, Option, Some, None, refl, sym, length, ap, ◌∙◌, arith, if◌then◌else◌, slice_get, ⊎_elim, subst, nat_eq}
+use Rattle.std.proofs.lemmas.Bool.{cases_lt}
+use Rattle.std.proofs.lemmas.List.{get_or-map, length-map, length-take, length_push, map-append, take-append-le, take-map}
+use Rattle.std.proofs.lemmas.List.Elements.{All-head, All-map, All-tail}
+use Rattle.std.proofs.lemmas.List.Quantifiers.{all_pairs_push}
+use Rattle.std.proofs.lemmas.Option.{same_Some, none-some, slice_get_within, slice_get-get_or, slice_get-map}
+use Rattle.std.specs.List.{All, AllPairs, position, position_or_len}
+use Rattle.std.specs.Option.{option_map, unwrap_or}
+use borrow.Author.Tests.{eqb-true, eq-eqb, ltb-true, ltb-false}
+use Rattle.std.specs.HashMap.{get}
+use Rattle.dp_conf.specs.Words.{same_text}
+use Rattle.dp_queue.specs.Agents.{agent_number, is_named, with_state_at, all_freed}
+use Rattle.dp_queue.specs.Places.{text_hash, later, last_position, last_place, place_before, is_named_at, names_of, AreNamed, LastsOf, hashes_of, AreLasts, AreChained}
+use Rattle.dp_queue.specs.declared.agent.Agent.{Agent}
+use Rattle.dp_queue.specs.declared.agent.AgentState.{AgentState}
+use Rattle.dp_queue.specs.declared.places.Link.{Link}
+use Rattle.dp_queue.proofs.MemberLemmas.{pairs-head, pairs-tail, names-apart}
+
+module _ {X : Type 0} where
+  -- an element in front of others
+  pub slice_get-front : (xs ys : List X) (k : ℕ) → k < length xs → slice_get (xs ++ ys) k ≡ slice_get xs k
+  slice_get-front [] ys k within = absurd (omega (arith, within))
+  slice_get-front (x ∷ xs) ys zero within = refl
+  slice_get-front (x ∷ xs) ys (suc k) within = slice_get-front xs ys k (omega (arith, within))
+
+  -- and the one behind them
+  pub slice_get-last : (xs : List X) (x : X) → slice_get (xs ++ x ∷ []) (length xs) ≡ Some x
+  slice_get-last [] x = refl
+  slice_get-last (y ∷ xs) x = slice_get-last xs x
+
+  -- one more element is the last that passes, if it does
+  pub last_position-push : (p : X → Bool) (xs : List X) (x : X) → last_position p (xs ++ x ∷ []) ≡ (if p x then Some (length xs) else last_position p xs)
+  last_position-push p [] x = refl
+  last_position-push p (y ∷ xs) x = ap (later (p y)) (last_position-push p xs x) ∙ by (p x)
+    where
+      by : (b : Bool) → later (p y) (if b then Some (length xs) else last_position p xs) ≡ (if b then Some (suc (length xs)) else later (p y) (last_position p xs))
+      by true = refl
+      by false = refl
+
+-- the last places with those of one more element
+pub lasts-push : (lasts new : LastsOf) (hashes : List ℕ) (hash place : ℕ) → place ≡ length hashes → AreLasts lasts hashes
+    → ((other : ℕ) → get nat_eq new other ≡ (if nat_eq hash other then Some place else get nat_eq lasts other)) → AreLasts new (hashes ++ hash ∷ [])
+lasts-push lasts new hashes hash place here are put other =
+    put other
+    ∙ (λ i. if hash == other then Some (here i) else are other i)
+    ∙ sym (last_position-push (λ (h : ℕ). h == other) hashes hash)
+
+-- one more link behind the others
+pub chained-push : (links : List Link) (new : Link) → AreChained links → new.before ≡ last_place (hashes_of links) new.hash
+    → AreChained (links ++ new ∷ [])
+chained-push links new chained before k link here = ⊎_elim old last (cases_lt k (length links))
+  where
+    hashes : hashes_of (links ++ new ∷ []) ≡ hashes_of links ++ new.hash ∷ []
+    hashes = map-append (λ (l : Link). l.hash) links (new ∷ [])
+
+    front : k ≤ length links → take k (hashes_of (links ++ new ∷ [])) ≡ take k (hashes_of links)
+    front within = ap (take k) hashes ∙ take-append-le k (hashes_of links) (new.hash ∷ []) (omega (arith, within, length-map links (λ (l : Link). l.hash)))
+
+    old : k < length links → link.before ≡ last_place (take k (hashes_of (links ++ new ∷ []))) link.hash
+    old within =
+        chained k link (sym (slice_get-front links (new ∷ []) k within) ∙ here)
+        ∙ ap (λ hs. last_place hs link.hash) (sym (front (omega (arith, within))))
+
+    all : (hs : List ℕ) → take (length hs) hs ≡ hs
+    all [] = refl
+    all (h ∷ hs) = ap (λ (t : List ℕ). h ∷ t) (all hs)
+
+    last : length links ≤ k → link.before ≡ last_place (take k (hashes_of (links ++ new ∷ []))) link.hash
+    last past =
+        let within : k < length (links ++ new ∷ []) = slice_get_within (links ++ new ∷ []) k link here in
+        let is : k ≡ length links = omega (arith, past, within, length_push links new) in
+        let same : new ≡ link = same_Some new link (sym (slice_get-last links new) ∙ ap (slice_get (links ++ new ∷ [])) (sym is) ∙ here) in
+        let count : k ≡ length (hashes_of links) = omega (arith, is, length-map links (λ (l : Link). l.hash)) in
+        (λ i. (sym same i).before) ∙ before ∙ (λ i. last_place (hashes_of links) (same i).hash)
+        ∙ ap (λ hs. last_place hs link.hash) (sym (front (omega (arith, is)) ∙ ap (λ n. take n (hashes_of links)) count ∙ all (hashes_of links)))
+
+-- how many elements lead up to a place and the element there
+abbrev pub cut : Option ℕ → ℕ
+cut None = 0
+cut (Some place) = suc place
+
+-- a place is not before the first, so nothing is there
+later-none : (b : Bool) (o : Option ℕ) → later b o ≡ None → (b ≡ false) × (o ≡ None)
+later-none true None e = absurd (cc)
+later-none false None e = (refl, refl)
+later-none b (Some k) e = absurd (cc)
+
+module _ {X : Type 0} where
+  -- the last that passes lies before the last that passes an easier test, or is that one
+  pub last_position-cut : (p q : X → Bool) → ((x : X) → p x ≡ true → q x ≡ true) → (xs : List X)
+      → last_position p (take (cut (last_position q xs)) xs) ≡ last_position p xs
+  last_position-cut p q easier [] = refl
+  last_position-cut p q easier (x ∷ xs) = by (last_position q xs) (q x) refl (last_position-cut p q easier xs)
+    where
+      neither : (b : Bool) → p x ≡ b → q x ≡ false → None ≡ later b None
+      neither true passes fails = let both : q x ≡ true = easier x passes in absurd (cc)
+      neither false passes fails = refl
+
+      by : (o : Option ℕ) (b : Bool) → q x ≡ b → last_position p (take (cut o) xs) ≡ last_position p xs
+          → last_position p (take (cut (later b o)) (x ∷ xs)) ≡ later (p x) (last_position p xs)
+      by None true here rest = ap (later (p x)) rest
+      by None false here rest = neither (p x) refl here ∙ ap (later (p x)) rest
+      by (Some k) b here rest = ap (later (p x)) rest
+
+  -- the last that passes among those up to a place
+  pub last_position-at : (p : X → Bool) (xs : List X) (k : ℕ) (x : X) → slice_get xs k ≡ Some x
+      → last_position p (take (suc k) xs) ≡ (if p x then Some k else last_position p (take k xs))
+  last_position-at p [] k x here = absurd (cc)
+  last_position-at p (y ∷ xs) zero x here = ap (λ z. later (p z) None) (same_Some y x here)
+  last_position-at p (y ∷ xs) (suc k) x here = ap (later (p y)) (last_position-at p xs k x here) ∙ by (p x)
+    where
+      by : (b : Bool) → later (p y) (if b then Some k else last_position p (take k xs)) ≡ (if b then Some (suc k) else later (p y) (last_position p (take k xs)))
+      by true = refl
+      by false = refl
+
+  -- it is one of them
+  pub cut-most : (p : X → Bool) (xs : List X) → cut (last_position p xs) ≤ length xs
+  cut-most p [] = omega arith
+  cut-most p (x ∷ xs) = by (p x) (last_position p xs) (cut-most p xs)
+    where
+      by : (b : Bool) (o : Option ℕ) → cut o ≤ length xs → cut (later b o) ≤ suc (length xs)
+      by true None most = omega arith
+      by false None most = omega arith
+      by b (Some k) most = omega (arith, most)
+
+  -- and passes
+  pub last_position-passes : (p : X → Bool) (xs : List X) (k : ℕ) → last_position p xs ≡ Some k
+      → (x : X) → slice_get xs k ≡ Some x → p x ≡ true
+  last_position-passes p [] k found x here = absurd (cc)
+  last_position-passes p (y ∷ xs) k found x here =
+      by (p y) refl (last_position p xs) k found here (λ (j : ℕ). last_position-passes p xs j)
+    where
+      by : (b : Bool) → p y ≡ b → (o : Option ℕ) → (k : ℕ) → later b o ≡ Some k → slice_get (y ∷ xs) k ≡ Some x
+          → ((j : ℕ) → o ≡ Some j → (z : X) → slice_get xs j ≡ Some z → p z ≡ true) → p x ≡ true
+      by true passes None zero e here rest = ap p (sym (same_Some y x here)) ∙ passes
+      by true passes None (suc k) e here rest = absurd (omega (arith, same_Some 0 (suc k) e))
+      by false passes None k e here rest = absurd (cc)
+      by b passes (Some j) zero e here rest = absurd (omega (arith, same_Some (suc j) 0 e))
+      by b passes (Some j) (suc k) e here rest =
+          let same : j ≡ k = omega (arith, same_Some (suc j) (suc k) e) in
+          rest k (ap (λ (n : ℕ). Some n) same) x here
+
+  -- the first elements of the first elements
+  take-fewer : (m n : ℕ) (xs : List X) → m ≤ n → take m (take n xs) ≡ take m xs
+  take-fewer zero n xs fewer = refl
+  take-fewer (suc m) zero xs fewer = absurd (omega (arith, fewer))
+  take-fewer (suc m) (suc n) [] fewer = refl
+  take-fewer (suc m) (suc n) (x ∷ xs) fewer = ap (λ (t : List X). x ∷ t) (take-fewer m n xs (omega (arith, fewer)))
+
+  -- the same by numbers of the elements
+  pub last_position-map : {Y : Type 0} (p : Y → Bool) (f : X → Y) (xs : List X) → last_position p (map f xs) ≡ last_position (λ x. p (f x)) xs
+  last_position-map p f [] = refl
+  last_position-map p f (x ∷ xs) = ap (later (p (f x))) (last_position-map p f xs)
+
+-- a walk along the places of a hash: what passes lies before the place that comes next, and that place has the hash
+pub record IsWalked {X : Type 0} (p : X → Bool) (f : X → ℕ) (hash : ℕ) (xs : List X) (at : Option ℕ) : Type 0 where
+  pub rest : last_position p (take (cut at) xs) ≡ last_position p xs
+  pub has : (k : ℕ) → at ≡ Some k → slice_get (map f xs) k ≡ Some hash
+
+module _ {X : Type 0} (p : X → Bool) (f : X → ℕ) (hash : ℕ) (same : (x : X) → p x ≡ true → f x ≡ hash) where
+  hashed : (x : X) → p x ≡ true → (f x == hash) ≡ true
+  hashed x passes = eq-eqb (f x) hash (same x passes)
+
+  -- the hash of a last place
+  has-last : (xs : List X) (k : ℕ) → last_position (λ x. f x == hash) xs ≡ Some k → slice_get (map f xs) k ≡ Some hash
+  has-last xs k found =
+      let within : k < length xs = omega (arith, cut-most (λ (x : X). f x == hash) xs, ap cut found) in
+      by (slice_get xs k) refl within
+    where
+      by : (o : Option X) → slice_get xs k ≡ o → k < length xs → slice_get (map f xs) k ≡ Some hash
+      by None here within = absurd (none-some _ (sym here ∙ slice_get-get_or xs k (first xs within) within))
+        where
+          first : (xs : List X) → k < length xs → X
+          first [] within = absurd (omega (arith, within))
+          first (x ∷ xs) within = x
+      by (Some x) here within =
+          slice_get-map f xs k ∙ ap (option_map f) here
+          ∙ ap (λ (h : ℕ). Some h) (eqb-true (f x) hash (last_position-passes (λ (y : X). f y == hash) xs k found x here))
+
+  -- the walk begins
+  pub walked-first : (xs : List X) (at : Option ℕ) → at ≡ last_place (map f xs) hash → IsWalked p f hash xs at
+  walked-first xs at is =
+      let place : at ≡ last_position (λ x. f x == hash) xs = is ∙ last_position-map (λ (h : ℕ). h == hash) f xs in
+      record {
+        rest = ap (λ o. last_position p (take (cut o) xs)) place ∙ last_position-cut p (λ x. f x == hash) hashed xs;
+        has = λ k here. has-last xs k (sym place ∙ here);
+      }
+
+  -- it goes on from a place that does not pass
+  pub walked-next : (xs : List X) (k : ℕ) (x : X) (at : Option ℕ) → IsWalked p f hash xs (Some k) → slice_get xs k ≡ Some x → p x ≡ false
+      → at ≡ place_before (map f xs) k (slice_get (map f xs) k) → IsWalked p f hash xs at
+  walked-next xs k x at walked here fails is =
+      let place : at ≡ last_position (λ y. f y == hash) (take k xs) =
+      is ∙ ap (place_before (map f xs) k) (walked.has k refl) ∙ ap (λ hs. last_place hs hash) (take-map f k xs)
+      ∙ last_position-map (λ (h : ℕ). h == hash) f (take k xs) in
+      let most : cut at ≤ k = omega (arith, ap cut place, cut-most (λ (y : X). f y == hash) (take k xs), length-take k xs) in
+      record {
+        rest =
+            sym (ap (last_position p) (take-fewer (cut at) k xs most))
+            ∙ ap (λ o. last_position p (take (cut o) (take k xs))) place
+            ∙ last_position-cut p (λ y. f y == hash) hashed (take k xs)
+            ∙ sym (last_position-at p xs k x here ∙ ap (λ (b : Bool). if b then Some k else last_position p (take k xs)) fails)
+            ∙ walked.rest;
+        has = λ j found.
+            sym (slice_get-fewer k (map f xs) j (omega (arith, most, ap cut found)))
+            ∙ ap (λ hs. slice_get hs j) (take-map f k xs) ∙ has-last (take k xs) j (sym place ∙ found);
+      }
+    where
+      slice_get-fewer : {Y : Type 0} (n : ℕ) (ys : List Y) (j : ℕ) → j < n → slice_get (take n ys) j ≡ slice_get ys j
+      slice_get-fewer zero ys j fewer = absurd (omega (arith, fewer))
+      slice_get-fewer (suc n) [] j fewer = refl
+      slice_get-fewer (suc n) (y ∷ ys) zero fewer = refl
+      slice_get-fewer (suc n) (y ∷ ys) (suc j) fewer = slice_get-fewer n ys j (omega (arith, fewer))
+
+  -- what stands at the place of a walk
+  pub walked-there : (xs : List X) (k : ℕ) → IsWalked p f hash xs (Some k) → (x : X) × (slice_get xs k ≡ Some x)
+  walked-there xs k walked = by (slice_get xs k) refl
+    where
+      by : (o : Option X) → slice_get xs k ≡ o → (x : X) × (slice_get xs k ≡ Some x)
+      by None here = absurd (none-some hash (sym (slice_get-map f xs k ∙ ap (option_map f) here) ∙ walked.has k refl))
+      by (Some x) here = (x, here)
+
+  -- it ends where it finds what passes
+  pub walked-found : (xs : List X) (k : ℕ) (x : X) → IsWalked p f hash xs (Some k) → slice_get xs k ≡ Some x → p x ≡ true → last_position p xs ≡ Some k
+  walked-found xs k x walked here passes =
+      sym walked.rest ∙ last_position-at p xs k x here ∙ ap (λ (b : Bool). if b then Some k else last_position p (take k xs)) passes
+
+-- the first place that passes, by what comes behind the first element
+pub position-cons : {X : Type 0} (p : X → Bool) (x : X) (xs : List X) → position p (x ∷ xs) ≡ (if p x then Some 0 else option_map suc (position p xs))
+position-cons p x xs = by (p x) (position_or_len p xs) (length xs)
+  where
+    by : (b : Bool) (n m : ℕ) → (if nat_lt (if not b then 1 + n else 0) (suc m) then Some (if not b then 1 + n else 0) else None)
+        ≡ (if b then Some 0 else option_map suc (if nat_lt n m then Some n else None))
+    by true n m = at_first (nat_lt 0 (suc m)) (Some 0) refl
+      where
+        at_first : (b : Bool) (o : Option ℕ) → nat_lt 0 (suc m) ≡ b → (if b then o else None) ≡ o
+        at_first true o e = refl
+        at_first false o e = absurd (omega (arith, ltb-false 0 (suc m) e))
+    by false n m = let one : 1 + n ≡ suc n = omega arith in ap (λ k. if nat_lt k (suc m) then Some k else None) one ∙ less (nat_lt n m) (nat_lt (suc n) (suc m)) refl refl
+      where
+        less : (b d : Bool) → nat_lt n m ≡ b → nat_lt (suc n) (suc m) ≡ d → (if d then Some (suc n) else None) ≡ option_map suc (if b then Some n else None)
+        less true true e f = refl
+        less true false e f = absurd (omega (arith, ltb-true n m e, ltb-false (suc n) (suc m) f))
+        less false true e f = absurd (omega (arith, ltb-false n m e, ltb-true (suc n) (suc m) f))
+        less false false e f = refl
+
+-- where at most one element passes, the first is the last
+pub last_position-only : {X : Type 0} (p : X → Bool) (xs : List X) → AllPairs (λ x y. p x ≡ true → p y ≡ false) xs → last_position p xs ≡ position p xs
+last_position-only p [] only = refl
+last_position-only {X} p (x ∷ xs) only =
+    ap (later (p x)) (last_position-only p xs (pairs-tail (λ (y : X) (z : X). p y ≡ true → p z ≡ false) x xs only))
+    ∙ by (p x) refl (position p xs) (λ passes. none xs (λ k d within. pairs-head (λ (y : X) (z : X). p y ≡ true → p z ≡ false) x xs only k d within passes))
+    ∙ sym (position-cons p x xs)
+  where
+    none : (ys : List X) → All (λ y. p y ≡ false) ys → position p ys ≡ None
+    none [] fails = refl
+    none (y ∷ ys) fails =
+        position-cons p y ys ∙ ap (λ (b : Bool). if b then Some 0 else option_map suc (position p ys)) (All-head (λ (z : X). p z ≡ false) y ys fails)
+        ∙ ap (option_map suc) (none ys (All-tail (λ (z : X). p z ≡ false) y ys fails))
+
+    by : (b : Bool) → p x ≡ b → (o : Option ℕ) → (p x ≡ true → o ≡ None) → later b o ≡ (if b then Some 0 else option_map suc o)
+    by true passes None gone = refl
+    by true passes (Some k) gone = absurd (none-some k (sym (gone passes)))
+    by false fails None gone = refl
+    by false fails (Some k) gone = refl
+
+-- two texts that are the same in each byte are one
+pub text-same : (a b : List ℕ) → same_text a b ≡ true → a ≡ b
+text-same [] [] same = refl
+text-same [] (y ∷ ys) same = absurd (cc)
+text-same (x ∷ xs) [] same = absurd (cc)
+text-same (x ∷ xs) (y ∷ ys) same =
+    let parts : ((x == y) ≡ true) × (same_text xs ys ≡ true) = both (x == y) (same_text xs ys) same in
+    (λ i. eqb-true x y parts.0 i ∷ text-same xs ys parts.1 i)
+  where
+    both : (a b : Bool) → (a && b) ≡ true → (a ≡ true) × (b ≡ true)
+    both true b e = (refl, e)
+    both false b e = absurd (cc)
+
+-- the name of an agent has the hash that is looked for
+pub agent_hashed : (name : List ℕ) (agent : Agent) → is_named name agent ≡ true → text_hash agent.name ≡ text_hash name
+agent_hashed name agent named = ap text_hash (text-same agent.name name named)
+
+-- the hashes of the names of agents
+hashes-named : (agents : List Agent) → map text_hash (names_of agents) ≡ map (λ agent. text_hash agent.name) agents
+hashes-named [] = refl
+hashes-named (agent ∷ agents) = ap (λ (t : List ℕ). text_hash agent.name ∷ t) (hashes-named agents)
+
+-- agents whose names differ do not both have one name
+named-once : (name : List ℕ) (agents : List Agent) → AllPairs (λ a b. a ≢ b) (names_of agents)
+    → AllPairs (λ agent other. is_named name agent ≡ true → is_named name other ≡ false) agents
+named-once name agents differ j k d before within first = by (is_named name (get_or agents k d)) refl
+  where
+    name_at : (i : ℕ) → i < length agents → get_or (names_of agents) i d.name ≡ (get_or agents i d).name
+    name_at i inside = get_or-map (λ (agent : Agent). agent.name) agents i d d.name inside
+
+    by : (b : Bool) → is_named name (get_or agents k d) ≡ b → b ≡ false
+    by true second =
+        absurd (differ j k d.name before (omega (arith, within, length-map agents (λ (agent : Agent). agent.name)))
+        (name_at j (omega (arith, before, within)) ∙ text-same (get_or agents j d).name name first
+        ∙ sym (text-same (get_or agents k d).name name second) ∙ sym (name_at k within)))
+    by false second = refl
+
+-- agents that keep their names
+pub named-kept : (hashes : List ℕ) (agents bs : List Agent) → names_of bs ≡ names_of agents → AreNamed hashes agents → AreNamed hashes bs
+named-kept hashes agents bs same named =
+    let P : List (List ℕ) → Type 0 = λ names. (hashes ≡ map text_hash names) × AllPairs (λ (a : List ℕ) (b : List ℕ). a ≢ b) names in
+    subst P (sym same) named
+
+pub names-set : (number : ℕ) (state : AgentState) (agents : List Agent) → names_of (with_state_at number state agents) ≡ names_of agents
+names-set number state [] = refl
+names-set zero state (agent ∷ agents) = refl
+names-set (suc number) state (agent ∷ agents) = ap (λ (t : List (List ℕ)). agent.name ∷ t) (names-set number state agents)
+
+pub names-freed : (c : ℕ) (agents : List Agent) → names_of (all_freed c agents) ≡ names_of agents
+names-freed c [] = refl
+names-freed c (agent ∷ agents) = ap (λ (t : List (List ℕ)). agent.name ∷ t) (names-freed c agents)
+
+-- one more agent, of a name that no other one has
+pub named-push : (hashes new name : List ℕ) (agents bs : List Agent) (state : AgentState) → nat_lt (agent_number agents name) (length agents) ≡ false
+    → new ≡ hashes ++ text_hash name ∷ [] → bs ≡ agents ++ record { name = name; state = state } ∷ [] → AreNamed hashes agents → AreNamed new bs
+named-push hashes new name agents bs state absent more known named =
+    let names : names_of bs ≡ names_of agents ++ name ∷ [] = ap names_of known ∙ map-append (λ (agent : Agent). agent.name) agents (record { name = name; state = state } ∷ []) in
+    let P : List (List ℕ) → Type 0 = λ ns. (new ≡ map text_hash ns) × AllPairs (λ (a : List ℕ) (b : List ℕ). a ≢ b) ns in
+    subst P (sym names) (
+      more ∙ ap (λ (hs : List ℕ). hs ++ text_hash name ∷ []) named.0 ∙ sym (map-append text_hash (names_of agents) (name ∷ [])),
+      all_pairs_push (λ (a : List ℕ) (b : List ℕ). a ≢ b) (names_of agents) name named.1
+          (All-map (λ (a : List ℕ). a ≢ name) (λ (agent : Agent). agent.name) agents (names-apart name agents absent)),
+    )
+
+-- the walk to the agent of a name
+abbrev pub IsWalkedTo : List ℕ → List Agent → Option ℕ → Type 0
+IsWalkedTo name agents at = IsWalked (is_named name) (λ agent. text_hash agent.name) (text_hash name) agents at
+
+pub agent-first : (name hashes : List ℕ) (agents : List Agent) (at : Option ℕ) → AreNamed hashes agents → at ≡ last_place hashes (text_hash name)
+    → IsWalkedTo name agents at
+agent-first name hashes agents at named is =
+    walked-first (is_named name) (λ (agent : Agent). text_hash agent.name) (text_hash name) (agent_hashed name) agents at
+    (is ∙ ap (λ hs. last_place hs (text_hash name)) (named.0 ∙ hashes-named agents))
+
+pub agent-next : (name hashes : List ℕ) (agents : List Agent) (k : ℕ) (at : Option ℕ) → AreNamed hashes agents → IsWalkedTo name agents (Some k)
+    → is_named_at name agents k ≡ false → at ≡ place_before hashes k (slice_get hashes k) → IsWalkedTo name agents at
+agent-next name hashes agents k at named walked fails is =
+    let there : (x : Agent) × (slice_get agents k ≡ Some x) =
+    walked-there (is_named name) (λ (agent : Agent). text_hash agent.name) (text_hash name) (agent_hashed name) agents k walked in
+    walked-next (is_named name) (λ (agent : Agent). text_hash agent.name) (text_hash name) (agent_hashed name) agents k there.0 at walked there.1
+    (ap (λ o. unwrap_or (option_map (is_named name) o) false) (sym there.1) ∙ fails)
+    (is ∙ ap (λ hs. place_before hs k (slice_get hs k)) (named.0 ∙ hashes-named agents))
+
+pub agent-found : (name hashes : List ℕ) (agents : List Agent) (k : ℕ) → AreNamed hashes agents → IsWalkedTo name agents (Some k)
+    → is_named_at name agents k ≡ true → Some k ≡ position (is_named name) agents
+agent-found name hashes agents k named walked passes =
+    let there : (x : Agent) × (slice_get agents k ≡ Some x) =
+    walked-there (is_named name) (λ (agent : Agent). text_hash agent.name) (text_hash name) (agent_hashed name) agents k walked in
+    sym (walked-found (is_named name) (λ (agent : Agent). text_hash agent.name) (text_hash name) (agent_hashed name) agents k there.0 walked there.1
+    (ap (λ o. unwrap_or (option_map (is_named name) o) false) (sym there.1) ∙ passes))
+    ∙ last_position-only (is_named name) agents (named-once name agents named.1)
+
+pub agent-none : (name hashes : List ℕ) (agents : List Agent) → AreNamed hashes agents → IsWalkedTo name agents None → None ≡ position (is_named name) agents
+agent-none name hashes agents named walked = walked.rest ∙ last_position-only (is_named name) agents (named-once name agents named.1)
+
+-- the walk goes on to places before
+pub before-less : (hashes : List ℕ) (k : ℕ) (at : Option ℕ) → at ≡ place_before hashes k (slice_get hashes k) → cut at < suc k
+before-less hashes k at is = by (slice_get hashes k) is
+  where
+    by : (o : Option ℕ) → at ≡ place_before hashes k o → cut at < suc k
+    by None e = omega (arith, ap cut e)
+    by (Some h) e = omega (arith, ap cut e, cut-most (λ (other : ℕ). other == h) (take k hashes), length-take k hashes)

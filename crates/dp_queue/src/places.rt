@@ -1,0 +1,100 @@
+//! Where the elements of a list stand by the hashes of their names. The places of one hash are a chain, the last of them
+//! first, so that a name is found without a walk over the list.
+ghost use Rattle.std.specs.Prelude.{◌≡◌, ◌++◌, ◌∷◌, [], OnOk, OnErr, slice_get};
+ghost use Rattle.dp_queue.specs.Places as spec;
+
+use dp_conf::NoMemory;
+use std::alloc::Global;
+use std::collections::HashMap;
+use std::hash::{FoldHasher, Hasher};
+use std::marker::Model;
+
+/// The hash of an element, and the last place before it of that hash.
+#[derive(Clone, Copy, Debug, PartialEq, Eq)]
+pub(crate) struct Link {
+    pub(crate) hash: u64,
+    pub(crate) before: Option<usize>,
+}
+
+/// The hashes of the elements of a list. A contract sees them in the order of the list.
+#[derive(Debug, Drop)]
+pub(crate) struct Places {
+    // The last place of each hash.
+    lasts: HashMap<u64, usize>,
+    links: Vec<Link>,
+}
+
+impl Model for Places {
+    ghost use Rattle.std.specs.Prelude.{ℕ, List};
+    ghost use Rattle.dp_queue.specs.Places.{hashes_of, AreLasts, AreChained};
+
+    ghost Value = { List ℕ };
+
+    ghost view = { λ places. hashes_of places.links.items };
+
+    ghost invariant = { λ places. AreLasts places.lasts (hashes_of places.links.items) × AreChained places.links.items };
+}
+
+/// The hash of a text.
+#[tactic(auto, unfolding(crate::specs::Places::text_hash))]
+pub(crate) fn text_hash(text: &[u8]) -> u64
+    ensures { result ≡ spec.text_hash text.now }
+{
+    let mut hasher = FoldHasher::default();
+    hasher.write(text);
+    hasher.finish()
+}
+
+/// The hash of a word, the same in each ASCII case.
+#[tactic(auto, unfolding(crate::specs::Places::word_hash))]
+pub(crate) fn word_hash(word: &[u8]) -> u64
+    ensures { result ≡ spec.word_hash word.now }
+{
+    let mut hasher = FoldHasher::default();
+    for letter in word {
+        hasher.write(&[letter.to_ascii_lowercase()]);
+    }
+    hasher.finish()
+}
+
+impl Places {
+    /// Of no elements. It takes no memory.
+    pub(crate) fn new(alloc: Global) -> Self
+        ensures { result ≡ [] }
+    {
+        Places {
+            lasts: HashMap::new(alloc),
+            links: Vec::new(alloc),
+        }
+    }
+
+    /// The last place of a hash.
+    pub(crate) fn last(&self, hash: u64) -> Option<usize>
+        ensures { result ≡ spec.last_place self.now hash }
+    {
+        self.lasts.get(&hash).copied()
+    }
+
+    /// The last place before this one of its hash.
+    pub(crate) fn before(&self, place: usize) -> Option<usize>
+        ensures { result ≡ spec.place_before self.now place (slice_get self.now place) }
+    {
+        match self.links.get(place) {
+            Some(link) => link.before,
+            None => None,
+        }
+    }
+
+    /// One more element, behind the others. After a refused growth all is as before.
+    pub(crate) fn push(&mut self, hash: u64) -> Result<(), NoMemory>
+        ensures ok { OnOk result (self.new ≡ self.old ++ hash ∷ []) }
+        ensures err { OnErr result (self.new ≡ self.old) }
+    {
+        let place = self.links.len();
+        let before = self.lasts.get(&hash).copied();
+        self.links.reserve(1)?;
+        self.lasts.insert(hash, place)?;
+        self.links.push(Link { hash, before }).unwrap();
+        Ok(())
+    }
+}

@@ -1,0 +1,223 @@
+//! Runs in threads, with the line that is printed of them and their histories, worked out by hand from the rules.
+use dp_board::Gate;
+use dp_board_rows::{Crossed, gate_of};
+use dp_commands::{PbxFault, run_threads};
+use dp_conf::{NoMemory, Told};
+use dp_machine::Reply;
+use dp_rows::{bytes_of, check_answer, check_heading};
+use std::alloc::Global;
+use std::process::Abort;
+use std::str;
+use std::sync::Wait;
+use std::test::Fail;
+use std::thread::Threads;
+
+/// A gate that holds nobody.
+struct Open;
+
+impl Gate for Open {
+    fn before(&self, _channel: u32, _turn: u64) {}
+
+    fn after(&self, _channel: u32, _reply: &Reply) {}
+}
+
+/// Worked cases. A case is how many threads there are, a dialplan that begins in `[main]` and a script, parted by `¦`; then an
+/// arrow, and what is printed with the status behind it.
+const ROWS: &str = r"
+# threads-run
+2¦exten => s,1,NoOp()¦start main s\nstart main s\nstep 1\nstep 2→settled 2 seats 2 calls\nstatus 0
+# One seat, and more seats than events.
+1¦exten => s,1,NoOp()¦start main s\nstart main s\nstep 1\nstep 2→settled 1 seats 2 calls\nstatus 0
+64¦exten => s,1,NoOp()¦start main s\nstep 1→settled 64 seats 1 calls\nstatus 0
+0¦exten => s,1,NoOp()¦start main s\nstep 1→settled 1 seats 1 calls\nstatus 0
+# No event behind the calls that come in first, and none at all.
+3¦exten => s,1,NoOp()¦start main s→settled 3 seats 0 calls\nstatus 0
+3¦¦→settled 3 seats 0 calls\nstatus 0
+# A `show` is passed over, and a call that comes in later is an event of a seat.
+2¦exten => s,1,NoOp()¦show 1 EXTEN\nstart main s\nshow 9 EXTEN\nstep 1 2\nstart main s→settled 2 seats 3 calls\nstatus 0
+# A line that is taken more than once has so many events.
+2¦exten => s,1,Goto(1)¦start main s\nstep 1 1000→settled 2 seats 1000 calls\nstatus 0
+# A refused event leaves the status 1, and so does a refused event that comes before any call.
+2¦exten => s,1,NoOp()¦start main s\nstep 1\nstep 2→settled 2 seats 2 calls\nstatus 1
+2¦exten => s,1,NoOp()¦step 1→settled 2 seats 1 calls\nstatus 1
+# Faults come as in a run without threads, and nothing is printed.
+2¦jump¦step→fault 4 NoEquals line 2
+2¦exten => s,1,NoOp()¦start main s\njump 1→fault 70 BadScript line 2
+";
+
+/// Adds what a run ends with: `status STATUS`, or its fault as it is printed.
+fn push_ending(out: &mut String, ended: Result<u8, PbxFault>) -> Result<(), NoMemory> {
+    match ended {
+        Ok(status) => write!(out, "status {status}"),
+        Err(
+            PbxFault::Coded {
+                code,
+                line: Some(line),
+            },
+        ) => write!(out, "fault {} {} line {line}", code.number(), code.name()),
+        Err(PbxFault::Coded { code, line: None }) => {
+            write!(out, "fault {} {}", code.number(), code.name())
+        }
+        Err(PbxFault::NoMemory) => out.push_str("fault out of memory"),
+    }
+}
+
+/// All that was written, and behind it what the run ended with.
+fn outcome(alloc: Global, ended: Result<u8, PbxFault>, written: &[u8]) -> Result<String, Fail> {
+    let mut out = String::from_str(alloc, str::from_utf8(written)?)?;
+    push_ending(&mut out, ended)?;
+    Ok(out)
+}
+
+/// Asserts what a run has written and what it ended with.
+fn check_outcome(
+    alloc: Global,
+    asked: &str,
+    ended: Result<u8, PbxFault>,
+    written: &[u8],
+    want: &str,
+) -> Result<(), Fail> {
+    let got = outcome(alloc, ended, written)?;
+    check_answer(alloc, asked, &got, want)
+}
+
+/// The status of a run of these texts, of which the history is let go.
+fn ended<R: Threads + Wait + Sync>(
+    rt: &R,
+    alloc: Global,
+    threads: u32,
+    plan: &[u8],
+    script: &[u8],
+    writer: &mut Told<Vec<u8>>,
+) -> Result<u8, PbxFault> {
+    let (status, _) = run_threads(rt, alloc, plan, None, script, threads, &Open, writer)?;
+    Ok(status)
+}
+
+/// What a run in threads prints, and what it ends with.
+fn check_shared<R: Threads + Wait + Sync>(
+    rt: &R,
+    alloc: Global,
+    threads: u32,
+    plan: &str,
+    script: &str,
+    want: &str,
+) -> Result<(), Fail> {
+    let text = format!(in alloc; "[main]\\n{plan}")?;
+    let text = bytes_of(alloc, &text)?;
+    let events = bytes_of(alloc, script)?;
+    let mut writer = Told::new(Vec::new(alloc));
+    let ended = ended(rt, alloc, threads, &text, &events, &mut writer);
+    check_outcome(alloc, script, ended, &writer.into_inner(), want)
+}
+
+fn check_row<R: Threads + Wait + Sync>(
+    rt: &R,
+    alloc: Global,
+    asked: &str,
+    want: &str,
+) -> Result<(), Fail> {
+    let (threads, rest) = asked.split_once('¦').ok_or("no threads")?;
+    let (plan, script) = rest.split_once('¦').ok_or("no script")?;
+    let threads: u32 = threads.parse().ok().ok_or("no number")?;
+    check_shared(rt, alloc, threads, plan, script, want)
+}
+
+/// Runs of scripts in threads.
+#[test]
+fn scripts_run_in_threads_so(rt: HostRuntime) -> Result<(), Fail> {
+    for line in ROWS.lines() {
+        match line.split_once('→') {
+            Some((asked, want)) => check_row(&rt, rt.alloc(), asked, want)?,
+            None => check_heading(line)?,
+        }
+    }
+    Ok(())
+}
+
+/// The dialplan of all cases of gates.
+const GATED_PLAN: &[u8] = b"[main]\nexten => s,1,NoOp()\n";
+
+/// Cases of the gate of a run, behind two calls to `s`, which has one priority. A case is how many threads there are, the channel that is
+/// held until the other has had its turns, or 0, and the events behind the calls, parted by `¦`; then an arrow, what is printed with the
+/// status behind it, and of channel 1 and of channel 2 the turn and the reply of each of its events, parted by `¦` too.
+const GATED: &str = r"
+# One seat has all turns.
+1¦0¦step 1\nstep 2\nstep 1\nstep 2→settled 1 seats 4 calls\nstatus 0¦0 ran 2 none¦1 ran 3 none
+1¦0¦step 2\nstep 2 2\nstep 1→settled 1 seats 4 calls\nstatus 1¦3 ran¦0 ran 1 none 2 refused
+# Each of two seats counts its own turns, and acts while the other is held.
+2¦1¦step 1\nstep 2→settled 2 seats 2 calls\nstatus 0¦0 ran¦0 ran
+2¦2¦step 1\nstep 2→settled 2 seats 2 calls\nstatus 0¦0 ran¦0 ran
+2¦1¦step 1\nstep 2\nstep 1\nstep 2→settled 2 seats 4 calls\nstatus 0¦0 ran 1 none¦0 ran 1 none
+2¦2¦step 1\nstep 2\nstep 1\nstep 2→settled 2 seats 4 calls\nstatus 0¦0 ran 1 none¦0 ran 1 none
+# A seat with no event is not called.
+3¦1¦step 1\nstep 2→settled 3 seats 2 calls\nstatus 0¦0 ran¦0 ran
+";
+
+/// The status of a run of these events through the gate, which was called as it should be.
+fn gated<R: Threads + Wait + Abort + Sync>(
+    rt: &R,
+    alloc: Global,
+    threads: u32,
+    events: &str,
+    script: &[u8],
+    gate: &Crossed,
+    writer: &mut Told<Vec<u8>>,
+) -> Result<u8, PbxFault> {
+    match run_threads(rt, alloc, GATED_PLAN, None, script, threads, gate, writer) {
+        Ok((status, history)) => {
+            assert!(rt;
+                gate.fits(history.entries()),
+                "the gate of {events} in {threads} threads"
+            );
+            Ok(status)
+        }
+        Err(fault) => Err(fault),
+    }
+}
+
+fn check_gated<R: Threads + Wait + Abort + Sync>(
+    rt: &R,
+    alloc: Global,
+    threads: u32,
+    events: &str,
+    gate: &Crossed,
+    want: &str,
+) -> Result<(), Fail> {
+    let text = format!(in alloc; "start main s\\nstart main s\\n{events}")?;
+    let script = bytes_of(alloc, &text)?;
+    let mut writer = Told::new(Vec::new(alloc));
+    let ended = gated(rt, alloc, threads, events, &script, gate, &mut writer);
+    check_outcome(alloc, events, ended, &writer.into_inner(), want)
+}
+
+fn check_gate<R: Threads + Wait + Abort + Sync>(
+    rt: &R,
+    alloc: Global,
+    asked: &str,
+    want: &'static str,
+) -> Result<(), Fail> {
+    let (threads, rest) = asked.split_once('¦').ok_or("no threads")?;
+    let (held, events) = rest.split_once('¦').ok_or("no channel")?;
+    let (printed, calls) = want.split_once('¦').ok_or("no calls")?;
+    let (first, second) = calls.split_once('¦').ok_or("no two channels")?;
+    let threads: u32 = threads.parse().ok().ok_or("no number")?;
+    let gate = match held {
+        "1" => gate_of(1, 2, first, second),
+        "2" => gate_of(2, 1, first, second),
+        _ => gate_of(0, 0, first, second),
+    };
+    check_gated(rt, alloc, threads, events, &gate, printed)
+}
+
+/// The gate is called round each event, with the turns of its seat, and the seats act at once.
+#[test]
+fn gates_are_called_so(rt: HostRuntime) -> Result<(), Fail> {
+    for line in GATED.lines() {
+        match line.split_once('→') {
+            Some((asked, want)) => check_gate(&rt, rt.alloc(), asked, want)?,
+            None => check_heading(line)?,
+        }
+    }
+    Ok(())
+}

@@ -1,0 +1,135 @@
+-- The bindings of a name at depths that fall.
+use Rattle.std.proofs.Common.{◌≡◌, ◌≢◌, ◌<◌, ◌≤◌, ◌⊎◌, inl, inr, ℕ, suc, Bool, true, false, cond, eqb, List, [], ◌∷◌, Option, Some, None, refl, sym, ap, subst, ◌∙◌, true≢false, arith}
+use Rattle.std.proofs.lemmas.Bool.Decides.{eqb_tells}
+use Rattle.dp_vars.specs.Bindings.{Falls, bound, bound_below, depth_of, find, rebound, restored, unbound}
+use Rattle.dp_vars.specs.declared.stack.Binding.{Binding}
+
+-- depths that differ are told apart
+pub other : (m n : ℕ) → m ≢ n → eqb m n ≡ false
+other m n differ = by (eqb_tells m n)
+  where
+    by : ((eqb m n ≡ true) × (m ≡ n)) ⊎ ((eqb m n ≡ false) × (m ≢ n)) → eqb m n ≡ false
+    by (inl p) = absurd (differ p.1)
+    by (inr p) = p.0
+
+-- what is unbound at a depth stays at each other
+pub find-unbound : (d e : ℕ) (bs : List Binding) → e ≢ d → find e (unbound d bs) ≡ find e bs
+find-unbound d e [] differ = refl
+find-unbound d e (b ∷ bs) differ = by (eqb_tells b.depth d)
+  where
+    by : ((eqb b.depth d ≡ true) × (b.depth ≡ d)) ⊎ ((eqb b.depth d ≡ false) × (b.depth ≢ d))
+        → find e (cond (eqb b.depth d) bs (b ∷ bs)) ≡ find e (b ∷ bs)
+    by (inl p) =
+        ap (λ c. find e (cond c bs (b ∷ bs))) p.0
+        ∙ ap (λ c. cond c (Some b.value) (find e bs)) (sym (other b.depth e (λ is. differ (sym is ∙ p.1))))
+    by (inr p) = ap (λ c. find e (cond c bs (b ∷ bs))) p.0
+
+-- what is bound at a depth is found there
+pub find-bound : (d e : ℕ) (value : List ℕ) (bs : List Binding) → find e (bound d value bs) ≡ cond (eqb d e) (Some value) (find e bs)
+find-bound d e value bs = by (eqb_tells d e)
+  where
+    by : ((eqb d e ≡ true) × (d ≡ e)) ⊎ ((eqb d e ≡ false) × (d ≢ e))
+        → cond (eqb d e) (Some value) (find e (unbound d bs)) ≡ cond (eqb d e) (Some value) (find e bs)
+    by (inl p) =
+        ap (λ c. cond c (Some value) (find e (unbound d bs))) p.0
+        ∙ sym (ap (λ c. cond c (Some value) (find e bs)) p.0)
+    by (inr p) = ap (cond (eqb d e) (Some value)) (find-unbound d e bs (λ is. p.1 (sym is)))
+
+-- nothing is bound above where the depths fall from
+pub find-none : (limit e : ℕ) (bs : List Binding) → Falls limit bs → limit ≤ e → find e bs ≡ None
+find-none limit e [] falls above = refl
+find-none limit e (b ∷ bs) falls above =
+    ap (λ c. cond c (Some b.value) (find e bs)) (other b.depth e (λ is. omega (arith, falls.0)))
+    ∙ find-none b.depth e bs falls.1 (omega (arith, falls.0))
+
+-- the innermost is below where the depths fall from
+pub depth_of_below : (limit : ℕ) (bs : List Binding) → Falls limit bs → 0 < limit → depth_of bs < limit
+depth_of_below limit [] falls some = some
+depth_of_below limit (b ∷ bs) falls some = falls.0
+
+swapped : {A : Type 0} (a b : Bool) (x y z : A) → (a ≡ true → b ≡ false) → cond a x (cond b y z) ≡ cond b y (cond a x z)
+swapped true true x y z apart = ap (λ c. cond c y x) (sym (apart refl))
+swapped true false x y z apart = refl
+swapped false b x y z apart = refl
+
+-- a depth that is one is not another below it
+apart : (m n e : ℕ) → m < n → eqb n e ≡ true → eqb m e ≡ false
+apart m n e below is = by (eqb_tells n e)
+  where
+    by : ((eqb n e ≡ true) × (n ≡ e)) ⊎ ((eqb n e ≡ false) × (n ≢ e)) → eqb m e ≡ false
+    by (inl p) = other m e (λ same. omega (arith, p.1))
+    by (inr p) = absurd (true≢false (sym is ∙ p.0))
+
+-- what is bound below a depth
+pub find-bound_below : (limit d e : ℕ) (value : List ℕ) (bs : List Binding) → Falls limit bs → 0 < d
+    → find e (bound_below d value bs) ≡ cond (eqb (depth_of (unbound d bs)) e) (Some value) (find e bs)
+find-bound_below limit d e value [] falls some = refl
+find-bound_below limit d e value (b ∷ bs) falls some = by (eqb_tells b.depth d)
+  where
+    by : ((eqb b.depth d ≡ true) × (b.depth ≡ d)) ⊎ ((eqb b.depth d ≡ false) × (b.depth ≢ d))
+        → find e (cond (eqb b.depth d) (b ∷ rebound value bs) (rebound value (b ∷ bs)))
+        ≡ cond (eqb (depth_of (cond (eqb b.depth d) bs (b ∷ bs))) e) (Some value) (find e (b ∷ bs))
+    by (inl p) =
+        let below : depth_of bs < b.depth = depth_of_below b.depth bs falls.1 (omega (arith, p.1)) in
+        let differ : eqb b.depth e ≡ true → eqb (depth_of bs) e ≡ false = apart (depth_of bs) b.depth e below in
+        ap (λ c. find e (cond c (b ∷ rebound value bs) (rebound value (b ∷ bs)))) p.0
+        ∙ ap (cond (eqb b.depth e) (Some b.value)) (find-bound (depth_of bs) e value bs)
+        ∙ swapped (eqb b.depth e) (eqb (depth_of bs) e) (Some b.value) (Some value) (find e bs) differ
+        ∙ ap (λ c. cond (eqb (depth_of (cond c bs (b ∷ bs))) e) (Some value) (find e (b ∷ bs))) (sym p.0)
+    by (inr p) =
+        ap (λ c. find e (cond c (b ∷ rebound value bs) (rebound value (b ∷ bs)))) p.0
+        ∙ find-bound b.depth e value (b ∷ bs)
+        ∙ ap (λ c. cond (eqb (depth_of (cond c bs (b ∷ bs))) e) (Some value) (find e (b ∷ bs))) (sym p.0)
+
+-- what is restored stands at the depth of the innermost
+pub find-restored : (e : ℕ) (o : Option (List ℕ)) (b : Binding) (bs : List Binding) → Falls b.depth bs
+    → find e (restored o (b ∷ bs)) ≡ cond (eqb b.depth e) o (find e (b ∷ bs))
+find-restored e o b bs falls = by (eqb_tells b.depth e) o
+  where
+    by : ((eqb b.depth e ≡ true) × (b.depth ≡ e)) ⊎ ((eqb b.depth e ≡ false) × (b.depth ≢ e)) → (o : Option (List ℕ))
+        → find e (restored o (b ∷ bs)) ≡ cond (eqb b.depth e) o (find e (b ∷ bs))
+    by (inl p) None =
+        find-none b.depth e bs falls (omega (arith, p.1)) ∙ ap (λ c. cond c None (find e (b ∷ bs))) (sym p.0)
+    by (inr p) None =
+        ap (λ c. cond c (Some b.value) (find e bs)) (sym p.0) ∙ ap (λ c. cond c None (find e (b ∷ bs))) (sym p.0)
+    by (inl p) (Some value) =
+        ap (λ c. cond c (Some value) (find e bs)) p.0 ∙ ap (λ c. cond c (Some value) (find e (b ∷ bs))) (sym p.0)
+    by (inr p) (Some value) =
+        ap (λ c. cond c (Some value) (find e bs)) p.0 ∙ ap (λ c. cond c (Some b.value) (find e bs)) (sym p.0)
+        ∙ ap (λ c. cond c (Some value) (find e (b ∷ bs))) (sym p.0)
+
+-- depths fall from further in too
+pub falls_under : (m n : ℕ) (bs : List Binding) → m ≤ n → Falls m bs → Falls n bs
+falls_under m n [] below falls = tt
+falls_under m n (b ∷ bs) below falls = ((omega (arith, falls.0)), falls.1)
+
+pub falls-unbound : (d : ℕ) (bs : List Binding) → Falls (suc d) bs → Falls d (unbound d bs)
+falls-unbound d [] falls = tt
+falls-unbound d (b ∷ bs) falls = by (eqb_tells b.depth d)
+  where
+    by : ((eqb b.depth d ≡ true) × (b.depth ≡ d)) ⊎ ((eqb b.depth d ≡ false) × (b.depth ≢ d)) → Falls d (cond (eqb b.depth d) bs (b ∷ bs))
+    by (inl p) = subst (λ c. Falls d (cond c bs (b ∷ bs))) (sym p.0) (falls_under b.depth d bs (omega (arith, p.1)) falls.1)
+    by (inr p) = subst (λ c. Falls d (cond c bs (b ∷ bs))) (sym p.0) ((omega (arith, p.1, falls.0)), falls.1)
+
+pub falls-bound : (d : ℕ) (value : List ℕ) (bs : List Binding) → Falls (suc d) bs → Falls (suc d) (bound d value bs)
+falls-bound d value bs falls = ((omega arith), falls-unbound d bs falls)
+
+pub falls-rebound : (limit : ℕ) (value : List ℕ) (bs : List Binding) → 0 < limit → Falls limit bs → Falls limit (rebound value bs)
+falls-rebound limit value [] some falls = (some, tt)
+falls-rebound limit value (b ∷ bs) some falls = (falls.0, falls-unbound b.depth (b ∷ bs) ((omega arith), falls.1))
+
+pub falls-bound_below : (limit d : ℕ) (value : List ℕ) (bs : List Binding) → 0 < limit → 0 < d → Falls limit bs → Falls limit (bound_below d value bs)
+falls-bound_below limit d value [] some deep falls = (some, tt)
+falls-bound_below limit d value (b ∷ bs) some deep falls = by (eqb_tells b.depth d)
+  where
+    by : ((eqb b.depth d ≡ true) × (b.depth ≡ d)) ⊎ ((eqb b.depth d ≡ false) × (b.depth ≢ d))
+        → Falls limit (cond (eqb b.depth d) (b ∷ rebound value bs) (rebound value (b ∷ bs)))
+    by (inl p) = subst (λ c. Falls limit (cond c (b ∷ rebound value bs) (rebound value (b ∷ bs)))) (sym p.0)
+        (falls.0, falls-rebound b.depth value bs (omega (arith, p.1)) falls.1)
+    by (inr p) = subst (λ c. Falls limit (cond c (b ∷ rebound value bs) (rebound value (b ∷ bs)))) (sym p.0)
+        (falls-rebound limit value (b ∷ bs) some falls)
+
+pub falls-restored : (limit : ℕ) (o : Option (List ℕ)) (bs : List Binding) → Falls limit bs → Falls limit (restored o bs)
+falls-restored limit o [] falls = tt
+falls-restored limit None (b ∷ bs) falls = falls_under b.depth limit bs (omega (arith, falls.0)) falls.1
+falls-restored limit (Some value) (b ∷ bs) falls = (falls.0, falls.1)

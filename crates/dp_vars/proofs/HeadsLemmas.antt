@@ -1,0 +1,190 @@
+-- What is known of a body that holds no group comes to the value of that body.
+use Rattle.std.proofs.Common.{◌≡◌, ◌≤◌, ◌<◌, ◌+◌, ◌-◌, ◌^◌, ◌==◌, ℕ, zero, suc, Bool, true, false, cond, List, [], ◌∷◌, ◌++◌, Option, Some, None, length, take, drop, min, append_assoc, refl, sym, ap, subst, ◌∙◌, arith, nat_lt, ⊎_elim}
+use Rattle.std.specs.Option.{option_map_or}
+use Rattle.std.specs.List.{position_or_len, before_first, after_first}
+use Rattle.std.proofs.Math.Seq.{take-append_seam, drop-append-add}
+use Rattle.std.proofs.lemmas.Bool.{ltb-true, ltb-false}
+use Rattle.std.proofs.lemmas.Bool.Decides.{leb_tells}
+use Rattle.std.proofs.lemmas.List.{drop-drop, drop-take, drop_all, take_min, drop_min, length-take, length-drop}
+use Rattle.dp_conf.specs.Cut.{before_last, cut_once}
+use Rattle.dp_conf.specs.Levels.{cut_after, cut_outside, stands_outside}
+use Rattle.dp_conf.specs.declared.groups.GroupKind.TheVariants.{Braces}
+use Rattle.dp_vars.specs.Far.{asked_at_most}
+use Rattle.dp_vars.specs.Heads.{head_seen, part_seen}
+use Rattle.dp_vars.specs.Parts.{asked_of, part}
+use Rattle.dp_vars.specs.Sights.{Sight}
+use Rattle.dp_vars.specs.Spans.{spanned, front_of, behind_of}
+use Rattle.dp_vars.specs.Values.{called, head_by, head_value, body_by, group_value, function_of, function_value}
+use Rattle.dp_vars.specs.declared.head.Cut.{Cut}
+use Rattle.dp_vars.specs.declared.head.Head.{Head}
+use Rattle.dp_vars.specs.declared.head.Head.TheVariants.{Call}
+use Rattle.dp_vars.specs.declared.value.Function.{Function}
+use Rattle.dp_vars.specs.declared.span.Span.{Span}
+use Rattle.dp_vars.proofs.PartsLemmas.{part-at_most}
+
+-- ---- parts of what stands at a place
+
+take-take_min : (m n : ℕ) (xs : List ℕ) → take m (take n xs) ≡ take (min m n) xs
+take-take_min zero n xs = let none : 0 ≡ min 0 n = omega arith in ap (λ k. take k xs) none
+take-take_min (suc m) zero xs = let none : 0 ≡ min (suc m) 0 = omega arith in ap (λ k. take k xs) none
+take-take_min (suc m) (suc n) [] = let more : suc (min m n) ≡ min (suc m) (suc n) = omega arith in ap (λ k. take k []) more
+take-take_min (suc m) (suc n) (x ∷ xs) =
+    let more : suc (min m n) ≡ min (suc m) (suc n) = omega arith in
+    ap (λ bytes. x ∷ bytes) (take-take_min m n xs) ∙ ap (λ k. take k (x ∷ xs)) more
+
+pub spanned-front : (text : List ℕ) (span : Span) (size : ℕ) → spanned text (front_of span size) ≡ take size (spanned text span)
+spanned-front text span size =
+    let sizes : min span.to (span.from + size) - span.from ≡ min size (span.to - span.from) = omega arith in
+    ap (λ n. take n (drop span.from text)) sizes ∙ sym (take-take_min size (span.to - span.from) (drop span.from text))
+
+spanned-within : (text : List ℕ) (span : Span) (size : ℕ) → span.from + size ≤ span.to → spanned text (behind_of span size) ≡ drop size (spanned text span)
+spanned-within text span size within =
+    let place : min span.to (span.from + size) ≡ span.from + size = omega arith in
+    let sizes : span.to - span.from ≡ size + (span.to - (span.from + size)) = omega arith in
+    ap (λ k. take (span.to - k) (drop k text)) place
+    ∙ ap (take (span.to - (span.from + size))) (sym (drop-drop size span.from text))
+    ∙ sym (drop-take size (span.to - (span.from + size)) (drop span.from text))
+    ∙ ap (λ n. drop size (take n (drop span.from text))) (sym sizes)
+
+spanned-past : (text : List ℕ) (span : Span) (size : ℕ) → span.to < span.from + size → spanned text (behind_of span size) ≡ drop size (spanned text span)
+spanned-past text span size past =
+    let none : span.to - min span.to (span.from + size) ≡ 0 = omega arith in
+    ap (λ n. take n (drop (min span.to (span.from + size)) text)) none
+    ∙ sym (drop_all size (spanned text span) (omega (arith, length-take (span.to - span.from) (drop span.from text))))
+
+pub spanned-behind : (text : List ℕ) (span : Span) (size : ℕ) → spanned text (behind_of span size) ≡ drop size (spanned text span)
+spanned-behind text span size =
+    ⊎_elim (λ t. spanned-within text span size t.1) (λ t. spanned-past text span size t.1) (leb_tells (span.from + size) span.to)
+
+-- ---- what a text is cut into stands at its front and at its end
+
+pub record IsCutOf (text head tail : List ℕ) : Type 0 where
+  pub front : take (length head) text ≡ head
+  pub back : drop (length text - length tail) text ≡ tail
+
+front_kept : (text head : List ℕ) (n : ℕ) → take n text ≡ head → take (length head) text ≡ head
+front_kept text head n is =
+    ap (λ k. take k text) (sym (ap length is) ∙ length-take n text) ∙ take_min n text ∙ is
+
+back_kept : (text tail : List ℕ) (n : ℕ) → drop n text ≡ tail → drop (length text - length tail) text ≡ tail
+back_kept text tail n is =
+    let size : length tail ≡ length text - n = sym (ap length is) ∙ length-drop n text in
+    let place : length text - length tail ≡ min n (length text) = omega arith in
+    ap (λ k. drop k text) place ∙ drop_min n text ∙ is
+
+same_cut : (before behind head tail : List ℕ) → (let cut : Option (List ℕ × List ℕ) = Some (before, behind) in cut ≡ Some (head, tail)) → (before ≡ head) × (behind ≡ tail)
+same_cut before behind head tail e =
+    let pair : (let p : List ℕ × List ℕ = (before, behind) in p ≡ (head, tail)) = cc in
+    (ap (λ (p : List ℕ × List ℕ). p.0) pair, ap (λ (p : List ℕ × List ℕ). p.1) pair)
+
+pub cut_once-parts : (byte : ℕ) (text head tail : List ℕ) → cut_once byte text ≡ Some (head, tail) → IsCutOf text head tail
+cut_once-parts byte text head tail is = by (nat_lt place (length text)) is
+  where
+    place : ℕ
+    place = position_or_len (λ b. b == byte) text
+
+    by : (t : Bool)
+        → (let cut : Option (List ℕ × List ℕ) = cond t (Some (before_first (λ b. b == byte) text, after_first (λ b. b == byte) text)) None in cut ≡ Some (head, tail))
+        → IsCutOf text head tail
+    by true e =
+        let same = same_cut (before_first (λ b. b == byte) text) (after_first (λ b. b == byte) text) head tail e in
+        record { front = front_kept text head place same.0; back = back_kept text tail (place + 1) same.1 }
+    by false e = cc
+
+cut_after-parts : (cuts : List ℕ → ℕ → Bool) (before xs head tail : List ℕ) → cut_after cuts before xs ≡ Some (head, tail) → IsCutOf (before ++ xs) head tail
+cut_after-parts cuts before [] head tail is = cc
+cut_after-parts cuts before (x ∷ xs) head tail is = by (cuts before x) (cut_after-parts cuts (before ++ x ∷ []) xs head tail) is
+  where
+    by : (t : Bool) → (cut_after cuts (before ++ x ∷ []) xs ≡ Some (head, tail) → IsCutOf ((before ++ x ∷ []) ++ xs) head tail)
+        → cond t (Some (before, xs)) (cut_after cuts (before ++ x ∷ []) xs) ≡ Some (head, tail) → IsCutOf (before ++ x ∷ xs) head tail
+    by true behind e = let same = same_cut before xs head tail e in record {
+      front = front_kept (before ++ x ∷ xs) head (length before) (take-append_seam before (x ∷ xs) ∙ same.0);
+      back = back_kept (before ++ x ∷ xs) tail (length before + 1) (drop-append-add before (x ∷ xs) 1 ∙ same.1);
+    }
+    by false behind e = subst (λ text. IsCutOf text head tail) (append_assoc before (x ∷ []) xs) (behind e)
+
+pub cut_outside-parts : (byte : ℕ) (text head tail : List ℕ) → cut_outside byte text ≡ Some (head, tail) → IsCutOf text head tail
+unfolding cut_outside
+cut_outside-parts byte text head tail is = cut_after-parts (stands_outside byte) [] text head tail is
+
+pub before_last-front : (byte : ℕ) (text front : List ℕ) → before_last byte text ≡ Some front → take (length front) text ≡ front
+before_last-front byte [] front is = cc
+before_last-front byte (b ∷ bs) front is = by (before_last byte bs) (before_last-front byte bs) is
+  where
+    here : (t : Bool) → (let cut : Option (List ℕ) = cond t (Some []) None in cut ≡ Some front) → take (length front) (b ∷ bs) ≡ front
+    here true e = let same : [] ≡ front = cc in front_kept (b ∷ bs) front 0 same
+    here false e = cc
+
+    by : (o : Option (List ℕ)) → ((f : List ℕ) → o ≡ Some f → take (length f) bs ≡ f)
+        → option_map_or (λ f. Some (b ∷ f)) o (cond (b == byte) (Some []) None) ≡ Some front → take (length front) (b ∷ bs) ≡ front
+    by None behind e = here (b == byte) e
+    by (Some f) behind e =
+        let same : b ∷ f ≡ front = cc in
+        front_kept (b ∷ bs) front (suc (length f)) (ap (λ bytes. b ∷ bytes) (behind f refl) ∙ same)
+
+-- ---- heads
+
+module _ (sight : Sight) (text : List ℕ) where
+  -- a function, by its name and by what stands behind the `(`
+  pub call-seen : (function : Function) (name argument : List ℕ) (behind : Span) → Some function ≡ function_of name
+      → Some argument ≡ before_last 41 (spanned text behind)
+      → head_seen sight text (Call function (front_of behind (length argument))) ≡ called sight name (before_last 41 (spanned text behind))
+  call-seen function name argument behind function_is argument_is =
+      ap (function_value sight (Some function))
+      (spanned-front text behind (length argument) ∙ before_last-front 41 (spanned text behind) argument (sym argument_is))
+      ∙ ap (λ f. function_value sight f argument) function_is
+      ∙ ap (called sight name) argument_is
+
+  pub name-seen : (place : Span) → cut_once 40 (spanned text place) ≡ None → sight.variable (spanned text place) ≡ head_value sight (spanned text place)
+  unfolding head_value
+  name-seen place none = ap (head_by sight (spanned text place)) (sym none)
+
+  pub head-seen : (place : Span) (name behind : List ℕ) (head : Head) → cut_once 40 (spanned text place) ≡ Some (name, behind)
+      → head_seen sight text head ≡ called sight name (before_last 41 (spanned text (behind_of place (length (spanned text place) - length behind))))
+      → head_seen sight text head ≡ head_value sight (spanned text place)
+  unfolding head_value
+  head-seen place name behind head cut is =
+      is ∙ ap (λ bytes. called sight name (before_last 41 bytes))
+      (spanned-behind text place (length (spanned text place) - length behind) ∙ (cut_once-parts 40 (spanned text place) name behind cut).back)
+      ∙ ap (head_by sight (spanned text place)) (sym cut)
+
+-- ---- parts
+
+-- 64 bits hold the length of a value
+pub part_seen-small : (text : List ℕ) (cut : Cut) (value : List ℕ) → length value < 2 ^ 64 → part_seen text cut value ≡ part cut.asked value
+part_seen-small text cut value small = by (nat_lt (length value) (2 ^ 64)) refl
+  where
+    by : (t : Bool) → nat_lt (length value) (2 ^ 64) ≡ t
+        → cond t (part cut.asked value) (part (asked_of (Some (spanned text cut.tail))) value) ≡ part cut.asked value
+    by true is = refl
+    by false is = absurd (omega (arith, ltb-false (length value) (2 ^ 64) is))
+
+part_seen-asked : (text : List ℕ) (cut : Cut) (tail value : List ℕ) → spanned text cut.tail ≡ tail → cut.asked ≡ asked_at_most (asked_of (Some tail))
+    → part_seen text cut value ≡ part (asked_of (Some tail)) value
+part_seen-asked text cut tail value tail_is asked_is = by (nat_lt (length value) (2 ^ 64)) refl
+  where
+    by : (t : Bool) → nat_lt (length value) (2 ^ 64) ≡ t
+        → cond t (part cut.asked value) (part (asked_of (Some (spanned text cut.tail))) value) ≡ part (asked_of (Some tail)) value
+    by true is = ap (λ asked. part asked value) asked_is ∙ part-at_most (asked_of (Some tail)) value (ltb-true (length value) (2 ^ 64) is)
+    by false is = ap (λ bytes. part (asked_of (Some bytes)) value) tail_is
+
+module _ (sight : Sight) (text : List ℕ) where
+  -- a body that asks for no part
+  pub full-seen : (place : Span) (head : Head) → cut_outside 58 (spanned text place) ≡ None
+      → head_seen sight text head ≡ head_value sight (spanned text place) → head_seen sight text head ≡ group_value sight Braces (spanned text place)
+  unfolding group_value
+  full-seen place head none is = is ∙ ap (body_by sight (spanned text place)) (sym none)
+
+  -- a body that asks for a part
+  pub part-seen : (place : Span) (head tail : List ℕ) (cut : Cut) → cut_outside 58 (spanned text place) ≡ Some (head, tail)
+      → head_seen sight text cut.head ≡ head_value sight (spanned text (front_of place (length head)))
+      → cut.tail ≡ behind_of place (length (spanned text place) - length tail)
+      → cut.asked ≡ asked_at_most (asked_of (Some tail))
+      → part_seen text cut (head_seen sight text cut.head) ≡ group_value sight Braces (spanned text place)
+  unfolding group_value
+  part-seen place head tail cut cut_is head_is tail_is asked_is =
+      let parts = cut_outside-parts 58 (spanned text place) head tail cut_is in
+      part_seen-asked text cut tail (head_seen sight text cut.head)
+      (ap (spanned text) tail_is ∙ spanned-behind text place (length (spanned text place) - length tail) ∙ parts.back) asked_is
+      ∙ ap (part (asked_of (Some tail))) (head_is ∙ ap (head_value sight) (spanned-front text place (length head) ∙ parts.front))
+      ∙ ap (body_by sight (spanned text place)) (sym cut_is)

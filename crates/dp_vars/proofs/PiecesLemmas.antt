@@ -1,0 +1,254 @@
+-- The pieces of a text, and what is still to be read of it, come to the expansion of the whole.
+use Rattle.std.proofs.Common.{◌≡◌, ◌≤◌, ◌+◌, ◌-◌, ℕ, zero, suc, Bool, true, false, cond, List, [], ◌∷◌, ◌++◌, Some, length, take, drop, fold, reverse, length-append, append_assoc, refl, sym, ap, subst, ◌∙◌, arith, nat_lt}
+use Rattle.std.proofs.lemmas.Bool.{ltb-false}
+use Rattle.std.proofs.lemmas.List.{append-nil, drop-drop, drop_at, reverse-append, take_rest}
+use Rattle.dp_conf.proofs.GroupsLemmas.{levels-printed, levels-last, printed_levels}
+use Rattle.dp_conf.specs.declared.groups.GroupKind.{GroupKind}
+use Rattle.dp_conf.specs.declared.groups.Mark.{Mark}
+use Rattle.dp_conf.specs.declared.groups.Mark.TheVariants.{End, Opening, Byte}
+use Rattle.dp_conf.specs.Groups.{opener, closer, printed, Over}
+use Rattle.dp_conf.specs.GroupsRead.{Levels, Last, Within, with_byte, with_opening, with_mark, levels, outer_of, reading_of}
+use Rattle.dp_vars.specs.Expanding.{Written, kinds_of, AreWritten, closed, after}
+use Rattle.dp_vars.specs.Heads.{head_seen, part_seen}
+use Rattle.dp_vars.specs.Pieces.{with_bytes, past, blank, past_all, ReadSoFar, past_last, written_in, waiting_after, StandsBehind, GoesBehind, with_run}
+use Rattle.dp_vars.specs.Sights.{Sight}
+use Rattle.dp_vars.specs.Spans.{span_at, spanned}
+use Rattle.dp_vars.specs.Values.{expansion, function_value, group_value}
+use Rattle.dp_vars.specs.declared.expanding.Waiting.{Waiting}
+use Rattle.dp_vars.specs.declared.piece.Piece.{Piece}
+use Rattle.dp_vars.specs.declared.piece.Piece.TheVariants.{Run, Name, Call, Part, Known, Empty, Begins, Ends}
+use Rattle.dp_vars.specs.declared.span.Span.{Span}
+use Rattle.dp_vars.proofs.ExpandingLemmas.{come, come-mark, come-over, come-text, value_at_end, StandIn-more, AreWritten-after}
+
+-- ---- what stands at a mark
+
+-- the bytes of a mark inside of these groups
+abbrev pub mark_bytes : Mark → List GroupKind → List ℕ
+mark_bytes (Byte byte) kinds = byte ∷ []
+mark_bytes (Opening kind) kinds = 36 ∷ opener kind ∷ []
+mark_bytes End [] = []
+mark_bytes End (kind ∷ kinds) = closer kind ∷ []
+
+byte-printed : (kinds : List GroupKind) (byte : ℕ) (l : Levels) → printed_levels kinds (with_byte byte l) ≡ byte ∷ printed_levels kinds l
+unfolding printed
+byte-printed kinds byte (Last rest) = refl
+byte-printed [] byte (Within rest outer) = refl
+byte-printed (kind ∷ kinds) byte (Within rest outer) = refl
+
+opening-printed : (kinds : List GroupKind) (kind : GroupKind) (l : Levels)
+    → printed_levels kinds (with_opening kind l) ≡ 36 ∷ opener kind ∷ printed_levels (kind ∷ kinds) l
+unfolding printed
+opening-printed kinds kind (Last rest) = refl
+opening-printed kinds kind (Within inside (Last rest)) = refl
+opening-printed [] kind (Within inside (Within rest outer)) = refl
+opening-printed (k ∷ kinds) kind (Within inside (Within rest outer)) =
+    ap (λ bytes. 36 ∷ opener kind ∷ bytes) (append_assoc (printed inside) (closer kind ∷ printed rest) (closer k ∷ printed_levels kinds outer))
+
+-- outside of groups nothing ends
+no_end : (rest behind : List ℕ) → levels rest [] 0 ≡ with_mark End (levels behind) 0 [] → ⊥
+no_end rest behind is = let both : Last (reading_of rest) ≡ Within Over (levels behind [] 0) = sym (levels-last rest) ∙ is in cc
+
+-- a text begins with the bytes of its first mark
+pub text-mark : (m : Mark) (kinds : List GroupKind) (rest behind : List ℕ) → levels rest kinds 0 ≡ with_mark m (levels behind) 0 kinds
+    → rest ≡ mark_bytes m kinds ++ behind
+unfolding printed
+text-mark (Byte byte) kinds rest behind is =
+    sym (levels-printed rest kinds 0) ∙ ap (printed_levels kinds) is ∙ byte-printed kinds byte (levels behind kinds 0)
+    ∙ ap (λ bytes. byte ∷ bytes) (levels-printed behind kinds 0)
+text-mark (Opening kind) kinds rest behind is =
+    sym (levels-printed rest kinds 0) ∙ ap (printed_levels kinds) is ∙ opening-printed kinds kind (levels behind (kind ∷ kinds) 0)
+    ∙ ap (λ bytes. 36 ∷ opener kind ∷ bytes) (levels-printed behind (kind ∷ kinds) 0)
+text-mark End [] rest behind is = absurd (no_end rest behind is)
+text-mark End (kind ∷ kinds) rest behind is =
+    sym (levels-printed rest (kind ∷ kinds) 0) ∙ ap (printed_levels (kind ∷ kinds)) is ∙ ap (λ bytes. closer kind ∷ bytes) (levels-printed behind kinds 0)
+
+-- ---- plain bytes
+
+take-next : (n : ℕ) (xs : List ℕ) (b : ℕ) (ys : List ℕ) → drop n xs ≡ b ∷ ys → take (suc n) xs ≡ take n xs ++ b ∷ []
+take-next zero xs b ys is = ap (take 1) is
+take-next (suc n) [] b ys is = cc
+take-next (suc n) (x ∷ xs) b ys is = ap (λ bytes. x ∷ bytes) (take-next n xs b ys is)
+
+-- a byte behind plain bytes is one of them
+spanned-next : (text : List ℕ) (run : Span) (b : ℕ) (behind : List ℕ) → run.from ≤ run.to → drop run.to text ≡ b ∷ behind
+    → spanned text (record { from = run.from; to = run.to + 1 }) ≡ spanned text run ++ b ∷ []
+spanned-next text run b behind ordered is =
+    let size : run.to + 1 - run.from ≡ suc (run.to - run.from) = omega arith in
+    let end : run.from + (run.to - run.from) ≡ run.to = omega arith in
+    ap (λ n. take n (drop run.from text)) size
+    ∙ take-next (run.to - run.from) (drop run.from text) b behind (drop-drop (run.to - run.from) run.from text ∙ ap (λ n. drop n text) end ∙ is)
+
+spanned-at : (text : List ℕ) (place : ℕ) → spanned text (span_at place) ≡ []
+spanned-at text place = let none : place - place ≡ 0 = omega arith in ap (λ n. take n (drop place text)) none
+
+-- ---- what is written behind a mark
+
+with_none : (written : Written) (bytes : List ℕ) → bytes ≡ [] → with_bytes written bytes ≡ written
+with_none written bytes is = ap (with_bytes written) is ∙ ap (λ bs. record written { bytes = bs }) (append-nil written.bytes)
+
+spanned-none : (text : List ℕ) (run : Span) → run.to ≤ run.from → spanned text run ≡ []
+spanned-none text run none = let size : run.to - run.from ≡ 0 = omega arith in ap (λ n. take n (drop run.from text)) size
+
+AreWritten-more : (written : Written) (bytes : List ℕ) → AreWritten written → AreWritten (with_bytes written bytes)
+AreWritten-more written bytes stand =
+    StandIn-more written.waiting (length written.bytes) (length (written.bytes ++ bytes)) (omega (arith, length-append written.bytes bytes)) stand
+
+module _ (sight : Sight) (text : List ℕ) where
+  -- plain bytes are written also where they make a piece
+  past-run : (run : Span) (pieces : List Piece) → past_last sight text (with_run run pieces) ≡ with_bytes (past_last sight text pieces) (spanned text run)
+  past-run run pieces = by (nat_lt run.from run.to) refl
+    where
+      by : (b : Bool) → nat_lt run.from run.to ≡ b
+          → past_last sight text (cond b (Run run ∷ pieces) pieces) ≡ with_bytes (past_last sight text pieces) (spanned text run)
+      by true is = refl
+      by false is = sym (with_none (past_last sight text pieces) (spanned text run) (spanned-none text run (ltb-false run.from run.to is)))
+
+  -- behind a group that holds no group, in place of its opening
+  past-leaf : (run : Span) (place : ℕ) (kind : GroupKind) (written : Written)
+      → with_bytes (with_bytes written (group_value sight kind (spanned text run))) (spanned text (span_at place))
+      ≡ after sight End (with_bytes (after sight (Opening kind) written) (spanned text run))
+  past-leaf run place kind written =
+      with_none (with_bytes written (group_value sight kind (spanned text run))) (spanned text (span_at place)) (spanned-at text place)
+      ∙ ap (λ bs. record written { bytes = bs }) (sym (value_at_end sight written.bytes (spanned text run) kind))
+
+  -- pieces of which the last stands first are the same pieces
+  onto : Written → List Piece → Written
+  onto written [] = written
+  onto written (piece ∷ pieces) = past sight text (onto written pieces) piece
+
+  onto-blank : (pieces : List Piece) → past_last sight text pieces ≡ onto blank pieces
+  unfolding onto
+  onto-blank [] = refl
+  onto-blank (piece ∷ pieces) = ap (λ w. past sight text w piece) (onto-blank pieces)
+
+  onto-append : (written : Written) (xs ys : List Piece) → onto written (xs ++ ys) ≡ onto (onto written ys) xs
+  unfolding onto
+  onto-append written [] ys = refl
+  onto-append written (x ∷ xs) ys = ap (λ w. past sight text w x) (onto-append written xs ys)
+
+  onto-reverse : (written : Written) (pieces : List Piece) → onto written (reverse pieces) ≡ fold (past sight text) written pieces
+  unfolding onto
+  onto-reverse written [] = refl
+  onto-reverse written (piece ∷ pieces) =
+      ap (onto written) (reverse-append (piece ∷ []) pieces) ∙ onto-append written (reverse pieces) (piece ∷ []) ∙ onto-reverse (past sight text written piece) pieces
+
+  pub past-reverse : (pieces : List Piece) → past_last sight text (reverse pieces) ≡ past_all sight text pieces
+  past-reverse pieces = onto-blank (reverse pieces) ∙ onto-reverse blank pieces
+
+  -- the openings that wait stand in what is written
+  pub AreWritten-past : (piece : Piece) (written : Written) → AreWritten written → AreWritten (past sight text written piece)
+  AreWritten-past (Run span) written stand = AreWritten-more written (spanned text span) stand
+  AreWritten-past (Name name) written stand = AreWritten-more written (sight.variable (spanned text name)) stand
+  AreWritten-past (Call function argument) written stand = AreWritten-more written (function_value sight (Some function) (spanned text argument)) stand
+  AreWritten-past (Part cut) written stand = AreWritten-more written (part_seen text cut.value (head_seen sight text cut.value.head)) stand
+  AreWritten-past (Known value) written stand = AreWritten-more written value.value.items stand
+  AreWritten-past Empty written stand = AreWritten-more written [] stand
+  AreWritten-past (Begins kind) written stand = AreWritten-after sight (Opening kind) written stand
+  AreWritten-past Ends written stand = AreWritten-after sight End written stand
+
+  -- the openings that wait stand in what is written, and the pieces that are left come to the whole
+  pub record IsWriting (written : Written) (left whole : List Piece) : Type 0 where
+    pub stands : AreWritten written
+    pub comes : fold (past sight text) written left ≡ past_all sight text whole
+
+  pub writing-first : (whole : List Piece) → IsWriting blank whole whole
+  writing-first whole = record { stands = tt; comes = refl }
+
+  pub writing-next : (written new : Written) (piece : Piece) (left behind whole : List Piece) → left ≡ piece ∷ behind → new ≡ past sight text written piece
+      → IsWriting written left whole → IsWriting new behind whole
+  writing-next written new piece left behind whole left_is new_is writing = record {
+    stands = subst AreWritten (sym new_is) (AreWritten-past piece written writing.stands);
+    comes = ap (λ w. fold (past sight text) w behind) new_is ∙ ap (fold (past sight text) written) (sym left_is) ∙ writing.comes;
+  }
+
+-- ---- a text on the way to its pieces
+
+-- what is read so far and the rest of the text come to the expansion of the text, whatever is seen
+pub record IsOnWay (text : List ℕ) (so_far : ReadSoFar) (rest : List ℕ) : Type 0 where
+  pub kinds : (sight : Sight) → kinds_of (written_in sight text so_far).waiting ≡ so_far.waiting
+  pub comes : (sight : Sight)
+      → come sight (written_in sight text so_far).waiting (written_in sight text so_far).bytes (levels rest so_far.waiting 0) ≡ expansion sight text
+  pub begins : so_far.run.from ≤ so_far.run.to
+  pub size : so_far.run.to + length rest ≡ length text
+  pub is_rest : drop so_far.run.to text ≡ rest
+
+-- nothing is read yet
+pub on_way-first : (text : List ℕ) → IsOnWay text (record { pieces = []; waiting = []; run = span_at 0 }) text
+on_way-first text = record {
+  kinds = λ sight. refl;
+  comes = λ sight. come-text sight text;
+  begins = omega arith;
+  size = omega arith;
+  is_rest = refl;
+}
+
+-- all is read
+pub on_way-over : (text : List ℕ) (so_far : ReadSoFar) (rest : List ℕ) → IsOnWay text so_far rest → rest ≡ []
+    → (sight : Sight) → (past_last sight text so_far.pieces).bytes ++ drop so_far.run.from text ≡ expansion sight text
+on_way-over text so_far rest on_way none sight =
+    ap (λ bytes. (past_last sight text so_far.pieces).bytes ++ bytes) tail
+    ∙ sym (come-over sight (written_in sight text so_far).waiting (written_in sight text so_far).bytes)
+    ∙ (λ i. come sight (written_in sight text so_far).waiting (written_in sight text so_far).bytes (levels (sym none i) (on_way.kinds sight i) 0))
+    ∙ on_way.comes sight
+  where
+    tail : drop so_far.run.from text ≡ spanned text so_far.run
+    tail =
+        let end : length text - so_far.run.from ≡ so_far.run.to - so_far.run.from = let s = on_way.size in let e = ap length none in omega arith in
+        sym (take_rest text so_far.run.from) ∙ ap (λ n. take n (drop so_far.run.from text)) end
+
+-- a plain byte stands behind those before it
+stands-mark : (m : Mark) (kinds : List GroupKind) (text rest behind : List ℕ) (run : Span) (place : ℕ) → run.from ≤ run.to → drop run.to text ≡ rest
+    → rest ≡ mark_bytes m kinds ++ behind → place ≡ run.to + length (mark_bytes m kinds) → StandsBehind text run m place
+stands-mark End kinds text rest behind run place ordered is_rest is place_is = tt
+stands-mark (Opening kind) kinds text rest behind run place ordered is_rest is place_is = tt
+stands-mark (Byte byte) kinds text rest behind run place ordered is_rest is place_is =
+    ap (λ p. spanned text (record { from = run.from; to = p })) place_is ∙ spanned-next text run byte behind ordered (is_rest ∙ is)
+
+kinds_of-after : (sight : Sight) (m : Mark) (written : Written) → kinds_of (after sight m written).waiting ≡ waiting_after m (kinds_of written.waiting)
+kinds_of-after sight (Opening kind) written = refl
+kinds_of-after sight (Byte byte) written = refl
+kinds_of-after sight End written = by written.waiting
+  where
+    by : (ws : List Waiting) → kinds_of (closed sight ws written.bytes).waiting ≡ outer_of (kinds_of ws)
+    by [] = refl
+    by (w ∷ ws) = refl
+
+module _ (text : List ℕ) (so_far : ReadSoFar) (rest : List ℕ) (m : Mark) (behind : List ℕ) (on_way : IsOnWay text so_far rest)
+    (marked : levels rest so_far.waiting 0 ≡ with_mark m (levels behind) 0 so_far.waiting) where
+  -- what stands behind the mark, by the size of the mark
+  sizes : length rest ≡ length (mark_bytes m so_far.waiting) + length behind
+  sizes = ap length (text-mark m so_far.waiting rest behind marked) ∙ length-append (mark_bytes m so_far.waiting) behind
+
+  pub place_is : length text - length behind ≡ so_far.run.to + length (mark_bytes m so_far.waiting)
+  place_is = let e = sizes in let s = on_way.size in omega arith
+
+  pub stands : StandsBehind text so_far.run m (length text - length behind)
+  stands = stands-mark m so_far.waiting text rest behind so_far.run (length text - length behind) on_way.begins on_way.is_rest
+      (text-mark m so_far.waiting rest behind marked) place_is
+
+  behind_is : drop (length text - length behind) text ≡ behind
+  behind_is =
+      ap (λ n. drop n text) place_is
+      ∙ sym (drop-drop (length (mark_bytes m so_far.waiting)) so_far.run.to text)
+      ∙ ap (drop (length (mark_bytes m so_far.waiting))) (on_way.is_rest ∙ text-mark m so_far.waiting rest behind marked)
+      ∙ drop_at (mark_bytes m so_far.waiting) behind (length (mark_bytes m so_far.waiting)) refl
+
+  -- a mark is gone behind
+  pub on_way-after : (new : ReadSoFar) → GoesBehind text m (length text - length behind) so_far new → IsOnWay text new behind
+  on_way-after new goes = record {
+    kinds = kinds_new;
+    comes = λ sight. ap (λ ks. come sight (written_in sight text new).waiting (written_in sight text new).bytes (levels behind ks 0)) (sym (kinds_new sight))
+        ∙ ap (λ w. come sight w.waiting w.bytes (levels behind (kinds_of w.waiting) 0)) (goes.written sight)
+        ∙ come-mark sight m (written_in sight text so_far) (levels behind)
+        ∙ ap (come sight (written_in sight text so_far).waiting (written_in sight text so_far).bytes)
+        (ap (with_mark m (levels behind) 0) (on_way.kinds sight) ∙ sym marked)
+        ∙ on_way.comes sight;
+    begins = let e = goes.ends in let b = goes.begins in omega arith;
+    size = let e = goes.ends in let p = place_is in let s = sizes in let t = on_way.size in omega arith;
+    is_rest = ap (λ n. drop n text) goes.ends ∙ behind_is;
+  }
+    where
+      kinds_new : (sight : Sight) → kinds_of (written_in sight text new).waiting ≡ new.waiting
+      kinds_new sight =
+          ap (λ w. kinds_of w.waiting) (goes.written sight) ∙ kinds_of-after sight m (written_in sight text so_far)
+          ∙ ap (waiting_after m) (on_way.kinds sight) ∙ sym goes.waiting

@@ -1,0 +1,19 @@
+-- Places in a text.
+use Rattle.std.specs.Prelude.{ℕ, ◌+◌, ◌-◌, List, drop, min, take}
+use Rattle.dp_vars.specs.declared.span.Span.{Span}
+
+-- nothing, at a place
+abbrev pub span_at : ℕ → Span
+span_at place = record { from = place; to = place }
+
+-- what stands between two places of a text, as far as the text goes
+abbrev pub spanned : List ℕ → Span → List ℕ
+spanned text span = take (span.to - span.from) (drop span.from text)
+
+-- the first so many bytes of what stands there
+abbrev pub front_of : Span → ℕ → Span
+front_of span size = record { from = span.from; to = min span.to (span.from + size) }
+
+-- what stands behind those
+abbrev pub behind_of : Span → ℕ → Span
+behind_of span size = record { from = min span.to (span.from + size); to = span.to }

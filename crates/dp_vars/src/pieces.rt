@@ -1,0 +1,58 @@
+//! Texts that were read once, to be expanded often.
+ghost use Rattle.std.specs.Prelude.{◌≡◌, IfOk};
+ghost use Rattle.dp_vars.specs.Pieces.{AreOf};
+ghost use Rattle.dp_vars.specs.Sights.{sight_of};
+ghost use Rattle.dp_vars.specs.Values.{expansion};
+
+use crate::expanding::write_pieces;
+use crate::parsing::parse;
+use crate::piece::Piece;
+use crate::scope::{Counts, Scope};
+use dp_conf::NoMemory;
+use std::alloc::Global;
+use std::marker::Model;
+
+/// The pieces of a text that stands elsewhere, and the place behind them, from which all bytes are plain.
+#[derive(Drop)]
+pub struct Pieces {
+    pieces: Vec<Piece>,
+    tail: usize,
+}
+
+impl Model for Pieces {
+    ghost use Rattle.dp_vars.specs.Pieces.{PiecesOf};
+
+    ghost Value = { PiecesOf };
+
+    ghost view = { λ known. record { pieces = known.pieces.items; tail = known.tail } };
+}
+
+impl Pieces {
+    /// The pieces of a text.
+    ///
+    /// The error comes only where a growth was refused.
+    pub fn read(alloc: Global, text: &[u8]) -> Result<Self, NoMemory>
+        ensures { IfOk result (AreOf text.now) }
+    {
+        let (mut pieces, tail) = parse(alloc, text)?.finish();
+        pieces.shrink_to_fit();
+        Ok(Pieces { pieces, tail })
+    }
+
+    /// The expansion of their text.
+    ///
+    /// The error comes only where a growth was refused.
+    pub fn expand<B, C: Counts>(
+        &self,
+        alloc: Global,
+        text: &[u8],
+        scope: &Scope<'_, B, C>,
+    ) -> Result<Vec<u8>, NoMemory>
+        requires { AreOf text.now self.now }
+        ensures { IfOk result (λ bytes. bytes.items ≡ expansion (sight_of C.count scope.now) text.now) }
+    {
+        let mut bytes = write_pieces(alloc, scope, text, &self.pieces)?;
+        bytes.extend_from_slice(text.split_at(self.tail.min(text.len())).1)?;
+        Ok(bytes)
+    }
+}

@@ -1,0 +1,63 @@
+//! Places in a text.
+ghost use Rattle.std.specs.Prelude.{◌≡◌, ◌-◌, drop, min, take};
+ghost use Rattle.dp_vars.specs.Spans.{behind_of, front_of, spanned};
+
+/// What stands in a text from a place up to another.
+#[derive(Clone, Copy)]
+pub(crate) struct Span {
+    pub(crate) from: usize,
+    pub(crate) to: usize,
+}
+
+/// No more than so many bytes of the front.
+fn front(text: &[u8], size: usize) -> &[u8]
+    ensures { result.now ≡ take size text.now }
+{
+    text.split_at(size.min(text.len())).0
+}
+
+/// What stands behind so many bytes.
+fn behind(text: &[u8], size: usize) -> &[u8]
+    ensures { result.now ≡ drop size text.now }
+{
+    text.split_at(size.min(text.len())).1
+}
+
+impl Span {
+    /// Nothing, at a place.
+    pub(crate) fn at(place: usize) -> Self
+        ensures { result ≡ record { from = place; to = place } }
+    {
+        Span {
+            from: place,
+            to: place,
+        }
+    }
+
+    /// The first so many bytes of it.
+    pub(crate) fn front(self, size: usize) -> Self
+        ensures { result ≡ front_of self size }
+    {
+        Span {
+            from: self.from,
+            to: self.to.min(self.from.saturating_add(size)),
+        }
+    }
+
+    /// What stands behind those.
+    pub(crate) fn behind(self, size: usize) -> Self
+        ensures { result ≡ behind_of self size }
+    {
+        Span {
+            from: self.to.min(self.from.saturating_add(size)),
+            to: self.to,
+        }
+    }
+
+    /// What stands there in the text, as far as the text goes.
+    pub(crate) fn of(self, text: &[u8]) -> &[u8]
+        ensures { result.now ≡ spanned text.now self }
+    {
+        front(behind(text, self.from), self.to.saturating_sub(self.from))
+    }
+}
