@@ -1,5 +1,5 @@
 -- The readings of lines, by the number of lines before them and by whether a section has begun.
-use Rattle.std.proofs.Common.{◌≡◌, ℕ, ◌+◌, ◌<◌, ◌≤◌, drop, nat_eq, MatchOption, IfSome, Bool, true, false, ◌||◌, ◌&&◌, eqb, cond, List, [], ◌∷◌, ◌++◌, Option, Some, None, Result, Ok, Err, Bor, length, refl, ap, ◌∙◌, sym, arith}
+use Rattle.std.proofs.Common.{◌≡◌, ℕ, ◌+◌, ◌<◌, ◌≤◌, drop, nat_eq, MatchOption, IfSome, Bool, true, false, ◌||◌, ◌&&◌, eqb, cond, not, List, [], ◌∷◌, ◌++◌, Option, Some, None, Result, Ok, Err, Bor, length, refl, ap, ◌∙◌, sym, arith}
 use Rattle.std.specs.List.{list_any, starts_with}
 use Rattle.std.proofs.lemmas.List.Folds.{list_any-append}
 use Rattle.std.proofs.lemmas.List.{length-append, length-drop}
@@ -9,7 +9,7 @@ use Rattle.dp_conf.proofs.AnswersLemmas.{all_of-Ok, all_of-Err}
 use Rattle.dp_conf.specs.Blanks.{trim, trim_start}
 use Rattle.dp_conf.specs.Borrowed.{content_read, added_line}
 use Rattle.dp_conf.specs.Cut.{begins_with, cut_once}
-use Rattle.dp_conf.specs.Lines.{LineFault, without_mark, comment_of, unescaped, opens_block, content_of, header_by, header_of, behind_sign, pair_of, item_of, is_header, at_line, part_item, opens_section, reading_of, parts_of}
+use Rattle.dp_conf.specs.Lines.{LineFault, without_mark, comment_start, comment_of, unescaped, opens_block, content_of, header_by, header_of, behind_sign, pair_of, item_of, is_header, at_line, part_item, opens_section, reading_of, parts_of}
 use Rattle.dp_conf.specs.declared.fault.LineKind.{LineKind}
 use Rattle.dp_conf.specs.declared.fault.LineKind.TheVariants.{BlockComment, NoSection, Directive}
 use Rattle.dp_conf.specs.declared.lines.ConfLine.{ConfLine}
@@ -139,6 +139,15 @@ unescaped-plain (b ∷ text) e = by (eqb b 92) (unescaped-plain text) e
     by : (t : Bool) → (list_any (λ b. eqb b 92) text ≡ false → unescaped text ≡ text) → (t || list_any (λ b. eqb b 92) text) ≡ false → cond (t && starts_with nat_eq text (59 ∷ [])) (unescaped text) (b ∷ unescaped text) ≡ b ∷ text
     by true later e = absurd cc
     by false later e = ap (λ (bs : List ℕ). b ∷ bs) (later e)
+
+-- a text with no `;` has no comment
+pub comment_start-none : (previous : ℕ) (text : List ℕ) → list_any (λ b. eqb b 59) text ≡ false → comment_start previous text ≡ length text
+comment_start-none previous [] e = refl
+comment_start-none previous (b ∷ text) e = by (eqb b 59) (comment_start-none b text) e
+  where
+    by : (t : Bool) → (list_any (λ b. eqb b 59) text ≡ false → comment_start b text ≡ length text) → (t || list_any (λ b. eqb b 59) text) ≡ false → cond (t && not (eqb previous 92)) 0 (1 + comment_start b text) ≡ length (b ∷ text)
+    by true later e = absurd cc
+    by false later e = omega (arith, later e)
 
 -- a part is read by its content
 part_by_content : (blocked in_section : Bool) (line : ℕ) (content : List ℕ) → at_line line (cond blocked (Err BlockComment) (item_of in_section line content)) ≡ (at_line line (cond {A = Result (List ℕ) LineKind} blocked (Err BlockComment) (Ok content)) >>= λ c. at_line line (item_of in_section line c))

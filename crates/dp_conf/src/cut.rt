@@ -82,6 +82,10 @@ pub fn first_part(text: &[u8]) -> (&[u8], Option<&[u8]>)
         (λ rest. lines.parts_of text.now ≡ result.0.now ∷ lines.parts_of rest.now) }
     ensures shorter { IfSome result.1 (λ rest. length rest.now < length text.now) }
 {
+    // An empty part needs no search.
+    if let Some((b'\n', rest)) = text.split_first() {
+        return (&text[..0], Some(rest));
+    }
     match cut_once(text, b'\n') {
         None => (text, None),
         Some((part, rest)) => (part, Some(rest)),

@@ -1,5 +1,5 @@
 -- What the lines of a text make, one after another, is what its items say.
-use Rattle.std.proofs.Common.{◌≡◌, ℕ, ◌+◌, Bool, false, ◌||◌, List, [], ◌∷◌, ◌++◌, fold, map, Result, Ok, Err, refl, ap, subst, sym, ◌∙◌}
+use Rattle.std.proofs.Common.{◌≡◌, ℕ, ◌+◌, Bool, true, false, ◌||◌, List, [], ◌∷◌, ◌++◌, length, fold, map, Result, Ok, Err, refl, ap, subst, sym, ◌∙◌, arith}
 use Rattle.std.specs.List.{All, filter_map, flat_map, list_any}
 use Rattle.std.proofs.lemmas.List.{append-nil, append_assoc}
 use Rattle.std.proofs.lemmas.List.Sums.{fold-append}
@@ -13,7 +13,7 @@ use Rattle.dp_plan.specs.Faults.{reason_of, text_fault}
 use Rattle.dp_plan.specs.History.{History, history_of}
 use Rattle.dp_plan.specs.Items.{line_item, items_after}
 use Rattle.dp_plan.specs.Loaded.{loaded}
-use Rattle.dp_plan.specs.Loading.{MadeOf, unmade, behind_item, behind_line, behind_lines, behind_all, part_read, part_behind, finished, behind_text, drafted_of}
+use Rattle.dp_plan.specs.Loading.{MadeOf, unmade, behind_item, behind_line, behind_lines, behind_all, part_read, part_behind, text_behind, finished, behind_text, drafted_of}
 use Rattle.dp_plan.specs.Plan.{PlanOf, kept_in, names_in, included_in, plan_of, notes_of}
 use Rattle.dp_plan.specs.Ranking.{AreApart}
 use Rattle.dp_plan.specs.Reader.{history_in}
@@ -55,53 +55,61 @@ parts_behind in_section line state [] = Ok state
 parts_behind in_section line state (part ∷ parts) =
     part_behind in_section (line + 1) state part >>= λ behind. parts_behind behind.0 (line + 1) behind.1 parts
 
--- behind the lines that were read
-abbrev pub read_on : State → Result (List ConfLine) LineFault → Result State LoadFault
-read_on state lines = text_fault lines >>= λ ls. Ok (behind_all state ls)
+text_behind-front : (state : State) (items : List ConfLine) (rest : Result (List ConfLine) LineFault) → text_behind (behind_all state items) rest ≡ text_behind state (with_front items rest)
+text_behind-front state items (Ok lines) = ap (λ (s : State). let done : Result State LoadFault = Ok s in done) (sym (behind_all-append state items lines))
+text_behind-front state items (Err fault) = refl
 
-read_on-front : (state : State) (items : List ConfLine) (rest : Result (List ConfLine) LineFault) → read_on (behind_all state items) rest ≡ read_on state (with_front items rest)
-read_on-front state items (Ok lines) = ap (λ (s : State). let done : Result State LoadFault = Ok s in done) (sym (behind_all-append state items lines))
-read_on-front state items (Err fault) = refl
-
-parts_behind-is : (in_section : Bool) (line : ℕ) (state : State) (parts : List (List ℕ)) → parts_behind in_section line state parts ≡ read_on state (all_of (readings_from in_section line parts))
+parts_behind-is : (in_section : Bool) (line : ℕ) (state : State) (parts : List (List ℕ)) → parts_behind in_section line state parts ≡ text_behind state (all_of (readings_from in_section line parts))
 parts_behind-is in_section line state [] = ap (λ (s : State). let done : Result State LoadFault = Ok s in done) (sym (behind_all-nil state))
 parts_behind-is in_section line state (part ∷ parts) =
     by (line_at (line + 1) (part_item in_section (line + 1) part)) refl (λ begun s. parts_behind-is begun (line + 1) s parts)
   where
     by : (read : Result (List ConfLine) LineFault) → line_at (line + 1) (part_item in_section (line + 1) part) ≡ read
-        → ((begun : Bool) (s : State) → parts_behind begun (line + 1) s parts ≡ read_on s (all_of (readings_from begun (line + 1) parts)))
-        → (part_read in_section state read >>= λ behind. parts_behind behind.0 (line + 1) behind.1 parts) ≡ read_on state (read >>= λ xs. with_front xs (all_of (readings_from (in_section || opens_section part) (line + 1) parts)))
+        → ((begun : Bool) (s : State) → parts_behind begun (line + 1) s parts ≡ text_behind s (all_of (readings_from begun (line + 1) parts)))
+        → (part_read in_section state read >>= λ behind. parts_behind behind.0 (line + 1) behind.1 parts) ≡ text_behind state (read >>= λ xs. with_front xs (all_of (readings_from (in_section || opens_section part) (line + 1) parts)))
     by (Ok items) e later =
         later (in_section || list_any is_header items) (behind_all state items)
-        ∙ (ap (λ opens. read_on (behind_all state items) (all_of (readings_from (in_section || opens) (line + 1) parts))) (opens_section-is_header in_section (line + 1) part items e)
-        ∙ read_on-front state items (all_of (readings_from (in_section || opens_section part) (line + 1) parts)))
+        ∙ (ap (λ opens. text_behind (behind_all state items) (all_of (readings_from (in_section || opens) (line + 1) parts))) (opens_section-is_header in_section (line + 1) part items e)
+        ∙ text_behind-front state items (all_of (readings_from (in_section || opens_section part) (line + 1) parts)))
     by (Err fault) e later = refl
 
 -- the parts of a text are its lines
-pub parts_behind-text : (made : MadeOf) (text : List ℕ) → parts_behind false 0 (Ok made) (parts_of (without_mark text)) ≡ read_on (Ok made) (lines_of text)
+pub parts_behind-text : (state : State) (text : List ℕ) → parts_behind false 0 state (parts_of (without_mark text)) ≡ text_behind state (lines_of text)
 unfolding lines_of
-parts_behind-text made text =
-    parts_behind-is false 0 (Ok made) (parts_of (without_mark text))
-    ∙ ap (λ readings. read_on (Ok made) (all_of readings)) (sym (each_after-reading_of [] (parts_of (without_mark text))))
+parts_behind-text state text =
+    parts_behind-is false 0 state (parts_of (without_mark text))
+    ∙ ap (λ readings. text_behind state (all_of readings)) (sym (each_after-reading_of [] (parts_of (without_mark text))))
 
 -- the state that was reached
 reached_of : Result State LoadFault → State
 reached_of reached = reached >>= λ state. state
 
-reached_of-lines : (made : MadeOf) (lines : Result (List ConfLine) LineFault) → reached_of (read_on (Ok made) lines) ≡ (text_fault lines >>= λ ls. behind_lines made ls)
+reached_of-lines : (made : MadeOf) (lines : Result (List ConfLine) LineFault) → reached_of (text_behind (Ok made) lines) ≡ (text_fault lines >>= λ ls. behind_lines made ls)
 unfolding reached_of
 reached_of-lines made (Ok lines) = refl
 reached_of-lines made (Err fault) = refl
 
 -- where all parts are read, the text leads to the state
-pub behind_text-reached : (made : MadeOf) (text : List ℕ) (state : State) → Ok state ≡ read_on (Ok made) (lines_of text) → behind_text made text ≡ state
+pub behind_text-reached : (made : MadeOf) (text : List ℕ) (state : State) → Ok state ≡ text_behind (Ok made) (lines_of text) → behind_text made text ≡ state
 unfolding behind_text reached_of
 behind_text-reached made text state e = sym (reached_of-lines made (lines_of text)) ∙ ap reached_of (sym e)
 
 -- where a part is refused, so is the text
-pub behind_text-refused : (made : MadeOf) (text : List ℕ) (fault : LoadFault) → Err fault ≡ read_on (Ok made) (lines_of text) → behind_text made text ≡ Err fault
+pub behind_text-refused : (made : MadeOf) (text : List ℕ) (fault : LoadFault) → Err fault ≡ text_behind (Ok made) (lines_of text) → behind_text made text ≡ Err fault
 unfolding behind_text reached_of
 behind_text-refused made text fault e = sym (reached_of-lines made (lines_of text)) ∙ ap reached_of (sym e)
+
+-- where all parts are read, the text makes the draft of the state
+pub drafted_of-reached : (text : List ℕ) (before state : State) → before ≡ Ok unmade → text_behind before (lines_of text) ≡ Ok state → drafted_of text ≡ finished state
+unfolding drafted_of
+drafted_of-reached text before state new e =
+    ap finished (behind_text-reached unmade text state (sym e ∙ ap (λ (s : State). text_behind s (lines_of text)) new))
+
+-- where a part is refused, there is no draft
+pub drafted_of-refused : (text : List ℕ) (before : State) (fault : LoadFault) → before ≡ Ok unmade → text_behind before (lines_of text) ≡ Err fault → drafted_of text ≡ Err fault
+unfolding drafted_of
+drafted_of-refused text before fault new e =
+    ap finished (behind_text-refused unmade text fault (sym e ∙ ap (λ (s : State). text_behind s (lines_of text)) new))
 
 -- ---- items
 
@@ -214,6 +222,14 @@ Refuses-fault NoMemory given e = tt
 
 abbrev go_on : ℕ → List (List ℕ) → Result (Bool × State) LoadFault → Result State LoadFault
 go_on line parts read = read >>= λ behind. parts_behind behind.0 (line + 1) behind.1 parts
+
+-- an empty part says nothing
+pub part_behind-empty : (in_section : Bool) (line : ℕ) (state : State) (part : List ℕ) → length part ≡ 0 → part_behind in_section line state part ≡ Ok (in_section, state)
+part_behind-empty true line (Ok made) [] e = refl
+part_behind-empty true line (Err fault) [] e = refl
+part_behind-empty false line (Ok made) [] e = refl
+part_behind-empty false line (Err fault) [] e = refl
+part_behind-empty in_section line state (b ∷ part) e = absurd (omega arith)
 
 -- a part that was read
 pub parts_behind-turn : (in_section begun : Bool) (line : ℕ) (state reached : State) (text part : List ℕ) (more : List (List ℕ)) → parts_of text ≡ part ∷ more → part_behind in_section (line + 1) state part ≡ Ok (begun, reached)

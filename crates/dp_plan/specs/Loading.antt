@@ -55,6 +55,10 @@ part_read in_section state read =
 abbrev pub part_behind : Bool → ℕ → Result MadeOf LoadFault → List ℕ → Result (Bool × Result MadeOf LoadFault) LoadFault
 part_behind in_section line state part = part_read in_section state (at_line line (part_item in_section line part))
 
+-- behind the lines of a text; a fault of the text ends all
+abbrev pub text_behind : Result MadeOf LoadFault → Result (List ConfLine) LineFault → Result (Result MadeOf LoadFault) LoadFault
+text_behind state lines = text_fault lines >>= λ ls. Ok (behind_all state ls)
+
 -- the draft of what was made
 abbrev pub finished : Result MadeOf LoadFault → Result Drafted LoadFault
 finished state = state >>= λ made. Ok made.draft

@@ -1,9 +1,9 @@
 //! The lines of a dialplan's text, taken one at a time.
-ghost use Rattle.std.specs.Prelude.{◌≡◌, ◌+◌, IfOk, OnOk, fold};
+ghost use Rattle.std.specs.Prelude.{◌≡◌, ◌+◌, ◌∷◌, [], Ok, OnOk, fold};
 ghost use Rattle.std.specs.Option.{option_to_list};
 ghost use Rattle.dp_conf.specs.Answers.{Answers};
-ghost use Rattle.dp_conf.specs.Borrowed.{line_now, lines_now};
-ghost use Rattle.dp_conf.specs.Lines.{item_of, at_line};
+ghost use Rattle.dp_conf.specs.Borrowed.{line_now};
+ghost use Rattle.dp_conf.specs.Lines.{item_of, at_line, lines_of};
 ghost use Rattle.dp_plan.specs.Faults.{reason_of};
 ghost use Rattle.dp_plan.specs.Loading as spec;
 
@@ -67,76 +67,98 @@ impl Made {
     }
 }
 
-/// Goes behind a line, and gives its fault, which is kept aside.
-fn take_line(alloc: Global, made: &mut Made, line: Line<'_>) -> Result<Option<LoadFault>, NoMemory>
-    ensures { IfOk result (λ fault. spec.outcome fault made.new ≡ spec.behind_line made.old (line_now line.entry)) }
-{
-    match made.take(alloc, line) {
-        Ok(()) => Ok(None),
-        Err(LoadFault::NoMemory) => Err(NoMemory),
-        Err(fault) => Ok(Some(fault)),
-    }
-}
-
-/// Goes behind a line, where there is one and no line before it has a fault, and gives the first fault so far.
-fn take_on(
-    alloc: Global,
-    made: &mut Made,
+/// What the lines so far have made, until one of them has a fault, which is kept aside. A contract sees it as what was
+/// made or the fault.
+#[derive(Drop)]
+struct Loading {
+    made: Made,
     fault: Option<LoadFault>,
-    item: Option<Line<'_>>,
-) -> Result<Option<LoadFault>, NoMemory>
-    ensures { IfOk result (λ kept. spec.outcome kept made.new
-        ≡ spec.behind_all (spec.outcome fault made.old) (lines_now item.entry)) }
-{
-    if fault.is_some() {
-        return Ok(fault);
+}
+
+impl Model for Loading {
+    ghost use Rattle.std.specs.Prelude.{Result};
+    ghost use Rattle.dp_plan.specs.Loading.{MadeOf, outcome};
+    ghost use Rattle.dp_plan.specs.declared.fault.LoadFault.{LoadFault};
+
+    ghost Value = { Result MadeOf LoadFault };
+
+    ghost view = { λ loading. outcome loading.fault loading.made };
+}
+
+impl Loading {
+    /// Before the first line.
+    fn new(alloc: Global) -> Self
+        ensures { result ≡ Ok spec.unmade }
+    {
+        Loading {
+            made: Made::new(alloc),
+            fault: None,
+        }
     }
-    match item {
-        None => Ok(None),
-        Some(line) => take_line(alloc, made, line),
+
+    /// Goes behind a line, where no line before it has a fault.
+    fn take(&mut self, alloc: Global, line: Line<'_>) -> Result<(), NoMemory>
+        ensures { OnOk result (self.new ≡ spec.behind_all self.old (line_now line.entry ∷ [])) }
+    {
+        if self.fault.is_some() {
+            return Ok(());
+        }
+        match self.made.take(alloc, line) {
+            Ok(()) => Ok(()),
+            Err(LoadFault::NoMemory) => Err(NoMemory),
+            Err(fault) => {
+                self.fault = Some(fault);
+                Ok(())
+            }
+        }
     }
-}
 
-/// Goes behind the line of a content, and gives whether a section has begun behind it, and the first fault so far.
-fn take_content(
-    alloc: Global,
-    made: &mut Made,
-    fault: Option<LoadFault>,
-    line: usize,
-    in_section: bool,
-    content: &[u8],
-) -> Result<(bool, Option<LoadFault>), LoadFault>
-    ensures { Answers (λ behind. (behind.0, spec.outcome behind.1 made.new)) reason_of result
-        (spec.part_read in_section (spec.outcome fault made.old) (at_line line (item_of in_section line content.now))) }
-{
-    let item = read_line(line, in_section, content)?;
-    let kept = take_on(alloc, made, fault, item)?;
-    Ok((has_begun(in_section, item), kept))
-}
+    /// Goes behind the line of a content, and gives whether a section has begun behind it.
+    fn take_content(
+        &mut self,
+        alloc: Global,
+        line: usize,
+        in_section: bool,
+        content: &[u8],
+    ) -> Result<bool, LoadFault>
+        ensures { Answers (λ begun. (begun, self.new)) reason_of result
+            (spec.part_read in_section self.old (at_line line (item_of in_section line content.now))) }
+    {
+        let item = read_line(line, in_section, content)?;
+        if let Some(item) = item {
+            self.take(alloc, item)?;
+        }
+        Ok(has_begun(in_section, item))
+    }
 
-/// Goes behind a part of the text, and gives whether a section has begun behind it, and the first fault so far.
-fn take_part(
-    alloc: Global,
-    made: &mut Made,
-    fault: Option<LoadFault>,
-    line: usize,
-    in_section: bool,
-    part: &[u8],
-) -> Result<(bool, Option<LoadFault>), LoadFault>
-    ensures { Answers (λ behind. (behind.0, spec.outcome behind.1 made.new)) reason_of result
-        (spec.part_behind in_section line (spec.outcome fault made.old) part.now) }
-{
-    let content = read_content(alloc, line, part)?;
-    take_content(alloc, made, fault, line, in_section, content.bytes())
-}
+    /// Goes behind a part of the text, and gives whether a section has begun behind it.
+    fn take_part(
+        &mut self,
+        alloc: Global,
+        line: usize,
+        in_section: bool,
+        part: &[u8],
+    ) -> Result<bool, LoadFault>
+        ensures { Answers (λ begun. (begun, self.new)) reason_of result
+            (spec.part_behind in_section line self.old part.now) }
+    {
+        // An empty part says nothing.
+        if part.is_empty() {
+            return Ok(in_section);
+        }
+        let content = read_content(alloc, line, part)?;
+        self.take_content(alloc, line, in_section, content.bytes())
+    }
 
-/// Refuses for the fault that was kept aside, where there is one.
-fn first_fault(fault: Option<LoadFault>) -> Result<(), LoadFault>
-    ensures { (made : spec.MadeOf) → Answers (λ done. made) reason_of result (spec.outcome fault made) }
-{
-    match fault {
-        Some(fault) => Err(fault),
-        None => Ok(()),
+    /// The draft of what the lines have made, or the fault that was kept aside.
+    fn into_draft(self) -> Result<Draft, LoadFault>
+        ensures { Answers (λ draft. draft) reason_of result (spec.finished self) }
+    {
+        let Loading { made, fault } = self;
+        match fault {
+            Some(fault) => Err(fault),
+            None => Ok(made.into_draft()),
+        }
     }
 }
 
@@ -144,30 +166,28 @@ fn first_fault(fault: Option<LoadFault>) -> Result<(), LoadFault>
 ///
 /// A fault of the text ends it. A fault of another kind is kept aside until the text ends, and the lines behind it are
 /// read as lines alone.
-fn take_text(alloc: Global, made: &mut Made, text: &[u8]) -> Result<(), LoadFault>
-    ensures { Answers (λ done. made.new) reason_of result (spec.behind_text made.old text.now) }
+fn take_text(alloc: Global, loading: &mut Loading, text: &[u8]) -> Result<(), LoadFault>
+    ensures { Answers (λ done. loading.new) reason_of result (spec.text_behind loading.old (lines_of text.now)) }
 {
-    let mut fault: Option<LoadFault> = None;
     let mut line: usize = 0;
     let mut in_section = false;
     let mut rest = Some(without_mark(text));
     while let Some(left) = rest {
         let (part, behind) = first_part(left);
         line += 1;
-        let (begun, kept) = take_part(alloc, made, fault, line, in_section, part)?;
-        in_section = begun;
-        fault = kept;
+        in_section = loading.take_part(alloc, line, in_section, part)?;
         rest = behind;
     }
-    first_fault(fault)
+    Ok(())
 }
 
 /// What the lines of a text make.
-#[tactic(auto, unfolding(crate::specs::Loading::drafted_of))]
 pub(crate) fn read_draft(alloc: Global, text: &[u8]) -> Result<Draft, LoadFault>
     ensures { Answers (λ draft. draft) reason_of result (spec.drafted_of text.now) }
 {
-    let mut made = Made::new(alloc);
-    take_text(alloc, &mut made, text)?;
-    Ok(made.into_draft())
+    let mut loading = Loading::new(alloc);
+    match take_text(alloc, &mut loading, text) {
+        Ok(()) => loading.into_draft(),
+        Err(fault) => Err(fault),
+    }
 }
