@@ -1,7 +1,8 @@
 //! A class: a finite set of bytes, and the texts that spell one.
-ghost use Rattle.std.specs.Prelude.{◌≡◌, ◌↔◌, ℕ, ◌<◌, ◌||◌, [], ◌∷◌, ◌++◌, length, codes, Contains, None, Ok, Err, IsTrue, MatchOption, MatchResult, OnOk};
+ghost use Rattle.std.specs.Prelude.{◌≡◌, ◌↔◌, ℕ, ◌<◌, ◌||◌, [], ◌∷◌, ◌++◌, length, codes, Contains, None, Ok, Err, IfSome, IsTrue, MatchOption, MatchResult, OnOk};
 ghost use Rattle.dp_pattern.specs.Classes.{has_bit, members_of};
 ghost use Rattle.dp_pattern.specs.Order.{class_cmp};
+ghost use Rattle.dp_pattern.specs.Spelling.{class_spelling};
 ghost use Rattle.dp_pattern.specs.Name.{is_one_of, class_of, class_of_set, items_of, item_fault, lists, is_bad, is_range, IsReason};
 
 use crate::fault::{NameFault, PatternFault};
@@ -44,6 +45,20 @@ impl Class {
         ensures value { result ≡ is_one_of self.now byte }
     {
         self.members.has(byte)
+    }
+
+    /// The one member, where the class is kept as a byte.
+    pub(crate) fn only(&self) -> Option<u8>
+        ensures { IfSome result (λ byte. self.now ≡ byte ∷ []) }
+    {
+        self.members.only()
+    }
+
+    /// The letter of a class of digits that has one.
+    pub(crate) fn letter(&self) -> Option<u8>
+        ensures { IfSome result (λ letter. class_spelling self.now ≡ letter ∷ []) }
+    {
+        self.members.letter()
     }
 
     /// Adds the members to the bytes, in byte order.

@@ -1,9 +1,10 @@
 //! The members of a class, in as little room as they take.
-ghost use Rattle.std.specs.Prelude.{◌≡◌, ℕ, ◌<◌, ◌==◌, ◌++◌, length, false, true, IsTrue, IfOk, IfSome, OnOk};
+ghost use Rattle.std.specs.Prelude.{◌≡◌, ℕ, ◌<◌, ◌==◌, ◌++◌, ◌∷◌, [], length, false, true, IsTrue, IfOk, IfSome, OnOk};
 ghost use Rattle.std.specs.Ordering.{nat_cmp};
 ghost use Rattle.std.specs.Cmp.Lexicographic.{slice_cmp};
 ghost use Rattle.dp_pattern.specs.Classes.{class_by, has_bit, has_digit, has_member, kept_members, members_of};
 ghost use Rattle.dp_pattern.specs.Order.{class_cmp};
+ghost use Rattle.dp_pattern.specs.Spelling.{class_spelling};
 
 use crate::words::{bit_of, has, push_members, push_word, size};
 use std::alloc::{AllocError, Global};
@@ -37,6 +38,18 @@ fn mask_of(words: &[u64; 4]) -> Option<u16>
 {
     match *words {
         [first, 0, 0, 0] if first % (1 << 48) == 0 => Some((first >> 48) as u16),
+        _ => None,
+    }
+}
+
+// The letter of the class that has these digits, where it has one.
+fn letter_of(mask: u16) -> Option<u8>
+    ensures { IfSome result (λ letter. class_spelling (class_by (has_digit mask)) ≡ letter ∷ []) }
+{
+    match mask {
+        0b11_1111_1111 => Some(b'X'),
+        0b11_1111_1110 => Some(b'Z'),
+        0b11_1111_1100 => Some(b'N'),
         _ => None,
     }
 }
@@ -120,6 +133,26 @@ impl Members {
             Members::Byte(only) => *only == byte,
             Members::Digits(mask) => has_digit(*mask, byte),
             Members::Words(words) => has(words, usize::from(byte)),
+        }
+    }
+
+    /// The one member of a class that is kept as a byte.
+    pub(crate) fn only(&self) -> Option<u8>
+        ensures { IfSome result (λ byte. kept_members self.now ≡ byte ∷ []) }
+    {
+        match self {
+            Members::Byte(byte) => Some(*byte),
+            Members::Digits(_) | Members::Words(_) => None,
+        }
+    }
+
+    /// The letter of a class of digits that has one.
+    pub(crate) fn letter(&self) -> Option<u8>
+        ensures { IfSome result (λ letter. class_spelling (kept_members self.now) ≡ letter ∷ []) }
+    {
+        match self {
+            Members::Digits(mask) => letter_of(*mask),
+            Members::Byte(_) | Members::Words(_) => None,
         }
     }
 

@@ -1,8 +1,8 @@
 //! The reading of a text as a name, piece after piece.
-ghost use Rattle.std.specs.Prelude.{◌≡◌, ◌<◌, ◌≤◌, ◌+◌, ◌∷◌, [], Ok, Err, length, MatchOption, MatchResult, IfOk, IfSome};
+ghost use Rattle.std.specs.Prelude.{◌≡◌, ◌<◌, ◌≤◌, ◌+◌, ◌∷◌, [], Ok, Err, false, length, MatchOption, MatchResult, IfOk, IfSome};
 ghost use Rattle.std.specs.List.{list_all, list_any, position};
 ghost use Rattle.dp_pattern.specs.Dashes.{undashed, is_dash};
-ghost use Rattle.dp_pattern.specs.Name.{Plain, pieces_of, pieces_after, piece_of, set_piece, set_size, is_end, parts_of, pattern_reading, is_bad, plain_of, meaning_of, IsReason};
+ghost use Rattle.dp_pattern.specs.Name.{pieces_of, pieces_after, piece_of, set_piece, set_size, is_end, parts_of, pattern_reading, is_bad, plain_of, meaning_of, IsReason};
 ghost use Rattle.dp_pattern.specs.Kept.{kept_meaning, cut_piece, is_class, class_count};
 
 use crate::class::{Class, class_of, class_of_set, is_bad};
@@ -125,12 +125,16 @@ fn read_pattern(alloc: Global, text: &[u8]) -> Result<Kind, PatternFault>
     Ok(Kind::Pattern(tail, classes))
 }
 
-// The text without its dashes, where that is short.
+// The text without its dashes, where that is short and each byte is one that a name may have.
 fn short_of(text: &[u8]) -> Option<ArrayVec<u8, 16>>
-    ensures { IfSome result (λ kept. kept.items ≡ undashed text.now) }
+    ensures kept { IfSome result (λ kept. kept.items ≡ undashed text.now) }
+    ensures fine { IfSome result (λ _. list_any is_bad text.now ≡ false) }
 {
     let mut kept = ArrayVec::new();
     for byte in text {
+        if is_bad(*byte) {
+            return None;
+        }
         if *byte != b'-' {
             kept.try_push(*byte).ok()?;
         }
@@ -147,17 +151,6 @@ fn undashed(alloc: Global, text: &[u8]) -> Result<Vec<u8>, AllocError>
     Ok(kept)
 }
 
-// What is kept of the plain name.
-fn kept_plain(alloc: Global, text: &[u8]) -> Result<Kind, AllocError>
-    ensures { IfOk result (λ kind. kept_meaning kind ≡ Plain (undashed text.now)) }
-{
-    if let Some(kept) = short_of(text) {
-        return Ok(Kind::Short(kept));
-    }
-    let kept = undashed(alloc, text)?;
-    Ok(Kind::Plain(kept))
-}
-
 // Whether a byte is one that no name has.
 fn has_bad(text: &[u8]) -> bool
     ensures { result ≡ list_any is_bad text.now }
@@ -165,16 +158,19 @@ fn has_bad(text: &[u8]) -> bool
     text.iter().any(|b| is_bad(*b))
 }
 
-// The plain name that the text spells.
+// The plain name that the text spells. A short one is read in one pass.
 fn read_plain(alloc: Global, text: &[u8]) -> Result<Kind, PatternFault>
     ensures { MatchResult result (λ kind. plain_of text.now ≡ Ok (kept_meaning kind))
         (λ fault. IsReason fault (plain_of text.now)) }
 {
+    if let Some(kept) = short_of(text) {
+        return Ok(Kind::Short(kept));
+    }
     if has_bad(text) {
         return Err(PatternFault::Name(NameFault::BadByte));
     }
-    let kind = kept_plain(alloc, text)?;
-    Ok(kind)
+    let kept = undashed(alloc, text)?;
+    Ok(Kind::Plain(kept))
 }
 
 /// What is kept of the name that the text spells.

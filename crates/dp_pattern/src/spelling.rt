@@ -28,7 +28,7 @@ fn stands_alone(members: &[u8]) -> bool
 }
 
 // Writes the class of these members.
-fn push_class(text: &mut Vec<u8>, members: &[u8]) -> Result<(), AllocError>
+fn push_listed(text: &mut Vec<u8>, members: &[u8]) -> Result<(), AllocError>
     ensures { OnOk result (text.new.items ≡ text.old.items ++ class_spelling members.now) }
 {
     if members == DIGITS {
@@ -45,6 +45,22 @@ fn push_class(text: &mut Vec<u8>, members: &[u8]) -> Result<(), AllocError>
         text.push(b']')?;
     }
     Ok(())
+}
+
+// Writes the class. The list is there to be filled with its members, where they are asked for.
+fn push_class(text: &mut Vec<u8>, class: &Class, members: &mut Vec<u8>) -> Result<(), AllocError>
+    ensures { OnOk result (text.new.items ≡ text.old.items ++ class_spelling class.now) }
+{
+    if let Some(letter) = class.letter() {
+        text.push(letter)?;
+        return Ok(());
+    }
+    if let Some(byte) = class.only() {
+        return push_listed(text, &[byte]);
+    }
+    members.clear();
+    class.push_members(members)?;
+    push_listed(text, members)
 }
 
 // Writes the tail.
@@ -65,9 +81,7 @@ fn push_classes(alloc: Global, text: &mut Vec<u8>, classes: &[Class]) -> Result<
 {
     let mut members = Vec::new(alloc);
     for class in classes {
-        members.clear();
-        class.push_members(&mut members)?;
-        push_class(text, &members)?;
+        push_class(text, class, &mut members)?;
     }
     Ok(())
 }
@@ -81,7 +95,8 @@ pub(crate) fn pattern_text(
 ) -> Result<Vec<u8>, AllocError>
     ensures { IfOk result (λ text. text.items ≡ spelling (Pattern classes.now tail)) }
 {
-    let mut text = Vec::new(alloc);
+    // Most classes are written as one byte.
+    let mut text = Vec::with_capacity(alloc, classes.len().saturating_add(2))?;
     text.push(b'_')?;
     push_classes(alloc, &mut text, classes)?;
     push_tail(&mut text, tail)?;

@@ -1,5 +1,5 @@
 //! The items of a dialplan's lines.
-ghost use Rattle.std.specs.Prelude.{◌≡◌, IfOk};
+ghost use Rattle.std.specs.Prelude.{◌≡◌};
 ghost use Rattle.std.specs.Option.{option_to_list};
 ghost use Rattle.dp_conf.specs.Answers.{Answers};
 ghost use Rattle.dp_conf.specs.Borrowed.{line_now};
@@ -16,7 +16,7 @@ use crate::plan::GlobalVariable;
 use crate::reader::Reader;
 use crate::section::Section;
 use crate::shared_text::SharedText;
-use dp_conf::{Line, NoMemory, Text, same_word};
+use dp_conf::{Line, Text, same_word};
 use std::alloc::Global;
 
 /// What a line of a dialplan does.
@@ -52,18 +52,6 @@ fn read_global(alloc: Global, line: usize, key: &[u8], value: &[u8]) -> Result<I
     let value = read_shallow(alloc, line, value)?;
     let name = Text::copy_of(alloc, key)?;
     Ok(Item::Sets(GlobalVariable { name, value }))
-}
-
-/// The item of an entry's line.
-fn added(context: &SharedText, line: usize, entry: Entry) -> Result<Item, NoMemory>
-    ensures { IfOk result (λ item. item ≡ Item.Adds line context.now entry) }
-{
-    let context = context.clone()?;
-    Ok(Item::Adds {
-        line,
-        context,
-        entry,
-    })
 }
 
 /// The item of an include's line.
@@ -115,8 +103,12 @@ fn exten_item(
         (spec.entry_item context.now line (exten_entry (history_in reader.now) line context.now value.now)) }
 {
     let entry = read_exten(alloc, reader, line, context, value)?;
-    let item = added(context, line, entry)?;
-    Ok(item)
+    let context = context.clone()?;
+    Ok(Item::Adds {
+        line,
+        context,
+        entry,
+    })
 }
 
 /// The item of a `same` line.
@@ -131,8 +123,12 @@ fn same_item(
         (spec.entry_item context.now line (same_entry (history_in reader.now) line context.now value.now)) }
 {
     let entry = read_same(alloc, reader, line, context, value)?;
-    let item = added(context, line, entry)?;
-    Ok(item)
+    let context = context.clone()?;
+    Ok(Item::Adds {
+        line,
+        context,
+        entry,
+    })
 }
 
 /// The item of a pair in a context.
