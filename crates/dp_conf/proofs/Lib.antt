@@ -10,4 +10,5 @@ pub mod ToldLemmas
 mod TrimLemmas
 pub mod GroupsLemmas
 pub mod NestLemmas
+mod PlainNest
 pub mod TextLemmas

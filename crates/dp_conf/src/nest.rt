@@ -112,6 +112,10 @@ pub fn nesting(alloc: Global, text: &[u8]) -> Result<usize, AllocError>
     // The same by a function.
     ensures exact { IfOk result (λ depth. depth ≡ nesting_of text.now) }
 {
+    // Only a `$` opens a group.
+    if !text.contains(&b'$') {
+        return Ok(0);
+    }
     let mut nest = Nest::new(alloc);
     let mut rest = text;
     while let Some((mark, behind)) = next_mark(rest, nest.innermost()) {

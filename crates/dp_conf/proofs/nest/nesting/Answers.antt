@@ -1,10 +1,23 @@
-use Rattle.std.proofs.Common.{ap, ◌∙◌, sym, arith}
+use Rattle.std.proofs.Common.{◌≡◌, false, eqb, ap, ◌∙◌, sym, arith, rules, tests}
+use Rattle.std.specs.List.{list_any}
 use Rattle.dp_conf.specs.Groups.{depth_of}
 use Rattle.dp_conf.specs.GroupsRead.{levels, nesting_of}
 use Rattle.dp_conf.specs.Nest.{kinds_of}
 use Rattle.dp_conf.proofs.GroupsLemmas.{one_reading}
 use Rattle.dp_conf.proofs.NestLemmas.{come, come-mark, come-over, come-text, come-above, nesting_of-length}
+use Rattle.dp_conf.proofs.PlainNest.{nesting_of-plain}
 use Rattle.dp_conf.proofs.nest.nesting.Goals as goal
+
+pub returns-then-not-contains-clause-exact : goal.returns-then-not-contains-clause-exact
+returns-then-not-contains-clause-exact c =
+    let none : list_any (λ b. eqb b 36) c.args.text.now ≡ false = search (rules, tests) in
+    sym (nesting_of-plain c.args.text.now none)
+
+pub returns-then-not-contains-clause-reading : goal.returns-then-not-contains-clause-reading
+unfolding nesting_of
+returns-then-not-contains-clause-reading c reading reads =
+    let none : list_any (λ b. eqb b 36) c.args.text.now ≡ false = search (rules, tests) in
+    sym (nesting_of-plain c.args.text.now none) ∙ ap depth_of (sym ((one_reading c.args.text.now reading).0 reads))
 
 pub loop-mark-init : goal.loop-mark-init
 loop-mark-init c =
