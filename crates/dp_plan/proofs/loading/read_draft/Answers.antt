@@ -1,4 +1,3 @@
-use Rattle.std.proofs.Common.{sym}
 use Rattle.dp_conf.specs.Lines.{lines_of}
 use Rattle.dp_conf.proofs.AnswersLemmas.{Refuses-passed_on}
 use Rattle.dp_plan.specs.Faults.{reason_of}
