@@ -150,29 +150,6 @@ fn ring_picked(agents: &mut Agents, asked: Asked, picked: Option<&Member>) -> us
     }
 }
 
-/// Makes the agents ring that the strategy of the queue chooses: how many do.
-fn ring(agents: &mut Agents, asked: Asked, queue: &Queue) -> usize
-    requires { StandOnce queue.now.members }
-    ensures agents { agents.new ≡ spec.all_ringing asked.queue asked.channel
-        (spec.chosen_of agents.old asked.penalty queue.now) agents.old }
-    ensures count { result ≡ length (spec.chosen_of agents.old asked.penalty queue.now) }
-{
-    let strategy = queue.settings().strategy;
-    match strategy {
-        Strategy::RingAll => ring_candidates(agents, asked, queue.members()),
-        Strategy::Linear | Strategy::LeastRecent | Strategy::FewestCalls | Strategy::RrMemory => {
-            let chosen = picked(
-                strategy,
-                queue.last(),
-                agents.list(),
-                asked.penalty,
-                queue.members(),
-            );
-            ring_picked(agents, asked, chosen)
-        }
-    }
-}
-
 /// The agent that is remembered behind a choice.
 fn remembered(last: Option<usize>, picked: Option<&Member>) -> Option<usize>
     ensures { result ≡ choices.remembered last (option_copied picked.entry) }
@@ -183,22 +160,44 @@ fn remembered(last: Option<usize>, picked: Option<&Member>) -> Option<usize>
     }
 }
 
-/// The agent that the queue remembers behind an offer. It changes under `rrmemory` alone.
-fn last_behind(agents: &[Agent], penalty: u32, queue: &Queue) -> Option<usize>
-    ensures { result ≡ choices.last_behind queue.now.settings.strategy queue.now.last (choices.is_candidate agents.now penalty) queue.now.members }
+/// The member that the strategy of the queue chooses; `ringall` chooses none alone.
+fn picked_in<'a>(agents: &[Agent], penalty: u32, queue: &'a Queue) -> Option<&'a Member>
+    ensures { option_copied result ≡ choices.picked queue.now.settings.strategy queue.now.last (choices.is_candidate agents.now penalty) queue.now.members }
+{
+    picked(
+        queue.settings().strategy,
+        queue.last(),
+        agents,
+        penalty,
+        queue.members(),
+    )
+}
+
+/// Makes the agents ring that the strategy of the queue chooses: how many do, and the agent that the queue remembers, which
+/// changes under `rrmemory` alone.
+fn ring(agents: &mut Agents, asked: Asked, queue: &Queue) -> (usize, Option<usize>)
+    requires { StandOnce queue.now.members }
+    ensures agents { agents.new ≡ spec.all_ringing asked.queue asked.channel
+        (spec.chosen_of agents.old asked.penalty queue.now) agents.old }
+    ensures count { result.0 ≡ length (spec.chosen_of agents.old asked.penalty queue.now) }
+    ensures last { result.1 ≡ choices.last_behind queue.now.settings.strategy queue.now.last
+        (choices.is_candidate agents.old asked.penalty) queue.now.members }
 {
     match queue.settings().strategy {
-        Strategy::RingAll | Strategy::Linear | Strategy::LeastRecent | Strategy::FewestCalls =>
-            queue.last(),
+        Strategy::RingAll => {
+            let count = ring_candidates(agents, asked, queue.members());
+            (count, queue.last())
+        }
+        Strategy::Linear | Strategy::LeastRecent | Strategy::FewestCalls => {
+            let chosen = picked_in(agents.list(), asked.penalty, queue);
+            let count = ring_picked(agents, asked, chosen);
+            (count, queue.last())
+        }
         Strategy::RrMemory => {
-            let chosen = picked(
-                Strategy::RrMemory,
-                queue.last(),
-                agents,
-                penalty,
-                queue.members(),
-            );
-            remembered(queue.last(), chosen)
+            let chosen = picked_in(agents.list(), asked.penalty, queue);
+            let last = remembered(queue.last(), chosen);
+            let count = ring_picked(agents, asked, chosen);
+            (count, last)
         }
     }
 }
@@ -213,8 +212,7 @@ fn ring_at(queues: &mut QueueList, agents: &mut Agents, asked: Asked) -> usize
     ensures count { result ≡ length (spec.chosen_in agents.old asked.penalty (slice_get queues.old asked.queue)) }
 {
     let queue = &queues.list()[asked.queue];
-    let last = last_behind(agents.list(), asked.penalty, queue);
-    let count = ring(agents, asked, queue);
+    let (count, last) = ring(agents, asked, queue);
     queues.set_last(asked.queue, last);
     count
 }

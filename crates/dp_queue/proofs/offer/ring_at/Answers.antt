@@ -1,6 +1,6 @@
 use Rattle.std.proofs.Common.{◌≡◌, Some, refl, ap, ◌∙◌, sym, length, slice_get, arith}
 use Rattle.std.proofs.lemmas.Option.{slice_get_read}
-use Rattle.dp_queue.specs.Choices.{is_candidate, last_behind, with_last}
+use Rattle.dp_queue.specs.Choices.{with_last}
 use Rattle.dp_queue.specs.Offers.{with_choice, all_ringing, chosen_in}
 use Rattle.dp_queue.proofs.ChangeLemmas.{changed_at-same}
 use Rattle.dp_queue.proofs.offer.ring_at.Goals as goal
@@ -16,12 +16,9 @@ asked c =
 pub returns-clause-queues : goal.returns-clause-queues
 returns-clause-queues c =
     let q = c.index-list-asked.result in
-    let penalty = c.args.asked.penalty in
-    let last : c.last_behind-last.result ≡ last_behind q.settings.strategy q.last (is_candidate c.args.agents.now penalty) q.members =
-    c.last_behind-last.ensures ∙ ap (λ x. last_behind q.settings.strategy q.last (is_candidate x penalty) q.members) c.list-2.ensures in
     c.set_last.ensures
-    ∙ changed_at-same (with_last c.last_behind-last.result) (with_choice c.args.agents.now penalty) c.args.asked.queue c.args.queues.now q (asked c)
-    (ap (λ l. with_last l q) last)
+    ∙ changed_at-same (with_last c.ring-count.result.1) (with_choice c.args.agents.now c.args.asked.penalty) c.args.asked.queue c.args.queues.now q
+    (asked c) (ap (λ l. with_last l q) c.ring-count.ensures.last)
 
 pub returns-clause-agents : goal.returns-clause-agents
 returns-clause-agents c =
