@@ -7,6 +7,7 @@ pub mod OfferLemmas
 pub mod PlacesLemmas
 pub mod RefusedLemmas
 pub mod RestLemmas
+pub mod StandsLemmas
 pub mod TalkLemmas
 pub mod WaitingLemmas
 pub mod WordLemmas

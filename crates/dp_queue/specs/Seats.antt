@@ -1,22 +1,31 @@
 -- Where each channel waits, kept beside the waiting lists.
-use Rattle.std.specs.Prelude.{◌≡◌, ℕ, Bool, true, not, ◌==◌, nat_eq, List, Option, Some, None, if◌then◌else◌}
+use Rattle.std.specs.Prelude.{◌≡◌, ℕ, Bool, true, false, not, ◌==◌, nat_eq, List, Option, Some, None, slice_get, if◌then◌else◌}
 use Rattle.std.specs.HashMap.{HashMap, get}
-use Rattle.std.specs.Option.{option_map}
+use Rattle.std.specs.Option.{option_map, unwrap_or}
 use Rattle.std.specs.declared.hash.BuildHasherDefault.{BuildHasherDefault}
 use Rattle.std.specs.declared.hash.FoldHasher.{FoldHasher}
 use Rattle.dp_queue.specs.Agents.{is_rung}
 use Rattle.dp_queue.specs.Joining.{waits_in}
 use Rattle.dp_queue.specs.Queues.{QueueOf}
 use Rattle.dp_queue.specs.declared.agent.Agent.{Agent}
+use Rattle.dp_queue.specs.declared.seat.Sitting.{Sitting}
 use Rattle.dp_queue.specs.declared.seat.Seat.{Seat}
 
--- the seats by the numbers of the channels that wait
+-- the seats by the numbers of the channels that wait, each with the rank of the channel's arrival
 abbrev pub SeatsOf : Type 0
-SeatsOf = HashMap ℕ Seat (BuildHasherDefault FoldHasher)
+SeatsOf = HashMap ℕ Sitting (BuildHasherDefault FoldHasher)
 
 -- the seat of a channel
 abbrev pub seat_at : SeatsOf → ℕ → Option Seat
-seat_at seats c = get nat_eq seats c
+seat_at seats c = option_map (λ sitting. sitting.seat) (get nat_eq seats c)
+
+-- the rank of a channel's arrival
+abbrev pub arrival_of : SeatsOf → ℕ → ℕ
+arrival_of seats c = unwrap_or (option_map (λ sitting. sitting.arrival) (get nat_eq seats c)) 0
+
+-- the channel stands at a place of a waiting list
+abbrev pub stands_at : ℕ → List ℕ → ℕ → Bool
+stands_at c waiting place = unwrap_or (option_map (λ d. d == c) (slice_get waiting place)) false
 
 -- the seat of a channel that waits in this queue
 abbrev pub seat_in : List Agent → ℕ → ℕ → Seat

@@ -1,5 +1,5 @@
 //! How calls join queues and leave them, after the Asterisk documentation's page on the application `Queue`.
-ghost use Rattle.std.specs.Prelude.{◌≡◌, ◌<◌, ℕ, IfOk, OnOk, OnErr, None, Some, false, length};
+ghost use Rattle.std.specs.Prelude.{◌≡◌, ◌<◌, ◌≤◌, ℕ, IfOk, OnOk, OnErr, None, Some, false, length};
 ghost use Rattle.dp_queue.specs.Agents.{all_freed, is_rung, is_talking};
 ghost use Rattle.dp_queue.specs.Changes.{changed_at};
 ghost use Rattle.dp_queue.specs.Joining as spec;
@@ -9,7 +9,9 @@ use crate::agents::Agents;
 use crate::join::Join;
 use crate::queue_list::QueueList;
 use crate::queues::Queues;
-use crate::seat::{Seat, Seats, leave_seat, make_room, seat_at, take_seat};
+use crate::seat::{
+    Seat, Seats, leave_seat, make_room, next_arrival, place_by_arrival, seat_at, take_seat,
+};
 use dp_conf::NoMemory;
 use std::alloc::Global;
 
@@ -38,6 +40,7 @@ fn sit(
     ensures same { OnErr result ((c : ℕ) → seat_at seats.new c ≡ seat_at seats.old c) }
 {
     make_room(seats)?;
+    let arrival = next_arrival(seats, queues.list()[number].waiting());
     queues.push_caller(number, channel)?;
     take_seat(
         seats,
@@ -46,6 +49,7 @@ fn sit(
             queue: number,
             is_rung: false,
         },
+        arrival,
     );
     Ok(())
 }
@@ -59,12 +63,14 @@ pub(crate) fn unseat(
     channel: u32,
 )
     requires within { seat.queue < length queues.old }
+    requires once { spec.times_waiting queues.old channel ≤ 1 }
     requires rung { seat.is_rung ≡ is_rung agents.old channel }
     ensures queues { queues.new ≡ changed_at (spec.without_caller channel) seat.queue queues.old }
     ensures agents { agents.new ≡ all_freed channel agents.old }
     ensures seats { ReplacesSeat channel None seats.old seats.new }
 {
-    queues.remove_caller(seat.queue, channel);
+    let place = place_by_arrival(seats, queues.list()[seat.queue].waiting(), channel);
+    queues.remove_caller(seat.queue, place, channel);
     if seat.is_rung {
         agents.free_all(channel);
     }

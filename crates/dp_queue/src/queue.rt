@@ -1,5 +1,5 @@
 //! A call queue.
-ghost use Rattle.std.specs.Prelude.{◌≡◌, ◌==◌, false, OnOk, OnErr, IfSome, ◌<◌, length};
+ghost use Rattle.std.specs.Prelude.{◌≡◌, ◌==◌, false, OnOk, OnErr, IfSome, ◌<◌, ◌≤◌, length};
 ghost use Rattle.std.specs.List.{find, position};
 ghost use Rattle.std.specs.VecDeque.{deque_len};
 ghost use Rattle.dp_queue.specs.Changes.{without};
@@ -7,6 +7,7 @@ ghost use Rattle.dp_queue.specs.Calls as calls;
 ghost use Rattle.dp_queue.specs.File as file;
 ghost use Rattle.dp_queue.specs.Joining as joining;
 ghost use Rattle.dp_queue.specs.Members as members;
+ghost use Rattle.dp_queue.specs.Seats.{stands_at};
 
 use crate::join::Join;
 use crate::member::{Member, has_active};
@@ -73,11 +74,34 @@ fn place_of(waiting: &VecDeque<u32>, channel: u32) -> Option<usize>
     waiting.iter().position(|other| *other == channel)
 }
 
-/// Takes a channel out of a waiting list.
-fn take_out(waiting: &mut VecDeque<u32>, channel: u32)
+/// Whether a channel stands at a place of a waiting list.
+fn stands_at(waiting: &VecDeque<u32>, place: usize, channel: u32) -> bool
+    ensures { result ≡ stands_at channel waiting.now.items place }
+{
+    match waiting.get(place) {
+        Some(other) => *other == channel,
+        None => false,
+    }
+}
+
+/// Where a channel stands in a waiting list, by the place where it may be.
+fn place_by(waiting: &VecDeque<u32>, hint: usize, channel: u32) -> Option<usize>
+    requires { joining.times_in channel waiting.now.items ≤ 1 }
+    ensures place { result ≡ position (λ d. d == channel) waiting.now.items }
+    ensures within { IfSome result (λ place. place < deque_len waiting.now) }
+{
+    if stands_at(waiting, hint, channel) {
+        return Some(hint);
+    }
+    place_of(waiting, channel)
+}
+
+/// Takes a channel out of a waiting list, by the place where it may be.
+fn take_out(waiting: &mut VecDeque<u32>, hint: usize, channel: u32)
+    requires { joining.times_in channel waiting.old.items ≤ 1 }
     ensures { waiting.new.items ≡ without (λ d. d == channel) waiting.old.items }
 {
-    if let Some(place) = place_of(waiting, channel) {
+    if let Some(place) = place_by(waiting, hint, channel) {
         let _channel = waiting.remove(place);
     }
 }
@@ -161,11 +185,12 @@ impl Queue {
         Ok(())
     }
 
-    /// Takes a call out.
-    pub(crate) fn remove_caller(&mut self, channel: u32)
+    /// Takes a call out, by the place where it may stand.
+    pub(crate) fn remove_caller(&mut self, hint: usize, channel: u32)
+        requires { joining.times_in channel self.old.waiting ≤ 1 }
         ensures { self.new ≡ joining.without_caller channel self.old }
     {
-        take_out(&mut self.waiting, channel);
+        take_out(&mut self.waiting, hint, channel);
     }
 
     /// How many calls wait.

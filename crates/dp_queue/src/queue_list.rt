@@ -1,11 +1,11 @@
 //! The queues of an exchange, by their numbers and by their names.
-ghost use Rattle.std.specs.Prelude.{◌≡◌, ◌<◌, ◌++◌, ◌∷◌, [], false, None, IfSome, OnOk, OnErr, Option, ℕ, length, map, vec_len};
+ghost use Rattle.std.specs.Prelude.{◌≡◌, ◌<◌, ◌≤◌, ◌++◌, ◌∷◌, [], false, None, IfSome, OnOk, OnErr, Option, ℕ, length, map, vec_len};
 ghost use Rattle.std.specs.List.{position};
 ghost use Rattle.dp_queue.specs.Calls.{finished_queue};
 ghost use Rattle.dp_queue.specs.Changes.{changed_at};
 ghost use Rattle.dp_queue.specs.Choices.{with_last};
 ghost use Rattle.dp_queue.specs.File.{queue_named, with_queue_setting};
-ghost use Rattle.dp_queue.specs.Joining.{with_caller, without_caller};
+ghost use Rattle.dp_queue.specs.Joining.{times_waiting, with_caller, without_caller};
 ghost use Rattle.dp_queue.specs.Members.{is_member_at, with_member, without_member, paused_queue};
 ghost use Rattle.dp_queue.specs.Places.{AreWorded, is_worded_at};
 ghost use Rattle.dp_queue.specs.Queues as spec;
@@ -82,13 +82,14 @@ fn push_caller_at(queues: &mut Vec<Queue>, number: usize, channel: u32) -> Resul
     queue.push_caller(channel)
 }
 
-/// Takes a call out of the queue of a number.
-fn remove_caller_at(queues: &mut Vec<Queue>, number: usize, channel: u32)
-    requires { number < vec_len queues.old }
+/// Takes a call out of the queue of a number, by the place where it may stand.
+fn remove_caller_at(queues: &mut Vec<Queue>, number: usize, hint: usize, channel: u32)
+    requires within { number < vec_len queues.old }
+    requires once { times_waiting queues.old.items channel ≤ 1 }
     ensures { queues.new.items ≡ changed_at (without_caller channel) number queues.old.items }
 {
     let queue = &mut queues[number];
-    queue.remove_caller(channel);
+    queue.remove_caller(hint, channel);
 }
 
 /// Adds a member to the queue of a number, in which its agent is none.
@@ -211,12 +212,13 @@ impl QueueList {
         Ok(())
     }
 
-    /// Takes a call out of the queue of a number.
-    pub(crate) fn remove_caller(&mut self, number: usize, channel: u32)
-        requires { number < length self.old }
+    /// Takes a call out of the queue of a number, by the place where it may stand.
+    pub(crate) fn remove_caller(&mut self, number: usize, hint: usize, channel: u32)
+        requires within { number < length self.old }
+        requires once { times_waiting self.old channel ≤ 1 }
         ensures { self.new ≡ changed_at (without_caller channel) number self.old }
     {
-        remove_caller_at(&mut self.list, number, channel);
+        remove_caller_at(&mut self.list, number, hint, channel);
     }
 
     /// Adds a member to the queue of a number, in which its agent is none.

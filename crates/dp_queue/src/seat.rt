@@ -4,8 +4,9 @@ ghost use Rattle.std.specs.HashMap.{spare};
 ghost use Rattle.std.specs.Prelude.{◌≡◌, ◌<◌, ℕ, OnOk, None, Some, IsSome};
 ghost use Rattle.dp_queue.specs.Seats as spec;
 
+use crate::member::one_more;
 use dp_conf::NoMemory;
-use std::collections::HashMap;
+use std::collections::{HashMap, VecDeque};
 
 /// The number of the queue in which a channel waits, and whether an agent rings for it.
 #[derive(Clone, Copy, Debug, PartialEq, Eq)]
@@ -14,14 +15,49 @@ pub(crate) struct Seat {
     pub(crate) is_rung: bool,
 }
 
+/// A seat, and the rank of the channel's arrival: of the channels that wait in one queue, each has more than those before
+/// it.
+#[derive(Clone, Copy, Debug, PartialEq, Eq)]
+pub(crate) struct Sitting {
+    pub(crate) seat: Seat,
+    pub(crate) arrival: u64,
+}
+
 /// The seats of the channels that wait, by the numbers of the channels.
-pub(crate) type Seats = HashMap<u32, Seat>;
+pub(crate) type Seats = HashMap<u32, Sitting>;
 
 /// The seat of a channel that waits.
 pub(crate) fn seat_at(seats: &Seats, channel: u32) -> Option<Seat>
     ensures { result ≡ spec.seat_at seats.now channel }
 {
-    seats.get(&channel).copied()
+    match seats.get(&channel) {
+        Some(sitting) => Some(sitting.seat),
+        None => None,
+    }
+}
+
+/// The rank of a channel's arrival; 0 where it does not wait.
+fn arrival_of(seats: &Seats, channel: u32) -> u64
+    ensures { result ≡ spec.arrival_of seats.now channel }
+{
+    match seats.get(&channel) {
+        Some(sitting) => sitting.arrival,
+        None => 0,
+    }
+}
+
+/// The rank of the next arrival behind those who wait.
+pub(crate) fn next_arrival(seats: &Seats, waiting: &VecDeque<u32>) -> u64 {
+    match waiting.back() {
+        Some(last) => one_more(arrival_of(seats, *last)),
+        None => 0,
+    }
+}
+
+/// Where a channel stands that waits, found by halves, since the arrivals rise along the list.
+pub(crate) fn place_by_arrival(seats: &Seats, waiting: &VecDeque<u32>, channel: u32) -> usize {
+    let arrival = arrival_of(seats, channel);
+    waiting.partition_point(|other| arrival_of(seats, *other) < arrival)
 }
 
 /// Makes room for one more seat. No seat changes.
@@ -34,11 +70,11 @@ pub(crate) fn make_room(seats: &mut Seats) -> Result<(), NoMemory>
 }
 
 /// Seats a channel, for which there is room.
-pub(crate) fn take_seat(seats: &mut Seats, channel: u32, seat: Seat)
+pub(crate) fn take_seat(seats: &mut Seats, channel: u32, seat: Seat, arrival: u64)
     requires { 0 < spare seats.old }
     ensures { spec.ReplacesSeat channel (Some seat) seats.old seats.new }
 {
-    let seated: Result<_, _> = seats.insert(channel, seat);
+    let seated: Result<_, _> = seats.insert(channel, Sitting { seat, arrival });
     seated.unwrap();
 }
 
@@ -47,8 +83,8 @@ pub(crate) fn put_seat(seats: &mut Seats, channel: u32, seat: Seat)
     requires { IsSome (spec.seat_at seats.old channel) }
     ensures { spec.ReplacesSeat channel (Some seat) seats.old seats.new }
 {
-    if let Some(place) = seats.get_mut(&channel) {
-        *place = seat;
+    if let Some(sitting) = seats.get_mut(&channel) {
+        sitting.seat = seat;
     }
 }
 

@@ -32,3 +32,6 @@ unseat-requires-clause-rung c =
     let channel = c.in-Ringing.channel in
     let is : state_at q.agents a ≡ Ringing c.in-Ringing.queue channel = sym (c.in-Ringing.ensures ∙ ap (λ x. state_at x a) c.list.ensures) in
     sym (is_rung-some q.agents channel a (ap (rings_for channel) is ∙ eq-eqb channel channel refl))
+
+pub unseat-requires-clause-once : goal.unseat-requires-clause-once
+unseat-requires-clause-once c = c.self.invariant.0.waits_once c.in-Ringing.channel

@@ -24,3 +24,6 @@ pub unseat-requires-clause-rung : goal.unseat-requires-clause-rung
 unseat-requires-clause-rung c =
     let q = c.self.inside in
     seated-rung q.seats q.queues q.agents c.args.channel c.in-Some.seat c.self.invariant.1 (sym c.in-Some.ensures)
+
+pub unseat-requires-clause-once : goal.unseat-requires-clause-once
+unseat-requires-clause-once c = c.self.invariant.0.waits_once c.args.channel
