@@ -1,10 +1,11 @@
 -- The agents behind a change of states.
-use Rattle.std.proofs.Common.{◌≡◌, ℕ, zero, suc, ◌<◌, Bool, true, false, ◌||◌, if◌then◌else◌, List, [], ◌∷◌, Option, refl, length, ap, ◌∙◌, arith}
+use Rattle.std.proofs.Common.{◌≡◌, ℕ, zero, suc, ◌+◌, ◌<◌, ◌==◌, Bool, true, false, not, ◌||◌, if◌then◌else◌, List, [], ◌∷◌, Option, refl, sym, length, ap, ◌∙◌, arith}
 use Rattle.std.specs.Option.{option_map, unwrap_or}
-use Rattle.dp_queue.specs.Agents.{state_at, rings_for, is_idle, is_rung, with_state, with_state_at, freed_state, all_freed}
+use Rattle.dp_queue.specs.Agents.{state_at, rings_for, is_idle, is_rung, with_state, with_state_at, freed, freed_state, all_freed}
+use Rattle.dp_queue.specs.Seats.{rung_count}
 use Rattle.dp_queue.specs.declared.agent.Agent.{Agent}
 use Rattle.dp_queue.specs.declared.agent.AgentState.{AgentState}
-use Rattle.dp_queue.specs.declared.agent.AgentState.TheVariants.{Idle}
+use Rattle.dp_queue.specs.declared.agent.AgentState.TheVariants.{Idle, Talking}
 use Rattle.dp_queue.proofs.ChangeLemmas.{slice_get-changed_other}
 
 -- the agent of the number is in the new state
@@ -30,38 +31,68 @@ state_at-within [] k busy = absurd (cc)
 state_at-within (a ∷ as') zero busy = omega arith
 state_at-within (a ∷ as') (suc k) busy = let rest : k < length as' = state_at-within as' k busy in omega arith
 
--- a change that rings for the channel as before leaves it rung as before
-pub is_rung-same : (n : ℕ) (s : AgentState) (agents : List Agent) (c : ℕ) → rings_for c s ≡ rings_for c (state_at agents n)
-    → is_rung (with_state_at n s agents) c ≡ is_rung agents c
-is_rung-same n s [] c same = refl
-is_rung-same zero s (a ∷ as') c same = ap (λ (b : Bool). b || is_rung as' c) same
-is_rung-same (suc n) s (a ∷ as') c same = ap (λ (b : Bool). rings_for c a.state || b) (is_rung-same n s as' c same)
+-- a change that rings for the channel as before leaves as many to ring for it
+pub rung-same : (n : ℕ) (s : AgentState) (agents : List Agent) (c : ℕ) → rings_for c s ≡ rings_for c (state_at agents n)
+    → rung_count (with_state_at n s agents) c ≡ rung_count agents c
+rung-same n s [] c same = refl
+rung-same zero s (a ∷ as') c same = ap (λ (b : Bool). (if b then 1 else 0) + rung_count as' c) same
+rung-same (suc n) s (a ∷ as') c same = ap (λ (k : ℕ). (if rings_for c a.state then 1 else 0) + k) (rung-same n s as' c same)
 
--- either or true is true
-pub or_true : (b : Bool) → (b || true) ≡ true
-or_true true = refl
-or_true false = refl
+-- an agent that comes to ring for it is one more
+pub rung-more : (n : ℕ) (s : AgentState) (agents : List Agent) (c : ℕ) → n < length agents → rings_for c s ≡ true
+    → rings_for c (state_at agents n) ≡ false → rung_count (with_state_at n s agents) c ≡ suc (rung_count agents c)
+rung-more n s [] c within rings silent = absurd (omega (arith, within))
+rung-more zero s (a ∷ as') c within rings silent =
+    let one : ◌≡◌ {A = ℕ} (if rings_for c s then 1 else 0) 1 = ap (λ (b : Bool). if b then 1 else 0) rings in
+    let none : ◌≡◌ {A = ℕ} (if rings_for c a.state then 1 else 0) 0 = ap (λ (b : Bool). if b then 1 else 0) silent in
+    omega (arith, one, none)
+rung-more (suc n) s (a ∷ as') c within rings silent = omega (arith, rung-more n s as' c (omega (arith, within)) rings silent)
+
+-- one that no longer rings for it is one less
+pub rung-less : (n : ℕ) (s : AgentState) (agents : List Agent) (c : ℕ) → rings_for c s ≡ false → rings_for c (state_at agents n) ≡ true
+    → rung_count agents c ≡ suc (rung_count (with_state_at n s agents) c)
+rung-less n s [] c silent rings = absurd (cc)
+rung-less zero s (a ∷ as') c silent rings =
+    let none : ◌≡◌ {A = ℕ} (if rings_for c s then 1 else 0) 0 = ap (λ (b : Bool). if b then 1 else 0) silent in
+    let one : ◌≡◌ {A = ℕ} (if rings_for c a.state then 1 else 0) 1 = ap (λ (b : Bool). if b then 1 else 0) rings in
+    omega (arith, one, none)
+rung-less (suc n) s (a ∷ as') c silent rings = omega (arith, rung-less n s as' c silent rings)
+
+-- an agent that rings for it and becomes idle would become idle with the others
+pub all_freed-idle : (c n : ℕ) (agents : List Agent) → rings_for c (state_at agents n) ≡ true
+    → all_freed c (with_state_at n Idle agents) ≡ all_freed c agents
+all_freed-idle c n [] rings = refl
+all_freed-idle c zero (a ∷ as') rings = ap (λ (b : Bool). with_state (if b then Idle else a.state) a ∷ all_freed c as') (sym rings)
+all_freed-idle c (suc n) (a ∷ as') rings = ap (λ (t : List Agent). freed c a ∷ t) (all_freed-idle c n as' rings)
+
+-- one that talks stays where the others become idle
+pub all_freed-talking : (c n k d : ℕ) (agents : List Agent)
+    → all_freed c (with_state_at n (Talking k d) agents) ≡ with_state_at n (Talking k d) (all_freed c agents)
+all_freed-talking c n k d [] = refl
+all_freed-talking c zero k d (a ∷ as') = refl
+all_freed-talking c (suc n) k d (a ∷ as') = ap (λ (t : List Agent). freed c a ∷ t) (all_freed-talking c n k d as')
 
 -- where none rings for the channel, none becomes idle
-pub all_freed-unrung : (c : ℕ) (agents : List Agent) → is_rung agents c ≡ false → all_freed c agents ≡ agents
+pub all_freed-unrung : (c : ℕ) (agents : List Agent) → rung_count agents c ≡ 0 → all_freed c agents ≡ agents
 all_freed-unrung c [] none = refl
 all_freed-unrung c (a ∷ as') none = by (rings_for c a.state) refl none (all_freed-unrung c as')
   where
-    by : (b : Bool) → rings_for c a.state ≡ b → (b || is_rung as' c) ≡ false → (is_rung as' c ≡ false → all_freed c as' ≡ as')
+    by : (b : Bool) → rings_for c a.state ≡ b → (if b then 1 else 0) + rung_count as' c ≡ 0 → (rung_count as' c ≡ 0 → all_freed c as' ≡ as')
         → all_freed c (a ∷ as') ≡ a ∷ as'
-    by true rings none rest = absurd (cc)
-    by false silent none rest = (λ i. with_state (if silent i then Idle else a.state) a ∷ rest none i)
+    by true rings none rest = absurd (omega (arith, none))
+    by false silent none rest = (λ i. with_state (if silent i then Idle else a.state) a ∷ rest (omega (arith, none)) i)
 
--- where one rings for it, some agent does
-pub is_rung-some : (agents : List Agent) (c k : ℕ) → rings_for c (state_at agents k) ≡ true → is_rung agents c ≡ true
-is_rung-some [] c k rings = absurd (cc)
-is_rung-some (a ∷ as') c zero rings = ap (λ (b : Bool). b || is_rung as' c) rings
-is_rung-some (a ∷ as') c (suc k) rings = ap (λ (b : Bool). rings_for c a.state || b) (is_rung-some as' c k rings) ∙ or_true (rings_for c a.state)
-
--- an agent that comes to ring for it makes the channel rung
-pub is_rung-set : (n : ℕ) (s : AgentState) (agents : List Agent) (c : ℕ) → n < length agents → rings_for c s ≡ true
-    → is_rung (with_state_at n s agents) c ≡ true
-is_rung-set n s [] c within rings = absurd (omega (arith, within))
-is_rung-set zero s (a ∷ as') c within rings = ap (λ (b : Bool). b || is_rung as' c) rings
-is_rung-set (suc n) s (a ∷ as') c within rings =
-    ap (λ (b : Bool). rings_for c a.state || b) (is_rung-set n s as' c (omega (arith, within)) rings) ∙ or_true (rings_for c a.state)
+-- some agent rings for the channel exactly where one is counted
+pub rung-none : (agents : List Agent) (c : ℕ) → (rung_count agents c == 0) ≡ not (is_rung agents c)
+rung-none [] c = refl
+rung-none (a ∷ as') c = by (rings_for c a.state) (rung-none as' c)
+  where
+    by : (b : Bool) → (rung_count as' c == 0) ≡ not (is_rung as' c) → ((if b then 1 else 0) + rung_count as' c == 0) ≡ not (b || is_rung as' c)
+    by true rest = ltb-apart (rung_count as' c)
+      where
+        ltb-apart : (n : ℕ) → (1 + n == 0) ≡ false
+        ltb-apart n = grind arith
+    by false rest = ap (λ (n : ℕ). n == 0) zero_more ∙ rest
+      where
+        zero_more : 0 + rung_count as' c ≡ rung_count as' c
+        zero_more = omega arith

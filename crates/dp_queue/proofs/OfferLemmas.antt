@@ -1,19 +1,19 @@
 -- What an offer asks for, and the agents that come to ring.
 use Rattle.std.proofs.Common.{◌≡◌, ◌≢◌, ℕ, zero, suc, ◌+◌, ◌<◌, ◌==◌, nat_lt, Bool, true, false, not, ◌&&◌, ◌||◌, List, [], ◌∷◌, ◌++◌, Option, Some, None, Result, Ok, refl, sym, length, ap, ◌∙◌, arith, if◌then◌else◌, slice_get, subst, fold, take, drop}
 use Rattle.std.proofs.lemmas.Option.{same_Some}
-use Rattle.std.proofs.lemmas.Bool.{lt-ltb}
 use Rattle.std.proofs.lemmas.List.Elements.{All-nil, All-cons, All-head, All-tail, All-append, All-drop, All-take, All-filter, All-weaker, filter_passes}
+use Rattle.std.proofs.lemmas.List.Kept.{AllPairs-filter}
 use Rattle.std.specs.Option.{option_map, option_to_list}
 use Rattle.std.specs.List.{All, filter, find, list_any, position}
 use Rattle.dp_queue.specs.Agents.{state_at, is_idle, is_rung, rings_for, with_state_at}
-use Rattle.dp_queue.specs.Choices.{is_idle_at, is_candidate, least_penalty, lesser, rank, turned_at, turned, chosen}
+use Rattle.dp_queue.specs.Choices.{is_idle_at, is_candidate, least_penalty, lesser, rank, turned_at, turned, picked, chosen}
 use Rattle.dp_queue.specs.Good.{AreKnown, StandOnce, AreLinked}
 use Rattle.dp_queue.specs.Changes.{changed_at}
 use Rattle.dp_queue.specs.Joining.{has_caller, waits_in}
 use Rattle.dp_queue.specs.Members.{is_agent}
 use Rattle.dp_queue.specs.Offers.{all_ringing, chosen_in, chosen_of, with_choice, asked_at, asked_in, asked_by, asked_for}
 use Rattle.dp_queue.specs.Queues.{QueueOf}
-use Rattle.dp_queue.specs.Seats.{SeatsOf, AreSeated, ReplacesSeat, seat_in, is_unrung, is_unrung_in}
+use Rattle.dp_queue.specs.Seats.{SeatsOf, AreSeated, ReplacesSeat, rung_count, seat_in, is_unrung, is_unrung_in}
 use Rattle.dp_queue.specs.declared.agent.Agent.{Agent}
 use Rattle.dp_queue.specs.declared.agent.AgentState.{AgentState}
 use Rattle.dp_queue.specs.declared.agent.AgentState.TheVariants.{Idle, Ringing, Talking}
@@ -22,12 +22,12 @@ use Rattle.dp_queue.specs.declared.member.Member.{Member}
 use Rattle.dp_queue.specs.declared.offer.Asked.{Asked}
 use Rattle.dp_queue.specs.declared.settings.Strategy.{Strategy}
 use Rattle.dp_queue.specs.declared.settings.Strategy.TheVariants.{RingAll, Linear, LeastRecent, FewestCalls, RrMemory}
-use Rattle.dp_queue.proofs.AgentLemmas.{or_true, state_at-other, is_rung-same, is_rung-set}
+use Rattle.dp_queue.proofs.AgentLemmas.{state_at-other, rung-same, rung-more, rung-none}
 use Rattle.dp_queue.proofs.ChangeLemmas.{all-at, length-changed_at}
 use Rattle.dp_queue.proofs.GoodLemmas.{AreKept, linked-set, seated-replaced, kept-same}
-use Rattle.dp_queue.proofs.MemberLemmas.{keeps-same, members-changed, pairs-head}
+use Rattle.dp_queue.proofs.MemberLemmas.{keeps-same, members-changed, pairs-head, pairs-tail}
 use Rattle.dp_queue.proofs.WaitingLemmas.{lines, lines-changed_at, times-none, times-at, waits_in-at}
-use borrow.Author.Tests.{eq-eqb}
+use borrow.Author.Tests.{eqb-true, eq-eqb}
 
 -- an idle agent rings for no channel
 idle-rings : (s : AgentState) (d : ℕ) → is_idle s ≡ true → rings_for d s ≡ false
@@ -105,7 +105,7 @@ unrung-same seats qs as' (x ∷ xs) seated waits =
 
     mark : (o : Option ℕ) → (o ≡ None → ⊥) → is_unrung_in (option_map (seat_in as' x) o) ≡ not (is_rung as' x)
     mark None some = absurd (some refl)
-    mark (Some k) some = refl
+    mark (Some k) some = rung-none as' x
 
     here : is_unrung seats x ≡ not (is_rung as' x)
     here = ap is_unrung_in (seated x) ∙ mark (waits_in qs x) (waits x (ap (λ (b : Bool). b || list_any (λ e. e == x) xs) (eq-eqb x x refl)))
@@ -236,70 +236,79 @@ passes-chosen FewestCalls last test ms =
     all-least (λ (m : Member). test m ≡ true) (rank Calls) None (filter test ms) (All-nil (λ (m : Member). test m ≡ true)) (filter_passes test ms)
 passes-chosen RrMemory last test ms = passes-found test (turned last ms)
 
--- a state in which an agent rings for no channel but this one
-abbrev IsQuiet : ℕ → AgentState → Type 0
-IsQuiet c s = (d : ℕ) → (c == d) ≡ false → rings_for d s ≡ false
+-- of one member at most no two are one agent
+once-few : (o : Option Member) → StandOnce (option_to_list o)
+once-few None j k d before within = absurd (omega (arith, within))
+once-few (Some m) j k d before within = absurd (omega (arith, before, within))
 
--- such an agent is as quiet where one comes to ring for the channel
-quiet-set : (k c a b : ℕ) (as' : List Agent) → IsQuiet c (state_at as' b) → IsQuiet c (state_at (with_state_at a (Ringing k c) as') b)
-quiet-set k c a b [] quiet = quiet
-quiet-set k c zero zero (x ∷ xs) quiet = λ d other. other
-quiet-set k c zero (suc b) (x ∷ xs) quiet = quiet
-quiet-set k c (suc a) zero (x ∷ xs) quiet = quiet
-quiet-set k c (suc a) (suc b) (x ∷ xs) quiet = quiet-set k c a b xs quiet
+-- and of those that a strategy chooses
+once-chosen : (s : Strategy) (last : Option ℕ) (test : Member → Bool) (ms : List Member) → StandOnce ms → StandOnce (chosen s last test ms)
+once-chosen RingAll last test ms once = AllPairs-filter (λ (member : Member) (other : Member). member.agent ≢ other.agent) test ms once
+once-chosen Linear last test ms once = once-few (picked Linear last test ms)
+once-chosen LeastRecent last test ms once = once-few (picked LeastRecent last test ms)
+once-chosen FewestCalls last test ms once = once-few (picked FewestCalls last test ms)
+once-chosen RrMemory last test ms once = once-few (picked RrMemory last test ms)
 
--- agents behind the ringing of some for a channel
-pub record Rings (qs : List QueueOf) (c : ℕ) (before after : List Agent) (some : Bool) : Type 0 where
+-- other agents are as idle where one comes to ring
+idle-others : (a : ℕ) (s : AgentState) (as' : List Agent) (ms : List Member) → All (λ (m : Member). a ≢ m.agent) ms
+    → All (λ (m : Member). is_idle (state_at as' m.agent) ≡ true) ms → All (λ (m : Member). is_idle (state_at (with_state_at a s as') m.agent) ≡ true) ms
+idle-others a s as' [] others idle = All-nil (λ (m : Member). is_idle (state_at (with_state_at a s as') m.agent) ≡ true)
+idle-others a s as' (m ∷ ms) others idle =
+    All-cons (λ (x : Member). is_idle (state_at (with_state_at a s as') x.agent) ≡ true) m ms
+    (ap is_idle (state_at-other a s as' m.agent (λ is. All-head (λ (x : Member). a ≢ x.agent) m ms others (sym is)))
+    ∙ All-head (λ (x : Member). is_idle (state_at as' x.agent) ≡ true) m ms idle)
+    (idle-others a s as' ms (All-tail (λ (x : Member). a ≢ x.agent) m ms others) (All-tail (λ (x : Member). is_idle (state_at as' x.agent) ≡ true) m ms idle))
+
+-- agents behind the ringing of so many for a channel
+pub record Rings (qs : List QueueOf) (c : ℕ) (before after : List Agent) (count : ℕ) : Type 0 where
   pub linked : AreLinked qs after
-  pub marked : is_rung after c ≡ (is_rung before c || some)
-  pub others : (d : ℕ) → (c == d) ≡ false → is_rung after d ≡ is_rung before d
+  pub counted : rung_count after c ≡ rung_count before c + count
+  pub others : (d : ℕ) → (c == d) ≡ false → rung_count after d ≡ rung_count before d
 
 -- one more agent rings, before the others
-rings-more : (qs : List QueueOf) (k c : ℕ) (m : Member) (as' after : List Agent) (some : Bool) → m.agent < length as' → IsQuiet c (state_at as' m.agent)
-    → Rings qs c (with_state_at m.agent (Ringing k c) as') after some → Rings qs c as' after true
-rings-more qs k c m as' after some known quiet rest = record {
-  linked = rest.linked;
-  marked = rest.marked ∙ ap (λ (b : Bool). b || some) (is_rung-set m.agent (Ringing k c) as' c known (eq-eqb c c refl)) ∙ sym (or_true (is_rung as' c));
-  others = λ d other. rest.others d other ∙ is_rung-same m.agent (Ringing k c) as' d (other ∙ sym (quiet d other));
-}
+rings-more : (qs : List QueueOf) (k c : ℕ) (m : Member) (as' after : List Agent) (count : ℕ) → m.agent < length as'
+    → is_idle (state_at as' m.agent) ≡ true → Rings qs c (with_state_at m.agent (Ringing k c) as') after count → Rings qs c as' after (suc count)
+rings-more qs k c m as' after count known idle rest =
+    let more : rung_count (with_state_at m.agent (Ringing k c) as') c ≡ suc (rung_count as' c) =
+    rung-more m.agent (Ringing k c) as' c known (eq-eqb c c refl) (idle-rings (state_at as' m.agent) c idle) in
+    record {
+      linked = rest.linked;
+      counted = omega (arith, rest.counted, more);
+      others = λ d other. rest.others d other ∙ rung-same m.agent (Ringing k c) as' d (other ∙ sym (idle-rings (state_at as' m.agent) d idle));
+    }
 
 -- the agents of members ring
 rings-all : (qs : List QueueOf) (k c : ℕ) (ms : List Member) (as' : List Agent) → waits_in qs c ≡ Some k → AreLinked qs as'
-    → AreKnown (length as') ms → All (λ (m : Member). IsQuiet c (state_at as' m.agent)) ms
-    → Rings qs c as' (all_ringing k c ms as') (nat_lt 0 (length ms))
-rings-all qs k c [] as' waits linked known quiet = record {
+    → AreKnown (length as') ms → All (λ (m : Member). is_idle (state_at as' m.agent) ≡ true) ms → StandOnce ms
+    → Rings qs c as' (all_ringing k c ms as') (length ms)
+rings-all qs k c [] as' waits linked known idle once = record {
   linked = linked;
-  marked = by (is_rung as' c);
+  counted = omega arith;
   others = λ d other. refl;
 }
-  where
-    by : (b : Bool) → b ≡ (b || false)
-    by true = refl
-    by false = refl
-rings-all qs k c (m ∷ ms) as' waits linked known quiet =
+rings-all qs k c (m ∷ ms) as' waits linked known idle once =
     let next : List Agent = with_state_at m.agent (Ringing k c) as' in
     let here : m.agent < length as' = All-head (λ (member : Member). member.agent < length as') m ms known in
-    let some : nat_lt 0 (length (m ∷ ms)) ≡ true = lt-ltb 0 (length (m ∷ ms)) (omega arith) in
-    let P : Bool → Type 0 = λ b. Rings qs c as' (all_ringing k c ms next) b in
-    subst P (sym some) (rings-more qs k c m as' (all_ringing k c ms next) (nat_lt 0 (length ms)) here
-    (All-head (λ (member : Member). IsQuiet c (state_at as' member.agent)) m ms quiet)
+    rings-more qs k c m as' (all_ringing k c ms next) (length ms) here
+    (All-head (λ (member : Member). is_idle (state_at as' member.agent) ≡ true) m ms idle)
     (rings-all qs k c ms next waits (linked-set qs as' linked m.agent (Ringing k c) here waits (λ d talks. absurd (cc)))
     (subst (λ count. AreKnown count ms) (sym (length-changed_at _ m.agent as')) (All-tail (λ (member : Member). member.agent < length as') m ms known))
-    (All-weaker (λ (member : Member). IsQuiet c (state_at as' member.agent)) (λ (member : Member). IsQuiet c (state_at next member.agent))
-    (λ member quiet. quiet-set k c m.agent member.agent as' quiet) ms (All-tail (λ (member : Member). IsQuiet c (state_at as' member.agent)) m ms quiet))))
+    (idle-others m.agent (Ringing k c) as' ms (pairs-head (λ (member : Member) (other : Member). member.agent ≢ other.agent) m ms once)
+    (All-tail (λ (member : Member). is_idle (state_at as' member.agent) ≡ true) m ms idle))
+    (pairs-tail (λ (member : Member) (other : Member). member.agent ≢ other.agent) m ms once))
 
 -- an offer is made
-pub kept-offered : (seats new : SeatsOf) (qs ps : List QueueOf) (as' bs : List Agent) (asked : Asked) (mark : Bool)
+pub kept-offered : (seats new : SeatsOf) (qs ps : List QueueOf) (as' bs : List Agent) (asked : Asked) (count : ℕ)
     → AreKept seats qs as' → IsAsked qs as' asked
     → bs ≡ all_ringing asked.queue asked.channel (chosen_in as' asked.penalty (slice_get qs asked.queue)) as'
-    → mark ≡ nat_lt 0 (length (chosen_in as' asked.penalty (slice_get qs asked.queue)))
+    → count ≡ length (chosen_in as' asked.penalty (slice_get qs asked.queue))
     → ps ≡ changed_at (with_choice as' asked.penalty) asked.queue qs
-    → ReplacesSeat asked.channel (Some (record { queue = asked.queue; is_rung = mark })) seats new → AreKept new ps bs
-kept-offered seats new qs ps as' bs asked mark kept is_asked rung marked chose put =
+    → ReplacesSeat asked.channel (Some (record { queue = asked.queue; rung = count })) seats new → AreKept new ps bs
+kept-offered seats new qs ps as' bs asked count kept is_asked rung counted chose put =
     kept-same new new qs ps bs (
       all.linked,
-      seated-replaced seats new qs qs as' bs asked.channel (Some (record { queue = asked.queue; is_rung = mark })) kept.1 put
-          ((λ i. Some (record { queue = asked.queue; is_rung = same_mark i })) ∙ ap (option_map (seat_in bs asked.channel)) (sym waits))
+      seated-replaced seats new qs qs as' bs asked.channel (Some (record { queue = asked.queue; rung = count })) kept.1 put
+          ((λ i. Some (record { queue = asked.queue; rung = same_count i })) ∙ ap (option_map (seat_in bs asked.channel)) (sym waits))
           (λ d other. refl) all.others,
     )
     (ap length chose ∙ length-changed_at change asked.queue qs)
@@ -317,23 +326,29 @@ kept-offered seats new qs ps as' bs asked mark kept is_asked rung marked chose p
         (is_candidate as' asked.penalty) is_asked.queue.members
         (all-at (λ (q : QueueOf). AreKnown (length as') q.members) qs asked.queue is_asked.queue is_asked.at kept.0.members.are_agents)
 
-    quiet : All (λ (m : Member). IsQuiet asked.channel (state_at as' m.agent)) (chosen_of as' asked.penalty is_asked.queue)
-    quiet = All-weaker (λ (m : Member). is_candidate as' asked.penalty m ≡ true) (λ (m : Member). IsQuiet asked.channel (state_at as' m.agent))
-        (λ m may d other. idle-rings (state_at as' m.agent) d (candidate-idle as' asked.penalty m may))
+    idle : All (λ (m : Member). is_idle (state_at as' m.agent) ≡ true) (chosen_of as' asked.penalty is_asked.queue)
+    idle = All-weaker (λ (m : Member). is_candidate as' asked.penalty m ≡ true) (λ (m : Member). is_idle (state_at as' m.agent) ≡ true)
+        (λ m may. candidate-idle as' asked.penalty m may)
         (chosen_of as' asked.penalty is_asked.queue)
         (passes-chosen is_asked.queue.settings.strategy is_asked.queue.last (is_candidate as' asked.penalty) is_asked.queue.members)
+
+    once : StandOnce (chosen_of as' asked.penalty is_asked.queue)
+    once = once-chosen is_asked.queue.settings.strategy is_asked.queue.last (is_candidate as' asked.penalty) is_asked.queue.members
+        (all-at (λ (q : QueueOf). StandOnce q.members) qs asked.queue is_asked.queue is_asked.at kept.0.members.stand_once)
 
     waits : waits_in qs asked.channel ≡ Some asked.queue
     waits = asked-waits qs as' as' asked kept.0 is_asked
 
-    all : Rings qs asked.channel as' bs (nat_lt 0 (length (chosen_of as' asked.penalty is_asked.queue)))
-    all = let P : List Agent → Type 0 = λ xs. Rings qs asked.channel as' xs (nat_lt 0 (length (chosen_of as' asked.penalty is_asked.queue))) in
+    all : Rings qs asked.channel as' bs (length (chosen_of as' asked.penalty is_asked.queue))
+    all = let P : List Agent → Type 0 = λ xs. Rings qs asked.channel as' xs (length (chosen_of as' asked.penalty is_asked.queue)) in
         subst P (sym (rung ∙ ap (λ ms. all_ringing asked.queue asked.channel ms as') is_chosen))
-        (rings-all qs asked.queue asked.channel (chosen_of as' asked.penalty is_asked.queue) as' waits kept.0 known quiet)
+        (rings-all qs asked.queue asked.channel (chosen_of as' asked.penalty is_asked.queue) as' waits kept.0 known idle once)
 
-    same_mark : mark ≡ is_rung bs asked.channel
-    same_mark = marked ∙ ap (λ ms. nat_lt 0 (length ms)) is_chosen
-        ∙ sym (all.marked ∙ ap (λ (b : Bool). b || nat_lt 0 (length (chosen_of as' asked.penalty is_asked.queue))) is_asked.unrung)
+    nobody : rung_count as' asked.channel ≡ 0
+    nobody = eqb-true (rung_count as' asked.channel) 0 (rung-none as' asked.channel ∙ ap (λ (b : Bool). not b) is_asked.unrung)
+
+    same_count : count ≡ rung_count bs asked.channel
+    same_count = omega (arith, counted, ap length is_chosen, all.counted, nobody)
 
 -- the first that passes of two lists
 pub find-front : {X : Type 0} (p : X → Bool) (xs ys : List X) (x : X) → Some x ≡ find p xs → Some x ≡ find p (xs ++ ys)

@@ -1,10 +1,10 @@
 -- Where each channel waits, kept beside the waiting lists.
-use Rattle.std.specs.Prelude.{◌≡◌, ℕ, Bool, true, false, not, ◌==◌, nat_eq, List, Option, Some, None, slice_get, if◌then◌else◌}
+use Rattle.std.specs.Prelude.{◌≡◌, ℕ, ◌+◌, Bool, true, false, ◌==◌, nat_eq, List, [], ◌∷◌, Option, Some, None, slice_get, if◌then◌else◌}
 use Rattle.std.specs.HashMap.{HashMap, get}
 use Rattle.std.specs.Option.{option_map, unwrap_or}
 use Rattle.std.specs.declared.hash.BuildHasherDefault.{BuildHasherDefault}
 use Rattle.std.specs.declared.hash.FoldHasher.{FoldHasher}
-use Rattle.dp_queue.specs.Agents.{is_rung}
+use Rattle.dp_queue.specs.Agents.{rings_for}
 use Rattle.dp_queue.specs.Joining.{waits_in}
 use Rattle.dp_queue.specs.Queues.{QueueOf}
 use Rattle.dp_queue.specs.declared.agent.Agent.{Agent}
@@ -19,6 +19,10 @@ SeatsOf = HashMap ℕ Sitting (BuildHasherDefault FoldHasher)
 abbrev pub seat_at : SeatsOf → ℕ → Option Seat
 seat_at seats c = option_map (λ sitting. sitting.seat) (get nat_eq seats c)
 
+-- how many agents ring for a channel, by its seat
+abbrev pub rung_at : SeatsOf → ℕ → ℕ
+rung_at seats c = unwrap_or (option_map (λ seat. seat.rung) (seat_at seats c)) 0
+
 -- the rank of a channel's arrival
 abbrev pub arrival_of : SeatsOf → ℕ → ℕ
 arrival_of seats c = unwrap_or (option_map (λ sitting. sitting.arrival) (get nat_eq seats c)) 0
@@ -27,11 +31,16 @@ arrival_of seats c = unwrap_or (option_map (λ sitting. sitting.arrival) (get na
 abbrev pub stands_at : ℕ → List ℕ → ℕ → Bool
 stands_at c waiting place = unwrap_or (option_map (λ d. d == c) (slice_get waiting place)) false
 
+-- how many agents ring for the channel
+abbrev pub rung_count : List Agent → ℕ → ℕ
+rung_count [] c = 0
+rung_count (agent ∷ agents) c = (if rings_for c agent.state then 1 else 0) + rung_count agents c
+
 -- the seat of a channel that waits in this queue
 abbrev pub seat_in : List Agent → ℕ → ℕ → Seat
-seat_in agents c queue = record { queue = queue; is_rung = is_rung agents c }
+seat_in agents c queue = record { queue = queue; rung = rung_count agents c }
 
--- the seats say in which queue each channel waits, and whether an agent rings for it
+-- the seats say in which queue each channel waits, and how many agents ring for it
 abbrev pub AreSeated : SeatsOf → List QueueOf → List Agent → Type 0
 AreSeated seats queues agents = (c : ℕ) → seat_at seats c ≡ option_map (seat_in agents c) (waits_in queues c)
 
@@ -42,7 +51,7 @@ ReplacesSeat c seat old new = (d : ℕ) → seat_at new d ≡ (if c == d then se
 -- by its seat, no agent rings for the channel
 abbrev pub is_unrung_in : Option Seat → Bool
 is_unrung_in None = true
-is_unrung_in (Some seat) = not seat.is_rung
+is_unrung_in (Some seat) = seat.rung == 0
 
 abbrev pub is_unrung : SeatsOf → ℕ → Bool
 is_unrung seats c = is_unrung_in (seat_at seats c)

@@ -58,13 +58,6 @@ fn talks_with(state: AgentState, channel: u32) -> bool
     }
 }
 
-/// Whether some agent rings for the channel.
-pub(crate) fn is_rung(agents: &[Agent], channel: u32) -> bool
-    ensures { result ≡ spec.is_rung agents.now channel }
-{
-    agents.iter().any(|agent| rings_for(agent.state, channel))
-}
-
 /// The number of the agent that talks with the channel.
 fn find_talker(agents: &[Agent], channel: u32) -> Option<usize>
     ensures { result ≡ position (λ agent. spec.talks_with channel agent.state) agents.now }

@@ -3,12 +3,12 @@ ghost use Rattle.std.specs.Prelude.{◌≡◌};
 ghost use Rattle.dp_queue.specs.Agents.{state_at};
 ghost use Rattle.dp_queue.specs.Calls as spec;
 
-use crate::agent::{AgentState, is_rung, state_at, talker};
+use crate::agent::{AgentState, state_at, talker};
 use crate::call::Call;
 use crate::joining::unseat;
 use crate::member::one_more;
 use crate::queues::Queues;
-use crate::seat::{Seat, put_seat};
+use crate::seat::{Seat, put_seat, rung_at};
 
 impl Queues {
     /// The agent of this interface answers the call that it rings for: the call leaves the waiting list, the agent and
@@ -19,18 +19,16 @@ impl Queues {
         let number = self.agents.number_of(agent);
         match state_at(self.agents.list(), number) {
             AgentState::Ringing { queue, channel } => {
+                let rung = rung_at(&self.seats, channel) - 1;
+                self.agents
+                    .set_state(number, AgentState::Talking { queue, channel });
                 unseat(
                     &mut self.queues,
                     &mut self.agents,
                     &mut self.seats,
-                    Seat {
-                        queue,
-                        is_rung: true,
-                    },
+                    Seat { queue, rung },
                     channel,
                 );
-                self.agents
-                    .set_state(number, AgentState::Talking { queue, channel });
                 Some(Call {
                     queue,
                     agent: number,
@@ -48,9 +46,9 @@ impl Queues {
         let number = self.agents.number_of(agent);
         match state_at(self.agents.list(), number) {
             AgentState::Ringing { queue, channel } => {
+                let rung = rung_at(&self.seats, channel) - 1;
                 self.agents.set_state(number, AgentState::Idle);
-                let is_rung = is_rung(self.agents.list(), channel);
-                put_seat(&mut self.seats, channel, Seat { queue, is_rung });
+                put_seat(&mut self.seats, channel, Seat { queue, rung });
                 true
             }
             AgentState::Idle | AgentState::Talking { .. } => false,

@@ -1,11 +1,12 @@
 //! How calls join queues and leave them, after the Asterisk documentation's page on the application `Queue`.
 ghost use Rattle.std.specs.Prelude.{◌≡◌, ◌<◌, ◌≤◌, ℕ, IfOk, OnOk, OnErr, None, Some, false, length};
-ghost use Rattle.dp_queue.specs.Agents.{all_freed, is_rung, is_talking};
+ghost use Rattle.dp_queue.specs.Agents.{all_freed, is_talking};
 ghost use Rattle.dp_queue.specs.Changes.{changed_at};
 ghost use Rattle.dp_queue.specs.Joining as spec;
-ghost use Rattle.dp_queue.specs.Seats.{seat_at, ReplacesSeat};
+ghost use Rattle.dp_queue.specs.Seats.{seat_at, rung_count, ReplacesSeat};
 
 use crate::agents::Agents;
+use crate::freeing::free_rung;
 use crate::join::Join;
 use crate::queue_list::QueueList;
 use crate::queues::Queues;
@@ -35,7 +36,7 @@ fn sit(
 ) -> Result<(), NoMemory>
     requires { number < length queues.old }
     ensures ok { OnOk result (queues.new ≡ changed_at (spec.with_caller channel) number queues.old) }
-    ensures seated { OnOk result (ReplacesSeat channel (Some (record { queue = number; is_rung = false })) seats.old seats.new) }
+    ensures seated { OnOk result (ReplacesSeat channel (Some (record { queue = number; rung = 0 })) seats.old seats.new) }
     ensures err { OnErr result (queues.new ≡ queues.old) }
     ensures same { OnErr result ((c : ℕ) → seat_at seats.new c ≡ seat_at seats.old c) }
 {
@@ -47,7 +48,7 @@ fn sit(
         channel,
         Seat {
             queue: number,
-            is_rung: false,
+            rung: 0,
         },
         arrival,
     );
@@ -64,16 +65,15 @@ pub(crate) fn unseat(
 )
     requires within { seat.queue < length queues.old }
     requires once { spec.times_waiting queues.old channel ≤ 1 }
-    requires rung { seat.is_rung ≡ is_rung agents.old channel }
+    requires rung { seat.rung ≡ rung_count agents.old channel }
     ensures queues { queues.new ≡ changed_at (spec.without_caller channel) seat.queue queues.old }
     ensures agents { agents.new ≡ all_freed channel agents.old }
     ensures seats { ReplacesSeat channel None seats.old seats.new }
 {
-    let place = place_by_arrival(seats, queues.list()[seat.queue].waiting(), channel);
+    let queue = &queues.list()[seat.queue];
+    let place = place_by_arrival(seats, queue.waiting(), channel);
+    free_rung(agents, queue.members(), channel, seat.rung);
     queues.remove_caller(seat.queue, place, channel);
-    if seat.is_rung {
-        agents.free_all(channel);
-    }
     leave_seat(seats, channel);
 }
 

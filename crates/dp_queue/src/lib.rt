@@ -10,6 +10,7 @@ mod change;
 mod choice;
 mod fault;
 mod file;
+mod freeing;
 mod join;
 mod joining;
 mod member;

@@ -42,7 +42,7 @@ fn is_unrung(seats: &Seats, channel: u32) -> bool
     ensures { result ≡ is_unrung seats.now channel }
 {
     match seat_at(seats, channel) {
-        Some(seat) => !seat.is_rung,
+        Some(seat) => seat.rung == 0,
         None => true,
     }
 }
@@ -228,13 +228,12 @@ impl Queues {
             Err(fault) => Err(fault),
             Ok(asked) => {
                 let rung = ring_at(&mut self.queues, &mut self.agents, asked);
-                let is_rung = rung > 0;
                 put_seat(
                     &mut self.seats,
                     asked.channel,
                     Seat {
                         queue: asked.queue,
-                        is_rung,
+                        rung,
                     },
                 );
                 Ok(Offered {

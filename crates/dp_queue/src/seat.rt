@@ -8,11 +8,11 @@ use crate::member::one_more;
 use dp_conf::NoMemory;
 use std::collections::{HashMap, VecDeque};
 
-/// The number of the queue in which a channel waits, and whether an agent rings for it.
+/// The number of the queue in which a channel waits, and how many agents ring for it.
 #[derive(Clone, Copy, Debug, PartialEq, Eq)]
 pub(crate) struct Seat {
     pub(crate) queue: usize,
-    pub(crate) is_rung: bool,
+    pub(crate) rung: usize,
 }
 
 /// A seat, and the rank of the channel's arrival: of the channels that wait in one queue, each has more than those before
@@ -33,6 +33,16 @@ pub(crate) fn seat_at(seats: &Seats, channel: u32) -> Option<Seat>
     match seats.get(&channel) {
         Some(sitting) => Some(sitting.seat),
         None => None,
+    }
+}
+
+/// How many agents ring for a channel that waits; 0 for one that does not.
+pub(crate) fn rung_at(seats: &Seats, channel: u32) -> usize
+    ensures { result ≡ spec.rung_at seats.now channel }
+{
+    match seats.get(&channel) {
+        Some(sitting) => sitting.seat.rung,
+        None => 0,
     }
 }
 

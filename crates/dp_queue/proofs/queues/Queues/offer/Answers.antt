@@ -35,5 +35,5 @@ invariant_of-self c =
     let is_asked : IsAsked q.queues q.agents asked = asked-facts q.queues q.agents (queue_number q.queues c.args.queue.now) asked
     (sym (c.in-Ok.ensures ∙ ap (λ x. asked_at q.queues x (queue_number q.queues c.args.queue.now)) c.list.ensures)) in
     kept-offered q.seats c.put_seat.new.seats q.queues c.ring_at-rung.new.queues q.agents c.ring_at-rung.new.agents asked
-    (nat_lt 0 c.ring_at-rung.result) c.self.invariant is_asked c.ring_at-rung.ensures.agents (ap (nat_lt 0) c.ring_at-rung.ensures.count)
+    c.ring_at-rung.result c.self.invariant is_asked c.ring_at-rung.ensures.agents c.ring_at-rung.ensures.count
     c.ring_at-rung.ensures.queues c.put_seat.ensures
