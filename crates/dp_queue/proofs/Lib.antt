@@ -1,7 +1,9 @@
 pub mod AgentLemmas
 pub mod ChangeLemmas
+pub mod FoundLemmas
 pub mod GoodLemmas
 pub mod HeldLemmas
+pub mod KeptLemmas
 pub mod MemberLemmas
 pub mod OfferLemmas
 pub mod PlacesLemmas

@@ -1,11 +1,11 @@
 -- What an offer asks for, and the agents that come to ring.
-use Rattle.std.proofs.Common.{◌≡◌, ◌≢◌, ℕ, zero, suc, ◌+◌, ◌<◌, ◌==◌, nat_lt, Bool, true, false, not, ◌&&◌, ◌||◌, List, [], ◌∷◌, ◌++◌, Option, Some, None, Result, Ok, refl, sym, length, ap, ◌∙◌, arith, if◌then◌else◌, slice_get, subst, fold, take, drop}
+use Rattle.std.proofs.Common.{◌≡◌, ◌≢◌, ℕ, suc, ◌+◌, ◌<◌, ◌==◌, nat_lt, Bool, true, false, not, ◌&&◌, ◌||◌, List, [], ◌∷◌, ◌++◌, Option, Some, None, Result, Ok, refl, sym, length, ap, ◌∙◌, arith, if◌then◌else◌, slice_get, subst, fold, take, drop}
 use Rattle.std.proofs.lemmas.Option.{same_Some}
 use Rattle.std.proofs.lemmas.List.Elements.{All-nil, All-cons, All-head, All-tail, All-append, All-drop, All-take, All-filter, All-weaker, filter_passes}
 use Rattle.std.proofs.lemmas.List.Kept.{AllPairs-filter}
 use Rattle.std.specs.Option.{option_map, option_to_list}
 use Rattle.std.specs.List.{All, filter, find, list_any, position}
-use Rattle.dp_queue.specs.Agents.{state_at, is_idle, is_rung, rings_for, with_state_at}
+use Rattle.dp_queue.specs.Agents.{state_at, is_idle, is_rung, rings_for, talks_with, with_state_at}
 use Rattle.dp_queue.specs.Choices.{is_idle_at, is_candidate, least_penalty, lesser, rank, turned_at, turned, picked, chosen}
 use Rattle.dp_queue.specs.Good.{AreKnown, StandOnce, AreLinked}
 use Rattle.dp_queue.specs.Changes.{changed_at}
@@ -13,7 +13,7 @@ use Rattle.dp_queue.specs.Joining.{has_caller, waits_in}
 use Rattle.dp_queue.specs.Members.{is_agent}
 use Rattle.dp_queue.specs.Offers.{all_ringing, chosen_in, chosen_of, with_choice, asked_at, asked_in, asked_by, asked_for}
 use Rattle.dp_queue.specs.Queues.{QueueOf}
-use Rattle.dp_queue.specs.Seats.{SeatsOf, AreSeated, ReplacesSeat, rung_count, seat_in, is_unrung, is_unrung_in}
+use Rattle.dp_queue.specs.Seats.{SeatsOf, AreSeated, ReplacesSeat, ReplacesTalk, rung_count, seat_in, is_unrung, is_unrung_in}
 use Rattle.dp_queue.specs.declared.agent.Agent.{Agent}
 use Rattle.dp_queue.specs.declared.agent.AgentState.{AgentState}
 use Rattle.dp_queue.specs.declared.agent.AgentState.TheVariants.{Idle, Ringing, Talking}
@@ -24,7 +24,9 @@ use Rattle.dp_queue.specs.declared.settings.Strategy.{Strategy}
 use Rattle.dp_queue.specs.declared.settings.Strategy.TheVariants.{RingAll, Linear, LeastRecent, FewestCalls, RrMemory}
 use Rattle.dp_queue.proofs.AgentLemmas.{state_at-other, rung-same, rung-more, rung-none}
 use Rattle.dp_queue.proofs.ChangeLemmas.{all-at, length-changed_at}
-use Rattle.dp_queue.proofs.GoodLemmas.{AreKept, linked-set, seated-replaced, kept-same}
+use Rattle.dp_queue.proofs.FoundLemmas.{found-replaced, talks-before}
+use Rattle.dp_queue.proofs.GoodLemmas.{linked-set, right-untalked}
+use Rattle.dp_queue.proofs.KeptLemmas.{AreKept, seated-replaced, kept-same}
 use Rattle.dp_queue.proofs.MemberLemmas.{keeps-same, members-changed, pairs-head, pairs-tail}
 use Rattle.dp_queue.proofs.WaitingLemmas.{lines, lines-changed_at, times-none, times-at, waits_in-at}
 use borrow.Author.Tests.{eqb-true, eq-eqb}
@@ -264,6 +266,7 @@ pub record Rings (qs : List QueueOf) (c : ℕ) (before after : List Agent) (coun
   pub linked : AreLinked qs after
   pub counted : rung_count after c ≡ rung_count before c + count
   pub others : (d : ℕ) → (c == d) ≡ false → rung_count after d ≡ rung_count before d
+  pub talks : (a d : ℕ) → talks_with d (state_at after a) ≡ true → talks_with d (state_at before a) ≡ true
 
 -- one more agent rings, before the others
 rings-more : (qs : List QueueOf) (k c : ℕ) (m : Member) (as' after : List Agent) (count : ℕ) → m.agent < length as'
@@ -275,6 +278,7 @@ rings-more qs k c m as' after count known idle rest =
       linked = rest.linked;
       counted = omega (arith, rest.counted, more);
       others = λ d other. rest.others d other ∙ rung-same m.agent (Ringing k c) as' d (other ∙ sym (idle-rings (state_at as' m.agent) d idle));
+      talks = λ a d talks. talks-before m.agent (Ringing k c) as' d a refl (rest.talks a d talks);
     }
 
 -- the agents of members ring
@@ -285,6 +289,7 @@ rings-all qs k c [] as' waits linked known idle once = record {
   linked = linked;
   counted = omega arith;
   others = λ d other. refl;
+  talks = λ a d talks. talks;
 }
 rings-all qs k c (m ∷ ms) as' waits linked known idle once =
     let next : List Agent = with_state_at m.agent (Ringing k c) as' in
@@ -303,13 +308,16 @@ pub kept-offered : (seats new : SeatsOf) (qs ps : List QueueOf) (as' bs : List A
     → bs ≡ all_ringing asked.queue asked.channel (chosen_in as' asked.penalty (slice_get qs asked.queue)) as'
     → count ≡ length (chosen_in as' asked.penalty (slice_get qs asked.queue))
     → ps ≡ changed_at (with_choice as' asked.penalty) asked.queue qs
-    → ReplacesSeat asked.channel (Some (record { queue = asked.queue; rung = count })) seats new → AreKept new ps bs
-kept-offered seats new qs ps as' bs asked count kept is_asked rung counted chose put =
+    → ReplacesSeat asked.channel (Some (record { queue = asked.queue; rung = count })) seats new → ReplacesTalk asked.channel None seats new
+    → AreKept new ps bs
+kept-offered seats new qs ps as' bs asked count kept is_asked rung counted chose put talk =
     kept-same new new qs ps bs (
       all.linked,
       seated-replaced seats new qs qs as' bs asked.channel (Some (record { queue = asked.queue; rung = count })) kept.1 put
           ((λ i. Some (record { queue = asked.queue; rung = same_count i })) ∙ ap (option_map (seat_in bs asked.channel)) (sym waits))
           (λ d other. refl) all.others,
+      found-replaced seats new as' bs asked.channel None talk (λ a talks. absurd (nobody_talks a (all.talks a asked.channel talks)))
+          (λ a d other talks. all.talks a d talks) kept.2,
     )
     (ap length chose ∙ length-changed_at change asked.queue qs)
     (ap lines chose ∙ lines-changed_at change asked.queue qs (λ q. refl))
@@ -343,6 +351,11 @@ kept-offered seats new qs ps as' bs asked count kept is_asked rung counted chose
     all = let P : List Agent → Type 0 = λ xs. Rings qs asked.channel as' xs (length (chosen_of as' asked.penalty is_asked.queue)) in
         subst P (sym (rung ∙ ap (λ ms. all_ringing asked.queue asked.channel ms as') is_chosen))
         (rings-all qs asked.queue asked.channel (chosen_of as' asked.penalty is_asked.queue) as' waits kept.0 known idle once)
+
+    nobody_talks : (a : ℕ) → talks_with asked.channel (state_at as' a) ≡ true → ⊥
+    nobody_talks a talks =
+        let none : talks_with asked.channel (state_at as' a) ≡ false =
+        right-untalked qs asked.channel asked.queue (state_at as' a) waits (kept.0.rings_right a) in cc
 
     nobody : rung_count as' asked.channel ≡ 0
     nobody = eqb-true (rung_count as' asked.channel) 0 (rung-none as' asked.channel ∙ ap (λ (b : Bool). not b) is_asked.unrung)

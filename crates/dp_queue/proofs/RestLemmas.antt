@@ -19,8 +19,7 @@ use Rattle.dp_queue.specs.Keys.{setting_of}
 use Rattle.dp_queue.specs.Members.{with_agent, with_member_at}
 use Rattle.dp_queue.specs.Queues.{QueueOf, QueuesOf, queue_number}
 use Rattle.dp_queue.specs.Rest.{IsAtRest}
-use Rattle.dp_queue.specs.Seats.{SeatsOf, AreSeated}
-use Rattle.dp_queue.specs.declared.seat.Sitting.{Sitting}
+use Rattle.dp_queue.specs.Seats.{SeatsOf, AreFound, AreSeated, seat_of}
 use Rattle.dp_queue.specs.declared.agent.Agent.{Agent}
 use Rattle.dp_queue.specs.declared.agent.AgentState.{AgentState}
 use Rattle.dp_queue.specs.declared.agent.AgentState.TheVariants.{Idle}
@@ -60,7 +59,12 @@ linked-at_rest q rest members = record {
 
 pub seated-at_rest : (seats : SeatsOf) (q : QueuesOf) → IsEmpty seats → IsAtRest q → AreSeated seats q.queues q.agents
 seated-at_rest seats q empty rest c =
-    ap (λ xs. option_map (λ (sitting : Sitting). sitting.seat) (lookup (nat_eq c) xs)) empty ∙ sym (ap (option_map _) (waits_in-at_rest q.queues rest.nobody_waits c))
+    ap (λ xs. seat_of (lookup (nat_eq c) xs)) empty ∙ sym (ap (option_map _) (waits_in-at_rest q.queues rest.nobody_waits c))
+
+-- and nobody talks
+pub found-at_rest : (seats : SeatsOf) (q : QueuesOf) → IsAtRest q → AreFound seats q.agents
+found-at_rest seats q rest a c talks =
+    let silent : talks_with c (state_at q.agents a) ≡ false = ap (talks_with c) (state_at-at_rest q.agents rest.all_idle a) in absurd (cc)
 
 -- what follows of one value and of what comes of it
 if_ok-then : {X Y E : Type 0} (P : X → Type 0) (Q : Y → Type 0) (r : Result X E) (f : X → Result Y E) → ((x : X) → P x → IfOk (f x) Q)

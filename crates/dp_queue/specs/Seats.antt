@@ -1,23 +1,46 @@
--- Where each channel waits, kept beside the waiting lists.
+-- Where each channel waits or with which agent it talks, kept beside the waiting lists and the agents.
 use Rattle.std.specs.Prelude.{◌≡◌, ℕ, ◌+◌, Bool, true, false, ◌==◌, nat_eq, List, [], ◌∷◌, Option, Some, None, slice_get, if◌then◌else◌}
 use Rattle.std.specs.HashMap.{HashMap, get}
 use Rattle.std.specs.Option.{option_map, unwrap_or}
 use Rattle.std.specs.declared.hash.BuildHasherDefault.{BuildHasherDefault}
 use Rattle.std.specs.declared.hash.FoldHasher.{FoldHasher}
-use Rattle.dp_queue.specs.Agents.{rings_for}
+use Rattle.dp_queue.specs.Agents.{rings_for, state_at, talks_with}
 use Rattle.dp_queue.specs.Joining.{waits_in}
 use Rattle.dp_queue.specs.Queues.{QueueOf}
 use Rattle.dp_queue.specs.declared.agent.Agent.{Agent}
 use Rattle.dp_queue.specs.declared.seat.Sitting.{Sitting}
+use Rattle.dp_queue.specs.declared.seat.Sitting.TheVariants.{Waits, Talks}
 use Rattle.dp_queue.specs.declared.seat.Seat.{Seat}
 
--- the seats by the numbers of the channels that wait, each with the rank of the channel's arrival
+-- the seats by the numbers of the channels that wait or talk
 abbrev pub SeatsOf : Type 0
 SeatsOf = HashMap ℕ Sitting (BuildHasherDefault FoldHasher)
 
--- the seat of a channel
+-- the seat of one that waits
+abbrev pub seat_of : Option Sitting → Option Seat
+seat_of None = None
+seat_of (Some (Waits seat arrival)) = Some seat
+seat_of (Some (Talks agent)) = None
+
+-- the rank of its arrival
+abbrev pub arrival_in : Option Sitting → ℕ
+arrival_in None = 0
+arrival_in (Some (Waits seat arrival)) = arrival
+arrival_in (Some (Talks agent)) = 0
+
+-- the number of the agent of one that talks
+abbrev pub agent_of : Option Sitting → Option ℕ
+agent_of None = None
+agent_of (Some (Waits seat arrival)) = None
+agent_of (Some (Talks agent)) = Some agent
+
+-- the seat of a channel that waits
 abbrev pub seat_at : SeatsOf → ℕ → Option Seat
-seat_at seats c = option_map (λ sitting. sitting.seat) (get nat_eq seats c)
+seat_at seats c = seat_of (get nat_eq seats c)
+
+-- the number of the agent that talks with a channel
+abbrev pub talk_at : SeatsOf → ℕ → Option ℕ
+talk_at seats c = agent_of (get nat_eq seats c)
 
 -- how many agents ring for a channel, by its seat
 abbrev pub rung_at : SeatsOf → ℕ → ℕ
@@ -25,7 +48,7 @@ rung_at seats c = unwrap_or (option_map (λ seat. seat.rung) (seat_at seats c)) 
 
 -- the rank of a channel's arrival
 abbrev pub arrival_of : SeatsOf → ℕ → ℕ
-arrival_of seats c = unwrap_or (option_map (λ sitting. sitting.arrival) (get nat_eq seats c)) 0
+arrival_of seats c = arrival_in (get nat_eq seats c)
 
 -- the channel stands at a place of a waiting list
 abbrev pub stands_at : ℕ → List ℕ → ℕ → Bool
@@ -47,6 +70,14 @@ AreSeated seats queues agents = (c : ℕ) → seat_at seats c ≡ option_map (se
 -- the seats are as before but for one channel's
 abbrev pub ReplacesSeat : ℕ → Option Seat → SeatsOf → SeatsOf → Type 0
 ReplacesSeat c seat old new = (d : ℕ) → seat_at new d ≡ (if c == d then seat else seat_at old d)
+
+-- each agent that talks is found by its channel
+abbrev pub AreFound : SeatsOf → List Agent → Type 0
+AreFound seats agents = (a c : ℕ) → talks_with c (state_at agents a) ≡ true → talk_at seats c ≡ Some a
+
+-- the agents that are found are as before but for one channel's
+abbrev pub ReplacesTalk : ℕ → Option ℕ → SeatsOf → SeatsOf → Type 0
+ReplacesTalk c agent old new = (d : ℕ) → talk_at new d ≡ (if c == d then agent else talk_at old d)
 
 -- by its seat, no agent rings for the channel
 abbrev pub is_unrung_in : Option Seat → Bool

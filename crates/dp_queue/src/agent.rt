@@ -1,6 +1,5 @@
 //! The agents that answer the calls of queues.
 ghost use Rattle.std.specs.Prelude.{◌≡◌};
-ghost use Rattle.std.specs.List.{position};
 ghost use Rattle.dp_queue.specs.Agents as spec;
 
 use dp_conf::Text;
@@ -46,7 +45,7 @@ pub(crate) fn rings_for(state: AgentState, channel: u32) -> bool
 }
 
 /// Whether an agent in this state talks with the channel.
-fn talks_with(state: AgentState, channel: u32) -> bool
+pub(crate) fn talks_with(state: AgentState, channel: u32) -> bool
     ensures { result ≡ spec.talks_with channel state }
 {
     match state {
@@ -56,22 +55,6 @@ fn talks_with(state: AgentState, channel: u32) -> bool
         } => other == channel,
         AgentState::Idle | AgentState::Ringing { .. } => false,
     }
-}
-
-/// The number of the agent that talks with the channel.
-fn find_talker(agents: &[Agent], channel: u32) -> Option<usize>
-    ensures { result ≡ position (λ agent. spec.talks_with channel agent.state) agents.now }
-{
-    agents
-        .iter()
-        .position(|agent| talks_with(agent.state, channel))
-}
-
-/// The number of the agent that talks with the channel; the number of the agents where there is none.
-pub(crate) fn talker(agents: &[Agent], channel: u32) -> usize
-    ensures { result ≡ spec.talker agents.now channel }
-{
-    find_talker(agents, channel).unwrap_or(agents.len())
 }
 
 /// Puts the agent of a number into a state. One that is not known stays idle.

@@ -1,14 +1,32 @@
 //! What agents do with the calls that are offered to them.
 ghost use Rattle.std.specs.Prelude.{◌≡◌};
-ghost use Rattle.dp_queue.specs.Agents.{state_at};
+ghost use Rattle.dp_queue.specs.Agents.{state_at, talker};
 ghost use Rattle.dp_queue.specs.Calls as spec;
+ghost use Rattle.dp_queue.specs.Seats.{AreFound};
 
-use crate::agent::{AgentState, state_at, talker};
+use crate::agent::{Agent, AgentState, state_at, talks_with};
 use crate::call::Call;
 use crate::joining::unseat;
 use crate::member::one_more;
 use crate::queues::Queues;
-use crate::seat::{Seat, put_seat, rung_at};
+use crate::seat::{Seat, Seats, leave_seat, put_seat, put_talk, rung_at, talk_at};
+
+/// The number of the agent that talks with the channel; the number of the agents where there is none.
+fn talker(agents: &[Agent], seats: &Seats, channel: u32) -> usize
+    requires { AreFound seats.now agents.now }
+    ensures { result ≡ talker agents.now channel }
+{
+    match talk_at(seats, channel) {
+        None => agents.len(),
+        Some(agent) => {
+            if talks_with(state_at(agents, agent), channel) {
+                agent
+            } else {
+                agents.len()
+            }
+        }
+    }
+}
 
 impl Queues {
     /// The agent of this interface answers the call that it rings for: the call leaves the waiting list, the agent and
@@ -25,10 +43,11 @@ impl Queues {
                 unseat(
                     &mut self.queues,
                     &mut self.agents,
-                    &mut self.seats,
+                    &self.seats,
                     Seat { queue, rung },
                     channel,
                 );
+                put_talk(&mut self.seats, channel, number);
                 Some(Call {
                     queue,
                     agent: number,
@@ -62,6 +81,7 @@ impl Queues {
         match state_at(self.agents.list(), number) {
             AgentState::Talking { queue, channel } => {
                 self.agents.set_state(number, AgentState::Idle);
+                leave_seat(&mut self.seats, channel);
                 let finished = one_more(self.finished);
                 self.finished = finished;
                 self.queues.finish(queue, number, finished);
@@ -88,7 +108,7 @@ impl Queues {
     pub fn end_talk(&mut self, channel: u32) -> Option<Call>
         ensures { spec.end_talk_row self.old channel ≡ (self.new, result) }
     {
-        let number = talker(self.agents.list(), channel);
+        let number = talker(self.agents.list(), &self.seats, channel);
         self.end_talk_of(number)
     }
 }

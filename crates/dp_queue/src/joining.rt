@@ -3,7 +3,7 @@ ghost use Rattle.std.specs.Prelude.{◌≡◌, ◌<◌, ◌≤◌, ℕ, IfOk, On
 ghost use Rattle.dp_queue.specs.Agents.{all_freed, is_talking};
 ghost use Rattle.dp_queue.specs.Changes.{changed_at};
 ghost use Rattle.dp_queue.specs.Joining as spec;
-ghost use Rattle.dp_queue.specs.Seats.{seat_at, rung_count, ReplacesSeat};
+ghost use Rattle.dp_queue.specs.Seats.{seat_at, rung_count, talk_at, ReplacesSeat, ReplacesTalk};
 
 use crate::agents::Agents;
 use crate::freeing::free_rung;
@@ -37,8 +37,10 @@ fn sit(
     requires { number < length queues.old }
     ensures ok { OnOk result (queues.new ≡ changed_at (spec.with_caller channel) number queues.old) }
     ensures seated { OnOk result (ReplacesSeat channel (Some (record { queue = number; rung = 0 })) seats.old seats.new) }
+    ensures talks { OnOk result (ReplacesTalk channel None seats.old seats.new) }
     ensures err { OnErr result (queues.new ≡ queues.old) }
     ensures same { OnErr result ((c : ℕ) → seat_at seats.new c ≡ seat_at seats.old c) }
+    ensures still { OnErr result ((c : ℕ) → talk_at seats.new c ≡ talk_at seats.old c) }
 {
     make_room(seats)?;
     let arrival = next_arrival(seats, queues.list()[number].waiting());
@@ -55,11 +57,11 @@ fn sit(
     Ok(())
 }
 
-/// Takes a channel out of the queue in which it waits. The agents that ring for it, where some do, become idle.
+/// Takes a channel out of the queue in which it waits, but for its seat. The agents that ring for it, where some do, become idle.
 pub(crate) fn unseat(
     queues: &mut QueueList,
     agents: &mut Agents,
-    seats: &mut Seats,
+    seats: &Seats,
     seat: Seat,
     channel: u32,
 )
@@ -68,13 +70,11 @@ pub(crate) fn unseat(
     requires rung { seat.rung ≡ rung_count agents.old channel }
     ensures queues { queues.new ≡ changed_at (spec.without_caller channel) seat.queue queues.old }
     ensures agents { agents.new ≡ all_freed channel agents.old }
-    ensures seats { ReplacesSeat channel None seats.old seats.new }
 {
     let queue = &queues.list()[seat.queue];
     let place = place_by_arrival(seats, queue.waiting(), channel);
     free_rung(agents, queue.members(), channel, seat.rung);
     queues.remove_caller(seat.queue, place, channel);
-    leave_seat(seats, channel);
 }
 
 impl Queues {
@@ -114,10 +114,11 @@ impl Queues {
                 unseat(
                     &mut self.queues,
                     &mut self.agents,
-                    &mut self.seats,
+                    &self.seats,
                     seat,
                     channel,
                 );
+                leave_seat(&mut self.seats, channel);
                 true
             }
         }

@@ -21,7 +21,7 @@ use std::marker::Model;
 pub struct Queues {
     pub(crate) queues: QueueList,
     pub(crate) agents: Agents,
-    // Where each channel waits, so that no call walks over the waiting lists of all queues.
+    // Where each channel waits, or with which agent it talks, so that no call walks over all waiting lists or all agents.
     pub(crate) seats: Seats,
     pub(crate) finished: u64,
 }
@@ -29,13 +29,13 @@ pub struct Queues {
 impl Model for Queues {
     ghost use Rattle.dp_queue.specs.Good.{AreLinked};
     ghost use Rattle.dp_queue.specs.Queues.{QueuesOf};
-    ghost use Rattle.dp_queue.specs.Seats.{AreSeated};
+    ghost use Rattle.dp_queue.specs.Seats.{AreFound, AreSeated};
 
     ghost Value = { QueuesOf };
 
     ghost view = { λ q. record { queues = q.queues; agents = q.agents; finished = q.finished } };
 
-    ghost invariant = { λ q. AreLinked q.queues q.agents × AreSeated q.seats q.queues q.agents };
+    ghost invariant = { λ q. AreLinked q.queues q.agents × AreSeated q.seats q.queues q.agents × AreFound q.seats q.agents };
 }
 
 impl Queues {

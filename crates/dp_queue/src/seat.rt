@@ -1,5 +1,5 @@
-//! Where each channel waits, so that it is found without a walk over the queues. The seats take room by how many channels
-//! wait, and not by their numbers.
+//! Where each channel waits, or with which agent it talks, so that it is found without a walk over the queues or the agents.
+//! The seats take room by how many channels wait or talk, and not by their numbers.
 ghost use Rattle.std.specs.HashMap.{spare};
 ghost use Rattle.std.specs.Prelude.{◌≡◌, ◌<◌, ℕ, OnOk, None, Some, IsSome};
 ghost use Rattle.dp_queue.specs.Seats as spec;
@@ -15,15 +15,16 @@ pub(crate) struct Seat {
     pub(crate) rung: usize,
 }
 
-/// A seat, and the rank of the channel's arrival: of the channels that wait in one queue, each has more than those before
-/// it.
+/// What a channel does.
 #[derive(Clone, Copy, Debug, PartialEq, Eq)]
-pub(crate) struct Sitting {
-    pub(crate) seat: Seat,
-    pub(crate) arrival: u64,
+pub(crate) enum Sitting {
+    /// It waits, with the rank of its arrival: of the channels that wait in one queue, each has more than those before it.
+    Waits { seat: Seat, arrival: u64 },
+    /// It talks with the agent of this number.
+    Talks { agent: usize },
 }
 
-/// The seats of the channels that wait, by the numbers of the channels.
+/// The seats of the channels that wait or talk, by the numbers of the channels.
 pub(crate) type Seats = HashMap<u32, Sitting>;
 
 /// The seat of a channel that waits.
@@ -31,8 +32,8 @@ pub(crate) fn seat_at(seats: &Seats, channel: u32) -> Option<Seat>
     ensures { result ≡ spec.seat_at seats.now channel }
 {
     match seats.get(&channel) {
-        Some(sitting) => Some(sitting.seat),
-        None => None,
+        Some(Sitting::Waits { seat, .. }) => Some(*seat),
+        Some(Sitting::Talks { .. }) | None => None,
     }
 }
 
@@ -40,8 +41,8 @@ pub(crate) fn seat_at(seats: &Seats, channel: u32) -> Option<Seat>
 pub(crate) fn rung_at(seats: &Seats, channel: u32) -> usize
     ensures { result ≡ spec.rung_at seats.now channel }
 {
-    match seats.get(&channel) {
-        Some(sitting) => sitting.seat.rung,
+    match seat_at(seats, channel) {
+        Some(seat) => seat.rung,
         None => 0,
     }
 }
@@ -51,8 +52,18 @@ fn arrival_of(seats: &Seats, channel: u32) -> u64
     ensures { result ≡ spec.arrival_of seats.now channel }
 {
     match seats.get(&channel) {
-        Some(sitting) => sitting.arrival,
-        None => 0,
+        Some(Sitting::Waits { arrival, .. }) => *arrival,
+        Some(Sitting::Talks { .. }) | None => 0,
+    }
+}
+
+/// The number of the agent that talks with a channel.
+pub(crate) fn talk_at(seats: &Seats, channel: u32) -> Option<usize>
+    ensures { result ≡ spec.talk_at seats.now channel }
+{
+    match seats.get(&channel) {
+        Some(Sitting::Talks { agent }) => Some(*agent),
+        Some(Sitting::Waits { .. }) | None => None,
     }
 }
 
@@ -74,6 +85,7 @@ pub(crate) fn place_by_arrival(seats: &Seats, waiting: &VecDeque<u32>, channel: 
 pub(crate) fn make_room(seats: &mut Seats) -> Result<(), NoMemory>
     ensures room { OnOk result (0 < spare seats.new) }
     ensures same { (c : ℕ) → spec.seat_at seats.new c ≡ spec.seat_at seats.old c }
+    ensures talks { (c : ℕ) → spec.talk_at seats.new c ≡ spec.talk_at seats.old c }
 {
     seats.reserve(1)?;
     Ok(())
@@ -82,25 +94,47 @@ pub(crate) fn make_room(seats: &mut Seats) -> Result<(), NoMemory>
 /// Seats a channel, for which there is room.
 pub(crate) fn take_seat(seats: &mut Seats, channel: u32, seat: Seat, arrival: u64)
     requires { 0 < spare seats.old }
-    ensures { spec.ReplacesSeat channel (Some seat) seats.old seats.new }
+    ensures seats { spec.ReplacesSeat channel (Some seat) seats.old seats.new }
+    ensures talks { spec.ReplacesTalk channel None seats.old seats.new }
 {
-    let seated: Result<_, _> = seats.insert(channel, Sitting { seat, arrival });
+    let seated: Result<_, _> = seats.insert(channel, Sitting::Waits { seat, arrival });
     seated.unwrap();
+}
+
+/// Changes what a channel does that has a seat. It takes no memory.
+fn put_sitting(seats: &mut Seats, channel: u32, sitting: Sitting)
+    requires { IsSome (spec.seat_at seats.old channel) }
+    ensures seats { spec.ReplacesSeat channel (spec.seat_of (Some sitting)) seats.old seats.new }
+    ensures talks { spec.ReplacesTalk channel (spec.agent_of (Some sitting)) seats.old seats.new }
+{
+    if let Some(place) = seats.get_mut(&channel) {
+        *place = sitting;
+    }
 }
 
 /// Changes the seat of a channel that has one. It takes no memory.
 pub(crate) fn put_seat(seats: &mut Seats, channel: u32, seat: Seat)
     requires { IsSome (spec.seat_at seats.old channel) }
-    ensures { spec.ReplacesSeat channel (Some seat) seats.old seats.new }
+    ensures seats { spec.ReplacesSeat channel (Some seat) seats.old seats.new }
+    ensures talks { spec.ReplacesTalk channel None seats.old seats.new }
 {
-    if let Some(sitting) = seats.get_mut(&channel) {
-        sitting.seat = seat;
-    }
+    let arrival = arrival_of(seats, channel);
+    put_sitting(seats, channel, Sitting::Waits { seat, arrival });
+}
+
+/// Lets a channel that has a seat talk with the agent of a number. It takes no memory.
+pub(crate) fn put_talk(seats: &mut Seats, channel: u32, agent: usize)
+    requires { IsSome (spec.seat_at seats.old channel) }
+    ensures seats { spec.ReplacesSeat channel None seats.old seats.new }
+    ensures talks { spec.ReplacesTalk channel (Some agent) seats.old seats.new }
+{
+    put_sitting(seats, channel, Sitting::Talks { agent });
 }
 
 /// Takes the seat of a channel away, where it has one.
 pub(crate) fn leave_seat(seats: &mut Seats, channel: u32)
-    ensures { spec.ReplacesSeat channel None seats.old seats.new }
+    ensures seats { spec.ReplacesSeat channel None seats.old seats.new }
+    ensures talks { spec.ReplacesTalk channel None seats.old seats.new }
 {
     let _seat = seats.remove(&channel);
 }

@@ -1,5 +1,5 @@
 use Rattle.std.proofs.Common.{◌≡◌, suc, true, refl, sym, ap, ◌∙◌, arith}
-use Rattle.dp_queue.specs.Agents.{all_freed, rings_for, state_at, with_state_at}
+use Rattle.dp_queue.specs.Agents.{all_freed, rings_for, state_at}
 use Rattle.dp_queue.specs.Seats.{rung_count}
 use Rattle.dp_queue.specs.declared.agent.AgentState.TheVariants.{Idle}
 use Rattle.dp_queue.proofs.AgentLemmas.{all_freed-idle, rung-less}

@@ -1,7 +1,7 @@
 use Rattle.std.proofs.Common.{◌≡◌, false, true, ◌∙◌, sym}
 use Rattle.dp_queue.specs.Agents.{agent_number}
 use Rattle.dp_queue.specs.Members.{is_member_at}
-use Rattle.dp_queue.proofs.GoodLemmas.{kept-added}
+use Rattle.dp_queue.proofs.KeptLemmas.{kept-added}
 use Rattle.dp_queue.proofs.queues.Queues.add.Goals as goal
 
 pub invariant_of-self-2 : goal.invariant_of-self-2

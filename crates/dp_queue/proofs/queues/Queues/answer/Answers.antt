@@ -1,5 +1,5 @@
 use Rattle.std.proofs.Common.{refl, ◌≡◌, ◌<◌, suc, length, Some, ap, ◌∙◌, sym, arith}
-use Rattle.dp_queue.specs.Agents.{agent_number, all_freed, state_at, with_state_at}
+use Rattle.dp_queue.specs.Agents.{all_freed, state_at, with_state_at}
 use Rattle.dp_queue.specs.Calls.{answer_row, answer_row_at, call_of}
 use Rattle.dp_queue.specs.Joining.{waits_in}
 use Rattle.dp_queue.specs.Queues.{QueuesOf}
@@ -7,7 +7,8 @@ use Rattle.dp_queue.specs.Seats.{rung_count}
 use Rattle.dp_queue.specs.declared.agent.AgentState.TheVariants.{Ringing, Talking}
 use Rattle.dp_queue.proofs.AgentLemmas.{all_freed-talking}
 use Rattle.dp_queue.proofs.WaitingLemmas.{waits_in-within}
-use Rattle.dp_queue.proofs.GoodLemmas.{ringing-waits, ringing-less, kept-answered}
+use Rattle.dp_queue.proofs.GoodLemmas.{ringing-waits}
+use Rattle.dp_queue.proofs.KeptLemmas.{ringing-less, seated-some, kept-answered}
 use Rattle.dp_queue.proofs.queues.Queues.answer.Goals as goal
 
 pub overflow_sub-rung : goal.overflow_sub-rung
@@ -47,7 +48,7 @@ unseat-requires-clause-rung c =
     omega (arith, less)
 
 -- the agents behind both changes
-freed : (c : goal.After-unseat) → c.unseat.new.agents
+freed : (c : goal.After-put_talk) → c.unseat.new.agents
     ≡ with_state_at c.number_of-number.result (Talking c.in-Ringing.queue c.in-Ringing.channel) (all_freed c.in-Ringing.channel c.self.inside.agents)
 freed c =
     c.unseat.ensures.agents ∙ ap (all_freed c.in-Ringing.channel) c.set_state.ensures
@@ -57,9 +58,9 @@ pub invariant_of-self : goal.invariant_of-self
 invariant_of-self c =
     let q = c.self.inside in
     let a = c.number_of-number.result in
-    kept-answered q.seats c.unseat.new.seats q.queues c.unseat.new.queues q.agents (all_freed c.in-Ringing.channel q.agents) c.unseat.new.agents
+    kept-answered q.seats c.put_talk.new.seats q.queues c.unseat.new.queues q.agents (all_freed c.in-Ringing.channel q.agents) c.unseat.new.agents
     a c.in-Ringing.channel c.in-Ringing.queue c.self.invariant (sym (c.in-Ringing.ensures ∙ ap (λ x. state_at x a) c.list.ensures))
-    c.unseat.ensures.queues refl (freed c) c.unseat.ensures.seats
+    c.unseat.ensures.queues refl (freed c) c.put_talk.ensures.seats c.put_talk.ensures.talks
 
 pub returns-in-Ringing : goal.returns-in-Ringing
 returns-in-Ringing c =
@@ -75,3 +76,11 @@ returns-in-Ringing c =
       record { queues = sym c.unseat.ensures.queues i; agents = sym (freed c) i; finished = q.finished },
       Some (call_of c.in-Ringing.queue a c.in-Ringing.channel),
     ))
+
+pub put_talk-requires : goal.put_talk-requires
+put_talk-requires c =
+    let q = c.self.inside in
+    let a = c.number_of-number.result in
+    seated-some q.seats q.queues q.agents c.in-Ringing.channel c.in-Ringing.queue c.self.invariant.1
+    (ringing-waits q.queues q.agents a c.in-Ringing.queue c.in-Ringing.channel c.self.invariant.0
+    (sym (c.in-Ringing.ensures ∙ ap (λ x. state_at x a) c.list.ensures)))

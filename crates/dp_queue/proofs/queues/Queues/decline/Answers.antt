@@ -2,7 +2,8 @@ use Rattle.std.proofs.Common.{◌≡◌, ◌-◌, suc, refl, ap, ◌∙◌, sym,
 use Rattle.dp_queue.specs.Agents.{state_at}
 use Rattle.dp_queue.specs.Seats.{rung_count}
 use Rattle.dp_queue.specs.declared.agent.AgentState.TheVariants.{Idle, Ringing}
-use Rattle.dp_queue.proofs.GoodLemmas.{ringing-waits, ringing-less, seated-some, kept-declined}
+use Rattle.dp_queue.proofs.GoodLemmas.{ringing-waits}
+use Rattle.dp_queue.proofs.KeptLemmas.{ringing-less, seated-some, kept-declined}
 use Rattle.dp_queue.proofs.queues.Queues.decline.Goals as goal
 
 pub overflow_sub-rung : goal.overflow_sub-rung
@@ -35,4 +36,4 @@ invariant_of-self c =
     ∙ ap (λ xs. suc (rung_count xs channel)) (sym c.set_state.ensures) in
     let left : c.rung_at-rung.result - 1 ≡ rung_count c.set_state.new.self channel = omega (arith, less) in
     kept-declined q.seats c.put_seat.new.seats q.queues q.agents c.set_state.new.self a channel c.in-Ringing.queue
-    (c.rung_at-rung.result - 1) c.self.invariant is c.set_state.ensures left c.put_seat.ensures
+    (c.rung_at-rung.result - 1) c.self.invariant is c.set_state.ensures left c.put_seat.ensures.seats c.put_seat.ensures.talks

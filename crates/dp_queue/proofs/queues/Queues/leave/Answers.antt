@@ -1,7 +1,7 @@
 use Rattle.std.proofs.Common.{◌≡◌, ◌<◌, Some, length, arith, sym}
 use Rattle.dp_queue.specs.Joining.{waits_in}
 use Rattle.dp_queue.proofs.WaitingLemmas.{waits_in-within}
-use Rattle.dp_queue.proofs.GoodLemmas.{seated-waits, seated-rung, kept-left}
+use Rattle.dp_queue.proofs.KeptLemmas.{seated-waits, seated-rung, kept-left}
 use Rattle.dp_queue.proofs.queues.Queues.leave.Goals as goal
 
 pub unseat-requires-clause-within : goal.unseat-requires-clause-within
@@ -17,8 +17,8 @@ invariant_of-self c =
     let q = c.self.inside in
     let waits : waits_in q.queues c.args.channel ≡ Some c.in-Some.seat.queue = seated-waits q.seats q.queues q.agents c.args.channel c.in-Some.seat c.self.invariant.1
     (sym c.in-Some.ensures) in
-    kept-left q.seats c.unseat.new.seats q.queues c.unseat.new.queues q.agents c.self.invariant c.args.channel c.in-Some.seat.queue
-    c.unseat.new.agents waits c.unseat.ensures.queues c.unseat.ensures.agents c.unseat.ensures.seats
+    kept-left q.seats c.leave_seat.new.seats q.queues c.unseat.new.queues q.agents c.self.invariant c.args.channel c.in-Some.seat.queue
+    c.unseat.new.agents waits c.unseat.ensures.queues c.unseat.ensures.agents c.leave_seat.ensures.seats c.leave_seat.ensures.talks
 
 pub unseat-requires-clause-rung : goal.unseat-requires-clause-rung
 unseat-requires-clause-rung c =

@@ -1,9 +1,9 @@
-use Rattle.std.proofs.Common.{◌≡◌, ◌<◌, Some, ap, ◌∙◌, sym, length, nat_lt, arith}
+use Rattle.std.proofs.Common.{◌≡◌, ◌<◌, Some, ap, ◌∙◌, sym, length, arith}
 use Rattle.std.proofs.lemmas.Option.{slice_get_within}
 use Rattle.dp_queue.specs.Joining.{waits_in}
 use Rattle.dp_queue.specs.Offers.{asked_at}
 use Rattle.dp_queue.specs.Queues.{queue_number}
-use Rattle.dp_queue.proofs.GoodLemmas.{seated-some}
+use Rattle.dp_queue.proofs.KeptLemmas.{seated-some}
 use Rattle.dp_queue.proofs.OfferLemmas.{IsAsked, asked-facts, asked-waits, kept-offered}
 use Rattle.dp_queue.proofs.queues.Queues.offer.Goals as goal
 
@@ -36,4 +36,4 @@ invariant_of-self c =
     (sym (c.in-Ok.ensures ∙ ap (λ x. asked_at q.queues x (queue_number q.queues c.args.queue.now)) c.list.ensures)) in
     kept-offered q.seats c.put_seat.new.seats q.queues c.ring_at-rung.new.queues q.agents c.ring_at-rung.new.agents asked
     c.ring_at-rung.result c.self.invariant is_asked c.ring_at-rung.ensures.agents c.ring_at-rung.ensures.count
-    c.ring_at-rung.ensures.queues c.put_seat.ensures
+    c.ring_at-rung.ensures.queues c.put_seat.ensures.seats c.put_seat.ensures.talks

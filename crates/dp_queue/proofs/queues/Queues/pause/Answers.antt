@@ -7,7 +7,7 @@ use Rattle.dp_queue.specs.Members.{paused_queue, has_member, pause_row}
 use Rattle.dp_queue.specs.Queues.{QueueOf, QueuesOf}
 use Rattle.dp_queue.proofs.ChangeLemmas.{length-changed_at}
 use Rattle.dp_queue.proofs.WaitingLemmas.{lines, lines-changed_at, lines-map}
-use Rattle.dp_queue.proofs.GoodLemmas.{kept-same}
+use Rattle.dp_queue.proofs.KeptLemmas.{kept-same}
 use Rattle.dp_queue.proofs.MemberLemmas.{keeps-paused, members-changed, members-mapped}
 use Rattle.dp_queue.proofs.queues.Queues.pause.Goals as goal
 

@@ -2,7 +2,7 @@ use Rattle.std.proofs.Common.{refl, ap, ◌∙◌, length}
 use Rattle.dp_queue.specs.Members.{without_member}
 use Rattle.dp_queue.proofs.ChangeLemmas.{length-changed_at}
 use Rattle.dp_queue.proofs.WaitingLemmas.{lines, lines-changed_at}
-use Rattle.dp_queue.proofs.GoodLemmas.{kept-same}
+use Rattle.dp_queue.proofs.KeptLemmas.{kept-same}
 use Rattle.dp_queue.proofs.MemberLemmas.{keeps-without, members-changed}
 use Rattle.dp_queue.proofs.queues.Queues.remove.Goals as goal
 
