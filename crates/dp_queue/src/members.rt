@@ -18,8 +18,9 @@ use std::marker::Model;
 #[derive(Debug, Drop)]
 pub(crate) struct Members {
     list: Vec<Member>,
-    // For the agent of each member, where it stood when it came. It stands there still, unless one before it was taken out.
-    hints: HashMap<usize, usize>,
+    // For the agent of each member, the rank of its arrival: each has more than those before it. It is where the member
+    // stands, unless one before it was taken out.
+    ranks: HashMap<usize, usize>,
 }
 
 impl Model for Members {
@@ -31,7 +32,7 @@ impl Model for Members {
 
     ghost view = { λ members. members.list.items };
 
-    ghost invariant = { λ members. AreHeld members.hints members.list.items };
+    ghost invariant = { λ members. AreHeld members.ranks members.list.items };
 }
 
 /// Whether the member at a place is this agent.
@@ -44,6 +45,27 @@ fn is_agent_at(members: &[Member], place: usize, agent: usize) -> bool
     }
 }
 
+/// The rank of an agent's arrival; 0 where it is no member.
+fn rank_of(ranks: &HashMap<usize, usize>, agent: usize) -> usize {
+    match ranks.get(&agent) {
+        Some(rank) => *rank,
+        None => 0,
+    }
+}
+
+/// The rank of the next arrival behind some members.
+fn next_rank(members: &[Member], ranks: &HashMap<usize, usize>) -> usize {
+    match members.last() {
+        Some(member) => rank_of(ranks, member.agent).saturating_add(1),
+        None => 0,
+    }
+}
+
+/// Where the member of a rank stands, found by halves, since the ranks rise along the list.
+fn place_by_rank(members: &[Member], ranks: &HashMap<usize, usize>, rank: usize) -> usize {
+    members.partition_point(|member| rank_of(ranks, member.agent) < rank)
+}
+
 /// Where the member that is this agent stands, by the place where it may be.
 fn place_by(members: &[Member], hint: usize, agent: usize) -> Option<usize>
     requires { StandOnce members.now }
@@ -53,6 +75,19 @@ fn place_by(members: &[Member], hint: usize, agent: usize) -> Option<usize>
         return Some(hint);
     }
     place_of(members, agent)
+}
+
+/// A place at which a member may stand that has this rank: the rank, or where it is found by halves.
+fn likely_place(
+    members: &[Member],
+    ranks: &HashMap<usize, usize>,
+    rank: usize,
+    agent: usize,
+) -> usize {
+    if is_agent_at(members, rank, agent) {
+        return rank;
+    }
+    place_by_rank(members, ranks, rank)
 }
 
 /// Pauses the member at a place if it is this agent, or ends its pause.
@@ -78,7 +113,7 @@ impl Members {
     {
         Members {
             list: Vec::new(alloc),
-            hints: HashMap::new(alloc),
+            ranks: HashMap::new(alloc),
         }
     }
 
@@ -93,7 +128,7 @@ impl Members {
     pub(crate) fn has(&self, agent: usize) -> bool
         ensures { result ≡ list_any (spec.is_agent agent) self.now }
     {
-        self.hints.contains_key(&agent)
+        self.ranks.contains_key(&agent)
     }
 
     /// Where the member that is this agent stands.
@@ -101,9 +136,12 @@ impl Members {
         ensures place { result ≡ position (spec.is_agent agent) self.now }
         ensures within { IfSome result (λ place. place < length self.now) }
     {
-        match self.hints.get(&agent) {
+        match self.ranks.get(&agent) {
             None => None,
-            Some(hint) => place_by(&self.list, *hint, agent),
+            Some(rank) => {
+                let hint = likely_place(&self.list, &self.ranks, *rank, agent);
+                place_by(&self.list, hint, agent)
+            }
         }
     }
 
@@ -123,9 +161,9 @@ impl Members {
         ensures ok { OnOk result (self.new ≡ self.old ++ member ∷ []) }
         ensures err { OnErr result (self.new ≡ self.old) }
     {
-        let place = self.list.len();
+        let rank = next_rank(&self.list, &self.ranks);
         self.list.reserve(1)?;
-        self.hints.insert(member.agent, place)?;
+        self.ranks.insert(member.agent, rank)?;
         self.list.push(member).unwrap();
         Ok(())
     }
@@ -136,7 +174,7 @@ impl Members {
     {
         if let Some(place) = self.place_of(agent) {
             let _member = self.list.remove(place);
-            let _hint = self.hints.remove(&agent);
+            let _rank = self.ranks.remove(&agent);
         }
     }
 

@@ -16,7 +16,7 @@ changed c =
 
 pub invariant_of-self : goal.invariant_of-self
 invariant_of-self c =
-    held-mapped (finished_member c.args.agent c.args.count) (finished-agent c.args.agent c.args.count) c.self.inside.hints c.self.inside.list.items c.finish_at.new.members.items (changed c) c.self.invariant
+    held-mapped (finished_member c.args.agent c.args.count) (finished-agent c.args.agent c.args.count) c.self.inside.ranks c.self.inside.list.items c.finish_at.new.members.items (changed c) c.self.invariant
 
 pub returns-in-Some : goal.returns-in-Some
 returns-in-Some c = changed c ∙ ap (map (finished_member c.args.agent c.args.count)) c.self.view_is

@@ -16,7 +16,7 @@ changed c =
 
 pub invariant_of-self : goal.invariant_of-self
 invariant_of-self c =
-    held-mapped (paused_member c.args.agent c.args.is_paused) (λ m. refl) c.self.inside.hints c.self.inside.list.items c.pause_at.new.members.items (changed c) c.self.invariant
+    held-mapped (paused_member c.args.agent c.args.is_paused) (λ m. refl) c.self.inside.ranks c.self.inside.list.items c.pause_at.new.members.items (changed c) c.self.invariant
 
 pub returns-in-Some : goal.returns-in-Some
 returns-in-Some c = changed c ∙ ap (map (paused_member c.args.agent c.args.is_paused)) c.self.view_is

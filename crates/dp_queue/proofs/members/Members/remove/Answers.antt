@@ -8,7 +8,7 @@ use Rattle.dp_queue.proofs.HeldLemmas.{held-without}
 use Rattle.dp_queue.proofs.members.Members.remove.Goals as goal
 
 -- the members that are left
-gone : (c : goal.After-remove-hint) → c.remove-member.new.self.items ≡ without (is_agent c.args.agent) c.self.inside.list.items
+gone : (c : goal.After-remove-rank) → c.remove-member.new.self.items ≡ without (is_agent c.args.agent) c.self.inside.list.items
 gone c =
     c.remove-member.ensures.items
     ∙ remove-at_position (is_agent c.args.agent) c.self.inside.list.items c.in-Some.place
@@ -16,8 +16,8 @@ gone c =
 
 pub invariant_of-self : goal.invariant_of-self
 invariant_of-self c =
-    held-without c.self.inside.hints c.remove-hint.new.self c.self.inside.list.items c.remove-member.new.self.items c.args.agent (gone c)
-    c.remove-hint.ensures.updates.0 c.self.invariant
+    held-without c.self.inside.ranks c.remove-rank.new.self c.self.inside.list.items c.remove-member.new.self.items c.args.agent (gone c)
+    c.remove-rank.ensures.updates.0 c.self.invariant
 
 pub returns-in-Some : goal.returns-in-Some
 returns-in-Some c = gone c ∙ ap (without (is_agent c.args.agent)) c.self.view_is
