@@ -7,6 +7,7 @@ pub mod ReplayLemmas
 pub mod ServedLemmas
 pub mod StepLemmas
 pub mod StepRows
+pub mod TemplatesLemmas
 pub mod TieApps
 pub mod TieEvents
 pub mod TieLemmas

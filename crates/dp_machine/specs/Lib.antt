@@ -9,4 +9,5 @@ pub mod Replay
 pub mod Seen
 pub mod Tables
 pub mod Targets
+pub mod Templates
 pub mod World

@@ -7,6 +7,7 @@ use Rattle.dp_trie.specs.Known.{Keeps}
 use Rattle.dp_machine.specs.declared.directory.Tables.{Tables}
 use Rattle.dp_machine.specs.declared.orders.Order.{Order}
 use Rattle.dp_machine.specs.declared.orders.Orders.{Orders}
+use Rattle.dp_machine.specs.Templates.{AreTemplates}
 
 -- the order has room for each context of the dialplan, and is that of the context that it was filled for
 pub record IsOrder (plan : PlanOf) (held : Order) : Type 0 where
@@ -18,7 +19,8 @@ pub record AreOrders (plan : PlanOf) (orders : Orders) : Type 0 where
   pub first : IsOrder plan orders.first
   pub others : All (IsOrder plan) orders.others
 
--- the tries keep the dialplan, and the orders are orders of it
+-- the tries keep the dialplan, the orders are orders of it, and the templates those of its entries
 pub record AreTables (plan : PlanOf) (tables : Tables) : Type 0 where
   pub trie : Keeps plan tables.trie
   pub orders : AreOrders plan tables.orders
+  pub templates : AreTemplates plan.contexts tables.templates

@@ -1,11 +1,13 @@
 //! The dialplan, and what look-ups in it search in. No look-up takes memory.
-ghost use Rattle.std.specs.Prelude.{◌≡◌, IfOk, IsSome, Some};
+ghost use Rattle.std.specs.Prelude.{◌≡◌, IfOk, IfSome, IsSome, Some};
 ghost use Rattle.dp_lookup.specs.SearchOrder.{search_order};
 ghost use Rattle.dp_plan.specs.Lookup.{entry_at};
 ghost use Rattle.dp_machine.specs.Found as spec;
 ghost use Rattle.dp_machine.specs.Tables.{AreTables};
+ghost use Rattle.dp_machine.specs.Templates.{IsOf};
 
 use crate::orders::Orders;
+use crate::templates::{Template, Templates};
 use dp_app::Place;
 use dp_lookup::SearchOrder;
 use dp_plan::{Dialplan, Entry, EntryId, NoMemory, Text};
@@ -13,11 +15,13 @@ use dp_trie::Trie;
 use std::alloc::Global;
 use std::marker::Model;
 
-/// What look-ups in a dialplan search in: its tries, and the search orders of the contexts that were asked last.
+/// What is made of a dialplan once: its tries with their tables of labels, the search orders of the contexts that were asked last, and
+/// the templates of its entries.
 #[derive(Drop)]
 pub(crate) struct Tables {
     trie: Trie,
     orders: Orders,
+    templates: Templates,
 }
 
 impl Tables {
@@ -27,7 +31,12 @@ impl Tables {
     {
         let trie = Trie::build(alloc, plan)?;
         let orders = Orders::room(alloc, plan)?;
-        Ok(Tables { trie, orders })
+        let templates = Templates::read(alloc, plan.contexts())?;
+        Ok(Tables {
+            trie,
+            orders,
+            templates,
+        })
     }
 
     /// Makes the first order that of the context of this name. It takes no memory.
@@ -124,6 +133,17 @@ impl Directory {
     {
         match self.plan.entry(id) {
             Some(entry) => entry,
+            None => unreachable!(),
+        }
+    }
+
+    /// The template of the entry of these numbers, which stands in the dialplan.
+    pub(crate) fn template(&self, id: EntryId) -> &Template
+        requires { IsSome (entry_at self.now id) }
+        ensures { IfSome (entry_at self.now id) (λ entry. IsOf entry result.now) }
+    {
+        match self.tables.templates.get(id) {
+            Some(template) => template,
             None => unreachable!(),
         }
     }

@@ -20,6 +20,7 @@ mod seen;
 mod shared;
 mod step;
 mod target;
+mod templates;
 mod waiting;
 
 pub use channel::Channel;

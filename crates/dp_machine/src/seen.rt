@@ -1,6 +1,7 @@
 //! What the texts of a channel see.
 ghost use Rattle.std.specs.Prelude.{◌≡◌, IfOk, Some};
 ghost use Rattle.dp_queue.specs.Joining.{waiting_count};
+ghost use Rattle.dp_vars.specs.Pieces.{AreOf};
 ghost use Rattle.dp_vars.specs.Sights.{maps_of, sight_of};
 ghost use Rattle.dp_machine.specs.Seen as spec;
 
@@ -9,7 +10,7 @@ use crate::shared::Shared;
 use dp_app::Place;
 use dp_plan::NoMemory;
 use dp_queue::Queues;
-use dp_vars::{ChannelSeen, Scope, expand_text, value_of};
+use dp_vars::{ChannelSeen, Pieces, Scope, value_of};
 use std::alloc::Global;
 
 /// What the texts of the channel of this number see.
@@ -31,7 +32,7 @@ fn scope_of<'a>(shared: &'a Shared, number: u32, channel: &'a Channel) -> Scope<
     }
 }
 
-/// The arguments of an entry, expanded in what the channel of this number sees.
+/// The arguments of an entry, of which these are the pieces, expanded in what the channel of this number sees.
 #[tactic(auto, unfolding(crate::specs::Seen::arguments_seen))]
 pub(crate) fn expand_arguments(
     alloc: Global,
@@ -39,11 +40,13 @@ pub(crate) fn expand_arguments(
     number: u32,
     channel: &Channel,
     arguments: &[u8],
+    pieces: &Pieces,
 ) -> Result<Vec<u8>, NoMemory>
+    requires { AreOf arguments.now pieces.now }
     ensures { IfOk result (λ bytes. bytes.items ≡ spec.arguments_seen shared.now number channel.now arguments.now) }
 {
     let scope = scope_of(shared, number, channel);
-    let bytes = expand_text(alloc, arguments, &scope)?;
+    let bytes = pieces.expand(alloc, arguments, &scope)?;
     Ok(bytes)
 }
 

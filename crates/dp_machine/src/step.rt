@@ -9,6 +9,7 @@ ghost use Rattle.dp_machine.specs.Follows.{Follows, Runs};
 ghost use Rattle.dp_machine.specs.Found.{entry_found, id_at};
 ghost use Rattle.dp_machine.specs.GoodWorld.{IsSoundIn, MayAct};
 ghost use Rattle.dp_machine.specs.Seen.{arguments_seen};
+ghost use Rattle.dp_machine.specs.Templates.{IsOf};
 
 use crate::channel::Channel;
 use crate::directory::Directory;
@@ -19,10 +20,11 @@ use crate::reply::Reply;
 use crate::seen::expand_arguments;
 use crate::shared::Shared;
 use crate::target::land;
+use crate::templates::Template;
 use dp_app::{AppTable, Cell, Exten, Move, Phase, Place};
 use dp_plan::{Entry, EntryId, NoMemory, Text};
 use dp_queue::Queues;
-use dp_vars::{Globals, Store, has_opening};
+use dp_vars::{Globals, Store};
 use std::alloc::Global;
 use std::mem;
 
@@ -133,8 +135,7 @@ fn run_application<T: AppTable>(
     run_in_cell::<T>(alloc, shared, number, channel, name, arguments)
 }
 
-/// Runs the application of the entry, whose arguments are expanded first. Arguments in which nothing opens a group are
-/// taken as they stand.
+/// Runs the application of the entry, whose arguments are expanded first, by their template.
 #[tactic(auto, unfolding(crate::specs::Seen::arguments_seen))]
 fn run_entry<T: AppTable>(
     alloc: Global,
@@ -142,19 +143,23 @@ fn run_entry<T: AppTable>(
     number: u32,
     channel: &mut Channel,
     entry: &Entry,
+    template: &Template,
 ) -> Result<Option<Move>, NoMemory>
-    requires { MayRun (spec.cell_of shared.old number channel.old) }
+    requires run { MayRun (spec.cell_of shared.old number channel.old) }
+    requires template { IsOf entry.now template.now }
     ensures { Runs (dispatched (T.rows entry.now.application)
         (arguments_seen shared.old number channel.old entry.now.arguments) (spec.cell_of shared.old number channel.old))
         shared.old shared.new channel.old channel.new result }
 {
     let name = entry.application.bytes();
     let arguments = entry.arguments.bytes();
-    if has_opening(arguments) {
-        let arguments = expand_arguments(alloc, shared, number, channel, arguments)?;
-        return run_application::<T>(alloc, shared, number, channel, name, &arguments);
+    match template {
+        Template::Plain => run_application::<T>(alloc, shared, number, channel, name, arguments),
+        Template::Read(pieces) => {
+            let arguments = expand_arguments(alloc, shared, number, channel, arguments, pieces)?;
+            run_application::<T>(alloc, shared, number, channel, name, &arguments)
+        }
     }
-    run_application::<T>(alloc, shared, number, channel, name, arguments)
 }
 
 /// Whether the extension of a place is not there, and `i` is found in its context.
@@ -218,7 +223,15 @@ fn step_found<T: AppTable>(
     let entry = exchange.plan.entry(id);
     // The channel stands at the entry's priority, which is at most 2,147,483,647.
     let _ = entry.priority.get();
-    let going = run_entry::<T>(alloc, &mut exchange.shared, number, channel, entry)?;
+    let template = exchange.plan.template(id);
+    let going = run_entry::<T>(
+        alloc,
+        &mut exchange.shared,
+        number,
+        channel,
+        entry,
+        template,
+    )?;
     go(&mut exchange.plan, channel, going);
     Ok(Reply::Ran(id))
 }

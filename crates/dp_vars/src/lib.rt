@@ -1,8 +1,8 @@
 //! Variables of a dialplan and the texts in which they stand, after the Asterisk documentation's pages on variables.
 //!
 //! A `Store` has the variables of a channel and its frames, `Globals` what all channels share. A `Template` is a text
-//! with groups, and `expand` puts the values of a `Scope` in their places; `expand_text` does so with any text, and
-//! `value_of` is the value of one name.
+//! with groups, and `expand` puts the values of a `Scope` in their places; `Pieces` do so for a text that stands elsewhere,
+//! `expand_text` with a text that was not read before, and `value_of` is the value of one name.
 #![tactic(auto)]
 
 mod expanding;
@@ -27,6 +27,7 @@ mod variables;
 pub use dp_conf::MOST_NESTING;
 pub use globals::Globals;
 pub use opening::has_opening;
+pub use pieces::Pieces;
 pub use reference::value_of;
 pub use scope::{ChannelSeen, Counts, Scope};
 pub use store::{Replaced, Store};

@@ -12,7 +12,9 @@ use dp_conf::NoMemory;
 use std::alloc::Global;
 use std::marker::Model;
 
-/// The pieces of a text that stands elsewhere, and the place behind them, from which all bytes are plain.
+/// The pieces of a text that stands elsewhere, as in a dialplan, and the place behind them, from which all bytes are plain.
+///
+/// A contract says of which text they are; they are expanded with that text.
 #[derive(Drop)]
 pub struct Pieces {
     pieces: Vec<Piece>,
@@ -28,7 +30,7 @@ impl Model for Pieces {
 }
 
 impl Pieces {
-    /// The pieces of a text.
+    /// The pieces of a text, however deep groups stand inside each other in it.
     ///
     /// The error comes only where a growth was refused.
     pub fn read(alloc: Global, text: &[u8]) -> Result<Self, NoMemory>
@@ -39,7 +41,7 @@ impl Pieces {
         Ok(Pieces { pieces, tail })
     }
 
-    /// The expansion of their text.
+    /// The expansion of their text: each group replaced by its value, as `expand_text` does.
     ///
     /// The error comes only where a growth was refused.
     pub fn expand<B, C: Counts>(

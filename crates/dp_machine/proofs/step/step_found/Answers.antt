@@ -1,8 +1,9 @@
-use Rattle.std.proofs.Common.{◌≤◌, ap, refl, subst}
+use Rattle.std.proofs.Common.{◌≤◌, IfSome, ap, refl, subst, sym}
 use Rattle.dp_app.specs.Laws.{most_priority}
 use Rattle.dp_app.specs.declared.place.Place.{Place}
 use Rattle.dp_machine.specs.Events.{Applied}
 use Rattle.dp_machine.specs.Seen.{arguments_seen}
+use Rattle.dp_machine.specs.Templates.{IsOf}
 use Rattle.dp_machine.proofs.LookupLemmas.{found_there, stands_there, within_most}
 use Rattle.dp_machine.proofs.StepLemmas.{follows-found, ready_may_run, went_sound}
 use Rattle.dp_machine.proofs.step.step_found.Goals as goal
@@ -10,10 +11,17 @@ use Rattle.dp_machine.proofs.step.step_found.Goals as goal
 pub entry-entry-requires : goal.entry-entry-requires
 entry-entry-requires g c = stands_there c.args.exchange.now.plan c.args.channel.now.place c.args.id c.requires.found
 
-pub run_entry-requires : goal.run_entry-requires
-run_entry-requires g c =
+pub run_entry-requires-clause-run : goal.run_entry-requires-clause-run
+run_entry-requires-clause-run g c =
     ready_may_run c.args.exchange.now.shared c.args.number c.args.channel.now c.requires.act c.requires.ready
     (within_most c.args.exchange.now.plan c.args.channel.now.place c.args.id c.entry-entry.result.now c.requires.found c.entry-entry.ensures c.get.ensures.range)
+
+pub run_entry-requires-clause-template : goal.run_entry-requires-clause-template
+run_entry-requires-clause-template g c =
+    subst (λ o. IfSome o (λ entry. IsOf entry c.template-template.result.now)) (sym c.entry-entry.ensures) c.template-template.ensures
+
+pub template-template-requires : goal.template-template-requires
+template-template-requires g c = stands_there c.args.exchange.now.plan c.args.channel.now.place c.args.id c.requires.found
 
 -- its application leaves the channel's place
 pub go-requires : goal.go-requires

@@ -1,0 +1,108 @@
+//! The arguments of a dialplan's entries, read once when the machine is made, after the Asterisk documentation's pages on variables.
+ghost use Rattle.std.specs.Prelude.{◌≡◌, IfOk};
+ghost use Rattle.std.specs.Option.{option_copied};
+ghost use Rattle.dp_machine.specs.Templates as spec;
+
+use dp_plan::{Context, Entry, EntryId, NoMemory};
+use dp_vars::{Pieces, has_opening};
+use std::alloc::Global;
+use std::marker::Model;
+
+/// The arguments of an entry, as they are expanded.
+#[derive(Drop)]
+pub(crate) enum Template {
+    /// Nothing in them opens a group, so they are taken as they stand.
+    Plain,
+    /// Their pieces.
+    Read(Pieces),
+}
+
+impl Template {
+    /// The template of a text.
+    fn read(alloc: Global, text: &[u8]) -> Result<Self, NoMemory>
+        ensures { IfOk result (spec.IsTemplate text.now) }
+    {
+        if has_opening(text) {
+            let pieces = Pieces::read(alloc, text)?;
+            return Ok(Template::Read(pieces));
+        }
+        Ok(Template::Plain)
+    }
+}
+
+/// The templates of a context's entries, in the order of the file.
+#[derive(Drop)]
+struct ContextTemplates {
+    held: Vec<Template>,
+}
+
+impl Model for ContextTemplates {
+    ghost use Rattle.std.specs.Prelude.{List};
+    ghost use Rattle.dp_machine.specs.declared.templates.Template.{Template};
+
+    ghost Value = { List Template };
+
+    ghost view = { λ templates. templates.held.items };
+}
+
+impl ContextTemplates {
+    /// Those of these entries.
+    fn read(alloc: Global, entries: &[Entry]) -> Result<Self, NoMemory>
+        ensures { IfOk result (spec.AreOf entries.now) }
+    {
+        let mut held = Vec::with_capacity(alloc, entries.len())?;
+        let mut left = entries;
+        while let Some((entry, behind)) = left.split_first() {
+            let template = Template::read(alloc, entry.arguments.bytes())?;
+            held.push(template)?;
+            left = behind;
+        }
+        Ok(ContextTemplates { held })
+    }
+
+    /// The templates; the number of one is that of its entry.
+    fn list(&self) -> &[Template]
+        ensures { result.now ≡ self.now }
+    {
+        &self.held
+    }
+}
+
+/// The templates of all entries of a dialplan.
+#[derive(Drop)]
+pub(crate) struct Templates {
+    contexts: Vec<ContextTemplates>,
+}
+
+impl Model for Templates {
+    ghost use Rattle.std.specs.Prelude.{List};
+    ghost use Rattle.dp_machine.specs.declared.templates.Template.{Template};
+
+    ghost Value = { List (List Template) };
+
+    ghost view = { λ templates. templates.contexts.items };
+}
+
+impl Templates {
+    /// Those of the entries of these contexts.
+    pub(crate) fn read(alloc: Global, contexts: &[Context]) -> Result<Self, NoMemory>
+        ensures { IfOk result (spec.AreTemplates contexts.now) }
+    {
+        let mut held = Vec::with_capacity(alloc, contexts.len())?;
+        let mut left = contexts;
+        while let Some((context, behind)) = left.split_first() {
+            let templates = ContextTemplates::read(alloc, context.entries())?;
+            held.push(templates)?;
+            left = behind;
+        }
+        Ok(Templates { contexts: held })
+    }
+
+    /// That of the entry of these numbers.
+    pub(crate) fn get(&self, id: EntryId) -> Option<&Template>
+        ensures { option_copied result ≡ spec.template_at self.now id }
+    {
+        let templates = self.contexts.get(id.context)?;
+        templates.list().get(id.entry)
+    }
+}
