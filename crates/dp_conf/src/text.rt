@@ -1,5 +1,5 @@
 //! A text of bytes, which contracts see as its bytes.
-ghost use Rattle.std.specs.Prelude.{◌≡◌, IfOk, nat_eq, Some};
+ghost use Rattle.std.specs.Prelude.{◌≡◌, ◌∷◌, ◌++◌, [], IfOk, OnErr, OnOk, nat_eq, Some};
 ghost use Rattle.std.specs.Hash as fed;
 ghost use Rattle.std.specs.Cmp.Lexicographic.{pointwise, nat_list_eq_equiv};
 ghost use Rattle.std.specs.Cmp.{partial_equiv_from_equiv};
@@ -44,6 +44,15 @@ impl Text {
     {
         let bytes = Vec::from_slice(alloc, bytes)?;
         Ok(Text::new(bytes))
+    }
+
+    /// Adds a byte behind the others. After a refused growth all is as before.
+    pub fn push(&mut self, byte: u8) -> Result<(), AllocError>
+        ensures ok { OnOk result (self.new ≡ self.old ++ byte ∷ []) }
+        ensures err { OnErr result (self.new ≡ self.old) }
+    {
+        self.bytes.push(byte)?;
+        Ok(())
     }
 
     /// The bytes of the text.

@@ -44,15 +44,6 @@ fn is_over(phase: &Phase) -> bool
     }
 }
 
-/// The digits with one more behind them.
-fn with_digit(alloc: Global, digits: &Text, digit: u8) -> Result<Text, NoMemory>
-    ensures { IfOk result (λ text. text ≡ digits.now ++ digit ∷ []) }
-{
-    let mut bytes = Vec::from_slice(alloc, digits.bytes())?;
-    bytes.push(digit)?;
-    Ok(Text::new(bytes))
-}
-
 /// The channel has dialled these digits: it waits for more where they may go on, else it goes where they lead.
 fn collect(plan: &mut Directory, channel: &mut Channel, text: Text, is_background: bool)
     ensures channel { channel.new ≡ channels.collected (found.could_go_on plan.old channel.old.place.context text) channel.old text is_background }
@@ -121,13 +112,14 @@ fn dial_digit(
     ensures { Follows (spec.dial_in channel.old.phase digit exchange.old.plan exchange.old.shared number channel.old)
         exchange.old exchange.new channel.old channel.new result }
 {
-    match &channel.phase {
+    match &mut channel.phase {
         Phase::Digits {
             text,
             is_background,
         } => {
+            text.push(digit)?;
+            let text = mem::replace(text, Text::new(Vec::new(alloc)));
             let is_background = *is_background;
-            let text = with_digit(alloc, text, digit)?;
             collect(&mut exchange.plan, channel, text, is_background);
             Ok(Reply::Done)
         }
