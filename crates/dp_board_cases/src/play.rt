@@ -8,7 +8,8 @@ use crate::pauses::{Paced, act_paced};
 use crate::turns::act_turns;
 use dp_board::{Back, Board, History, Seat, Session, Unsettled};
 use dp_board_rows::Crossed;
-use dp_machine::{Dialplan, Event, Machine, NoMemory, Queues, Reply, Text};
+use dp_machine::{Dialplan, Event, Machine, NoMemory, Reply, Text};
+use dp_queue::Queues;
 use dp_table::StandardApps;
 use std::alloc::Global;
 use std::marker::Brand;
@@ -31,12 +32,18 @@ const QUEUES: &[u8] = b"[q]
 joinempty=no
 ";
 
+/// A machine over the dialplan, with the queues.
+fn with_queues(alloc: Global, plan: Dialplan) -> Option<Exchange> {
+    match Queues::load(alloc, QUEUES) {
+        Ok(queues) => Exchange::new(alloc, plan, queues).ok(),
+        Err(_) => None,
+    }
+}
+
 fn exchange(rt: &impl Abort, alloc: Global) -> Exchange {
     let loaded = Dialplan::load(alloc, PLAN).ok();
     let (plan, _notes) = loaded.expect(rt, "the dialplan");
-    let queues = Queues::load(alloc, QUEUES).ok().expect(rt, "the queues");
-    let machine = Exchange::new(alloc, plan, queues).ok();
-    machine.expect(rt, "the machine")
+    with_queues(alloc, plan).expect(rt, "the machine")
 }
 
 fn call_to(alloc: Global, exten: &[u8]) -> Result<Event, NoMemory> {
