@@ -31,6 +31,10 @@ pub(crate) struct Digits<'a> {
 fn count_digits(text: &[u8]) -> usize
     ensures { result ≡ length (undashed text.now) }
 {
+    // What a caller dials has no dash, and the search for one byte is the faster.
+    if !text.contains(&b'-') {
+        return text.len();
+    }
     text.iter().filter(|byte| **byte != b'-').count()
 }
 
