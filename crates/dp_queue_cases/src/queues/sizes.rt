@@ -17,11 +17,12 @@ queues 3000→queues 3000, members 1, agents 1
 doubled 3000→fault 33 DoubleQueue line 3001
 ";
 
-/// Steps on queues of many agents and of many names, with what they answer.
+/// Steps on queues of many agents and of many names, and of channels of great numbers, with what they answer.
 pub(super) const STEPS: &str = r"
 [q] ; fill q 70 ; fill q 70 ; add q Line/69 ; add q line/69 ; remove q Line/0 ; remove q Line/35 ; remove q Line/35 ; pause q Line/69 ; pause q LINE/69 ; join q 1 ; offer q ; answer Line/1 ; answer Line/69 ; done Line/1→70 added, 0 added, already, added, removed, removed, not there, yes, no, joined 0, offered #1 68, call 0 1 #1, none, call 0 1 #1
 [q]\nstrategy=linear\n[r] ; fill q 20 ; fill r 20 ; remove q Line/3 ; pause q Line/19 ; pause * Line/0 ; join q 1 ; offer q ; answer Line/1 ; join r 2 ; offer r ; end 1→20 added, 20 added, removed, yes, yes, joined 0, offered #1 1, call 0 1 #1, joined 1, offered #2 18, call 0 1 #1
 [alpha]\n[Beta]\n[GAMMA] ; count ALPHA ; join beta 1 ; count BETA ; join gamma 2 ; count Gamma ; join delta 3 ; count alpha→0, joined 1, 1, joined 2, 1, unknown, 0
+[q]\nmember=A ; join q 10000 ; join q 3 ; count q ; offer q ; leave 3 ; leave 4 ; leave 9999 ; leave 10001 ; answer A ; leave 10000 ; end 10000→joined 0, joined 0, 2, offered #10000 1, yes, no, no, no, call 0 0 #10000, no, call 0 0 #10000
 ";
 
 fn push_members(out: &mut String, count: u32) -> Result<(), NoMemory> {
