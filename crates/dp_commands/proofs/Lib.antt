@@ -1,3 +1,4 @@
+mod DashesLemmas
 mod DealLemmas
 mod DebugLemmas
 mod JoinedLemmas

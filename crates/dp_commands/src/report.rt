@@ -5,6 +5,7 @@ ghost use Rattle.dp_conf.specs.Answers.{Answers};
 ghost use Rattle.dp_commands.specs.Faults.{is_write_failed, reason_of};
 ghost use Rattle.dp_commands.specs.Report as spec;
 ghost use Rattle.dp_commands.specs.Run.{plan_fault};
+ghost use Rattle.dp_pattern.specs.Dashes.{undashed};
 ghost use Rattle.dp_plan.specs.Loaded.{loaded};
 
 use crate::block::Block;
@@ -147,7 +148,21 @@ pub fn list_plan<W: WriteTold>(alloc: Global, plan: &[u8], writer: &mut W) -> Re
     Ok(0)
 }
 
-/// The entry that answers a dialled text at a priority, from a context on.
+/// The text without its dashes.
+fn without_dashes(alloc: Global, text: &[u8]) -> Result<Vec<u8>, NoMemory>
+    ensures { IfOk result (λ digits. digits.items ≡ undashed text.now) }
+{
+    let digits = text
+        .iter()
+        .copied()
+        .filter(|byte| *byte != b'-')
+        .collect(alloc)?;
+    Ok(digits)
+}
+
+/// The entry that answers a dialled text at a priority, from a context on. Dashes make no difference, so they are dropped first: else
+/// each name that is asked would go past them.
+#[tactic(auto, using(crate::proofs::DashesLemmas::found_undashed))]
 fn find_answer(
     alloc: Global,
     plan: &Dialplan,
@@ -159,7 +174,8 @@ fn find_answer(
 {
     let context = Text::copy_of(alloc, context)?;
     let order = SearchOrder::of(alloc, plan, &context)?;
-    Ok(find(plan, &order, text, priority.get()))
+    let digits = without_dashes(alloc, text)?;
+    Ok(find(plan, &order, &digits, priority.get()))
 }
 
 /// Adds the line of an entry that was looked for.
