@@ -1,11 +1,6 @@
-mod applications;
-mod calls;
 mod codes;
 mod debugs;
 mod large;
-mod manual;
-mod render;
 mod reports;
-mod runs;
 mod scripts;
 mod writers;

@@ -1,7 +1,7 @@
 //! The numbers and the printed names of the faults.
-use crate::commands::render::push_fault;
 use dp_board::{Disagree, SettleFault};
 use dp_commands::{Code, PbxFault};
+use dp_commands_rows::push_fault;
 use dp_conf::{LineKind, NoMemory, ReadFault};
 use dp_plan::{NameFault, PlanKind, Word};
 use dp_rows::check_same;

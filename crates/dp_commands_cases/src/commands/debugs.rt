@@ -1,6 +1,6 @@
 //! Debugged runs, with all that is printed of them, worked out by hand from the rules.
-use crate::commands::render::{in_main, make_sink, told};
 use dp_commands::debug_script;
+use dp_commands_rows::{in_main, make_sink, told};
 use dp_conf::NoMemory;
 use dp_rows::{Question, bytes_of, check_all};
 use std::alloc::Global;

@@ -1,10 +1,9 @@
 //! Long scripts, and long chains of includes.
-use crate::commands::render::{Command, Run, Sink, check_into, check_text, make_sink};
 use dp_commands::{PbxFault, match_one};
+use dp_commands_rows::{Command, Run, Sink, check_into, check_text, make_sink};
 use dp_conf::{NoMemory, Told};
 use dp_plan::Priority;
 use std::alloc::Global;
-use std::process::Abort;
 use std::str;
 use std::test::Fail;
 
@@ -40,27 +39,22 @@ fn push_refused(text: &mut String, want: &mut String) -> Result<(), NoMemory> {
     want.push_str("status 1")
 }
 
-fn check_started(rt: &impl Abort, alloc: Global, text: &str, trace: &str) -> Result<(), Fail> {
+fn check_started(alloc: Global, text: &str, trace: &str) -> Result<(), Fail> {
     let want = with_status(alloc, trace)?;
-    check_text::<Run>(rt, alloc, text.as_bytes(), want.as_bytes())
+    check_text::<Run>(alloc, text.as_bytes(), want.as_bytes())
 }
 
-fn check_spent(
-    rt: &impl Abort,
-    alloc: Global,
-    text: &mut String,
-    want: &mut String,
-) -> Result<(), Fail> {
-    check_started(rt, alloc, text, want)?;
+fn check_spent(alloc: Global, text: &mut String, want: &mut String) -> Result<(), Fail> {
+    check_started(alloc, text, want)?;
     push_refused(text, want)?;
-    check_text::<Run>(rt, alloc, text.as_bytes(), want.as_bytes())
+    check_text::<Run>(alloc, text.as_bytes(), want.as_bytes())
 }
 
 /// After 65,535 calls each further one is refused, and the calls that are there go on.
-fn check_numbers(rt: &impl Abort, alloc: Global) -> Result<(), Fail> {
+fn check_numbers(alloc: Global) -> Result<(), Fail> {
     let mut text = many_starts(alloc)?;
     let mut want = many_started(alloc)?;
-    check_spent(rt, alloc, &mut text, &mut want)
+    check_spent(alloc, &mut text, &mut want)
 }
 
 /// A text of which the trace has a line for a call, and so many lines of 38 bytes.
@@ -78,23 +72,23 @@ fn loop_trace(alloc: Global, steps: u32, behind: &str) -> Result<String, NoMemor
 }
 
 /// Asserts that so many steps are written whole where the write k of a writer that takes all fails.
-fn check_block(rt: &impl Abort, alloc: Global, k: usize, steps: u32) -> Result<(), Fail> {
+fn check_block(alloc: Global, k: usize, steps: u32) -> Result<(), Fail> {
     let want = loop_trace(alloc, steps, "fault 9 WriteFailed, told")?;
     let writer = make_sink(alloc, usize::MAX, Some(k));
-    check_into::<Run>(rt, alloc, LOOP, writer, want.as_bytes())
+    check_into::<Run>(alloc, LOOP, writer, want.as_bytes())
 }
 
-fn check_whole(rt: &impl Abort, alloc: Global) -> Result<(), Fail> {
+fn check_whole(alloc: Global) -> Result<(), Fail> {
     let want = loop_trace(alloc, 100_000, "status 0")?;
-    check_text::<Run>(rt, alloc, LOOP, want.as_bytes())
+    check_text::<Run>(alloc, LOOP, want.as_bytes())
 }
 
 /// The greatest count is taken as it stands. The lines go out in blocks: the first is full behind 1,617 steps, and each
 /// further one behind 1,617 more.
-fn check_steps(rt: &impl Abort, alloc: Global) -> Result<(), Fail> {
-    check_whole(rt, alloc)?;
-    check_block(rt, alloc, 1, 1_617)?;
-    check_block(rt, alloc, 2, 3_234)
+fn check_steps(alloc: Global) -> Result<(), Fail> {
+    check_whole(alloc)?;
+    check_block(alloc, 1, 1_617)?;
+    check_block(alloc, 2, 3_234)
 }
 
 /// A dialplan with an extension of this name, and a call to it.
@@ -107,16 +101,16 @@ fn wide_trace(alloc: Global, name: &str) -> Result<String, NoMemory> {
     format!(in alloc; "started 1\nran 1 main,{name},1 NoOp -> ready main,{name},2\nstatus 0")
 }
 
-fn check_name(rt: &impl Abort, alloc: Global, name: &str) -> Result<(), Fail> {
+fn check_name(alloc: Global, name: &str) -> Result<(), Fail> {
     let text = wide_run(alloc, name)?;
     let want = wide_trace(alloc, name)?;
-    check_text::<Run>(rt, alloc, text.as_bytes(), want.as_bytes())
+    check_text::<Run>(alloc, text.as_bytes(), want.as_bytes())
 }
 
 /// A line is longer than a block.
-fn check_wide(rt: &impl Abort, alloc: Global) -> Result<(), Fail> {
+fn check_wide(alloc: Global) -> Result<(), Fail> {
     let name = vec![in alloc; b'7'; 70_000]?;
-    check_name(rt, alloc, str::from_utf8(&name)?)
+    check_name(alloc, str::from_utf8(&name)?)
 }
 
 /// Which entry answers `77` at priority 1, from the context `c0` on.
@@ -142,12 +136,12 @@ fn chain(alloc: Global) -> Result<String, NoMemory> {
 }
 
 /// They are followed to the last one, also where that includes the first.
-fn check_chain(rt: &impl Abort, alloc: Global) -> Result<(), Fail> {
+fn check_chain(alloc: Global) -> Result<(), Fail> {
     let mut plan = chain(alloc)?;
     let want = b"c9999,77,1 NoOp\nstatus 0";
-    check_text::<Match77>(rt, alloc, plan.as_bytes(), want)?;
+    check_text::<Match77>(alloc, plan.as_bytes(), want)?;
     plan.push_str("include => c0\n")?;
-    check_text::<Match77>(rt, alloc, plan.as_bytes(), want)
+    check_text::<Match77>(alloc, plan.as_bytes(), want)
 }
 
 /// A call that enters a subroutine so often, hangs up, and is followed by another.
@@ -169,17 +163,17 @@ fn deep_trace(alloc: Global, depth: u32) -> Result<String, NoMemory> {
 }
 
 /// A thousand frames are entered, and go with the call.
-fn check_depth(rt: &impl Abort, alloc: Global) -> Result<(), Fail> {
+fn check_depth(alloc: Global) -> Result<(), Fail> {
     let text = deep_calls(alloc, 1_000)?;
     let want = deep_trace(alloc, 1_000)?;
-    check_text::<Run>(rt, alloc, text.as_bytes(), want.as_bytes())
+    check_text::<Run>(alloc, text.as_bytes(), want.as_bytes())
 }
 
 #[test]
 fn large_texts_are_served(rt: HostRuntime) -> Result<(), Fail> {
-    check_numbers(&rt, rt.alloc())?;
-    check_steps(&rt, rt.alloc())?;
-    check_wide(&rt, rt.alloc())?;
-    check_depth(&rt, rt.alloc())?;
-    check_chain(&rt, rt.alloc())
+    check_numbers(rt.alloc())?;
+    check_steps(rt.alloc())?;
+    check_wide(rt.alloc())?;
+    check_depth(rt.alloc())?;
+    check_chain(rt.alloc())
 }

@@ -1,5 +1,5 @@
 //! Reports on dialplans: what they write, and what they end with.
-use crate::commands::render::{Check, check_table};
+use dp_commands_rows::{Check, check_table};
 use std::test::Fail;
 
 /// Each fault of a line.
@@ -28,5 +28,5 @@ a=1\n→fault 2 NoSection line 1
 
 #[test]
 fn dialplans_are_reported_so(rt: HostRuntime) -> Result<(), Fail> {
-    check_table::<Check>(&rt, rt.alloc(), FAULT_LINES)
+    check_table::<Check>(rt.alloc(), FAULT_LINES)
 }

@@ -1,6 +1,6 @@
 //! Scripts with their lines or their fault, worked out by hand from the rules.
-use crate::commands::render::push_fault;
 use dp_commands::{PbxFault, ScriptLine, Turn, read_script};
+use dp_commands_rows::push_fault;
 use dp_conf::NoMemory;
 use dp_machine::Event;
 use dp_rows::{Question, bytes_of, check};

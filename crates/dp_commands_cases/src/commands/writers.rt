@@ -1,10 +1,9 @@
 //! Writers that fail.
-use crate::commands::render::{Check, Command, Run, Sink, check_into, make_sink};
 use dp_commands::{PbxFault, match_one};
+use dp_commands_rows::{Check, Command, Run, Sink, check_into, make_sink};
 use dp_conf::{NoMemory, Told};
 use dp_plan::Priority;
 use std::alloc::Global;
-use std::process::Abort;
 use std::test::Fail;
 
 /// Which entry of `main` answers `23` at priority 1.
@@ -45,7 +44,6 @@ fn with_behind(alloc: Global, bytes: &[u8], behind: &[u8]) -> Result<Vec<u8>, No
 
 /// Asserts that a command on a writer whose write k fails has written these bytes before it.
 fn check_failing<C: Command>(
-    rt: &impl Abort,
     alloc: Global,
     text: &[u8],
     sink: (usize, usize),
@@ -53,63 +51,42 @@ fn check_failing<C: Command>(
 ) -> Result<(), Fail> {
     let (step, k) = sink;
     let want = with_behind(alloc, written, b"fault 9 WriteFailed, told")?;
-    check_into::<C>(rt, alloc, text, make_sink(alloc, step, Some(k)), &want)
+    check_into::<C>(alloc, text, make_sink(alloc, step, Some(k)), &want)
 }
 
 /// One byte at a time, a text is as many writes as it has bytes: where write k fails, the bytes before it were written.
-fn check_each<C: Command>(
-    rt: &impl Abort,
-    alloc: Global,
-    text: &[u8],
-    whole: &[u8],
-) -> Result<(), Fail> {
+fn check_each<C: Command>(alloc: Global, text: &[u8], whole: &[u8]) -> Result<(), Fail> {
     for k in 0..whole.len() {
-        check_failing::<C>(rt, alloc, text, (1, k), &whole[..k])?;
+        check_failing::<C>(alloc, text, (1, k), &whole[..k])?;
     }
     let want = with_behind(alloc, whole, b"status 0")?;
     let writer = make_sink(alloc, 1, Some(whole.len()));
-    check_into::<C>(rt, alloc, text, writer, &want)
+    check_into::<C>(alloc, text, writer, &want)
 }
 
 #[test]
 fn a_writer_that_fails_at_write_k(rt: HostRuntime) -> Result<(), Fail> {
-    check_each::<Run>(&rt, rt.alloc(), RUN, TRACE)?;
-    check_each::<Check>(&rt, rt.alloc(), NOTED, CHECKED)?;
-    check_each::<Match23>(&rt, rt.alloc(), NOTED, MATCHED)?;
-    check_failing::<Run>(&rt, rt.alloc(), RUN, (4096, 0), b"")
+    check_each::<Run>(rt.alloc(), RUN, TRACE)?;
+    check_each::<Check>(rt.alloc(), NOTED, CHECKED)?;
+    check_each::<Match23>(rt.alloc(), NOTED, MATCHED)?;
+    check_failing::<Run>(rt.alloc(), RUN, (4096, 0), b"")
 }
 
 /// Asserts that a command does not ask a writer that always fails.
-fn check_unasked<C: Command>(
-    rt: &impl Abort,
-    alloc: Global,
-    text: &[u8],
-    want: &[u8],
-) -> Result<(), Fail> {
-    check_into::<C>(rt, alloc, text, make_sink(alloc, 1, Some(0)), want)
+fn check_unasked<C: Command>(alloc: Global, text: &[u8], want: &[u8]) -> Result<(), Fail> {
+    check_into::<C>(alloc, text, make_sink(alloc, 1, Some(0)), want)
 }
 
 /// Nothing is written of a faulty text, nor where nothing happens.
 #[test]
 fn a_faulty_text_asks_for_no_write(rt: HostRuntime) -> Result<(), Fail> {
+    check_unasked::<Run>(rt.alloc(), b"[main]\nabc\n", b"fault 4 NoEquals line 2")?;
     check_unasked::<Run>(
-        &rt,
-        rt.alloc(),
-        b"[main]\nabc\n",
-        b"fault 4 NoEquals line 2",
-    )?;
-    check_unasked::<Run>(
-        &rt,
         rt.alloc(),
         b";; script\nstart a b\njump 1\n",
         b"fault 70 BadScript line 2",
     )?;
-    check_unasked::<Run>(&rt, rt.alloc(), b";; script\nstep 1 0\n", b"status 0")?;
-    check_unasked::<Check>(
-        &rt,
-        rt.alloc(),
-        b"[main]\nabc\n",
-        b"fault 4 NoEquals line 2",
-    )?;
-    check_unasked::<Match23>(&rt, rt.alloc(), b"abc\n", b"fault 2 NoSection line 1")
+    check_unasked::<Run>(rt.alloc(), b";; script\nstep 1 0\n", b"status 0")?;
+    check_unasked::<Check>(rt.alloc(), b"[main]\nabc\n", b"fault 4 NoEquals line 2")?;
+    check_unasked::<Match23>(rt.alloc(), b"abc\n", b"fault 2 NoSection line 1")
 }

@@ -1,16 +1,20 @@
-//! A writer over memory, and what commands write and end with.
+//! What cases of commands share: a writer over memory, and what commands write and end with.
+//!
+//! This is for tests alone.
+#![tactic(auto)]
+
+use bstr::BStr;
 use dp_commands::{PbxFault, check, run_joined};
-use dp_conf::{NoMemory, Text, Told};
+use dp_conf::{NoMemory, Told};
 use dp_rows::{bytes_of, check_heading, push_bytes};
 use std::alloc::Global;
 use std::io;
 use std::io::{ErrorKind, Write};
-use std::process::Abort;
 use std::test::Fail;
 
 /// A writer that takes at most `step` bytes at once, and whose write `fails_at`, counted from 0, answers an error.
 #[derive(Drop)]
-pub(super) struct Sink {
+pub struct Sink {
     held: Vec<u8>,
     step: usize,
     writes: usize,
@@ -35,7 +39,7 @@ impl Write for Sink {
 }
 
 /// An empty writer.
-pub(super) fn make_sink(alloc: Global, step: usize, fails_at: Option<usize>) -> Told<Sink> {
+pub fn make_sink(alloc: Global, step: usize, fails_at: Option<usize>) -> Told<Sink> {
     Told::new(Sink {
         held: Vec::new(alloc),
         step,
@@ -45,13 +49,13 @@ pub(super) fn make_sink(alloc: Global, step: usize, fails_at: Option<usize>) -> 
 }
 
 /// A command over one text.
-pub(super) trait Command {
+pub trait Command {
     /// Does what the command does with the text.
     fn serve(alloc: Global, text: &[u8], writer: &mut Told<Sink>) -> Result<u8, PbxFault>;
 }
 
 /// The run of a joined text.
-pub(super) struct Run;
+pub struct Run;
 
 impl Command for Run {
     fn serve(alloc: Global, text: &[u8], writer: &mut Told<Sink>) -> Result<u8, PbxFault> {
@@ -60,7 +64,7 @@ impl Command for Run {
 }
 
 /// What a dialplan loads as.
-pub(super) struct Check;
+pub struct Check;
 
 impl Command for Check {
     fn serve(alloc: Global, text: &[u8], writer: &mut Told<Sink>) -> Result<u8, PbxFault> {
@@ -69,7 +73,7 @@ impl Command for Check {
 }
 
 /// Adds a fault as it is printed.
-pub(super) fn push_fault(out: &mut String, fault: PbxFault) -> Result<(), NoMemory> {
+pub fn push_fault(out: &mut String, fault: PbxFault) -> Result<(), NoMemory> {
     match fault {
         PbxFault::Coded {
             code,
@@ -114,15 +118,15 @@ fn outcome(
     alloc: Global,
     ended: Result<u8, PbxFault>,
     writer: Told<Sink>,
-) -> Result<Text, NoMemory> {
+) -> Result<Vec<u8>, NoMemory> {
     let ending = ending(alloc, ended, writer.has_failed())?;
     let mut all = writer.into_inner().held;
     all.extend_from_slice(ending.as_bytes())?;
-    Ok(Text::new(all))
+    Ok(all)
 }
 
 /// The same as text, in which each byte that was written is the character of its number.
-pub(super) fn told(
+pub fn told(
     alloc: Global,
     ended: Result<u8, PbxFault>,
     writer: Told<Sink>,
@@ -134,29 +138,23 @@ pub(super) fn told(
     Ok(out)
 }
 
-/// Asserts what a command has written and what it ended with. The bytes `of` name the case.
-fn check_outcome(
-    rt: &impl Abort,
-    alloc: Global,
-    of: &[u8],
-    got: &Text,
-    want: &[u8],
-) -> Result<(), Fail> {
-    let want = Text::copy_of(alloc, want)?;
-    let of = Text::copy_of(alloc, of)?;
-    assert!(rt; *got == want, "{of:?} gives {got:?}, not {want:?}");
-    Ok(())
+/// Whether a command has written these bytes, with what it ended with behind them. The bytes `of` name the case.
+fn check_outcome(of: &[u8], got: &[u8], want: &[u8]) -> Result<(), Fail> {
+    if got == want {
+        return Ok(());
+    }
+    let (of, got, want) = (BStr::new(of), BStr::new(got), BStr::new(want));
+    Err(Fail::new(format_args!("{of:?} gives {got:?}, not {want:?}")))
 }
 
 /// The dialplan of a cell, which begins in `[main]`.
-pub(super) fn in_main(alloc: Global, plan: &str) -> Result<Vec<u8>, NoMemory> {
+pub fn in_main(alloc: Global, plan: &str) -> Result<Vec<u8>, NoMemory> {
     let text = format!(in alloc; "[main]\\n{plan}")?;
     bytes_of(alloc, &text)
 }
 
-/// Asserts all that a command writes into this writer, and what it ends with behind it.
-pub(super) fn check_into<C: Command>(
-    rt: &impl Abort,
+/// Whether a command writes these bytes into this writer, with what it ends with behind them.
+pub fn check_into<C: Command>(
     alloc: Global,
     text: &[u8],
     mut writer: Told<Sink>,
@@ -164,39 +162,25 @@ pub(super) fn check_into<C: Command>(
 ) -> Result<(), Fail> {
     let ended = C::serve(alloc, text, &mut writer);
     let got = outcome(alloc, ended, writer)?;
-    check_outcome(rt, alloc, text, &got, want)
+    check_outcome(text, &got, want)
 }
 
-/// Asserts the same of a text, where no write fails.
-pub(super) fn check_text<C: Command>(
-    rt: &impl Abort,
-    alloc: Global,
-    text: &[u8],
-    want: &[u8],
-) -> Result<(), Fail> {
-    check_into::<C>(rt, alloc, text, make_sink(alloc, 4096, None), want)
+/// The same of a text, where no write fails.
+pub fn check_text<C: Command>(alloc: Global, text: &[u8], want: &[u8]) -> Result<(), Fail> {
+    check_into::<C>(alloc, text, make_sink(alloc, 4096, None), want)
 }
 
-fn check_row<C: Command>(
-    rt: &impl Abort,
-    alloc: Global,
-    asked: &str,
-    want: &str,
-) -> Result<(), Fail> {
+fn check_row<C: Command>(alloc: Global, asked: &str, want: &str) -> Result<(), Fail> {
     let text = bytes_of(alloc, asked)?;
     let want = bytes_of(alloc, want)?;
-    check_text::<C>(rt, alloc, &text, &want)
+    check_text::<C>(alloc, &text, &want)
 }
 
-/// Asserts each row of a table: a text, an arrow, and all that the command writes with what it ends with behind it.
-pub(super) fn check_table<C: Command>(
-    rt: &impl Abort,
-    alloc: Global,
-    table: &str,
-) -> Result<(), Fail> {
+/// Holds each row of a table: a text, an arrow, and all that the command writes with what it ends with behind it.
+pub fn check_table<C: Command>(alloc: Global, table: &str) -> Result<(), Fail> {
     for line in table.lines() {
         match line.split_once('→') {
-            Some((asked, want)) => check_row::<C>(rt, alloc, asked, want)?,
+            Some((asked, want)) => check_row::<C>(alloc, asked, want)?,
             None => check_heading(line)?,
         }
     }

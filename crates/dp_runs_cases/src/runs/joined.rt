@@ -1,6 +1,6 @@
 //! Joined texts with all that they write and what they end with, worked out by hand from the rules.
-use crate::commands::render::{Run, check_table, make_sink, told};
 use dp_commands::run_script;
+use dp_commands_rows::{Run, check_table, make_sink, told};
 use dp_rows::check_same;
 use std::alloc::Global;
 use std::test::Fail;
@@ -244,7 +244,7 @@ fn check_apart(alloc: Global, plan: &[u8], script: &str, want: &str) -> Result<(
 #[test]
 fn joined_texts_run_so(rt: HostRuntime) -> Result<(), Fail> {
     for table in TABLES {
-        check_table::<Run>(&rt, rt.alloc(), table)?;
+        check_table::<Run>(rt.alloc(), table)?;
     }
     let plan = b"[main]\nexten => 100,1,NoOp(hello)\nexten => 100,2,Goto(200,1)\n\
 exten => 200,1,Hangup()\n";

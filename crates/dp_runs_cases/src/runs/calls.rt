@@ -1,7 +1,7 @@
 //! Calls through dialplans with queues, with all that is printed of them, worked out by hand from the rules.
-use crate::commands::manual::PAGES;
-use crate::commands::render::{in_main, make_sink, told};
+use crate::runs::manual::PAGES;
 use dp_commands::run_script;
+use dp_commands_rows::{in_main, make_sink, told};
 use dp_conf::NoMemory;
 use dp_rows::{Question, bytes_of, check_all};
 use std::alloc::Global;

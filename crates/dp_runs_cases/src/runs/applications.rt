@@ -1,6 +1,6 @@
 //! Each application by its arguments, worked out by hand from the rules: with empty and missing parts, with blanks, with its
 //! name in another case, and with values that come from an expansion.
-use crate::commands::calls::answer_of;
+use crate::runs::calls::answer_of;
 use dp_conf::NoMemory;
 use dp_rows::{check_answer, check_heading};
 use std::alloc::Global;

@@ -1,0 +1,4 @@
+mod applications;
+mod calls;
+mod joined;
+mod manual;
