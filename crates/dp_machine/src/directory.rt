@@ -142,7 +142,7 @@ impl Directory {
         requires { IsSome (entry_at self.now id) }
         ensures { IfSome (entry_at self.now id) (λ entry. IsOf entry result.now) }
     {
-        match self.tables.templates.get(id) {
+        match self.tables.templates.of_entry(id) {
             Some(template) => template,
             None => unreachable!(),
         }

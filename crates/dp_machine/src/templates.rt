@@ -99,7 +99,7 @@ impl Templates {
     }
 
     /// That of the entry of these numbers.
-    pub(crate) fn get(&self, id: EntryId) -> Option<&Template>
+    pub(crate) fn of_entry(&self, id: EntryId) -> Option<&Template>
         ensures { option_copied result ≡ spec.template_at self.now id }
     {
         let templates = self.contexts.get(id.context)?;
