@@ -1,0 +1,259 @@
+//! Events that are given once more where memory was refused, over dialplans with queues, worked out by hand from the rules.
+use dp_commands::{ScriptLine, Turn, read_script};
+use dp_machine::{Dialplan, Event, Machine, NoMemory, Queues, Reply};
+use dp_machine_rows::{Exchange, call, push_state, push_value};
+use dp_rows::{Question, bytes_of, check, check_same};
+use std::alloc::Global;
+use std::str;
+use std::test::Fail;
+
+/// A case is a dialplan, a file of queues and a script, parted by `¦`; then an arrow, the reply to each event and each value that is
+/// shown, and the states of the channels 1 and 2. An entry that was run stands as `ran CONTEXT ENTRY`, the numbers of both.
+const ROWS: &str = r"
+# A subroutine with arguments, and the value that it comes back with.
+[main]\nexten => s,1,Gosub(sub,s,1(x,y))\nexten => s,2,NoOp()\nexten => s,3,Return()\n[sub]\nexten => s,1,Return(${ARG2})¦¦start main s\nstep 1 2\nshow 1 GOSUB_RETVAL\nshow 1 ARG1\nstep 1 2→Started(1), ran 0 0, ran 1 0, GOSUB_RETVAL=y, ARG1=, ran 0 1, ran 0 2, ended main,s,3, none
+# Members that pause, in all queues and in one.
+[main]\nexten => w,1,Queue(q1)\nexten => s,1,PauseQueueMember(,Line/7)\nexten => s,2,PauseQueueMember(,Line/8)\nexten => s,3,UnpauseQueueMember(q1,Line/7)¦[q1]\nmember => Line/7\n[q2]\nmember => Line/7¦start main w\nstart main s\nstep 1\nstep 2\nshow 2 PQMSTATUS\nstep 2\nshow 2 PQMSTATUS\noffer q1\nstep 2\nshow 2 UPQMSTATUS\noffer q1→Started(1), Started(2), ran 0 0, ran 0 1, PQMSTATUS=PAUSED, ran 0 2, PQMSTATUS=NOTFOUND, Refused(NoMember), ran 0 3, UPQMSTATUS=UNPAUSED, Offered { channel: 1, rung: 1 }, queued main,w,1, ready main,s,4
+# What was dialled and is not there, and a hang-up.
+[main]\nexten => s,1,WaitExten()\nexten => i,1,NoOp()\nexten => h,1,NoOp()¦¦start main s\nstep 1\ndigit 1 7\nstep 1\nshow 1 INVALID_EXTEN\nhangup 1\nstep 1 2→Started(1), ran 0 0, Done, Invalid, INVALID_EXTEN=7, Done, ran 0 2, NoEntry, ended main,h,2, none
+# A call that rings at two agents.
+[main]\nexten => s,1,Queue(q,c)\nexten => s,2,NoOp()¦[q]\nmember => Line/1\nmember => Line/2¦start main s\nstep 1\noffer q\nanswer Line/1\nanswer Line/2\ndone Line/1\nshow 1 QUEUESTATUS→Started(1), ran 0 0, Offered { channel: 1, rung: 2 }, Done, Refused(NotRinging), Done, QUEUESTATUS=CONTINUE, ready main,s,2, none
+# Members that come and go.
+[main]\nexten => s,1,AddQueueMember(q,Line/9)\nexten => s,2,AddQueueMember(q,Line/9)\nexten => s,3,AddQueueMember(no,Line/9)\nexten => s,4,RemoveQueueMember(q,Line/1)\nexten => s,5,RemoveQueueMember(q,Line/9)\nexten => s,6,RemoveQueueMember(q,Line/9)¦[q]\nmember => Line/1¦start main s\nstep 1\nshow 1 AQMSTATUS\nstep 1\nshow 1 AQMSTATUS\nstep 1\nshow 1 AQMSTATUS\nstep 1\nshow 1 RQMSTATUS\nstep 1\nshow 1 RQMSTATUS\nstep 1\nshow 1 RQMSTATUS→Started(1), ran 0 0, AQMSTATUS=ADDED, ran 0 1, AQMSTATUS=MEMBERALREADY, ran 0 2, AQMSTATUS=NOSUCHQUEUE, ran 0 3, RQMSTATUS=NOTDYNAMIC, ran 0 4, RQMSTATUS=REMOVED, ran 0 5, RQMSTATUS=NOTINQUEUE, ready main,s,7, none
+# A time-out in a queue, and a queue that is too empty to stay in.
+[main]\nexten => s,1,Queue(q,,,,30)\nexten => e,1,Queue(empty)¦[q]\n[empty]\nleavewhenempty=yes¦start main s\nstep 1\ntimeout 1\nshow 1 QUEUESTATUS\nstart main e\nstep 2\npoll 2\nshow 2 QUEUESTATUS→Started(1), ran 0 0, Done, QUEUESTATUS=TIMEOUT, Started(2), ran 0 1, Done, QUEUESTATUS=LEAVEEMPTY, ready main,s,2, ready main,e,2
+# A menu that leads to a queue.
+[main]\nexten => s,1,Background(welcome)\n same => n,WaitExten(5)\nexten => 1,1,Queue(sales,c)\n same => n,Hangup()\nexten => i,1,Goto(s,1)\nexten => t,1,Hangup()\nexten => h,1,NoOp(${QUEUESTATUS})¦[sales]\nstrategy = ringall\nmember => Line/1\nmember => Line/2¦start main s\nstep 1\ndigit 1 1\nstep 1\noffer sales\nanswer Line/1\ndone Line/1\nshow 1 QUEUESTATUS\nstep 1 2→Started(1), ran 0 0, Done, ran 0 2, Offered { channel: 1, rung: 2 }, Done, Done, QUEUESTATUS=CONTINUE, ran 0 3, ran 0 6, ready main,h,2, none
+";
+
+/// Cases of sizes beyond the small, in the same form. Before a script may stand `COUNT calls ; `, which come in first, to the extension `s`
+/// of `main`.
+const SIZES: &str = r"
+# A local of 300 bytes.
+[main]\nexten => s,1,Gosub(r,s,1)\n[r]\nexten => s,1,Set(LOCAL(A)=123456789012345678901234567890123456789012345678901234567890123456789012345678901234567890123456789012345678901234567890123456789012345678901234567890123456789012345678901234567890123456789012345678901234567890123456789012345678901234567890123456789012345678901234567890123456789012345678901234567890)\nexten => s,2,Return(${LEN(${A})})¦¦start main s\nstep 1 2\nshow 1 A\nstep 1\nshow 1 GOSUB_RETVAL\nshow 1 A→Started(1), ran 0 0, ran 1 0, A=123456789012345678901234567890123456789012345678901234567890123456789012345678901234567890123456789012345678901234567890123456789012345678901234567890123456789012345678901234567890123456789012345678901234567890123456789012345678901234567890123456789012345678901234567890123456789012345678901234567890, ran 1 1, GOSUB_RETVAL=300, A=, ready main,s,2, none
+# Twelve arguments.
+[main]\nexten => s,1,Gosub(r,s,1(a,b,c,d,e,f,g,h,i,j,k,l))\n[r]\nexten => s,1,NoOp()¦¦start main s\nstep 1\nshow 1 ARG1\nshow 1 ARG9\nshow 1 ARG10\nshow 1 ARG12\nshow 1 ARG13→Started(1), ran 0 0, ARG1=a, ARG9=i, ARG10=j, ARG12=l, ARG13=, ready r,s,1, none
+# An expansion of 5,000 bytes: 50, then ten times as many, and ten times as many again.
+[main]\nexten => s,1,Set(A=12345678901234567890123456789012345678901234567890)\nexten => s,2,Set(A=${A}${A}${A}${A}${A}${A}${A}${A}${A}${A})\nexten => s,3,Set(A=${A}${A}${A}${A}${A}${A}${A}${A}${A}${A})\nexten => s,4,Set(B=${LEN(${A})} ${A:4995})¦¦start main s\nstep 1 4\nshow 1 B→Started(1), ran 0 0, ran 0 1, ran 0 2, ran 0 3, B=5000 67890, ready main,s,5, none
+# The call 1,001 is a member under the name that it has where none is given, and the call 10,000 waits and rings there.
+[main]\nexten => s,1,AddQueueMember(q)\nexten => s,2,RemoveQueueMember(q,Channel/1001)\nexten => w,1,Queue(q,c)¦[q]¦9999 calls ; start main w\nstep 1001\nshow 1001 AQMSTATUS\nstep 10000\noffer q\nanswer Channel/1001\ndone Channel/1001\nshow 10000 QUEUESTATUS\nstep 1001\nshow 1001 RQMSTATUS→Started(10000), ran 0 0, AQMSTATUS=ADDED, ran 0 2, Offered { channel: 10000, rung: 1 }, Done, Done, QUEUESTATUS=CONTINUE, ran 0 1, RQMSTATUS=REMOVED, ready main,s,1, ready main,s,1
+";
+
+/// The names of which each channel's values are read.
+const NAMES: &str =
+    "ARG1 ARG2 GOSUB_RETVAL INVALID_EXTEN QUEUESTATUS AQMSTATUS RQMSTATUS PQMSTATUS UPQMSTATUS";
+
+fn push_values(
+    out: &mut String,
+    alloc: Global,
+    machine: &Exchange,
+    channel: u32,
+) -> Result<(), NoMemory> {
+    for name in NAMES.split(' ') {
+        push_value(out, alloc, machine, channel, name)?;
+        out.push('\n')?;
+    }
+    Ok(())
+}
+
+fn push_channel(
+    out: &mut String,
+    alloc: Global,
+    machine: &Exchange,
+    channel: u32,
+) -> Result<(), NoMemory> {
+    let entry = machine.next_entry(alloc, channel)?;
+    let phase = machine.phase(channel);
+    let place = machine.place(channel);
+    write!(out, "{phase:?} {place:?} {entry:?}\n")?;
+    push_values(out, alloc, machine, channel)
+}
+
+fn push_queues(out: &mut String, queues: &Queues) -> Result<(), NoMemory> {
+    for queue in queues.queues() {
+        let members = queue.members();
+        let waiting = queue.waiting();
+        write!(out, "{members:?} {waiting:?}\n")?;
+    }
+    write!(out, "{:?} {}\n", queues.agents(), queues.finished())
+}
+
+/// What each reader of the machine says of the channels 0 to 3 and of the queues. No event changes the dialplan.
+fn readers_of(alloc: Global, machine: &Exchange) -> Result<String, NoMemory> {
+    let mut out = String::new(alloc);
+    for channel in 0..4 {
+        push_channel(&mut out, alloc, machine, channel)?;
+    }
+    push_queues(&mut out, machine.queues())?;
+    Ok(out)
+}
+
+/// Asserts that each reader says what it said before.
+fn check_readers(alloc: Global, machine: &Exchange, before: &str) -> Result<(), Fail> {
+    let behind = readers_of(alloc, machine)?;
+    check_same("a refused event", &behind, before)
+}
+
+/// Gives an event once more behind refused memory, of which there is enough now.
+fn give_again(
+    alloc: Global,
+    machine: &mut Exchange,
+    event: &Event,
+    before: &str,
+) -> Result<Reply, Fail> {
+    check_readers(alloc, machine, before)?;
+    let reply = machine.apply_kept(alloc, event).ok();
+    Ok(reply.ok_or("memory is refused once more")?)
+}
+
+/// Gives an event, and once more where memory is refused. What is refused, by memory or by its reply, changes nothing.
+fn give(alloc: Global, machine: &mut Exchange, event: &Event, before: &str) -> Result<Reply, Fail> {
+    let once = event.copy()?;
+    let reply = match machine.apply(alloc, once) {
+        Ok(reply) => reply,
+        Err(_) => give_again(alloc, machine, event, before)?,
+    };
+    if reply.is_refusal() {
+        check_readers(alloc, machine, before)?;
+    }
+    Ok(reply)
+}
+
+fn push_reply(out: &mut String, reply: Reply) -> Result<(), NoMemory> {
+    match reply {
+        Reply::Ran(id) => write!(out, "ran {} {}, ", id.context, id.entry),
+        other => write!(out, "{other:?}, "),
+    }
+}
+
+/// Gives an event so, and adds the reply.
+fn push_given(
+    out: &mut String,
+    alloc: Global,
+    machine: &mut Exchange,
+    event: &Event,
+) -> Result<(), Fail> {
+    let before = readers_of(alloc, machine)?;
+    let reply = give(alloc, machine, event, &before)?;
+    push_reply(out, reply)?;
+    Ok(())
+}
+
+fn push_shown(
+    out: &mut String,
+    alloc: Global,
+    machine: &Exchange,
+    channel: u32,
+    name: &str,
+) -> Result<(), NoMemory> {
+    write!(out, "{name}=")?;
+    push_value(out, alloc, machine, channel, name)?;
+    out.push_str(", ")
+}
+
+fn push_turn(
+    out: &mut String,
+    alloc: Global,
+    machine: &mut Exchange,
+    turn: &Turn,
+) -> Result<(), Fail> {
+    match turn {
+        Turn::Event(event) => push_given(out, alloc, machine, event),
+        Turn::Show { channel, name } => {
+            let name = str::from_utf8(name.bytes())?;
+            push_shown(out, alloc, machine, *channel, name)?;
+            Ok(())
+        }
+    }
+}
+
+fn push_line(
+    out: &mut String,
+    alloc: Global,
+    machine: &mut Exchange,
+    line: &ScriptLine,
+) -> Result<(), Fail> {
+    for _turn in 0..line.count {
+        push_turn(out, alloc, machine, &line.turn)?;
+    }
+    Ok(())
+}
+
+fn push_lines(
+    out: &mut String,
+    alloc: Global,
+    machine: &mut Exchange,
+    lines: &[ScriptLine],
+) -> Result<(), Fail> {
+    for line in lines {
+        push_line(out, alloc, machine, line)?;
+    }
+    Ok(())
+}
+
+/// Lets so many calls come in.
+fn start_calls(alloc: Global, machine: &mut Exchange, count: u32) -> Result<(), NoMemory> {
+    for _call in 0..count {
+        machine.apply(alloc, call(alloc, b"main", b"s", b"")?)?;
+    }
+    Ok(())
+}
+
+/// What a machine answers to a script behind so many calls, and the states of two channels then.
+fn told(alloc: Global, machine: &mut Exchange, calls: u32, script: &[u8]) -> Result<String, Fail> {
+    start_calls(alloc, machine, calls)?;
+    let lines = read_script(alloc, script)?;
+    let mut out = String::new(alloc);
+    push_lines(&mut out, alloc, machine, &lines)?;
+    push_state(&mut out, machine, 1)?;
+    out.push_str(", ")?;
+    push_state(&mut out, machine, 2)?;
+    Ok(out)
+}
+
+fn machine_of(alloc: Global, plan: &[u8], queues: &[u8]) -> Result<Exchange, Fail> {
+    let (plan, _) = Dialplan::load(alloc, plan)?;
+    let queues = Queues::load(alloc, queues)?;
+    let machine = Machine::new(alloc, plan, queues)?;
+    Ok(machine)
+}
+
+/// The number of calls before a script, and the script.
+fn calls_before(cell: &str) -> (u32, &str) {
+    match cell.split_once(" calls ; ") {
+        Some((count, script)) => (count.parse().unwrap_or(0), script),
+        None => (0, cell),
+    }
+}
+
+fn told_on(alloc: Global, plan: &[u8], queues: &[u8], cell: &str) -> Result<String, Fail> {
+    let (calls, script) = calls_before(cell);
+    let script = bytes_of(alloc, script)?;
+    let mut machine = machine_of(alloc, plan, queues)?;
+    told(alloc, &mut machine, calls, &script)
+}
+
+/// What a machine answers to a script of which each event is given once more where memory is refused.
+struct GivenAgain;
+
+impl Question for GivenAgain {
+    fn answer(alloc: Global, asked: &str) -> Result<String, Fail> {
+        let (plan, rest) = asked.split_once('¦').ok_or("no queues")?;
+        let (queues, script) = rest.split_once('¦').ok_or("no script")?;
+        let plan = bytes_of(alloc, plan)?;
+        let queues = bytes_of(alloc, queues)?;
+        told_on(alloc, &plan, &queues, script)
+    }
+}
+
+/// Where memory is refused each reader says what it said before, and the event, given once more, has its own reply.
+#[test]
+fn rows_are_given_again(rt: HostRuntime) -> Result<(), Fail> {
+    check::<GivenAgain>(rt.alloc(), ROWS)
+}
+
+/// What is larger than the small is answered as the small is.
+#[test]
+fn large_rows_are_answered(rt: HostRuntime) -> Result<(), Fail> {
+    check::<GivenAgain>(rt.alloc(), SIZES)
+}
