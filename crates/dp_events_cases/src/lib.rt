@@ -1,0 +1,7 @@
+//! Cases of events that are given again where memory was refused, and of events of large sizes.
+//!
+//! A crate with tests is proved twice, so the cases of the libraries stand in crates of their own, where each is proved once.
+#![tactic(auto)]
+
+#[cfg(test)]
+mod again;
