@@ -1,4 +1,5 @@
 //! Dialplans and how they load, worked out by hand from the rules.
+pub(crate) mod cuts;
 pub(crate) mod faults;
 pub(crate) mod includes;
 pub(crate) mod labels;
@@ -11,8 +12,9 @@ pub(crate) mod plans;
 pub(crate) mod render;
 pub(crate) mod rows;
 
+use crate::plan::cuts::Fronts;
 use crate::plan::render::Loads;
-use dp_rows::check_all;
+use dp_rows::{check, check_all};
 use std::test::Fail;
 
 /// The tables of texts with what they load as, or their fault.
@@ -50,4 +52,9 @@ pub(crate) const LOADED: &[&str] = &[
 #[test]
 fn texts_load_so(rt: HostRuntime) -> Result<(), Fail> {
     check_all::<Loads>(rt.alloc(), LOADED)
+}
+
+#[test]
+fn fronts_load_or_have_a_fault_of_their_last_line(rt: HostRuntime) -> Result<(), Fail> {
+    check::<Fronts>(rt.alloc(), cuts::CUT)
 }
