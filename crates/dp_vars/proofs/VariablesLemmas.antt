@@ -3,6 +3,7 @@ use Rattle.std.proofs.Common.{◌≡◌, ℕ, Bool, true, false, cond, List, [],
 use Rattle.std.specs.Ordering.{nat_cmp}
 use Rattle.std.specs.Cmp.Lexicographic.{slice_cmp, pointwise, texts_ties, nat_list_eq_equiv, nat_list_cmp_total, bytes_decides}
 use Rattle.std.specs.FinMap.{find, get, insert, from_entries, get-from_entries, get-insert, same_map, nat_cmp-IsAntisymmetric, slice_cmp-IsAntisymmetric}
+use Rattle.std.specs.List.{AllZip}
 use Rattle.std.specs.Map.{lookup}
 use Rattle.indexmap.specs.IndexMap.{insert_entry}
 use Rattle.dp_vars.specs.Variables.{by_bytes}
@@ -62,3 +63,19 @@ module _ {K X : Type 0} (bytes : K → List ℕ) where
       get-by_bytes q _ ∙ lookup-insert_entry q entries k v
       ∙ (λ i. cond (texts_ties q (bytes k) i) (Some v) (sym (get-by_bytes q entries) i))
       ∙ sym (get-insert nat_list_cmp_total _ (bytes k) v q))
+
+  -- copies of entries, each with a key that is a copy of its key and with its value, have the same bytes
+  pub by_bytes-copies : (IsCopy : K → K → Type 0) → ((key copy : K) → IsCopy key copy → bytes copy ≡ bytes key) → (entries copies : List (K × X))
+      → AllZip (λ e c. IsCopy e.0 c.0 × (c.1 ≡ e.1)) entries copies → by_bytes bytes copies ≡ by_bytes bytes entries
+  by_bytes-copies IsCopy same [] [] all = refl
+  by_bytes-copies IsCopy same [] (c ∷ cs) all = absurd all
+  by_bytes-copies IsCopy same (e ∷ es) [] all = absurd all
+  by_bytes-copies IsCopy same (e ∷ es) (c ∷ cs) all =
+      λ i. (same e.0 c.0 all.0.0 i, all.0.1 i) ∷ by_bytes-copies IsCopy same es cs all.1 i
+
+-- a list of copies of bytes is the list of those bytes
+pub same_bytes : (bytes copies : List ℕ) → AllZip (λ byte copy. copy ≡ byte) bytes copies → copies ≡ bytes
+same_bytes [] [] all = refl
+same_bytes [] (c ∷ cs) all = absurd all
+same_bytes (b ∷ bs) [] all = absurd all
+same_bytes (b ∷ bs) (c ∷ cs) all = λ i. all.0 i ∷ same_bytes bs cs all.1 i

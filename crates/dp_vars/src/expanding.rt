@@ -100,14 +100,15 @@ fn opener(kind: GroupKind) -> u8
 }
 
 impl Expanding {
-    /// Nothing is written yet.
-    pub(crate) fn new(alloc: Global) -> Self
-        ensures { result ≡ record { bytes = []; waiting = [] } }
+    /// Nothing is written yet, and there is room for so many bytes.
+    pub(crate) fn with_room(alloc: Global, room: usize) -> Result<Self, NoMemory>
+        ensures { IfOk result (λ expanding. expanding ≡ record { bytes = []; waiting = [] }) }
     {
-        Expanding {
-            bytes: Vec::new(alloc),
+        let bytes = Vec::with_capacity(alloc, room)?;
+        Ok(Expanding {
+            bytes,
             waiting: Vec::new(alloc),
-        }
+        })
     }
 
     /// The kind of the innermost opening that waits.
@@ -214,7 +215,7 @@ pub(crate) fn write_pieces<B, C: Counts>(
 ) -> Result<Vec<u8>, NoMemory>
     ensures { IfOk result (λ bytes. bytes.items ≡ (past_all (sights.sight_of C.count scope.now) text.now pieces.now).bytes) }
 {
-    let mut expanding = Expanding::new(alloc);
+    let mut expanding = Expanding::with_room(alloc, text.len())?;
     let mut left = pieces;
     while let Some((piece, behind)) = left.split_first() {
         expanding.write(alloc, scope, text, piece)?;

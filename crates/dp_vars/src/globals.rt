@@ -58,3 +58,12 @@ impl Globals {
         }
     }
 }
+
+impl Clone for Globals {
+    ghost is_clone = { λ globals copy. copy ≡ globals };
+
+    fn clone(&self) -> Result<Self, NoMemory> {
+        let variables = self.variables.clone()?;
+        Ok(Globals { variables })
+    }
+}

@@ -78,7 +78,7 @@ pub fn expand_text<B, C: Counts>(
 ) -> Result<Vec<u8>, NoMemory>
     ensures { IfOk result (λ bytes. bytes.items ≡ expansion (sight_of C.count scope.now) text.now) }
 {
-    let mut expanding = Expanding::new(alloc);
+    let mut expanding = Expanding::with_room(alloc, text.len())?;
     let mut rest = text;
     while let Some((mark, behind)) = next_mark(rest, expanding.innermost()) {
         expanding.take(alloc, scope, mark)?;

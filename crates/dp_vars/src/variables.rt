@@ -71,3 +71,12 @@ impl Variables {
         Ok(())
     }
 }
+
+impl Clone for Variables {
+    ghost is_clone = { λ variables copy. copy ≡ variables };
+
+    fn clone(&self) -> Result<Self, NoMemory> {
+        let held = self.held.clone()?;
+        Ok(Variables { held })
+    }
+}

@@ -6,7 +6,7 @@ use Rattle.dp_vars.proofs.expanding.write_pieces.Goals as goal
 pub loop-piece-init : goal.loop-piece-init
 loop-piece-init g c =
     subst (λ w. IsWriting (sight_of g.C.Counts.count c.args.scope.now) c.args.text.now w c.args.pieces.now c.args.pieces.now)
-    (sym c.new-expanding.ensures) (writing-first (sight_of g.C.Counts.count c.args.scope.now) c.args.text.now c.args.pieces.now)
+    (sym c.in_ok-expanding.ensures) (writing-first (sight_of g.C.Counts.count c.args.scope.now) c.args.text.now c.args.pieces.now)
 
 pub loop-piece-preserved : goal.loop-piece-preserved
 loop-piece-preserved g c =

@@ -7,8 +7,8 @@ use Rattle.dp_vars.proofs.template.expand_text.Goals as goal
 
 pub loop-mark-init : goal.loop-mark-init
 loop-mark-init g c = (
-  subst AreWritten (sym c.new-expanding.ensures) tt,
-  ap (λ w. come (sight_of g.C.Counts.count c.args.scope.now) w.waiting w.bytes (levels c.args.text.now (kinds_of w.waiting) 0)) c.new-expanding.ensures
+  subst AreWritten (sym c.in_ok-expanding.ensures) tt,
+  ap (λ w. come (sight_of g.C.Counts.count c.args.scope.now) w.waiting w.bytes (levels c.args.text.now (kinds_of w.waiting) 0)) c.in_ok-expanding.ensures
       ∙ come-text (sight_of g.C.Counts.count c.args.scope.now) c.args.text.now,
 )
 
