@@ -12,7 +12,7 @@ use Rattle.dp_app.specs.declared.cell.Cell.{Cell}
 use Rattle.dp_app.specs.declared.moves.Move.{Move}
 use Rattle.dp_app.specs.declared.moves.Move.TheVariants.{Next, Jump, Park, Hang}
 use Rattle.dp_app.specs.declared.phase.Phase.{Phase}
-use Rattle.dp_app.specs.declared.phase.Phase.TheVariants.{Ready, Digits, Pause, Queued, Talking, Ended}
+use Rattle.dp_app.specs.declared.phase.Phase.TheVariants.{Ready, Digits, Pause, Queued, Talking, Dialling, Ended}
 use Rattle.dp_app.specs.declared.place.Place.{Place}
 use Rattle.dp_app.specs.declared.touch.Touch.{Touch}
 
@@ -67,6 +67,7 @@ MayPark count (Digits text is_background) = text ≡ []
 MayPark count Pause = Unit {0}
 MayPark count (Queued queue goes_on has_timer) = queue < count
 MayPark count (Talking queue agent goes_on) = ⊥
+MayPark count (Dialling goes_on has_timer) = Unit {0}
 MayPark count Ended = ⊥
 
 -- the park law: a move parks a channel in such a phase alone
@@ -90,6 +91,7 @@ waiting_parked lists number (Digits text is_background) = lists
 waiting_parked lists number Pause = lists
 waiting_parked lists number (Queued queue goes_on has_timer) = changed_at (λ waiting. waiting ++ number ∷ []) queue lists
 waiting_parked lists number (Talking queue agent goes_on) = lists
+waiting_parked lists number (Dialling goes_on has_timer) = lists
 waiting_parked lists number Ended = lists
 
 -- the waiting lists behind a move of the channel

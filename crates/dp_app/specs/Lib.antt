@@ -1,6 +1,7 @@
 pub mod Extensions
 pub mod Keeping
 pub mod Laws
+pub mod Parts
 pub mod Rows
 pub mod StoreKept
 pub mod Tables

@@ -27,6 +27,13 @@ pub enum Phase {
         agent: usize,
         goes_on: bool,
     },
+    /// What comes of a call to devices.
+    Dialling {
+        /// Whether the channel goes on at the next priority when the far side has answered and hung up.
+        goes_on: bool,
+        /// Whether a time-out ends the call to the devices.
+        has_timer: bool,
+    },
     /// Nothing more: the call is over.
     Ended,
 }

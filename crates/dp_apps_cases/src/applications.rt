@@ -93,9 +93,15 @@ Hangup→ran main,100,1 Hangup -> ended main,100,1 ; refused 49 Ended -> ended m
 hangup()→ran main,100,1 hangup -> ended main,100,1 ; refused 49 Ended -> ended main,100,1
 HANGUP(16)→ran main,100,1 HANGUP -> ended main,100,1 ; refused 49 Ended -> ended main,100,1
 HangUp(2)→ran main,100,1 HangUp -> ended main,100,1 ; refused 49 Ended -> ended main,100,1
+# Devices that are called: the channel waits. With none it goes on.
+Dial(Line/5,20)→ran main,100,1 Dial -> dialling main,100,1 ; refused 41 NotReady -> dialling main,100,1
+dIAL(200)→ran main,100,1 dIAL -> dialling main,100,1 ; refused 41 NotReady -> dialling main,100,1
+Dial→ran main,100,1 Dial -> ready main,100,2 ; ran main,100,2 NoOp -> ready main,100,3
+Dial()→ran main,100,1 Dial -> ready main,100,2 ; ran main,100,2 NoOp -> ready main,100,3
+Dial(,20,g)→ran main,100,1 Dial -> ready main,100,2 ; ran main,100,2 NoOp -> ready main,100,3
 # Applications that the table lacks: the call hangs up.
-Dial()→ran main,100,1 Dial -> ended main,100,1 ; refused 49 Ended -> ended main,100,1
-Dial(200,1)→ran main,100,1 Dial -> ended main,100,1 ; refused 49 Ended -> ended main,100,1
+Macro()→ran main,100,1 Macro -> ended main,100,1 ; refused 49 Ended -> ended main,100,1
+Dial2(200,1)→ran main,100,1 Dial2 -> ended main,100,1 ; refused 49 Ended -> ended main,100,1
 NoOp2()→ran main,100,1 NoOp2 -> ended main,100,1 ; refused 49 Ended -> ended main,100,1
 No Op()→ran main,100,1 No Op -> ended main,100,1 ; refused 49 Ended -> ended main,100,1
 No→ran main,100,1 No -> ended main,100,1 ; refused 49 Ended -> ended main,100,1

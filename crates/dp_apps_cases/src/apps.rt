@@ -47,6 +47,8 @@ Background|a→a cell is seen
 Queue|q→a cell is seen
 AddQueueMember|q→a cell is seen
 Dial|SIP/1→a cell is seen
+Dial|→a cell is seen
+Macro|m→a cell is seen
 |→a cell is seen
 ";
 

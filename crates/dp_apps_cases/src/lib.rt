@@ -8,6 +8,8 @@ mod applications;
 #[cfg(test)]
 mod apps;
 #[cfg(test)]
+mod dial;
+#[cfg(test)]
 mod own;
 mod own_table;
 #[cfg(test)]

@@ -2,7 +2,7 @@
 use Rattle.std.specs.Prelude.{◌≡◌, ℕ, ◌+◌, ◌<◌, Bool, true, false, List, [], map, Option, Some, None, All}
 use Rattle.dp_app.specs.Rows.{Rows}
 use Rattle.dp_app.specs.declared.phase.Phase.{Phase}
-use Rattle.dp_app.specs.declared.phase.Phase.TheVariants.{Ready, Digits, Pause, Queued, Talking, Ended}
+use Rattle.dp_app.specs.declared.phase.Phase.TheVariants.{Ready, Digits, Pause, Queued, Talking, Dialling, Ended}
 use Rattle.dp_queue.specs.Queues.{no_queues}
 use Rattle.dp_machine.specs.Events.{event_row}
 use Rattle.dp_machine.specs.Replay.{replies_to, world_after}
@@ -45,6 +45,7 @@ is_parked_in (Digits text is_background) = true
 is_parked_in Pause = true
 is_parked_in (Queued queue goes_on has_timer) = true
 is_parked_in (Talking queue agent goes_on) = true
+is_parked_in (Dialling goes_on has_timer) = true
 is_parked_in Ended = false
 
 -- whether a channel, if there is one, waits for something other than its next step
@@ -63,6 +64,7 @@ has_ended_in (Digits text is_background) = false
 has_ended_in Pause = false
 has_ended_in (Queued queue goes_on has_timer) = false
 has_ended_in (Talking queue agent goes_on) = false
+has_ended_in (Dialling goes_on has_timer) = false
 has_ended_in Ended = true
 
 -- whether a channel, if there is one, has ended

@@ -32,7 +32,8 @@ impl<T> History<T> {
         History { machine, entries }
     }
 
-    /// The calls, in the order in which they were done.
+    /// The calls, in the order in which they were done. A reply that names an entry is read in the dialplan that was in force at
+    /// its call: that of the last `Reload` before it that was done, and that of the board's first world where there is none.
     pub fn entries(&self) -> &[Entry]
         ensures { result.now ≡ self.now.entries }
     {

@@ -47,7 +47,11 @@ fn is_parked(phase: &Phase) -> bool
     ensures { result ≡ log.is_parked_in phase.now }
 {
     match phase {
-        Phase::Digits { .. } | Phase::Pause | Phase::Queued { .. } | Phase::Talking { .. } => true,
+        Phase::Digits { .. }
+        | Phase::Pause
+        | Phase::Queued { .. }
+        | Phase::Talking { .. }
+        | Phase::Dialling { .. } => true,
         Phase::Ready | Phase::Ended => false,
     }
 }
@@ -62,7 +66,8 @@ fn is_ended(phase: &Phase) -> bool
         | Phase::Digits { .. }
         | Phase::Pause
         | Phase::Queued { .. }
-        | Phase::Talking { .. } => false,
+        | Phase::Talking { .. }
+        | Phase::Dialling { .. } => false,
     }
 }
 

@@ -14,4 +14,6 @@ mod pauses;
 #[cfg(test)]
 mod play;
 #[cfg(test)]
+mod reloads;
+#[cfg(test)]
 mod turns;

@@ -5,6 +5,7 @@ ghost use Rattle.std.specs.Prelude.{◌≡◌, ◌+◌};
 use crate::acts::{Told, act_not, act_steps, check_steps};
 use crate::gates::act_crossed;
 use crate::pauses::{Paced, act_paced};
+use crate::reloads::{act_reload, check_reload};
 use crate::turns::act_turns;
 use dp_board::{Back, Board, History, Seat, Session, Unsettled};
 use dp_board_rows::Crossed;
@@ -21,11 +22,16 @@ use std::thread::Threads;
 /// A machine with the applications of the program.
 pub(super) type Exchange = Machine<StandardApps>;
 
-const PLAN: &[u8] = b"[main]
+const PLAN: &[u8] = b"[globals]
+X=1
+Y=5
+[main]
 exten => add,1,AddQueueMember(q,Line/3)
 exten => ask,1,Queue(q)
 exten => say,1,NoOp()
 exten => wait,1,Wait(1)
+exten => 100,1,NoOp(a)
+exten => 100,2,NoOp(b)
 ";
 
 const QUEUES: &[u8] = b"[q]
@@ -82,6 +88,8 @@ pub(super) enum Play {
     Paced(Paced),
     /// The first seat attends one channel after another.
     Turns,
+    /// The second seat puts another dialplan in force between two steps of the first.
+    Reload,
     /// There are no seats.
     Nothing,
 }
@@ -99,6 +107,7 @@ fn act<S: Session + Send + Sync, R: Threads + Wait + Abort + Sync>(
         Play::Crossed(gate) => act_crossed(rt, alloc, board, seats, gate),
         Play::Paced(gate) => act_paced(rt, alloc, board, seats, gate),
         Play::Turns => act_turns(rt, alloc, board, seats),
+        Play::Reload => act_reload(rt, alloc, board, seats),
         Play::Nothing => act_not(rt, alloc, board, seats),
     }
     (None, None)
@@ -117,6 +126,7 @@ fn check(
         Play::Crossed(_) => 4,
         Play::Paced(_) => 5,
         Play::Turns => 7,
+        Play::Reload => 3,
         Play::Nothing => 0,
     };
     assert_eq!(rt; history.entries().len(), calls);
@@ -127,6 +137,7 @@ fn check(
             check_steps(rt, alloc, add, ask, history);
         }
         Play::Crossed(gate) => assert!(rt; gate.fits(history.entries())),
+        Play::Reload => check_reload(rt, alloc, history),
         _ => {}
     }
 }

@@ -1,11 +1,10 @@
 -- Dashes in a dialled text make no difference to a look-up.
-use Rattle.std.proofs.Common.{◌≡◌, ℕ, ◌&&◌, ◌==◌, List, Option, ap}
+use Rattle.std.proofs.Common.{◌≡◌, ℕ, ◌&&◌, ◌==◌, List, ap}
 use Rattle.dp_pattern.specs.Dashes.{undashed}
 use Rattle.dp_pattern.specs.Walk.{classes_of, is_match, tail_of, walked}
 use Rattle.dp_pattern.proofs.MeaningLemmas.{undashed-undashed}
 use Rattle.dp_lookup.specs.FoundEntry.{found_by, found_entry}
 use Rattle.dp_plan.specs.Plan.{PlanOf}
-use Rattle.dp_plan.specs.declared.entry.EntryId.{EntryId}
 
 -- the same entry is found for the text without them
 pub found_undashed : (plan : PlanOf) (order text : List ℕ) (priority : ℕ)

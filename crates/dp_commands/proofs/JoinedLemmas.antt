@@ -1,4 +1,4 @@
--- A joined text, line by line.
+-- A joined text that is cut at a separator, line by line.
 use Rattle.std.proofs.Common.{◌≡◌, ℕ, ◌-◌, true, false, cond, eqb, List, [], ◌∷◌, ◌++◌, Option, Some, None, Bor, length, take, refl, ap, ◌∙◌, sym, arith}
 use Rattle.std.specs.List.{join_with_byte}
 use Rattle.std.specs.Option.{option_map}
@@ -7,11 +7,15 @@ use Rattle.std.proofs.lemmas.List.{append_assoc, append-nil, length-append, take
 use Rattle.std.proofs.lemmas.List.Splits.{join_with_byte-slice_split, length-slice_split}
 use Rattle.std.proofs.Math.Seq.{take-append_seam}
 use Rattle.dp_conf.specs.Lines.{parts_of}
-use Rattle.dp_commands.specs.Joined.{is_separator, lines_before, lines_behind, joined_plan, joined_script, text_left}
+use Rattle.dp_commands.specs.Joined.{is_separator, lines_before, lines_behind, text_before, text_behind, text_left}
 use Rattle.dp_commands.proofs.ScriptLemmas.{parts_left}
 
+-- the bytes of what is left to read, where something is
+abbrev pub bytes_left : Option (Bor (List ℕ)) → List ℕ
+bytes_left behind = text_left (option_map (λ text. text.now) behind)
+
 -- what is left, as its parts joined
-pub join-parts_left : (behind : Option (Bor (List ℕ))) → join_with_byte 10 (parts_left behind) ≡ text_left behind
+join-parts_left : (behind : Option (Bor (List ℕ))) → join_with_byte 10 (parts_left behind) ≡ bytes_left behind
 join-parts_left None = refl
 join-parts_left (Some rest) = join_with_byte-slice_split 10 rest.now
 
@@ -37,7 +41,7 @@ front-taken text front rest whole =
     ap (λ n. take n text) len ∙ (ap (λ (t : List ℕ). take (length front) t) (sym whole) ∙ take-append_seam front rest)
 
 -- where the reading stands behind a line
-pub place-turn : (text left part : List ℕ) (behind : Option (Bor (List ℕ))) (start : ℕ) → take start text ++ left ≡ text → parts_of left ≡ part ∷ parts_left behind → take (length text - length (text_left behind)) text ++ text_left behind ≡ text
+pub place-turn : (text left part : List ℕ) (behind : Option (Bor (List ℕ))) (start : ℕ) → take start text ++ left ≡ text → parts_of left ≡ part ∷ parts_left behind → take (length text - length (bytes_left behind)) text ++ bytes_left behind ≡ text
 place-turn text left part None start place cut = append-nil (take (length text - 0) text) ∙ take_all (length text - 0) text (omega arith)
 place-turn text left part (Some rest) start place cut =
     let whole = front-whole text left part rest.now start place cut in
@@ -47,47 +51,51 @@ option_map-option_map : (front more : List ℕ) (o : Option (List ℕ)) → opti
 option_map-option_map front more None = refl
 option_map-option_map front more (Some x) = ap (λ (t : List ℕ). Some t) (sym (append_assoc front more x))
 
--- a line that is no separator goes to the dialplan
-pub lines_before-turn : (text left part : List ℕ) (behind : Option (Bor (List ℕ))) (start : ℕ)
-    → take start text ++ left ≡ text
-    → parts_of left ≡ part ∷ parts_left behind
-    → is_separator part ≡ false
-    → option_map (λ (later : List ℕ). take start text ++ later) (lines_before (parts_of left)) ≡ option_map (λ (later : List ℕ). take (length text - length (text_left behind)) text ++ later) (lines_before (parts_left behind))
-lines_before-turn text left part None start place cut other =
-    ap (λ (ps : List (List ℕ)). option_map (λ (later : List ℕ). take start text ++ later) (lines_before ps)) cut
-    ∙ ap (λ t. option_map (λ (later : List ℕ). take start text ++ later) (cond {A = Option (List ℕ)} t (Some []) None)) other
-lines_before-turn text left part (Some rest) start place cut other =
-    let whole = front-whole text left part rest.now start place cut in
-    let front = front-taken text (take start text ++ (part ++ 10 ∷ [])) rest.now whole in
-    ap (λ (ps : List (List ℕ)). option_map (λ (later : List ℕ). take start text ++ later) (lines_before ps)) cut
-    ∙ (ap (λ t. option_map (λ (later : List ℕ). take start text ++ later) (cond {A = Option (List ℕ)} t (Some []) (option_map (λ (later : List ℕ). (part ++ 10 ∷ []) ++ later) (lines_before (parts_of rest.now))))) other
-    ∙ (option_map-option_map (take start text) (part ++ 10 ∷ []) (lines_before (parts_of rest.now))
-    ∙ ap (λ (f : List ℕ). option_map (λ (later : List ℕ). f ++ later) (lines_before (parts_of rest.now))) (sym front)))
+module _ (separator : List ℕ) where
+  -- a line that is no separator stands before it
+  pub lines_before-turn : (text left part : List ℕ) (behind : Option (Bor (List ℕ))) (start : ℕ)
+      → take start text ++ left ≡ text
+      → parts_of left ≡ part ∷ parts_left behind
+      → is_separator separator part ≡ false
+      → option_map (λ (later : List ℕ). take start text ++ later) (lines_before separator (parts_of left)) ≡ option_map (λ (later : List ℕ). take (length text - length (bytes_left behind)) text ++ later) (lines_before separator (parts_left behind))
+  lines_before-turn text left part None start place cut other =
+      ap (λ (ps : List (List ℕ)). option_map (λ (later : List ℕ). take start text ++ later) (lines_before separator ps)) cut
+      ∙ ap (λ t. option_map (λ (later : List ℕ). take start text ++ later) (cond {A = Option (List ℕ)} t (Some []) None)) other
+  lines_before-turn text left part (Some rest) start place cut other =
+      let whole = front-whole text left part rest.now start place cut in
+      let front = front-taken text (take start text ++ (part ++ 10 ∷ [])) rest.now whole in
+      ap (λ (ps : List (List ℕ)). option_map (λ (later : List ℕ). take start text ++ later) (lines_before separator ps)) cut
+      ∙ (ap (λ t. option_map (λ (later : List ℕ). take start text ++ later) (cond {A = Option (List ℕ)} t (Some []) (option_map (λ (later : List ℕ). (part ++ 10 ∷ []) ++ later) (lines_before separator (parts_of rest.now))))) other
+      ∙ (option_map-option_map (take start text) (part ++ 10 ∷ []) (lines_before separator (parts_of rest.now))
+      ∙ ap (λ (f : List ℕ). option_map (λ (later : List ℕ). f ++ later) (lines_before separator (parts_of rest.now))) (sym front)))
 
-pub lines_behind-turn : (left part : List ℕ) (parts : List (List ℕ)) → parts_of left ≡ part ∷ parts → is_separator part ≡ false → lines_behind (parts_of left) ≡ lines_behind parts
-lines_behind-turn left part parts cut other =
-    ap lines_behind cut ∙ ap (λ t. cond t parts (lines_behind parts)) other
+  -- and is none of those behind it
+  pub lines_behind-turn : (left part : List ℕ) (parts : List (List ℕ)) → parts_of left ≡ part ∷ parts → is_separator separator part ≡ false → lines_behind separator (parts_of left) ≡ lines_behind separator parts
+  lines_behind-turn left part parts cut other =
+      ap (lines_behind separator) cut ∙ ap (λ t. cond {A = Option (List (List ℕ))} t (Some parts) (lines_behind separator parts)) other
 
--- at the separator the dialplan is what was passed
-pub joined_plan-found : (text left part : List ℕ) (parts : List (List ℕ)) (start : ℕ) → lines_before (parts_of text) ≡ option_map (λ later. take start text ++ later) (lines_before (parts_of left)) → parts_of left ≡ part ∷ parts → is_separator part ≡ true → take start text ≡ joined_plan text
-unfolding joined_plan
-joined_plan-found text left part parts start so_far cut here =
-    sym (ap (λ (o : Option (List ℕ)). unwrap_or o text) (so_far
-    ∙ (ap (λ (ps : List (List ℕ)). option_map (λ (later : List ℕ). take start text ++ later) (lines_before ps)) cut
-    ∙ ap (λ t. option_map (λ (later : List ℕ). take start text ++ later) (cond {A = Option (List ℕ)} t (Some []) (option_map (λ (later : List ℕ). (part ++ 10 ∷ []) ++ later) (lines_before parts)))) here))
-    ∙ append-nil (take start text))
+  -- at the separator what was passed stands before it
+  pub text_before-found : (text left part : List ℕ) (parts : List (List ℕ)) (start : ℕ) → lines_before separator (parts_of text) ≡ option_map (λ later. take start text ++ later) (lines_before separator (parts_of left)) → parts_of left ≡ part ∷ parts → is_separator separator part ≡ true → take start text ≡ text_before separator text
+  unfolding text_before
+  text_before-found text left part parts start so_far cut here =
+      sym (ap (λ (o : Option (List ℕ)). unwrap_or o text) (so_far
+      ∙ (ap (λ (ps : List (List ℕ)). option_map (λ (later : List ℕ). take start text ++ later) (lines_before separator ps)) cut
+      ∙ ap (λ t. option_map (λ (later : List ℕ). take start text ++ later) (cond {A = Option (List ℕ)} t (Some []) (option_map (λ (later : List ℕ). (part ++ 10 ∷ []) ++ later) (lines_before separator parts)))) here))
+      ∙ append-nil (take start text))
 
--- and the script is what is left
-pub joined_script-found : (text left part : List ℕ) (behind : Option (Bor (List ℕ))) → lines_behind (parts_of text) ≡ lines_behind (parts_of left) → parts_of left ≡ part ∷ parts_left behind → is_separator part ≡ true → text_left behind ≡ joined_script text
-unfolding joined_script
-joined_script-found text left part behind so_far cut here =
-    sym (ap (join_with_byte 10) (so_far ∙ (ap lines_behind cut ∙ ap (λ t. cond t (parts_left behind) (lines_behind (parts_left behind))) here)) ∙ join-parts_left behind)
+  -- and what is left stands behind it
+  pub text_behind-found : (text left part : List ℕ) (behind : Option (Bor (List ℕ))) → lines_behind separator (parts_of text) ≡ lines_behind separator (parts_of left) → parts_of left ≡ part ∷ parts_left behind → is_separator separator part ≡ true → Some (bytes_left behind) ≡ text_behind separator text
+  unfolding text_behind
+  text_behind-found text left part behind so_far cut here =
+      sym (ap (λ (o : Option (List (List ℕ))). option_map (join_with_byte 10) o) (so_far ∙ (ap (lines_behind separator) cut
+      ∙ ap (λ t. cond {A = Option (List (List ℕ))} t (Some (parts_left behind)) (lines_behind separator (parts_left behind))) here))
+      ∙ ap (λ (t : List ℕ). Some t) (join-parts_left behind))
 
--- with no separator the dialplan is the whole text, and the script is empty
-pub joined_plan-absent : (text : List ℕ) (start : ℕ) → lines_before (parts_of text) ≡ option_map (λ later. take start text ++ later) (lines_before []) → text ≡ joined_plan text
-unfolding joined_plan
-joined_plan-absent text start so_far = sym (ap (λ (o : Option (List ℕ)). unwrap_or o text) so_far)
+  -- with no separator the whole text stands before, and nothing behind
+  pub text_before-absent : (text : List ℕ) (start : ℕ) → lines_before separator (parts_of text) ≡ option_map (λ later. take start text ++ later) (lines_before separator []) → text ≡ text_before separator text
+  unfolding text_before
+  text_before-absent text start so_far = sym (ap (λ (o : Option (List ℕ)). unwrap_or o text) so_far)
 
-pub joined_script-absent : (text : List ℕ) → lines_behind (parts_of text) ≡ [] → [] ≡ joined_script text
-unfolding joined_script
-joined_script-absent text so_far = sym (ap (join_with_byte 10) so_far)
+  pub text_behind-absent : (text : List ℕ) → lines_behind separator (parts_of text) ≡ None → None ≡ text_behind separator text
+  unfolding text_behind
+  text_behind-absent text so_far = sym (ap (λ (o : Option (List (List ℕ))). option_map (join_with_byte 10) o) so_far)

@@ -9,15 +9,18 @@ use Rattle.dp_commands.specs.declared.fault.PbxFault.{PbxFault}
 use Rattle.dp_commands.specs.declared.script.ScriptLine.{ScriptLine}
 
 -- the readings, where so many lines stand before
-abbrev pub readings_from : ℕ → List (List ℕ) → List (Result (List ScriptLine) PbxFault)
-readings_from number [] = []
-readings_from number (part ∷ parts) = numbered (number + 1) (line_of (words_of part)) ∷ readings_from (number + 1) parts
+abbrev pub readings_from : Option (List ℕ) → ℕ → List (List ℕ) → List (Result (List ScriptLine) PbxFault)
+readings_from second_plan number [] = []
+readings_from second_plan number (part ∷ parts) =
+    numbered (number + 1) (line_of second_plan (words_of part)) ∷ readings_from second_plan (number + 1) parts
 
-pub each_after-reading_of : (before parts : List (List ℕ)) → each_after reading_of before parts ≡ readings_from (length before) parts
-each_after-reading_of before [] = refl
-each_after-reading_of before (part ∷ parts) =
-    ap (λ (later : List (Result (List ScriptLine) PbxFault)). reading_of before part ∷ later)
-    (each_after-reading_of (before ++ part ∷ []) parts ∙ ap (λ n. readings_from n parts) (length-append before (part ∷ [])))
+pub each_after-reading_of : (second_plan : Option (List ℕ)) (before parts : List (List ℕ))
+    → each_after (reading_of second_plan) before parts ≡ readings_from second_plan (length before) parts
+each_after-reading_of second_plan before [] = refl
+each_after-reading_of second_plan before (part ∷ parts) =
+    ap (λ (later : List (Result (List ScriptLine) PbxFault)). reading_of second_plan before part ∷ later)
+    (each_after-reading_of second_plan (before ++ part ∷ []) parts
+    ∙ ap (λ n. readings_from second_plan n parts) (length-append before (part ∷ [])))
 
 -- the parts of what is left to read, where something is
 abbrev pub parts_left : Option (Bor (List ℕ)) → List (List ℕ)
@@ -38,10 +41,13 @@ left_len-cut text None shorter = omega arith
 left_len-cut text (Some rest) shorter = omega (arith, shorter)
 
 -- one turn of the reading
-pub readings_from-turn : (text part : List ℕ) (behind : Option (Bor (List ℕ))) (number : ℕ) (lines line : List ScriptLine)
+pub readings_from-turn : (second_plan : Option (List ℕ)) (text part : List ℕ) (behind : Option (Bor (List ℕ))) (number : ℕ)
+    (lines line : List ScriptLine)
     → parts_of text ≡ part ∷ parts_left behind
-    → numbered (number + 1) (line_of (words_of part)) ≡ Ok line
-    → with_front lines (all_of (readings_from number (parts_of text))) ≡ with_front (lines ++ line) (all_of (readings_from (number + 1) (parts_left behind)))
-readings_from-turn text part behind number lines line cut read =
-    ap (λ (parts : List (List ℕ)). with_front lines (all_of (readings_from number parts))) cut
-    ∙ all_of-Ok lines line (numbered (number + 1) (line_of (words_of part))) (readings_from (number + 1) (parts_left behind)) read
+    → numbered (number + 1) (line_of second_plan (words_of part)) ≡ Ok line
+    → with_front lines (all_of (readings_from second_plan number (parts_of text)))
+    ≡ with_front (lines ++ line) (all_of (readings_from second_plan (number + 1) (parts_left behind)))
+readings_from-turn second_plan text part behind number lines line cut read =
+    ap (λ (parts : List (List ℕ)). with_front lines (all_of (readings_from second_plan number parts))) cut
+    ∙ all_of-Ok lines line (numbered (number + 1) (line_of second_plan (words_of part)))
+    (readings_from second_plan (number + 1) (parts_left behind)) read

@@ -1,5 +1,5 @@
 -- The events of a script's lines, and events that are dealt to seats.
-use Rattle.std.proofs.Common.{rules, ◌≡◌, ◌≢◌, ℕ, ◌+◌, ◌==◌, ◌≤◌, ◌<◌, Bool, true, false, List, [], ◌∷◌, ◌++◌, length, map, take, get_or, replicate, zero, suc, refl, sym, ap, subst, ◌∙◌, arith, All, Result, Ok, Err, Option, IfErr, IfOk, OnOk, ◌||◌, inl, inr}
+use Rattle.std.proofs.Common.{rules, ◌≡◌, ◌≢◌, ℕ, ◌+◌, ◌==◌, ◌≤◌, ◌<◌, Bool, true, false, List, [], ◌∷◌, length, map, take, get_or, replicate, zero, suc, refl, sym, ap, subst, ◌∙◌, arith, All, Result, Ok, Err, Option, IfErr, IfOk, OnOk, ◌||◌, inl, inr}
 use Rattle.std.proofs.lemmas.Bool.Decides.{nat_tests}
 use Rattle.std.proofs.lemmas.List.{ext_get_or, get_or-map, length-map, take_all}
 use Rattle.std.proofs.lemmas.List.Sums.{prefix_len-le-length}

@@ -93,11 +93,11 @@ pub record DebugRun : Type 0 where
 abbrev pub debug_on : Break → Run → DebugRun
 debug_on held run = record { held = held; run = run }
 
--- the debugged run of a dialplan, its queues and a script, with the break of a text, or the first fault: the break's, the
--- dialplan's, the queues', the script's
-unfoldable pub debug_of : List ℕ → Option (List ℕ) → List ℕ → List ℕ → Result DebugRun PbxFault
-debug_of plan queues script held =
-    break_of held >>= λ found. run_of plan queues script >>= λ run. Ok (debug_on found run)
+-- the debugged run of a dialplan, its queues, a second dialplan and a script, with the break of a text, or the first fault: the
+-- break's, the dialplan's, the queues', the script's
+unfoldable pub debug_of : List ℕ → Option (List ℕ) → Option (List ℕ) → List ℕ → List ℕ → Result DebugRun PbxFault
+debug_of plan queues second_plan script held =
+    break_of held >>= λ found. run_of plan queues second_plan script >>= λ run. Ok (debug_on found run)
 
 -- before the first event
 abbrev pub watching : DebugRun → Watch × World

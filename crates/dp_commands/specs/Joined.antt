@@ -1,36 +1,58 @@
--- A dialplan and a script that are joined in one text.
-use Rattle.std.specs.Prelude.{ℕ, Bool, List, [], ◌∷◌, ◌++◌, Option, Some, None, unwrap_or, codes, if◌then◌else◌}
-use Rattle.std.specs.Borrow.{Bor}
+-- A dialplan, a second one and a script that are joined in one text.
+use Rattle.std.specs.Prelude.{ℕ, Bool, List, [], ◌∷◌, ◌++◌, Option, Some, None, Result, unwrap_or, codes, if◌then◌else◌}
 use Rattle.std.specs.List.{join_with_byte}
 use Rattle.std.specs.Option.{option_map}
 use Rattle.dp_conf.specs.Blanks.{trim}
 use Rattle.dp_conf.specs.Lines.{parts_of}
 use Rattle.dp_conf.specs.Words.{same_text}
+use Rattle.dp_commands.specs.Run.{Run, run_of}
+use Rattle.dp_commands.specs.declared.fault.PbxFault.{PbxFault}
 
--- a line that is `;; script` without the blanks at its ends
-abbrev pub is_separator : List ℕ → Bool
-is_separator part = same_text (trim part) (codes ";; script")
+-- a line that is the separator without the blanks at its ends
+abbrev pub is_separator : List ℕ → List ℕ → Bool
+is_separator separator part = same_text (trim part) separator
 
 -- the lines before the first such line, each with its line feed, where there is one
-abbrev pub lines_before : List (List ℕ) → Option (List ℕ)
-lines_before [] = None
-lines_before (part ∷ parts) =
-    if is_separator part then Some [] else option_map (λ later. (part ++ 10 ∷ []) ++ later) (lines_before parts)
+abbrev pub lines_before : List ℕ → List (List ℕ) → Option (List ℕ)
+lines_before separator [] = None
+lines_before separator (part ∷ parts) =
+    if is_separator separator part then Some []
+    else option_map (λ later. (part ++ 10 ∷ []) ++ later) (lines_before separator parts)
 
--- the lines behind the first such line
-abbrev pub lines_behind : List (List ℕ) → List (List ℕ)
-lines_behind [] = []
-lines_behind (part ∷ parts) = if is_separator part then parts else lines_behind parts
+-- the lines behind the first such line, where there is one
+abbrev pub lines_behind : List ℕ → List (List ℕ) → Option (List (List ℕ))
+lines_behind separator [] = None
+lines_behind separator (part ∷ parts) = if is_separator separator part then Some parts else lines_behind separator parts
 
--- the dialplan: the lines before the first such line, and the whole text where there is none
-unfoldable pub joined_plan : List ℕ → List ℕ
-joined_plan text = unwrap_or (lines_before (parts_of text)) text
+-- what of a text stands before its first such line, and the whole text where there is none
+unfoldable pub text_before : List ℕ → List ℕ → List ℕ
+text_before separator text = unwrap_or (lines_before separator (parts_of text)) text
 
--- the script: the lines behind it
-unfoldable pub joined_script : List ℕ → List ℕ
-joined_script text = join_with_byte 10 (lines_behind (parts_of text))
+-- what stands behind that line, where there is one
+unfoldable pub text_behind : List ℕ → List ℕ → Option (List ℕ)
+text_behind separator text = option_map (join_with_byte 10) (lines_behind separator (parts_of text))
 
 -- the bytes of what is left of a text, where something is
-abbrev pub text_left : Option (Bor (List ℕ)) → List ℕ
+abbrev pub text_left : Option (List ℕ) → List ℕ
 text_left None = []
-text_left (Some rest) = rest.now
+text_left (Some rest) = rest
+
+-- both dialplans of a joined text: what stands before its first line `;; script`
+abbrev pub joined_plans : List ℕ → List ℕ
+joined_plans text = text_before (codes ";; script") text
+
+-- the dialplan: what stands in these before the first line `;; reload`
+abbrev pub joined_plan : List ℕ → List ℕ
+joined_plan text = text_before (codes ";; reload") (joined_plans text)
+
+-- the second dialplan: what stands behind that line, where there is one
+abbrev pub joined_second_plan : List ℕ → Option (List ℕ)
+joined_second_plan text = text_behind (codes ";; reload") (joined_plans text)
+
+-- the script: what stands behind the first line `;; script`, and nothing where there is none
+abbrev pub joined_script : List ℕ → List ℕ
+joined_script text = text_left (text_behind (codes ";; script") text)
+
+-- the run of a joined text, or the first fault
+abbrev pub joined_run : List ℕ → Result Run PbxFault
+joined_run text = run_of (joined_plan text) None (joined_second_plan text) (joined_script text)

@@ -87,16 +87,17 @@ abbrev pub files_of : List ℕ → Option (List ℕ) → Result Files PbxFault
 files_of plan queues =
     plan_fault (loaded plan) >>= λ read. queues_of queues >>= λ held. Ok (record { plan = read.0; queues = held })
 
--- what the texts of a dialplan, its queues and a script say, or the first fault: the dialplan's, the queues', the script's
-abbrev pub told_of : List ℕ → Option (List ℕ) → List ℕ → Result Told PbxFault
-told_of plan queues script =
-    files_of plan queues >>= λ files. script_of script >>= λ lines.
+-- what the texts of a dialplan, its queues and a script say beside a second dialplan, where there is one; or the first fault: the
+-- dialplan's, the queues', the script's. That of the second dialplan is not asked
+abbrev pub told_of : List ℕ → Option (List ℕ) → Option (List ℕ) → List ℕ → Result Told PbxFault
+told_of plan queues second_plan script =
+    files_of plan queues >>= λ files. script_of second_plan script >>= λ lines.
     Ok (record { plan = files.plan; queues = files.queues; lines = lines })
 
--- the run of a dialplan, its queues and a script, or the first fault
-unfoldable pub run_of : List ℕ → Option (List ℕ) → List ℕ → Result Run PbxFault
-run_of plan queues script =
-    told_of plan queues script >>= λ told. Ok (run_on (opening told.plan told.queues) (turns_of told.lines))
+-- the run of a dialplan, its queues, a second dialplan and a script, or the first fault
+unfoldable pub run_of : List ℕ → Option (List ℕ) → Option (List ℕ) → List ℕ → Result Run PbxFault
+run_of plan queues second_plan script =
+    told_of plan queues second_plan script >>= λ told. Ok (run_on (opening told.plan told.queues) (turns_of told.lines))
 
 -- the status of a run: 1 where a turn was refused
 abbrev pub status_of : Run → ℕ

@@ -8,8 +8,11 @@ use Rattle.dp_conf.specs.Cut.{begins_with}
 use Rattle.dp_conf.specs.Lines.{parts_of}
 use Rattle.dp_conf.specs.Numbers.{number_of}
 use Rattle.dp_conf.specs.Words.{same_text}
+use Rattle.dp_machine.specs.Codes.{status_name}
+use Rattle.dp_machine.specs.declared.dial_status.DialStatus.{DialStatus}
+use Rattle.dp_machine.specs.declared.dial_status.DialStatus.TheVariants as statuses
 use Rattle.dp_machine.specs.declared.event.Event.{Event as MachineEvent}
-use Rattle.dp_machine.specs.declared.event.Event.TheVariants.{Start, Step, Digit, Timeout, Poll, Hangup, Offer, Answer, Decline, AgentDone}
+use Rattle.dp_machine.specs.declared.event.Event.TheVariants.{Start, Step, Digit, Timeout, Poll, Hangup, DialResult, Offer, Answer, Decline, AgentDone, Reload}
 use Rattle.dp_commands.specs.declared.fault.Code.TheVariants.{BadScript}
 use Rattle.dp_commands.specs.declared.fault.PbxFault.{PbxFault}
 use Rattle.dp_commands.specs.declared.fault.PbxFault.TheVariants.{Coded}
@@ -80,6 +83,29 @@ digit_line (channel ∷ []) = None
 digit_line (channel ∷ digit ∷ []) = dialled_by (channel_in channel) digit
 digit_line (channel ∷ digit ∷ more ∷ words) = None
 
+-- what came of a call to devices, by the word that names it
+abbrev pub status_in : List ℕ → Option DialStatus
+status_in word =
+    if same_text word (status_name statuses.Answer) then Some statuses.Answer
+    else if same_text word (status_name statuses.Busy) then Some statuses.Busy
+    else if same_text word (status_name statuses.NoAnswer) then Some statuses.NoAnswer
+    else if same_text word (status_name statuses.Congestion) then Some statuses.Congestion
+    else if same_text word (status_name statuses.ChanUnavail) then Some statuses.ChanUnavail
+    else None
+
+-- what came of a channel's call to devices
+abbrev pub result_by : Option ℕ → Option DialStatus → Option ScriptLine
+result_by None status = None
+result_by (Some channel) None = None
+result_by (Some channel) (Some status) = Some (once (Event (DialResult channel status)))
+
+-- the same of a line that begins with `result`
+abbrev pub result_line : List (List ℕ) → Option ScriptLine
+result_line [] = None
+result_line (channel ∷ []) = None
+result_line (channel ∷ status ∷ []) = result_by (channel_in channel) (status_in status)
+result_line (channel ∷ status ∷ more ∷ words) = None
+
 -- the channel that is the one word of a line behind its first
 abbrev pub one_channel : List (List ℕ) → Option ℕ
 one_channel [] = None
@@ -113,6 +139,15 @@ agent_line word words =
     else if same_text word (codes "done") then event_line (λ name. AgentDone name) (one_name words)
     else None
 
+-- the second dialplan comes in force, where there is one
+abbrev pub reload_by : Option (List ℕ) → Option ScriptLine
+reload_by second_plan = event_line (λ text. Reload text) second_plan
+
+-- the same of a line that begins with `reload`, which has no further word
+abbrev pub reload_line : Option (List ℕ) → List (List ℕ) → Option ScriptLine
+reload_line second_plan [] = reload_by second_plan
+reload_line second_plan (word ∷ words) = None
+
 -- the name that is shown in a channel
 abbrev pub shown_by : Option ℕ → List ℕ → Option ScriptLine
 shown_by None name = None
@@ -125,13 +160,15 @@ show_line (channel ∷ []) = None
 show_line (channel ∷ name ∷ []) = shown_by (channel_in channel) name
 show_line (channel ∷ name ∷ more ∷ words) = None
 
--- what a line stands for by its words, and None where it is faulty
-abbrev pub line_by : List (List ℕ) → Option ScriptLine
-line_by [] = None
-line_by (word ∷ words) =
+-- what a line stands for by its words, where a line `reload` puts the second dialplan in force; and None where it is faulty
+abbrev pub line_by : Option (List ℕ) → List (List ℕ) → Option ScriptLine
+line_by second_plan [] = None
+line_by second_plan (word ∷ words) =
     if same_text word (codes "start") then start_line words
     else if same_text word (codes "step") then step_line words
     else if same_text word (codes "digit") then digit_line words
+    else if same_text word (codes "result") then result_line words
+    else if same_text word (codes "reload") then reload_line second_plan words
     else if same_text word (codes "show") then show_line words
     else option_or (channel_line word words) (agent_line word words)
 
@@ -141,8 +178,8 @@ is_skipped [] = true
 is_skipped (word ∷ words) = begins_with 59 word
 
 -- the line by its words, where it is not passed over, and None where it is faulty
-abbrev pub line_of : List (List ℕ) → Option (List ScriptLine)
-line_of words = if is_skipped words then Some [] else option_map (λ line. line ∷ []) (line_by words)
+abbrev pub line_of : Option (List ℕ) → List (List ℕ) → Option (List ScriptLine)
+line_of second_plan words = if is_skipped words then Some [] else option_map (λ line. line ∷ []) (line_by second_plan words)
 
 -- the reading of a line at its number, or its fault
 abbrev pub numbered : ℕ → Option (List ScriptLine) → Result (List ScriptLine) PbxFault
@@ -150,12 +187,12 @@ numbered line None = Err (Coded BadScript (Some line))
 numbered line (Some lines) = Ok lines
 
 -- the reading of a line, by the lines before it
-abbrev pub reading_of : List (List ℕ) → List ℕ → Result (List ScriptLine) PbxFault
-reading_of before part = numbered (length before + 1) (line_of (words_of part))
+abbrev pub reading_of : Option (List ℕ) → List (List ℕ) → List ℕ → Result (List ScriptLine) PbxFault
+reading_of second_plan before part = numbered (length before + 1) (line_of second_plan (words_of part))
 
--- the lines of a script, or the fault of its first faulty line
-unfoldable pub script_of : List ℕ → Result (List ScriptLine) PbxFault
-script_of text = all_of (each_after reading_of [] (parts_of text))
+-- the lines of a script beside a second dialplan, where there is one; or the fault of its first faulty line
+unfoldable pub script_of : Option (List ℕ) → List ℕ → Result (List ScriptLine) PbxFault
+script_of second_plan text = all_of (each_after (reading_of second_plan) [] (parts_of text))
 
 -- the turns of a line
 abbrev pub line_turns : ScriptLine → List Turn

@@ -12,7 +12,7 @@ use Rattle.dp_machine.specs.Events.{is_refused}
 use Rattle.dp_machine.specs.Replay.{replies_to, world_after}
 use Rattle.dp_machine.specs.World.{World}
 use Rattle.dp_machine.specs.declared.event.Event.{Event}
-use Rattle.dp_machine.specs.declared.event.Event.TheVariants.{Start, Step, Digit, Timeout, Poll, Hangup, Offer, Answer, Decline, AgentDone}
+use Rattle.dp_machine.specs.declared.event.Event.TheVariants.{Start, Step, Digit, Timeout, Poll, Hangup, DialResult, Offer, Answer, Decline, AgentDone, Reload}
 use Rattle.dp_table.specs.Standard.{standard_rows}
 use Rattle.dp_commands.specs.Run.{Run, status_by}
 use Rattle.dp_commands.specs.declared.fault.Code.TheVariants.{Line, Name, Plan, Queue, ReadFailed, TooLong, WriteFailed, Settle, BadScript, BadBreak}
@@ -38,10 +38,12 @@ is_start (Digit channel digit) = false
 is_start (Timeout channel) = false
 is_start (Poll channel) = false
 is_start (Hangup channel) = false
+is_start (DialResult channel status) = false
 is_start (Offer queue) = false
 is_start (Answer agent) = false
 is_start (Decline agent) = false
 is_start (AgentDone agent) = false
+is_start (Reload text) = false
 
 -- the calls that come in before any other event
 abbrev pub leading_calls : List Event → List Event

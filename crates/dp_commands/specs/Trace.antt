@@ -13,7 +13,7 @@ use Rattle.dp_machine.specs.Replay.{world_behind}
 use Rattle.dp_machine.specs.World.{World, channel_at, value_in}
 use Rattle.dp_app.specs.declared.place.Place.{Place}
 use Rattle.dp_app.specs.declared.phase.Phase.{Phase}
-use Rattle.dp_app.specs.declared.phase.Phase.TheVariants.{Ready, Digits, Pause, Queued, Talking, Ended}
+use Rattle.dp_app.specs.declared.phase.Phase.TheVariants.{Ready, Digits, Pause, Queued, Talking, Dialling, Ended}
 use Rattle.dp_queue.specs.Queues.{QueuesOf}
 use Rattle.dp_table.specs.Standard.{standard_rows}
 use Rattle.dp_machine.specs.declared.event.Event.{Event}
@@ -50,6 +50,7 @@ state_by queues (Some Pause) place = codes "pause"
 state_by queues (Some (Queued queue goes_on has_timer)) place = codes "queued " ++ queue_name queues queue
 state_by queues (Some (Talking queue agent goes_on)) place =
     codes "talking " ++ queue_name queues queue ++ codes " " ++ agent_name queues agent
+state_by queues (Some (Dialling goes_on has_timer)) place = codes "dialling"
 state_by queues (Some Ended) place = codes "ended"
 
 -- the phase of the channel of a number, where there is one
@@ -78,7 +79,8 @@ entry_text plan id = entry_in id.entry (slice_get plan.contexts id.context)
 abbrev pub refusal_text : Refusal → List ℕ
 refusal_text refusal = codes "refused " ++ decimal (refusal_code refusal) ++ codes " " ++ refusal_name refusal
 
--- what is printed of a taken event behind its reply, by the number of the channel that it names; an agent's event names none
+-- what is printed of a taken event behind its reply, by the number of the channel that it names; an agent's event names none, nor
+-- does a reload
 abbrev pub done_text : World → ℕ → List ℕ
 done_text w number =
     if number == 0 then codes "ok" else codes "ok " ++ decimal number ++ codes " -> " ++ state_text w number

@@ -271,15 +271,24 @@ pub fn debug_script<W: WriteTold>(
     alloc: Global,
     plan: &[u8],
     queues: Option<&[u8]>,
+    second_plan: Option<&[u8]>,
     script: &[u8],
     held: &[u8],
     writer: &mut W,
 ) -> Result<u8, PbxFault>
     ensures writes { spec.WritesDebug (W.contents writer.old) (W.contents writer.new)
-        (spec.debug_of plan.now (option_map (λ text. text.now) queues.entry) script.now held.now) result }
+        (spec.debug_of plan.now (option_map (λ text. text.now) queues.entry) (option_map (λ text. text.now) second_plan.entry) script.now held.now) result }
     ensures told { W.has_failed writer.new ≡ (W.has_failed writer.old || is_write_failed result) }
 {
     let held = read_break(alloc, held)?;
     let mut watched = watch(alloc, held);
-    run_texts(alloc, plan, queues, script, &mut watched, writer)
+    run_texts(
+        alloc,
+        plan,
+        queues,
+        second_plan,
+        script,
+        &mut watched,
+        writer,
+    )
 }

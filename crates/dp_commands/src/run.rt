@@ -223,15 +223,16 @@ fn read_texts(
     alloc: Global,
     plan: &[u8],
     queues: Option<&[u8]>,
+    second_plan: Option<&[u8]>,
     script: &[u8],
 ) -> Result<Told, PbxFault>
     ensures told { Answers (λ told. record { plan = told.files.plan; queues = told.files.queues; lines = told.lines.items }) reason_of result
-        (spec.told_of plan.now (option_map (λ text. text.now) queues.entry) script.now) }
+        (spec.told_of plan.now (option_map (λ text. text.now) queues.entry) (option_map (λ text. text.now) second_plan.entry) script.now) }
     ensures rest { IfOk result (λ told. IsAtRest told.files.queues) }
     ensures quiet { is_write_failed result ≡ false }
 {
     let files = read_files(alloc, plan, queues)?;
-    match read_script(alloc, script) {
+    match read_script(alloc, second_plan, script) {
         Ok(lines) => Ok(Told { files, lines }),
         Err(fault) => Err(fault),
     }
@@ -277,15 +278,16 @@ pub(crate) fn begin(
     alloc: Global,
     plan: &[u8],
     queues: Option<&[u8]>,
+    second_plan: Option<&[u8]>,
     script: &[u8],
 ) -> Result<Begun, PbxFault>
     ensures run { Answers (λ begun. spec.run_on begun.machine (turns_of begun.lines.items)) reason_of result
-        (spec.run_of plan.now (option_map (λ text. text.now) queues.entry) script.now) }
+        (spec.run_of plan.now (option_map (λ text. text.now) queues.entry) (option_map (λ text. text.now) second_plan.entry) script.now) }
     ensures empty { IfOk result (λ begun. begun.block ≡ waiting [] []) }
     ensures quiet { is_write_failed result ≡ false }
 {
     let block = Block::new(alloc, ROOM)?;
-    let Told { files, lines } = read_texts(alloc, plan, queues, script)?;
+    let Told { files, lines } = read_texts(alloc, plan, queues, second_plan, script)?;
     match files.into_machine(alloc) {
         Ok(machine) => Ok(Begun {
             machine,
@@ -383,33 +385,37 @@ pub(crate) fn run_texts<T: Taker, W: WriteTold>(
     alloc: Global,
     plan: &[u8],
     queues: Option<&[u8]>,
+    second_plan: Option<&[u8]>,
     script: &[u8],
     taker: &mut T,
     writer: &mut W,
 ) -> Result<u8, PbxFault>
     ensures writes { WritesRun T.step (λ at. T.last at.0) taker.old (W.contents writer.old) (W.contents writer.new)
-        (spec.run_of plan.now (option_map (λ text. text.now) queues.entry) script.now) result }
+        (spec.run_of plan.now (option_map (λ text. text.now) queues.entry) (option_map (λ text. text.now) second_plan.entry) script.now) result }
     ensures told { W.has_failed writer.new ≡ (W.has_failed writer.old || is_write_failed result) }
 {
-    let mut begun = begin(alloc, plan, queues, script)?;
+    let mut begun = begin(alloc, plan, queues, second_plan, script)?;
     run_begun(alloc, taker, &mut begun, writer)
 }
 
 /// Runs a script on a dialplan with its queues, and writes the trace as it goes, a block of lines at a time. The status is 1 where a turn
 /// was refused, else 0.
 ///
-/// The queues are those of a file of queues, or none. All texts are read before the first event; the fault of the dialplan is
-/// answered first, then that of the queues, then that of the script. Where memory is refused the
-/// lines of the turns before are written. Where memory is refused or a write fails, what was written stays written.
+/// The queues are those of a file of queues, or none. The second dialplan is the one that a line `reload` puts in force; its text is
+/// not looked into before, and without it such a line is faulty. All other texts are read before the first event; the fault of the
+/// dialplan is answered first, then that of the queues, then that of the script. Where memory is refused the lines of the turns
+/// before are written. Where memory is refused or a write fails, what was written stays written.
 pub fn run_script<W: WriteTold>(
     alloc: Global,
     plan: &[u8],
     queues: Option<&[u8]>,
+    second_plan: Option<&[u8]>,
     script: &[u8],
     writer: &mut W,
 ) -> Result<u8, PbxFault>
-    ensures writes { spec.Writes (W.contents writer.old) (W.contents writer.new) (spec.run_of plan.now (option_map (λ text. text.now) queues.entry) script.now) result }
+    ensures writes { spec.Writes (W.contents writer.old) (W.contents writer.new)
+        (spec.run_of plan.now (option_map (λ text. text.now) queues.entry) (option_map (λ text. text.now) second_plan.entry) script.now) result }
     ensures told { W.has_failed writer.new ≡ (W.has_failed writer.old || is_write_failed result) }
 {
-    run_texts(alloc, plan, queues, script, &mut Plain, writer)
+    run_texts(alloc, plan, queues, second_plan, script, &mut Plain, writer)
 }

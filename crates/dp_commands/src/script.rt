@@ -1,6 +1,6 @@
 //! Scripts: the turns that a person writes down.
 ghost use Rattle.std.specs.Prelude.{◌≡◌, ◌+◌, ◌++◌, ◌∷◌, [], IfOk, OnOk, Some, map, false};
-ghost use Rattle.std.specs.Option.{option_to_list};
+ghost use Rattle.std.specs.Option.{option_map, option_to_list};
 ghost use Rattle.dp_conf.specs.Answers.{Answers};
 ghost use Rattle.dp_commands.specs.Faults.{is_write_failed, reason_of};
 ghost use Rattle.dp_commands.specs.Script as spec;
@@ -8,8 +8,8 @@ ghost use Rattle.dp_commands.specs.declared.script.Turn.TheVariants as turns;
 
 use crate::fault::{Code, PbxFault};
 use dp_conf::{first_part, is_blank, read_number};
-use dp_machine::Event;
-use dp_plan::{NoMemory, Text};
+use dp_machine::{DialStatus, Event};
+use dp_plan::{NoMemory, SharedText, Text};
 use std::alloc::Global;
 
 /// How many times a line may take its turn.
@@ -114,6 +114,39 @@ fn dialled(channel: u32, word: &[u8]) -> Option<ScriptLine>
     }
 }
 
+/// What came of a call to devices, by the word that names it: one of five, each in capitals.
+fn read_status(word: &[u8]) -> Option<DialStatus>
+    ensures { result ≡ spec.status_in word.now }
+{
+    if word == DialStatus::Answer.name() {
+        return Some(DialStatus::Answer);
+    }
+    if word == DialStatus::Busy.name() {
+        return Some(DialStatus::Busy);
+    }
+    if word == DialStatus::NoAnswer.name() {
+        return Some(DialStatus::NoAnswer);
+    }
+    if word == DialStatus::Congestion.name() {
+        return Some(DialStatus::Congestion);
+    }
+    if word == DialStatus::ChanUnavail.name() {
+        return Some(DialStatus::ChanUnavail);
+    }
+    None
+}
+
+/// `result CH STATUS`, by the words behind `result`: the call to devices that the channel waits for came to this.
+fn read_result(words: &[&[u8]]) -> Option<ScriptLine>
+    ensures { result ≡ spec.result_line (map (λ word. word.now) words.now) }
+{
+    let (channel, status) = match words {
+        [channel, status] => (read_channel(channel)?, read_status(status)?),
+        _ => return None,
+    };
+    Some(once(Event::DialResult { channel, status }))
+}
+
 /// A line that gives the event once.
 fn once(event: Event) -> ScriptLine
     ensures { result ≡ spec.once (turns.Event event) }
@@ -193,6 +226,31 @@ fn read_agent_line(
     Ok(None)
 }
 
+/// The second dialplan comes in force, where there is one.
+fn read_second(second_plan: Option<&SharedText>) -> Result<Option<ScriptLine>, NoMemory>
+    ensures { IfOk result (λ line. line ≡ spec.reload_by (option_map (λ text. text.now) second_plan.entry)) }
+{
+    let Some(text) = second_plan else {
+        return Ok(None);
+    };
+    let text = text.clone()?;
+    Ok(Some(once(Event::Reload { text })))
+}
+
+/// `reload`, by the words behind it, of which there is none: the second dialplan comes in force.
+fn read_reload(
+    second_plan: Option<&SharedText>,
+    words: &[&[u8]],
+) -> Result<Option<ScriptLine>, NoMemory>
+    ensures { IfOk result (λ line. line
+        ≡ spec.reload_line (option_map (λ text. text.now) second_plan.entry) (map (λ word. word.now) words.now)) }
+{
+    match words {
+        [] => read_second(second_plan),
+        _ => Ok(None),
+    }
+}
+
 /// `show CH NAME`, by the words behind `show`.
 fn read_show(alloc: Global, words: &[&[u8]]) -> Result<Option<ScriptLine>, NoMemory>
     ensures { IfOk result (λ line. line ≡ spec.show_line (map (λ word. word.now) words.now)) }
@@ -219,9 +277,14 @@ fn is_skipped(words: &[&[u8]]) -> bool
     }
 }
 
-/// What a line stands for by its words, or None where it is faulty.
-fn read_words(alloc: Global, words: &[&[u8]]) -> Result<Option<ScriptLine>, NoMemory>
-    ensures { IfOk result (λ line. line ≡ spec.line_by (map (λ word. word.now) words.now)) }
+/// What a line stands for by its words, where a line `reload` puts the second dialplan in force; or None where it is faulty.
+fn read_words(
+    alloc: Global,
+    second_plan: Option<&SharedText>,
+    words: &[&[u8]],
+) -> Result<Option<ScriptLine>, NoMemory>
+    ensures { IfOk result (λ line. line
+        ≡ spec.line_by (option_map (λ text. text.now) second_plan.entry) (map (λ word. word.now) words.now)) }
 {
     let Some((word, rest)) = words.split_first() else {
         return Ok(None);
@@ -235,6 +298,12 @@ fn read_words(alloc: Global, words: &[&[u8]]) -> Result<Option<ScriptLine>, NoMe
     if *word == b"digit".as_slice() {
         return Ok(read_digit(rest));
     }
+    if *word == b"result".as_slice() {
+        return Ok(read_result(rest));
+    }
+    if *word == b"reload".as_slice() {
+        return read_reload(second_plan, rest);
+    }
     if *word == b"show".as_slice() {
         return read_show(alloc, rest);
     }
@@ -247,16 +316,18 @@ fn read_words(alloc: Global, words: &[&[u8]]) -> Result<Option<ScriptLine>, NoMe
 /// What the line of this number stands for by its words, or None where it is passed over.
 fn read_numbered(
     alloc: Global,
+    second_plan: Option<&SharedText>,
     line: usize,
     words: &[&[u8]],
 ) -> Result<Option<ScriptLine>, PbxFault>
-    ensures line { Answers option_to_list reason_of result (spec.numbered line (spec.line_of (map (λ word. word.now) words.now))) }
+    ensures line { Answers option_to_list reason_of result
+        (spec.numbered line (spec.line_of (option_map (λ text. text.now) second_plan.entry) (map (λ word. word.now) words.now))) }
     ensures quiet { is_write_failed result ≡ false }
 {
     if is_skipped(words) {
         return Ok(None);
     }
-    match read_words(alloc, words) {
+    match read_words(alloc, second_plan, words) {
         Ok(Some(item)) => Ok(Some(item)),
         Ok(None) => Err(PbxFault::Coded {
             code: Code::BadScript,
@@ -267,12 +338,18 @@ fn read_numbered(
 }
 
 /// What the line of this number stands for, or None where it is passed over.
-fn read_line(alloc: Global, line: usize, part: &[u8]) -> Result<Option<ScriptLine>, PbxFault>
-    ensures line { Answers option_to_list reason_of result (spec.numbered line (spec.line_of (spec.words_of part.now))) }
+fn read_line(
+    alloc: Global,
+    second_plan: Option<&SharedText>,
+    line: usize,
+    part: &[u8],
+) -> Result<Option<ScriptLine>, PbxFault>
+    ensures line { Answers option_to_list reason_of result
+        (spec.numbered line (spec.line_of (option_map (λ text. text.now) second_plan.entry) (spec.words_of part.now))) }
     ensures quiet { is_write_failed result ≡ false }
 {
     let words = words(alloc, part)?;
-    read_numbered(alloc, line, &words)
+    read_numbered(alloc, second_plan, line, &words)
 }
 
 /// Adds the line at the end, where there is one.
@@ -286,8 +363,13 @@ fn push_line(lines: &mut Vec<ScriptLine>, line: Option<ScriptLine>) -> Result<()
 }
 
 /// The lines of a script in order, or the fault of its first faulty line.
-pub fn read_script(alloc: Global, text: &[u8]) -> Result<Vec<ScriptLine>, PbxFault>
-    ensures lines { Answers (λ lines. lines.items) reason_of result (spec.script_of text.now) }
+fn read_lines(
+    alloc: Global,
+    second_plan: Option<&SharedText>,
+    text: &[u8],
+) -> Result<Vec<ScriptLine>, PbxFault>
+    ensures lines { Answers (λ lines. lines.items) reason_of result
+        (spec.script_of (option_map (λ text. text.now) second_plan.entry) text.now) }
     ensures quiet { is_write_failed result ≡ false }
 {
     let mut lines = Vec::new(alloc);
@@ -296,9 +378,37 @@ pub fn read_script(alloc: Global, text: &[u8]) -> Result<Vec<ScriptLine>, PbxFau
     while let Some(left) = rest {
         let (part, behind) = first_part(left);
         number += 1;
-        let line = read_line(alloc, number, part)?;
+        let line = read_line(alloc, second_plan, number, part)?;
         push_line(&mut lines, line)?;
         rest = behind;
     }
+    Ok(lines)
+}
+
+/// The text of the second dialplan, which all lines `reload` have in common.
+fn share_text(alloc: Global, second_plan: Option<&[u8]>) -> Result<Option<SharedText>, NoMemory>
+    ensures { IfOk result (λ shared. shared ≡ option_map (λ text. text.now) second_plan.entry) }
+{
+    let Some(text) = second_plan else {
+        return Ok(None);
+    };
+    let text = Text::copy_of(alloc, text)?;
+    let shared = SharedText::new(alloc, text)?;
+    Ok(Some(shared))
+}
+
+/// The lines of a script in order, or the fault of its first faulty line. A line `reload` has the text of the second dialplan, and
+/// is faulty where there is none.
+pub fn read_script(
+    alloc: Global,
+    second_plan: Option<&[u8]>,
+    text: &[u8],
+) -> Result<Vec<ScriptLine>, PbxFault>
+    ensures lines { Answers (λ lines. lines.items) reason_of result
+        (spec.script_of (option_map (λ text. text.now) second_plan.entry) text.now) }
+    ensures quiet { is_write_failed result ≡ false }
+{
+    let shared = share_text(alloc, second_plan)?;
+    let lines = read_lines(alloc, shared.as_ref(), text)?;
     Ok(lines)
 }

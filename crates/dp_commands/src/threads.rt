@@ -356,13 +356,14 @@ fn begin_shared(
     alloc: Global,
     plan: &[u8],
     queues: Option<&[u8]>,
+    second_plan: Option<&[u8]>,
     script: &[u8],
 ) -> Result<Opened, PbxFault>
     ensures begun { Answers (λ opened. (opened.machine, spec.shared_events opened.given.events.items, opened.given.is_refused)) reason_of result
-        (spec.begun_of (run.run_of plan.now (option_map (λ text. text.now) queues.entry) script.now)) }
+        (spec.begun_of (run.run_of plan.now (option_map (λ text. text.now) queues.entry) (option_map (λ text. text.now) second_plan.entry) script.now)) }
     ensures quiet { is_write_failed result ≡ false }
 {
-    let mut begun = begin(alloc, plan, queues, script)?;
+    let mut begun = begin(alloc, plan, queues, second_plan, script)?;
     match give_calls(alloc, &mut begun.machine, &begun.lines) {
         Ok(given) => Ok(opened_of(begun, given)),
         Err(_) => Err(PbxFault::NoMemory),
@@ -467,16 +468,17 @@ pub fn run_threads<G: Gate + Sync, W: WriteTold, R: Threads + Wait + Sync>(
     alloc: Global,
     plan: &[u8],
     queues: Option<&[u8]>,
+    second_plan: Option<&[u8]>,
     script: &[u8],
     threads: u32,
     gate: &G,
     writer: &mut W,
 ) -> Result<(u8, History<StandardApps>), PbxFault>
     ensures shares { spec.Shares (max 1 threads) (W.contents writer.old) (W.contents writer.new)
-        (run.run_of plan.now (option_map (λ text. text.now) queues.entry) script.now) result }
+        (run.run_of plan.now (option_map (λ text. text.now) queues.entry) (option_map (λ text. text.now) second_plan.entry) script.now) result }
     ensures told { W.has_failed writer.new ≡ (W.has_failed writer.old || is_write_failed result) }
 {
-    let opened = begin_shared(alloc, plan, queues, script)?;
+    let opened = begin_shared(alloc, plan, queues, second_plan, script)?;
     let count = threads.max(1);
     let is_refused = opened.given.is_refused;
     let history = share(rt, alloc, opened, count, gate)?;

@@ -77,6 +77,7 @@ fn push_phase(
         Phase::Pause => out.push(b"pause"),
         Phase::Queued { queue, .. } => push_queued(out, queues, *queue),
         Phase::Talking { queue, agent, .. } => push_talking(out, queues, *queue, *agent),
+        Phase::Dialling { .. } => out.push(b"dialling"),
         Phase::Ended => out.push(b"ended"),
     }
 }

@@ -153,6 +153,35 @@ pub fn in_main(alloc: Global, plan: &str) -> Result<Vec<u8>, NoMemory> {
     bytes_of(alloc, &text)
 }
 
+/// The texts of a run.
+#[derive(Drop)]
+pub struct Texts {
+    pub plan: Vec<u8>,
+    pub queues: Vec<u8>,
+    pub second_plan: Option<Vec<u8>>,
+    pub script: Vec<u8>,
+}
+
+/// The texts of a run by three cells, of which the dialplan begins in `[main]`, and the last is the script, with a second dialplan
+/// behind a `¦`, where there is one.
+pub fn read_texts(
+    alloc: Global,
+    plan: &str,
+    queues: &str,
+    script: &str,
+) -> Result<Texts, NoMemory> {
+    let (script, second_plan) = match script.split_once('¦') {
+        Some((script, second_plan)) => (script, Some(bytes_of(alloc, second_plan)?)),
+        None => (script, None),
+    };
+    Ok(Texts {
+        plan: in_main(alloc, plan)?,
+        queues: bytes_of(alloc, queues)?,
+        second_plan,
+        script: bytes_of(alloc, script)?,
+    })
+}
+
 /// Whether a command writes these bytes into this writer, with what it ends with behind them.
 pub fn check_into<C: Command>(
     alloc: Global,

@@ -3,7 +3,7 @@ use Rattle.std.specs.Prelude.{ℕ, Bool, true, false, ◌&&◌, ◌==◌, List, 
 use Rattle.std.specs.List.{position}
 use Rattle.dp_conf.specs.Words.{same_text, same_word}
 use Rattle.dp_app.specs.declared.phase.Phase.{Phase}
-use Rattle.dp_app.specs.declared.phase.Phase.TheVariants.{Ready, Digits, Pause, Queued, Talking, Ended}
+use Rattle.dp_app.specs.declared.phase.Phase.TheVariants.{Ready, Digits, Pause, Queued, Talking, Dialling, Ended}
 use Rattle.dp_app.specs.declared.place.Place.{Place}
 use Rattle.dp_plan.specs.Lookup.{entry_at}
 use Rattle.dp_plan.specs.Plan.{PlanOf}
@@ -13,7 +13,7 @@ use Rattle.dp_machine.specs.Events.{next_entry}
 use Rattle.dp_machine.specs.World.{World, channel_at}
 use Rattle.dp_machine.specs.declared.channel.Channel.{Channel}
 use Rattle.dp_machine.specs.declared.event.Event.{Event}
-use Rattle.dp_machine.specs.declared.event.Event.TheVariants.{Start, Step, Digit, Timeout, Poll, Hangup, Offer, Answer, Decline, AgentDone}
+use Rattle.dp_machine.specs.declared.event.Event.TheVariants.{Start, Step, Digit, Timeout, Poll, Hangup, DialResult, Offer, Answer, Decline, AgentDone, Reload}
 use Rattle.dp_debug.specs.declared.breaks.Break.{Break}
 use Rattle.dp_debug.specs.declared.breaks.Break.TheVariants.{At, App}
 
@@ -28,6 +28,7 @@ is_ready (Digits digits is_background) = false
 is_ready Pause = false
 is_ready (Queued queue goes_on has_timer) = false
 is_ready (Talking queue agent goes_on) = false
+is_ready (Dialling goes_on has_timer) = false
 is_ready Ended = false
 
 -- whether a channel is ready at a place
@@ -72,7 +73,9 @@ first_before w (Digit number digit) breaks = None
 first_before w (Timeout number) breaks = None
 first_before w (Poll number) breaks = None
 first_before w (Hangup number) breaks = None
+first_before w (DialResult number status) breaks = None
 first_before w (Offer queue) breaks = None
 first_before w (Answer agent) breaks = None
 first_before w (Decline agent) breaks = None
 first_before w (AgentDone agent) breaks = None
+first_before w (Reload text) breaks = None

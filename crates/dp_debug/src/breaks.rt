@@ -37,6 +37,7 @@ fn is_ready(phase: &Phase) -> bool
         | Phase::Pause
         | Phase::Queued { .. }
         | Phase::Talking { .. }
+        | Phase::Dialling { .. }
         | Phase::Ended => false,
     }
 }
@@ -151,9 +152,11 @@ pub(crate) fn first_before<T: AppTable>(
         | Event::Timeout { .. }
         | Event::Poll { .. }
         | Event::Hangup { .. }
+        | Event::DialResult { .. }
         | Event::Offer { .. }
         | Event::Answer { .. }
         | Event::Decline { .. }
-        | Event::AgentDone { .. } => None,
+        | Event::AgentDone { .. }
+        | Event::Reload { .. } => None,
     }
 }

@@ -37,7 +37,9 @@ impl Debugger {
         }
     }
 
-    /// The replies to the events that the run took.
+    /// The replies to the events that the run took. A reply that names an entry is read in the dialplan that was in force at its
+    /// event: who keeps the events knows it, since it is that of the last `Reload` before the event that was done, and the first
+    /// one where there is none.
     pub fn trace(&self) -> &[Reply]
         ensures { result.now ≡ self.now }
     {

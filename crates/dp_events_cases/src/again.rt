@@ -1,4 +1,5 @@
-//! Events that are given once more where memory was refused, over dialplans with queues, worked out by hand from the rules.
+//! Events that are given once more where memory was refused, over dialplans with queues and others that come in force, worked out by hand
+//! from the rules.
 use dp_commands::{ScriptLine, Turn, read_script};
 use dp_machine::{Dialplan, Event, Machine, NoMemory, Queues, Reply};
 use dp_machine_rows::{Exchange, call, push_state, push_value};
@@ -8,7 +9,8 @@ use std::str;
 use std::test::Fail;
 
 /// A case is a dialplan, a file of queues and a script, parted by `¦`; then an arrow, the reply to each event and each value that is
-/// shown, and the states of the channels 1 and 2. An entry that was run stands as `ran CONTEXT ENTRY`, the numbers of both.
+/// shown, and the states of the channels 1 and 2. An entry that was run stands as `ran CONTEXT ENTRY`, the numbers of both, in the
+/// dialplan that was in force then. Before a script may stand the dialplan that its lines `reload` give, and another `¦`.
 const ROWS: &str = r"
 # A subroutine with arguments, and the value that it comes back with.
 [main]\nexten => s,1,Gosub(sub,s,1(x,y))\nexten => s,2,NoOp()\nexten => s,3,Return()\n[sub]\nexten => s,1,Return(${ARG2})¦¦start main s\nstep 1 2\nshow 1 GOSUB_RETVAL\nshow 1 ARG1\nstep 1 2→Started(1), ran 0 0, ran 1 0, GOSUB_RETVAL=y, ARG1=, ran 0 1, ran 0 2, ended main,s,3, none
@@ -24,6 +26,24 @@ const ROWS: &str = r"
 [main]\nexten => s,1,Queue(q,,,,30)\nexten => e,1,Queue(empty)¦[q]\n[empty]\nleavewhenempty=yes¦start main s\nstep 1\ntimeout 1\nshow 1 QUEUESTATUS\nstart main e\nstep 2\npoll 2\nshow 2 QUEUESTATUS→Started(1), ran 0 0, Done, QUEUESTATUS=TIMEOUT, Started(2), ran 0 1, Done, QUEUESTATUS=LEAVEEMPTY, ready main,s,2, ready main,e,2
 # A menu that leads to a queue.
 [main]\nexten => s,1,Background(welcome)\n same => n,WaitExten(5)\nexten => 1,1,Queue(sales,c)\n same => n,Hangup()\nexten => i,1,Goto(s,1)\nexten => t,1,Hangup()\nexten => h,1,NoOp(${QUEUESTATUS})¦[sales]\nstrategy = ringall\nmember => Line/1\nmember => Line/2¦start main s\nstep 1\ndigit 1 1\nstep 1\noffer sales\nanswer Line/1\ndone Line/1\nshow 1 QUEUESTATUS\nstep 1 2→Started(1), ran 0 0, Done, ran 0 2, Offered { channel: 1, rung: 2 }, Done, Done, QUEUESTATUS=CONTINUE, ran 0 3, ran 0 6, ready main,h,2, none
+# A call to devices, and all that may come of it.
+[main]\nexten => s,1,Dial(Line/5,20)\nexten => s,2,NoOp()\nexten => h,1,Dial(Line/6)¦¦start main s\nstep 1\nresult 1 BUSY\nshow 1 DIALSTATUS\nresult 1 BUSY→Started(1), ran 0 0, Done, DIALSTATUS=BUSY, Refused(NotDialling), ready main,s,2, none
+[main]\nexten => s,1,Dial(Line/5,20)\nexten => s,2,NoOp()\nexten => h,1,Dial(Line/6)¦¦start main s\nstep 1\nresult 1 ANSWER\nshow 1 DIALSTATUS→Started(1), ran 0 0, Done, DIALSTATUS=ANSWER, ready main,h,1, none
+[main]\nexten => s,1,Dial(Line/5,20)\nexten => s,2,NoOp()\nexten => h,1,Dial(Line/6)¦¦start main s\nstep 1\nhangup 1\nshow 1 DIALSTATUS\nstep 1→Started(1), ran 0 0, Done, DIALSTATUS=CANCEL, ran 0 2, ended main,h,1, none
+[main]\nexten => s,1,Dial(Line/5,20)\nexten => s,2,NoOp()\nexten => h,1,Dial(Line/6)¦¦start main s\nstep 1\ndigit 1 5\ntimeout 1\nshow 1 DIALSTATUS→Started(1), ran 0 0, Done, Done, DIALSTATUS=NOANSWER, ready main,s,2, none
+[main]\nexten => s,1,Dial(Line/5)\nexten => s,2,NoOp()¦¦start main s\nstep 1\ntimeout 1\nstart main s\nstep 2\nhangup 2→Started(1), ran 0 0, Refused(NoTimer), Started(2), ran 0 0, Done, dialling main,s,1, ended main,s,1
+[main]\nexten => s,1,Dial(Line/5,,g)\nexten => s,2,Dial()¦¦start main s\nstep 1\nresult 1 ANSWER\nshow 1 DIALSTATUS\nstep 1\nshow 1 DIALSTATUS→Started(1), ran 0 0, Done, DIALSTATUS=ANSWER, ran 0 1, DIALSTATUS=CHANUNAVAIL, ready main,s,3, none
+[main]\nexten => s,1,Gosub(sub,s,1)\n[sub]\nexten => s,1,Set(LOCAL(DIALSTATUS)=mine)\nexten => s,2,Dial(Line/5,20)\nexten => s,3,Return()¦¦start main s\nstep 1 3\nresult 1 CONGESTION\nshow 1 DIALSTATUS\nstep 1\nshow 1 DIALSTATUS→Started(1), ran 0 0, ran 1 0, ran 1 1, Done, DIALSTATUS=CONGESTION, ran 1 2, DIALSTATUS=, ready main,s,2, none
+# A device with the name of an agent is neither asked nor rung, and the agent's calls are not the device's.
+[main]\nexten => s,1,Dial(Line/1)\nexten => w,1,Queue(q)¦[q]\nmember => Line/1¦start main s\nstart main w\nstep 1\nanswer Line/1\nresult 2 BUSY\nstep 2\nresult 2 BUSY\noffer q\nresult 1 BUSY\nanswer Line/1\nresult 2 BUSY→Started(1), Started(2), ran 0 0, Refused(NotRinging), Refused(NotDialling), ran 0 1, Refused(NotDialling), Offered { channel: 2, rung: 1 }, Done, Done, Refused(NotDialling), ready main,s,2, talking main,w,1
+# Another dialplan comes in force, and one with a fault does not.
+[globals]\nX=1\nY=5\n[main]\nexten => 100,1,NoOp(a)\nexten => 100,2,NoOp(b)¦¦[globals]\nX=${X}2\n[main]\nexten => _1XX,2,Hangup()¦start main 100\nstep 1\nreload\nshow 1 X\nshow 1 Y\nstep 1→Started(1), ran 0 0, Done, X=12, Y=5, ran 0 0, ended main,100,2, none
+[globals]\nX=1\nY=5\n[main]\nexten => 100,1,NoOp(a)\nexten => 100,2,NoOp(b)¦¦[main¦start main 100\nstep 1\nreload\nshow 1 X\nshow 1 Y\nstep 1→Started(1), ran 0 0, Refused(BadPlan), X=1, Y=5, ran 0 1, ready main,100,3, none
+[globals]\nX=1\n[main]\nexten => s,1,NoOp()¦¦[globals]\nX=2\nY=3\n[main]\nexten => s,1,Hangup()\nexten => s,0,NoOp()¦start main s\nreload\nshow 1 X\nshow 1 Y\nstep 1→Started(1), Refused(BadPlan), X=1, Y=, ran 0 0, ready main,s,2, none
+# Calls stay in their queues, and agents at theirs; a way out is one of the new dialplan, and globals count those who wait then.
+[main]\nexten => s,1,Queue(q,c)\n[out]\nexten => 5,1,NoOp()¦[q]\ncontext = out\nmember => Line/1¦[globals]\nX=${QUEUE_WAITING_COUNT(q)} wait\n[out]\nexten => 6,1,NoOp()\n[main]\nexten => s,2,Hangup()¦start main s\nstart main s\nstep 1\nstep 2\noffer q\nreload\nshow 1 X\ndigit 2 5\ndigit 2 6\nreload\nshow 1 X\nanswer Line/1\nreload\nshow 1 X\ndone Line/1\nshow 1 QUEUESTATUS\nstep 1\nstep 2→Started(1), Started(2), ran 0 0, ran 0 0, Offered { channel: 1, rung: 1 }, Done, X=2 wait, Done, Done, Done, X=1 wait, Done, Done, X=0 wait, Done, QUEUESTATUS=CONTINUE, ran 1 0, ran 0 0, ended main,s,2, ready out,6,2
+# Many contexts, names and globals come in force, twice.
+[main]\nexten => s,1,Set(A=${B})¦¦[globals]\nB=1\nC=${B}${B}\nD=${C}${C}\n[main]\nexten => s,1,Goto(c,_12,1)\nexten => s,2(top),Set(A=${D})\ninclude => b\n[b]\nexten => _1[2-9]X.,1,NoOp()\nexten => _ZXN,1,NoOp(${A})\ninclude => c\n[c]\nexten => 5551234,1(top),NoOp()\nexten => _555!,2(end),NoOp()\ninclude => main¦start main s\nstep 1\nreload\nstep 1\nshow 1 A\nreload\nstart c 5551234\nstep 2 2→Started(1), ran 0 0, Done, ran 0 1, A=1111, Done, Started(2), ran 2 0, ran 2 1, ready main,s,3, ready c,5551234,3
 ";
 
 /// Cases of sizes beyond the small, in the same form. Before a script may stand `COUNT calls ; `, which come in first, to the extension `s`
@@ -41,7 +61,7 @@ const SIZES: &str = r"
 
 /// The names of which each channel's values are read.
 const NAMES: &str =
-    "ARG1 ARG2 GOSUB_RETVAL INVALID_EXTEN QUEUESTATUS AQMSTATUS RQMSTATUS PQMSTATUS UPQMSTATUS";
+    "ARG1 ARG2 GOSUB_RETVAL INVALID_EXTEN QUEUESTATUS AQMSTATUS RQMSTATUS PQMSTATUS UPQMSTATUS DIALSTATUS A B C D X Y";
 
 fn push_values(
     out: &mut String,
@@ -78,13 +98,14 @@ fn push_queues(out: &mut String, queues: &Queues) -> Result<(), NoMemory> {
     write!(out, "{:?} {}\n", queues.agents(), queues.finished())
 }
 
-/// What each reader of the machine says of the channels 0 to 3 and of the queues. No event changes the dialplan.
+/// What each reader of the machine says of the channels 0 to 3, of the queues and of the dialplan in force.
 fn readers_of(alloc: Global, machine: &Exchange) -> Result<String, NoMemory> {
     let mut out = String::new(alloc);
     for channel in 0..4 {
         push_channel(&mut out, alloc, machine, channel)?;
     }
     push_queues(&mut out, machine.queues())?;
+    write!(out, "{:?}\n", machine.plan())?;
     Ok(out)
 }
 
@@ -199,10 +220,17 @@ fn start_calls(alloc: Global, machine: &mut Exchange, count: u32) -> Result<(), 
     Ok(())
 }
 
-/// What a machine answers to a script behind so many calls, and the states of two channels then.
-fn told(alloc: Global, machine: &mut Exchange, calls: u32, script: &[u8]) -> Result<String, Fail> {
+/// What a machine answers to a script behind so many calls, where its lines `reload` give this dialplan; and the states of two
+/// channels then.
+fn told(
+    alloc: Global,
+    machine: &mut Exchange,
+    calls: u32,
+    second: &[u8],
+    script: &[u8],
+) -> Result<String, Fail> {
     start_calls(alloc, machine, calls)?;
-    let lines = read_script(alloc, script)?;
+    let lines = read_script(alloc, Some(second), script)?;
     let mut out = String::new(alloc);
     push_lines(&mut out, alloc, machine, &lines)?;
     push_state(&mut out, machine, 1)?;
@@ -226,11 +254,13 @@ fn calls_before(cell: &str) -> (u32, &str) {
     }
 }
 
-fn told_on(alloc: Global, plan: &[u8], queues: &[u8], cell: &str) -> Result<String, Fail> {
+fn told_on(alloc: Global, plan: &[u8], queues: &[u8], cells: &str) -> Result<String, Fail> {
+    let (second, cell) = cells.split_once('¦').unwrap_or(("", cells));
     let (calls, script) = calls_before(cell);
+    let second = bytes_of(alloc, second)?;
     let script = bytes_of(alloc, script)?;
     let mut machine = machine_of(alloc, plan, queues)?;
-    told(alloc, &mut machine, calls, &script)
+    told(alloc, &mut machine, calls, &second, &script)
 }
 
 /// What a machine answers to a script of which each event is given once more where memory is refused.

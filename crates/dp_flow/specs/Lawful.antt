@@ -7,21 +7,23 @@ use Rattle.dp_conf.specs.Cut.{cut_once}
 use Rattle.dp_conf.specs.Levels.{arguments_of}
 use Rattle.dp_conf.specs.Words.{same_text}
 use Rattle.dp_vars.specs.Stores.{Frame, innermost, popped_setting, set, set_local, with_frame, without_frame}
-use Rattle.dp_app.specs.Keeping.{cell_kept, going_lawful, store_kept}
-use Rattle.dp_app.specs.Laws.{ParksNowhere, IsLawfulRow, KeepsUntouched, MayGo, MayPark, waiting_after, waiting_parked}
+use Rattle.dp_app.specs.Keeping.{cell_kept, going_lawful, not_parked, store_kept}
+use Rattle.dp_app.specs.Laws.{ParksNowhere, IsLawfulRow, KeepsUntouched, MayGo, MayPark, waiting_after, waiting_lists, waiting_parked}
 use Rattle.dp_app.specs.declared.cell.Cell.{Cell}
 use Rattle.dp_app.specs.declared.phase.Phase.{Phase}
-use Rattle.dp_app.specs.declared.phase.Phase.TheVariants.{Digits, Pause}
+use Rattle.dp_app.specs.declared.phase.Phase.TheVariants.{Dialling, Digits, Pause}
 use Rattle.dp_app.specs.declared.place.Place.{Place}
 use Rattle.dp_app.specs.declared.moves.Move.{Move}
-use Rattle.dp_app.specs.declared.moves.Move.TheVariants.{Next, Hang}
+use Rattle.dp_app.specs.declared.moves.Move.TheVariants.{Next, Park, Hang}
 use Rattle.dp_flow.specs.Conditions.{chosen}
+use Rattle.dp_app.specs.Parts.{has_option, is_given, part}
+use Rattle.dp_flow.specs.Dialling as dialling
 use Rattle.dp_flow.specs.Jumps as jumps
 use Rattle.dp_flow.specs.Plain as plain
 use Rattle.dp_flow.specs.Jumps.{Called}
 use Rattle.dp_flow.specs.Settings as settings
 use Rattle.dp_app.specs.StoreKept.{dropped_kept, pushed_kept, set_kept, set_local_kept, with_caller_kept, with_globals_kept, with_store_kept}
-use Rattle.dp_flow.specs.Touches.{nothing, settable, the_frames, variables_and_frames}
+use Rattle.dp_flow.specs.Touches.{nothing, settable, the_frames, the_variables, variables_and_frames}
 use Rattle.dp_flow.specs.Waiting as waits
 
 -- a row that leaves the cell as it is and parks the channel nowhere
@@ -220,3 +222,55 @@ wait_exten_lawful = parked_lawful (Digits [] false) (λ count. refl) (λ lists n
 -- the row of `Background`
 pub background_lawful : IsLawfulRow nothing waits.background_row
 background_lawful = parked_lawful (Digits [] true) (λ count. refl) (λ lists number. refl)
+
+-- a call to devices, where there are any
+module _ (cell : Cell) (goes_on has_timer : Bool) where
+  dialled_kept : (given : Bool) → KeepsUntouched the_variables cell (dialling.dialled given cell goes_on has_timer).cell
+  dialled_kept false =
+      with_store_kept the_variables cell (set cell.store (codes "DIALSTATUS") (codes "CHANUNAVAIL"))
+      (set_kept the_variables cell.store cell.store (codes "DIALSTATUS") (codes "CHANUNAVAIL") refl (store_kept the_variables cell.store))
+  dialled_kept true = cell_kept the_variables cell
+
+  dialled_parks : (count : ℕ) (given : Bool) → MayGo count (dialling.dialled given cell goes_on has_timer).next
+  dialled_parks count false = tt
+  dialled_parks count true = parked_parks (Dialling goes_on has_timer) (λ count. tt) (λ lists number. refl) count cell.is_closing
+
+  dialled_waits : (given : Bool) → waiting_lists (dialling.dialled given cell goes_on has_timer).cell.queues
+      ≡ waiting_after (waiting_lists cell.queues) cell.number (dialling.dialled given cell goes_on has_timer).next
+  dialled_waits false = refl
+  dialled_waits true =
+      parked_waits (Dialling goes_on has_timer) (λ count. tt) (λ lists number. refl) (waiting_lists cell.queues) cell.number cell.is_closing
+
+  dialled_closes : (given : Bool) → cell.is_closing ≡ true → ParksNowhere (dialling.dialled given cell goes_on has_timer).next
+  dialled_closes false closing = tt
+  dialled_closes true closing = parked_closes (Dialling goes_on has_timer) (λ count. tt) (λ lists number. refl) cell.is_closing closing
+
+  -- where it would wait without the mark, the call ends with nothing changed
+  dialled_hangs : (given : Bool) (phase : Phase) → cell.is_closing ≡ true
+      → (dialling.dialled given (record cell { is_closing = false }) goes_on has_timer).next ≡ Park phase
+      → dialling.dialled given cell goes_on has_timer ≡ record { cell = cell; next = Hang }
+  dialled_hangs false phase closing parks = not_parked Next phase tt parks
+  dialled_hangs true phase closing parks = ap (λ b. jumps.stays cell (waits.parked (Dialling goes_on has_timer) b)) closing
+
+-- what `Dial` reads of its arguments
+abbrev has_devices : List ℕ → Bool
+has_devices arguments = is_given (part 0 (arguments_of arguments))
+
+abbrev goes_on_of : List ℕ → Bool
+goes_on_of arguments = has_option 103 (part 2 (arguments_of arguments))
+
+abbrev has_timer_of : List ℕ → Bool
+has_timer_of arguments = is_given (part 1 (arguments_of arguments))
+
+-- the row of `Dial`
+pub dial_lawful : IsLawfulRow the_variables dialling.dial_row
+unfolding dialling.dial_row
+dial_lawful = record {
+  keeps = λ arguments cell. dialled_kept cell (goes_on_of arguments) (has_timer_of arguments) (has_devices arguments);
+  parks = λ arguments cell.
+      dialled_parks cell (goes_on_of arguments) (has_timer_of arguments) (length cell.queues.queues) (has_devices arguments);
+  waits = λ arguments cell. dialled_waits cell (goes_on_of arguments) (has_timer_of arguments) (has_devices arguments);
+  closes = λ arguments cell closing. dialled_closes cell (goes_on_of arguments) (has_timer_of arguments) (has_devices arguments) closing;
+  hangs = λ arguments cell phase closing parks.
+      dialled_hangs cell (goes_on_of arguments) (has_timer_of arguments) (has_devices arguments) phase closing parks;
+}

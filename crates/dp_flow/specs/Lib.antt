@@ -1,5 +1,6 @@
 pub mod Calls
 pub mod Conditions
+pub mod Dialling
 pub mod Jumps
 pub mod Lawful
 pub mod Plain

@@ -10,6 +10,10 @@ nothing = record { variables = false; frames = false; globals = false; caller = 
 abbrev pub the_frames : Touch
 the_frames = record nothing { frames = true }
 
+-- the variables
+abbrev pub the_variables : Touch
+the_variables = record nothing { variables = true }
+
 -- the variables, and the frames
 abbrev pub variables_and_frames : Touch
 variables_and_frames = record nothing { variables = true; frames = true }

@@ -3,6 +3,7 @@
 #![tactic(auto)]
 
 mod choice;
+mod dial;
 mod gosub;
 mod jump;
 mod noop;
@@ -10,6 +11,7 @@ mod plain;
 mod setting;
 mod waiting;
 
+pub use dial::Dial;
 pub use gosub::{Gosub, GosubIf, Return, StackPop};
 pub use jump::{Goto, GotoIf};
 pub use noop::NoOp;

@@ -9,7 +9,7 @@ use dp_conf::{NoMemory, Text};
 use std::alloc::Global;
 
 /// The channel waits in this phase. One that runs the extension `h` is hung up and cannot wait, so its call ends.
-fn parked(phase: Phase, is_closing: bool) -> Move
+pub(crate) fn parked(phase: Phase, is_closing: bool) -> Move
     ensures { result ≡ spec.parked phase is_closing }
 {
     if is_closing {

@@ -4,7 +4,7 @@ use Rattle.std.proofs.lemmas.List.{set-get_or}
 use Rattle.std.proofs.lemmas.Option.{same_Some, slice_get_read}
 use Rattle.std.specs.declared.alloc.AllocError.{AllocError as NoMemory}
 use Rattle.dp_app.specs.Rows.{Rows}
-use Rattle.dp_machine.specs.Events.{Own, asked_event, own_event, own_row, owned, is_refused}
+use Rattle.dp_machine.specs.Events.{Own, asked_event, own_event, own_row, owned, is_refused_at_once}
 use Rattle.dp_machine.specs.Follows.{Follows, Makes}
 use Rattle.dp_machine.specs.GoodWorld.{IsGoodWorld, IsSoundAsked, IsSoundBehind, MayAct}
 use Rattle.dp_machine.specs.World.{World, channel_at, world_in, world_of}
@@ -67,7 +67,7 @@ module _ (before : Exchange) (channels : List Channel) (number index : ℕ) (c :
     makes-at (Err e) follows = record {
       ok = tt;
       err = λ i. world_of (follows.plan i) (kept-at d follows.channel i) (follows.shared i);
-      refused = ap (λ o. is_refused o.1) asked_here ∙ follows.refused;
+      refused = ap (λ o. is_refused_at_once o.1) asked_here ∙ follows.refused;
     }
 
     -- behind a step the channel is sound

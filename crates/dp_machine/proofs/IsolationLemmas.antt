@@ -2,16 +2,18 @@
 use Rattle.std.proofs.Common.{◌≡◌, ℕ, zero, suc, ◌+◌, ◌-◌, ◌==◌, nat_lt, Bool, true, false, not, List, [], ◌∷◌, ◌++◌, Option, Some, None, length, map, slice_get, if◌then◌else◌, refl, sym, ap, subst, ◌∙◌, arith, filter, zip, get_or, drop}
 use Rattle.std.specs.Prelude.{◌≢◌}
 use Rattle.std.proofs.lemmas.List.{length-append}
+use Rattle.dp_plan.specs.Loaded.{loaded}
 use Rattle.dp_plan.specs.Plan.{PlanOf}
 use Rattle.dp_app.specs.Rows.{Rows}
 use Rattle.dp_machine.specs.Channels.{changed}
-use Rattle.dp_machine.specs.Events.{Own, Served, agent_done, agent_event, answered, declined, digit_row, entered, event_row, hang_up_row, offered, opened, own_event, poll_row, served_channels, started, step_row, timeout_row}
+use Rattle.dp_machine.specs.Events.{Own, Served, agent_done, agent_event, answered, declined, dial_result_row, digit_row, entered, event_row, hang_up_row, offered, opened, own_event, poll_row, served_channels, started, step_row, timeout_row}
 use Rattle.dp_machine.specs.Isolation.{AreSameBut, IsUnseen, IsPrivate, is_of, replies_without, without}
+use Rattle.dp_machine.specs.Reloading.{plan_in, reloaded_by, shared_with}
 use Rattle.dp_machine.specs.Replay.{replies_to, world_after, world_behind}
 use Rattle.dp_machine.specs.World.{World, channel_at, most_channels, with_channel, world_of}
 use Rattle.dp_machine.specs.declared.channel.Channel.{Channel}
 use Rattle.dp_machine.specs.declared.event.Event.{Event}
-use Rattle.dp_machine.specs.declared.event.Event.TheVariants.{Start, Step, Digit, Timeout, Poll, Hangup, Offer, Answer, Decline, AgentDone}
+use Rattle.dp_machine.specs.declared.event.Event.TheVariants.{Start, Step, Digit, Timeout, Poll, Hangup, DialResult, Offer, Answer, Decline, AgentDone, Reload}
 use Rattle.dp_machine.specs.declared.refusal.Refusal.TheVariants.{NumbersSpent}
 use Rattle.dp_machine.specs.declared.reply.Reply.{Reply}
 use Rattle.dp_machine.specs.declared.reply.Reply.TheVariants.{Refused, Started}
@@ -156,6 +158,11 @@ module _ (number : ℕ) (plan : PlanOf) (shared : Shared) (xs ys : List Channel)
   alike-agent : (s : Served) → Alike number (agent_event v s) (agent_event w s)
   alike-agent s = record { reply = refl; world = same_worlds number plan s.shared _ _ (same-served s) }
 
+  -- another dialplan
+  alike-reloaded : (plan : Option PlanOf) → Alike number (reloaded_by v plan) (reloaded_by w plan)
+  alike-reloaded None = record { reply = refl; world = same_worlds number plan shared xs ys same }
+  alike-reloaded (Some p) = record { reply = refl; world = same_worlds number p (shared_with shared p.globals) xs ys same }
+
   -- each event that is not of the channel
   alike-row : (rows : Rows) (event : Event) → is_of number event ≡ false → Alike number (event_row rows v event) (event_row rows w event)
   alike-row rows (Start context exten caller) other = alike-started context exten caller
@@ -164,10 +171,12 @@ module _ (number : ℕ) (plan : PlanOf) (shared : Shared) (xs ys : List Channel)
   alike-row rows (Timeout channel) other = alike-own channel timeout_row other
   alike-row rows (Poll channel) other = alike-own channel poll_row other
   alike-row rows (Hangup channel) other = alike-own channel hang_up_row other
+  alike-row rows (DialResult channel status) other = alike-own channel (dial_result_row status) other
   alike-row rows (Offer queue) other = alike-agent (offered shared queue)
   alike-row rows (Answer agent) other = alike-agent (answered shared agent)
   alike-row rows (Decline agent) other = alike-agent (declined shared agent)
   alike-row rows (AgentDone agent) other = alike-agent (agent_done shared agent)
+  alike-row rows (Reload text) other = alike-reloaded (plan_in (loaded text))
 
 -- an event that is not of the channel has the same reply in both worlds, and leaves them so
 alike-event : (rows : Rows) (number : ℕ) (v w : World) (event : Event) → is_of number event ≡ false → AreSameBut number v w
@@ -198,10 +207,12 @@ others-alone rows number w (Digit channel digit) is = own-alone w number channel
 others-alone rows number w (Timeout channel) is = own-alone w number channel timeout_row is
 others-alone rows number w (Poll channel) is = own-alone w number channel poll_row is
 others-alone rows number w (Hangup channel) is = own-alone w number channel hang_up_row is
+others-alone rows number w (DialResult channel status) is = own-alone w number channel (dial_result_row status) is
 others-alone rows number w (Offer queue) is = none-of is
 others-alone rows number w (Answer agent) is = none-of is
 others-alone rows number w (Decline agent) is = none-of is
 others-alone rows number w (AgentDone agent) is = none-of is
+others-alone rows number w (Reload text) is = none-of is
 
 -- the list without the events of an unseen channel: the others have the same replies, and the last world is the same but for the channel
 pub record IsIsolated (rows : Rows) (number : ℕ) (v w : World) (events : List Event) : Type 0 where

@@ -1,4 +1,5 @@
 pub mod AskLemmas
+pub mod DialRows
 pub mod IsolationLemmas
 pub mod IsolationRows
 pub mod LookupLemmas

@@ -2,6 +2,7 @@
 use Rattle.std.proofs.Common.{◌≡◌, ℕ, zero, suc, ◌-◌, ◌+◌, ◌++◌, ◌==◌, nat_lt, length, Bool, true, false, ◌||◌, List, [], ◌∷◌, Option, Some, None, Result, Ok, Err, IfOk, slice_get, slice_set, if◌then◌else◌, refl, sym, ap, ◌∙◌}
 use Rattle.std.specs.declared.alloc.AllocError.{AllocError as NoMemory}
 use Rattle.std.proofs.lemmas.Option.{none-some, same_Some}
+use Rattle.dp_plan.specs.Loaded.{loaded}
 use Rattle.dp_plan.specs.Plan.{PlanOf}
 use Rattle.dp_queue.specs.Agents.{agent_number, state_at}
 use Rattle.dp_queue.specs.Calls.{answer_row_at, decline_row_at, done_row_at}
@@ -15,18 +16,20 @@ use Rattle.dp_queue.specs.declared.agent.AgentState.TheVariants.{Idle, Ringing a
 use Rattle.dp_queue.specs.declared.fault.OfferFault.{OfferFault}
 use Rattle.dp_app.specs.Rows.{Rows}
 use Rattle.dp_app.specs.declared.phase.Phase.{Phase}
-use Rattle.dp_app.specs.declared.phase.Phase.TheVariants.{Ready, Digits, Pause, Queued, Talking, Ended}
+use Rattle.dp_app.specs.declared.phase.Phase.TheVariants.{Ready, Digits, Pause, Queued, Talking, Dialling, Ended}
 use Rattle.dp_machine.specs.Channels.{invalid, is_invalid, hung_up, ready_at}
 use Rattle.dp_machine.specs.Events as spec
 use Rattle.dp_machine.specs.Events.{Own, Served, is_refused}
 use Rattle.dp_machine.specs.Found.{Located, entry_found, is_found}
+use Rattle.dp_machine.specs.Reloading.{plan_in, reloaded_by}
 use Rattle.dp_machine.specs.Targets.{place_of}
 use Rattle.dp_machine.specs.World.{World, channel_at, most_channels, with_channel}
 use Rattle.dp_machine.specs.declared.asked.Asked.{Asked}
-use Rattle.dp_machine.specs.declared.asked.Asked.TheVariants.{Step as asked_step, Digit as asked_digit, Timeout as asked_timeout, Poll as asked_poll, Hangup as asked_hangup}
+use Rattle.dp_machine.specs.declared.asked.Asked.TheVariants.{Step as asked_step, Digit as asked_digit, Timeout as asked_timeout, Poll as asked_poll, Hangup as asked_hangup, DialResult as asked_result}
 use Rattle.dp_machine.specs.declared.channel.Channel.{Channel}
+use Rattle.dp_machine.specs.declared.dial_status.DialStatus.{DialStatus}
 use Rattle.dp_machine.specs.declared.event.Event.{Event}
-use Rattle.dp_machine.specs.declared.event.Event.TheVariants.{Start, Step, Digit, Timeout, Poll, Hangup, Offer, Answer, Decline, AgentDone}
+use Rattle.dp_machine.specs.declared.event.Event.TheVariants.{Start, Step, Digit, Timeout, Poll, Hangup, DialResult, Offer, Answer, Decline, AgentDone, Reload}
 use Rattle.dp_machine.specs.declared.refusal.Refusal.TheVariants.{BadDigit, NotRinging, NumbersSpent}
 use Rattle.dp_machine.specs.declared.reply.Reply.{Reply}
 use Rattle.dp_machine.specs.declared.reply.Reply.TheVariants.{Done, Invalid, NoEntry, Refused, Started}
@@ -59,6 +62,7 @@ module _ (plan : PlanOf) (shared : Shared) (number : ℕ) (c : Channel) where
   step_kept rows Pause = λ h. (refl, refl)
   step_kept rows (Queued queue goes_on has_timer) = λ h. (refl, refl)
   step_kept rows (Talking queue agent goes_on) = λ h. (refl, refl)
+  step_kept rows (Dialling goes_on has_timer) = λ h. (refl, refl)
   step_kept rows Ended = λ h. (refl, refl)
 
   way_out_by : (digit : ℕ) (context : List ℕ) (b : Bool) → OwnKept shared c (if◌then◌else◌ {A = Own} b
@@ -73,6 +77,7 @@ module _ (plan : PlanOf) (shared : Shared) (number : ℕ) (c : Channel) where
   dial_kept digit (Queued queue goes_on has_timer) =
       way_out_by digit (spec.way_out_of shared.queues queue) (is_found plan (spec.way_out_of shared.queues queue) (digit ∷ []) 1)
   dial_kept digit (Talking queue agent goes_on) = λ h. (refl, refl)
+  dial_kept digit (Dialling goes_on has_timer) = λ h. not_refused h
   dial_kept digit Ended = λ h. (refl, refl)
 
   digit_by : (digit : ℕ) (b : Bool) → OwnKept shared c
@@ -88,12 +93,17 @@ module _ (plan : PlanOf) (shared : Shared) (number : ℕ) (c : Channel) where
   time_kept false = λ h. (refl, refl)
   time_kept true = λ h. not_refused h
 
+  dial_time_kept : (has_timer : Bool) → OwnKept shared c (spec.dial_time has_timer shared c)
+  dial_time_kept false = λ h. (refl, refl)
+  dial_time_kept true = λ h. not_refused h
+
   timeout_kept : (p : Phase) → OwnKept shared c (spec.timeout_in p plan shared number c)
   timeout_kept Ready = λ h. (refl, refl)
   timeout_kept (Digits digits is_background) = λ h. not_refused h
   timeout_kept Pause = λ h. not_refused h
   timeout_kept (Queued queue goes_on has_timer) = time_kept has_timer
   timeout_kept (Talking queue agent goes_on) = λ h. (refl, refl)
+  timeout_kept (Dialling goes_on has_timer) = dial_time_kept has_timer
   timeout_kept Ended = λ h. (refl, refl)
 
   polled_kept : (b : Bool) → OwnKept shared c (spec.poll_queue b shared number c)
@@ -106,6 +116,7 @@ module _ (plan : PlanOf) (shared : Shared) (number : ℕ) (c : Channel) where
   poll_kept Pause = λ h. (refl, refl)
   poll_kept (Queued queue goes_on has_timer) = polled_kept (should_leave shared.queues queue)
   poll_kept (Talking queue agent goes_on) = λ h. (refl, refl)
+  poll_kept (Dialling goes_on has_timer) = λ h. (refl, refl)
   poll_kept Ended = λ h. (refl, refl)
 
   hang_up_kept : (p : Phase) → OwnKept shared c (spec.hang_up_in p plan shared number c)
@@ -114,16 +125,27 @@ module _ (plan : PlanOf) (shared : Shared) (number : ℕ) (c : Channel) where
   hang_up_kept Pause = λ h. not_refused h
   hang_up_kept (Queued queue goes_on has_timer) = λ h. not_refused h
   hang_up_kept (Talking queue agent goes_on) = λ h. not_refused h
+  hang_up_kept (Dialling goes_on has_timer) = λ h. not_refused h
   hang_up_kept Ended = λ h. (refl, refl)
+
+  result_kept : (status : DialStatus) (p : Phase) → OwnKept shared c (spec.dial_result_in p status plan shared number c)
+  result_kept status Ready = λ h. (refl, refl)
+  result_kept status (Digits digits is_background) = λ h. (refl, refl)
+  result_kept status Pause = λ h. (refl, refl)
+  result_kept status (Queued queue goes_on has_timer) = λ h. (refl, refl)
+  result_kept status (Talking queue agent goes_on) = λ h. (refl, refl)
+  result_kept status (Dialling goes_on has_timer) = λ h. not_refused h
+  result_kept status Ended = λ h. (refl, refl)
 
   -- the row of each of a channel's events
   own_kept : (rows : Rows) (asked : Asked) → OwnKept shared c (spec.own_row rows asked plan shared number c)
-  unfolding spec.step_row spec.timeout_row spec.poll_row spec.hang_up_row
+  unfolding spec.step_row spec.timeout_row spec.poll_row spec.hang_up_row spec.dial_result_row
   own_kept rows asked_step = step_kept rows c.phase
   own_kept rows (asked_digit digit) = digit_kept digit
   own_kept rows asked_timeout = timeout_kept c.phase
   own_kept rows asked_poll = poll_kept c.phase
   own_kept rows asked_hangup = hang_up_kept c.phase
+  own_kept rows (asked_result status) = result_kept status c.phase
 
 -- what stands at a place, written there again
 set-get : {X : Type 0} (xs : List X) (k : ℕ) (x : X) → slice_get xs k ≡ Some x → slice_set xs k x ≡ xs
@@ -209,6 +231,11 @@ start_kept : (w : World) (context exten caller : List ℕ) → IsKept w (spec.en
 unfolding spec.started
 start_kept w context exten caller = start_by w context exten caller (nat_lt (length w.channels) most_channels)
 
+-- a dialplan with a fault
+reload_by : (w : World) (plan : Option PlanOf) → IsKept w (reloaded_by w plan)
+reload_by w None = λ h. refl
+reload_by w (Some plan) = λ h. not_refused h
+
 -- a refused event leaves the world as it was
 pub refused-kept : (rows : Rows) (w : World) (event : Event) → IsKept w (spec.event_row rows w event)
 refused-kept rows w (Start context exten caller) = start_kept w context exten caller
@@ -217,10 +244,12 @@ refused-kept rows w (Digit number digit) = asked_kept rows w number (asked_digit
 refused-kept rows w (Timeout number) = asked_kept rows w number asked_timeout
 refused-kept rows w (Poll number) = asked_kept rows w number asked_poll
 refused-kept rows w (Hangup number) = asked_kept rows w number asked_hangup
+refused-kept rows w (DialResult number status) = asked_kept rows w number (asked_result status)
 refused-kept rows w (Offer queue) = offer_kept w queue
 refused-kept rows w (Answer agent) = answer_kept w agent
 refused-kept rows w (Decline agent) = decline_kept w agent
 refused-kept rows w (AgentDone agent) = done_kept w agent
+refused-kept rows w (Reload text) = reload_by w (plan_in (loaded text))
 
 -- so what an event answers says whether it changed anything
 pub refused_behind : (rows : Rows) (w behind : World) (event : Event) (result : Result Reply NoMemory)

@@ -10,11 +10,11 @@ use Rattle.dp_app.specs.declared.cell.Cell.{Cell}
 use Rattle.dp_app.specs.declared.moves.Move.{Move}
 use Rattle.dp_app.specs.declared.moves.Move.TheVariants.{Next, Jump, Park, Hang}
 use Rattle.dp_app.specs.declared.phase.Phase.{Phase}
-use Rattle.dp_app.specs.declared.phase.Phase.TheVariants.{Ready, Digits, Pause, Queued, Talking, Ended}
+use Rattle.dp_app.specs.declared.phase.Phase.TheVariants.{Ready, Digits, Pause, Queued, Talking, Dialling, Ended}
 use Rattle.dp_app.specs.declared.place.Place.{Place}
 use Rattle.dp_app.specs.declared.touch.Touch.{Touch}
 use Rattle.dp_machine.specs.Channels.{hung_up, invalid, is_invalid, landed, moved, ready_in, runs_hang_up, went, without_frames}
-use Rattle.dp_machine.specs.Events.{Applied, Own, applied, cell_of, is_refused, ran, step_at, unfound}
+use Rattle.dp_machine.specs.Events.{Applied, Own, applied, cell_of, is_refused_at_once, ran, step_at, unfound}
 use Rattle.dp_machine.specs.Follows.{Follows, Runs}
 use Rattle.dp_machine.specs.Found.{Located, entry_found}
 use Rattle.dp_machine.specs.GoodWorld.{IsSoundIn, MayAct, queue_in, talk_in}
@@ -98,6 +98,7 @@ parked_sound count (Digits text is_background) c may within closing = (within, c
 parked_sound count Pause c may within closing = (within, closing)
 parked_sound count (Queued queue goes_on has_timer) c may within closing = (within, closing)
 parked_sound count (Talking queue agent goes_on) c may within closing = absurd may
+parked_sound count (Dialling goes_on has_timer) c may within closing = (within, closing)
 parked_sound count Ended c may within closing = absurd may
 
 -- a closing channel is never parked
@@ -131,12 +132,12 @@ went_sound touches rows lawful plan name arguments shared number c within behind
     (subst (IsSoundBehind plan) ran (applied_sound plan (touches name) (rows name) (lawful name) arguments shared number c within))
 
 -- a step where no entry is found is not refused
-unfound_taken_by : (invalid : Bool) (went other : Own) → is_refused went.reply ≡ false → is_refused other.reply ≡ false
-    → is_refused (if invalid then went else other).reply ≡ false
+unfound_taken_by : (invalid : Bool) (went other : Own) → is_refused_at_once went.reply ≡ false → is_refused_at_once other.reply ≡ false
+    → is_refused_at_once (if invalid then went else other).reply ≡ false
 unfound_taken_by true went other a b = a
 unfound_taken_by false went other a b = b
 
-pub unfound_taken : (plan : PlanOf) (shared : Shared) (c : Channel) → is_refused (unfound plan shared c).reply ≡ false
+pub unfound_taken : (plan : PlanOf) (shared : Shared) (c : Channel) → is_refused_at_once (unfound plan shared c).reply ≡ false
 unfolding unfound
 unfound_taken plan shared c =
     unfound_taken_by (is_invalid plan c.place) (record { channel = invalid c; shared = shared; reply = Invalid })
@@ -144,7 +145,7 @@ unfound_taken plan shared c =
 
 -- nor is one that finds its entry
 pub found_taken : (rows : Rows) (plan : PlanOf) (shared : Shared) (number : ℕ) (c : Channel) (found : Option Located)
-    → is_refused (step_at rows plan shared number c found).reply ≡ false
+    → is_refused_at_once (step_at rows plan shared number c found).reply ≡ false
 found_taken rows plan shared number c None = unfound_taken plan shared c
 found_taken rows plan shared number c (Some found) = refl
 

@@ -1,5 +1,5 @@
 -- Templates of entries, one for each.
-use Rattle.std.proofs.Common.{◌≡◌, ℕ, arith, length, List, [], ◌∷◌, ◌++◌, Option, Some, None, MatchOption, IsSome, IfSome, sym, subst, true≢false}
+use Rattle.std.proofs.Common.{◌≡◌, arith, length, List, [], ◌∷◌, ◌++◌, Option, Some, None, MatchOption, IsSome, IfSome, sym, subst, true≢false}
 use Rattle.std.proofs.lemmas.List.{append_assoc, append-nil}
 use Rattle.std.proofs.lemmas.Slice.Zip.{AllZip-left}
 use Rattle.std.specs.List.{AllZip, slice_get}

@@ -10,7 +10,7 @@ use Rattle.dp_app.specs.declared.cell.Cell.{Cell}
 use Rattle.dp_app.specs.declared.moves.Move.{Move}
 use Rattle.dp_app.specs.declared.moves.Move.TheVariants.{Next, Jump, Park, Hang}
 use Rattle.dp_app.specs.declared.phase.Phase.{Phase}
-use Rattle.dp_app.specs.declared.phase.Phase.TheVariants.{Ready, Digits, Pause, Queued, Talking, Ended as phase_ended}
+use Rattle.dp_app.specs.declared.phase.Phase.TheVariants.{Ready, Digits, Pause, Queued, Talking, Dialling, Ended as phase_ended}
 use Rattle.dp_app.specs.declared.place.Place.{Place}
 use Rattle.dp_app.specs.declared.touch.Touch.{Touch}
 use Rattle.dp_machine.specs.Channels.{hung_up, invalid, is_invalid, landed, moved}
@@ -43,6 +43,7 @@ parked-sound c count (Digits digits is_background) may within stays = (within, s
 parked-sound c count Pause may within stays = (within, stays)
 parked-sound c count (Queued queue goes_on has_timer) may within stays = (within, stays)
 parked-sound c count (Talking queue agent goes_on) may within stays = (within, stays)
+parked-sound c count (Dialling goes_on has_timer) may within stays = (within, stays)
 parked-sound c count phase_ended may within stays = absurd may
 
 pub moved-sound : (plan : PlanOf) (c : Channel) (count : ℕ) (going : Move) → MayGo count going → (c.is_closing ≡ true → ParksNowhere going)
@@ -114,6 +115,7 @@ module _ (plan : PlanOf) (shared : Shared) (number : ℕ) (c : Channel) (ties : 
     in-ties Pause is = ties
     in-ties (Queued queue goes_on has_timer) is = ties
     in-ties (Talking queue agent goes_on) is = ties
+    in-ties (Dialling goes_on has_timer) is = ties
     in-ties phase_ended is = ties
 
     in-sound : (p : Phase) → c.phase ≡ p → IsSoundIn c.phase c
@@ -124,6 +126,7 @@ module _ (plan : PlanOf) (shared : Shared) (number : ℕ) (c : Channel) (ties : 
     in-sound Pause is sound within = sound
     in-sound (Queued queue goes_on has_timer) is sound within = sound
     in-sound (Talking queue agent goes_on) is sound within = sound
+    in-sound (Dialling goes_on has_timer) is sound within = sound
     in-sound phase_ended is sound within = sound
 
     -- the event `Step`: the channel is tied to the queues behind it

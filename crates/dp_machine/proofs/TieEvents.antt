@@ -7,17 +7,20 @@ use Rattle.dp_queue.specs.Good.{IsGood}
 use Rattle.dp_queue.specs.Queues.{QueuesOf}
 use Rattle.dp_queue.specs.Rest.{IsAtRest}
 use Rattle.dp_queue.proofs.RestLemmas.{state_at-at_rest, waits_in-at_rest}
+use Rattle.dp_plan.specs.Loaded.{loaded}
 use Rattle.dp_plan.specs.Plan.{PlanOf}
 use Rattle.dp_app.specs.Laws.{IsLawful}
 use Rattle.dp_app.specs.Rows.{Rows}
 use Rattle.dp_app.specs.declared.touch.Touch.{Touch}
-use Rattle.dp_machine.specs.Events.{Own, digit_row, entered, event_row, hang_up_row, opened, own_event, owned, poll_row, started, step_row, timeout_row}
+use Rattle.dp_machine.specs.Events.{Own, dial_result_row, digit_row, entered, event_row, hang_up_row, opened, own_event, owned, poll_row, started, step_row, timeout_row}
 use Rattle.dp_machine.specs.Follows.{Makes}
 use Rattle.dp_machine.specs.GoodWorld.{AreTied, IsGoodWorld, IsSoundAt, IsSoundOwn, StepsSoundly, queue_of, talk_of}
+use Rattle.dp_machine.specs.Reloading.{plan_in, reloaded_by}
 use Rattle.dp_machine.specs.World.{World, channel_at, most_channels, opening, world_in}
 use Rattle.dp_machine.specs.declared.channel.Channel.{Channel}
+use Rattle.dp_machine.specs.declared.dial_status.DialStatus.{DialStatus}
 use Rattle.dp_machine.specs.declared.event.Event.{Event}
-use Rattle.dp_machine.specs.declared.event.Event.TheVariants.{Start, Step, Digit, Timeout, Poll, Hangup, Offer, Answer, Decline, AgentDone}
+use Rattle.dp_machine.specs.declared.event.Event.TheVariants.{Start, Step, Digit, Timeout, Poll, Hangup, DialResult, Offer, Answer, Decline, AgentDone, Reload}
 use Rattle.dp_machine.specs.declared.exchange.Exchange.{Exchange}
 use Rattle.dp_machine.specs.declared.refusal.Refusal.TheVariants.{NumbersSpent}
 use Rattle.dp_machine.specs.declared.reply.Reply.{Reply}
@@ -26,7 +29,7 @@ use Rattle.dp_machine.specs.declared.shared.Shared.{Shared}
 use Rattle.dp_machine.proofs.TieApps.{IsTied, step-ties}
 use Rattle.dp_machine.proofs.TieLemmas.{IsTiedWorld, Ties}
 use Rattle.dp_machine.proofs.TieQueues.{talking_not_idle, ties-self}
-use Rattle.dp_machine.proofs.TieRows.{Acts, digit-acts, hang_up_row-acts, poll_row-acts, timeout_row-acts}
+use Rattle.dp_machine.proofs.TieRows.{Acts, dial_result_row-acts, digit-acts, hang_up_row-acts, poll_row-acts, timeout_row-acts}
 use Rattle.dp_machine.proofs.TieServed.{good-agent_done, good-answered, good-changed, good-declined, good-offered}
 use borrow.Author.Tests.{ltb-true}
 
@@ -134,6 +137,11 @@ module _ (w : World) (number : ℕ) (c : Channel) (good : IsTiedWorld w) (linked
   good-hang_up = acted (hang_up_row w.plan w.shared number c)
       (hang_up_row-acts w.plan w.shared number c linked ties (subst IsSoundAt here (good.tied.sound number)))
 
+  -- what came of a call to devices
+  pub good-dial_result : (status : DialStatus) → IsTiedWorld (owned w number (dial_result_row status w.plan w.shared number c)).0
+  good-dial_result status = acted (dial_result_row status w.plan w.shared number c)
+      (dial_result_row-acts w.plan w.shared number c linked ties (subst IsSoundAt here (good.tied.sound number)) status)
+
   -- a step over a lawful table, behind which the channel is sound
   pub good-step : (touches : List ℕ → Touch) (rows : Rows) → IsLawful touches rows → IsSoundOwn (step_row rows w.plan w.shared number c)
       → IsTiedWorld (owned w number (step_row rows w.plan w.shared number c)).0
@@ -150,6 +158,11 @@ good-own_event w number row good acts = by (channel_at w.channels number) refl
     by None here = good
     by (Some c) here = acts c here
 
+-- another dialplan, where its text has no fault
+good-reloaded : (w : World) (plan : Option PlanOf) → IsTiedWorld w → IsTiedWorld (reloaded_by w plan).0
+good-reloaded w None good = good
+good-reloaded w (Some plan) good = record { within = good.within; tied = good.tied }
+
 -- the world stays good behind each event, over a lawful table
 pub good-event : (touches : List ℕ → Touch) (rows : Rows) (w : World) (event : Event) → IsLawful touches rows → IsGood w.shared.queues → IsTiedWorld w
     → StepsSoundly rows w event → IsTiedWorld (event_row rows w event).0
@@ -164,10 +177,13 @@ good-event touches rows w (Poll number) lawful linked good steps = good-own_even
     (λ c here. good-poll w number c good linked here)
 good-event touches rows w (Hangup number) lawful linked good steps = good-own_event w number hang_up_row good
     (λ c here. good-hang_up w number c good linked here)
+good-event touches rows w (DialResult number status) lawful linked good steps = good-own_event w number (dial_result_row status) good
+    (λ c here. good-dial_result w number c good linked here status)
 good-event touches rows w (Offer queue) lawful linked good steps = good-offered w queue good
 good-event touches rows w (Answer agent) lawful linked good steps = good-answered w good linked agent
 good-event touches rows w (Decline agent) lawful linked good steps = good-declined w agent good
 good-event touches rows w (AgentDone agent) lawful linked good steps = good-agent_done w good linked agent
+good-event touches rows w (Reload text) lawful linked good steps = good-reloaded w (plan_in (loaded text)) good
 
 -- so channels and queues are tied behind what a call of the machine answers: the world of the event's row, or the world as it was
 tied-behind : (touches : List ℕ → Touch) (rows : Rows) (before after : World) (event : Event) (r : Result Reply NoMemory)

@@ -18,7 +18,7 @@ use Rattle.dp_queue.proofs.AgentLemmas.{state_at-same, state_at-other, state_at-
 use Rattle.dp_queue.proofs.GoodLemmas.{busy-within, by_test, ringing-waits, talking-right}
 use Rattle.dp_queue.proofs.WaitingLemmas.{lines-changed_at, waits_in-left, waits_in-same}
 use Rattle.dp_app.specs.declared.phase.Phase.{Phase}
-use Rattle.dp_app.specs.declared.phase.Phase.TheVariants.{Ready, Digits, Pause, Queued, Talking as PhaseTalking, Ended as PhaseEnded}
+use Rattle.dp_app.specs.declared.phase.Phase.TheVariants.{Ready, Digits, Pause, Queued, Talking as PhaseTalking, Dialling, Ended as PhaseEnded}
 use Rattle.dp_machine.specs.GoodWorld.{AreTied, queue_in, queue_of, talk_in, talk_of}
 use Rattle.dp_machine.specs.World.{channel_at}
 use Rattle.dp_machine.specs.declared.channel.Channel.{Channel}
@@ -268,4 +268,5 @@ ties-answered number a k q p r good ties rings nowhere is_with = record {
     silent Pause waits known = refl
     silent (Queued queue goes_on has_timer) waits known = refl
     silent (PhaseTalking queue agent goes_on) waits known = absurd (none-some k (sym waits ∙ known))
+    silent (Dialling goes_on has_timer) waits known = refl
     silent PhaseEnded waits known = refl

@@ -6,15 +6,17 @@ use Rattle.dp_queue.specs.Joining.{should_leave}
 use Rattle.dp_queue.specs.Queues.{QueuesOf}
 use Rattle.dp_plan.specs.Plan.{PlanOf}
 use Rattle.dp_app.specs.declared.phase.Phase.{Phase}
-use Rattle.dp_app.specs.declared.phase.Phase.TheVariants.{Ready, Digits, Pause, Queued, Talking, Ended as phase_ended}
+use Rattle.dp_app.specs.declared.phase.Phase.TheVariants.{Ready, Digits, Pause, Queued, Talking, Dialling, Ended as phase_ended}
 use Rattle.dp_app.specs.declared.place.Place.{Place}
-use Rattle.dp_machine.specs.Channels.{collected, going_on, hung_up, left_queue, ready_at, ready_in, timed_out, waited}
-use Rattle.dp_machine.specs.Events.{Own, dial_in, digit_row, hang_up_in, hang_up_row, is_digit, is_over, poll_in, poll_queue, poll_row, refuse, take_event, timeout_in, timeout_row, way_out_of, without_caller}
+use Rattle.dp_machine.specs.Channels.{cancelled, collected, dialled, ends_call, going_on, hung_up, left_queue, ready_at, ready_in, timed_out, unanswered, waited, with_dial_status}
+use Rattle.dp_machine.specs.Events.{Own, dial_in, dial_result_in, dial_result_row, digit_row, hang_up_in, hang_up_row, is_digit, is_over, poll_in, poll_queue, poll_row, refuse, take_event, timeout_in, timeout_row, way_out_of, without_caller}
+use Rattle.dp_machine.specs.Codes.{status_name}
 use Rattle.dp_machine.specs.Found.{could_go_on, is_found}
 use Rattle.dp_machine.specs.GoodWorld.{IsSoundIn, queue_in, talk_in}
 use Rattle.dp_machine.specs.Targets.{place_of}
 use Rattle.dp_machine.specs.declared.channel.Channel.{Channel}
-use Rattle.dp_machine.specs.declared.refusal.Refusal.TheVariants.{BadDigit, Ended, NoTimer, NotWaiting}
+use Rattle.dp_machine.specs.declared.dial_status.DialStatus.{DialStatus}
+use Rattle.dp_machine.specs.declared.refusal.Refusal.TheVariants.{BadDigit, Ended, NoTimer, NotDialling, NotWaiting}
 use Rattle.dp_machine.specs.declared.reply.Reply.{Reply}
 use Rattle.dp_machine.specs.declared.reply.Reply.TheVariants.{Done, Refused}
 use Rattle.dp_machine.specs.declared.shared.Shared.{Shared}
@@ -48,6 +50,14 @@ timed_out-quiet : (plan : PlanOf) (c : Channel) (digits : List ℕ) (is_backgrou
 timed_out-quiet plan c [] true = ((refl, refl), tt)
 timed_out-quiet plan c [] false = waited-quiet plan c
 timed_out-quiet plan c (b ∷ bs) is_background = ((refl, refl), tt)
+
+-- one whose call to devices came to something
+dialled-quiet : (plan : PlanOf) (c : Channel) (status : DialStatus) (goes_on : Bool) → IsQuiet (dialled plan c status goes_on)
+dialled-quiet plan c status goes_on = by (ends_call status goes_on)
+  where
+    by : (b : Bool) → IsQuiet (if b then hung_up plan (with_dial_status c (status_name status)) else going_on (with_dial_status c (status_name status)))
+    by true = hung_up-quiet plan (with_dial_status c (status_name status))
+    by false = ((refl, refl), tt)
 
 -- a channel of which this is known acts
 module _ (plan : PlanOf) (shared : Shared) (number : ℕ) (c : Channel) (good : IsGood shared.queues)
@@ -102,6 +112,7 @@ module _ (plan : PlanOf) (shared : Shared) (number : ℕ) (c : Channel) (good : 
       way_out-acts (is_found plan (way_out_of shared.queues queue) (digit ∷ []) 1) queue goes_on has_timer
       (place_of (way_out_of shared.queues queue) (digit ∷ []) 1) is
   dial-acts digit (Talking queue agent goes_on) is = still (Refused NotWaiting)
+  dial-acts digit (Dialling goes_on has_timer) is = still Done
   dial-acts digit phase_ended is = still (Refused Ended)
 
   -- the event `Digit`
@@ -123,6 +134,8 @@ module _ (plan : PlanOf) (shared : Shared) (number : ℕ) (c : Channel) (good : 
       leaves (left_queue c (codes "TIMEOUT")) queue (ap queue_in is) (ap talk_in is) ((refl, refl), tt)
   timeout-acts (Queued queue goes_on false) is = still (Refused NoTimer)
   timeout-acts (Talking queue agent goes_on) is = still (Refused NotWaiting)
+  timeout-acts (Dialling goes_on true) is = quiet (unanswered c) Done (rests_by (Dialling goes_on true) is (refl, refl)) ((refl, refl), tt)
+  timeout-acts (Dialling goes_on false) is = still (Refused NoTimer)
   timeout-acts phase_ended is = still (Refused Ended)
 
   -- the event `Timeout`
@@ -143,6 +156,7 @@ module _ (plan : PlanOf) (shared : Shared) (number : ℕ) (c : Channel) (good : 
   poll-acts Pause is = still (Refused NotWaiting)
   poll-acts (Queued queue goes_on has_timer) is = polled-acts (should_leave shared.queues queue) queue goes_on has_timer is
   poll-acts (Talking queue agent goes_on) is = still (Refused NotWaiting)
+  poll-acts (Dialling goes_on has_timer) is = still (Refused NotWaiting)
   poll-acts phase_ended is = still (Refused Ended)
 
   -- the event `Poll`
@@ -161,9 +175,27 @@ module _ (plan : PlanOf) (shared : Shared) (number : ℕ) (c : Channel) (good : 
     ties = ties-end_talk number agent queue shared.queues c.phase (hung_up plan c).phase good ties (ap talk_in is) (hung_up-rests plan c);
     sound = hung_up-sound plan c;
   }
+  hang_up-acts (Dialling goes_on has_timer) is =
+      quiet (cancelled plan c) Done (rests_by (Dialling goes_on has_timer) is (refl, refl)) (hung_up-quiet plan (with_dial_status c (codes "CANCEL")))
   hang_up-acts phase_ended is = still (Refused Ended)
 
   -- the event `Hangup`
   pub hang_up_row-acts : Acts number shared.queues (hang_up_row plan shared number c)
   unfolding hang_up_row
   hang_up_row-acts = hang_up-acts c.phase refl
+
+  -- what came of a call to devices
+  result-acts : (status : DialStatus) (p : Phase) → c.phase ≡ p → Acts number shared.queues (dial_result_in p status plan shared number c)
+  result-acts status Ready is = still (Refused NotDialling)
+  result-acts status (Digits digits is_background) is = still (Refused NotDialling)
+  result-acts status Pause is = still (Refused NotDialling)
+  result-acts status (Queued queue goes_on has_timer) is = still (Refused NotDialling)
+  result-acts status (Talking queue agent goes_on) is = still (Refused NotDialling)
+  result-acts status (Dialling goes_on has_timer) is =
+      quiet (dialled plan c status goes_on) Done (rests_by (Dialling goes_on has_timer) is (refl, refl)) (dialled-quiet plan c status goes_on)
+  result-acts status phase_ended is = still (Refused Ended)
+
+  -- the event `DialResult`
+  pub dial_result_row-acts : (status : DialStatus) → Acts number shared.queues (dial_result_row status plan shared number c)
+  unfolding dial_result_row
+  dial_result_row-acts status = result-acts status c.phase refl

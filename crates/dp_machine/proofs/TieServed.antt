@@ -11,7 +11,7 @@ use Rattle.dp_queue.proofs.GoodLemmas.{ringing-waits}
 use Rattle.dp_plan.specs.Plan.{PlanOf}
 use Rattle.dp_plan.specs.Priority.{most_priority}
 use Rattle.dp_app.specs.declared.phase.Phase.{Phase}
-use Rattle.dp_app.specs.declared.phase.Phase.TheVariants.{Ready, Digits, Pause, Queued, Talking as PhaseTalking, Ended}
+use Rattle.dp_app.specs.declared.phase.Phase.TheVariants.{Ready, Digits, Pause, Queued, Talking as PhaseTalking, Dialling, Ended}
 use Rattle.dp_machine.specs.Channels.{goes_on_behind, talked}
 use Rattle.dp_machine.specs.Events.{agent_done, agent_event, answered, declined, met, offered, parted, served_channels, with_queues}
 use Rattle.dp_machine.specs.GoodWorld.{IsSoundAt, IsSoundIn, queue_in, queue_of, talk_of}
@@ -55,6 +55,7 @@ talks-sound c (Digits digits is_background) k waits sound = sound
 talks-sound c Pause k waits sound = sound
 talks-sound c (Queued queue goes_on has_timer) k waits sound = sound
 talks-sound c (PhaseTalking queue agent goes_on) k waits sound = sound
+talks-sound c (Dialling goes_on has_timer) k waits sound = sound
 talks-sound c Ended k waits sound = absurd (none-some k waits)
 
 -- a channel whose talk ends is quiet

@@ -10,7 +10,7 @@ use Rattle.dp_app.specs.Laws.{KeepsQueues, MayGo, MayPark, waiting_after, waitin
 use Rattle.dp_app.specs.declared.moves.Move.{Move}
 use Rattle.dp_app.specs.declared.moves.Move.TheVariants.{Next, Jump, Park, Hang}
 use Rattle.dp_app.specs.declared.phase.Phase.{Phase}
-use Rattle.dp_app.specs.declared.phase.Phase.TheVariants.{Ready, Digits, Pause, Queued, Talking as PhaseTalking, Ended}
+use Rattle.dp_app.specs.declared.phase.Phase.TheVariants.{Ready, Digits, Pause, Queued, Talking as PhaseTalking, Dialling, Ended}
 use Rattle.dp_app.specs.declared.place.Place.{Place}
 use Rattle.dp_app.specs.declared.touch.Touch.{Touch}
 use Rattle.dp_machine.specs.Channels.{hung_up, landed, moved, ready_in, runs_hang_up, without_frames}
@@ -95,6 +95,8 @@ module _ (touch : Touch) (before after : QueuesOf) (keeps : KeepsQueues touch be
   ties-parked number p (Queued queue goes_on has_timer) ties rests may waits =
       ties-joined number queue p (Queued queue goes_on has_timer) ties rests may waits refl refl
   ties-parked number p (PhaseTalking queue agent goes_on) ties rests may waits = absurd may
+  ties-parked number p (Dialling goes_on has_timer) ties rests may waits =
+      ties-rests number before after p (Dialling goes_on has_timer) (ties-kept number before before after p (same-kept waits) ties) rests (refl, refl)
   ties-parked number p Ended ties rests may waits = absurd may
 
   -- the channel behind a move

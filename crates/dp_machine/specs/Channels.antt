@@ -5,11 +5,14 @@ use Rattle.dp_vars.specs.Stores.{set}
 use Rattle.dp_app.specs.declared.moves.Move.{Move}
 use Rattle.dp_app.specs.declared.moves.Move.TheVariants.{Next, Jump, Park, Hang}
 use Rattle.dp_app.specs.declared.phase.Phase.{Phase}
-use Rattle.dp_app.specs.declared.phase.Phase.TheVariants.{Ready, Digits, Pause, Queued, Talking, Ended}
+use Rattle.dp_app.specs.declared.phase.Phase.TheVariants.{Ready, Digits, Pause, Queued, Talking, Dialling, Ended}
 use Rattle.dp_app.specs.declared.place.Place.{Place}
+use Rattle.dp_machine.specs.Codes.{status_name}
 use Rattle.dp_machine.specs.Found.{is_found}
 use Rattle.dp_machine.specs.Targets.{place_of, target_place}
 use Rattle.dp_machine.specs.declared.channel.Channel.{Channel}
+use Rattle.dp_machine.specs.declared.dial_status.DialStatus.{DialStatus}
+use Rattle.dp_machine.specs.declared.dial_status.DialStatus.TheVariants.{Answer, Busy, NoAnswer, Congestion, ChanUnavail}
 
 -- the channel, ready at a place
 abbrev pub ready_at : Channel → Place → Channel
@@ -99,12 +102,39 @@ goes_on_behind (Digits text is_background) = false
 goes_on_behind Pause = false
 goes_on_behind (Queued queue goes_on has_timer) = goes_on
 goes_on_behind (Talking queue agent goes_on) = goes_on
+goes_on_behind (Dialling goes_on has_timer) = false
 goes_on_behind Ended = false
 
 -- the channel behind the end of its talk, by whether it goes on
 abbrev pub talked : PlanOf → Channel → Bool → Channel
 talked plan c true = left_queue c (codes "CONTINUE")
 talked plan c false = hung_up plan c
+
+-- the channel that reads what came of its call to devices
+abbrev pub with_dial_status : Channel → List ℕ → Channel
+with_dial_status c status = with_value c (codes "DIALSTATUS") status
+
+-- the channel behind the end of the time of its call to devices
+abbrev pub unanswered : Channel → Channel
+unanswered c = going_on (with_dial_status c (codes "NOANSWER"))
+
+-- the channel behind a hang-up while its call to devices lasts
+abbrev pub cancelled : PlanOf → Channel → Channel
+cancelled plan c = hung_up plan (with_dial_status c (codes "CANCEL"))
+
+-- whether a channel is hung up with the far side, which answered: where it does not go on
+abbrev pub ends_call : DialStatus → Bool → Bool
+ends_call Answer goes_on = not goes_on
+ends_call Busy goes_on = false
+ends_call NoAnswer goes_on = false
+ends_call Congestion goes_on = false
+ends_call ChanUnavail goes_on = false
+
+-- the channel behind its call to devices
+abbrev pub dialled : PlanOf → Channel → DialStatus → Bool → Channel
+dialled plan c status goes_on =
+    if ends_call status goes_on then hung_up plan (with_dial_status c (status_name status))
+    else going_on (with_dial_status c (status_name status))
 
 -- what an event of an agent makes of a channel
 pub data Change : Type 0 where

@@ -1,7 +1,9 @@
--- The numbers of the refusals and the names that are printed beside them.
+-- The numbers of the refusals and the names that are printed beside them, and the names of what comes of a call to devices.
 use Rattle.std.specs.Prelude.{ℕ, List, codes}
 use Rattle.dp_machine.specs.declared.refusal.Refusal.{Refusal}
-use Rattle.dp_machine.specs.declared.refusal.Refusal.TheVariants.{NoChannel, NotReady, NotWaiting, NoTimer, NoQueue, NobodyWaiting, NoMember, NotRinging, NotTalking, Ended, NumbersSpent, BadDigit}
+use Rattle.dp_machine.specs.declared.refusal.Refusal.TheVariants.{NoChannel, NotReady, NotWaiting, NoTimer, NoQueue, NobodyWaiting, NoMember, NotRinging, NotTalking, Ended, NumbersSpent, BadDigit, BadPlan, NotDialling}
+use Rattle.dp_machine.specs.declared.dial_status.DialStatus.{DialStatus}
+use Rattle.dp_machine.specs.declared.dial_status.DialStatus.TheVariants.{Answer, Busy, NoAnswer, Congestion, ChanUnavail}
 
 -- the number of a refusal
 abbrev pub refusal_code : Refusal → ℕ
@@ -17,6 +19,8 @@ refusal_code NotTalking = 48
 refusal_code Ended = 49
 refusal_code NumbersSpent = 50
 refusal_code BadDigit = 51
+refusal_code BadPlan = 52
+refusal_code NotDialling = 53
 
 -- the printed name of a refusal
 abbrev pub refusal_name : Refusal → List ℕ
@@ -32,3 +36,13 @@ refusal_name NotTalking = codes "NotTalking"
 refusal_name Ended = codes "Ended"
 refusal_name NumbersSpent = codes "NumbersSpent"
 refusal_name BadDigit = codes "BadDigit"
+refusal_name BadPlan = codes "BadPlan"
+refusal_name NotDialling = codes "NotDialling"
+
+-- the value of `DIALSTATUS` for what comes of a call to devices
+abbrev pub status_name : DialStatus → List ℕ
+status_name Answer = codes "ANSWER"
+status_name Busy = codes "BUSY"
+status_name NoAnswer = codes "NOANSWER"
+status_name Congestion = codes "CONGESTION"
+status_name ChanUnavail = codes "CHANUNAVAIL"

@@ -16,19 +16,21 @@ use Rattle.dp_app.specs.Rows.{Rows, dispatched}
 use Rattle.dp_app.specs.declared.cell.Cell.{Cell}
 use Rattle.dp_app.specs.declared.moves.Move.{Move}
 use Rattle.dp_app.specs.declared.phase.Phase.{Phase}
-use Rattle.dp_app.specs.declared.phase.Phase.TheVariants.{Ready, Digits, Pause, Queued, Talking, Ended as phase_ended}
-use Rattle.dp_machine.specs.Channels.{Change, Stays, Talks, TalkEnds, changed, collected, going_on, hung_up, invalid, is_invalid, left_queue, ready_at, timed_out, went}
+use Rattle.dp_app.specs.declared.phase.Phase.TheVariants.{Ready, Digits, Pause, Queued, Talking, Dialling, Ended as phase_ended}
+use Rattle.dp_machine.specs.Channels.{Change, Stays, Talks, TalkEnds, cancelled, changed, collected, dialled, going_on, hung_up, invalid, is_invalid, left_queue, ready_at, timed_out, unanswered, went}
 use Rattle.dp_machine.specs.Found.{Located, could_go_on, entry_found, is_found}
+use Rattle.dp_machine.specs.Reloading.{reloaded}
 use Rattle.dp_machine.specs.Seen.{arguments_seen}
 use Rattle.dp_machine.specs.Targets.{place_of}
 use Rattle.dp_machine.specs.World.{World, most_channels, channel_at, with_channel}
 use Rattle.dp_machine.specs.declared.channel.Channel.{Channel}
 use Rattle.dp_machine.specs.declared.event.Event.{Event}
-use Rattle.dp_machine.specs.declared.event.Event.TheVariants.{Start, Step, Digit, Timeout, Poll, Hangup, Offer, Answer, Decline, AgentDone}
+use Rattle.dp_machine.specs.declared.event.Event.TheVariants.{Start, Step, Digit, Timeout, Poll, Hangup, DialResult, Offer, Answer, Decline, AgentDone, Reload}
+use Rattle.dp_machine.specs.declared.dial_status.DialStatus.{DialStatus}
 use Rattle.dp_machine.specs.declared.asked.Asked.{Asked}
-use Rattle.dp_machine.specs.declared.asked.Asked.TheVariants.{Step as asked_step, Digit as asked_digit, Timeout as asked_timeout, Poll as asked_poll, Hangup as asked_hangup}
+use Rattle.dp_machine.specs.declared.asked.Asked.TheVariants.{Step as asked_step, Digit as asked_digit, Timeout as asked_timeout, Poll as asked_poll, Hangup as asked_hangup, DialResult as asked_result}
 use Rattle.dp_machine.specs.declared.refusal.Refusal.{Refusal}
-use Rattle.dp_machine.specs.declared.refusal.Refusal.TheVariants.{NoChannel, NotReady, NotWaiting, NoTimer, NoQueue, NobodyWaiting, NoMember, NotRinging, NotTalking, Ended, NumbersSpent, BadDigit}
+use Rattle.dp_machine.specs.declared.refusal.Refusal.TheVariants.{NoChannel, NotReady, NotWaiting, NoTimer, NoQueue, NobodyWaiting, NoMember, NotRinging, NotTalking, Ended, NumbersSpent, BadDigit, BadPlan, NotDialling}
 use Rattle.dp_machine.specs.declared.reply.Reply.{Reply}
 use Rattle.dp_machine.specs.declared.reply.Reply.TheVariants.{Started, Ran, Invalid, NoEntry, Offered, Done, Refused}
 use Rattle.dp_machine.specs.declared.shared.Shared.{Shared}
@@ -120,6 +122,7 @@ step_in rows (Digits digits is_background) plan shared number c = refuse NotRead
 step_in rows Pause plan shared number c = refuse NotReady shared c
 step_in rows (Queued queue goes_on has_timer) plan shared number c = refuse NotReady shared c
 step_in rows (Talking queue agent goes_on) plan shared number c = refuse NotReady shared c
+step_in rows (Dialling goes_on has_timer) plan shared number c = refuse NotReady shared c
 step_in rows phase_ended plan shared number c = refuse Ended shared c
 
 -- the event `Step`
@@ -151,6 +154,7 @@ dial_in (Digits digits is_background) digit plan shared number c = collect plan 
 dial_in Pause digit plan shared number c = take_event shared c
 dial_in (Queued queue goes_on has_timer) digit plan shared number c = way_out plan shared number c digit (way_out_of shared.queues queue)
 dial_in (Talking queue agent goes_on) digit plan shared number c = refuse NotWaiting shared c
+dial_in (Dialling goes_on has_timer) digit plan shared number c = take_event shared c
 dial_in phase_ended digit plan shared number c = refuse Ended shared c
 
 -- whether the channel is over
@@ -160,6 +164,7 @@ is_over (Digits digits is_background) = false
 is_over Pause = false
 is_over (Queued queue goes_on has_timer) = false
 is_over (Talking queue agent goes_on) = false
+is_over (Dialling goes_on has_timer) = false
 is_over phase_ended = true
 
 -- the event `Digit`: a byte that is no digit is refused where the channel is not over, whatever it waits for
@@ -176,6 +181,11 @@ abbrev pub time_in_queue : Bool → Shared → ℕ → Channel → Own
 time_in_queue false shared number c = refuse NoTimer shared c
 time_in_queue true shared number c = leave shared number c (codes "TIMEOUT")
 
+-- the end of the time of a call to devices
+abbrev pub dial_time : Bool → Shared → Channel → Own
+dial_time false shared c = refuse NoTimer shared c
+dial_time true shared c = take_event shared (unanswered c)
+
 -- the event `Timeout`, by the channel's phase
 abbrev pub timeout_in : Phase → PlanOf → Shared → ℕ → Channel → Own
 timeout_in Ready plan shared number c = refuse NotWaiting shared c
@@ -183,6 +193,7 @@ timeout_in (Digits digits is_background) plan shared number c = take_event share
 timeout_in Pause plan shared number c = take_event shared (going_on c)
 timeout_in (Queued queue goes_on has_timer) plan shared number c = time_in_queue has_timer shared number c
 timeout_in (Talking queue agent goes_on) plan shared number c = refuse NotWaiting shared c
+timeout_in (Dialling goes_on has_timer) plan shared number c = dial_time has_timer shared c
 timeout_in phase_ended plan shared number c = refuse Ended shared c
 
 -- the event `Timeout`
@@ -201,24 +212,44 @@ poll_in (Digits digits is_background) plan shared number c = refuse NotWaiting s
 poll_in Pause plan shared number c = refuse NotWaiting shared c
 poll_in (Queued queue goes_on has_timer) plan shared number c = poll_queue (should_leave shared.queues queue) shared number c
 poll_in (Talking queue agent goes_on) plan shared number c = refuse NotWaiting shared c
+poll_in (Dialling goes_on has_timer) plan shared number c = refuse NotWaiting shared c
 poll_in phase_ended plan shared number c = refuse Ended shared c
 
 -- the event `Poll`
 unfoldable pub poll_row : PlanOf → Shared → ℕ → Channel → Own
 poll_row plan shared number c = poll_in c.phase plan shared number c
 
--- the event `Hangup`, by the channel's phase: it leaves its queue, or its talk ends, and it is hung up
+-- a hang-up while a call to devices lasts
+abbrev pub dial_cancelled : PlanOf → Shared → Channel → Own
+dial_cancelled plan shared c = take_event shared (cancelled plan c)
+
+-- the event `Hangup`, by the channel's phase: it leaves its queue, or its talk ends, or its call to devices, and it is hung up
 abbrev pub hang_up_in : Phase → PlanOf → Shared → ℕ → Channel → Own
 hang_up_in Ready plan shared number c = take_event shared (hung_up plan c)
 hang_up_in (Digits digits is_background) plan shared number c = take_event shared (hung_up plan c)
 hang_up_in Pause plan shared number c = take_event shared (hung_up plan c)
 hang_up_in (Queued queue goes_on has_timer) plan shared number c = take_event (without_caller shared number) (hung_up plan c)
 hang_up_in (Talking queue agent goes_on) plan shared number c = take_event (without_talk shared number) (hung_up plan c)
+hang_up_in (Dialling goes_on has_timer) plan shared number c = dial_cancelled plan shared c
 hang_up_in phase_ended plan shared number c = refuse Ended shared c
 
 -- the event `Hangup`
 unfoldable pub hang_up_row : PlanOf → Shared → ℕ → Channel → Own
 hang_up_row plan shared number c = hang_up_in c.phase plan shared number c
+
+-- the event `DialResult`, by the channel's phase
+abbrev pub dial_result_in : Phase → DialStatus → PlanOf → Shared → ℕ → Channel → Own
+dial_result_in Ready status plan shared number c = refuse NotDialling shared c
+dial_result_in (Digits digits is_background) status plan shared number c = refuse NotDialling shared c
+dial_result_in Pause status plan shared number c = refuse NotDialling shared c
+dial_result_in (Queued queue goes_on has_timer) status plan shared number c = refuse NotDialling shared c
+dial_result_in (Talking queue agent goes_on) status plan shared number c = refuse NotDialling shared c
+dial_result_in (Dialling goes_on has_timer) status plan shared number c = take_event shared (dialled plan c status goes_on)
+dial_result_in phase_ended status plan shared number c = refuse Ended shared c
+
+-- the event `DialResult`
+unfoldable pub dial_result_row : DialStatus → PlanOf → Shared → ℕ → Channel → Own
+dial_result_row status plan shared number c = dial_result_in c.phase status plan shared number c
 
 -- an event of one channel, by what it asks
 abbrev pub own_row : Rows → Asked → PlanOf → Shared → ℕ → Channel → Own
@@ -227,6 +258,7 @@ own_row rows (asked_digit digit) = digit_row digit
 own_row rows asked_timeout = timeout_row
 own_row rows asked_poll = poll_row
 own_row rows asked_hangup = hang_up_row
+own_row rows (asked_result status) = dial_result_row status
 
 -- a channel that a call opens at a place
 abbrev pub opened : List ℕ → List ℕ → List ℕ → Channel
@@ -322,10 +354,12 @@ event_row rows w (Digit number digit) = own_event w number (digit_row digit) (ch
 event_row rows w (Timeout number) = own_event w number timeout_row (channel_at w.channels number)
 event_row rows w (Poll number) = own_event w number poll_row (channel_at w.channels number)
 event_row rows w (Hangup number) = own_event w number hang_up_row (channel_at w.channels number)
+event_row rows w (DialResult number status) = own_event w number (dial_result_row status) (channel_at w.channels number)
 event_row rows w (Offer queue) = agent_event w (offered w.shared queue)
 event_row rows w (Answer agent) = agent_event w (answered w.shared agent)
 event_row rows w (Decline agent) = agent_event w (declined w.shared agent)
 event_row rows w (AgentDone agent) = agent_event w (agent_done w.shared agent)
+event_row rows w (Reload text) = reloaded w text
 
 -- the entry that the next step of a channel would run, by its phase
 abbrev pub next_in : Phase → PlanOf → Channel → Option EntryId
@@ -334,6 +368,7 @@ next_in (Digits digits is_background) plan c = None
 next_in Pause plan c = None
 next_in (Queued queue goes_on has_timer) plan c = None
 next_in (Talking queue agent goes_on) plan c = None
+next_in (Dialling goes_on has_timer) plan c = None
 next_in phase_ended plan c = None
 
 -- the entry that the next step of the channel of a number would run
@@ -348,10 +383,12 @@ channel_of (Digit number digit) = number
 channel_of (Timeout number) = number
 channel_of (Poll number) = number
 channel_of (Hangup number) = number
+channel_of (DialResult number status) = number
 channel_of (Offer queue) = 0
 channel_of (Answer agent) = 0
 channel_of (Decline agent) = 0
 channel_of (AgentDone agent) = 0
+channel_of (Reload text) = 0
 
 -- whether a reply is a refusal
 abbrev pub is_refused : Reply → Bool
@@ -362,3 +399,30 @@ is_refused NoEntry = false
 is_refused (Offered channel rung) = false
 is_refused Done = false
 is_refused (Refused refusal) = true
+
+-- whether a refusal is told without memory: each is but that of a dialplan, which is loaded to tell
+abbrev pub is_at_once : Refusal → Bool
+is_at_once NoChannel = true
+is_at_once NotReady = true
+is_at_once NotWaiting = true
+is_at_once NoTimer = true
+is_at_once NoQueue = true
+is_at_once NobodyWaiting = true
+is_at_once NoMember = true
+is_at_once NotRinging = true
+is_at_once NotTalking = true
+is_at_once Ended = true
+is_at_once NumbersSpent = true
+is_at_once BadDigit = true
+is_at_once BadPlan = false
+is_at_once NotDialling = true
+
+-- whether a reply is such a refusal
+abbrev pub is_refused_at_once : Reply → Bool
+is_refused_at_once (Started number) = false
+is_refused_at_once (Ran id) = false
+is_refused_at_once Invalid = false
+is_refused_at_once NoEntry = false
+is_refused_at_once (Offered channel rung) = false
+is_refused_at_once Done = false
+is_refused_at_once (Refused refusal) = is_at_once refusal

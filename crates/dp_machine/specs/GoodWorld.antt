@@ -9,14 +9,14 @@ use Rattle.dp_queue.specs.declared.agent.AgentState.TheVariants.{Talking as Agen
 use Rattle.dp_plan.specs.Priority.{most_priority}
 use Rattle.dp_app.specs.Rows.{Rows}
 use Rattle.dp_app.specs.declared.phase.Phase.{Phase}
-use Rattle.dp_app.specs.declared.phase.Phase.TheVariants.{Ready, Digits, Pause, Queued, Talking, Ended}
+use Rattle.dp_app.specs.declared.phase.Phase.TheVariants.{Ready, Digits, Pause, Queued, Talking, Dialling, Ended}
 use Rattle.dp_machine.specs.Events.{Own, own_row, step_row}
 use Rattle.dp_machine.specs.World.{World, most_channels, channel_at}
 use Rattle.dp_machine.specs.declared.asked.Asked.{Asked}
-use Rattle.dp_machine.specs.declared.asked.Asked.TheVariants.{Step as asked_step, Digit as asked_digit, Timeout as asked_timeout, Poll as asked_poll, Hangup as asked_hangup}
+use Rattle.dp_machine.specs.declared.asked.Asked.TheVariants.{Step as asked_step, Digit as asked_digit, Timeout as asked_timeout, Poll as asked_poll, Hangup as asked_hangup, DialResult as asked_result}
 use Rattle.dp_machine.specs.declared.channel.Channel.{Channel}
 use Rattle.dp_machine.specs.declared.event.Event.{Event}
-use Rattle.dp_machine.specs.declared.event.Event.TheVariants.{Start, Step, Digit, Timeout, Poll, Hangup, Offer, Answer, Decline, AgentDone}
+use Rattle.dp_machine.specs.declared.event.Event.TheVariants.{Start, Step, Digit, Timeout, Poll, Hangup, DialResult, Offer, Answer, Decline, AgentDone, Reload}
 use Rattle.dp_machine.specs.declared.shared.Shared.{Shared}
 
 -- the queue in which a channel waits by its phase
@@ -26,6 +26,7 @@ queue_in (Digits digits is_background) = None
 queue_in Pause = None
 queue_in (Queued queue goes_on has_timer) = Some queue
 queue_in (Talking queue agent goes_on) = None
+queue_in (Dialling goes_on has_timer) = None
 queue_in Ended = None
 
 -- the queue and the agent with which a channel talks by its phase
@@ -35,6 +36,7 @@ talk_in (Digits digits is_background) = None
 talk_in Pause = None
 talk_in (Queued queue goes_on has_timer) = None
 talk_in (Talking queue agent goes_on) = Some (queue, agent)
+talk_in (Dialling goes_on has_timer) = None
 talk_in Ended = None
 
 -- a channel that waits or talks stands at a priority of an entry and is not closing, and one that is over has no frames
@@ -44,6 +46,7 @@ IsSoundIn (Digits digits is_background) c = (c.place.priority ≤ most_priority)
 IsSoundIn Pause c = (c.place.priority ≤ most_priority) × (c.is_closing ≡ false)
 IsSoundIn (Queued queue goes_on has_timer) c = (c.place.priority ≤ most_priority) × (c.is_closing ≡ false)
 IsSoundIn (Talking queue agent goes_on) c = (c.place.priority ≤ most_priority) × (c.is_closing ≡ false)
+IsSoundIn (Dialling goes_on has_timer) c = (c.place.priority ≤ most_priority) × (c.is_closing ≡ false)
 IsSoundIn Ended c = c.store.frames ≡ []
 
 -- the same of the channel of a number, if there is one
@@ -94,6 +97,7 @@ IsSoundBehind (asked_digit digit) c = Unit {0}
 IsSoundBehind asked_timeout c = Unit {0}
 IsSoundBehind asked_poll c = Unit {0}
 IsSoundBehind asked_hangup c = Unit {0}
+IsSoundBehind (asked_result status) c = Unit {0}
 
 -- where a step is asked, the channel of a number is sound behind it
 abbrev pub IsSoundAsked : Rows → World → ℕ → Asked → Type 0
@@ -108,7 +112,9 @@ StepsSoundly rows w (Digit number digit) = Unit {0}
 StepsSoundly rows w (Timeout number) = Unit {0}
 StepsSoundly rows w (Poll number) = Unit {0}
 StepsSoundly rows w (Hangup number) = Unit {0}
+StepsSoundly rows w (DialResult number status) = Unit {0}
 StepsSoundly rows w (Offer queue) = Unit {0}
 StepsSoundly rows w (Answer agent) = Unit {0}
 StepsSoundly rows w (Decline agent) = Unit {0}
 StepsSoundly rows w (AgentDone agent) = Unit {0}
+StepsSoundly rows w (Reload text) = Unit {0}

@@ -5,10 +5,11 @@ use Rattle.dp_app.specs.Rows.{Rows}
 use Rattle.dp_machine.specs.Replay.{world_behind, world_after}
 use Rattle.dp_machine.specs.World.{World, channel_at}
 use Rattle.dp_machine.specs.declared.event.Event.{Event}
-use Rattle.dp_machine.specs.declared.event.Event.TheVariants.{Start, Step, Digit, Timeout, Poll, Hangup, Offer, Answer, Decline, AgentDone}
+use Rattle.dp_machine.specs.declared.event.Event.TheVariants.{Start, Step, Digit, Timeout, Poll, Hangup, DialResult, Offer, Answer, Decline, AgentDone, Reload}
 use Rattle.dp_machine.specs.declared.reply.Reply.{Reply}
 
--- whether an event is one of the channel of a number; a call that comes in is of no channel, nor is an event of an agent
+-- whether an event is one of the channel of a number; a call that comes in is of no channel, nor is an event of an agent or another
+-- dialplan
 abbrev pub is_of : ℕ → Event → Bool
 is_of number (Start context exten caller) = false
 is_of number (Step channel) = channel == number
@@ -16,10 +17,12 @@ is_of number (Digit channel digit) = channel == number
 is_of number (Timeout channel) = channel == number
 is_of number (Poll channel) = channel == number
 is_of number (Hangup channel) = channel == number
+is_of number (DialResult channel status) = channel == number
 is_of number (Offer queue) = false
 is_of number (Answer agent) = false
 is_of number (Decline agent) = false
 is_of number (AgentDone agent) = false
+is_of number (Reload text) = false
 
 -- an event of a channel is private in a world if it leaves the dialplan and what all channels share as they are: the globals, the
 -- queues, the agents, and the count of finished calls

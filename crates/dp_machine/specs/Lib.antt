@@ -5,6 +5,7 @@ pub mod Follows
 pub mod Found
 pub mod GoodWorld
 pub mod Isolation
+pub mod Reloading
 pub mod Replay
 pub mod Seen
 pub mod Tables

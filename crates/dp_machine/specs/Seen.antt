@@ -42,18 +42,22 @@ abbrev pub value_seen : Shared → ℕ → Option Channel → List ℕ → List 
 value_seen shared number None name = []
 value_seen shared number (Some c) name = value_or_empty (maps_in shared number c) name
 
--- what the value of a global sees: the globals before it, and no channel
-abbrev pub sight_of_globals : Named → Sight
-sight_of_globals globals = sight_by {B = Place} none_waiting None None globals
+-- what the value of a global sees: the globals as they are then, how many wait in a queue, and no channel
+abbrev pub sight_of_globals : (List ℕ → ℕ) → Named → Sight
+sight_of_globals waiting globals = sight_by {B = Place} waiting None None globals
 
 -- the value of a global that is written so
-unfoldable pub global_value : Named → List ℕ → List ℕ
-global_value globals value = expansion (sight_of_globals globals) value
+unfoldable pub global_value : (List ℕ → ℕ) → Named → List ℕ → List ℕ
+global_value waiting globals value = expansion (sight_of_globals waiting globals) value
 
 -- the globals with one more
-abbrev pub with_global : Named → GlobalVariable → Named
-with_global globals variable = insert globals variable.name (global_value globals variable.value)
+abbrev pub with_global : (List ℕ → ℕ) → Named → GlobalVariable → Named
+with_global waiting globals variable = insert globals variable.name (global_value waiting globals variable.value)
 
--- the globals of a dialplan, expanded one after another; of two of one name the later stands
+-- the globals with those of a dialplan set over them, one after another; of two of one name the later stands
+abbrev pub globals_set : (List ℕ → ℕ) → Named → List GlobalVariable → Named
+globals_set waiting globals variables = fold (with_global waiting) globals variables
+
+-- the globals of a dialplan before the first call
 unfoldable pub globals_of : List GlobalVariable → Named
-globals_of variables = fold with_global empty variables
+globals_of variables = globals_set none_waiting empty variables

@@ -54,7 +54,11 @@ fn goes_on_behind(phase: &Phase) -> bool
 {
     match phase {
         Phase::Queued { goes_on, .. } | Phase::Talking { goes_on, .. } => *goes_on,
-        Phase::Ready | Phase::Digits { .. } | Phase::Pause | Phase::Ended => false,
+        Phase::Ready
+        | Phase::Digits { .. }
+        | Phase::Pause
+        | Phase::Dialling { .. }
+        | Phase::Ended => false,
     }
 }
 

@@ -1,5 +1,7 @@
 //! What an event asks of one channel.
 
+use crate::dial_status::DialStatus;
+
 /// What an event asks of one channel.
 #[derive(Clone, Copy, Debug)]
 pub(crate) enum Asked {
@@ -8,4 +10,5 @@ pub(crate) enum Asked {
     Timeout,
     Poll,
     Hangup,
+    DialResult(DialStatus),
 }

@@ -76,6 +76,15 @@ impl Directory {
         Directory { plan, tables }
     }
 
+    /// Puts another dialplan with its tables in the place of this one.
+    pub(crate) fn replace(&mut self, plan: Dialplan, tables: Tables)
+        requires { AreTables plan tables }
+        ensures { self.new ≡ plan }
+    {
+        self.plan = plan;
+        self.tables = tables;
+    }
+
     /// The dialplan.
     pub(crate) fn plan(&self) -> &Dialplan
         ensures { result.now ≡ self.now }

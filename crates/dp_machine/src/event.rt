@@ -3,7 +3,8 @@ ghost use Rattle.std.specs.Prelude.{◌≡◌, IfOk};
 ghost use Rattle.dp_machine.specs.Events.{channel_of};
 ghost use Rattle.dp_machine.specs.declared.event.Event.TheVariants.{Start};
 
-use dp_plan::{NoMemory, Text};
+use crate::dial_status::DialStatus;
+use dp_plan::{NoMemory, SharedText, Text};
 
 /// What happens to a machine. Channels are numbers; queues are named in any ASCII case, and agents by their interfaces.
 #[derive(Debug, PartialEq, Eq, Drop)]
@@ -35,6 +36,11 @@ pub enum Event {
     Hangup {
         channel: u32,
     },
+    /// The call to devices that the channel waits for came to this.
+    DialResult {
+        channel: u32,
+        status: DialStatus,
+    },
     /// A call of the queue is offered to agents.
     Offer {
         queue: Text,
@@ -51,6 +57,11 @@ pub enum Event {
     AgentDone {
         agent: Text,
     },
+    /// The dialplan of this text comes in force. A reply of an earlier event names an entry of the dialplan that was in force
+    /// at that event, and is to be read there. Copies of the event have the text in common, since it may be long.
+    Reload {
+        text: SharedText,
+    },
 }
 
 impl Event {
@@ -63,12 +74,14 @@ impl Event {
             | Event::Digit { channel, .. }
             | Event::Timeout { channel }
             | Event::Poll { channel }
-            | Event::Hangup { channel } => *channel,
+            | Event::Hangup { channel }
+            | Event::DialResult { channel, .. } => *channel,
             Event::Start { .. }
             | Event::Offer { .. }
             | Event::Answer { .. }
             | Event::Decline { .. }
-            | Event::AgentDone { .. } => 0,
+            | Event::AgentDone { .. }
+            | Event::Reload { .. } => 0,
         }
     }
 
@@ -90,6 +103,10 @@ impl Event {
             Event::Timeout { channel } => Ok(Event::Timeout { channel: *channel }),
             Event::Poll { channel } => Ok(Event::Poll { channel: *channel }),
             Event::Hangup { channel } => Ok(Event::Hangup { channel: *channel }),
+            Event::DialResult { channel, status } => Ok(Event::DialResult {
+                channel: *channel,
+                status: *status,
+            }),
             Event::Offer { queue } => {
                 let queue = queue.clone()?;
                 Ok(Event::Offer { queue })
@@ -105,6 +122,10 @@ impl Event {
             Event::AgentDone { agent } => {
                 let agent = agent.clone()?;
                 Ok(Event::AgentDone { agent })
+            }
+            Event::Reload { text } => {
+                let text = text.clone()?;
+                Ok(Event::Reload { text })
             }
         }
     }

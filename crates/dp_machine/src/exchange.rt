@@ -1,11 +1,13 @@
 //! What is no channel's own: the dialplan, and what all channels share.
-ghost use Rattle.std.specs.Prelude.{◌≡◌, [], IfOk};
+ghost use Rattle.std.specs.Prelude.{◌≡◌, [], IfOk, OnErr, OnOk};
+ghost use Rattle.dp_machine.specs.Reloading.{shared_with};
 ghost use Rattle.dp_machine.specs.Seen.{globals_of};
 ghost use Rattle.dp_machine.specs.Tables.{AreTables};
 ghost use Rattle.dp_machine.specs.World as worlds;
 
 use crate::directory::{Directory, Tables};
-use crate::shared::{Shared, expand_globals};
+use crate::queues::NoQueues;
+use crate::shared::{Shared, set_globals};
 use dp_plan::{Dialplan, NoMemory};
 use dp_queue::Queues;
 use dp_vars::Globals;
@@ -26,11 +28,13 @@ struct Made {
 }
 
 /// Makes what the first call needs.
+#[tactic(auto, unfolding(crate::specs::Seen::globals_of))]
 fn make(alloc: Global, plan: &Dialplan) -> Result<Made, NoMemory>
     ensures globals { IfOk result (λ made. made.globals ≡ globals_of plan.now.globals) }
     ensures tables { IfOk result (λ made. AreTables plan.now made.tables) }
 {
-    let globals = expand_globals(alloc, plan.globals())?;
+    let mut globals = Globals::new(alloc);
+    set_globals(alloc, &mut globals, &NoQueues, plan.globals())?;
     let tables = Tables::of(alloc, plan)?;
     Ok(Made { globals, tables })
 }
@@ -45,5 +49,19 @@ impl Exchange {
             plan: Directory::with(plan, tables),
             shared: Shared { globals, queues },
         })
+    }
+
+    /// Puts another dialplan in force, and sets its globals over those that are. After a refused growth all is as before.
+    pub(crate) fn replace(&mut self, alloc: Global, plan: Dialplan) -> Result<(), NoMemory>
+        ensures plan { OnOk result (self.new.plan ≡ plan) }
+        ensures shared { OnOk result (self.new.shared ≡ shared_with self.old.shared plan.globals) }
+        ensures err { OnErr result (self.new ≡ self.old) }
+    {
+        let mut globals = self.shared.globals.clone()?;
+        set_globals(alloc, &mut globals, &self.shared.queues, plan.globals())?;
+        let tables = Tables::of(alloc, &plan)?;
+        self.plan.replace(plan, tables);
+        self.shared.globals = globals;
+        Ok(())
     }
 }

@@ -5,6 +5,8 @@
 mod agents;
 mod asked;
 mod channel;
+mod dial_status;
+mod dialling;
 mod directory;
 mod ending;
 mod event;
@@ -15,6 +17,7 @@ mod numbered;
 mod orders;
 mod queues;
 mod refusal;
+mod reload;
 mod reply;
 mod seen;
 mod shared;
@@ -24,8 +27,9 @@ mod templates;
 mod waiting;
 
 pub use channel::Channel;
+pub use dial_status::DialStatus;
 pub use dp_app::{Exten, Phase, Place};
-pub use dp_plan::{Dialplan, EntryId, NoMemory, Text};
+pub use dp_plan::{Dialplan, EntryId, NoMemory, SharedText, Text};
 pub use dp_queue::Queues;
 pub use event::Event;
 pub use machine::{MOST_CHANNELS, Machine};

@@ -11,11 +11,13 @@ ghost use Rattle.dp_machine.specs.World as worlds;
 use crate::agents::{agent_done, answer, decline, offer};
 use crate::asked::Asked;
 use crate::channel::Channel;
+use crate::dialling::take_result;
 use crate::directory::Directory;
 use crate::event::Event;
 use crate::exchange::Exchange;
 use crate::numbered::{channel_at, index_of};
 use crate::refusal::Refusal;
+use crate::reload::reload;
 use crate::reply::Reply;
 use crate::seen::channel_value;
 use crate::step::step_channel;
@@ -66,7 +68,7 @@ fn start(
     ensures ok { IfOk result (λ reply. spec.started channels.old.items context exten caller
         ≡ record { channels = channels.new.items; reply = reply }) }
     ensures err { OnErr result (channels.new.items ≡ channels.old.items) }
-    ensures memory { OnErr result (spec.is_refused (spec.started channels.old.items context exten caller).reply ≡ false) }
+    ensures memory { OnErr result (spec.is_refused_at_once (spec.started channels.old.items context exten caller).reply ≡ false) }
 {
     let count = channels.len();
     if count >= MOST_CHANNELS {
@@ -99,7 +101,7 @@ fn start_kept(
     ensures ok { IfOk result (λ reply. spec.started channels.old.items context.now exten.now caller.now
         ≡ record { channels = channels.new.items; reply = reply }) }
     ensures err { OnErr result (channels.new.items ≡ channels.old.items) }
-    ensures memory { OnErr result (spec.is_refused (spec.started channels.old.items context.now exten.now caller.now).reply ≡ false) }
+    ensures memory { OnErr result (spec.is_refused_at_once (spec.started channels.old.items context.now exten.now caller.now).reply ≡ false) }
 {
     if channels.len() >= MOST_CHANNELS {
         return Ok(Reply::Refused(Refusal::NumbersSpent));
@@ -128,7 +130,8 @@ fn answer_to<T: AppTable>(
         Asked::Digit(digit) => dial(alloc, exchange, number, channel, digit),
         Asked::Timeout => end_time(alloc, exchange, number, channel),
         Asked::Poll => poll(alloc, exchange, number, channel),
-        Asked::Hangup => Ok(hang_up_channel(exchange, number, channel)),
+        Asked::Hangup => hang_up_channel(alloc, exchange, number, channel),
+        Asked::DialResult(status) => take_result(alloc, exchange, number, channel, status),
     }
 }
 
@@ -177,10 +180,20 @@ fn apply_kept_to<T: AppTable>(
         Event::Timeout { channel } => ask::<T>(alloc, exchange, channels, *channel, Asked::Timeout),
         Event::Poll { channel } => ask::<T>(alloc, exchange, channels, *channel, Asked::Poll),
         Event::Hangup { channel } => ask::<T>(alloc, exchange, channels, *channel, Asked::Hangup),
+        Event::DialResult { channel, status } => {
+            ask::<T>(
+                alloc,
+                exchange,
+                channels,
+                *channel,
+                Asked::DialResult(*status),
+            )
+        }
         Event::Offer { queue } => Ok(offer(exchange, queue.bytes())),
         Event::Answer { agent } => Ok(answer(exchange, channels, agent.bytes())),
         Event::Decline { agent } => Ok(decline(exchange, agent.bytes())),
         Event::AgentDone { agent } => agent_done(alloc, exchange, channels, agent.bytes()),
+        Event::Reload { text } => reload(alloc, exchange, text.bytes()),
     }
 }
 
@@ -221,6 +234,7 @@ fn next_entry_of(
         | Phase::Pause
         | Phase::Queued { .. }
         | Phase::Talking { .. }
+        | Phase::Dialling { .. }
         | Phase::Ended => Ok(None),
     }
 }
@@ -238,6 +252,7 @@ fn entry_ahead_of(plan: &mut Directory, channel: &Channel) -> Option<EntryId>
         | Phase::Pause
         | Phase::Queued { .. }
         | Phase::Talking { .. }
+        | Phase::Dialling { .. }
         | Phase::Ended => None,
     }
 }
@@ -259,14 +274,14 @@ impl<T: AppTable> Machine<T> {
         })
     }
 
-    /// Applies one event, and gives the reply. A refused event changes nothing and takes no memory. Where memory is refused
-    /// the machine is as before.
+    /// Applies one event, and gives the reply. A refused event changes nothing, and takes no memory but where it gives another
+    /// dialplan, which is loaded to tell. Where memory is refused the machine is as before.
     pub fn apply(&mut self, alloc: Global, event: Event) -> Result<Reply, NoMemory>
         ensures ok { IfOk result (λ reply. spec.event_row T.rows self.old event ≡ (self.new, reply)) }
         ensures unchanged { IfOk result (λ reply. spec.is_refused reply ≡ true → self.new ≡ self.old) }
         ensures good { good.IsGoodWorld self.new }
         ensures err { OnErr result (self.new ≡ self.old) }
-        ensures refused { OnErr result (spec.is_refused (spec.event_row T.rows self.old event).1 ≡ false) }
+        ensures refused { OnErr result (spec.is_refused_at_once (spec.event_row T.rows self.old event).1 ≡ false) }
     {
         let reply = apply_to::<T>(alloc, &mut self.exchange, &mut self.channels, event);
         self.exchange.shared.queues.are_good();
@@ -279,7 +294,7 @@ impl<T: AppTable> Machine<T> {
         ensures unchanged { IfOk result (λ reply. spec.is_refused reply ≡ true → self.new ≡ self.old) }
         ensures good { good.IsGoodWorld self.new }
         ensures err { OnErr result (self.new ≡ self.old) }
-        ensures refused { OnErr result (spec.is_refused (spec.event_row T.rows self.old event.now).1 ≡ false) }
+        ensures refused { OnErr result (spec.is_refused_at_once (spec.event_row T.rows self.old event.now).1 ≡ false) }
     {
         let reply = apply_kept_to::<T>(alloc, &mut self.exchange, &mut self.channels, event);
         self.exchange.shared.queues.are_good();

@@ -11,7 +11,7 @@ pub enum Refusal {
     NotReady,
     /// The channel waits for nothing that the event could be.
     NotWaiting,
-    /// The channel waits in a queue without a time-out.
+    /// The channel waits in a queue, or for a call to devices, without a time-out.
     NoTimer,
     /// There is no queue of the name.
     NoQueue,
@@ -29,6 +29,10 @@ pub enum Refusal {
     NumbersSpent,
     /// The byte is no digit of a telephone.
     BadDigit,
+    /// The text of a dialplan has a fault.
+    BadPlan,
+    /// The channel waits for no call to devices.
+    NotDialling,
 }
 
 impl Refusal {
@@ -49,6 +53,8 @@ impl Refusal {
             Refusal::Ended => 49,
             Refusal::NumbersSpent => 50,
             Refusal::BadDigit => 51,
+            Refusal::BadPlan => 52,
+            Refusal::NotDialling => 53,
         }
     }
 
@@ -69,6 +75,8 @@ impl Refusal {
             Refusal::Ended => "Ended",
             Refusal::NumbersSpent => "NumbersSpent",
             Refusal::BadDigit => "BadDigit",
+            Refusal::BadPlan => "BadPlan",
+            Refusal::NotDialling => "NotDialling",
         }
     }
 }

@@ -275,9 +275,11 @@ pub(crate) fn step_channel<T: AppTable>(
 {
     match channel.phase {
         Phase::Ready => step_ready::<T>(alloc, exchange, number, channel),
-        Phase::Digits { .. } | Phase::Pause | Phase::Queued { .. } | Phase::Talking { .. } => {
-            Ok(Reply::Refused(Refusal::NotReady))
-        }
+        Phase::Digits { .. }
+        | Phase::Pause
+        | Phase::Queued { .. }
+        | Phase::Talking { .. }
+        | Phase::Dialling { .. } => Ok(Reply::Refused(Refusal::NotReady)),
         Phase::Ended => Ok(Reply::Refused(Refusal::Ended)),
     }
 }

@@ -1,6 +1,6 @@
 //! The events of a channel that waits: for digits, for a time, or in a queue. After the Asterisk documentation's pages on
 //! the applications `WaitExten`, `Background`, `Wait` and `Queue`.
-ghost use Rattle.std.specs.Prelude.{◌≡◌, ◌≤◌, ◌++◌, ◌∷◌, [], IfOk, Ok};
+ghost use Rattle.std.specs.Prelude.{◌≡◌, ◌≤◌, ◌++◌, ◌∷◌, [], IfOk};
 ghost use Rattle.dp_app.specs.Laws.{most_priority};
 ghost use Rattle.dp_queue.specs.Joining.{should_leave};
 ghost use Rattle.dp_machine.specs.Channels as channels;
@@ -10,6 +10,7 @@ ghost use Rattle.dp_machine.specs.Found as found;
 ghost use Rattle.dp_machine.specs.GoodWorld.{MayAct};
 
 use crate::channel::Channel;
+use crate::dialling::{cancel_dial, end_dial_time};
 use crate::directory::Directory;
 use crate::ending::{go_to_exten, hang_up};
 use crate::exchange::Exchange;
@@ -39,7 +40,8 @@ fn is_over(phase: &Phase) -> bool
         | Phase::Digits { .. }
         | Phase::Pause
         | Phase::Queued { .. }
-        | Phase::Talking { .. } => false,
+        | Phase::Talking { .. }
+        | Phase::Dialling { .. } => false,
         Phase::Ended => true,
     }
 }
@@ -123,7 +125,7 @@ fn dial_digit(
             collect(&mut exchange.plan, channel, text, is_background);
             Ok(Reply::Done)
         }
-        Phase::Pause => Ok(Reply::Done),
+        Phase::Pause | Phase::Dialling { .. } => Ok(Reply::Done),
         Phase::Queued { queue, .. } => {
             let queue = *queue;
             dial_in_queue(alloc, exchange, number, channel, queue, digit)
@@ -251,6 +253,10 @@ pub(crate) fn end_time(
             let has_timer = *has_timer;
             end_time_in_queue(alloc, exchange, number, channel, has_timer)
         }
+        Phase::Dialling { has_timer, .. } => {
+            let has_timer = *has_timer;
+            end_dial_time(alloc, exchange, channel, has_timer)
+        }
         Phase::Ready | Phase::Talking { .. } => Ok(Reply::Refused(Refusal::NotWaiting)),
         Phase::Ended => Ok(Reply::Refused(Refusal::Ended)),
     }
@@ -291,18 +297,26 @@ pub(crate) fn poll(
             let queue = *queue;
             poll_queue(alloc, exchange, number, channel, queue)
         }
-        Phase::Ready | Phase::Digits { .. } | Phase::Pause | Phase::Talking { .. } => {
-            Ok(Reply::Refused(Refusal::NotWaiting))
-        }
+        Phase::Ready
+        | Phase::Digits { .. }
+        | Phase::Pause
+        | Phase::Talking { .. }
+        | Phase::Dialling { .. } => Ok(Reply::Refused(Refusal::NotWaiting)),
         Phase::Ended => Ok(Reply::Refused(Refusal::Ended)),
     }
 }
 
-/// The caller hangs up: the channel leaves its queue, or its talk ends, and it is hung up. It takes no memory.
+/// The caller hangs up: the channel leaves its queue, or its talk ends, or it reads that its call to devices was given up, and
+/// it is hung up. Only that reading takes memory.
 #[tactic(auto, unfolding(crate::specs::Events::hang_up_row))]
-pub(crate) fn hang_up_channel(exchange: &mut Exchange, number: u32, channel: &mut Channel) -> Reply
+pub(crate) fn hang_up_channel(
+    alloc: Global,
+    exchange: &mut Exchange,
+    number: u32,
+    channel: &mut Channel,
+) -> Result<Reply, NoMemory>
     ensures { Follows (spec.hang_up_row exchange.old.plan exchange.old.shared number channel.old)
-        exchange.old exchange.new channel.old channel.new (Ok result) }
+        exchange.old exchange.new channel.old channel.new result }
 {
     match &channel.phase {
         Phase::Ready | Phase::Digits { .. } | Phase::Pause => {}
@@ -312,8 +326,9 @@ pub(crate) fn hang_up_channel(exchange: &mut Exchange, number: u32, channel: &mu
         Phase::Talking { .. } => {
             let _call = exchange.shared.queues.end_talk(number);
         }
-        Phase::Ended => return Reply::Refused(Refusal::Ended),
+        Phase::Dialling { .. } => return cancel_dial(alloc, exchange, channel),
+        Phase::Ended => return Ok(Reply::Refused(Refusal::Ended)),
     }
     hang_up(&mut exchange.plan, channel);
-    Reply::Done
+    Ok(Reply::Done)
 }

@@ -10,4 +10,6 @@ mod machines;
 #[cfg(test)]
 mod numbers;
 #[cfg(test)]
+mod scripts;
+#[cfg(test)]
 mod stories;

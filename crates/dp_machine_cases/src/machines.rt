@@ -24,9 +24,12 @@ fn push_events(events: &mut Vec<Event>, lines: &[ScriptLine]) -> Result<(), NoMe
     Ok(())
 }
 
-/// The events of a script.
+/// The events of a script, where `reload` gives the empty dialplan.
 fn events_of(alloc: Global, script: &[u8]) -> Result<Vec<Event>, Fail> {
-    let lines = read_script(alloc, script).ok().ok_or("a faulty script")?;
+    let empty = b"".as_slice();
+    let lines = read_script(alloc, Some(empty), script)
+        .ok()
+        .ok_or("a faulty script")?;
     let mut events = Vec::new(alloc);
     push_events(&mut events, &lines)?;
     Ok(events)
@@ -268,12 +271,12 @@ fn an_event_is_copied_whole(alloc: Global) -> Result<(), Fail> {
 }
 
 /// An event of each other kind.
-const EVENTS: &[u8] = b"step 4294967295\ndigit 1 5\ntimeout 1\npoll 2\nhangup 3\n\
-offer q\nanswer Line/1\ndecline Line/2\ndone Line/3\n";
+const EVENTS: &[u8] = b"step 4294967295\ndigit 1 5\ntimeout 1\npoll 2\nhangup 3\nresult 4 BUSY\n\
+offer q\nanswer Line/1\ndecline Line/2\ndone Line/3\nreload\n";
 
 fn other_events_are_copied_whole(alloc: Global) -> Result<(), Fail> {
     let events = events_of(alloc, EVENTS)?;
-    check_that(events.len() == 9, "the count")?;
+    check_that(events.len() == 11, "the count")?;
     check_copies(&events)
 }
 

@@ -130,14 +130,14 @@ a:1→started 4 -> ready a,1,1
 4→ran a,1,1 NoOp -> ready a,1,2
 2→ran b,2,2 Goto -> ready a,1,1
 # Where a context has no `h` and no `i`, a call that hangs up is over.
-plan [main]\nexten => 1,1,Hangup()\nexten => 2,1,Dial()\nexten => 3,1,Goto(x)→0 notes
+plan [main]\nexten => 1,1,Hangup()\nexten => 2,1,Macro()\nexten => 3,1,Goto(x)→0 notes
 main:1→started 1 -> ready main,1,1
 main:2→started 2 -> ready main,2,1
 main:3→started 3 -> ready main,3,1
 main:4→started 4 -> ready main,4,1
 4→no entry -> ended main,4,1
 3→ran main,3,1 Goto -> ended main,3,1
-2→ran main,2,1 Dial -> ended main,2,1
+2→ran main,2,1 Macro -> ended main,2,1
 1→ran main,1,1 Hangup -> ended main,1,1
 1→refused 49 Ended -> ended main,1,1
 5→refused 40 NoChannel -> none

@@ -115,6 +115,7 @@ fn word_of(phase: &Phase) -> &'static str {
         Phase::Pause => "pause",
         Phase::Queued { .. } => "queued",
         Phase::Talking { .. } => "talking",
+        Phase::Dialling { .. } => "dialling",
         Phase::Ended => "ended",
     }
 }
@@ -183,6 +184,29 @@ pub fn push_stepped(
 ) -> Result<(), NoMemory> {
     let reply = machine.apply(alloc, Event::Step { channel })?;
     push_answer(out, alloc, machine, reply, channel)
+}
+
+/// The number of the channel that an event is about, or None where it is about none.
+fn about(reply: Reply, named: u32) -> Option<u32> {
+    match (reply, named) {
+        (Reply::Started(channel), _) => Some(channel),
+        (_, 0) => None,
+        (_, channel) => Some(channel),
+    }
+}
+
+/// Gives an event, and adds the reply and the state of its channel behind it, or the reply alone where it is about no channel.
+pub fn push_given(
+    out: &mut String,
+    alloc: Global,
+    machine: &mut Exchange,
+    event: &Event,
+) -> Result<(), NoMemory> {
+    let reply = machine.apply_kept(alloc, event)?;
+    match about(reply, event.channel()) {
+        Some(channel) => push_answer(out, alloc, machine, reply, channel),
+        None => push_reply(out, alloc, machine.plan(), reply),
+    }
 }
 
 /// Adds the value of a name in a channel, in characters of the numbers of its bytes.

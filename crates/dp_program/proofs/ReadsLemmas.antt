@@ -1,5 +1,5 @@
 -- What reading sources came to.
-use Rattle.std.proofs.Common.{◌≡◌, ◌||◌, ℕ, Bool, true, false, List, [], Option, Some, None, IfSome, Result, Ok, Err, inl, inr, refl, sym, ap, subst, ◌∙◌}
+use Rattle.std.proofs.Common.{◌≡◌, ◌||◌, ℕ, Bool, true, false, List, [], Option, Some, None, IfSome, Result, Ok, Err, inl, inr, refl, sym, ap, subst}
 use Rattle.dp_conf.specs.Answers.{Refuses, ◌>>=◌}
 use Rattle.dp_conf.specs.Whole.{whole_of, length_fault, is_read_failed}
 use Rattle.dp_conf.specs.declared.fault.ReadFault.{ReadFault}
@@ -43,19 +43,20 @@ ReadsSome-any None P all = all (Ok None)
 ReadsSome-any (Some source) P all = Reads-any source _ (λ text. all (text >>= λ text. Ok (Some text)))
 
 -- what holds of all texts by what holds of each
-pub ReadsTexts-of : (plan : Source) (queues : Option Source) (script : Source)
-    (P : Result (List ℕ) PbxFault → Type 0) (Q : Result (Option (List ℕ)) PbxFault → Type 0) (S : Result (List ℕ) PbxFault → Type 0)
-    (R : Result TextsOf PbxFault → Type 0)
-    → ((p : Result (List ℕ) PbxFault) (q : Result (Option (List ℕ)) PbxFault) (s : Result (List ℕ) PbxFault) → P p → Q q → S s → R (all_texts p q s))
-    → Reads plan P → ReadsSome queues Q → Reads script S → ReadsTexts plan queues script R
-ReadsTexts-of plan queues script P Q S R all p_read q_read s_read =
-    Reads-weaker P _ (λ p p_holds. ReadsSome-weaker queues Q _ (λ q q_holds. Reads-weaker S _ (λ s s_holds. all p q s p_holds q_holds s_holds) s_read) q_read) p_read
+pub ReadsTexts-of : (plan : Source) (queues second_plan : Option Source) (script : Source)
+    (P : Result (List ℕ) PbxFault → Type 0) (Q R : Result (Option (List ℕ)) PbxFault → Type 0) (S : Result (List ℕ) PbxFault → Type 0)
+    (T : Result TextsOf PbxFault → Type 0)
+    → ((p : Result (List ℕ) PbxFault) (q r : Result (Option (List ℕ)) PbxFault) (s : Result (List ℕ) PbxFault) → P p → Q q → R r → S s → T (all_texts p q r s))
+    → Reads plan P → ReadsSome queues Q → ReadsSome second_plan R → Reads script S → ReadsTexts plan queues second_plan script T
+ReadsTexts-of plan queues second_plan script P Q R S T all p_read q_read r_read s_read =
+    Reads-weaker P _ (λ p p_holds. ReadsSome-weaker queues Q _ (λ q q_holds. ReadsSome-weaker second_plan R _ (λ r r_holds.
+    Reads-weaker S _ (λ s s_holds. all p q r s p_holds q_holds r_holds s_holds) s_read) r_read) q_read) p_read
 
 -- what holds of all texts, and what follows from it
-pub ReadsTexts-weaker : (plan : Source) (queues : Option Source) (script : Source) (P Q : Result TextsOf PbxFault → Type 0)
-    → ((texts : Result TextsOf PbxFault) → P texts → Q texts) → ReadsTexts plan queues script P → ReadsTexts plan queues script Q
-ReadsTexts-weaker plan queues script P Q weaker reads =
-    Reads-weaker _ _ (λ p. ReadsSome-weaker queues _ _ (λ q. Reads-weaker _ _ (λ s. weaker (all_texts p q s)))) reads
+pub ReadsTexts-weaker : (plan : Source) (queues second_plan : Option Source) (script : Source) (P Q : Result TextsOf PbxFault → Type 0)
+    → ((texts : Result TextsOf PbxFault) → P texts → Q texts) → ReadsTexts plan queues second_plan script P → ReadsTexts plan queues second_plan script Q
+ReadsTexts-weaker plan queues second_plan script P Q weaker reads =
+    Reads-weaker _ _ (λ p. ReadsSome-weaker queues _ _ (λ q. ReadsSome-weaker second_plan _ _ (λ r. Reads-weaker _ _ (λ s. weaker (all_texts p q r s))))) reads
 
 -- what a fault comes to, where want of memory says nothing
 pub by_reason : {X : Type 0} (P : PbxFault → Result X PbxFault → Type 0)
@@ -70,30 +71,46 @@ Refuses-next (Coded code line) text next refused = ap (λ read. read >>= next) r
 Refuses-next NoMemory text next refused = tt
 
 -- the texts of which the dialplan's is refused
-pub texts_refused_plan : (plan : Source) (queues : Option Source) (script : Source) (fault : PbxFault)
-    → Reads plan (λ text. Refuses (reason_of fault) text) → ReadsTexts plan queues script (λ texts. Refuses (reason_of fault) texts)
-texts_refused_plan plan queues script fault reads =
-    ReadsTexts-of plan queues script (λ text. Refuses (reason_of fault) text) (λ text. Unit {0}) (λ text. Unit {0}) (λ texts. Refuses (reason_of fault) texts)
-    (λ p q s refused any all. Refuses-next fault p _ refused) reads (ReadsSome-any queues _ (λ text. tt)) (Reads-any script _ (λ text. tt))
+pub texts_refused_plan : (plan : Source) (queues second_plan : Option Source) (script : Source) (fault : PbxFault)
+    → Reads plan (λ text. Refuses (reason_of fault) text) → ReadsTexts plan queues second_plan script (λ texts. Refuses (reason_of fault) texts)
+texts_refused_plan plan queues second_plan script fault reads =
+    ReadsTexts-of plan queues second_plan script (λ text. Refuses (reason_of fault) text) (λ text. Unit {0}) (λ text. Unit {0}) (λ text. Unit {0})
+    (λ texts. Refuses (reason_of fault) texts) (λ p q r s refused x y z. Refuses-next fault p _ refused)
+    reads (ReadsSome-any queues _ (λ text. tt)) (ReadsSome-any second_plan _ (λ text. tt)) (Reads-any script _ (λ text. tt))
 
 -- that of the queues behind it
-pub texts_refused_queues : (plan : Source) (queues : Option Source) (script : Source) (fault : PbxFault) (read : List ℕ)
+pub texts_refused_queues : (plan : Source) (queues second_plan : Option Source) (script : Source) (fault : PbxFault) (read : List ℕ)
     → Reads plan (λ text. text ≡ Ok read) → ReadsSome queues (λ text. Refuses (reason_of fault) text)
-    → ReadsTexts plan queues script (λ texts. Refuses (reason_of fault) texts)
-texts_refused_queues plan queues script fault read is reads =
-    ReadsTexts-of plan queues script (λ text. text ≡ Ok read) (λ text. Refuses (reason_of fault) text) (λ text. Unit {0}) (λ texts. Refuses (reason_of fault) texts)
-    (λ p q s p_is refused any. subst (λ p. Refuses (reason_of fault) (all_texts p q s)) (sym p_is) (Refuses-next fault q _ refused))
-    is reads (Reads-any script _ (λ text. tt))
+    → ReadsTexts plan queues second_plan script (λ texts. Refuses (reason_of fault) texts)
+texts_refused_queues plan queues second_plan script fault read is reads =
+    ReadsTexts-of plan queues second_plan script (λ text. text ≡ Ok read) (λ text. Refuses (reason_of fault) text) (λ text. Unit {0}) (λ text. Unit {0})
+    (λ texts. Refuses (reason_of fault) texts)
+    (λ p q r s p_is refused y z. subst (λ p. Refuses (reason_of fault) (all_texts p q r s)) (sym p_is) (Refuses-next fault q _ refused))
+    is reads (ReadsSome-any second_plan _ (λ text. tt)) (Reads-any script _ (λ text. tt))
 
--- and that of the script behind both
-pub texts_refused_script : (plan : Source) (queues : Option Source) (script : Source) (fault : PbxFault) (read : List ℕ) (held : Option (List ℕ))
-    → Reads plan (λ text. text ≡ Ok read) → ReadsSome queues (λ text. text ≡ Ok held) → Reads script (λ text. Refuses (reason_of fault) text)
-    → ReadsTexts plan queues script (λ texts. Refuses (reason_of fault) texts)
-texts_refused_script plan queues script fault read held is are reads =
-    ReadsTexts-of plan queues script (λ text. text ≡ Ok read) (λ text. text ≡ Ok held) (λ text. Refuses (reason_of fault) text) (λ texts. Refuses (reason_of fault) texts)
-    (λ p q s p_is q_is refused. subst (λ p. Refuses (reason_of fault) (all_texts p q s)) (sym p_is)
-    (subst (λ q. Refuses (reason_of fault) (all_texts (Ok read) q s)) (sym q_is) (Refuses-next fault s _ refused)))
-    is are reads
+-- that of the second dialplan behind both
+pub texts_refused_second : (plan : Source) (queues second_plan : Option Source) (script : Source) (fault : PbxFault) (read : List ℕ) (held : Option (List ℕ))
+    → Reads plan (λ text. text ≡ Ok read) → ReadsSome queues (λ text. text ≡ Ok held) → ReadsSome second_plan (λ text. Refuses (reason_of fault) text)
+    → ReadsTexts plan queues second_plan script (λ texts. Refuses (reason_of fault) texts)
+texts_refused_second plan queues second_plan script fault read held is are reads =
+    ReadsTexts-of plan queues second_plan script (λ text. text ≡ Ok read) (λ text. text ≡ Ok held) (λ text. Refuses (reason_of fault) text) (λ text. Unit {0})
+    (λ texts. Refuses (reason_of fault) texts)
+    (λ p q r s p_is q_is refused z. subst (λ p. Refuses (reason_of fault) (all_texts p q r s)) (sym p_is)
+    (subst (λ q. Refuses (reason_of fault) (all_texts (Ok read) q r s)) (sym q_is) (Refuses-next fault r _ refused)))
+    is are reads (Reads-any script _ (λ text. tt))
+
+-- and that of the script behind all three
+pub texts_refused_script : (plan : Source) (queues second_plan : Option Source) (script : Source) (fault : PbxFault) (read : List ℕ) (held other : Option (List ℕ))
+    → Reads plan (λ text. text ≡ Ok read) → ReadsSome queues (λ text. text ≡ Ok held) → ReadsSome second_plan (λ text. text ≡ Ok other)
+    → Reads script (λ text. Refuses (reason_of fault) text)
+    → ReadsTexts plan queues second_plan script (λ texts. Refuses (reason_of fault) texts)
+texts_refused_script plan queues second_plan script fault read held other is are also reads =
+    ReadsTexts-of plan queues second_plan script (λ text. text ≡ Ok read) (λ text. text ≡ Ok held) (λ text. text ≡ Ok other) (λ text. Refuses (reason_of fault) text)
+    (λ texts. Refuses (reason_of fault) texts)
+    (λ p q r s p_is q_is r_is refused. subst (λ p. Refuses (reason_of fault) (all_texts p q r s)) (sym p_is)
+    (subst (λ q. Refuses (reason_of fault) (all_texts (Ok read) q r s)) (sym q_is)
+    (subst (λ r. Refuses (reason_of fault) (all_texts (Ok read) (Ok held) r s)) (sym r_is) (Refuses-next fault s _ refused))))
+    is are also reads
 
 -- a source that was not read whole, by the reader's fault
 pub refused_source : (bytes : Option (List ℕ)) (old new : Bool) (fault : ReadFault)

@@ -12,7 +12,6 @@ use Rattle.dp_queue.specs.declared.fault.QueueFault.TheVariants.{Conf as queue_c
 use Rattle.dp_machine.specs.World.{opening}
 use Rattle.dp_commands.specs.Run.{Files, Run, Told, Writes, files_of, plan_fault, queue_fault, queues_of, run_of, run_on, told_of}
 use Rattle.dp_commands.specs.Script.{line_of, numbered, reading_of, script_of, turns_of, words_of}
-use Rattle.dp_commands.specs.declared.fault.Code.TheVariants.{WriteFailed}
 use Rattle.dp_commands.specs.declared.fault.PbxFault.{PbxFault}
 use Rattle.dp_commands.specs.declared.fault.PbxFault.TheVariants.{Coded, NoMemory}
 use Rattle.dp_commands.specs.declared.script.ScriptLine.{ScriptLine}
@@ -47,33 +46,37 @@ line_reads : (line : ℕ) (read : Option (List ScriptLine)) → has_read_failed 
 line_reads line None = refl
 line_reads line (Some lines) = refl
 
-lines_read : (before parts : List (List ℕ)) → has_read_failed (all_of (each_after reading_of before parts)) ≡ false
-lines_read before [] = refl
-lines_read before (part ∷ parts) =
-    let later : Result (List ScriptLine) PbxFault = all_of (each_after reading_of (before ++ part ∷ []) parts) in
-    next_reads (reading_of before part) (λ xs. with_front xs later) (line_reads (length before + 1) (line_of (words_of part)))
-    (λ xs. next_reads later (λ ys. Ok (xs ++ ys)) (lines_read (before ++ part ∷ []) parts) (λ ys. refl))
+lines_read : (second_plan : Option (List ℕ)) (before parts : List (List ℕ))
+    → has_read_failed (all_of (each_after (reading_of second_plan) before parts)) ≡ false
+lines_read second_plan before [] = refl
+lines_read second_plan before (part ∷ parts) =
+    let later : Result (List ScriptLine) PbxFault = all_of (each_after (reading_of second_plan) (before ++ part ∷ []) parts) in
+    next_reads (reading_of second_plan before part) (λ xs. with_front xs later)
+    (line_reads (length before + 1) (line_of second_plan (words_of part)))
+    (λ xs. next_reads later (λ ys. Ok (xs ++ ys)) (lines_read second_plan (before ++ part ∷ []) parts) (λ ys. refl))
 
-script_reads : (text : List ℕ) → has_read_failed (script_of text) ≡ false
+script_reads : (second_plan : Option (List ℕ)) (text : List ℕ) → has_read_failed (script_of second_plan text) ≡ false
 unfolding script_of
-script_reads text = lines_read [] (parts_of text)
+script_reads second_plan text = lines_read second_plan [] (parts_of text)
 
 files_read : (plan : List ℕ) (queues : Option (List ℕ)) → has_read_failed (files_of plan queues) ≡ false
 files_read plan queues =
     next_reads {Y = Files} (plan_fault (loaded plan)) (λ read. queues_of queues >>= λ held. Ok (record { plan = read.0; queues = held })) (plan_reads (loaded plan))
     (λ read. next_reads {Y = Files} (queues_of queues) (λ held. Ok (record { plan = read.0; queues = held })) (queues_read queues) (λ held. refl))
 
-told_reads : (plan : List ℕ) (queues : Option (List ℕ)) (script : List ℕ) → has_read_failed (told_of plan queues script) ≡ false
-told_reads plan queues script =
+told_reads : (plan : List ℕ) (queues second_plan : Option (List ℕ)) (script : List ℕ) → has_read_failed (told_of plan queues second_plan script) ≡ false
+told_reads plan queues second_plan script =
     next_reads {Y = Told} (files_of plan queues)
-    (λ files. script_of script >>= λ lines. Ok (record { plan = files.plan; queues = files.queues; lines = lines })) (files_read plan queues)
-    (λ files. next_reads {Y = Told} (script_of script) (λ lines. Ok (record { plan = files.plan; queues = files.queues; lines = lines })) (script_reads script) (λ lines. refl))
+    (λ files. script_of second_plan script >>= λ lines. Ok (record { plan = files.plan; queues = files.queues; lines = lines })) (files_read plan queues)
+    (λ files. next_reads {Y = Told} (script_of second_plan script) (λ lines. Ok (record { plan = files.plan; queues = files.queues; lines = lines }))
+    (script_reads second_plan script) (λ lines. refl))
 
 -- a run is none whose files were not read
-pub run_of_reads : (plan : List ℕ) (queues : Option (List ℕ)) (script : List ℕ) → has_read_failed (run_of plan queues script) ≡ false
+pub run_of_reads : (plan : List ℕ) (queues second_plan : Option (List ℕ)) (script : List ℕ) → has_read_failed (run_of plan queues second_plan script) ≡ false
 unfolding run_of
-run_of_reads plan queues script =
-    next_reads (told_of plan queues script) (λ told. Ok (run_on (opening told.plan told.queues) (turns_of told.lines))) (told_reads plan queues script) (λ told. refl)
+run_of_reads plan queues second_plan script =
+    next_reads (told_of plan queues second_plan script) (λ told. Ok (run_on (opening told.plan told.queues) (turns_of told.lines)))
+    (told_reads plan queues second_plan script) (λ told. refl)
 
 -- nor does it answer so
 pub writes_reads : (old new : Option (List ℕ)) (given : Result Run PbxFault) (result : Result ℕ PbxFault)

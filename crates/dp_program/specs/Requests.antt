@@ -10,8 +10,8 @@ pub data Asked : Type 0 where
   check : List ℕ → Asked
   listing : List ℕ → Asked
   matching : List ℕ → List ℕ → List ℕ → ℕ → Asked
-  run : List ℕ → Option (List ℕ) → List ℕ → Option ℕ → Asked
-  debug : List ℕ → Option (List ℕ) → List ℕ → List ℕ → Asked
+  run : List ℕ → Option (List ℕ) → Option (List ℕ) → List ℕ → Option ℕ → Asked
+  debug : List ℕ → Option (List ℕ) → Option (List ℕ) → List ℕ → List ℕ → Asked
 
 -- what a request asks for
 abbrev pub asked : Request → Asked
@@ -19,5 +19,7 @@ asked Joined = joined
 asked (Check file) = check file.now
 asked (Listing file) = listing file.now
 asked (Match file context text priority) = matching file.now context.now text.now priority
-asked (Run file queues script threads) = run file.now (option_map (λ path. path.now) queues) script.now threads
-asked (Debug file queues script held) = debug file.now (option_map (λ path. path.now) queues) script.now held.now
+asked (Run file queues second_plan script threads) =
+    run file.now (option_map (λ path. path.now) queues) (option_map (λ path. path.now) second_plan) script.now threads
+asked (Debug file queues second_plan script held) =
+    debug file.now (option_map (λ path. path.now) queues) (option_map (λ path. path.now) second_plan) script.now held.now

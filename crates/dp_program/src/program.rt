@@ -114,15 +114,26 @@ fn run_in_threads<W: WriteTold, R: Threads + Wait + Sync>(
     alloc: Global,
     plan: &[u8],
     queues: Option<&[u8]>,
+    second_plan: Option<&[u8]>,
     script: &[u8],
     threads: u32,
     output: &mut W,
 ) -> Result<u8, PbxFault>
     ensures shares { spec.SharesSome (max 1 threads) (W.contents output.old) (W.contents output.new)
-        (run_of plan.now (option_map (λ text. text.now) queues.entry) script.now) result }
+        (run_of plan.now (option_map (λ text. text.now) queues.entry) (option_map (λ text. text.now) second_plan.entry) script.now) result }
     ensures told { W.has_failed output.new ≡ (W.has_failed output.old || is_write_failed result) }
 {
-    let ran = run_threads(rt, alloc, plan, queues, script, threads, &OpenGate, output)?;
+    let ran = run_threads(
+        rt,
+        alloc,
+        plan,
+        queues,
+        second_plan,
+        script,
+        threads,
+        &OpenGate,
+        output,
+    )?;
     Ok(status_of(ran))
 }
 
@@ -135,17 +146,26 @@ fn run_texts<W: WriteTold, R: Threads + Wait + Sync>(
     output: &mut W,
 ) -> Result<u8, PbxFault>
     ensures runs { spec.Runs threads (W.contents output.old) (W.contents output.new)
-        (let read = texts_of texts.now in run_of read.plan read.queues read.script) result }
+        (let read = texts_of texts.now in run_of read.plan read.queues read.second_plan read.script) result }
     ensures told { W.has_failed output.new ≡ (W.has_failed output.old || is_write_failed result) }
 {
     let queues = texts.queues.as_deref();
+    let second_plan = texts.second_plan.as_deref();
     match threads {
-        None => run_script(alloc, &texts.plan, queues, &texts.script, output),
+        None => run_script(
+            alloc,
+            &texts.plan,
+            queues,
+            second_plan,
+            &texts.script,
+            output,
+        ),
         Some(threads) => run_in_threads(
             rt,
             alloc,
             &texts.plan,
             queues,
+            second_plan,
             &texts.script,
             threads,
             output,
@@ -153,24 +173,26 @@ fn run_texts<W: WriteTold, R: Threads + Wait + Sync>(
     }
 }
 
-/// Runs the script of a file on the dialplan of another, with the queues of a third where one is named, in threads where
-/// their number is given.
+/// Runs the script of a file on the dialplan of another, with the queues and beside the second dialplan of more files where they are
+/// named, in threads where their number is given.
 fn serve_run<F: ReadFiles, W: WriteTold, R: Threads + Wait + Sync>(
     rt: &R,
     files: &F,
     alloc: Global,
     file: &str,
     queues: Option<&str>,
+    second_plan: Option<&str>,
     script: &str,
     threads: Option<u32>,
     output: &mut W,
 ) -> Result<u8, PbxFault>
     ensures serves { spec.RunsFiles (F.source_at files.now file.now)
-        (option_map (F.source_at files.now) (option_map (λ path. path.now) queues.entry)) (F.source_at files.now script.now) threads
+        (option_map (F.source_at files.now) (option_map (λ path. path.now) queues.entry))
+        (option_map (F.source_at files.now) (option_map (λ path. path.now) second_plan.entry)) (F.source_at files.now script.now) threads
         (W.contents output.old) (W.contents output.new) result }
     ensures told { W.has_failed output.new ≡ (W.has_failed output.old || is_write_failed result) }
 {
-    let texts = read_texts(files, alloc, file, queues, script)?;
+    let texts = read_texts(files, alloc, file, queues, second_plan, script)?;
     run_texts(rt, alloc, &texts, threads, output)
 }
 
@@ -182,37 +204,41 @@ fn debug_texts<W: WriteTold>(
     output: &mut W,
 ) -> Result<u8, PbxFault>
     ensures debugs { WritesDebug (W.contents output.old) (W.contents output.new)
-        (let read = texts_of texts.now in debug_of read.plan read.queues read.script held.now) result }
+        (let read = texts_of texts.now in debug_of read.plan read.queues read.second_plan read.script held.now) result }
     ensures told { W.has_failed output.new ≡ (W.has_failed output.old || is_write_failed result) }
 {
     let queues = texts.queues.as_deref();
+    let second_plan = texts.second_plan.as_deref();
     debug_script(
         alloc,
         &texts.plan,
         queues,
+        second_plan,
         &texts.script,
         held.as_bytes(),
         output,
     )
 }
 
-/// Debugs the script of a file on the dialplan of another, with the queues of a third where one is named, and with the break
-/// of a text.
+/// Debugs the script of a file on the dialplan of another, with the queues and beside the second dialplan of more files where they
+/// are named, and with the break of a text.
 fn serve_debug<F: ReadFiles, W: WriteTold>(
     files: &F,
     alloc: Global,
     file: &str,
     queues: Option<&str>,
+    second_plan: Option<&str>,
     script: &str,
     held: &str,
     output: &mut W,
 ) -> Result<u8, PbxFault>
     ensures serves { spec.DebugsFiles (F.source_at files.now file.now)
-        (option_map (F.source_at files.now) (option_map (λ path. path.now) queues.entry)) (F.source_at files.now script.now) held.now
+        (option_map (F.source_at files.now) (option_map (λ path. path.now) queues.entry))
+        (option_map (F.source_at files.now) (option_map (λ path. path.now) second_plan.entry)) (F.source_at files.now script.now) held.now
         (W.contents output.old) (W.contents output.new) result }
     ensures told { W.has_failed output.new ≡ (W.has_failed output.old || is_write_failed result) }
 {
-    let texts = read_texts(files, alloc, file, queues, script)?;
+    let texts = read_texts(files, alloc, file, queues, second_plan, script)?;
     debug_texts(alloc, &texts, held, output)
 }
 
@@ -246,14 +272,35 @@ pub fn serve<F: ReadFiles, I: ReadTold, W: WriteTold, R: Threads + Wait + Sync>(
         Request::Run {
             file,
             queues,
+            second_plan,
             script,
             threads,
-        } => serve_run(rt, files, alloc, file, *queues, script, *threads, output),
+        } => serve_run(
+            rt,
+            files,
+            alloc,
+            file,
+            *queues,
+            *second_plan,
+            script,
+            *threads,
+            output,
+        ),
         Request::Debug {
             file,
             queues,
+            second_plan,
             script,
             held,
-        } => serve_debug(files, alloc, file, *queues, script, held, output),
+        } => serve_debug(
+            files,
+            alloc,
+            file,
+            *queues,
+            *second_plan,
+            script,
+            held,
+            output,
+        ),
     }
 }

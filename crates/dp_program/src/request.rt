@@ -21,19 +21,23 @@ pub enum Request<'a> {
         text: &'a str,
         priority: Priority,
     },
-    /// `run [--queues QUEUES] [--threads N] FILE SCRIPT`: to run a script on a dialplan, with the queues of a file where one
-    /// is named, and in so many threads where a number is given.
+    /// `run [--queues QUEUES] [--reload DIALPLAN] [--threads N] FILE SCRIPT`: to run a script on a dialplan, with the queues of a
+    /// file where one is named, beside the second dialplan of a file where one is named, and in so many threads where a number
+    /// is given.
     Run {
         file: &'a str,
         queues: Option<&'a str>,
+        second_plan: Option<&'a str>,
         script: &'a str,
         threads: Option<u32>,
     },
-    /// `debug [--queues QUEUES] --break BREAK FILE SCRIPT`: to run a script on a dialplan, with the queues of a file where one
-    /// is named, and with a halt at each step where the break holds.
+    /// `debug [--queues QUEUES] [--reload DIALPLAN] --break BREAK FILE SCRIPT`: to run a script on a dialplan, with the queues of a
+    /// file where one is named, beside the second dialplan of a file where one is named, and with a halt at each step where the
+    /// break holds.
     Debug {
         file: &'a str,
         queues: Option<&'a str>,
+        second_plan: Option<&'a str>,
         script: &'a str,
         held: &'a str,
     },

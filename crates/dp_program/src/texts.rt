@@ -10,16 +10,17 @@ use crate::files::ReadFiles;
 use dp_commands::PbxFault;
 use std::alloc::Global;
 
-/// The texts of the files of a run: its dialplan, its queues, where a file of them is named, and its script.
+/// The texts of the files of a run: its dialplan, its queues and its second dialplan, where files of them are named, and its script.
 #[derive(Drop)]
 pub(crate) struct Texts {
     pub(crate) plan: Vec<u8>,
     pub(crate) queues: Option<Vec<u8>>,
+    pub(crate) second_plan: Option<Vec<u8>>,
     pub(crate) script: Vec<u8>,
 }
 
-/// All bytes of the file of queues, where one is named.
-fn read_queues<F: ReadFiles>(
+/// All bytes of a file, where one is named.
+fn read_named<F: ReadFiles>(
     files: &F,
     alloc: Global,
     path: Option<&str>,
@@ -35,26 +36,30 @@ fn read_queues<F: ReadFiles>(
     Ok(Some(text))
 }
 
-/// The texts of the files of a run: the dialplan is read first, then the queues, then the script, up to the first that has a
-/// fault.
+/// The texts of the files of a run: the dialplan is read first, then the queues, then the second dialplan, then the script, up to
+/// the first that has a fault.
 pub(crate) fn read_texts<F: ReadFiles>(
     files: &F,
     alloc: Global,
     file: &str,
     queues: Option<&str>,
+    second_plan: Option<&str>,
     script: &str,
 ) -> Result<Texts, PbxFault>
     ensures read { spec.ReadsTexts (F.source_at files.now file.now)
-        (option_map (F.source_at files.now) (option_map (λ path. path.now) queues.entry)) (F.source_at files.now script.now)
+        (option_map (F.source_at files.now) (option_map (λ path. path.now) queues.entry))
+        (option_map (F.source_at files.now) (option_map (λ path. path.now) second_plan.entry)) (F.source_at files.now script.now)
         (λ texts. Answers spec.texts_of reason_of result texts) }
     ensures fault { IfErr result (λ fault. is_read_fault fault ≡ true) }
 {
     let plan = files.read_file(alloc, file)?;
-    let queues = read_queues(files, alloc, queues)?;
+    let queues = read_named(files, alloc, queues)?;
+    let second_plan = read_named(files, alloc, second_plan)?;
     let script = files.read_file(alloc, script)?;
     Ok(Texts {
         plan,
         queues,
+        second_plan,
         script,
     })
 }

@@ -18,7 +18,8 @@ use Rattle.dp_qapps.specs.Membership as membership
 use Rattle.dp_qapps.specs.Pausing as pausing
 use Rattle.dp_qapps.specs.Queueing as queueing
 use Rattle.dp_qapps.specs.QueuesKept.{add_kept, joined_kept, joins_within, lists-joined, pause_kept, remove_kept}
-use Rattle.dp_qapps.specs.Reports.{interface_of, part, penalty_of, reported}
+use Rattle.dp_qapps.specs.Reports.{interface_of, penalty_of, reported}
+use Rattle.dp_app.specs.Parts.{has_option, is_given, part}
 use Rattle.dp_qapps.specs.Touches.{variables_and_members, variables_and_waiting}
 
 false_is_true : false ≡ true → ⊥
@@ -159,10 +160,10 @@ module _ (cell : Cell) (goes_on has_timer : Bool) where
 
 -- what the options of `Queue` ask for, by its parts
 abbrev goes_on_of : List ℕ → Bool
-goes_on_of arguments = queueing.asks_to_go_on (part 1 (arguments_of arguments))
+goes_on_of arguments = has_option 99 (part 1 (arguments_of arguments))
 
 abbrev has_timer_of : List ℕ → Bool
-has_timer_of arguments = queueing.is_given (part 4 (arguments_of arguments))
+has_timer_of arguments = is_given (part 4 (arguments_of arguments))
 
 -- what a call that asks to join is told
 abbrev told : List ℕ → Cell → Join

@@ -9,7 +9,8 @@ use Rattle.dp_queue.specs.declared.change.Removed.{Removed}
 use Rattle.dp_queue.specs.declared.change.Removed.TheVariants.{NoSuchQueue as no_queue, NotInQueue, NotDynamic, Removed as removed}
 use Rattle.dp_app.specs.Rows.{Outcome, Row}
 use Rattle.dp_app.specs.declared.cell.Cell.{Cell}
-use Rattle.dp_qapps.specs.Reports.{interface_of, part, penalty_of, reported}
+use Rattle.dp_qapps.specs.Reports.{interface_of, penalty_of, reported}
+use Rattle.dp_app.specs.Parts.{part}
 
 -- the status of an addition
 abbrev pub added_status : Added → List ℕ

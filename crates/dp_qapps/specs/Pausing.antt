@@ -5,7 +5,8 @@ use Rattle.dp_queue.specs.Members.{pause_row}
 use Rattle.dp_queue.specs.Queues.{QueuesOf}
 use Rattle.dp_app.specs.Rows.{Outcome, Row}
 use Rattle.dp_app.specs.declared.cell.Cell.{Cell}
-use Rattle.dp_qapps.specs.Reports.{part, reported}
+use Rattle.dp_qapps.specs.Reports.{reported}
+use Rattle.dp_app.specs.Parts.{part}
 
 -- the queue that a part names; the empty part is all queues
 abbrev pub queue_asked : List ℕ → Option (List ℕ)

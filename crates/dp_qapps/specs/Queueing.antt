@@ -1,6 +1,6 @@
 -- The row of `Queue`.
-use Rattle.std.specs.Prelude.{ℕ, Bool, true, false, List, [], ◌∷◌, is_some, codes, if◌then◌else◌}
-use Rattle.dp_conf.specs.Levels.{arguments_of, cut_outside}
+use Rattle.std.specs.Prelude.{ℕ, Bool, true, false, List, codes, if◌then◌else◌}
+use Rattle.dp_conf.specs.Levels.{arguments_of}
 use Rattle.dp_queue.specs.Joining.{join_row}
 use Rattle.dp_queue.specs.Queues.{QueuesOf}
 use Rattle.dp_queue.specs.declared.join.Join.{Join}
@@ -9,16 +9,8 @@ use Rattle.dp_app.specs.Rows.{Outcome, Row}
 use Rattle.dp_app.specs.declared.cell.Cell.{Cell}
 use Rattle.dp_app.specs.declared.moves.Move.TheVariants.{Hang, Park}
 use Rattle.dp_app.specs.declared.phase.Phase.TheVariants.{Queued}
-use Rattle.dp_qapps.specs.Reports.{part, reported}
-
--- the options ask to go on at the next priority when the agent is done: a `c` stands outside parentheses
-abbrev pub asks_to_go_on : List ℕ → Bool
-asks_to_go_on options = is_some (cut_outside 99 options)
-
--- a part that is not empty
-abbrev pub is_given : List ℕ → Bool
-is_given [] = false
-is_given (b ∷ bs) = true
+use Rattle.dp_qapps.specs.Reports.{reported}
+use Rattle.dp_app.specs.Parts.{has_option, is_given, part}
 
 -- the status of a call that does not wait, and the channel goes on
 abbrev pub refused : Cell → List ℕ → Outcome
@@ -44,7 +36,7 @@ asked_for cell goes_on has_timer answer = asked cell goes_on has_timer answer.0 
 -- the row by the parts of the arguments: queue, options, URL, announcement and time
 abbrev pub queue_by : List (List ℕ) → Cell → Outcome
 queue_by parts cell =
-    asked_for cell (asks_to_go_on (part 1 parts)) (is_given (part 4 parts)) (join_row cell.queues (part 0 parts) cell.number)
+    asked_for cell (has_option 99 (part 1 parts)) (is_given (part 4 parts)) (join_row cell.queues (part 0 parts) cell.number)
 
 -- the row of `Queue`
 unfoldable pub queue_row : Row

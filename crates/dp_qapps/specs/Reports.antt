@@ -1,6 +1,5 @@
 -- What the applications of queues read of their arguments, and the status that they report.
-use Rattle.std.specs.Prelude.{ℕ, nat_le, List, [], ◌∷◌, Option, Some, None, slice_get, if◌then◌else◌}
-use Rattle.std.specs.Option.{unwrap_or}
+use Rattle.std.specs.Prelude.{ℕ, nat_le, List, [], ◌∷◌, Option, Some, None, if◌then◌else◌}
 use Rattle.dp_conf.specs.Numbers.{number_of}
 use Rattle.dp_queue.specs.Queues.{QueuesOf}
 use Rattle.dp_vars.specs.Sights.{channel_name}
@@ -8,10 +7,6 @@ use Rattle.dp_vars.specs.Stores.{set}
 use Rattle.dp_app.specs.Rows.{Outcome}
 use Rattle.dp_app.specs.declared.cell.Cell.{Cell}
 use Rattle.dp_app.specs.declared.moves.Move.TheVariants.{Next}
-
--- the part of a number, from 0; the empty text where there are not so many
-abbrev pub part : ℕ → List (List ℕ) → List ℕ
-part number parts = unwrap_or (slice_get parts number) []
 
 -- the interface that a part names; the empty part is the name of the channel that runs the application
 abbrev pub interface_of : ℕ → List ℕ → List ℕ

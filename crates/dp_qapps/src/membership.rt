@@ -4,8 +4,8 @@ ghost use Rattle.std.specs.Prelude.{◌≡◌, IfOk, OnErr, map};
 ghost use Rattle.dp_queue.specs.Members.{add_row, remove_row};
 ghost use Rattle.dp_qapps.specs.Membership as spec;
 
-use crate::reports::{interface_of, part, penalty_of};
-use dp_app::{Application, Cell, Move, Touch};
+use crate::reports::{interface_of, penalty_of};
+use dp_app::{Application, Cell, Move, Touch, part};
 use dp_conf::{NoMemory, split_args};
 use dp_queue::{Added, Removed};
 use std::alloc::Global;

@@ -4,8 +4,7 @@ ghost use Rattle.std.specs.Prelude.{◌≡◌, Bool, IfOk, OnErr, map};
 ghost use Rattle.std.specs.Option.{option_copied};
 ghost use Rattle.dp_qapps.specs.Pausing as spec;
 
-use crate::reports::part;
-use dp_app::{Application, Cell, Move, Touch};
+use dp_app::{Application, Cell, Move, Touch, part};
 use dp_conf::{NoMemory, split_args};
 use dp_queue::Queues;
 use std::alloc::Global;

@@ -4,11 +4,9 @@ ghost use Rattle.dp_app.specs.Laws.{MayRun};
 ghost use Rattle.dp_queue.specs.Agents.{is_talking};
 ghost use Rattle.dp_queue.specs.Joining.{join_row, waits_in};
 ghost use Rattle.dp_qapps.specs.Queueing as spec;
-ghost use Rattle.dp_qapps.specs.Reports as reports;
 
-use crate::reports::part;
-use dp_app::{Application, Cell, Move, Phase, Touch};
-use dp_conf::{NoMemory, cut_outside, split_args};
+use dp_app::{Application, Cell, Move, Phase, Touch, has_option, is_given, part};
+use dp_conf::{NoMemory, split_args};
 use dp_queue::Join;
 use std::alloc::Global;
 
@@ -19,23 +17,6 @@ struct Asked<'a> {
     queue: &'a [u8],
     goes_on: bool,
     has_timer: bool,
-}
-
-/// Whether the options ask to go on when the agent is done: a `c` stands outside parentheses.
-fn asks_to_go_on(options: &[u8]) -> bool
-    ensures { result ≡ spec.asks_to_go_on options.now }
-{
-    match cut_outside(options, b'c') {
-        Some(_) => true,
-        None => false,
-    }
-}
-
-/// Whether a part is not empty.
-fn is_given(text: &[u8]) -> bool
-    ensures { result ≡ spec.is_given text.now }
-{
-    !text.is_empty()
 }
 
 /// The status of a call that does not wait, and the channel goes on. After a refused growth the cell is as before.
@@ -96,7 +77,7 @@ fn ask_by_parts(alloc: Global, parts: &[&[u8]], cell: &mut Cell) -> Result<Move,
 {
     let asked = Asked {
         queue: part(parts, 0),
-        goes_on: asks_to_go_on(part(parts, 1)),
+        goes_on: has_option(part(parts, 1), b'c'),
         has_timer: is_given(part(parts, 4)),
     };
     let going = ask(alloc, asked, cell)?;

@@ -1,5 +1,5 @@
 //! What the applications of queues read of their arguments.
-ghost use Rattle.std.specs.Prelude.{◌≡◌, ◌≤◌, IfOk, map};
+ghost use Rattle.std.specs.Prelude.{◌≡◌, ◌≤◌, IfOk};
 ghost use Rattle.dp_qapps.specs.Reports as spec;
 ghost use Rattle.dp_vars.specs.Sights as sights;
 
@@ -9,16 +9,6 @@ use std::alloc::Global;
 
 /// The greatest penalty.
 const MOST_PENALTY: u64 = 2_147_483_647;
-
-/// The part of a number, from 0; the empty text where there are not so many.
-pub(crate) fn part<'a>(parts: &[&'a [u8]], number: usize) -> &'a [u8]
-    ensures { result.now ≡ spec.part number (map (λ part. part.now) parts.now) }
-{
-    match parts.get(number) {
-        Some(part) => part,
-        None => b"",
-    }
-}
 
 /// The name of a channel.
 fn channel_name(alloc: Global, channel: u32) -> Result<Text, NoMemory>

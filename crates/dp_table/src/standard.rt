@@ -4,7 +4,7 @@ ghost use Rattle.std.specs.Prelude.{◌≡◌};
 use dp_app::{AppTable, Cell, Move, NoApps, With};
 use dp_conf::NoMemory;
 use dp_flow::{
-    Answer, Background, Gosub, GosubIf, Goto, GotoIf, Hangup, NoOp, Playback, Return, Set,
+    Answer, Background, Dial, Gosub, GosubIf, Goto, GotoIf, Hangup, NoOp, Playback, Return, Set,
     StackPop, Verbose, Wait, WaitExten,
 };
 use dp_qapps::{AddQueueMember, PauseQueueMember, Queue, RemoveQueueMember, UnpauseQueueMember};
@@ -17,7 +17,7 @@ type Membership = With<
 >;
 
 /// Those and the ones that wait.
-type Waiting = With<Wait, With<WaitExten, With<Background, With<Queue, Membership>>>>;
+type Waiting = With<Wait, With<WaitExten, With<Background, With<Dial, With<Queue, Membership>>>>>;
 
 /// Those and the ones that answer and end the call, and that play or print nothing here.
 type Silent = With<Answer, With<Hangup, With<Verbose, With<Playback, Waiting>>>>;

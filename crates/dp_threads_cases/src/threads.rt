@@ -90,7 +90,7 @@ fn ended<R: Threads + Wait + Sync>(
     script: &[u8],
     writer: &mut Told<Vec<u8>>,
 ) -> Result<u8, PbxFault> {
-    let (status, _) = run_threads(rt, alloc, plan, None, script, threads, &Open, writer)?;
+    let (status, _) = run_threads(rt, alloc, plan, None, None, script, threads, &Open, writer)?;
     Ok(status)
 }
 
@@ -164,7 +164,9 @@ fn gated<R: Threads + Wait + Abort + Sync>(
     gate: &Crossed,
     writer: &mut Told<Vec<u8>>,
 ) -> Result<u8, PbxFault> {
-    match run_threads(rt, alloc, GATED_PLAN, None, script, threads, gate, writer) {
+    match run_threads(
+        rt, alloc, GATED_PLAN, None, None, script, threads, gate, writer,
+    ) {
         Ok((status, history)) => {
             assert!(rt;
                 gate.fits(history.entries()),

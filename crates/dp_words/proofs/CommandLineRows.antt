@@ -35,29 +35,37 @@ matched_dashes : asked_of (codes "pbx" ∷ codes "match" ∷ codes "--" ∷ code
 unfolding clap_on_literals asked_of
 matched_dashes = refl
 
-ran : asked_of (codes "pbx" ∷ codes "run" ∷ codes "a.conf" ∷ codes "b.script" ∷ []) ≡ Some (run (codes "a.conf") None (codes "b.script") None)
+ran : asked_of (codes "pbx" ∷ codes "run" ∷ codes "a.conf" ∷ codes "b.script" ∷ []) ≡ Some (run (codes "a.conf") None None (codes "b.script") None)
 unfolding clap_on_literals asked_of
 ran = refl
 
-ran_with_queues : asked_of (codes "pbx" ∷ codes "run" ∷ codes "--queues" ∷ codes "q.conf" ∷ codes "a.conf" ∷ codes "b.script" ∷ []) ≡ Some (run (codes "a.conf") (Some (codes "q.conf")) (codes "b.script") None)
+ran_with_queues : asked_of (codes "pbx" ∷ codes "run" ∷ codes "--queues" ∷ codes "q.conf" ∷ codes "a.conf" ∷ codes "b.script" ∷ []) ≡ Some (run (codes "a.conf") (Some (codes "q.conf")) None (codes "b.script") None)
 unfolding clap_on_literals asked_of
 ran_with_queues = refl
 
-ran_in_threads : asked_of (codes "pbx" ∷ codes "run" ∷ codes "--threads" ∷ codes "2" ∷ codes "a.conf" ∷ codes "b.script" ∷ []) ≡ Some (run (codes "a.conf") None (codes "b.script") (Some 2))
+ran_in_threads : asked_of (codes "pbx" ∷ codes "run" ∷ codes "--threads" ∷ codes "2" ∷ codes "a.conf" ∷ codes "b.script" ∷ []) ≡ Some (run (codes "a.conf") None None (codes "b.script") (Some 2))
 unfolding clap_on_literals asked_of
 ran_in_threads = refl
 
-ran_in_threads_with_queues : asked_of (codes "pbx" ∷ codes "run" ∷ codes "--queues" ∷ codes "q.conf" ∷ codes "--threads" ∷ codes "64" ∷ codes "a.conf" ∷ codes "b.script" ∷ []) ≡ Some (run (codes "a.conf") (Some (codes "q.conf")) (codes "b.script") (Some 64))
+ran_in_threads_with_queues : asked_of (codes "pbx" ∷ codes "run" ∷ codes "--queues" ∷ codes "q.conf" ∷ codes "--threads" ∷ codes "64" ∷ codes "a.conf" ∷ codes "b.script" ∷ []) ≡ Some (run (codes "a.conf") (Some (codes "q.conf")) None (codes "b.script") (Some 64))
 unfolding clap_on_literals asked_of
 ran_in_threads_with_queues = refl
 
-debugged : asked_of (codes "pbx" ∷ codes "debug" ∷ codes "--break" ∷ codes "main,s,1" ∷ codes "a.conf" ∷ codes "b.script" ∷ []) ≡ Some (debug (codes "a.conf") None (codes "b.script") (codes "main,s,1"))
+debugged : asked_of (codes "pbx" ∷ codes "debug" ∷ codes "--break" ∷ codes "main,s,1" ∷ codes "a.conf" ∷ codes "b.script" ∷ []) ≡ Some (debug (codes "a.conf") None None (codes "b.script") (codes "main,s,1"))
 unfolding clap_on_literals asked_of
 debugged = refl
 
-debugged_with_queues : asked_of (codes "pbx" ∷ codes "debug" ∷ codes "--queues" ∷ codes "q.conf" ∷ codes "--break" ∷ codes "x" ∷ codes "a.conf" ∷ codes "b.script" ∷ []) ≡ Some (debug (codes "a.conf") (Some (codes "q.conf")) (codes "b.script") (codes "x"))
+debugged_with_queues : asked_of (codes "pbx" ∷ codes "debug" ∷ codes "--queues" ∷ codes "q.conf" ∷ codes "--break" ∷ codes "x" ∷ codes "a.conf" ∷ codes "b.script" ∷ []) ≡ Some (debug (codes "a.conf") (Some (codes "q.conf")) None (codes "b.script") (codes "x"))
 unfolding clap_on_literals asked_of
 debugged_with_queues = refl
+
+ran_with_second_plan : asked_of (codes "pbx" ∷ codes "run" ∷ codes "--reload" ∷ codes "c.conf" ∷ codes "--threads" ∷ codes "2" ∷ codes "a.conf" ∷ codes "b.script" ∷ []) ≡ Some (run (codes "a.conf") None (Some (codes "c.conf")) (codes "b.script") (Some 2))
+unfolding clap_on_literals asked_of
+ran_with_second_plan = refl
+
+debugged_with_second_plan : asked_of (codes "pbx" ∷ codes "debug" ∷ codes "--break" ∷ codes "x" ∷ codes "--reload" ∷ codes "c.conf" ∷ codes "a.conf" ∷ codes "b.script" ∷ []) ≡ Some (debug (codes "a.conf") None (Some (codes "c.conf")) (codes "b.script") (codes "x"))
+unfolding clap_on_literals asked_of
+debugged_with_second_plan = refl
 
 -- words that are refused, and words that are not
 no_fault : fault_of pbx_app (codes "pbx" ∷ codes "check" ∷ codes "a.conf" ∷ []) ≡ []

@@ -41,17 +41,18 @@ match_app =
     (required_word (codes "FILE"))) (required_word (codes "CONTEXT"))) (required_word (codes "TEXT")))
     (word_or (codes "PRIORITY") (codes "1"))
 
--- `run [--queues QUEUES] [--threads N] FILE SCRIPT`
+-- `run [--queues QUEUES] [--reload DIALPLAN] [--threads N] FILE SCRIPT`
 abbrev pub run_app : App
 run_app =
-    with_rule (with_rule (with_rule (with_rule (new_app (codes "run")) (named_word (codes "QUEUES") (codes "queues")))
-    (named_word (codes "N") (codes "threads"))) (required_word (codes "FILE"))) (required_word (codes "SCRIPT"))
+    with_rule (with_rule (with_rule (with_rule (with_rule (new_app (codes "run")) (named_word (codes "QUEUES") (codes "queues")))
+    (named_word (codes "DIALPLAN") (codes "reload"))) (named_word (codes "N") (codes "threads")))
+    (required_word (codes "FILE"))) (required_word (codes "SCRIPT"))
 
--- `debug [--queues QUEUES] --break CONTEXT,EXTEN,PRIORITY FILE SCRIPT`
+-- `debug [--queues QUEUES] [--reload DIALPLAN] --break CONTEXT,EXTEN,PRIORITY FILE SCRIPT`
 abbrev pub debug_app : App
 debug_app =
-    with_rule (with_rule (with_rule (with_rule (new_app (codes "debug")) (named_word (codes "QUEUES") (codes "queues")))
-    (required_named_word (codes "CONTEXT,EXTEN,PRIORITY") (codes "break")))
+    with_rule (with_rule (with_rule (with_rule (with_rule (new_app (codes "debug")) (named_word (codes "QUEUES") (codes "queues")))
+    (named_word (codes "DIALPLAN") (codes "reload"))) (required_named_word (codes "CONTEXT,EXTEN,PRIORITY") (codes "break")))
     (required_word (codes "FILE"))) (required_word (codes "SCRIPT"))
 
 -- the program's commands
@@ -94,7 +95,7 @@ match_asked words =
 -- what `run` asks for in so many threads, where their number is given, by its other words
 abbrev pub run_in : List Row → Option ℕ → Option Asked
 run_in words threads =
-    option_and_then (λ file. option_map (λ script. run file (first_of (codes "QUEUES") words) script threads)
+    option_and_then (λ file. option_map (λ script. run file (first_of (codes "QUEUES") words) (first_of (codes "DIALPLAN") words) script threads)
     (first_of (codes "SCRIPT") words)) (first_of (codes "FILE") words)
 
 -- what `run` asks for, by its words and the one behind `--threads`
@@ -109,7 +110,8 @@ run_asked words = run_by words (first_of (codes "N") words)
 -- what `debug` asks for, by its words
 abbrev pub debug_asked : List Row → Option Asked
 debug_asked words =
-    option_and_then (λ file. option_and_then (λ script. option_map (debug file (first_of (codes "QUEUES") words) script)
+    option_and_then (λ file. option_and_then (λ script.
+    option_map (debug file (first_of (codes "QUEUES") words) (first_of (codes "DIALPLAN") words) script)
     (first_of (codes "CONTEXT,EXTEN,PRIORITY") words)) (first_of (codes "SCRIPT") words)) (first_of (codes "FILE") words)
 
 -- what a command of a name asks for, by its words

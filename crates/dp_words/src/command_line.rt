@@ -156,6 +156,7 @@ fn run_in<'a>(given: &ArgMatches<'a>, threads: Option<u32>) -> Option<Request<'a
     Some(Request::Run {
         file: word_of(given, "FILE")?,
         queues: word_of(given, "QUEUES"),
+        second_plan: word_of(given, "DIALPLAN"),
         script: word_of(given, "SCRIPT")?,
         threads,
     })
@@ -168,6 +169,7 @@ fn debug_request<'a>(given: &ArgMatches<'a>) -> Option<Request<'a>>
     Some(Request::Debug {
         file: word_of(given, "FILE")?,
         queues: word_of(given, "QUEUES"),
+        second_plan: word_of(given, "DIALPLAN"),
         script: word_of(given, "SCRIPT")?,
         held: word_of(given, "CONTEXT,EXTEN,PRIORITY")?,
     })

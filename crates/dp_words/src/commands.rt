@@ -97,6 +97,21 @@ fn with_queues<'a>(alloc: Global, command: Command<'a>) -> Result<Command<'a>, N
     Ok(with)
 }
 
+/// The command with the word of the file of the second dialplan.
+fn with_second_plan<'a>(alloc: Global, command: Command<'a>) -> Result<Command<'a>, NoMemory>
+    ensures app { IfOk result (λ with. app_of with ≡ with_rule (app_of command.entry) (spec.named_word (codes "DIALPLAN") (codes "reload"))) }
+    ensures local { IfOk result (λ with. (fields_of with).has_globals ≡ (fields_of command.entry).has_globals) }
+{
+    let second_plan = named_word(
+        alloc,
+        "DIALPLAN",
+        "reload",
+        "The second dialplan, which a line `reload` of the script puts in force",
+    );
+    let with = with_word(command, second_plan)?;
+    Ok(with)
+}
+
 /// The program's command with one more command below it.
 fn with_command<'a>(
     command: Command<'a>,
@@ -187,6 +202,7 @@ pub(crate) fn run_command<'a>(alloc: Global) -> Result<Command<'a>, NoMemory>
         RUN_NOTES,
     );
     let run = with_queues(alloc, run)?;
+    let run = with_second_plan(alloc, run)?;
     let threads = named_word(
         alloc,
         "N",
@@ -210,6 +226,7 @@ fn debug_command<'a>(alloc: Global) -> Result<Command<'a>, NoMemory>
         DEBUG_NOTES,
     );
     let debug = with_queues(alloc, debug)?;
+    let debug = with_second_plan(alloc, debug)?;
     let held = required_named_word(
         alloc,
         "CONTEXT,EXTEN,PRIORITY",

@@ -2,7 +2,8 @@
 
 /// What the help says below the commands.
 pub(crate) const PBX_NOTES: &str = "\
-With no command, pbx reads one text from the standard input and runs it: a dialplan, a line `;; script`, and a script.
+With no command, pbx reads one text from the standard input and runs it: a dialplan, a line `;; script`, and a script. A line
+`;; reload` and a second dialplan may stand before the line `;; script`.
 
 Examples:
   pbx check extensions.conf
@@ -54,9 +55,11 @@ A script has one event a line. Channels are numbered from 1 as they start, queue
   timeout CHANNEL                what the channel waits for does not come in time
   poll CHANNEL                   the channel leaves its queue, if that is too empty
   hangup CHANNEL                 the caller hangs up
+  result CHANNEL STATUS          the call to devices came to ANSWER, BUSY, NOANSWER, CONGESTION or CHANUNAVAIL
   offer QUEUE                    a call of the queue rings at agents
   answer AGENT, decline AGENT    the agent takes the call that it rings for, or not
   done AGENT                     the agent is done with its call
+  reload                         the second dialplan comes in force
   show CHANNEL NAME              prints a variable
 Prints a line for each of them.
 

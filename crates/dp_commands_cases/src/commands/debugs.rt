@@ -1,16 +1,21 @@
 //! Debugged runs, with all that is printed of them, worked out by hand from the rules.
 use dp_commands::debug_script;
-use dp_commands_rows::{in_main, make_sink, told};
+use dp_commands_rows::{Texts, make_sink, read_texts, told};
 use dp_conf::NoMemory;
-use dp_rows::{Question, bytes_of, check_all};
+use dp_rows::{Question, check_all};
 use std::alloc::Global;
 use std::test::Fail;
 
-/// Worked cases. A case is a break, a dialplan that begins in `[main]`, a file of queues and a script, parted by `¦`; then
-/// an arrow, and the trace with the status behind it.
+/// Worked cases. A case is a break, a dialplan that begins in `[main]`, a file of queues and a script, parted by `¦`, and a second
+/// dialplan behind a further `¦`, where there is one; then an arrow, and the trace with the status behind it.
 const ROWS: &str = r"
 # first-run
 main,200,1¦exten => 100,1,NoOp(hello)\nexten => 100,2,Goto(200,1)\nexten => 200,1,Hangup()¦¦start main 100\nstep 1 3→started 1\nran 1 main,100,1 NoOp -> ready main,100,2\nran 1 main,100,2 Goto -> ready main,200,1\nbreak 3\nran 1 main,200,1 Hangup -> ended\nend 4\nstatus 0
+# reload
+main,100,2¦exten => 100,1,NoOp(a)\nexten => 100,2,NoOp(b)\n[globals]\nX=1\nY=5¦¦start main 100\nstep 1\nreload\nshow 1 X\nshow 1 Y\nstep 1¦[globals]\nX=${X}2\n[main]\nexten => _1XX,2,Hangup()→started 1\nran 1 main,100,1 NoOp -> ready main,100,2\nok\nbreak 3\nran 1 main,_1XX,2 Hangup -> ended\nend 4\nstatus 0
+main,100,2¦exten => 100,1,NoOp(a)\nexten => 100,2,NoOp(b)\n[globals]\nX=1\nY=5¦¦start main 100\nstep 1\nreload\nshow 1 X\nshow 1 Y\nstep 1¦[main→started 1\nran 1 main,100,1 NoOp -> ready main,100,2\nrefused 52 BadPlan\nbreak 3\nran 1 main,100,2 NoOp -> ready main,100,3\nend 4\nstatus 1
+# dial
+main,s,1¦exten => s,1,Dial(Line/5,20)\nexten => s,2,NoOp()\nexten => h,1,Dial(Line/6)¦¦start main s\nstep 1\nresult 1 BUSY\nshow 1 DIALSTATUS\nresult 1 BUSY→started 1\nbreak 1\nran 1 main,s,1 Dial -> dialling\nok 1 -> ready main,s,2\nrefused 53 NotDialling\nend 4\nstatus 1
 # Before the first step.
 main,100,1¦exten => 100,1,NoOp(hello)\nexten => 100,2,Goto(200,1)\nexten => 200,1,Hangup()¦¦start main 100\nstep 1 3→started 1\nbreak 1\nran 1 main,100,1 NoOp -> ready main,100,2\nran 1 main,100,2 Goto -> ready main,200,1\nran 1 main,200,1 Hangup -> ended\nend 4\nstatus 0
 # No break holds, or there is no event.
@@ -25,6 +30,9 @@ main,s,1¦exten => s,1,NoOp()¦¦start main s\nstart main s\nstep 2\nstep 1→st
 # Where no entry is found it holds too.
 main,s,1¦¦¦start main s\nstep 1→started 1\nbreak 1\nno entry 1 -> ended\nend 2\nstatus 0
 main,s,2147483647¦exten => s,1,Goto(2147483647)¦¦start main s\nstep 1 2→started 1\nran 1 main,s,1 Goto -> ready main,s,2147483647\nbreak 2\nno entry 1 -> ended\nend 3\nstatus 0
+# No break holds before another dialplan, which may be empty, nor before what came of a call to devices.
+main,s,1¦exten => s,1,NoOp()¦¦start main s\nreload\nstep 1¦→started 1\nok\nbreak 2\nno entry 1 -> ended\nend 3\nstatus 0
+main,s,1¦exten => s,1,Dial(x,,g)¦¦start main s\nstep 1\nresult 1 ANSWER\nreload¦→started 1\nbreak 1\nran 1 main,s,1 Dial -> dialling\nok 1 -> ready main,s,2\nok\nend 4\nstatus 0
 # A `show` is passed over: it is not counted, and one of no channel leaves the status 0.
 main,s,1¦exten => s,1,NoOp()¦¦show 1 EXTEN\nstart main s\nshow 1 EXTEN\nshow 2 EXTEN\nstep 1→started 1\nbreak 1\nran 1 main,s,1 NoOp -> ready main,s,2\nend 2\nstatus 0
 # A refused event is counted.
@@ -77,14 +85,25 @@ main,s¦abc¦[q]\nmaxlen=x¦jump 1→fault 71 BadBreak
 main,s,1¦abc¦[q]\nmaxlen=x¦jump 1→fault 4 NoEquals line 2
 main,s,1¦¦[q]\nmaxlen=x¦jump 1→fault 31 BadNumber line 2
 main,s,1¦¦¦start main s\njump 1→fault 70 BadScript line 2
+# A second dialplan that is missing, and one whose fault no event meets.
+main,s¦¦¦reload→fault 71 BadBreak
+main,s,1¦¦[q]\nmaxlen=x¦reload→fault 31 BadNumber line 2
+main,s,1¦¦¦reload→fault 70 BadScript line 1
+main,s,1¦¦¦¦[main→end 0\nstatus 0
 ";
 
 /// All that a debugged run of these texts writes, and what it ends with behind it.
-fn answer_to(alloc: Global, held: &str, texts: (&[u8], &[u8], &[u8])) -> Result<String, NoMemory> {
-    let (plan, queues, script) = texts;
+fn answer_to(alloc: Global, held: &str, texts: &Texts) -> Result<String, NoMemory> {
     let mut writer = make_sink(alloc, 4096, None);
-    let held = held.as_bytes();
-    let ended = debug_script(alloc, plan, Some(queues), script, held, &mut writer);
+    let ended = debug_script(
+        alloc,
+        &texts.plan,
+        Some(&texts.queues),
+        texts.second_plan.as_deref(),
+        &texts.script,
+        held.as_bytes(),
+        &mut writer,
+    );
     told(alloc, ended, writer)
 }
 
@@ -96,10 +115,8 @@ fn answer_of(
     queues: &str,
     script: &str,
 ) -> Result<String, NoMemory> {
-    let plan = in_main(alloc, plan)?;
-    let queues = bytes_of(alloc, queues)?;
-    let script = bytes_of(alloc, script)?;
-    answer_to(alloc, held, (&plan, &queues, &script))
+    let texts = read_texts(alloc, plan, queues, script)?;
+    answer_to(alloc, held, &texts)
 }
 
 /// What the debugged run of a case writes and ends with.

@@ -3,7 +3,7 @@ use dp_commands::{PbxFault, ScriptLine, Turn, read_script};
 use dp_commands_rows::push_fault;
 use dp_conf::NoMemory;
 use dp_machine::Event;
-use dp_rows::{Question, bytes_of, check};
+use dp_rows::{Question, bytes_of, check, push_bytes};
 use std::alloc::Global;
 use std::test::Fail;
 
@@ -42,6 +42,11 @@ digit 1 ;→digit{1}{;}
 timeout 1→timeout{1}
 poll 2→poll{2}
 hangup 003→hangup{3}
+result 1 ANSWER→result{1}{ANSWER}
+result 02 BUSY→result{2}{BUSY}
+\tresult 4294967295  NOANSWER\r→result{4294967295}{NOANSWER}
+result 0 CONGESTION→result{0}{CONGESTION}
+result 1 CHANUNAVAIL→result{1}{CHANUNAVAIL}
 offer q→offer{q}
 answer Line/1→answer{Line/1}
 decline ;→decline{;}
@@ -106,12 +111,49 @@ show 4294967296 M→fault 70 BadScript line 1
 show 1 M 2→fault 70 BadScript line 1
 show 1 M ;→fault 70 BadScript line 1
 Show 1 M→fault 70 BadScript line 1
+# No result of a call to devices: a word of five has its case, and no other is one.
+result→fault 70 BadScript line 1
+result 1→fault 70 BadScript line 1
+result BUSY→fault 70 BadScript line 1
+result BUSY 1→fault 70 BadScript line 1
+result 1 CANCEL→fault 70 BadScript line 1
+result 1 busy→fault 70 BadScript line 1
+result 1 Busy→fault 70 BadScript line 1
+result 1 ANSWERS→fault 70 BadScript line 1
+result 1 ANSWE→fault 70 BadScript line 1
+result 1 NO ANSWER→fault 70 BadScript line 1
+result 1 NOTDIALLING→fault 70 BadScript line 1
+result 1 BUSY 1→fault 70 BadScript line 1
+result 1 BUSY ;→fault 70 BadScript line 1
+result +1 BUSY→fault 70 BadScript line 1
+result 4294967296 BUSY→fault 70 BadScript line 1
+Result 1 BUSY→fault 70 BadScript line 1
+# No second dialplan.
+reload→fault 70 BadScript line 1
+reload x→fault 70 BadScript line 1
+step 1\nreload\njump→fault 70 BadScript line 2
 # The first faulty line.
 \njump→fault 70 BadScript line 2
 step 1\n\n;x\n\r\nstart a\n→fault 70 BadScript line 5
 step 1\nstep 1 100001\nstep 1\njump\n→fault 70 BadScript line 2
 start a b\njump→fault 70 BadScript line 2
 start a\nb\n→fault 70 BadScript line 1
+";
+
+/// Scripts beside a second dialplan. A case is the text of that and the script, parted by `¦`.
+const BESIDE_SECOND: &str = r"
+# Each line has its text, whatever that is.
+[main]\nexten => s,1,NoOp()\n¦reload→reload{[main]\nexten => s,1,NoOp()\n}
+[main¦reload→reload{[main}
+¦reload→reload{}
+\xC3\xBC¦ reload\t\r\n; x\nstep 1\nreload\n→reload{\xC3\xBC}step{1}{1}reload{\xC3\xBC}
+[main¦step 1→step{1}{1}
+# No further word.
+[main]¦reload x→fault 70 BadScript line 1
+[main]¦reload ;→fault 70 BadScript line 1
+[main]¦reload\nreload 1→fault 70 BadScript line 2
+[main]¦Reload→fault 70 BadScript line 1
+[main]¦reloads→fault 70 BadScript line 1
 ";
 
 fn push_event(out: &mut String, event: &Event) -> Result<(), NoMemory> {
@@ -128,10 +170,16 @@ fn push_event(out: &mut String, event: &Event) -> Result<(), NoMemory> {
         Event::Timeout { channel } => write!(out, "timeout{{{channel}}}"),
         Event::Poll { channel } => write!(out, "poll{{{channel}}}"),
         Event::Hangup { channel } => write!(out, "hangup{{{channel}}}"),
+        Event::DialResult { channel, status } => {
+            write!(out, "result{{{channel}}}{{")?;
+            push_bytes(out, status.name())?;
+            out.push('}')
+        }
         Event::Offer { queue } => write!(out, "offer{{{queue}}}"),
         Event::Answer { agent } => write!(out, "answer{{{agent}}}"),
         Event::Decline { agent } => write!(out, "decline{{{agent}}}"),
         Event::AgentDone { agent } => write!(out, "done{{{agent}}}"),
+        Event::Reload { text } => write!(out, "reload{{{text}}}"),
     }
 }
 
@@ -165,7 +213,20 @@ struct Scripts;
 impl Question for Scripts {
     fn answer(alloc: Global, asked: &str) -> Result<String, Fail> {
         let text = bytes_of(alloc, asked)?;
-        let out = shown(alloc, &read_script(alloc, &text))?;
+        let out = shown(alloc, &read_script(alloc, None, &text))?;
+        Ok(out)
+    }
+}
+
+/// The lines of a script beside a second dialplan, or its fault.
+struct BesideSecond;
+
+impl Question for BesideSecond {
+    fn answer(alloc: Global, asked: &str) -> Result<String, Fail> {
+        let (second_plan, script) = asked.split_once('¦').ok_or("no script")?;
+        let second_plan = bytes_of(alloc, second_plan)?;
+        let script = bytes_of(alloc, script)?;
+        let out = shown(alloc, &read_script(alloc, Some(&second_plan), &script))?;
         Ok(out)
     }
 }
@@ -173,5 +234,6 @@ impl Question for Scripts {
 #[test]
 fn scripts_are_read_so(rt: HostRuntime) -> Result<(), Fail> {
     check::<Scripts>(rt.alloc(), LINES)?;
-    check::<Scripts>(rt.alloc(), FAULTY)
+    check::<Scripts>(rt.alloc(), FAULTY)?;
+    check::<BesideSecond>(rt.alloc(), BESIDE_SECOND)
 }

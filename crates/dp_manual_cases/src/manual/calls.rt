@@ -148,6 +148,110 @@ ran 1 main,s,1 Set -> ready main,s,2
 ran 1 main,s,2 Set -> ready main,s,3
 A=<v>
 ? 0
+@ dial.conf
+[main]
+exten => s,1,Dial(Line/5,20)
+ same => n,NoOp(${DIALSTATUS})
+exten => g,1,Dial(Line/5,20,g)
+ same => n,NoOp(${DIALSTATUS})
+exten => n,1,Dial()
+exten => h,1,NoOp(${DIALSTATUS})
+@
+@ dial.script
+start main s
+step 1
+result 1 BUSY
+show 1 DIALSTATUS
+start main s
+step 2
+result 2 NOANSWER
+show 2 DIALSTATUS
+start main s
+step 3
+result 3 CONGESTION
+show 3 DIALSTATUS
+start main s
+step 4
+result 4 CHANUNAVAIL
+show 4 DIALSTATUS
+start main s
+step 5
+result 5 ANSWER
+show 5 DIALSTATUS
+start main g
+step 6
+result 6 ANSWER
+show 6 DIALSTATUS
+start main n
+step 7
+show 7 DIALSTATUS
+@
+$ pbx run dial.conf dial.script
+started 1
+ran 1 main,s,1 Dial -> dialling
+ok 1 -> ready main,s,2
+DIALSTATUS=BUSY
+started 2
+ran 2 main,s,1 Dial -> dialling
+ok 2 -> ready main,s,2
+DIALSTATUS=NOANSWER
+started 3
+ran 3 main,s,1 Dial -> dialling
+ok 3 -> ready main,s,2
+DIALSTATUS=CONGESTION
+started 4
+ran 4 main,s,1 Dial -> dialling
+ok 4 -> ready main,s,2
+DIALSTATUS=CHANUNAVAIL
+started 5
+ran 5 main,s,1 Dial -> dialling
+ok 5 -> ready main,h,1
+DIALSTATUS=ANSWER
+started 6
+ran 6 main,g,1 Dial -> dialling
+ok 6 -> ready main,g,2
+DIALSTATUS=ANSWER
+started 7
+ran 7 main,n,1 Dial -> ready main,n,2
+DIALSTATUS=CHANUNAVAIL
+? 0
+@ ring.conf
+[main]
+exten => s,1,Dial(Line/5&Line/6,20)
+ same => n,NoOp()
+exten => u,1,Dial(Line/5)
+exten => h,1,Dial(Line/7)
+@
+@ ring.script
+start main s
+step 1
+digit 1 5
+timeout 1
+show 1 DIALSTATUS
+result 1 BUSY
+start main u
+step 2
+timeout 2
+hangup 2
+show 2 DIALSTATUS
+step 2
+show 2 DIALSTATUS
+@
+$ pbx run ring.conf ring.script
+started 1
+ran 1 main,s,1 Dial -> dialling
+ok 1 -> dialling
+ok 1 -> ready main,s,2
+DIALSTATUS=NOANSWER
+refused 53 NotDialling
+started 2
+ran 2 main,u,1 Dial -> dialling
+refused 43 NoTimer
+ok 2 -> ready main,h,1
+DIALSTATUS=CANCEL
+ran 2 main,h,1 Dial -> ended
+DIALSTATUS=CANCEL
+? 1
 @ digits.conf
 [main]
 exten => s,1,Background(menu)
@@ -278,6 +382,143 @@ ran 3 main,e,2 Queue -> queued left
 ok 3 -> ready main,e,3
 QUEUESTATUS=LEAVEEMPTY
 ? 0
+@ open.conf
+[globals]
+HOURS=open
+DESK=Line/1
+
+[main]
+exten => s,1,Background(welcome)
+exten => 100,1,Queue(desk,c)
+ same => n,Hangup()
+@
+@ desk.queues
+[desk]
+member => Line/1
+@
+@ closed.conf
+[globals]
+HOURS=${HOURS} and closed
+
+[main]
+exten => s,1,Background(welcome)
+exten => 100,1,Playback(closed)
+ same => n,Hangup()
+@
+@ change.script
+start main 100
+step 1
+start main s
+step 2
+digit 2 1
+reload
+offer desk
+answer Line/1
+done Line/1
+step 1
+digit 2 0
+digit 2 0
+step 2 2
+show 2 HOURS
+show 2 DESK
+@
+$ pbx run --queues desk.queues --reload closed.conf open.conf change.script
+started 1
+ran 1 main,100,1 Queue -> queued desk
+started 2
+ran 2 main,s,1 Background -> digits
+ok 2 -> digits
+ok
+offered 1 1
+ok
+ok
+ran 1 main,100,2 Hangup -> ended
+ok 2 -> digits
+ok 2 -> ready main,100,1
+ran 2 main,100,1 Playback -> ready main,100,2
+ran 2 main,100,2 Hangup -> ended
+HOURS=open and closed
+DESK=Line/1
+? 0
+@ faulty.conf
+[main]
+exten => s,0,NoOp()
+@
+@ again.script
+start main s
+reload
+step 1
+@
+$ pbx run --reload faulty.conf pair.conf again.script
+started 1
+refused 52 BadPlan
+ran 1 main,s,1 NoOp -> ready main,s,2
+? 1
+$ pbx run pair.conf again.script
+fault 70 BadScript line 2
+? 1
+@ gone.text
+[main]
+exten => 100,1,NoOp()
+exten => 100,2,NoOp()
+exten => 200,1,NoOp()
+exten => 200,2,NoOp()
+exten => s,1,Gosub(sub,s,1)
+exten => s,2,NoOp()
+[sub]
+exten => s,1,Return(old)
+;; reload
+[main]
+exten => 200,1,NoOp()
+exten => i,1,NoOp()
+[sub]
+exten => s,1,Return(new)
+;; script
+start main 100
+step 1
+start main 200
+step 2
+start main s
+step 3
+reload
+step 1
+step 2
+step 3 2
+show 3 GOSUB_RETVAL
+@
+$ pbx < gone.text
+started 1
+ran 1 main,100,1 NoOp -> ready main,100,2
+started 2
+ran 2 main,200,1 NoOp -> ready main,200,2
+started 3
+ran 3 main,s,1 Gosub -> ready sub,s,1
+ok
+invalid 1 -> ready main,i,1
+no entry 2 -> ended
+ran 3 sub,s,1 Return -> ready main,s,2
+invalid 3 -> ready main,i,1
+GOSUB_RETVAL=new
+? 0
+$ pbx debug --queues desk.queues --reload closed.conf --break main,100,1 open.conf change.script
+started 1
+break 1
+ran 1 main,100,1 Queue -> queued desk
+started 2
+ran 2 main,s,1 Background -> digits
+ok 2 -> digits
+ok
+offered 1 1
+ok
+ok
+ran 1 main,100,2 Hangup -> ended
+ok 2 -> digits
+ok 2 -> ready main,100,1
+break 12
+ran 2 main,100,1 Playback -> ready main,100,2
+ran 2 main,100,2 Hangup -> ended
+end 14
+? 0
 @ deep.conf
 [main]
 exten => s,1,NoOp(${${${${${${${${${${${${${${${${${${${${${${${${${${${${${${${${${}}}}}}}}}}}}}}}}}}}}}}}}}}}}}}}}})
@@ -287,7 +528,7 @@ fault 25 TooDeep line 2
 ? 1
 @ other.conf
 [main]
-exten => 1,1,Dial(Line/1)
+exten => 1,1,VoiceMail(1)
 exten => 2,1,Set(A=<${IF($[1]?a:b)}>)
 exten => 3,1,Gosub(sub,s,1("a,b"))
 exten => 4,1,Set(A=<$["a" =~ "a"]>)
@@ -326,7 +567,7 @@ step 9
 @
 $ pbx run other.conf other.script
 started 1
-ran 1 main,1,1 Dial -> ready main,h,1
+ran 1 main,1,1 VoiceMail -> ready main,h,1
 ran 1 main,h,1 Wait -> ended
 started 2
 ran 2 main,2,1 Set -> ready main,2,2

@@ -39,10 +39,12 @@ ran 2 phones,_NXXXXXX,1 NoOp -> ready phones,555-1234,2
 ran 2 phones,_NXXXXXX,2 Hangup -> ended
 ? 0
 @ sample/menu.conf
-; A menu that leads to a call queue.
+; A menu that leads to an operator and to a call queue.
 [main]
 exten => s,1,Background(welcome)
  same => n,WaitExten(5)
+exten => 0,1,Dial(Line/9,20)          ; the operator
+ same => n,Goto(s,1)                  ; who does not answer: the menu once more
 exten => 1,1,Queue(sales,c)
  same => n,Hangup()
 exten => i,1,Goto(s,1)
@@ -82,6 +84,36 @@ ok
 ok
 QUEUESTATUS=CONTINUE
 ran 1 main,1,2 Hangup -> ready main,h,1
+ran 1 main,h,1 NoOp -> ready main,h,2
+? 0
+@ sample/operator.script
+; The operator does not answer in time, and then does, and hangs up.
+start main s
+step 1
+digit 1 0
+step 1
+timeout 1
+show 1 DIALSTATUS
+step 1 2
+digit 1 0
+step 1
+result 1 ANSWER
+show 1 DIALSTATUS
+step 1
+@
+$ pbx run sample/menu.conf sample/operator.script
+started 1
+ran 1 main,s,1 Background -> digits
+ok 1 -> ready main,0,1
+ran 1 main,0,1 Dial -> dialling
+ok 1 -> ready main,0,2
+DIALSTATUS=NOANSWER
+ran 1 main,0,2 Goto -> ready main,s,1
+ran 1 main,s,1 Background -> digits
+ok 1 -> ready main,0,1
+ran 1 main,0,1 Dial -> dialling
+ok 1 -> ready main,h,1
+DIALSTATUS=ANSWER
 ran 1 main,h,1 NoOp -> ready main,h,2
 ? 0
 @ dashed.conf
@@ -197,6 +229,14 @@ step 1
 step 2
 @
 $ pbx run --threads 2 pair.conf pair.script
+settled 2 seats 2 calls
+? 0
+@ swap.script
+start main s
+reload
+step 1
+@
+$ pbx run --threads 2 --reload pair.conf pair.conf swap.script
 settled 2 seats 2 calls
 ? 0
 $ pbx run --threads 65 pair.conf pair.script

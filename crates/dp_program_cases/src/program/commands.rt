@@ -98,7 +98,32 @@ run @long @missing→1→→fault 8 TooLong¶
 run @first @folder→1→→fault 7 ReadFailed¶
 # With queues.
 run --queues @help @callers @callers.script→0→started 1¶ran 1 main,s,1 Queue -> queued help¶ok 1 -> ready main,s,2¶ran 1 main,s,2 Hangup -> ended¶→
-# The dialplan is read first, then the queues, then the script, and so come the faults of their texts.
+# dial
+run @dialling @dialling.script→1→started 1¶ran 1 main,s,1 Dial -> dialling¶ok 1 -> ready main,s,2¶DIALSTATUS=BUSY¶refused 53 NotDialling¶→
+# reload
+run --reload @changed @changing @changing.script→0→started 1¶ran 1 main,100,1 NoOp -> ready main,100,2¶ok¶X=12¶Y=5¶ran 1 main,_1XX,2 Hangup -> ended¶→
+run --reload @unclosed @changing @changing.script→1→started 1¶ran 1 main,100,1 NoOp -> ready main,100,2¶refused 52 BadPlan¶X=1¶Y=5¶ran 1 main,100,2 NoOp -> ready main,100,3¶→
+# With an empty second dialplan, and with none.
+run @changing @changing.script --reload @empty→0→started 1¶ran 1 main,100,1 NoOp -> ready main,100,2¶ok¶X=1¶Y=5¶no entry 1 -> ended¶→
+run @changing @changing.script→1→→fault 70 BadScript line 3¶
+run --queues @help @changing @changing.script→1→→fault 70 BadScript line 3¶
+# A second dialplan that no event gives is not looked into.
+run --reload @faulty @labels @labels.script→0→started 1¶ran 1 main,s,1 Goto -> ready main,s,2¶ran 1 main,s,2 Hangup -> ended¶→
+# The lines that part a joined text are comments of files.
+run @joined @joined.script→0→started 1¶ran 1 main,s,1 NoOp -> ready main,s,2¶ran 1 main,s,2 NoOp -> ready main,s,3¶→
+# The dialplan is read first, then the queues, then the second dialplan, then the script, and so come the faults of their texts, of
+# which the second dialplan has none.
+run --reload @missing @first @first.script→1→→fault 7 ReadFailed¶
+run --reload @folder @first @first.script→1→→fault 7 ReadFailed¶
+run --reload @long @first @first.script→1→→fault 8 TooLong¶
+run --reload @missing @long @first.script→1→→fault 8 TooLong¶
+run --reload @long @first @missing→1→→fault 8 TooLong¶
+run --reload @missing @first @long→1→→fault 7 ReadFailed¶
+run --queues @missing --reload @long @first @first.script→1→→fault 7 ReadFailed¶
+run --reload @missing --queues @long @first @first.script→1→→fault 8 TooLong¶
+run --reload @missing @faulty @faulty.script→1→→fault 7 ReadFailed¶
+run --reload @unclosed @faulty @faulty.script→1→→fault 4 NoEquals line 2¶
+run --reload @unclosed @first @faulty.script→1→→fault 70 BadScript line 2¶
 run --queues @missing @long @first.script→1→→fault 8 TooLong¶
 run --queues @missing @first @long→1→→fault 7 ReadFailed¶
 run --queues @long @faulty @missing→1→→fault 8 TooLong¶
@@ -119,6 +144,16 @@ run --threads 1 @first @refused.script→1→settled 1 seats 3 calls¶→
 # With queues.
 run --queues @help --threads 1 @callers @callers.script→0→settled 1 seats 3 calls¶→
 run --threads 4 --queues @faulty @first @first.script→1→→fault 4 NoEquals line 2¶
+# With a second dialplan, which ends the calls that come in first.
+run --threads 2 --reload @pair @pair @between.script→0→settled 2 seats 3 calls¶→
+run --threads 2 --reload @unclosed @pair @between.script→1→settled 2 seats 3 calls¶→
+run --threads 1 --reload @changed @changing @changing.script→0→settled 1 seats 3 calls¶→
+run --threads 1 --reload @pair @pair @late.script→0→settled 1 seats 2 calls¶→
+run --threads 2 @pair @between.script→1→→fault 70 BadScript line 4¶
+run --threads 2 --reload @missing @faulty @first.script→1→→fault 7 ReadFailed¶
+run --threads 2 --reload @long @first @missing→1→→fault 8 TooLong¶
+# With a call to devices.
+run --threads 1 @dialling @dialling.script→1→settled 1 seats 3 calls¶→
 # All files are read before their texts, and the texts are read before the first event.
 run --threads 2 @faulty @missing→1→→fault 7 ReadFailed¶
 run --threads 2 --queues @missing @faulty @first.script→1→→fault 7 ReadFailed¶
@@ -138,6 +173,13 @@ debug --break main,100,1 @first @refused.script→1→refused 40 NoChannel¶star
 debug --break main,100,1 @empty @empty→0→end 0¶→
 # With queues.
 debug --queues @help --break main,s,2 @callers @callers.script→0→started 1¶ran 1 main,s,1 Queue -> queued help¶ok 1 -> ready main,s,2¶break 3¶ran 1 main,s,2 Hangup -> ended¶end 4¶→
+# reload
+debug --reload @changed --break main,100,2 @changing @changing.script→0→started 1¶ran 1 main,100,1 NoOp -> ready main,100,2¶ok¶break 3¶ran 1 main,_1XX,2 Hangup -> ended¶end 4¶→
+debug --break main,100,2 @changing @changing.script --reload @unclosed→1→started 1¶ran 1 main,100,1 NoOp -> ready main,100,2¶refused 52 BadPlan¶break 3¶ran 1 main,100,2 NoOp -> ready main,100,3¶end 4¶→
+debug --break main,100,2 @changing @changing.script→1→→fault 70 BadScript line 3¶
+debug --reload @unclosed --break main,s @changing @changing.script→1→→fault 71 BadBreak¶
+debug --reload @missing --break main,s @first @first.script→1→→fault 7 ReadFailed¶
+debug --reload @long --break main,s @first @missing→1→→fault 8 TooLong¶
 # A break that is none, behind the reading of all files and before their texts.
 debug --break main,s @first @first.script→1→→fault 71 BadBreak¶
 debug --break main,s @faulty @faulty.script→1→→fault 71 BadBreak¶
@@ -181,6 +223,9 @@ const INPUTS: &str = "\
 ←→0→→
 ←[main]¶abc¶→1→→fault 4 NoEquals line 2¶
 ←;; script¶step 1¶→1→refused 40 NoChannel¶→
+# reload
+←[globals]¶X=1¶Y=5¶[main]¶exten => 100,1,NoOp(a)¶exten => 100,2,NoOp(b)¶;; reload¶[globals]¶X=${X}2¶[main]¶exten => _1XX,2,Hangup()¶;; script¶start main 100¶step 1¶reload¶show 1 X¶show 1 Y¶step 1¶→0→started 1¶ran 1 main,100,1 NoOp -> ready main,100,2¶ok¶X=12¶Y=5¶ran 1 main,_1XX,2 Hangup -> ended¶→
+←[main]¶;; script¶reload¶→1→→fault 70 BadScript line 1¶
 # A command reads none of it.
 check @empty←[main]¶exten => 100,1,NoOp(hello)¶exten => 100,2,Goto(200,1)¶exten => 200,1,Hangup()¶;; script¶start main 100¶step 1 3¶→0→ok 0 contexts 0 entries¶→
 ";

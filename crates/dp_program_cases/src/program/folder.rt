@@ -34,6 +34,16 @@ callers→[main]¶exten => s,1,Queue(help,,,,30)¶exten => s,2,Hangup()¶
 callers.script→start main s¶step 1¶timeout 1¶step 1¶
 pair→[main]¶exten => s,1,NoOp()¶
 pair.script→start main s¶start main s¶step 1¶step 2¶
+changing→[globals]¶X=1¶Y=5¶[main]¶exten => 100,1,NoOp(a)¶exten => 100,2,NoOp(b)¶
+changed→[globals]¶X=${X}2¶[main]¶exten => _1XX,2,Hangup()¶
+unclosed→[main
+changing.script→start main 100¶step 1¶reload¶show 1 X¶show 1 Y¶step 1¶
+between.script→start main s¶start main s¶step 1¶reload¶step 2¶
+late.script→start main s¶reload¶start main s¶
+dialling→[main]¶exten => s,1,Dial(Line/5,20)¶exten => s,2,NoOp()¶exten => h,1,Dial(Line/6)¶
+dialling.script→start main s¶step 1¶result 1 BUSY¶show 1 DIALSTATUS¶result 1 BUSY¶
+joined→[main]¶exten => s,1,NoOp()¶;; reload¶;; script¶exten => s,2,NoOp()¶
+joined.script→start main s¶;; reload¶step 1 2¶
 faulty→[main]¶abc¶
 faulty.script→start main 100¶jump 1¶
 notes→[globals]¶=x¶[main]¶exten => s,1,NoOp()¶exten => s,1,Hangup()¶exten => s,2(x),NoOp()¶exten => s,3(x),NoOp()¶include => nowhere¶colour = red¶

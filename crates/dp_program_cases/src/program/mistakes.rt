@@ -14,6 +14,7 @@ dial→unrecognized subcommand 'dial'→pbx [COMMAND]
 check→the following required arguments were not provided:¶  <FILE>→pbx check <FILE>
 check @usual more→unexpected argument 'more' found→pbx check <FILE>
 check --loud x→unexpected argument '--loud' found¶¶  tip: to pass '--loud' as a value, use '-- --loud'→pbx check <FILE>
+check --reload @usual @usual→unexpected argument '--reload' found¶¶  tip: to pass '--reload' as a value, use '-- --reload'→pbx check <FILE>
 match @usual→the following required arguments were not provided:¶  <CONTEXT>¶  <TEXT>→pbx match <FILE> <CONTEXT> <TEXT> [PRIORITY]
 match @usual main 1 2 3→unexpected argument '3' found→pbx match <FILE> <CONTEXT> <TEXT> [PRIORITY]
 match @usual main -5→unexpected argument '-5' found¶¶  tip: to pass '-5' as a value, use '-- -5'→pbx match <FILE> <CONTEXT> <TEXT> [PRIORITY]
@@ -81,7 +82,8 @@ Commands:
 Options:
   -h, --help  Print help
 
-With no command, pbx reads one text from the standard input and runs it: a dialplan, a line `;; script`, and a script.
+With no command, pbx reads one text from the standard input and runs it: a dialplan, a line `;; script`, and a script. A line
+`;; reload` and a second dialplan may stand before the line `;; script`.
 
 Examples:
   pbx check extensions.conf
@@ -172,9 +174,10 @@ Arguments:
   <SCRIPT>  The script of events
 
 Options:
-      --queues <QUEUES>  The queues, as queues.conf; without it there are none
-      --threads <N>      Give the events in so many threads at once, from 1 to 64
-  -h, --help             Print help
+      --queues <QUEUES>    The queues, as queues.conf; without it there are none
+      --reload <DIALPLAN>  The second dialplan, which a line `reload` of the script puts in force
+      --threads <N>        Give the events in so many threads at once, from 1 to 64
+  -h, --help               Print help
 
 A script has one event a line. Channels are numbered from 1 as they start, queues and agents are named:
   start CONTEXT EXTEN [CALLER]   a call comes in
@@ -183,9 +186,11 @@ A script has one event a line. Channels are numbered from 1 as they start, queue
   timeout CHANNEL                what the channel waits for does not come in time
   poll CHANNEL                   the channel leaves its queue, if that is too empty
   hangup CHANNEL                 the caller hangs up
+  result CHANNEL STATUS          the call to devices came to ANSWER, BUSY, NOANSWER, CONGESTION or CHANUNAVAIL
   offer QUEUE                    a call of the queue rings at agents
   answer AGENT, decline AGENT    the agent takes the call that it rings for, or not
   done AGENT                     the agent is done with its call
+  reload                         the second dialplan comes in force
   show CHANNEL NAME              prints a variable
 Prints a line for each of them.
 
@@ -214,6 +219,7 @@ Arguments:
 
 Options:
       --queues <QUEUES>                 The queues, as queues.conf; without it there are none
+      --reload <DIALPLAN>               The second dialplan, which a line `reload` of the script puts in force
       --break <CONTEXT,EXTEN,PRIORITY>  The place where the run halts
   -h, --help                            Print help
 

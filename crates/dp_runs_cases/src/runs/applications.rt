@@ -289,6 +289,50 @@ BackGround(a&b,m,en,out)¦digit 1 7→BackGround -> digits\nok 1 -> ready main,7
 Background(${TWO})¦digit 1 2\ntimeout 1→Background -> digits\nok 1 -> digits\nok 1 -> ready main,2,1
 ";
 
+const DIALS: &str = r"
+# A call to devices sets nothing before it came to something, and their text is read by nobody.
+Dial(Line/5)¦show 1 DIALSTATUS→Dial -> dialling\nDIALSTATUS=
+Dial(Line/1&x)¦offer q\nresult 1 BUSY\nresult 1 BUSY→Dial -> dialling\nrefused 45 NobodyWaiting\nok 1 -> ready main,s,2\nrefused 53 NotDialling
+dial( x )¦→dial -> dialling
+DIAL(${TWO})¦→DIAL -> dialling
+# No devices.
+Dial¦show 1 DIALSTATUS→Dial -> ready main,s,2\nDIALSTATUS=CHANUNAVAIL
+Dial()¦show 1 DIALSTATUS→Dial -> ready main,s,2\nDIALSTATUS=CHANUNAVAIL
+Dial( )¦show 1 DIALSTATUS→Dial -> ready main,s,2\nDIALSTATUS=CHANUNAVAIL
+Dial(,20)¦show 1 DIALSTATUS→Dial -> ready main,s,2\nDIALSTATUS=CHANUNAVAIL
+Dial(${NONE},20,g)¦show 1 DIALSTATUS→Dial -> ready main,s,2\nDIALSTATUS=CHANUNAVAIL
+# What it came to.
+Dial(x)¦result 1 ANSWER\nshow 1 DIALSTATUS→Dial -> dialling\nok 1 -> ended\nDIALSTATUS=ANSWER
+Dial(x)¦result 1 BUSY\nshow 1 DIALSTATUS→Dial -> dialling\nok 1 -> ready main,s,2\nDIALSTATUS=BUSY
+Dial(x)¦result 1 NOANSWER\nshow 1 DIALSTATUS→Dial -> dialling\nok 1 -> ready main,s,2\nDIALSTATUS=NOANSWER
+Dial(x)¦result 1 CONGESTION\nshow 1 DIALSTATUS→Dial -> dialling\nok 1 -> ready main,s,2\nDIALSTATUS=CONGESTION
+Dial(x)¦result 1 CHANUNAVAIL\nshow 1 DIALSTATUS→Dial -> dialling\nok 1 -> ready main,s,2\nDIALSTATUS=CHANUNAVAIL
+Dial(x)¦hangup 1\nshow 1 DIALSTATUS\nresult 1 BUSY→Dial -> dialling\nok 1 -> ended\nDIALSTATUS=CANCEL\nrefused 49 Ended
+# The time is any text but an empty one.
+Dial(x)¦timeout 1→Dial -> dialling\nrefused 43 NoTimer
+Dial(x, )¦timeout 1→Dial -> dialling\nrefused 43 NoTimer
+Dial(x,,,5)¦timeout 1→Dial -> dialling\nrefused 43 NoTimer
+Dial(x,0)¦timeout 1\nshow 1 DIALSTATUS→Dial -> dialling\nok 1 -> ready main,s,2\nDIALSTATUS=NOANSWER
+Dial(x,x)¦timeout 1→Dial -> dialling\nok 1 -> ready main,s,2
+Dial(${TIMED})¦timeout 1→Dial -> dialling\nok 1 -> ready main,s,2
+# An option `g` outside parentheses goes on behind the far side.
+Dial(x,,g)¦result 1 ANSWER→Dial -> dialling\nok 1 -> ready main,s,2
+Dial(x,,tg)¦result 1 ANSWER→Dial -> dialling\nok 1 -> ready main,s,2
+Dial(x,,U(a,b)g)¦result 1 ANSWER→Dial -> dialling\nok 1 -> ready main,s,2
+Dial(x,,)g)¦result 1 ANSWER→Dial -> dialling\nok 1 -> ready main,s,2
+Dial(x,,U(g))¦result 1 ANSWER→Dial -> dialling\nok 1 -> ended
+Dial(x,,(g)¦result 1 ANSWER→Dial -> dialling\nok 1 -> ended
+Dial(x,,G)¦result 1 ANSWER→Dial -> dialling\nok 1 -> ended
+Dial(x,g)¦result 1 ANSWER→Dial -> dialling\nok 1 -> ended
+Dial(x,,,g)¦result 1 ANSWER→Dial -> dialling\nok 1 -> ended
+Dial(x,,,url,g)¦result 1 ANSWER→Dial -> dialling\nok 1 -> ended
+# Other events, and channels that dial nothing.
+Dial(x)¦step 1\npoll 1\ndigit 1 x\ndigit 1 5\nresult 2 BUSY→Dial -> dialling\nrefused 41 NotReady\nrefused 42 NotWaiting\nrefused 51 BadDigit\nok 1 -> dialling\nrefused 40 NoChannel
+Wait(5)¦result 1 BUSY→Wait -> pause\nrefused 53 NotDialling
+WaitExten()¦result 1 ANSWER→WaitExten -> digits\nrefused 53 NotDialling
+Queue(q)¦result 1 BUSY\noffer q\nanswer Line/1\nresult 1 BUSY→Queue -> queued q\nrefused 53 NotDialling\noffered 1 1\nok\nrefused 53 NotDialling
+";
+
 const QUEUEING: &str = r"
 # The queue's name.
 Queue(q)¦show 1 QUEUESTATUS→Queue -> queued q\nQUEUESTATUS=
@@ -398,7 +442,15 @@ UnpauseQueueMember¦show 1 UPQMSTATUS→UnpauseQueueMember -> ready main,s,2\nUP
 PauseQueueMember(,Line/1)\nexten => s,2,UnpauseQueueMember(Q,Line/1)\nexten => w,1,Queue(q)¦step 1\nstart main w\nstep 2\noffer q→PauseQueueMember -> ready main,s,2\nran 1 main,s,2 UnpauseQueueMember -> ready main,s,3\nstarted 2\nran 2 main,w,1 Queue -> queued q\noffered 2 1
 ";
 
-const TABLES: &[&str] = &[JUMPS, SUBROUTINES, SETTINGS, WAITS, QUEUEING, MEMBERS];
+const TABLES: &[&str] = &[
+    JUMPS,
+    SUBROUTINES,
+    SETTINGS,
+    WAITS,
+    DIALS,
+    QUEUEING,
+    MEMBERS,
+];
 
 /// The status of a trace: 1 where an event was refused.
 fn status_of(trace: &str) -> u8 {

@@ -1,14 +1,14 @@
 //! Calls through dialplans with queues, with all that is printed of them, worked out by hand from the rules.
 use crate::runs::manual::PAGES;
 use dp_commands::run_script;
-use dp_commands_rows::{in_main, make_sink, told};
+use dp_commands_rows::{Texts, make_sink, read_texts, told};
 use dp_conf::NoMemory;
-use dp_rows::{Question, bytes_of, check_all};
+use dp_rows::{Question, check_all};
 use std::alloc::Global;
 use std::test::Fail;
 
-/// Worked cases. A case is a dialplan that begins in `[main]`, a file of queues and a script, parted by `¦`; then an arrow,
-/// and the trace with the status behind it.
+/// Worked cases. A case is a dialplan that begins in `[main]`, a file of queues and a script, parted by `¦`, and a second dialplan
+/// behind a further `¦`, where there is one; then an arrow, and the trace with the status behind it.
 const ROWS: &str = r"
 # wildcards
 exten => s,1,WaitExten(5)\nexten => _1!,1,NoOp()\nexten => _1.,1,NoOp()¦¦start main s\nstep 1\ndigit 1 1\ntimeout 1→started 1\nran 1 main,s,1 WaitExten -> digits\nok 1 -> digits\nok 1 -> ready main,1,1\nstatus 0
@@ -40,6 +40,18 @@ exten => s,1,Queue(q)¦[q]\nleavewhenempty=yes¦start main s\nstep 1\npoll 1\nsh
 exten => s,1,WaitExten()\nexten => i,1,NoOp()\nexten => h,1,NoOp()¦¦start main s\nstep 1\ndigit 1 7\nstep 1\nshow 1 INVALID_EXTEN\nhangup 1\nstep 1 2→started 1\nran 1 main,s,1 WaitExten -> digits\nok 1 -> ready main,7,1\ninvalid 1 -> ready main,i,1\nINVALID_EXTEN=7\nok 1 -> ready main,h,1\nran 1 main,h,1 NoOp -> ready main,h,2\nno entry 1 -> ended\nstatus 0
 # pause-and-background
 exten => s,1,Wait(5)\nexten => s,2,Background(x)\nexten => h,1,Wait(1)¦¦start main s\nstep 1\ndigit 1 3\ntimeout 1\nstep 1\ntimeout 1\nhangup 1\nstep 1→started 1\nran 1 main,s,1 Wait -> pause\nok 1 -> pause\nok 1 -> ready main,s,2\nran 1 main,s,2 Background -> digits\nok 1 -> ready main,s,3\nok 1 -> ready main,h,1\nran 1 main,h,1 Wait -> ended\nstatus 0
+# reload
+exten => 100,1,NoOp(a)\nexten => 100,2,NoOp(b)\n[globals]\nX=1\nY=5¦¦start main 100\nstep 1\nreload\nshow 1 X\nshow 1 Y\nstep 1¦[globals]\nX=${X}2\n[main]\nexten => _1XX,2,Hangup()→started 1\nran 1 main,100,1 NoOp -> ready main,100,2\nok\nX=12\nY=5\nran 1 main,_1XX,2 Hangup -> ended\nstatus 0
+exten => 100,1,NoOp(a)\nexten => 100,2,NoOp(b)\n[globals]\nX=1\nY=5¦¦start main 100\nstep 1\nreload\nshow 1 X\nshow 1 Y\nstep 1¦[main→started 1\nran 1 main,100,1 NoOp -> ready main,100,2\nrefused 52 BadPlan\nX=1\nY=5\nran 1 main,100,2 NoOp -> ready main,100,3\nstatus 1
+# dial
+exten => s,1,Dial(Line/5,20)\nexten => s,2,NoOp()\nexten => h,1,Dial(Line/6)¦¦start main s\nstep 1\nresult 1 BUSY\nshow 1 DIALSTATUS\nresult 1 BUSY→started 1\nran 1 main,s,1 Dial -> dialling\nok 1 -> ready main,s,2\nDIALSTATUS=BUSY\nrefused 53 NotDialling\nstatus 1
+exten => s,1,Dial(Line/5,20)\nexten => s,2,NoOp()\nexten => h,1,Dial(Line/6)¦¦start main s\nstep 1\nresult 1 ANSWER\nshow 1 DIALSTATUS\nresult 1 BUSY→started 1\nran 1 main,s,1 Dial -> dialling\nok 1 -> ready main,h,1\nDIALSTATUS=ANSWER\nrefused 53 NotDialling\nstatus 1
+exten => s,1,Dial(Line/5,20)\nexten => s,2,NoOp()\nexten => h,1,Dial(Line/6)¦¦start main s\nstep 1\nhangup 1\nshow 1 DIALSTATUS\nresult 1 BUSY\nstep 1→started 1\nran 1 main,s,1 Dial -> dialling\nok 1 -> ready main,h,1\nDIALSTATUS=CANCEL\nrefused 53 NotDialling\nran 1 main,h,1 Dial -> ended\nstatus 1
+exten => s,1,Dial(Line/5,20)\nexten => s,2,NoOp()\nexten => h,1,Dial(Line/6)¦¦start main s\nstep 1\ntimeout 1\nshow 1 DIALSTATUS\nresult 1 BUSY→started 1\nran 1 main,s,1 Dial -> dialling\nok 1 -> ready main,s,2\nDIALSTATUS=NOANSWER\nrefused 53 NotDialling\nstatus 1
+exten => s,1,Dial(Line/5,20)\nexten => s,2,NoOp()\nexten => h,1,Dial(Line/6)¦¦start main s\nstep 1\ndigit 1 5\nshow 1 DIALSTATUS\nresult 1 BUSY→started 1\nran 1 main,s,1 Dial -> dialling\nok 1 -> dialling\nDIALSTATUS=\nok 1 -> ready main,s,2\nstatus 0
+exten => s,1,Dial(Line/5)\nexten => s,2,NoOp()\nexten => h,1,Dial(Line/6)¦¦start main s\nstep 1\ntimeout 1→started 1\nran 1 main,s,1 Dial -> dialling\nrefused 43 NoTimer\nstatus 1
+exten => s,1,Dial(Line/5,,g)\nexten => s,2,NoOp()\nexten => h,1,Dial(Line/6)¦¦start main s\nstep 1\nresult 1 ANSWER\nshow 1 DIALSTATUS→started 1\nran 1 main,s,1 Dial -> dialling\nok 1 -> ready main,s,2\nDIALSTATUS=ANSWER\nstatus 0
+exten => s,1,Dial()\nexten => s,2,NoOp()\nexten => h,1,Dial(Line/6)¦¦start main s\nstep 1\nshow 1 DIALSTATUS→started 1\nran 1 main,s,1 Dial -> ready main,s,2\nDIALSTATUS=CHANUNAVAIL\nstatus 0
 # A menu that leads to a call queue.
 exten => s,1,Background(welcome)\n same => n,WaitExten(5)\nexten => 1,1,Queue(sales,c)\n same => n,Hangup()\nexten => i,1,Goto(s,1)\nexten => t,1,Hangup()\nexten => h,1,NoOp(${QUEUESTATUS})\n¦[sales]\nstrategy = ringall\nmember => Line/1\nmember => Line/2\n¦start main s\nstep 1\ndigit 1 1\nstep 1\noffer sales\nanswer Line/1\ndone Line/1\nshow 1 QUEUESTATUS\nstep 1 2\n→started 1\nran 1 main,s,1 Background -> digits\nok 1 -> ready main,1,1\nran 1 main,1,1 Queue -> queued sales\noffered 1 2\nok\nok\nQUEUESTATUS=CONTINUE\nran 1 main,1,2 Hangup -> ready main,h,1\nran 1 main,h,1 NoOp -> ready main,h,2\nstatus 0
 ";
@@ -85,7 +97,7 @@ exten => s,1,NoOp()\ninclude => more\n[more]\nexten => _[a-z],1,NoOp()¦¦start 
 exten => s,1,NoOp()\nexten => h,2,NoOp()¦¦start main s\nhangup 1→started 1\nok 1 -> ended\nstatus 0
 # So do the end of a call by an application, a name that is no application, and a place with no entry.
 exten => s,1,Hangup()\nexten => h,1,NoOp()¦¦start main s\nstep 1 3→started 1\nran 1 main,s,1 Hangup -> ready main,h,1\nran 1 main,h,1 NoOp -> ready main,h,2\nno entry 1 -> ended\nstatus 0
-exten => s,1,Dial(x)\nexten => h,1,Hangup()¦¦start main s\nstep 1 2→started 1\nran 1 main,s,1 Dial -> ready main,h,1\nran 1 main,h,1 Hangup -> ended\nstatus 0
+exten => s,1,Macro(x)\nexten => h,1,Hangup()¦¦start main s\nstep 1 2→started 1\nran 1 main,s,1 Macro -> ready main,h,1\nran 1 main,h,1 Hangup -> ended\nstatus 0
 exten => s,1,Goto(x)\nexten => h,1,NoOp()¦¦start main s\nstep 1→started 1\nran 1 main,s,1 Goto -> ready main,h,1\nstatus 0
 exten => h,1,NoOp()¦¦start main s\nstep 1→started 1\nno entry 1 -> ready main,h,1\nstatus 0
 # `h` may go where it likes, but waits for nothing, and a second hang-up is the end.
@@ -132,6 +144,24 @@ exten => s,1,Queue(q)\nexten => p,1,PauseQueueMember(q,A)¦[q]\nleavewhenempty=l
 exten => s,1,Queue(q)\nexten => n,1,Set(N=${QUEUE_WAITING_COUNT(Q)}${QUEUE_WAITING_COUNT(x)})¦[q]¦start main s\nstart main s\nstart main n\nstep 1\nstep 2\nstep 3\nshow 3 N→started 1\nstarted 2\nstarted 3\nran 1 main,s,1 Queue -> queued q\nran 2 main,s,1 Queue -> queued q\nran 3 main,n,1 Set -> ready main,n,2\nN=20\nstatus 0
 ";
 
+/// Dialplans that come in force in place of others.
+const RELOADS: &str = r"
+# A count of a queue is of those who wait at the event, and there is no channel.
+exten => s,1,Queue(q)¦[q]¦start main s\nreload\nshow 1 N\nstep 1\nreload\nshow 1 N¦[globals]\nN=${QUEUE_WAITING_COUNT(q)}<${EXTEN}>\n[main]\nexten => s,1,Queue(q)→started 1\nok\nN=0<>\nran 1 main,s,1 Queue -> queued q\nok\nN=1<>\nstatus 0
+# Queues and agents stay, and a channel goes on in the new dialplan.
+exten => s,1,Queue(q,c)¦[q]\nmember => A¦start main s\nstep 1\noffer q\nreload\nanswer A\nreload\ndone A\nstep 1¦[main]\nexten => s,2,Hangup()→started 1\nran 1 main,s,1 Queue -> queued q\noffered 1 1\nok\nok\nok\nok\nran 1 main,s,2 Hangup -> ended\nstatus 0
+# A way out leads where the new dialplan says.
+exten => s,1,Queue(q)¦[q]\ncontext=out¦start main s\nstep 1\ndigit 1 5\nreload\ndigit 1 5¦[out]\nexten => 5,1,NoOp()→started 1\nran 1 main,s,1 Queue -> queued q\nok 1 -> queued q\nok\nok 1 -> ready out,5,1\nstatus 0
+# A call to devices stays.
+exten => s,1,Dial(x,5)¦¦start main s\nstep 1\nreload\nresult 1 BUSY\nstep 1¦→started 1\nran 1 main,s,1 Dial -> dialling\nok\nok 1 -> ready main,s,2\nno entry 1 -> ended\nstatus 0
+# In the files of a run the lines that part a joined text are comments.
+exten => s,1,NoOp()\n;; reload\n;; script\nexten => s,2,NoOp()¦¦start main s\n;; reload\nstep 1 2→started 1\nran 1 main,s,1 NoOp -> ready main,s,2\nran 1 main,s,2 NoOp -> ready main,s,3\nstatus 0
+exten => s,1,NoOp()¦¦reload\nstart main s\nstep 1¦[main]\n;; script\nexten => s,1,Hangup()→ok\nstarted 1\nran 1 main,s,1 Hangup -> ended\nstatus 0
+# The text of the second dialplan is looked into at the event alone.
+exten => s,1,NoOp()¦¦start main s\nstep 1¦[main→started 1\nran 1 main,s,1 NoOp -> ready main,s,2\nstatus 0
+exten => s,1,NoOp()¦¦reload\nreload¦[main]\nexten => s,0,A→refused 52 BadPlan\nrefused 52 BadPlan\nstatus 1
+";
+
 /// Faults of the three texts, the dialplan's first, then the queues', then the script's.
 const FAULTS: &str = r"
 exten => s,0,A¦[q]\nstrategy=best¦jump→fault 20 BadPriority line 2
@@ -141,6 +171,13 @@ exten => s,1,A¦[q]\nstrategy=random¦→fault 32 LeftOut line 2
 exten => s,1,A¦[q]\n[Q]¦→fault 33 DoubleQueue line 2
 exten => s,1,A¦a=1¦jump→fault 2 NoSection line 1
 exten => s,1,A¦[q]¦jump→fault 70 BadScript line 1
+exten => s,0,A¦[q]\nstrategy=best¦reload→fault 20 BadPriority line 2
+exten => s,1,A¦[q]\nstrategy=best¦reload→fault 30 BadStrategy line 2
+exten => s,1,A¦[q]¦start main s\nreload→fault 70 BadScript line 2
+exten => s,1,A¦[q]¦start main s\nreload x¦[main]→fault 70 BadScript line 2
+exten => s,1,A¦¦jump¦[main→fault 70 BadScript line 1
+exten => s,1,A¦¦result 1 CANCEL→fault 70 BadScript line 1
+exten => s,1,A¦¦result 1 busy→fault 70 BadScript line 1
 exten => s,1,A¦¦digit 1→fault 70 BadScript line 1
 exten => s,1,A¦¦digit 1 55→fault 70 BadScript line 1
 exten => s,1,A¦¦timeout→fault 70 BadScript line 1
@@ -151,12 +188,19 @@ exten => s,1,A¦¦answer A B→fault 70 BadScript line 1
 exten => s,1,A¦¦Done A→fault 70 BadScript line 1
 ";
 
-const TABLES: &[&str] = &[ROWS, DIALOGUES, ENDS, QUEUES, FAULTS, PAGES];
+const TABLES: &[&str] = &[ROWS, DIALOGUES, ENDS, QUEUES, RELOADS, FAULTS, PAGES];
 
 /// All that a run of these texts writes, and what it ends with behind it.
-fn answer_to(alloc: Global, plan: &[u8], queues: &[u8], script: &[u8]) -> Result<String, NoMemory> {
+fn answer_to(alloc: Global, texts: &Texts) -> Result<String, NoMemory> {
     let mut writer = make_sink(alloc, 4096, None);
-    let ended = run_script(alloc, plan, Some(queues), script, &mut writer);
+    let ended = run_script(
+        alloc,
+        &texts.plan,
+        Some(&texts.queues),
+        texts.second_plan.as_deref(),
+        &texts.script,
+        &mut writer,
+    );
     told(alloc, ended, writer)
 }
 
@@ -167,10 +211,8 @@ pub(super) fn answer_of(
     queues: &str,
     script: &str,
 ) -> Result<String, NoMemory> {
-    let plan = in_main(alloc, plan)?;
-    let queues = bytes_of(alloc, queues)?;
-    let script = bytes_of(alloc, script)?;
-    answer_to(alloc, &plan, &queues, &script)
+    let texts = read_texts(alloc, plan, queues, script)?;
+    answer_to(alloc, &texts)
 }
 
 /// What the run of a case writes and ends with.

@@ -9,6 +9,9 @@ use std::test::Fail;
 const ROWS: &str = r"
 # first-run
 [main]\nexten => 100,1,NoOp(hello)\nexten => 100,2,Goto(200,1)\nexten => 200,1,Hangup()\n;; script\nstart main 100\nstep 1 3\n→started 1\nran 1 main,100,1 NoOp -> ready main,100,2\nran 1 main,100,2 Goto -> ready main,200,1\nran 1 main,200,1 Hangup -> ended\nstatus 0
+# reload
+[globals]\nX=1\nY=5\n[main]\nexten => 100,1,NoOp(a)\nexten => 100,2,NoOp(b)\n;; reload\n[globals]\nX=${X}2\n[main]\nexten => _1XX,2,Hangup()\n;; script\nstart main 100\nstep 1\nreload\nshow 1 X\nshow 1 Y\nstep 1\n→started 1\nran 1 main,100,1 NoOp -> ready main,100,2\nok\nX=12\nY=5\nran 1 main,_1XX,2 Hangup -> ended\nstatus 0
+[globals]\nX=1\nY=5\n[main]\nexten => 100,1,NoOp(a)\nexten => 100,2,NoOp(b)\n;; reload\n[main\n;; script\nstart main 100\nstep 1\nreload\nshow 1 X\nshow 1 Y\nstep 1\n→started 1\nran 1 main,100,1 NoOp -> ready main,100,2\nrefused 52 BadPlan\nX=1\nY=5\nran 1 main,100,2 NoOp -> ready main,100,3\nstatus 1
 # refusals
 [main]\nexten => s,1,Hangup()\n;; script\nstep 1\nstart main s\nstep 1\nstep 1\n→refused 40 NoChannel\nstarted 1\nran 1 main,s,1 Hangup -> ended\nrefused 49 Ended\nstatus 1
 # globals-expanded
@@ -62,6 +65,58 @@ const SEPARATORS: &str = r"
 [main]\nexten => s,1,NoOp() ;; script\n;; script\nstart main s\nstep 1\n→started 1\nran 1 main,s,1 NoOp -> ready main,s,2\nstatus 0
 # A comment of the script may begin as a block comment of a dialplan.
 [main]\n;; script\n;-- x\n→status 0
+";
+
+/// Where the second dialplan begins and ends.
+const SECONDS: &str = r"
+# There is none, and a line `reload` is faulty.
+[main]\n;; script\nreload\n→fault 70 BadScript line 1
+[main]\n;; script\nstart main s\n\nreload\n→fault 70 BadScript line 3
+[main]\nabc\n;; script\nreload\n→fault 4 NoEquals line 2
+# It is empty.
+[main]\nexten => s,1,NoOp()\nexten => s,2,NoOp()\n;; reload\n;; script\nstart main s\nstep 1\nreload\nstep 1\n→started 1\nran 1 main,s,1 NoOp -> ready main,s,2\nok\nno entry 1 -> ended\nstatus 0
+[main]\n;; reload\n;; script\nreload x\n→fault 70 BadScript line 1
+[main]\n;; reload→status 0
+;; reload\n;; script→status 0
+# The first line.
+;; reload\n[main]\nexten => s,1,NoOp()\n;; script\nstart main s\nreload\nstep 1\n→started 1\nok\nran 1 main,s,1 NoOp -> ready main,s,2\nstatus 0
+# Blanks round it, and carriage returns.
+[main]\r\n \t;; reload \t\r\n[main]\r\nexten => s,1,NoOp()\r\n;; script\r\nreload\r\nstart main s\r\nstep 1\r\n→ok\nstarted 1\nran 1 main,s,1 NoOp -> ready main,s,2\nstatus 0
+# With no script it goes to the end, and no event looks into it.
+[main]\n;; reload\n[main\nstart main s\n→status 0
+[main]\nabc\n;; reload\n→fault 4 NoEquals line 2
+# A second such line is a comment, of the second dialplan or of the script.
+[main]\n;; reload\n[main]\nexten => s,1,NoOp()\n;; reload\nexten => s,2,NoOp()\n;; script\nreload\nstart main s\nstep 1 2\n→ok\nstarted 1\nran 1 main,s,1 NoOp -> ready main,s,2\nran 1 main,s,2 NoOp -> ready main,s,3\nstatus 0
+[main]\nexten => s,1,NoOp()\n;; script\nstart main s\n;; reload\nstep 1\n→started 1\nran 1 main,s,1 NoOp -> ready main,s,2\nstatus 0
+[main]\n;; script\n;; reload\n[main]\n→fault 70 BadScript line 2
+[main]\n;; script\n;; reload\nreload\n→fault 70 BadScript line 2
+[main]\n;; reload\n[main]\n;; script\n;; reload\nreload\n→ok\nstatus 0
+# The byte order mark is passed over at its front, and before the first line it makes that line a comment of the dialplan.
+[main]\n;; reload\n\xEF\xBB\xBF[main]\nexten => s,1,NoOp()\n;; script\nreload\nstart main s\nstep 1\n→ok\nstarted 1\nran 1 main,s,1 NoOp -> ready main,s,2\nstatus 0
+\xEF\xBB\xBF;; reload\n[main]\nexten => s,1,NoOp()\n;; script\nstart main s\nstep 1\n→started 1\nran 1 main,s,1 NoOp -> ready main,s,2\nstatus 0
+\xEF\xBB\xBF;; reload\n[main]\n;; script\nreload\n→fault 70 BadScript line 1
+\xEF\xBB\xBF;; reload\n[main]\nexten => s,1,NoOp()\n;; reload\n;; script\nstart main s\nreload\nstep 1\n→started 1\nok\nno entry 1 -> ended\nstatus 0
+# Lines that are nearly so are the dialplan's.
+[main]\n;; Reload\n;;reload\n;; reload x\n;;  reload\n; ; reload\n;;; reload\nexten => s,1,NoOp()\n;; script\nstart main s\nstep 1\n→started 1\nran 1 main,s,1 NoOp -> ready main,s,2\nstatus 0
+[main]\n;; Reload\n;; script\nreload\n→fault 70 BadScript line 1
+# Faults of the dialplan have their lines in the joined text; a fault of the second one has none.
+[main]\n\nabc\n;; reload\n[main\n;; script\nreload\n→fault 4 NoEquals line 3
+[main]\n;; reload\n\nabc\n;; script\nreload\n→refused 52 BadPlan\nstatus 1
+";
+
+/// Dialplans that come in force in place of others.
+const RELOADS: &str = r"
+# Its globals are set one after another into those that are, each time anew; others stay.
+[globals]\nX=1\n;; reload\n[globals]\nX=${X}2\nX=${X}3\n;; script\nstart main s\nreload\nshow 1 X\nreload\nshow 1 X\n→started 1\nok\nX=123\nok\nX=12323\nstatus 0
+[main]\nexten => s,1,Set(GLOBAL(X)=7)\nexten => s,2,Set(GLOBAL(Z)=8)\n;; reload\n[globals]\nX=${X}2\n;; script\nstart main s\nstep 1 2\nreload\nshow 1 X\nshow 1 Z\n→started 1\nran 1 main,s,1 Set -> ready main,s,2\nran 1 main,s,2 Set -> ready main,s,3\nok\nX=72\nZ=8\nstatus 0
+# Notes are no fault.
+[main]\n;; reload\n[main]\nexten => s,1,NoOp()\nexten => s,1,Hangup()\ninclude => x\ncolour = red\n;; script\nreload\nstart main s\nstep 1\n→ok\nstarted 1\nran 1 main,s,1 NoOp -> ready main,s,2\nstatus 0
+# Digits are kept, and go on as the new dialplan says.
+[main]\nexten => s,1,WaitExten()\nexten => _5X,1,NoOp()\n;; reload\n[main]\nexten => 5,1,NoOp()\nexten => _57.,1,NoOp()\n;; script\nstart main s\nstep 1\ndigit 1 5\nreload\ndigit 1 7\ntimeout 1\n→started 1\nran 1 main,s,1 WaitExten -> digits\nok 1 -> digits\nok\nok 1 -> digits\nok 1 -> ready main,57,1\nstatus 0
+# So are the place, the variables and the frames, to whose place a return goes unasked.
+[main]\nexten => s,1,Set(A=1)\nexten => s,2,Gosub(f,s,1(x))\n[f]\nexten => s,1,NoOp()\n;; reload\n[f]\nexten => s,1,Return(${ARG1}${A})\n;; script\nstart main s\nstep 1 2\nreload\nstep 1\nshow 1 GOSUB_RETVAL\nstep 1\n→started 1\nran 1 main,s,1 Set -> ready main,s,2\nran 1 main,s,2 Gosub -> ready f,s,1\nok\nran 1 f,s,1 Return -> ready main,s,3\nGOSUB_RETVAL=x1\nno entry 1 -> ended\nstatus 0
+# `h`, `i` and `t` are looked for in the new dialplan, and a call that is over stays so.
+[main]\nexten => s,1,WaitExten()\n;; reload\n[main]\nexten => h,1,NoOp()\nexten => i,1,NoOp()\nexten => t,1,NoOp()\n;; script\nstart main s\nstart main s\nstart main s\nstart main s\nhangup 4\nstep 2\nreload\nhangup 1\ntimeout 2\nstep 3\nstep 4\n→started 1\nstarted 2\nstarted 3\nstarted 4\nok 4 -> ended\nran 2 main,s,1 WaitExten -> digits\nok\nok 1 -> ready main,h,1\nok 2 -> ready main,t,1\ninvalid 3 -> ready main,i,1\nrefused 49 Ended\nstatus 1
 ";
 
 /// Calls, and where they go.
@@ -122,7 +177,7 @@ const REFUSED: &str = r"
 # Calls that are over.
 [main]\nexten => s,1,Hangup()\n;; script\nstart main s\nstep 1\nstep 1\n→started 1\nran 1 main,s,1 Hangup -> ended\nrefused 49 Ended\nstatus 1
 [main]\n;; script\nstart main s\nstep 1 3\n→started 1\nno entry 1 -> ended\nrefused 49 Ended\nrefused 49 Ended\nstatus 1
-[main]\nexten => s,1,Dial(x)\n;; script\nstart main s\nstep 1 2\nstart main s\nstep 2\nstep 1\n→started 1\nran 1 main,s,1 Dial -> ended\nrefused 49 Ended\nstarted 2\nran 2 main,s,1 Dial -> ended\nrefused 49 Ended\nstatus 1
+[main]\nexten => s,1,Macro(x)\n;; script\nstart main s\nstep 1 2\nstart main s\nstep 2\nstep 1\n→started 1\nran 1 main,s,1 Macro -> ended\nrefused 49 Ended\nstarted 2\nran 2 main,s,1 Macro -> ended\nrefused 49 Ended\nstatus 1
 ";
 
 /// Patterns, and priorities that only a less specific name has.
@@ -223,6 +278,8 @@ const TABLES: &[&str] = &[
     ROWS,
     SHOWS,
     SEPARATORS,
+    SECONDS,
+    RELOADS,
     CALLS,
     WORDS,
     REFUSED,
@@ -236,7 +293,7 @@ const TABLES: &[&str] = &[
 /// Whether the run of a script on a dialplan writes this and ends so.
 fn check_apart(alloc: Global, plan: &[u8], script: &str, want: &str) -> Result<(), Fail> {
     let mut writer = make_sink(alloc, 4096, None);
-    let ended = run_script(alloc, plan, None, script.as_bytes(), &mut writer);
+    let ended = run_script(alloc, plan, None, None, script.as_bytes(), &mut writer);
     let got = told(alloc, ended, writer)?;
     check_same(script, &got, want)
 }

@@ -15,7 +15,7 @@ unfolding debug_of
 returns-clause-writes g c =
     let old = g.W.WriteTold.contents c.args.writer.now in
     let new = g.W.WriteTold.contents c.run_texts.new.writer in
-    let run = run_of c.args.plan.now (option_map (λ text. text.now) c.args.queues) c.args.script.now in
+    let run = run_of c.args.plan.now (option_map (λ text. text.now) c.args.queues) (option_map (λ text. text.now) c.args.second_plan) c.args.script.now in
     let held = c.in_ok-held.held in
     subst (λ (found : Result Break PbxFault). WritesDebug old new (found >>= λ it. run >>= λ all. Ok (debug_on it all)) c.run_texts.result) (sym c.in_ok-held.ensures.held)
     (WritesDebug_run held run old new c.run_texts.result

@@ -1,4 +1,3 @@
-use Rattle.std.proofs.Common.{arith}
 use Rattle.dp_commands.proofs.ThreadsLemmas.{calls-within}
 use Rattle.dp_commands.proofs.threads.parted.Goals as goal
 

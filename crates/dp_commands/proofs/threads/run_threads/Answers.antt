@@ -12,7 +12,7 @@ pub returns-clause-shares : goal.returns-clause-shares
 returns-clause-shares g c =
     let old = g.W.WriteTold.contents c.args.writer.now in
     let new = g.W.WriteTold.contents c.conclude.new.writer in
-    let r = run_of c.args.plan.now (option_map (λ text. text.now) c.args.queues) c.args.script.now in
+    let r = run_of c.args.plan.now (option_map (λ text. text.now) c.args.queues) (option_map (λ text. text.now) c.args.second_plan) c.args.script.now in
     let opened = c.in_ok-opened.opened in
     let begun : World × List Event × Bool = (opened.machine, shared_events opened.given.events.items, opened.given.is_refused) in
     let count : c.max-count.result ≡ max 1 c.args.threads = search rules in

@@ -5,4 +5,4 @@ use Rattle.dp_machine.proofs.shared.expand_global.Goals as goal
 
 pub returns : goal.returns
 unfolding global_value
-returns c = c.in_ok-bytes.ensures ∙ ap (λ sight. expansion sight c.args.value.now) c.scope_of_globals-scope.ensures
+returns g c = c.in_ok-bytes.ensures ∙ ap (λ sight. expansion sight c.args.value.now) c.scope_of_globals-scope.ensures

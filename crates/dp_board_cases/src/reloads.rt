@@ -1,0 +1,97 @@
+//! A seat puts another dialplan in force between the steps of another seat's channel.
+use crate::play::{Exchange, Play, perform};
+use dp_board::{Board, Entry, History, Seat, Session};
+use dp_machine::{EntryId, Event, Phase, Reply, SharedText, Text};
+use dp_table::StandardApps;
+use std::alloc::Global;
+use std::process::Abort;
+use std::sync::Wait;
+use std::thread::Threads;
+
+/// The dialplan that comes in force.
+const SECOND: &[u8] = b"[globals]
+X=${X}2
+[main]
+exten => _1XX,2,Hangup()
+";
+
+/// The seat of each call in the history, and its reply: the first step runs an entry of the first dialplan, and the last one the one
+/// entry of the second.
+const CALLS: &[(u32, Reply)] = &[
+    (
+        0,
+        Reply::Ran(EntryId {
+            context: 0,
+            entry: 4,
+        }),
+    ),
+    (1, Reply::Done),
+    (
+        0,
+        Reply::Ran(EntryId {
+            context: 0,
+            entry: 0,
+        }),
+    ),
+];
+
+/// The event of a call: channel 1 steps, and the other seat puts the second dialplan in force.
+fn event_of(rt: &impl Abort, alloc: Global, seat: u32) -> Event {
+    if seat == 0 {
+        return Event::Step { channel: 1 };
+    }
+    let text = Text::copy_of(alloc, SECOND).ok().expect(rt, "the text");
+    let text = SharedText::new(alloc, text).ok();
+    Event::Reload {
+        text: text.expect(rt, "the text"),
+    }
+}
+
+/// One call after another, each of which is told its place and its reply.
+pub(super) fn act_reload<S: Session + Send + Sync, R: Threads + Wait + Abort + Sync>(
+    rt: &R,
+    alloc: Global,
+    board: &Board<StandardApps, S>,
+    seats: &mut Vec<Seat<S>>,
+) {
+    for (place, call) in CALLS.iter().enumerate() {
+        let event = event_of(rt, alloc, call.0);
+        let seat = seats.get_mut(call.0 as usize).expect(rt, "a seat");
+        let told = board.act(rt, alloc, seat, event).ok();
+        assert_eq!(rt; told, Some((place, call.1)));
+    }
+}
+
+fn is_call(entry: &Entry, seat: u32, reply: Reply) -> bool {
+    entry.seat == seat
+        && entry.reply == reply
+        && matches!(entry.event, Event::Reload { .. }) == (seat == 1)
+}
+
+fn has_value(
+    rt: &impl Abort,
+    alloc: Global,
+    machine: &Exchange,
+    name: &[u8],
+    wanted: &[u8],
+) -> bool {
+    let value = machine.value(alloc, 1, name).ok();
+    value.expect(rt, "a value").as_slice() == wanted
+}
+
+/// Holds the history against what was told. The globals of the second dialplan are set over those of the first.
+pub(super) fn check_reload(rt: &impl Abort, alloc: Global, history: &History<StandardApps>) {
+    for (entry, call) in history.entries().iter().zip(CALLS) {
+        assert!(rt; is_call(entry, call.0, call.1));
+    }
+    let machine = history.machine();
+    assert!(rt; machine.phase(1) == Some(&Phase::Ended));
+    assert!(rt; has_value(rt, alloc, machine, b"X", b"12"));
+    assert!(rt; has_value(rt, alloc, machine, b"Y", b"5"));
+}
+
+/// The places rise, and the board settles.
+#[test]
+fn two_seats_and_another_dialplan(rt: HostRuntime) {
+    perform(&rt, rt.alloc(), b"100", b"say", 2, &Play::Reload);
+}

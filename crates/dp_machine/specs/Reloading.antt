@@ -1,0 +1,36 @@
+-- Another dialplan comes in force.
+use Rattle.std.specs.Prelude.{ℕ, List, Option, Some, None, Result, Ok, Err}
+use Rattle.dp_plan.specs.Loaded.{loaded}
+use Rattle.dp_plan.specs.Plan.{PlanOf}
+use Rattle.dp_plan.specs.declared.fault.LoadFault.{LoadFault}
+use Rattle.dp_plan.specs.declared.note.Note.{Note}
+use Rattle.dp_plan.specs.declared.plan.GlobalVariable.{GlobalVariable}
+use Rattle.dp_queue.specs.Joining.{waiting_count}
+use Rattle.dp_machine.specs.Seen.{globals_set}
+use Rattle.dp_machine.specs.World.{World}
+use Rattle.dp_machine.specs.declared.refusal.Refusal.TheVariants.{BadPlan}
+use Rattle.dp_machine.specs.declared.reply.Reply.{Reply}
+use Rattle.dp_machine.specs.declared.reply.Reply.TheVariants.{Done, Refused}
+use Rattle.dp_machine.specs.declared.shared.Shared.{Shared}
+
+-- the dialplan that a text loads as, where it has no fault; its notes are not kept
+abbrev pub plan_in : Result (PlanOf × List Note) LoadFault → Option PlanOf
+plan_in (Ok read) = Some read.0
+plan_in (Err fault) = None
+
+-- the shared part with globals set, one after another, each expanded over those that are then; other globals stay, and the queues
+abbrev pub shared_with : Shared → List GlobalVariable → Shared
+shared_with shared variables = record {
+  globals = globals_set (waiting_count shared.queues.queues) shared.globals variables;
+  queues = shared.queues;
+}
+
+-- the world behind a dialplan that is given, and the reply: the dialplan comes in force and its globals are set, and the channels
+-- stay as they are; one with a fault is refused
+abbrev pub reloaded_by : World → Option PlanOf → World × Reply
+reloaded_by w None = (w, Refused BadPlan)
+reloaded_by w (Some plan) = (record { plan = plan; channels = w.channels; shared = shared_with w.shared plan.globals }, Done)
+
+-- the event `Reload`
+abbrev pub reloaded : World → List ℕ → World × Reply
+reloaded w text = reloaded_by w (plan_in (loaded text))
