@@ -1,4 +1,6 @@
+pub mod Audit
 pub mod Block
+pub mod Candidates
 pub mod Codes
 pub mod Debug
 pub mod Faults

@@ -2,8 +2,10 @@
 #![tactic(auto)]
 
 mod block;
+mod candidates;
 mod debug;
 mod fault;
+mod findings;
 mod joined;
 mod report;
 mod run;
@@ -12,8 +14,10 @@ mod taker;
 mod threads;
 mod trace;
 
+pub use candidates::match_all;
 pub use debug::debug_script;
 pub use fault::{Code, PbxFault};
+pub use findings::audit;
 pub use joined::run_joined;
 pub use report::{check, list_plan, match_one};
 pub use run::run_script;

@@ -62,8 +62,8 @@ fn push_counts(out: &mut Block, plan: &Dialplan) -> Result<(), NoMemory>
 
 /// A dialplan that was read, and its notes. Its drop is one function, so that it is proved once, and not on each way out of all that hold
 /// one.
-struct Read {
-    plan: Dialplan,
+pub(crate) struct Read {
+    pub(crate) plan: Dialplan,
     notes: Vec<Note>,
 }
 
@@ -74,7 +74,7 @@ impl Drop for Read {
 }
 
 /// The dialplan of a text with its notes, or its fault.
-fn read_plan(alloc: Global, text: &[u8]) -> Result<Read, PbxFault>
+pub(crate) fn read_plan(alloc: Global, text: &[u8]) -> Result<Read, PbxFault>
     ensures read { Answers (λ read. (read.plan, read.notes.items)) reason_of result (plan_fault (loaded text.now)) }
     ensures quiet { is_write_failed result ≡ false }
 {
@@ -149,7 +149,7 @@ pub fn list_plan<W: WriteTold>(alloc: Global, plan: &[u8], writer: &mut W) -> Re
 }
 
 /// The text without its dashes.
-fn without_dashes(alloc: Global, text: &[u8]) -> Result<Vec<u8>, NoMemory>
+pub(crate) fn without_dashes(alloc: Global, text: &[u8]) -> Result<Vec<u8>, NoMemory>
     ensures { IfOk result (λ digits. digits.items ≡ undashed text.now) }
 {
     let digits = text
@@ -163,7 +163,7 @@ fn without_dashes(alloc: Global, text: &[u8]) -> Result<Vec<u8>, NoMemory>
 /// The entry that answers a dialled text at a priority, from a context on. Dashes make no difference, so they are dropped first: else
 /// each name that is asked would go past them.
 #[tactic(auto, using(crate::proofs::DashesLemmas::found_undashed))]
-fn find_answer(
+pub(crate) fn find_answer(
     alloc: Global,
     plan: &Dialplan,
     context: &[u8],
@@ -179,7 +179,11 @@ fn find_answer(
 }
 
 /// Adds the line of an entry that was looked for.
-fn push_match(out: &mut Block, plan: &Dialplan, found: Option<EntryId>) -> Result<(), NoMemory>
+pub(crate) fn push_match(
+    out: &mut Block,
+    plan: &Dialplan,
+    found: Option<EntryId>,
+) -> Result<(), NoMemory>
     ensures { OnOk result (out.new.begun ≡ out.old.begun ++ spec.match_line plan.now found) }
 {
     match found {

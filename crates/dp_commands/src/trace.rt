@@ -21,7 +21,12 @@ pub(crate) fn push_number<I: Integer>(out: &mut Block, number: I) -> Result<(), 
 }
 
 /// Adds `CONTEXT,EXTEN,PRIORITY`.
-fn push_place(out: &mut Block, context: &[u8], exten: &[u8], priority: u32) -> Result<(), NoMemory>
+pub(crate) fn push_place(
+    out: &mut Block,
+    context: &[u8],
+    exten: &[u8],
+    priority: u32,
+) -> Result<(), NoMemory>
     ensures kept { out.new.whole ≡ out.old.whole }
     ensures ok { OnOk result (out.new.begun ≡ out.old.begun ++ spec.place_text context.now exten.now priority) }
 {

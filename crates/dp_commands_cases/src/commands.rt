@@ -1,3 +1,5 @@
+mod audits;
+mod candidates;
 mod codes;
 mod debugs;
 mod large;

@@ -10,7 +10,7 @@ use Rattle.dp_commands.specs.declared.fault.Code.TheVariants.{Line, Name, Plan, 
 use Rattle.dp_commands.specs.declared.fault.PbxFault.{PbxFault}
 use Rattle.dp_commands.specs.declared.fault.PbxFault.TheVariants.{Coded, NoMemory}
 use Rattle.dp_program.specs.Files.{Source, IsTextOf, Reads, is_read_fault, read_fault, source, whole_text}
-use Rattle.dp_program.specs.Texts.{TextsOf, ReadsSome, ReadsTexts, all_texts}
+use Rattle.dp_program.specs.Texts.{OfRun, ReadsSome, ReadsTexts, all_texts}
 
 -- what holds of what was read, and what follows from it
 pub Reads-weaker : {source : Source} (P Q : Result (List ℕ) PbxFault → Type 0) → ((text : Result (List ℕ) PbxFault) → P text → Q text) → Reads source P → Reads source Q
@@ -43,20 +43,26 @@ ReadsSome-any None P all = all (Ok None)
 ReadsSome-any (Some source) P all = Reads-any source _ (λ text. all (text >>= λ text. Ok (Some text)))
 
 -- what holds of all texts by what holds of each
-pub ReadsTexts-of : (plan : Source) (queues second_plan : Option Source) (script : Source)
+pub ReadsTexts-of : (sources : OfRun Source)
     (P : Result (List ℕ) PbxFault → Type 0) (Q R : Result (Option (List ℕ)) PbxFault → Type 0) (S : Result (List ℕ) PbxFault → Type 0)
-    (T : Result TextsOf PbxFault → Type 0)
+    (T : Result (OfRun (List ℕ)) PbxFault → Type 0)
     → ((p : Result (List ℕ) PbxFault) (q r : Result (Option (List ℕ)) PbxFault) (s : Result (List ℕ) PbxFault) → P p → Q q → R r → S s → T (all_texts p q r s))
-    → Reads plan P → ReadsSome queues Q → ReadsSome second_plan R → Reads script S → ReadsTexts plan queues second_plan script T
-ReadsTexts-of plan queues second_plan script P Q R S T all p_read q_read r_read s_read =
-    Reads-weaker P _ (λ p p_holds. ReadsSome-weaker queues Q _ (λ q q_holds. ReadsSome-weaker second_plan R _ (λ r r_holds.
+    → Reads sources.plan P → ReadsSome sources.queues Q → ReadsSome sources.second_plan R → Reads sources.script S → ReadsTexts sources T
+ReadsTexts-of sources P Q R S T all p_read q_read r_read s_read =
+    Reads-weaker P _ (λ p p_holds. ReadsSome-weaker sources.queues Q _ (λ q q_holds. ReadsSome-weaker sources.second_plan R _ (λ r r_holds.
     Reads-weaker S _ (λ s s_holds. all p q r s p_holds q_holds r_holds s_holds) s_read) r_read) q_read) p_read
 
 -- what holds of all texts, and what follows from it
-pub ReadsTexts-weaker : (plan : Source) (queues second_plan : Option Source) (script : Source) (P Q : Result TextsOf PbxFault → Type 0)
-    → ((texts : Result TextsOf PbxFault) → P texts → Q texts) → ReadsTexts plan queues second_plan script P → ReadsTexts plan queues second_plan script Q
-ReadsTexts-weaker plan queues second_plan script P Q weaker reads =
-    Reads-weaker _ _ (λ p. ReadsSome-weaker queues _ _ (λ q. ReadsSome-weaker second_plan _ _ (λ r. Reads-weaker _ _ (λ s. weaker (all_texts p q r s))))) reads
+pub ReadsTexts-weaker : (sources : OfRun Source) (P Q : Result (OfRun (List ℕ)) PbxFault → Type 0)
+    → ((texts : Result (OfRun (List ℕ)) PbxFault) → P texts → Q texts) → ReadsTexts sources P → ReadsTexts sources Q
+ReadsTexts-weaker sources P Q weaker reads =
+    Reads-weaker _ _ (λ p. ReadsSome-weaker sources.queues _ _ (λ q. ReadsSome-weaker sources.second_plan _ _ (λ r. Reads-weaker _ _ (λ s. weaker (all_texts p q r s))))) reads
+
+-- the files of a run give something
+pub ReadsTexts-any : (sources : OfRun Source) (P : Result (OfRun (List ℕ)) PbxFault → Type 0) → ((texts : Result (OfRun (List ℕ)) PbxFault) → P texts) → ReadsTexts sources P
+ReadsTexts-any sources P all =
+    Reads-any sources.plan _ (λ p. ReadsSome-any sources.queues _ (λ q. ReadsSome-any sources.second_plan _ (λ r.
+    Reads-any sources.script _ (λ s. all (all_texts p q r s)))))
 
 -- what a fault comes to, where want of memory says nothing
 pub by_reason : {X : Type 0} (P : PbxFault → Result X PbxFault → Type 0)
@@ -71,41 +77,41 @@ Refuses-next (Coded code line) text next refused = ap (λ read. read >>= next) r
 Refuses-next NoMemory text next refused = tt
 
 -- the texts of which the dialplan's is refused
-pub texts_refused_plan : (plan : Source) (queues second_plan : Option Source) (script : Source) (fault : PbxFault)
-    → Reads plan (λ text. Refuses (reason_of fault) text) → ReadsTexts plan queues second_plan script (λ texts. Refuses (reason_of fault) texts)
-texts_refused_plan plan queues second_plan script fault reads =
-    ReadsTexts-of plan queues second_plan script (λ text. Refuses (reason_of fault) text) (λ text. Unit {0}) (λ text. Unit {0}) (λ text. Unit {0})
+pub texts_refused_plan : (sources : OfRun Source) (fault : PbxFault)
+    → Reads sources.plan (λ text. Refuses (reason_of fault) text) → ReadsTexts sources (λ texts. Refuses (reason_of fault) texts)
+texts_refused_plan sources fault reads =
+    ReadsTexts-of sources (λ text. Refuses (reason_of fault) text) (λ text. Unit {0}) (λ text. Unit {0}) (λ text. Unit {0})
     (λ texts. Refuses (reason_of fault) texts) (λ p q r s refused x y z. Refuses-next fault p _ refused)
-    reads (ReadsSome-any queues _ (λ text. tt)) (ReadsSome-any second_plan _ (λ text. tt)) (Reads-any script _ (λ text. tt))
+    reads (ReadsSome-any sources.queues _ (λ text. tt)) (ReadsSome-any sources.second_plan _ (λ text. tt)) (Reads-any sources.script _ (λ text. tt))
 
 -- that of the queues behind it
-pub texts_refused_queues : (plan : Source) (queues second_plan : Option Source) (script : Source) (fault : PbxFault) (read : List ℕ)
-    → Reads plan (λ text. text ≡ Ok read) → ReadsSome queues (λ text. Refuses (reason_of fault) text)
-    → ReadsTexts plan queues second_plan script (λ texts. Refuses (reason_of fault) texts)
-texts_refused_queues plan queues second_plan script fault read is reads =
-    ReadsTexts-of plan queues second_plan script (λ text. text ≡ Ok read) (λ text. Refuses (reason_of fault) text) (λ text. Unit {0}) (λ text. Unit {0})
+pub texts_refused_queues : (sources : OfRun Source) (fault : PbxFault) (read : List ℕ)
+    → Reads sources.plan (λ text. text ≡ Ok read) → ReadsSome sources.queues (λ text. Refuses (reason_of fault) text)
+    → ReadsTexts sources (λ texts. Refuses (reason_of fault) texts)
+texts_refused_queues sources fault read is reads =
+    ReadsTexts-of sources (λ text. text ≡ Ok read) (λ text. Refuses (reason_of fault) text) (λ text. Unit {0}) (λ text. Unit {0})
     (λ texts. Refuses (reason_of fault) texts)
     (λ p q r s p_is refused y z. subst (λ p. Refuses (reason_of fault) (all_texts p q r s)) (sym p_is) (Refuses-next fault q _ refused))
-    is reads (ReadsSome-any second_plan _ (λ text. tt)) (Reads-any script _ (λ text. tt))
+    is reads (ReadsSome-any sources.second_plan _ (λ text. tt)) (Reads-any sources.script _ (λ text. tt))
 
 -- that of the second dialplan behind both
-pub texts_refused_second : (plan : Source) (queues second_plan : Option Source) (script : Source) (fault : PbxFault) (read : List ℕ) (held : Option (List ℕ))
-    → Reads plan (λ text. text ≡ Ok read) → ReadsSome queues (λ text. text ≡ Ok held) → ReadsSome second_plan (λ text. Refuses (reason_of fault) text)
-    → ReadsTexts plan queues second_plan script (λ texts. Refuses (reason_of fault) texts)
-texts_refused_second plan queues second_plan script fault read held is are reads =
-    ReadsTexts-of plan queues second_plan script (λ text. text ≡ Ok read) (λ text. text ≡ Ok held) (λ text. Refuses (reason_of fault) text) (λ text. Unit {0})
+pub texts_refused_second : (sources : OfRun Source) (fault : PbxFault) (read : List ℕ) (held : Option (List ℕ))
+    → Reads sources.plan (λ text. text ≡ Ok read) → ReadsSome sources.queues (λ text. text ≡ Ok held) → ReadsSome sources.second_plan (λ text. Refuses (reason_of fault) text)
+    → ReadsTexts sources (λ texts. Refuses (reason_of fault) texts)
+texts_refused_second sources fault read held is are reads =
+    ReadsTexts-of sources (λ text. text ≡ Ok read) (λ text. text ≡ Ok held) (λ text. Refuses (reason_of fault) text) (λ text. Unit {0})
     (λ texts. Refuses (reason_of fault) texts)
     (λ p q r s p_is q_is refused z. subst (λ p. Refuses (reason_of fault) (all_texts p q r s)) (sym p_is)
     (subst (λ q. Refuses (reason_of fault) (all_texts (Ok read) q r s)) (sym q_is) (Refuses-next fault r _ refused)))
-    is are reads (Reads-any script _ (λ text. tt))
+    is are reads (Reads-any sources.script _ (λ text. tt))
 
 -- and that of the script behind all three
-pub texts_refused_script : (plan : Source) (queues second_plan : Option Source) (script : Source) (fault : PbxFault) (read : List ℕ) (held other : Option (List ℕ))
-    → Reads plan (λ text. text ≡ Ok read) → ReadsSome queues (λ text. text ≡ Ok held) → ReadsSome second_plan (λ text. text ≡ Ok other)
-    → Reads script (λ text. Refuses (reason_of fault) text)
-    → ReadsTexts plan queues second_plan script (λ texts. Refuses (reason_of fault) texts)
-texts_refused_script plan queues second_plan script fault read held other is are also reads =
-    ReadsTexts-of plan queues second_plan script (λ text. text ≡ Ok read) (λ text. text ≡ Ok held) (λ text. text ≡ Ok other) (λ text. Refuses (reason_of fault) text)
+pub texts_refused_script : (sources : OfRun Source) (fault : PbxFault) (read : List ℕ) (held other : Option (List ℕ))
+    → Reads sources.plan (λ text. text ≡ Ok read) → ReadsSome sources.queues (λ text. text ≡ Ok held) → ReadsSome sources.second_plan (λ text. text ≡ Ok other)
+    → Reads sources.script (λ text. Refuses (reason_of fault) text)
+    → ReadsTexts sources (λ texts. Refuses (reason_of fault) texts)
+texts_refused_script sources fault read held other is are also reads =
+    ReadsTexts-of sources (λ text. text ≡ Ok read) (λ text. text ≡ Ok held) (λ text. text ≡ Ok other) (λ text. Refuses (reason_of fault) text)
     (λ texts. Refuses (reason_of fault) texts)
     (λ p q r s p_is q_is r_is refused. subst (λ p. Refuses (reason_of fault) (all_texts p q r s)) (sym p_is)
     (subst (λ q. Refuses (reason_of fault) (all_texts (Ok read) q r s)) (sym q_is)

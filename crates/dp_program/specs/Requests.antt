@@ -1,25 +1,38 @@
 -- Requests, with the texts of their words.
-use Rattle.std.specs.Prelude.{ℕ, List, Option}
-use Rattle.std.specs.Option.{option_map}
+use Rattle.std.specs.Prelude.{ℕ, Bool, List, Option}
+use Rattle.dp_program.specs.Texts.{OfRun, paths_of}
+use Rattle.dp_program.specs.declared.request.Lookup.{Lookup}
 use Rattle.dp_program.specs.declared.request.Request.{Request}
-use Rattle.dp_program.specs.declared.request.Request.TheVariants.{Joined, Check, Listing, Match, Run, Debug}
+use Rattle.dp_program.specs.declared.request.Request.TheVariants.{Joined, Check, Listing, Audit, Match, Explain, Run, Debug}
+
+-- what is looked up in the dialplan of a file, with its texts
+pub record LookupOf : Type 0 where
+  pub file : List ℕ
+  pub context : List ℕ
+  pub text : List ℕ
+  pub priority : ℕ
+
+abbrev pub lookup_of : Lookup → LookupOf
+lookup_of lookup = record { file = lookup.file.now; context = lookup.context.now; text = lookup.text.now; priority = lookup.priority }
 
 -- what the program is asked for, with its texts
 pub data Asked : Type 0 where
   joined : Asked
   check : List ℕ → Asked
   listing : List ℕ → Asked
-  matching : List ℕ → List ℕ → List ℕ → ℕ → Asked
-  run : List ℕ → Option (List ℕ) → Option (List ℕ) → List ℕ → Option ℕ → Asked
-  debug : List ℕ → Option (List ℕ) → Option (List ℕ) → List ℕ → List ℕ → Asked
+  auditing : List ℕ → Asked
+  matching : LookupOf → Bool → Asked
+  explaining : ℕ → Asked
+  run : OfRun (List ℕ) → Option ℕ → Asked
+  debug : OfRun (List ℕ) → List ℕ → Asked
 
 -- what a request asks for
 abbrev pub asked : Request → Asked
 asked Joined = joined
 asked (Check file) = check file.now
 asked (Listing file) = listing file.now
-asked (Match file context text priority) = matching file.now context.now text.now priority
-asked (Run file queues second_plan script threads) =
-    run file.now (option_map (λ path. path.now) queues) (option_map (λ path. path.now) second_plan) script.now threads
-asked (Debug file queues second_plan script held) =
-    debug file.now (option_map (λ path. path.now) queues) (option_map (λ path. path.now) second_plan) script.now held.now
+asked (Audit file) = auditing file.now
+asked (Match lookup all) = matching (lookup_of lookup) all
+asked (Explain fault) = explaining fault
+asked (Run files threads) = run (paths_of files) threads
+asked (Debug files held) = debug (paths_of files) held.now

@@ -1,21 +1,27 @@
 -- What a request writes and answers, by what is known of the files and of the input that it reads.
-use Rattle.std.specs.Prelude.{ℕ, Bool, false, List, max, Option, Some, None, Result, Ok, Err}
-use Rattle.std.specs.Option.{option_map}
+use Rattle.std.specs.Prelude.{ℕ, Bool, true, false, List, max, Option, Some, None, Result, Ok, Err}
 use Rattle.dp_board.specs.Log.{Log}
 use Rattle.dp_conf.specs.Answers.{◌>>=◌}
+use Rattle.dp_commands.specs.Audit.{WritesAudit, audit_of}
+use Rattle.dp_commands.specs.Candidates.{match_all_of}
+use Rattle.dp_commands.specs.Debug.{DebugRun, WritesDebug, debug_of}
 use Rattle.dp_commands.specs.Joined.{joined_run}
 use Rattle.dp_commands.specs.Report.{Reports, check_of, list_of, match_of}
-use Rattle.dp_commands.specs.Debug.{WritesDebug, debug_of}
 use Rattle.dp_commands.specs.Run.{Run, Writes, run_of}
 use Rattle.dp_commands.specs.Threads.{Shares}
 use Rattle.dp_commands.specs.declared.fault.PbxFault.{PbxFault}
+use Rattle.dp_program.specs.Entries.{entry_of}
 use Rattle.dp_program.specs.Files.{Source, Reads, has_read_failed}
-use Rattle.dp_program.specs.Requests.{Asked, joined, check, listing, matching, run, debug}
-use Rattle.dp_program.specs.Texts.{ReadsTexts}
+use Rattle.dp_program.specs.Requests.{Asked, LookupOf, joined, check, listing, auditing, matching, explaining, run, debug}
+use Rattle.dp_program.specs.Texts.{OfRun, ReadsTexts, sources_of}
 
 -- what a report on the text of a file writes and answers
 abbrev pub ReportsOn : Source → (List ℕ → Result (List ℕ) PbxFault) → Option (List ℕ) → Option (List ℕ) → Result ℕ PbxFault → Type 0
 ReportsOn file report old new result = Reads file (λ text. Reports old new (text >>= report) result)
+
+-- what an audit of the dialplan of a file writes and answers
+abbrev pub AuditsFile : Source → Option (List ℕ) → Option (List ℕ) → Result ℕ PbxFault → Type 0
+AuditsFile file old new result = Reads file (λ text. WritesAudit old new (text >>= audit_of) result)
 
 -- what a run of a joined text writes and answers
 abbrev pub RunsJoined : Source → Option (List ℕ) → Option (List ℕ) → Result ℕ PbxFault → Type 0
@@ -37,35 +43,45 @@ abbrev pub Runs : Option ℕ → Option (List ℕ) → Option (List ℕ) → Res
 Runs None old new ran result = Writes old new ran result
 Runs (Some threads) old new ran result = SharesSome (max 1 threads) old new ran result
 
--- what a run of a script's file on a dialplan's file, with files of queues and of a second dialplan or without them, writes and answers
-abbrev pub RunsFiles : Source → Option Source → Option Source → Source → Option ℕ → Option (List ℕ) → Option (List ℕ) → Result ℕ PbxFault → Type 0
-RunsFiles plan queues second_plan script threads old new result =
-    ReadsTexts plan queues second_plan script
-    (λ texts. Runs threads old new (texts >>= λ texts. run_of texts.plan texts.queues texts.second_plan texts.script) result)
+-- the report on what is looked up in a dialplan's text: the entry that answers, and, where all are asked for, what becomes of the others
+abbrev pub look_up : LookupOf → Bool → List ℕ → Result (List ℕ) PbxFault
+look_up lookup false plan = match_of plan lookup.context lookup.text lookup.priority
+look_up lookup true plan = match_all_of plan lookup.context lookup.text lookup.priority
+
+-- the run of the texts of its files
+abbrev pub run_of_texts : OfRun (List ℕ) → Result Run PbxFault
+run_of_texts texts = run_of texts.plan texts.queues texts.second_plan texts.script
 
 -- the same of a debugged run with the break of a text
-abbrev pub DebugsFiles : Source → Option Source → Option Source → Source → List ℕ → Option (List ℕ) → Option (List ℕ) → Result ℕ PbxFault → Type 0
-DebugsFiles plan queues second_plan script held old new result =
-    ReadsTexts plan queues second_plan script
-    (λ texts. WritesDebug old new (texts >>= λ texts. debug_of texts.plan texts.queues texts.second_plan texts.script held) result)
+abbrev pub debug_of_texts : List ℕ → OfRun (List ℕ) → Result DebugRun PbxFault
+debug_of_texts held texts = debug_of texts.plan texts.queues texts.second_plan texts.script held
+
+-- what a run over its files writes and answers
+abbrev pub RunsFiles : OfRun Source → Option ℕ → Option (List ℕ) → Option (List ℕ) → Result ℕ PbxFault → Type 0
+RunsFiles sources threads old new result = ReadsTexts sources (λ texts. Runs threads old new (texts >>= run_of_texts) result)
+
+-- the same of a debugged run
+abbrev pub DebugsFiles : OfRun Source → List ℕ → Option (List ℕ) → Option (List ℕ) → Result ℕ PbxFault → Type 0
+DebugsFiles sources held old new result = ReadsTexts sources (λ texts. WritesDebug old new (texts >>= debug_of_texts held) result)
 
 -- what a request writes and answers, by the files of its paths and the input
 abbrev pub Serves : (List ℕ → Source) → Source → Asked → Option (List ℕ) → Option (List ℕ) → Result ℕ PbxFault → Type 0
 Serves files input joined old new result = RunsJoined input old new result
 Serves files input (check file) old new result = ReportsOn (files file) check_of old new result
 Serves files input (listing file) old new result = ReportsOn (files file) list_of old new result
-Serves files input (matching file context text priority) old new result =
-    ReportsOn (files file) (λ plan. match_of plan context text priority) old new result
-Serves files input (run file queues second_plan script threads) old new result =
-    RunsFiles (files file) (option_map files queues) (option_map files second_plan) (files script) threads old new result
-Serves files input (debug file queues second_plan script held) old new result =
-    DebugsFiles (files file) (option_map files queues) (option_map files second_plan) (files script) held old new result
+Serves files input (auditing file) old new result = AuditsFile (files file) old new result
+Serves files input (matching lookup all) old new result = ReportsOn (files lookup.file) (look_up lookup all) old new result
+Serves files input (explaining fault) old new result = Reports old new (Ok (entry_of fault)) result
+Serves files input (run paths threads) old new result = RunsFiles (sources_of files paths) threads old new result
+Serves files input (debug paths held) old new result = DebugsFiles (sources_of files paths) held old new result
 
 -- whether a read of the input failed, by what was answered: only a request without a command reads it
 abbrev pub fails_on_input : Asked → Result ℕ PbxFault → Bool
 fails_on_input joined result = has_read_failed result
 fails_on_input (check file) result = false
 fails_on_input (listing file) result = false
-fails_on_input (matching file context text priority) result = false
-fails_on_input (run file queues second_plan script threads) result = false
-fails_on_input (debug file queues second_plan script held) result = false
+fails_on_input (auditing file) result = false
+fails_on_input (matching lookup all) result = false
+fails_on_input (explaining fault) result = false
+fails_on_input (run paths threads) result = false
+fails_on_input (debug paths held) result = false

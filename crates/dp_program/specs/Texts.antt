@@ -1,20 +1,39 @@
--- The texts of the files of a run: its dialplan, its queues and its second dialplan, where files of them are named, and its script.
+-- The files of a run: its dialplan, its queues and its second dialplan, where files of them are named, and its script.
 use Rattle.std.specs.Prelude.{ℕ, List, Option, Some, None, Result, Ok}
 use Rattle.std.specs.Option.{option_map}
 use Rattle.dp_conf.specs.Answers.{◌>>=◌}
 use Rattle.dp_commands.specs.declared.fault.PbxFault.{PbxFault}
 use Rattle.dp_program.specs.Files.{Source, Reads}
+use Rattle.dp_program.specs.declared.request.RunFiles.{RunFiles}
 use Rattle.dp_program.specs.declared.texts.Texts.{Texts}
 
--- the texts of a run
-pub record TextsOf : Type 0 where
-  pub plan : List ℕ
-  pub queues : Option (List ℕ)
-  pub second_plan : Option (List ℕ)
-  pub script : List ℕ
+-- the files of a run, each by its path, by what is known of it, or by its text
+pub record OfRun (X : Type 0) : Type 0 where
+  pub plan : X
+  pub queues : Option X
+  pub second_plan : Option X
+  pub script : X
+
+-- the paths that are named
+abbrev pub paths_of : RunFiles → OfRun (List ℕ)
+paths_of run = record {
+  plan = run.plan.now;
+  queues = option_map (λ path. path.now) run.queues;
+  second_plan = option_map (λ path. path.now) run.second_plan;
+  script = run.script.now;
+}
+
+-- what is known of the files of the paths
+abbrev pub sources_of : (List ℕ → Source) → OfRun (List ℕ) → OfRun Source
+sources_of files paths = record {
+  plan = files paths.plan;
+  queues = option_map files paths.queues;
+  second_plan = option_map files paths.second_plan;
+  script = files paths.script;
+}
 
 -- the texts that are held
-abbrev pub texts_of : Texts → TextsOf
+abbrev pub texts_of : Texts → OfRun (List ℕ)
 texts_of texts = record {
   plan = texts.plan.items;
   queues = option_map (λ text. text.items) texts.queues;
@@ -24,7 +43,7 @@ texts_of texts = record {
 
 -- the texts, or the first fault: the dialplan's, the queues', the second dialplan's, the script's
 abbrev pub all_texts : Result (List ℕ) PbxFault → Result (Option (List ℕ)) PbxFault → Result (Option (List ℕ)) PbxFault → Result (List ℕ) PbxFault
-    → Result TextsOf PbxFault
+    → Result (OfRun (List ℕ)) PbxFault
 all_texts plan queues second_plan script =
     plan >>= λ plan. queues >>= λ queues. second_plan >>= λ second_plan. script >>= λ script.
     Ok (record { plan = plan; queues = queues; second_plan = second_plan; script = script })
@@ -35,7 +54,7 @@ ReadsSome None P = P (Ok None)
 ReadsSome (Some source) P = Reads source (λ text. P (text >>= λ text. Ok (Some text)))
 
 -- something holds of what reading the files of a run came to
-abbrev pub ReadsTexts : Source → Option Source → Option Source → Source → (Result TextsOf PbxFault → Type 0) → Type 0
-ReadsTexts plan queues second_plan script P =
-    Reads plan (λ plan. ReadsSome queues (λ queues. ReadsSome second_plan (λ second_plan. Reads script (λ script.
+abbrev pub ReadsTexts : OfRun Source → (Result (OfRun (List ℕ)) PbxFault → Type 0) → Type 0
+ReadsTexts sources P =
+    Reads sources.plan (λ plan. ReadsSome sources.queues (λ queues. ReadsSome sources.second_plan (λ second_plan. Reads sources.script (λ script.
     P (all_texts plan queues second_plan script)))))

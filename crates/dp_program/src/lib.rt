@@ -1,14 +1,18 @@
 //! What the program `pbx` does with a request, over files, an input and outputs that the caller gives.
 #![tactic(auto)]
 
+mod entries;
 mod fault;
 mod files;
 mod program;
+mod reports;
 mod request;
+mod runs;
 mod texts;
 
 pub use dp_commands::{Code, PbxFault};
+pub use entries::FaultNumber;
 pub use fault::{finish, print_fault};
 pub use files::ReadFiles;
 pub use program::serve;
-pub use request::Request;
+pub use request::{Lookup, Request, RunFiles};

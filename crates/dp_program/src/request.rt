@@ -1,5 +1,32 @@
 //! What the program is asked for.
+use crate::entries::FaultNumber;
 use dp_plan::Priority;
+
+/// What is looked up in a dialplan: what was dialled, in the context where the call begins, and at which priority.
+#[derive(Clone, Copy, Debug, PartialEq, Eq)]
+pub struct Lookup<'a> {
+    /// The file of the dialplan.
+    pub file: &'a str,
+    /// The name of the context.
+    pub context: &'a str,
+    /// What was dialled.
+    pub text: &'a str,
+    /// The priority that is asked for.
+    pub priority: Priority,
+}
+
+/// The files of a run, by their paths.
+#[derive(Clone, Copy, Debug, PartialEq, Eq)]
+pub struct RunFiles<'a> {
+    /// The dialplan.
+    pub plan: &'a str,
+    /// The queues; without them there are none.
+    pub queues: Option<&'a str>,
+    /// The second dialplan, which a line `reload` of the script puts in force.
+    pub second_plan: Option<&'a str>,
+    /// The script of events.
+    pub script: &'a str,
+}
 
 /// What a command line asks for.
 #[derive(Clone, Copy, Debug, PartialEq, Eq)]
@@ -14,31 +41,30 @@ pub enum Request<'a> {
     Listing {
         file: &'a str,
     },
-    /// `match FILE CONTEXT TEXT [PRIORITY]`: to find the entry that answers.
-    Match {
+    /// `audit FILE`: to tell what the writer of a dialplan may not have meant.
+    Audit {
         file: &'a str,
-        context: &'a str,
-        text: &'a str,
-        priority: Priority,
     },
-    /// `run [--queues QUEUES] [--reload DIALPLAN] [--threads N] FILE SCRIPT`: to run a script on a dialplan, with the queues of a
-    /// file where one is named, beside the second dialplan of a file where one is named, and in so many threads where a number
-    /// is given.
+    /// `match [--all] FILE CONTEXT TEXT [PRIORITY]`: to find the entry that answers, and to say of all extensions that match what
+    /// becomes of them, where that is asked for.
+    Match {
+        lookup: Lookup<'a>,
+        all: bool,
+    },
+    /// `explain CODE`: to print the manual's entry of a fault.
+    Explain {
+        fault: FaultNumber,
+    },
+    /// `run [--queues QUEUES] [--reload DIALPLAN] [--threads N] FILE SCRIPT`: to run a script on a dialplan, with the queues and beside
+    /// the second dialplan of files where these are named, and in so many threads where a number is given.
     Run {
-        file: &'a str,
-        queues: Option<&'a str>,
-        second_plan: Option<&'a str>,
-        script: &'a str,
+        files: RunFiles<'a>,
         threads: Option<u32>,
     },
-    /// `debug [--queues QUEUES] [--reload DIALPLAN] --break BREAK FILE SCRIPT`: to run a script on a dialplan, with the queues of a
-    /// file where one is named, beside the second dialplan of a file where one is named, and with a halt at each step where the
-    /// break holds.
+    /// `debug [--queues QUEUES] [--reload DIALPLAN] --break BREAK FILE SCRIPT`: to run a script on a dialplan likewise, with a halt at
+    /// each step where the break holds.
     Debug {
-        file: &'a str,
-        queues: Option<&'a str>,
-        second_plan: Option<&'a str>,
-        script: &'a str,
+        files: RunFiles<'a>,
         held: &'a str,
     },
 }

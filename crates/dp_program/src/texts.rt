@@ -7,6 +7,7 @@ ghost use Rattle.dp_program.specs.Files.{is_read_fault};
 ghost use Rattle.dp_program.specs.Texts as spec;
 
 use crate::files::ReadFiles;
+use crate::request::RunFiles;
 use dp_commands::PbxFault;
 use std::alloc::Global;
 
@@ -41,21 +42,15 @@ fn read_named<F: ReadFiles>(
 pub(crate) fn read_texts<F: ReadFiles>(
     files: &F,
     alloc: Global,
-    file: &str,
-    queues: Option<&str>,
-    second_plan: Option<&str>,
-    script: &str,
+    run: &RunFiles<'_>,
 ) -> Result<Texts, PbxFault>
-    ensures read { spec.ReadsTexts (F.source_at files.now file.now)
-        (option_map (F.source_at files.now) (option_map (λ path. path.now) queues.entry))
-        (option_map (F.source_at files.now) (option_map (λ path. path.now) second_plan.entry)) (F.source_at files.now script.now)
-        (λ texts. Answers spec.texts_of reason_of result texts) }
+    ensures read { spec.ReadsTexts (spec.sources_of (F.source_at files.now) (spec.paths_of run.now)) (λ texts. Answers spec.texts_of reason_of result texts) }
     ensures fault { IfErr result (λ fault. is_read_fault fault ≡ true) }
 {
-    let plan = files.read_file(alloc, file)?;
-    let queues = read_named(files, alloc, queues)?;
-    let second_plan = read_named(files, alloc, second_plan)?;
-    let script = files.read_file(alloc, script)?;
+    let plan = files.read_file(alloc, run.plan)?;
+    let queues = read_named(files, alloc, run.queues)?;
+    let second_plan = read_named(files, alloc, run.second_plan)?;
+    let script = files.read_file(alloc, run.script)?;
     Ok(Texts {
         plan,
         queues,

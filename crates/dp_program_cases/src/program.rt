@@ -1,5 +1,6 @@
 //! Cases of the program's command lines.
 mod commands;
+mod entries;
 mod folder;
 mod large;
 mod mistakes;

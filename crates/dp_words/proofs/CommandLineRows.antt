@@ -1,9 +1,10 @@
 -- Command lines, computed on the definition.
-use Rattle.std.proofs.Common.{◌≡◌, [], ◌∷◌, Some, None, codes, refl}
+use Rattle.std.proofs.Common.{◌≡◌, true, false, [], ◌∷◌, Some, None, codes, refl}
 use Rattle.clap.proofs.OnLiterals.{clap_on_literals}
 use Rattle.clap.specs.Faults.{fault_of}
 use Rattle.clap.specs.declared.error.kind.ErrorKind.TheVariants as kind
-use Rattle.dp_program.specs.Requests.{joined, check, listing, matching, run, debug}
+use Rattle.dp_program.specs.Entries.{found_entry}
+use Rattle.dp_program.specs.Requests.{joined, check, listing, auditing, matching, explaining, run, debug}
 use Rattle.dp_words.specs.CommandLine.{pbx_app, asked_of}
 use Rattle.dp_words.specs.Refusals.{refusals_of}
 
@@ -19,11 +20,11 @@ listed : asked_of (codes "pbx" ∷ codes "list" ∷ codes "a.conf" ∷ []) ≡ S
 unfolding clap_on_literals asked_of
 listed = refl
 
-matched : asked_of (codes "pbx" ∷ codes "match" ∷ codes "a.conf" ∷ codes "main" ∷ codes "555-1234" ∷ []) ≡ Some (matching (codes "a.conf") (codes "main") (codes "555-1234") 1)
+matched : asked_of (codes "pbx" ∷ codes "match" ∷ codes "a.conf" ∷ codes "main" ∷ codes "555-1234" ∷ []) ≡ Some (matching (record { file = codes "a.conf"; context = codes "main"; text = codes "555-1234"; priority = 1 }) false)
 unfolding clap_on_literals asked_of
 matched = refl
 
-matched_at : asked_of (codes "pbx" ∷ codes "match" ∷ codes "a.conf" ∷ codes "main" ∷ codes "5" ∷ codes "07" ∷ []) ≡ Some (matching (codes "a.conf") (codes "main") (codes "5") 7)
+matched_at : asked_of (codes "pbx" ∷ codes "match" ∷ codes "a.conf" ∷ codes "main" ∷ codes "5" ∷ codes "07" ∷ []) ≡ Some (matching (record { file = codes "a.conf"; context = codes "main"; text = codes "5"; priority = 7 }) false)
 unfolding clap_on_literals asked_of
 matched_at = refl
 
@@ -31,39 +32,59 @@ matched_nowhere : asked_of (codes "pbx" ∷ codes "match" ∷ codes "a.conf" ∷
 unfolding clap_on_literals asked_of
 matched_nowhere = refl
 
-matched_dashes : asked_of (codes "pbx" ∷ codes "match" ∷ codes "--" ∷ codes "a.conf" ∷ codes "-in-" ∷ codes "-1" ∷ []) ≡ Some (matching (codes "a.conf") (codes "-in-") (codes "-1") 1)
+matched_dashes : asked_of (codes "pbx" ∷ codes "match" ∷ codes "--" ∷ codes "a.conf" ∷ codes "-in-" ∷ codes "-1" ∷ []) ≡ Some (matching (record { file = codes "a.conf"; context = codes "-in-"; text = codes "-1"; priority = 1 }) false)
 unfolding clap_on_literals asked_of
 matched_dashes = refl
 
-ran : asked_of (codes "pbx" ∷ codes "run" ∷ codes "a.conf" ∷ codes "b.script" ∷ []) ≡ Some (run (codes "a.conf") None None (codes "b.script") None)
+matched_all : asked_of (codes "pbx" ∷ codes "match" ∷ codes "--all" ∷ codes "a.conf" ∷ codes "main" ∷ codes "5" ∷ codes "2" ∷ []) ≡ Some (matching (record { file = codes "a.conf"; context = codes "main"; text = codes "5"; priority = 2 }) true)
+unfolding clap_on_literals asked_of
+matched_all = refl
+
+matched_all_behind : asked_of (codes "pbx" ∷ codes "match" ∷ codes "a.conf" ∷ codes "main" ∷ codes "5" ∷ codes "--all" ∷ []) ≡ Some (matching (record { file = codes "a.conf"; context = codes "main"; text = codes "5"; priority = 1 }) true)
+unfolding clap_on_literals asked_of
+matched_all_behind = refl
+
+audited : asked_of (codes "pbx" ∷ codes "audit" ∷ codes "a.conf" ∷ []) ≡ Some (auditing (codes "a.conf"))
+unfolding clap_on_literals asked_of found_entry
+audited = refl
+
+explained : asked_of (codes "pbx" ∷ codes "explain" ∷ codes "71" ∷ []) ≡ Some (explaining 71)
+unfolding clap_on_literals asked_of found_entry
+explained = refl
+
+explained_zeros : asked_of (codes "pbx" ∷ codes "explain" ∷ codes "020" ∷ []) ≡ Some (explaining 20)
+unfolding clap_on_literals asked_of found_entry
+explained_zeros = refl
+
+ran : asked_of (codes "pbx" ∷ codes "run" ∷ codes "a.conf" ∷ codes "b.script" ∷ []) ≡ Some (run (record { plan = codes "a.conf"; queues = None; second_plan = None; script = codes "b.script" }) None)
 unfolding clap_on_literals asked_of
 ran = refl
 
-ran_with_queues : asked_of (codes "pbx" ∷ codes "run" ∷ codes "--queues" ∷ codes "q.conf" ∷ codes "a.conf" ∷ codes "b.script" ∷ []) ≡ Some (run (codes "a.conf") (Some (codes "q.conf")) None (codes "b.script") None)
+ran_with_queues : asked_of (codes "pbx" ∷ codes "run" ∷ codes "--queues" ∷ codes "q.conf" ∷ codes "a.conf" ∷ codes "b.script" ∷ []) ≡ Some (run (record { plan = codes "a.conf"; queues = Some (codes "q.conf"); second_plan = None; script = codes "b.script" }) None)
 unfolding clap_on_literals asked_of
 ran_with_queues = refl
 
-ran_in_threads : asked_of (codes "pbx" ∷ codes "run" ∷ codes "--threads" ∷ codes "2" ∷ codes "a.conf" ∷ codes "b.script" ∷ []) ≡ Some (run (codes "a.conf") None None (codes "b.script") (Some 2))
+ran_in_threads : asked_of (codes "pbx" ∷ codes "run" ∷ codes "--threads" ∷ codes "2" ∷ codes "a.conf" ∷ codes "b.script" ∷ []) ≡ Some (run (record { plan = codes "a.conf"; queues = None; second_plan = None; script = codes "b.script" }) (Some 2))
 unfolding clap_on_literals asked_of
 ran_in_threads = refl
 
-ran_in_threads_with_queues : asked_of (codes "pbx" ∷ codes "run" ∷ codes "--queues" ∷ codes "q.conf" ∷ codes "--threads" ∷ codes "64" ∷ codes "a.conf" ∷ codes "b.script" ∷ []) ≡ Some (run (codes "a.conf") (Some (codes "q.conf")) None (codes "b.script") (Some 64))
+ran_in_threads_with_queues : asked_of (codes "pbx" ∷ codes "run" ∷ codes "--queues" ∷ codes "q.conf" ∷ codes "--threads" ∷ codes "64" ∷ codes "a.conf" ∷ codes "b.script" ∷ []) ≡ Some (run (record { plan = codes "a.conf"; queues = Some (codes "q.conf"); second_plan = None; script = codes "b.script" }) (Some 64))
 unfolding clap_on_literals asked_of
 ran_in_threads_with_queues = refl
 
-debugged : asked_of (codes "pbx" ∷ codes "debug" ∷ codes "--break" ∷ codes "main,s,1" ∷ codes "a.conf" ∷ codes "b.script" ∷ []) ≡ Some (debug (codes "a.conf") None None (codes "b.script") (codes "main,s,1"))
+debugged : asked_of (codes "pbx" ∷ codes "debug" ∷ codes "--break" ∷ codes "main,s,1" ∷ codes "a.conf" ∷ codes "b.script" ∷ []) ≡ Some (debug (record { plan = codes "a.conf"; queues = None; second_plan = None; script = codes "b.script" }) (codes "main,s,1"))
 unfolding clap_on_literals asked_of
 debugged = refl
 
-debugged_with_queues : asked_of (codes "pbx" ∷ codes "debug" ∷ codes "--queues" ∷ codes "q.conf" ∷ codes "--break" ∷ codes "x" ∷ codes "a.conf" ∷ codes "b.script" ∷ []) ≡ Some (debug (codes "a.conf") (Some (codes "q.conf")) None (codes "b.script") (codes "x"))
+debugged_with_queues : asked_of (codes "pbx" ∷ codes "debug" ∷ codes "--queues" ∷ codes "q.conf" ∷ codes "--break" ∷ codes "x" ∷ codes "a.conf" ∷ codes "b.script" ∷ []) ≡ Some (debug (record { plan = codes "a.conf"; queues = Some (codes "q.conf"); second_plan = None; script = codes "b.script" }) (codes "x"))
 unfolding clap_on_literals asked_of
 debugged_with_queues = refl
 
-ran_with_second_plan : asked_of (codes "pbx" ∷ codes "run" ∷ codes "--reload" ∷ codes "c.conf" ∷ codes "--threads" ∷ codes "2" ∷ codes "a.conf" ∷ codes "b.script" ∷ []) ≡ Some (run (codes "a.conf") None (Some (codes "c.conf")) (codes "b.script") (Some 2))
+ran_with_second_plan : asked_of (codes "pbx" ∷ codes "run" ∷ codes "--reload" ∷ codes "c.conf" ∷ codes "--threads" ∷ codes "2" ∷ codes "a.conf" ∷ codes "b.script" ∷ []) ≡ Some (run (record { plan = codes "a.conf"; queues = None; second_plan = Some (codes "c.conf"); script = codes "b.script" }) (Some 2))
 unfolding clap_on_literals asked_of
 ran_with_second_plan = refl
 
-debugged_with_second_plan : asked_of (codes "pbx" ∷ codes "debug" ∷ codes "--break" ∷ codes "x" ∷ codes "--reload" ∷ codes "c.conf" ∷ codes "a.conf" ∷ codes "b.script" ∷ []) ≡ Some (debug (codes "a.conf") None (Some (codes "c.conf")) (codes "b.script") (codes "x"))
+debugged_with_second_plan : asked_of (codes "pbx" ∷ codes "debug" ∷ codes "--break" ∷ codes "x" ∷ codes "--reload" ∷ codes "c.conf" ∷ codes "a.conf" ∷ codes "b.script" ∷ []) ≡ Some (debug (record { plan = codes "a.conf"; queues = None; second_plan = Some (codes "c.conf"); script = codes "b.script" }) (codes "x"))
 unfolding clap_on_literals asked_of
 debugged_with_second_plan = refl
 
@@ -96,6 +117,14 @@ no_priority = refl
 no_threads : refusals_of (codes "pbx" ∷ codes "run" ∷ codes "--threads" ∷ codes "65" ∷ codes "a.conf" ∷ codes "b.script" ∷ []) ≡ kind.ValueValidation ∷ []
 unfolding clap_on_literals refusals_of
 no_threads = refl
+
+no_fault_number : refusals_of (codes "pbx" ∷ codes "explain" ∷ codes "16" ∷ []) ≡ kind.ValueValidation ∷ []
+unfolding clap_on_literals refusals_of found_entry
+no_fault_number = refl
+
+all_twice : refusals_of (codes "pbx" ∷ codes "match" ∷ codes "--all" ∷ codes "--all" ∷ codes "a.conf" ∷ codes "main" ∷ codes "5" ∷ []) ≡ kind.ArgumentConflict ∷ []
+unfolding clap_on_literals refusals_of
+all_twice = refl
 
 all_numbers : refusals_of (codes "pbx" ∷ codes "run" ∷ codes "--threads" ∷ codes "64" ∷ codes "a.conf" ∷ codes "b.script" ∷ []) ≡ []
 unfolding clap_on_literals refusals_of

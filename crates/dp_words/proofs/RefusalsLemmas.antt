@@ -1,13 +1,13 @@
 -- The kinds with which words are refused.
 use Rattle.std.proofs.Common.{◌≡◌, ◌⊎◌, Bool, true, false, cond, List, ℕ, [], ◌∷◌, Option, Some, None, is_some, codes, inl, inr, refl}
-use Rattle.std.specs.Option.{option_and_then}
+use Rattle.std.specs.Option.{option_and_then, option_map}
 use Rattle.clap.specs.Kinds.{IsAmong, Kinds, or_else}
 use Rattle.clap.specs.Walk.{Row, first_of}
 use Rattle.clap.specs.declared.error.kind.ErrorKind.{ErrorKind}
 use Rattle.clap.specs.declared.error.kind.ErrorKind.TheVariants.{OutOfMemory}
 use Rattle.dp_conf.specs.Words.{same_text}
-use Rattle.dp_program.specs.Requests.{Asked}
-use Rattle.dp_words.specs.CommandLine.{asked_by, check_asked, command_asked, debug_asked, list_asked, match_asked, match_at, priority_in, run_asked, run_by, run_in, threads_in}
+use Rattle.dp_program.specs.Requests.{Asked, explaining}
+use Rattle.dp_words.specs.CommandLine.{asked_by, audit_asked, check_asked, command_asked, debug_asked, explain_asked, fault_in, list_asked, match_asked, match_at, priority_in, run_asked, run_by, run_in, threads_in}
 use Rattle.dp_words.specs.Refusals.{command_kinds, kinds_by, number_kinds, unless_number}
 
 -- one of the first kinds is one of all
@@ -26,6 +26,15 @@ match_numbers : (words : List Row) (word : Option (List ℕ)) → is_some (optio
 match_numbers words None is = refl
 match_numbers words (Some word) is = unless_asked (priority_in word) (match_at words) is
 
+-- the same, where nothing else is wanted
+unless_mapped : {X : Type 0} (number : Option ℕ) (next : ℕ → X) → is_some (option_map next number) ≡ true → unless_number number ≡ []
+unless_mapped None next is = absurd cc
+unless_mapped (Some number) next is = refl
+
+explain_numbers : (word : Option (List ℕ)) → is_some (option_and_then (λ word. option_map explaining (fault_in word)) word) ≡ true → number_kinds fault_in word ≡ []
+explain_numbers None is = refl
+explain_numbers (Some word) is = unless_mapped (fault_in word) explaining is
+
 run_numbers : (words : List Row) (word : Option (List ℕ)) → is_some (run_by words word) ≡ true → number_kinds threads_in word ≡ []
 run_numbers words None is = refl
 run_numbers words (Some word) is = unless_asked (threads_in word) (λ threads. run_in words (Some threads)) is
@@ -41,7 +50,10 @@ command_numbers name words =
     either (same_text name (codes "check")) (check_asked words) _ [] _ (λ some. refl)
     (either (same_text name (codes "list")) (list_asked words) _ [] _ (λ some. refl)
     (either (same_text name (codes "match")) (match_asked words) _ _ _ (match_numbers words (first_of (codes "PRIORITY") words))
-    (either (same_text name (codes "run")) (run_asked words) _ _ [] (run_numbers words (first_of (codes "N") words)) (λ some. refl))))
+    (either (same_text name (codes "run")) (run_asked words) _ _ _ (run_numbers words (first_of (codes "N") words))
+    (either (same_text name (codes "debug")) (debug_asked words) _ [] _ (λ some. refl)
+    (either (same_text name (codes "audit")) (audit_asked words) _ [] _ (λ some. refl)
+    (either (same_text name (codes "explain")) (explain_asked words) _ _ [] (explain_numbers (first_of (codes "CODE") words)) (λ some. refl)))))))
 
 -- words that ask for something have no number out of its range
 pub asked_numbers : (command : Option (List ℕ × List Row)) → is_some (asked_by command) ≡ true → kinds_by command ≡ []

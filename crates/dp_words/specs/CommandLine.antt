@@ -1,14 +1,17 @@
 -- What the words of a command line ask for. Which word belongs to which name of a command is what clap's definitions say
 -- of the commands below.
-use Rattle.std.specs.Prelude.{ℕ, true, String, string_bytes, List, [], ◌∷◌, Option, Some, None, nat_lt, map, codes, if◌then◌else◌}
-use Rattle.std.specs.Option.{option_and_then, option_map}
+use Rattle.std.specs.Prelude.{ℕ, Bool, true, false, String, string_bytes, List, [], ◌∷◌, Option, Some, None, nat_lt, map, codes, if◌then◌else◌}
+use Rattle.std.specs.Option.{option_and_then, option_map, option_map_or}
 use Rattle.std.specs.declared.alloc.Global.{Global}
 use Rattle.clap.specs.Simple.{App, new_app, new_rule, with_rule, with_subcommand, subcommand_of}
 use Rattle.clap.specs.Walk.{Row, Rule, first_of}
+use Rattle.clap.specs.declared.builder.action.ArgAction.TheVariants.{SetTrue}
 use Rattle.dp_conf.specs.Words.{same_text}
 use Rattle.dp_commands.specs.Script.{number_within}
 use Rattle.dp_plan.specs.Priority.{most_priority}
-use Rattle.dp_program.specs.Requests.{Asked, joined, check, listing, matching, run, debug}
+use Rattle.dp_program.specs.Entries.{has_entry}
+use Rattle.dp_program.specs.Requests.{Asked, joined, check, listing, auditing, matching, explaining, run, debug}
+use Rattle.dp_program.specs.Texts.{OfRun}
 
 -- a word that has to be given
 abbrev pub required_word : List ℕ → Rule
@@ -26,6 +29,10 @@ named_word name long = record (new_rule name) { long = Some long }
 abbrev pub required_named_word : List ℕ → List ℕ → Rule
 required_named_word name long = record (named_word name long) { required = true }
 
+-- a flag that may be given behind `--`
+abbrev pub flag : List ℕ → List ℕ → Rule
+flag name long = record (named_word name long) { action = Some SetTrue }
+
 -- `check FILE`
 abbrev pub check_app : App
 check_app = with_rule (new_app (codes "check")) (required_word (codes "FILE"))
@@ -34,12 +41,20 @@ check_app = with_rule (new_app (codes "check")) (required_word (codes "FILE"))
 abbrev pub list_app : App
 list_app = with_rule (new_app (codes "list")) (required_word (codes "FILE"))
 
--- `match FILE CONTEXT TEXT [PRIORITY]`
+-- `match [--all] FILE CONTEXT TEXT [PRIORITY]`
 abbrev pub match_app : App
 match_app =
-    with_rule (with_rule (with_rule (with_rule (new_app (codes "match"))
+    with_rule (with_rule (with_rule (with_rule (with_rule (new_app (codes "match")) (flag (codes "all") (codes "all")))
     (required_word (codes "FILE"))) (required_word (codes "CONTEXT"))) (required_word (codes "TEXT")))
     (word_or (codes "PRIORITY") (codes "1"))
+
+-- `audit FILE`
+abbrev pub audit_app : App
+audit_app = with_rule (new_app (codes "audit")) (required_word (codes "FILE"))
+
+-- `explain CODE`
+abbrev pub explain_app : App
+explain_app = with_rule (new_app (codes "explain")) (required_word (codes "CODE"))
 
 -- `run [--queues QUEUES] [--reload DIALPLAN] [--threads N] FILE SCRIPT`
 abbrev pub run_app : App
@@ -58,8 +73,8 @@ debug_app =
 -- the program's commands
 abbrev pub pbx_app : App
 pbx_app =
-    with_subcommand (with_subcommand (with_subcommand (with_subcommand (with_subcommand (new_app (codes "pbx")) check_app.top)
-    list_app.top) match_app.top) run_app.top) debug_app.top
+    with_subcommand (with_subcommand (with_subcommand (with_subcommand (with_subcommand (with_subcommand (with_subcommand (new_app (codes "pbx"))
+    check_app.top) list_app.top) match_app.top) run_app.top) debug_app.top) audit_app.top) explain_app.top
 
 -- the priority that a word writes: digits, and a number from 1 to the greatest priority
 abbrev pub priority_in : List ℕ → Option ℕ
@@ -73,6 +88,18 @@ most_threads = 64
 abbrev pub threads_in : List ℕ → Option ℕ
 threads_in word = option_and_then (λ n. if nat_lt 0 n then Some n else None) (number_within most_threads word)
 
+-- the greatest number that is read as that of a fault
+abbrev pub most_code : ℕ
+most_code = 4294967295
+
+-- the fault of which a word writes the number, in digits
+abbrev pub fault_in : List ℕ → Option ℕ
+fault_in word = option_and_then (λ n. if has_entry n then Some n else None) (number_within most_code word)
+
+-- whether a flag is given, which has the value `true` then, and `false` else
+abbrev pub is_set : List ℕ → List Row → Bool
+is_set name words = option_map_or (λ value. same_text value (codes "true")) (first_of name words) false
+
 -- what `check` asks for, by its words
 abbrev pub check_asked : List Row → Option Asked
 check_asked words = option_map check (first_of (codes "FILE") words)
@@ -84,7 +111,8 @@ list_asked words = option_map listing (first_of (codes "FILE") words)
 -- what `match` asks for at a priority, by its other words
 abbrev pub match_at : List Row → ℕ → Option Asked
 match_at words priority =
-    option_and_then (λ file. option_and_then (λ context. option_map (λ text. matching file context text priority)
+    option_and_then (λ file. option_and_then (λ context. option_map
+    (λ text. matching (record { file = file; context = context; text = text; priority = priority }) (is_set (codes "all") words))
     (first_of (codes "TEXT") words)) (first_of (codes "CONTEXT") words)) (first_of (codes "FILE") words)
 
 -- what `match` asks for, by its words
@@ -92,11 +120,24 @@ abbrev pub match_asked : List Row → Option Asked
 match_asked words =
     option_and_then (λ word. option_and_then (match_at words) (priority_in word)) (first_of (codes "PRIORITY") words)
 
+-- what `audit` asks for, by its words
+abbrev pub audit_asked : List Row → Option Asked
+audit_asked words = option_map auditing (first_of (codes "FILE") words)
+
+-- what `explain` asks for, by its words
+abbrev pub explain_asked : List Row → Option Asked
+explain_asked words = option_and_then (λ word. option_map explaining (fault_in word)) (first_of (codes "CODE") words)
+
+-- the files of a run, by its words
+abbrev pub run_paths : List Row → Option (OfRun (List ℕ))
+run_paths words =
+    option_and_then (λ file. option_map (λ script.
+    record { plan = file; queues = first_of (codes "QUEUES") words; second_plan = first_of (codes "DIALPLAN") words; script = script })
+    (first_of (codes "SCRIPT") words)) (first_of (codes "FILE") words)
+
 -- what `run` asks for in so many threads, where their number is given, by its other words
 abbrev pub run_in : List Row → Option ℕ → Option Asked
-run_in words threads =
-    option_and_then (λ file. option_map (λ script. run file (first_of (codes "QUEUES") words) (first_of (codes "DIALPLAN") words) script threads)
-    (first_of (codes "SCRIPT") words)) (first_of (codes "FILE") words)
+run_in words threads = option_map (λ paths. run paths threads) (run_paths words)
 
 -- what `run` asks for, by its words and the one behind `--threads`
 abbrev pub run_by : List Row → Option (List ℕ) → Option Asked
@@ -110,9 +151,7 @@ run_asked words = run_by words (first_of (codes "N") words)
 -- what `debug` asks for, by its words
 abbrev pub debug_asked : List Row → Option Asked
 debug_asked words =
-    option_and_then (λ file. option_and_then (λ script.
-    option_map (debug file (first_of (codes "QUEUES") words) (first_of (codes "DIALPLAN") words) script)
-    (first_of (codes "CONTEXT,EXTEN,PRIORITY") words)) (first_of (codes "SCRIPT") words)) (first_of (codes "FILE") words)
+    option_and_then (λ paths. option_map (debug paths) (first_of (codes "CONTEXT,EXTEN,PRIORITY") words)) (run_paths words)
 
 -- what a command of a name asks for, by its words
 abbrev pub command_asked : List ℕ → List Row → Option Asked
@@ -122,6 +161,8 @@ command_asked name words =
     else if same_text name (codes "match") then match_asked words
     else if same_text name (codes "run") then run_asked words
     else if same_text name (codes "debug") then debug_asked words
+    else if same_text name (codes "audit") then audit_asked words
+    else if same_text name (codes "explain") then explain_asked words
     else None
 
 -- the same, where there is no command too

@@ -8,7 +8,7 @@ use Rattle.clap.specs.Walk.{Row, first_of}
 use Rattle.clap.specs.declared.error.kind.ErrorKind.TheVariants.{MissingRequiredArgument, ValueValidation}
 use Rattle.dp_conf.specs.Words.{same_text}
 use Rattle.dp_program.specs.Requests.{Asked}
-use Rattle.dp_words.specs.CommandLine.{pbx_app, asked_by, priority_in, threads_in}
+use Rattle.dp_words.specs.CommandLine.{pbx_app, asked_by, fault_in, priority_in, threads_in}
 
 -- the kind of an invalid value where there is no number
 abbrev pub unless_number : Option ℕ → Kinds
@@ -20,13 +20,16 @@ abbrev pub number_kinds : (List ℕ → Option ℕ) → Option (List ℕ) → Ki
 number_kinds number_in None = []
 number_kinds number_in (Some word) = unless_number (number_in word)
 
--- those of a command: of the priority of `match`, and of the threads of `run`
+-- those of a command: of the priority of `match`, of the threads of `run`, and of the number of `explain`
 abbrev pub command_kinds : List ℕ → List Row → Kinds
 command_kinds name words =
     if same_text name (codes "check") then []
     else if same_text name (codes "list") then []
     else if same_text name (codes "match") then number_kinds priority_in (first_of (codes "PRIORITY") words)
     else if same_text name (codes "run") then number_kinds threads_in (first_of (codes "N") words)
+    else if same_text name (codes "debug") then []
+    else if same_text name (codes "audit") then []
+    else if same_text name (codes "explain") then number_kinds fault_in (first_of (codes "CODE") words)
     else []
 
 -- the same, where there is no command too

@@ -9,15 +9,16 @@ ghost use Rattle.clap.specs.Values.{kind_of};
 ghost use Rattle.clap.specs.Walk.{first_of, rows_of};
 ghost use Rattle.clap.specs.declared.error.kind.ErrorKind.TheVariants.{MissingRequiredArgument, OutOfMemory, ValueValidation};
 ghost use Rattle.dp_program.specs.Requests.{asked};
+ghost use Rattle.dp_program.specs.Texts.{paths_of};
 ghost use Rattle.dp_words.specs.CommandLine as spec;
 ghost use Rattle.dp_words.specs.Refusals as refusals;
 
-use crate::commands::{match_command, pbx_command, run_command};
+use crate::commands::{explain_command, match_command, pbx_command, run_command};
 use clap::error::ErrorKind;
 use clap::{ArgMatches, Command, Error};
 use dp_commands::number_within;
 use dp_plan::{MOST_PRIORITY, NoMemory, Priority};
-use dp_program::Request;
+use dp_program::{FaultNumber, Lookup, Request, RunFiles};
 use std::alloc::Global;
 
 /// The greatest number of threads of a run; this is the program's own limit.
@@ -84,11 +85,44 @@ fn refuse_threads(alloc: Global, word: &str) -> Result<Error, NoMemory>
     )
 }
 
+/// The fault of which a word writes the number, in digits.
+fn read_fault(word: &str) -> Option<FaultNumber>
+    ensures { result ≡ spec.fault_in word.now }
+{
+    let number = number_within(u32::MAX, word.as_bytes())?;
+    FaultNumber::new(number)
+}
+
+/// The refusal of a word that writes no number of a fault.
+fn refuse_fault(alloc: Global, word: &str) -> Result<Error, NoMemory>
+    ensures { IfOk result (λ error. kind_of error ≡ ValueValidation) }
+{
+    let message = format!(in alloc;
+        "invalid value '{word}' for '<CODE>': no fault has this number"
+    )?;
+    refuse(
+        explain_command(alloc),
+        "pbx explain",
+        ErrorKind::ValueValidation,
+        &message,
+    )
+}
+
 /// The word of this name among those of a command.
 fn word_of<'a>(given: &ArgMatches<'a>, name: &str) -> Option<&'a str>
     ensures { option_map (λ word. word.now) result ≡ first_of name.now (rows_of (found_of given.now)) }
 {
     given.get_str(name)
+}
+
+/// Whether the flag of this name is given.
+fn is_set(given: &ArgMatches<'_>, name: &str) -> bool
+    ensures { result ≡ spec.is_set name.now (rows_of (found_of given.now)) }
+{
+    match word_of(given, name) {
+        Some(word) => word == "true",
+        None => false,
+    }
 }
 
 /// What the words of `check` ask for.
@@ -105,6 +139,15 @@ fn list_request<'a>(given: &ArgMatches<'a>) -> Option<Request<'a>>
     ensures { option_map asked result ≡ spec.list_asked (rows_of (found_of given.now)) }
 {
     Some(Request::Listing {
+        file: word_of(given, "FILE")?,
+    })
+}
+
+/// What the words of `audit` ask for.
+fn audit_request<'a>(given: &ArgMatches<'a>) -> Option<Request<'a>>
+    ensures { option_map asked result ≡ spec.audit_asked (rows_of (found_of given.now)) }
+{
+    Some(Request::Audit {
         file: word_of(given, "FILE")?,
     })
 }
@@ -127,11 +170,39 @@ fn match_request<'a>(alloc: Global, given: &ArgMatches<'a>) -> Result<Option<Req
 fn match_at<'a>(given: &ArgMatches<'a>, priority: Priority) -> Option<Request<'a>>
     ensures { option_map asked result ≡ spec.match_at (rows_of (found_of given.now)) priority }
 {
-    Some(Request::Match {
+    let lookup = Lookup {
         file: word_of(given, "FILE")?,
         context: word_of(given, "CONTEXT")?,
         text: word_of(given, "TEXT")?,
         priority,
+    };
+    let all = is_set(given, "all");
+    Some(Request::Match { lookup, all })
+}
+
+/// What the words of `explain` ask for, or its refusal where they name no fault.
+fn explain_request<'a>(alloc: Global, given: &ArgMatches<'a>) -> Result<Option<Request<'a>>, Error>
+    ensures asked { IfOk result (λ request. option_map asked request ≡ spec.explain_asked (rows_of (found_of given.now))) }
+    ensures kinds { FailsBy (refusals.number_kinds spec.fault_in (first_of (codes "CODE") (rows_of (found_of given.now)))) result }
+{
+    let Some(word) = word_of(given, "CODE") else {
+        return Ok(None);
+    };
+    match read_fault(word) {
+        Some(fault) => Ok(Some(Request::Explain { fault })),
+        None => Err(refuse_fault(alloc, word)?),
+    }
+}
+
+/// The files that the words of a run name.
+fn run_files<'a>(given: &ArgMatches<'a>) -> Option<RunFiles<'a>>
+    ensures { option_map paths_of result ≡ spec.run_paths (rows_of (found_of given.now)) }
+{
+    Some(RunFiles {
+        plan: word_of(given, "FILE")?,
+        queues: word_of(given, "QUEUES"),
+        second_plan: word_of(given, "DIALPLAN"),
+        script: word_of(given, "SCRIPT")?,
     })
 }
 
@@ -154,10 +225,7 @@ fn run_in<'a>(given: &ArgMatches<'a>, threads: Option<u32>) -> Option<Request<'a
     ensures { option_map asked result ≡ spec.run_in (rows_of (found_of given.now)) threads }
 {
     Some(Request::Run {
-        file: word_of(given, "FILE")?,
-        queues: word_of(given, "QUEUES"),
-        second_plan: word_of(given, "DIALPLAN"),
-        script: word_of(given, "SCRIPT")?,
+        files: run_files(given)?,
         threads,
     })
 }
@@ -167,10 +235,7 @@ fn debug_request<'a>(given: &ArgMatches<'a>) -> Option<Request<'a>>
     ensures { option_map asked result ≡ spec.debug_asked (rows_of (found_of given.now)) }
 {
     Some(Request::Debug {
-        file: word_of(given, "FILE")?,
-        queues: word_of(given, "QUEUES"),
-        second_plan: word_of(given, "DIALPLAN"),
-        script: word_of(given, "SCRIPT")?,
+        files: run_files(given)?,
         held: word_of(given, "CONTEXT,EXTEN,PRIORITY")?,
     })
 }
@@ -191,6 +256,8 @@ fn command_request<'a>(
         "match" => match_request(alloc, given),
         "run" => run_request(alloc, given),
         "debug" => Ok(debug_request(given)),
+        "audit" => Ok(audit_request(given)),
+        "explain" => explain_request(alloc, given),
         _ => Ok(None),
     }
 }

@@ -5,8 +5,11 @@ ghost use Rattle.clap.specs.Walk.{rule_of};
 ghost use Rattle.clap.specs.declared.builder.command.Command.TheViews.{out-Command as fields_of};
 ghost use Rattle.dp_words.specs.CommandLine as spec;
 
-use crate::help::{CHECK_NOTES, DEBUG_NOTES, LIST_NOTES, MATCH_NOTES, PBX_NOTES, RUN_NOTES};
-use clap::{Arg, Command};
+use crate::help::{
+    AUDIT_NOTES, CHECK_NOTES, DEBUG_NOTES, EXPLAIN_NOTES, LIST_NOTES, MATCH_NOTES, PBX_NOTES,
+    RUN_NOTES,
+};
+use clap::{Arg, ArgAction, Command};
 use dp_plan::NoMemory;
 use std::alloc::Global;
 
@@ -58,6 +61,17 @@ fn required_named_word<'a>(alloc: Global, name: &'a str, long: &'a str, help: &'
     ensures local { result.global ≡ false }
 {
     Arg::new(alloc, name).long(long).required(true).help(help)
+}
+
+/// A flag that may be given behind `--`.
+fn flag<'a>(alloc: Global, name: &'a str, long: &'a str, help: &'a str) -> Arg<'a>
+    ensures rule { rule_of result ≡ spec.flag name.now long.now }
+    ensures local { result.global ≡ false }
+{
+    Arg::new(alloc, name)
+        .long(long)
+        .action(ArgAction::SetTrue)
+        .help(help)
 }
 
 /// The command with the word of its dialplan's file.
@@ -139,6 +153,21 @@ fn check_command<'a>(alloc: Global) -> Result<Command<'a>, NoMemory>
     Ok(check)
 }
 
+/// The command `audit`.
+fn audit_command<'a>(alloc: Global) -> Result<Command<'a>, NoMemory>
+    ensures app { IfOk result (λ command. app_of command ≡ spec.audit_app) }
+    ensures local { IfOk result (λ command. (fields_of command).has_globals ≡ false) }
+{
+    let audit = described(
+        alloc,
+        "audit",
+        "Print what the writer of a dialplan may not have meant",
+        AUDIT_NOTES,
+    );
+    let audit = with_dialplan(alloc, audit)?;
+    Ok(audit)
+}
+
 /// The command `list`.
 fn list_command<'a>(alloc: Global) -> Result<Command<'a>, NoMemory>
     ensures app { IfOk result (λ command. app_of command ≡ spec.list_app) }
@@ -178,6 +207,13 @@ pub(crate) fn match_command<'a>(alloc: Global) -> Result<Command<'a>, NoMemory>
         "Print which entry of a dialplan answers a call",
         MATCH_NOTES,
     );
+    let all = flag(
+        alloc,
+        "all",
+        "all",
+        "Print below it what becomes of each extension that matches",
+    );
+    let matching = with_word(matching, all)?;
     let matching = with_dialplan(alloc, matching)?;
     let matching = with_call(alloc, matching)?;
     let priority = optional_word(
@@ -188,6 +224,22 @@ pub(crate) fn match_command<'a>(alloc: Global) -> Result<Command<'a>, NoMemory>
     );
     let matching = with_word(matching, priority)?;
     Ok(matching)
+}
+
+/// The command `explain`.
+pub(crate) fn explain_command<'a>(alloc: Global) -> Result<Command<'a>, NoMemory>
+    ensures app { IfOk result (λ command. app_of command ≡ spec.explain_app) }
+    ensures local { IfOk result (λ command. (fields_of command).has_globals ≡ false) }
+{
+    let explain = described(
+        alloc,
+        "explain",
+        "Print what the manual says of a fault",
+        EXPLAIN_NOTES,
+    );
+    let code = required_word(alloc, "CODE", "The number of the fault, from 1 to 71");
+    let explain = with_word(explain, code)?;
+    Ok(explain)
 }
 
 /// The command `run`.
@@ -262,5 +314,7 @@ pub(crate) fn pbx_command<'a>(alloc: Global) -> Result<Command<'a>, NoMemory>
     let pbx = with_command(pbx, match_command(alloc))?;
     let pbx = with_command(pbx, run_command(alloc))?;
     let pbx = with_command(pbx, debug_command(alloc))?;
+    let pbx = with_command(pbx, audit_command(alloc))?;
+    let pbx = with_command(pbx, explain_command(alloc))?;
     Ok(pbx)
 }

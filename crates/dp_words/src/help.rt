@@ -11,9 +11,11 @@ Examples:
   pbx match extensions.conf main 555-1234
   pbx run extensions.conf calls.script
   pbx debug --break main,100,2 extensions.conf calls.script
+  pbx audit extensions.conf
+  pbx explain 20
   pbx < joined.conf
 
-Status: 0; 1 where a fault was printed or an event was refused; 2 where the command line was refused.";
+Status: 0; 1 where a fault was printed, an event was refused or an audit found something; 2 where the command line was refused.";
 
 /// What the help of `check` says below its words.
 pub(crate) const CHECK_NOTES: &str = "\
@@ -42,9 +44,40 @@ pub(crate) const MATCH_NOTES: &str = "\
 Prints `CONTEXT,NAME,PRIORITY APPLICATION` of the entry that answers, or `none`. The context is searched first, and then
 what it includes. A word that begins with `-` may stand behind `--`.
 
+With --all a line follows for each extension that matches, in the order in which a look-up asks: `answers`, `less specific`,
+`later context` or `no such priority`.
+
 Example:
   $ pbx match extensions.conf main 555-1234 3
   main,_NXXXXXX,3 Queue";
+
+/// What the help of `audit` says below its words.
+pub(crate) const AUDIT_NOTES: &str = "\
+Prints `KIND CONTEXT,NAME,PRIORITY` for each finding, with what it is about behind it, and then how many there are:
+  Cycle          a context includes itself
+  NoApplication  there is no such application
+  NoTarget       a target leads to no entry
+  Gap            the next priority is not found, but greater ones are there
+  NoFirst        there is no priority 1
+  Unset          nothing sets the variable that is read
+  Unused         no target names the label
+The status is 0 where nothing is found, and else 1.
+
+Example:
+  $ pbx audit extensions.conf
+  Gap sales,s,1 2
+  NoApplication sales,s,3 Voicemail
+  ok 2 findings";
+
+/// What the help of `explain` says below its words.
+pub(crate) const EXPLAIN_NOTES: &str = "\
+Prints the number and the name of a fault, when it comes, and an example of it, as the manual has them.
+
+Example:
+  $ pbx explain 20
+  20 BadPriority
+  a priority that is neither `n` nor a number from 1 on
+  example: `exten => s,0,NoOp()`";
 
 /// What the help of `run` says below its words.
 pub(crate) const RUN_NOTES: &str = "\

@@ -218,6 +218,18 @@ rest,_X.,1 NoOp
 $ pbx match sample/extensions.conf phones 1
 none
 ? 0
+$ pbx match --all sample/extensions.conf phones 100
+phones,100,1 NoOp
+phones,100,1 NoOp: answers
+phones,_1XX,1 NoOp: less specific
+rest,_X.,1 NoOp: later context
+? 0
+$ pbx match --all sample/extensions.conf phones 100 3
+none
+phones,100,3: no such priority
+phones,_1XX,3: no such priority
+rest,_X.,3: no such priority
+? 0
 @ pair.conf
 [main]
 exten => s,1,NoOp()
@@ -274,6 +286,69 @@ end 9
 $ pbx debug --break phones,123 sample/extensions.conf sample/calls.script
 fault 71 BadBreak
 ? 1
+@ sample/faulty.conf
+; The menu of a shop, with mistakes that no load tells.
+[globals]
+TRUNK=Line/9
+
+[menu]
+exten => s,1,Answer()
+ same => n,Set(TRIES=0)
+ same => n(again),Background(welcome)
+ same => n,WaitExten(5)
+exten => 1,1,Goto(sales,s,1)
+exten => 2,1,Goto(support,s,start)
+exten => i,1,Set(TRIES=$[${TRIES} + 1])
+ same => n,GotoIf($[${TRIES} < 3]?menu,s,again:goodbye,s,1)
+exten => t,1,Playbck(goodbye)
+ same => n,Hangup()
+include => night
+
+[sales]
+exten => s,1,Dial(${TRUNK}/100)
+ same => 3,Voicemail(100)
+
+[support]
+exten => s,1(begin),Queue(${QUEUE})
+ same => n,Hangup()
+
+[night]
+exten => 9,2,NoOp(the night desk)
+include => menu
+@
+$ pbx audit sample/faulty.conf
+Cycle menu
+NoTarget menu,2,1 support,s,start
+NoTarget menu,i,2 goodbye,s,1
+NoApplication menu,t,1 Playbck
+Gap sales,s,1 2
+NoApplication sales,s,3 Voicemail
+Unset support,s,1 QUEUE
+Unused support,s,1 begin
+Cycle night
+NoFirst night,9,2
+ok 10 findings
+? 1
+$ pbx audit sample/extensions.conf
+ok 0 findings
+? 0
+$ pbx explain 20
+20 BadPriority
+a priority that is neither `n` nor a number from 1 on
+example: `exten => s,0,NoOp()`
+? 0
+$ pbx explain 32
+32 LeftOut
+a strategy that this program leaves out (`random`, `wrandom`, `rrordered`), or another word for `joinempty` or `leavewhenempty` than `yes`, `no`, `strict` and `loose`
+example: `strategy=random`, `joinempty=paused`
+? 0
+$ pbx explain 16
+error: invalid value '16' for '<CODE>': no fault has this number
+
+Usage: pbx explain <CODE>
+
+For more information, try '--help'.
+? 2
 @ joined.text
 [main]
 exten => 100,1,NoOp()

@@ -75,6 +75,35 @@ match @missing main s→1→→fault 7 ReadFailed¶
 match @folder main s→1→→fault 7 ReadFailed¶
 match @long main s→1→→fault 8 TooLong¶
 match @empty main s→0→none¶→
+# All that match.
+match --all @specific main 123→0→main,123,1 NoOp¶main,123,1 NoOp: answers¶main,_1XX,1 NoOp: less specific¶main,_X.,1 NoOp: less specific¶→
+match @priorities main 123 2 --all→0→main,_X.,2 NoOp¶main,123,2: no such priority¶main,_X.,2 NoOp: answers¶→
+match --all @chain main 123→0→main,_1XX,1 NoOp¶main,_1XX,1 NoOp: answers¶late,123,1 Hangup: later context¶→
+match --all @specific main 1→0→none¶→
+match --all @faulty main s→1→→fault 4 NoEquals line 2¶
+match --all @missing main s→1→→fault 7 ReadFailed¶
+";
+
+/// `audit`.
+const AUDITS: &str = "\
+audit @cycle→1→Cycle a¶Cycle b¶ok 2 findings¶→
+audit @first→0→ok 0 findings¶→
+audit @empty→0→ok 0 findings¶→
+audit @faulty→1→→fault 4 NoEquals line 2¶
+audit @missing→1→→fault 7 ReadFailed¶
+audit @long→1→→fault 8 TooLong¶
+# It reads no input.
+audit @empty←[main]¶abc¶→0→ok 0 findings¶→
+";
+
+/// `explain`.
+const EXPLAINS: &str = "\
+explain 1→0→1 BlockComment¶a comment begins with `;--` and no third dash (`;---` is a plain comment)¶example: `a = 1 ;-- x`¶→
+explain 020→0→20 BadPriority¶a priority that is neither `n` nor a number from 1 on¶example: `exten => s,0,NoOp()`¶→
+explain 24→0→24 LeftOut¶what this program leaves out: one of the kinds below¶example: `switch => Loopback/x`¶¶the keys `switch`, `lswitch`, `eswitch`¶example: `lswitch => Loopback/x`¶¶the key `ignorepat`¶example: `ignorepat => 9`¶¶the priority `hint`¶example: `exten => 100,hint,Line/1`¶¶the priorities `next`, `s` and `same`, and those with a `+`¶example: `exten => s,n+1,NoOp()`¶¶a `/` in a name: names for one caller¶example: `exten => s/5551234,1,NoOp()`¶¶a `${` in a name, or in its one spelling: variables¶example: `exten => ${X},1,NoOp()`, `exten => _[{$],1,NoOp()`¶¶an include with a comma: times¶example: `include => late,9:00-17:00,*,*,*`¶¶an application with a comma in place of parentheses¶example: `exten => s,1,Wait,5`¶→
+explain 71→0→71 BadBreak¶a break of `debug` that has not three parts, or of which the priority is no number from 1 to 2,147,483,647¶example: `--break main,s`, `--break main,s,0`, `--break main,s,+1`¶→
+# It reads no input.
+explain 33←[main]¶abc¶→0→33 DoubleQueue¶a second section of one queue¶example: `[sales]` twice¶→
 ";
 
 /// `run`.
@@ -231,10 +260,12 @@ check @empty←[main]¶exten => 100,1,NoOp(hello)¶exten => 100,2,Goto(200,1)¶e
 ";
 
 /// All the tables.
-const TABLES: [&str; 8] = [
+const TABLES: [&str; 10] = [
     CHECKS,
     LISTS,
     MATCHES,
+    AUDITS,
+    EXPLAINS,
     RUNS,
     THREAD_RUNS,
     DEBUGS,

@@ -16,15 +16,27 @@ check @usual more→unexpected argument 'more' found→pbx check <FILE>
 check --loud x→unexpected argument '--loud' found¶¶  tip: to pass '--loud' as a value, use '-- --loud'→pbx check <FILE>
 check --reload @usual @usual→unexpected argument '--reload' found¶¶  tip: to pass '--reload' as a value, use '-- --reload'→pbx check <FILE>
 match @usual→the following required arguments were not provided:¶  <CONTEXT>¶  <TEXT>→pbx match <FILE> <CONTEXT> <TEXT> [PRIORITY]
-match @usual main 1 2 3→unexpected argument '3' found→pbx match <FILE> <CONTEXT> <TEXT> [PRIORITY]
-match @usual main -5→unexpected argument '-5' found¶¶  tip: to pass '-5' as a value, use '-- -5'→pbx match <FILE> <CONTEXT> <TEXT> [PRIORITY]
-match @usual main 5 0→invalid value '0' for '[PRIORITY]': a priority is a number from 1 to 2147483647→pbx match <FILE> <CONTEXT> <TEXT> [PRIORITY]
-match @usual main 5 2147483648→invalid value '2147483648' for '[PRIORITY]': a priority is a number from 1 to 2147483647→pbx match <FILE> <CONTEXT> <TEXT> [PRIORITY]
-match @usual main 5 n→invalid value 'n' for '[PRIORITY]': a priority is a number from 1 to 2147483647→pbx match <FILE> <CONTEXT> <TEXT> [PRIORITY]
-match @usual main 5 +1→invalid value '+1' for '[PRIORITY]': a priority is a number from 1 to 2147483647→pbx match <FILE> <CONTEXT> <TEXT> [PRIORITY]
-match @usual main 5 ''→invalid value '' for '[PRIORITY]': a priority is a number from 1 to 2147483647→pbx match <FILE> <CONTEXT> <TEXT> [PRIORITY]
+match @usual main 1 2 3→unexpected argument '3' found→pbx match [OPTIONS] <FILE> <CONTEXT> <TEXT> [PRIORITY]
+match @usual main -5→unexpected argument '-5' found¶¶  tip: to pass '-5' as a value, use '-- -5'→pbx match [OPTIONS] <FILE> <CONTEXT> <TEXT> [PRIORITY]
+match @usual main 5 0→invalid value '0' for '[PRIORITY]': a priority is a number from 1 to 2147483647→pbx match [OPTIONS] <FILE> <CONTEXT> <TEXT> [PRIORITY]
+match @usual main 5 2147483648→invalid value '2147483648' for '[PRIORITY]': a priority is a number from 1 to 2147483647→pbx match [OPTIONS] <FILE> <CONTEXT> <TEXT> [PRIORITY]
+match @usual main 5 n→invalid value 'n' for '[PRIORITY]': a priority is a number from 1 to 2147483647→pbx match [OPTIONS] <FILE> <CONTEXT> <TEXT> [PRIORITY]
+match @usual main 5 +1→invalid value '+1' for '[PRIORITY]': a priority is a number from 1 to 2147483647→pbx match [OPTIONS] <FILE> <CONTEXT> <TEXT> [PRIORITY]
+match @usual main 5 ''→invalid value '' for '[PRIORITY]': a priority is a number from 1 to 2147483647→pbx match [OPTIONS] <FILE> <CONTEXT> <TEXT> [PRIORITY]
 # The command line comes before the files.
-match @missing main 5 0→invalid value '0' for '[PRIORITY]': a priority is a number from 1 to 2147483647→pbx match <FILE> <CONTEXT> <TEXT> [PRIORITY]
+match @missing main 5 0→invalid value '0' for '[PRIORITY]': a priority is a number from 1 to 2147483647→pbx match [OPTIONS] <FILE> <CONTEXT> <TEXT> [PRIORITY]
+match @usual main 5 --all --all→the argument '--all' cannot be used multiple times→pbx match [OPTIONS] <FILE> <CONTEXT> <TEXT> [PRIORITY]
+match --all=1 @usual main 5→unexpected value '1' for '--all' found; no more were expected→pbx match --all <FILE> <CONTEXT> <TEXT> [PRIORITY]
+audit→the following required arguments were not provided:¶  <FILE>→pbx audit <FILE>
+audit a b→unexpected argument 'b' found→pbx audit <FILE>
+explain→the following required arguments were not provided:¶  <CODE>→pbx explain <CODE>
+explain 20 21→unexpected argument '21' found→pbx explain <CODE>
+explain 0→invalid value '0' for '<CODE>': no fault has this number→pbx explain <CODE>
+explain 16→invalid value '16' for '<CODE>': no fault has this number→pbx explain <CODE>
+explain 72→invalid value '72' for '<CODE>': no fault has this number→pbx explain <CODE>
+explain BadPriority→invalid value 'BadPriority' for '<CODE>': no fault has this number→pbx explain <CODE>
+explain 4294967316→invalid value '4294967316' for '<CODE>': no fault has this number→pbx explain <CODE>
+explain ''→invalid value '' for '<CODE>': no fault has this number→pbx explain <CODE>
 run→the following required arguments were not provided:¶  <FILE>¶  <SCRIPT>→pbx run <FILE> <SCRIPT>
 run @missing→the following required arguments were not provided:¶  <SCRIPT>→pbx run <FILE> <SCRIPT>
 run a b c→unexpected argument 'c' found→pbx run [OPTIONS] <FILE> <SCRIPT>
@@ -72,12 +84,14 @@ Say which priority of an Asterisk dialplan answers a call, and run calls through
 Usage: pbx [COMMAND]
 
 Commands:
-  check  Load a dialplan, and print its notes and its counts
-  list   Print a dialplan in its canonical text
-  match  Print which entry of a dialplan answers a call
-  run    Run a script of events on a dialplan, and print the trace
-  debug  Run a script of events on a dialplan, and halt before the steps at a place
-  help   Print this message or the help of the given subcommand(s)
+  check    Load a dialplan, and print its notes and its counts
+  list     Print a dialplan in its canonical text
+  match    Print which entry of a dialplan answers a call
+  run      Run a script of events on a dialplan, and print the trace
+  debug    Run a script of events on a dialplan, and halt before the steps at a place
+  audit    Print what the writer of a dialplan may not have meant
+  explain  Print what the manual says of a fault
+  help     Print this message or the help of the given subcommand(s)
 
 Options:
   -h, --help  Print help
@@ -91,9 +105,11 @@ Examples:
   pbx match extensions.conf main 555-1234
   pbx run extensions.conf calls.script
   pbx debug --break main,100,2 extensions.conf calls.script
+  pbx audit extensions.conf
+  pbx explain 20
   pbx < joined.conf
 
-Status: 0; 1 where a fault was printed or an event was refused; 2 where the command line was refused.
+Status: 0; 1 where a fault was printed, an event was refused or an audit found something; 2 where the command line was refused.
 ";
 
 /// What is printed where help with `check` is asked for.
@@ -144,7 +160,7 @@ Example:
 const MATCH_HELP: &str = "\
 Print which entry of a dialplan answers a call
 
-Usage: pbx match <FILE> <CONTEXT> <TEXT> [PRIORITY]
+Usage: pbx match [OPTIONS] <FILE> <CONTEXT> <TEXT> [PRIORITY]
 
 Arguments:
   <FILE>      The dialplan, as extensions.conf
@@ -153,14 +169,68 @@ Arguments:
   [PRIORITY]  The priority that is asked for, from 1 to 2147483647 [default: 1]
 
 Options:
+      --all   Print below it what becomes of each extension that matches
   -h, --help  Print help
 
 Prints `CONTEXT,NAME,PRIORITY APPLICATION` of the entry that answers, or `none`. The context is searched first, and then
 what it includes. A word that begins with `-` may stand behind `--`.
 
+With --all a line follows for each extension that matches, in the order in which a look-up asks: `answers`, `less specific`,
+`later context` or `no such priority`.
+
 Example:
   $ pbx match extensions.conf main 555-1234 3
   main,_NXXXXXX,3 Queue
+";
+
+/// What is printed where help with `audit` is asked for.
+const AUDIT_HELP: &str = "\
+Print what the writer of a dialplan may not have meant
+
+Usage: pbx audit <FILE>
+
+Arguments:
+  <FILE>  The dialplan, as extensions.conf
+
+Options:
+  -h, --help  Print help
+
+Prints `KIND CONTEXT,NAME,PRIORITY` for each finding, with what it is about behind it, and then how many there are:
+  Cycle          a context includes itself
+  NoApplication  there is no such application
+  NoTarget       a target leads to no entry
+  Gap            the next priority is not found, but greater ones are there
+  NoFirst        there is no priority 1
+  Unset          nothing sets the variable that is read
+  Unused         no target names the label
+The status is 0 where nothing is found, and else 1.
+
+Example:
+  $ pbx audit extensions.conf
+  Gap sales,s,1 2
+  NoApplication sales,s,3 Voicemail
+  ok 2 findings
+";
+
+/// What is printed where help with `explain` is asked for.
+const EXPLAIN_HELP: &str = "\
+Print what the manual says of a fault
+
+Usage: pbx explain <CODE>
+
+Arguments:
+  <CODE>  The number of the fault, from 1 to 71
+
+Options:
+  -h, --help  Print help
+
+Prints the number and the name of a fault, when it comes, and an example of it, as the manual has them.
+
+Example:
+  $ pbx explain 20
+  20 BadPriority
+  a priority that is neither `n` nor a number from 1 on
+  example: `exten => s,0,NoOp()`
 ";
 
 /// What is printed where help with `run` is asked for.
@@ -240,7 +310,7 @@ Example:
 ";
 
 /// Command lines that ask for help, and what is printed.
-const HELPS: [(&str, &str); 10] = [
+const HELPS: [(&str, &str); 12] = [
     ("help", PBX_HELP),
     ("-h", PBX_HELP),
     ("--help", PBX_HELP),
@@ -251,6 +321,8 @@ const HELPS: [(&str, &str); 10] = [
     ("match @missing --help", MATCH_HELP),
     ("run --help", RUN_HELP),
     ("debug --help", DEBUG_HELP),
+    ("audit --help", AUDIT_HELP),
+    ("help explain", EXPLAIN_HELP),
 ];
 
 fn check_help<R: Files + Threads + Wait + Sync + Abort + AllocGlobal>(

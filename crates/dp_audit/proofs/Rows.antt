@@ -1,0 +1,138 @@
+-- What is found in dialplans, computed on the definitions themselves.
+use Rattle.std.proofs.Common.{◌≡◌, ℕ, Bool, List, [], ◌∷◌, None, Some, refl}
+use Rattle.std.specs.Prelude.{codes, nat_eq}
+use Rattle.std.specs.Cmp.Lexicographic.{pointwise}
+use Rattle.dp_conf.specs.Levels.{parts_of}
+use Rattle.dp_pattern.specs.Name.{Meaning, Plain, Pattern}
+use Rattle.dp_pattern.specs.Order.{name_cmp}
+use Rattle.dp_pattern.specs.Spelling.{spelling}
+use Rattle.dp_pattern.specs.declared.tail.Tail.TheVariants.{Dot}
+use Rattle.dp_lookup.specs.FoundEntry.{found_entry}
+use Rattle.dp_lookup.specs.SearchOrder.{visit}
+use Rattle.dp_plan.specs.Contexts.{PlanContext}
+use Rattle.dp_plan.specs.Plan.{PlanOf}
+use Rattle.dp_plan.specs.declared.entry.Entry.{Entry}
+use Rattle.dp_plan.specs.declared.entry.EntryId.{EntryId}
+use Rattle.dp_vars.specs.Openings.{has_opening}
+use Rattle.dp_audit.specs.Findings.{findings_of}
+use Rattle.dp_audit.specs.Finders.{answers}
+use Rattle.dp_audit.specs.Labels.{is_unused}
+use Rattle.dp_audit.specs.Targets.{missing_targets}
+use Rattle.dp_audit.specs.Unset.{names_read, unset_names}
+use Rattle.dp_audit.specs.declared.finding.Finding.TheVariants.{Cycle, NoApplication, NoTarget, Gap, NoFirst, Unset, Unused}
+
+-- a table with one name
+abbrev known : List ℕ → Bool
+known name = pointwise nat_eq (codes "NoOp") name
+
+abbrev plan_of : List PlanContext → PlanOf
+plan_of contexts = record { globals = []; contexts = contexts }
+
+abbrev context_of : List ℕ → List Entry → List (List ℕ) → PlanContext
+context_of name entries includes = record { name = name; entries = entries; includes = includes }
+
+abbrev entry_of : Meaning → ℕ → List ℕ → Entry
+entry_of name priority application = record { name = name; priority = priority; label = None; application = application; arguments = [] }
+
+abbrev id_of : ℕ → ℕ → EntryId
+id_of context entry = record { context = context; entry = entry }
+
+-- ---- cycles
+
+-- `a` and `b` include each other, `c` includes itself, and `d` includes `a`, which does not include it
+abbrev cycles : PlanOf
+cycles = plan_of (
+    context_of (codes "a") [] (codes "b" ∷ [])
+    ∷ context_of (codes "b") [] (codes "x" ∷ codes "a" ∷ [])
+    ∷ context_of (codes "c") [] (codes "c" ∷ [])
+    ∷ context_of (codes "d") [] (codes "a" ∷ []) ∷ [])
+
+found-cycles : findings_of known cycles ≡ Cycle 0 ∷ Cycle 1 ∷ Cycle 2 ∷ []
+unfolding findings_of visit
+found-cycles = refl
+
+-- ---- applications
+
+abbrev applications : PlanOf
+applications = plan_of (
+    context_of (codes "a") (
+    entry_of (Plain (codes "1")) 1 (codes "NoOp")
+    ∷ entry_of (Plain (codes "1")) 2 (codes "Nope") ∷ []) [] ∷ [])
+
+found-applications : findings_of known applications ≡ NoApplication (id_of 0 1) ∷ []
+unfolding findings_of visit found_entry name_cmp spelling missing_targets unset_names names_read is_unused
+found-applications = refl
+
+-- ---- gaps
+
+-- `1` goes on from 1 to 3, from 3 to 5 and no further; `2` goes on to a priority that an included context has,
+-- whose pattern has no priority 1
+abbrev gaps : PlanOf
+gaps = plan_of (
+    context_of (codes "a") (
+    entry_of (Plain (codes "1")) 5 (codes "NoOp")
+    ∷ entry_of (Plain (codes "1")) 1 (codes "NoOp")
+    ∷ entry_of (Plain (codes "1")) 3 (codes "NoOp")
+    ∷ entry_of (Plain (codes "2")) 3 (codes "NoOp")
+    ∷ entry_of (Plain (codes "2")) 1 (codes "NoOp") ∷ []) (codes "b" ∷ [])
+    ∷ context_of (codes "b") (entry_of (Pattern [] Dot) 2 (codes "NoOp") ∷ []) [] ∷ [])
+
+found-gaps : findings_of known gaps ≡ Gap (id_of 0 2) ∷ NoFirst (id_of 1 0) ∷ []
+unfolding findings_of visit found_entry name_cmp spelling missing_targets unset_names names_read is_unused
+found-gaps = refl
+
+-- a pattern has no gap, since another name may give its texts the priority
+abbrev patterns : PlanOf
+patterns = plan_of (
+    context_of (codes "a") (
+    entry_of (Pattern [] Dot) 1 (codes "NoOp")
+    ∷ entry_of (Pattern [] Dot) 3 (codes "NoOp") ∷ []) [] ∷ [])
+
+found-patterns : findings_of known patterns ≡ []
+unfolding findings_of visit found_entry name_cmp spelling missing_targets unset_names names_read is_unused
+found-patterns = refl
+
+-- ---- beginnings
+
+-- `1` begins at 2, `2` too, to which an included context gives priority 1, and `3` begins at 1
+abbrev beginnings : PlanOf
+beginnings = plan_of (
+    context_of (codes "a") (
+    entry_of (Plain (codes "1")) 3 (codes "NoOp")
+    ∷ entry_of (Plain (codes "1")) 2 (codes "NoOp")
+    ∷ entry_of (Plain (codes "2")) 2 (codes "NoOp")
+    ∷ entry_of (Plain (codes "3")) 1 (codes "NoOp") ∷ []) (codes "b" ∷ [])
+    ∷ context_of (codes "b") (entry_of (Plain (codes "2")) 1 (codes "NoOp") ∷ []) [] ∷ [])
+
+found-beginnings : findings_of known beginnings ≡ NoFirst (id_of 0 1) ∷ []
+unfolding findings_of visit found_entry name_cmp spelling missing_targets unset_names names_read is_unused
+found-beginnings = refl
+
+-- two patterns begin at 2; an included context has the second with priority 1
+abbrev pattern_beginnings : PlanOf
+pattern_beginnings = plan_of (
+    context_of (codes "a") (
+    entry_of (Pattern ((50 ∷ []) ∷ []) Dot) 2 (codes "NoOp")
+    ∷ entry_of (Pattern [] Dot) 2 (codes "NoOp") ∷ []) (codes "b" ∷ [])
+    ∷ context_of (codes "b") (entry_of (Pattern [] Dot) 1 (codes "NoOp") ∷ []) [] ∷ [])
+
+found-pattern_beginnings : findings_of known pattern_beginnings ≡ NoFirst (id_of 0 0) ∷ []
+unfolding findings_of visit found_entry name_cmp spelling missing_targets unset_names names_read is_unused
+found-pattern_beginnings = refl
+
+-- ---- texts
+
+abbrev with_arguments : Entry → List ℕ → Entry
+with_arguments entry arguments = record entry { arguments = arguments }
+
+-- a jump to a priority that is not there, from an entry with a label, and a variable that nothing sets beside one that a channel gives
+abbrev texts : PlanOf
+texts = plan_of (
+    context_of (codes "a") (
+    record (with_arguments (entry_of (Plain (codes "1")) 1 (codes "Goto")) (codes "9")) { label = Some (codes "x") }
+    ∷ with_arguments (entry_of (Plain (codes "1")) 2 (codes "NoOp")) (codes "${X:1} ${EXTEN}") ∷ []) [] ∷ [])
+
+found-texts : findings_of known texts
+    ≡ NoApplication (id_of 0 0) ∷ NoTarget (id_of 0 0) (codes "9") ∷ Unused (id_of 0 0) ∷ Unset (id_of 0 1) (codes "X") ∷ []
+unfolding findings_of visit found_entry name_cmp spelling missing_targets unset_names names_read is_unused answers parts_of has_opening
+found-texts = refl

@@ -1,0 +1,29 @@
+-- The targets of an entry that pass a test.
+use Rattle.std.proofs.Common.{◌≡◌, ℕ, Bool, true, false, List, [], ◌∷◌, ◌++◌, Option, Some, None, append_assoc, filter, map, if◌then◌else◌, ap, refl, sym, ◌∙◌}
+use Rattle.std.specs.Option.{option_to_list}
+use Rattle.std.proofs.lemmas.List.{map-append}
+use Rattle.std.proofs.lemmas.List.Elements.{filter-append}
+use Rattle.dp_audit.specs.Targets.{kept, sides}
+
+-- one side
+filter_side : (test : List ℕ → Bool) (side : Option (List ℕ)) → option_to_list (kept test side) ≡ filter test (option_to_list side)
+filter_side test None = refl
+filter_side test (Some text) = by (test text)
+  where
+    by : (b : Bool) → option_to_list (if b then Some text else None) ≡ (if b then text ∷ [] else [])
+    by true = refl
+    by false = refl
+
+-- both sides
+pub filter_sides : (test : List ℕ → Bool) (first second : Option (List ℕ)) → sides (kept test first) (kept test second) ≡ filter test (sides first second)
+filter_sides test first second =
+    ap (λ xs. xs ++ option_to_list (kept test second)) (filter_side test first)
+    ∙ ap (λ ys. filter test (option_to_list first) ++ ys) (filter_side test second)
+    ∙ sym (filter-append test (option_to_list first) (option_to_list second))
+
+-- what is made of both sides, behind others
+pub map_sides : {X : Type 0} (f : List ℕ → X) (before : List X) (first second : Option (List ℕ)) →
+    (before ++ map f (option_to_list first)) ++ map f (option_to_list second) ≡ before ++ map f (sides first second)
+map_sides f before first second =
+    append_assoc before (map f (option_to_list first)) (map f (option_to_list second))
+    ∙ ap (λ xs. before ++ xs) (sym (map-append f (option_to_list first) (option_to_list second)))

@@ -1,0 +1,24 @@
+use Rattle.std.proofs.Common.{◌∙◌, ℕ, Bool, List, [], sym, subst}
+use Rattle.dp_lookup.specs.FoundEntry.{entries_at}
+use Rattle.dp_audit.specs.Findings.{has_greater, has_lower, some_first}
+use Rattle.dp_audit.specs.Firsts.{Adds}
+use Rattle.dp_audit.specs.Neighbours.{AreMarks}
+use Rattle.dp_audit.proofs.findings.push_by_order.Goals as goal
+
+pub push_of_entries-requires-clause-scene : goal.push_of_entries-requires-clause-scene
+push_of_entries-requires-clause-scene g c = record {
+  keeps = c.requires.known.keeps;
+  order = c.requires.order;
+  greater =
+      subst (λ (marks : List Bool). AreMarks (has_greater (entries_at c.args.known.plan.now c.args.number)) (entries_at c.args.known.plan.now c.args.number) marks)
+      (sym c.deref.ensures.value) c.in_ok-greater.ensures;
+  lower =
+      subst (λ (marks : List Bool). AreMarks (has_lower (entries_at c.args.known.plan.now c.args.number)) (entries_at c.args.known.plan.now c.args.number) marks)
+      (sym c.deref-2.ensures.value) c.in_ok-lower.ensures;
+  firsts =
+      subst (λ (order : List ℕ). Adds (some_first c.args.known.plan.now order) [] c.in_ok-firsts.firsts.keys)
+      (c.contexts.ensures ∙ c.requires.order) c.in_ok-firsts.ensures;
+  context = c.requires.context;
+  named = c.requires.known.named;
+  set = c.requires.known.set;
+}

@@ -1,0 +1,76 @@
+-- The labels of a dialplan that none of its targets names.
+use Rattle.std.specs.Prelude.{◌≡◌, ℕ, Bool, false, not, ◌||◌, List, [], Option, Some, None, if◌then◌else◌}
+use Rattle.std.specs.List.{list_any, filter_map, flat_map}
+use Rattle.std.specs.Option.{option_map}
+use Rattle.dp_conf.specs.Words.{same_text}
+use Rattle.dp_plan.specs.Contexts.{PlanContext}
+use Rattle.dp_plan.specs.Plan.{PlanOf}
+use Rattle.dp_plan.specs.declared.entry.Entry.{Entry}
+use Rattle.dp_audit.specs.Targets.{jump_of, parts_of, parts_stand, targets_in}
+use Rattle.dp_audit.specs.declared.jump.Jump.{Jump}
+use Rattle.dp_audit.specs.declared.labels.Named.{Named}
+
+-- whether a target is computed: what it comes to is not known before a call
+abbrev pub is_computed : Jump → List ℕ → Bool
+is_computed jump text = not (parts_stand text (parts_of jump text))
+
+-- the label or the number that a target names as it stands
+abbrev pub named_in : Jump → List ℕ → Option (List ℕ)
+named_in jump text = if is_computed jump text then None else option_map (λ parts. parts.priority) (parts_of jump text)
+
+-- the label is among what is noted
+abbrev pub has_name : Named → List ℕ → Bool
+has_name named label = list_any (same_text label) named.names.keys
+
+-- behind what was noted some targets more are noted: whether one of them is computed, and what they name
+pub record Notes (old new : Named) (computed : Bool) (named : List (List ℕ)) : Type 0 where
+  pub computing : new.is_computing ≡ (old.is_computing || computed)
+  pub names : (label : List ℕ) → has_name new label ≡ (has_name old label || list_any (same_text label) named)
+
+-- the same by the targets
+abbrev pub NotesTexts : Jump → Named → Named → List (List ℕ) → Type 0
+NotesTexts jump old new texts = Notes old new (list_any (is_computed jump) texts) (filter_map (named_in jump) texts)
+
+-- whether a target of the entry is computed
+abbrev pub computes_by : Entry → Option Jump → Bool
+computes_by entry None = false
+computes_by entry (Some jump) = list_any (is_computed jump) (targets_in jump entry.arguments)
+
+abbrev pub computes : Entry → Bool
+computes entry = computes_by entry (jump_of entry.application)
+
+-- what the targets of the entry name
+abbrev pub names_by : Entry → Option Jump → List (List ℕ)
+names_by entry None = []
+names_by entry (Some jump) = filter_map (named_in jump) (targets_in jump entry.arguments)
+
+abbrev pub names : Entry → List (List ℕ)
+names entry = names_by entry (jump_of entry.application)
+
+-- the entries of all contexts
+abbrev pub entries_in : List PlanContext → List Entry
+entries_in contexts = flat_map (λ context. context.entries) contexts
+
+abbrev pub entries_of : PlanOf → List Entry
+entries_of plan = entries_in plan.contexts
+
+-- whether a target of the dialplan is computed
+abbrev pub is_computing : PlanOf → Bool
+is_computing plan = list_any computes (entries_of plan)
+
+-- what the targets of the dialplan name
+abbrev pub names_of : PlanOf → List (List ℕ)
+names_of plan = flat_map names (entries_of plan)
+
+-- what is noted is what the targets of the dialplan are
+pub record AreNamed (plan : PlanOf) (named : Named) : Type 0 where
+  pub computing : named.is_computing ≡ is_computing plan
+  pub names : (label : List ℕ) → has_name named label ≡ list_any (same_text label) (names_of plan)
+
+-- whether the label is one that no target names, where none is computed; an entry without a label has none
+abbrev pub unused_by : Bool → List (List ℕ) → Option (List ℕ) → Bool
+unused_by computing names None = false
+unused_by computing names (Some label) = not (computing || list_any (same_text label) names)
+
+unfoldable pub is_unused : PlanOf → Entry → Bool
+is_unused plan entry = unused_by (is_computing plan) (names_of plan) entry.label

@@ -1,0 +1,9 @@
+pub mod Candidates
+pub mod Finders
+pub mod Findings
+pub mod Firsts
+pub mod Labels
+pub mod Neighbours
+pub mod Scene
+pub mod Targets
+pub mod Unset

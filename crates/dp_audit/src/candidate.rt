@@ -1,0 +1,254 @@
+//! The extensions that match a dialled text, and what decides about each.
+ghost use Rattle.std.specs.Prelude.{◌≡◌, ◌<◌, ◌++◌, ◌∷◌, ℕ, length, map, IfOk, OnOk, All};
+ghost use Rattle.std.specs.List as lists;
+ghost use Rattle.std.specs.Option.{option_map};
+ghost use Rattle.dp_plan.specs.Lookup.{IsRankedAt};
+ghost use Rattle.dp_plan.specs.Plan.{PlanOf};
+ghost use Rattle.dp_plan.specs.Ranking.{AreApart};
+ghost use Rattle.dp_lookup.specs.FoundEntry.{found_entry};
+ghost use Rattle.dp_audit.specs.Candidates as spec;
+
+use dp_lookup::SearchOrder;
+use dp_pattern::matches;
+use dp_plan::{Dialplan, EntryId, NoMemory};
+use std::alloc::Global;
+
+/// What decides about an extension whose name matches a dialled text.
+#[derive(Clone, Copy, Debug, PartialEq, Eq)]
+pub enum Verdict {
+    /// It has the entry that a look-up finds.
+    Answers,
+    /// It has an entry of the priority, and one of the same context with a more specific name answers.
+    LessSpecific,
+    /// It has an entry of the priority, and one of an earlier context of the search order answers.
+    LaterContext,
+    /// It has no entry of the priority.
+    NoSuchPriority,
+}
+
+/// An extension whose name matches a dialled text, and what decides about it.
+#[derive(Clone, Copy, Debug, PartialEq, Eq)]
+pub struct Candidate {
+    /// The extension's entry of the priority or, where it has none, its entry of the lowest priority.
+    pub id: EntryId,
+    pub verdict: Verdict,
+}
+
+/// An extension whose name matches, by its entry of the priority or, where it has none, its first entry.
+#[derive(Clone, Copy)]
+struct Matching {
+    id: EntryId,
+    has_priority: bool,
+}
+
+/// Whether the entries have one name.
+fn have_one_name(plan: &Dialplan, left: EntryId, right: EntryId) -> bool
+    ensures { result ≡ spec.have_one_name plan.now left right }
+{
+    match (plan.entry(left), plan.entry(right)) {
+        (Some(left), Some(right)) => left.name.spelling() == right.name.spelling(),
+        _ => false,
+    }
+}
+
+/// Whether the name of the entry matches the text.
+fn is_matched(plan: &Dialplan, text: &[u8], id: EntryId) -> bool
+    ensures { result ≡ spec.is_matched plan.now text.now id }
+{
+    match plan.entry(id) {
+        Some(entry) => matches(entry.name.name(), text),
+        None => false,
+    }
+}
+
+/// Whether the entry has the priority.
+fn has_number(plan: &Dialplan, priority: u32, id: EntryId) -> bool
+    ensures { result ≡ spec.has_number plan.now priority id }
+{
+    match plan.entry(id) {
+        Some(entry) => entry.priority.get() == priority,
+        None => false,
+    }
+}
+
+/// How many of the ranked entries, from the first on, are of the first's extension.
+fn first_size(plan: &Dialplan, ids: &[EntryId]) -> usize
+    ensures { result ≡ spec.first_size plan.now ids.now }
+{
+    for place in 0..ids.len().saturating_sub(1) {
+        if !have_one_name(plan, ids[place], ids[place + 1]) {
+            return place + 1;
+        }
+    }
+    ids.len()
+}
+
+/// The first extension of ranked entries, and the entries behind it.
+fn split_first<'a>(plan: &Dialplan, ids: &'a [EntryId]) -> (&'a [EntryId], &'a [EntryId])
+    requires { 0 < length ids.now }
+    ensures split { spec.extensions plan.now ids.now ≡ result.0.now ∷ spec.extensions plan.now result.1.now }
+    ensures shorter { length result.1.now < length ids.now }
+{
+    ids.split_at(first_size(plan, ids))
+}
+
+/// The first of these entries that has the priority.
+fn entry_of_number(plan: &Dialplan, priority: u32, ids: &[EntryId]) -> Option<EntryId>
+    ensures { result ≡ lists.find (spec.has_number plan.now priority) ids.now }
+{
+    for id in ids {
+        if has_number(plan, priority, *id) {
+            return Some(*id);
+        }
+    }
+    None
+}
+
+/// The extension of these entries, where its name matches.
+fn matching_of(
+    plan: &Dialplan,
+    text: &[u8],
+    priority: u32,
+    extension: &[EntryId],
+) -> Option<Matching>
+    ensures { result ≡ spec.matching_of plan.now text.now priority extension.now }
+{
+    let first = *extension.first()?;
+    if !is_matched(plan, text, first) {
+        return None;
+    }
+    match entry_of_number(plan, priority, extension) {
+        Some(id) => Some(Matching {
+            id,
+            has_priority: true,
+        }),
+        None => Some(Matching {
+            id: first,
+            has_priority: false,
+        }),
+    }
+}
+
+/// Adds the extensions of ranked entries whose name matches.
+fn push_matching(
+    list: &mut Vec<Matching>,
+    plan: &Dialplan,
+    ids: &[EntryId],
+    text: &[u8],
+    priority: u32,
+) -> Result<(), NoMemory>
+    ensures { OnOk result (list.new.items ≡ list.old.items ++ spec.matching_in plan.now text.now priority ids.now) }
+{
+    let mut rest = ids;
+    while !rest.is_empty() {
+        let (extension, behind) = split_first(plan, rest);
+        if let Some(matching) = matching_of(plan, text, priority, extension) {
+            list.push(matching)?;
+        }
+        rest = behind;
+    }
+    Ok(())
+}
+
+/// Adds the extensions of the context of this number whose name matches.
+fn push_context(
+    list: &mut Vec<Matching>,
+    plan: &Dialplan,
+    number: usize,
+    text: &[u8],
+    priority: u32,
+) -> Result<(), NoMemory>
+    ensures { OnOk result (list.new.items
+        ≡ list.old.items ++ spec.matching_in plan.now text.now priority (spec.ranked_of plan.now number)) }
+{
+    plan.entries_are_known();
+    push_matching(list, plan, plan.ranked_at(number), text, priority)
+}
+
+/// The extensions of the contexts of these numbers whose name matches.
+fn all_matching(
+    alloc: Global,
+    plan: &Dialplan,
+    order: &[usize],
+    text: &[u8],
+    priority: u32,
+) -> Result<Vec<Matching>, NoMemory>
+    ensures { IfOk result (λ list. list.items ≡ spec.all_matching plan.now order.now text.now priority) }
+{
+    let mut list = Vec::new(alloc);
+    for number in order {
+        push_context(&mut list, plan, *number, text, priority)?;
+    }
+    Ok(list)
+}
+
+/// The entry of the first of these that has the priority.
+fn answer_of(list: &[Matching]) -> Option<EntryId>
+    ensures { result ≡ spec.answer_of list.now }
+{
+    for matching in list {
+        if matching.has_priority {
+            return Some(matching.id);
+        }
+    }
+    None
+}
+
+/// What decides about an extension, by the entry that answers.
+fn verdict_of(answer: Option<EntryId>, matching: Matching) -> Verdict
+    ensures { result ≡ spec.verdict_of answer matching }
+{
+    match answer {
+        _ if !matching.has_priority => Verdict::NoSuchPriority,
+        Some(found) if found == matching.id => Verdict::Answers,
+        Some(found) if found.context == matching.id.context => Verdict::LessSpecific,
+        _ => Verdict::LaterContext,
+    }
+}
+
+/// Each of these with what decides about it.
+fn judged(
+    alloc: Global,
+    answer: Option<EntryId>,
+    list: &[Matching],
+) -> Result<Vec<Candidate>, NoMemory>
+    ensures { IfOk result (λ judged. judged.items ≡ map (spec.judged answer) list.now) }
+{
+    list.iter()
+        .map(|matching| Candidate {
+            id: matching.id,
+            verdict: verdict_of(answer, *matching),
+        })
+        .collect(alloc)
+}
+
+/// The extensions of the order's contexts whose name matches the dialled text, in the order in which a look-up asks them,
+/// each with what decides about it.
+///
+/// An extension is a context and a name (dialplan, pattern matching). The contexts are in their order; in each, the more
+/// specific name stands first. A number in the order that no context of the dialplan has gives none. It costs time in
+/// proportion to the entries of the order's contexts, and matches each name once. The error comes only where a growth was
+/// refused.
+pub fn candidates(
+    alloc: Global,
+    plan: &Dialplan,
+    order: &SearchOrder,
+    text: &[u8],
+    priority: u32,
+) -> Result<Vec<Candidate>, NoMemory>
+    ensures exact { IfOk result (λ list. list.items ≡ spec.candidates_of plan.now order.now.contexts text.now priority) }
+    ensures answer { IfOk result (λ list. option_map (λ c. c.id) (lists.find spec.answers list.items)
+        ≡ found_entry plan.now order.now.contexts text.now priority) }
+    ensures only { IfOk result (λ list. All (spec.IsOfAnswer (found_entry plan.now order.now.contexts text.now priority)) list.items) }
+{
+    plan.entries_are_known();
+    let list = all_matching(alloc, plan, order.contexts(), text, priority)?;
+    judged(alloc, answer_of(&list), &list)
+}
+
+/// The order in which a look-up asks the entries of a context, in any dialplan of whose entries no two of a context have
+/// the same name and priority, as in every loaded one.
+pub fn ranked_is_the_ranking()
+    ensures { (plan : PlanOf) → All (λ context. AreApart context.entries) plan.contexts
+        → (number : ℕ) → IsRankedAt plan number (spec.ranked_of plan number) }
+{}

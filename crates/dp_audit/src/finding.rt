@@ -1,0 +1,21 @@
+//! The findings of an audit.
+use dp_plan::{EntryId, Text};
+
+/// What is found of a context, or of an entry. Which findings there are is this program's own choice.
+#[derive(Debug, Drop)]
+pub enum Finding {
+    /// The context of this number includes itself, by itself or by way of others.
+    Cycle { context: usize },
+    /// The entry names an application that the table lacks.
+    NoApplication { entry: EntryId },
+    /// The entry has a target that stands there and leads nowhere.
+    NoTarget { entry: EntryId, target: Text },
+    /// The priority behind that of the entry is not found, while its extension has greater ones.
+    Gap { entry: EntryId },
+    /// The extension, of which the entry has the lowest priority, has no priority 1, and no context of its search order gives it one.
+    NoFirst { entry: EntryId },
+    /// The arguments of the entry read a variable that nothing sets.
+    Unset { entry: EntryId, name: Text },
+    /// The entry has a label that no target names.
+    Unused { entry: EntryId },
+}

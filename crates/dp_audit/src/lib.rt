@@ -1,0 +1,26 @@
+//! What an engineer asks of a dialplan before it goes live: which extensions match a dialled text, and what its writer may
+//! not have meant. What is asked here goes beyond Asterisk's own tools, and is this program's own choice.
+#![tactic(auto)]
+
+mod candidate;
+mod cycle;
+mod finder;
+mod finding;
+mod findings;
+mod firsts;
+mod gap;
+mod jump;
+mod labels;
+mod names;
+mod neighbours;
+mod scene;
+mod spelling;
+mod target;
+mod unset;
+
+pub use candidate::{Candidate, Verdict, candidates, ranked_is_the_ranking};
+pub use dp_lookup::SearchOrder;
+pub use dp_plan::{Dialplan, EntryId, NoMemory, Text};
+pub use finding::Finding;
+pub use findings::audit;
+pub use names::Names;

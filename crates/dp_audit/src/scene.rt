@@ -1,0 +1,26 @@
+//! What the entries of a context are asked by.
+use crate::labels::Named;
+use crate::spelling::Spelling;
+use crate::unset::SetNames;
+use dp_lookup::SearchOrder;
+use dp_plan::{Dialplan, Text};
+use dp_trie::Trie;
+use indexmap::IndexSet;
+
+/// A dialplan with its trie, and of one context the search order, and which of its entries have one of a greater and of a
+/// lower priority in their extension, and the names that have priority 1 in a context of the order.
+#[derive(Clone, Copy)]
+pub(crate) struct Scene<'a> {
+    pub(crate) plan: &'a Dialplan,
+    pub(crate) trie: &'a Trie,
+    pub(crate) order: &'a SearchOrder,
+    pub(crate) greater: &'a [bool],
+    pub(crate) lower: &'a [bool],
+    pub(crate) firsts: &'a IndexSet<Spelling>,
+    /// The context's name.
+    pub(crate) context: &'a Text,
+    /// What the targets of the dialplan name.
+    pub(crate) named: &'a Named,
+    /// What the dialplan sets.
+    pub(crate) set: &'a SetNames,
+}

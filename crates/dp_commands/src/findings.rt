@@ -1,0 +1,199 @@
+//! The report of an audit of a dialplan.
+ghost use Rattle.std.specs.Prelude.{◌≡◌, ◌++◌, ◌||◌, IfOk, OnOk, false};
+ghost use Rattle.std.specs.List.{flat_map};
+ghost use Rattle.dp_conf.specs.Answers.{Answers};
+ghost use Rattle.dp_audit.specs.Findings.{context_name, findings_of};
+ghost use Rattle.dp_commands.specs.Audit as spec;
+ghost use Rattle.dp_commands.specs.Faults.{is_write_failed, reason_of};
+ghost use Rattle.dp_table.specs.Names.{is_standard};
+
+use crate::block::Block;
+use crate::fault::PbxFault;
+use crate::report::read_plan;
+use crate::trace::{push_entry, push_number, push_place};
+use dp_audit::{Finding, Names};
+use dp_conf::WriteTold;
+use dp_plan::{Dialplan, EntryId, NoMemory};
+use dp_table::has_application;
+use std::alloc::Global;
+
+/// The names of the applications that this program has.
+struct StandardNames;
+
+impl Names for StandardNames {
+    ghost use Rattle.dp_table.specs.Names.{is_standard};
+
+    ghost known = { is_standard };
+
+    fn has_application(name: &[u8]) -> bool {
+        has_application(name)
+    }
+}
+
+/// The name of the context of the number.
+fn context_name(plan: &Dialplan, number: usize) -> &[u8]
+    ensures { result.now ≡ context_name plan.now number }
+{
+    match plan.contexts().get(number) {
+        Some(context) => context.name().bytes(),
+        None => b"",
+    }
+}
+
+/// Adds where the entry of the numbers stands, `CONTEXT,NAME,PRIORITY`.
+fn push_spot(out: &mut Block, plan: &Dialplan, id: EntryId) -> Result<(), NoMemory>
+    ensures { OnOk result (out.new.begun ≡ out.old.begun ++ spec.spot_text plan.now id) }
+{
+    let Some(entry) = plan.entry(id) else {
+        return Ok(());
+    };
+    let context = context_name(plan, id.context);
+    push_place(out, context, entry.name.spelling(), entry.priority.get())
+}
+
+/// Adds the priority behind that of the entry of the numbers.
+fn push_next_priority(out: &mut Block, plan: &Dialplan, id: EntryId) -> Result<(), NoMemory>
+    ensures { OnOk result (out.new.begun ≡ out.old.begun ++ spec.next_priority plan.now id) }
+{
+    match plan.entry(id) {
+        Some(entry) => push_number(out, entry.priority.get() + 1),
+        None => Ok(()),
+    }
+}
+
+/// Adds the label of the entry of the numbers.
+fn push_label(out: &mut Block, plan: &Dialplan, id: EntryId) -> Result<(), NoMemory>
+    ensures { OnOk result (out.new.begun ≡ out.old.begun ++ spec.label_text plan.now id) }
+{
+    let Some(entry) = plan.entry(id) else {
+        return Ok(());
+    };
+    match &entry.label {
+        Some(label) => out.push(label.bytes()),
+        None => Ok(()),
+    }
+}
+
+/// Adds a finding, `KIND CONTEXT,NAME,PRIORITY` and what it is about.
+fn push_finding(out: &mut Block, plan: &Dialplan, finding: &Finding) -> Result<(), NoMemory>
+    ensures { OnOk result (out.new.begun ≡ out.old.begun ++ spec.finding_text plan.now finding.now) }
+{
+    match finding {
+        Finding::Cycle { context } => {
+            out.push(b"Cycle ")?;
+            out.push(context_name(plan, *context))
+        }
+        Finding::NoApplication { entry } => {
+            out.push(b"NoApplication ")?;
+            push_entry(out, plan, *entry)
+        }
+        Finding::NoTarget { entry, target } => {
+            out.push(b"NoTarget ")?;
+            push_spot(out, plan, *entry)?;
+            out.push(b" ")?;
+            out.push(target.bytes())
+        }
+        Finding::Gap { entry } => {
+            out.push(b"Gap ")?;
+            push_spot(out, plan, *entry)?;
+            out.push(b" ")?;
+            push_next_priority(out, plan, *entry)
+        }
+        Finding::NoFirst { entry } => {
+            out.push(b"NoFirst ")?;
+            push_spot(out, plan, *entry)
+        }
+        Finding::Unset { entry, name } => {
+            out.push(b"Unset ")?;
+            push_spot(out, plan, *entry)?;
+            out.push(b" ")?;
+            out.push(name.bytes())
+        }
+        Finding::Unused { entry } => {
+            out.push(b"Unused ")?;
+            push_spot(out, plan, *entry)?;
+            out.push(b" ")?;
+            push_label(out, plan, *entry)
+        }
+    }
+}
+
+/// Adds the line of a finding.
+fn push_finding_line(out: &mut Block, plan: &Dialplan, finding: &Finding) -> Result<(), NoMemory>
+    ensures { OnOk result (out.new.begun ≡ out.old.begun ++ spec.finding_line plan.now finding.now) }
+{
+    push_finding(out, plan, finding)?;
+    out.push(b"\n")
+}
+
+/// Adds the lines of the findings.
+fn push_findings(out: &mut Block, plan: &Dialplan, findings: &[Finding]) -> Result<(), NoMemory>
+    ensures { OnOk result (out.new.begun ≡ out.old.begun ++ flat_map (spec.finding_line plan.now) findings.now) }
+{
+    for finding in findings {
+        push_finding_line(out, plan, finding)?;
+    }
+    Ok(())
+}
+
+/// Adds the lines of the findings, and how many there are.
+fn push_audit(out: &mut Block, plan: &Dialplan, findings: &[Finding]) -> Result<(), NoMemory>
+    ensures { OnOk result (out.new.begun ≡ out.old.begun ++ spec.audit_text plan.now findings.now) }
+{
+    push_findings(out, plan, findings)?;
+    out.push(b"ok ")?;
+    push_number(out, findings.len())?;
+    out.push(b" findings\n")
+}
+
+/// What an audit reports: its text, and its status.
+#[derive(Drop)]
+struct Outcome {
+    text: Block,
+    status: u8,
+}
+
+/// What is reported of the findings in a dialplan.
+fn report_of(alloc: Global, plan: &Dialplan, findings: &[Finding]) -> Result<Outcome, NoMemory>
+    ensures { IfOk result (λ report. spec.shown report ≡ spec.audited plan.now findings.now) }
+{
+    let mut text = Block::new(alloc, 0)?;
+    push_audit(&mut text, plan, findings)?;
+    Ok(Outcome {
+        text,
+        status: u8::from(!findings.is_empty()),
+    })
+}
+
+/// What is reported of an audit of a dialplan.
+fn report(alloc: Global, plan: &Dialplan) -> Result<Outcome, NoMemory>
+    ensures { IfOk result (λ report. spec.shown report ≡ spec.audited plan.now (findings_of is_standard plan.now)) }
+{
+    let findings = dp_audit::audit::<StandardNames>(alloc, plan)?;
+    report_of(alloc, plan, &findings)
+}
+
+/// What is reported of an audit of a dialplan's text, or its fault.
+#[tactic(auto, unfolding(crate::specs::Audit::audit_of))]
+fn audited(alloc: Global, plan: &[u8]) -> Result<Outcome, PbxFault>
+    ensures report { Answers spec.shown reason_of result (spec.audit_of plan.now) }
+    ensures quiet { is_write_failed result ≡ false }
+{
+    let read = read_plan(alloc, plan)?;
+    let report = report(alloc, &read.plan)?;
+    Ok(report)
+}
+
+/// Loads a dialplan and writes what an audit finds in it: a line `KIND CONTEXT,NAME,PRIORITY` for each finding, with what it is
+/// about behind it, in the order of the file, and then `ok N findings`. The status is 0 where nothing is found, else 1.
+///
+/// A faulty dialplan has its first fault, and nothing is written. All is written at once; where that write fails, what was
+/// written stays written. Which findings there are is this program's own choice.
+pub fn audit<W: WriteTold>(alloc: Global, plan: &[u8], writer: &mut W) -> Result<u8, PbxFault>
+    ensures writes { spec.WritesAudit (W.contents writer.old) (W.contents writer.new) (spec.audit_of plan.now) result }
+    ensures told { W.has_failed writer.new ≡ (W.has_failed writer.old || is_write_failed result) }
+{
+    let report = audited(alloc, plan)?;
+    writer.write_told(report.text.begun())?;
+    Ok(report.status)
+}

@@ -1,0 +1,360 @@
+//! The manual's entries of the faults.
+ghost use Rattle.std.specs.Prelude.{◌≡◌, ◌==◌, map, option_map};
+ghost use Rattle.dp_program.specs.Entries as spec;
+
+use std::marker::Model;
+
+/// Each fault that has a number, with its entry as it is printed: the number and the name, when the fault comes, and an example. `docs/check`
+/// compares them with the manual's table. 24 has one sentence and example more for each kind of what is left out.
+pub const ENTRIES: [(u32, &str); 33] = [
+    (
+        1,
+        "\
+1 BlockComment
+a comment begins with `;--` and no third dash (`;---` is a plain comment)
+example: `a = 1 ;-- x`
+",
+    ),
+    (
+        2,
+        "\
+2 NoSection
+a pair, or text, before the first section
+example: `a = 1` at the top
+",
+    ),
+    (
+        3,
+        "\
+3 BadHeader
+a header with no `]`, with an empty name, or with text behind the `]`
+example: `[main`
+",
+    ),
+    (
+        4,
+        "\
+4 NoEquals
+a line of a section with no `=`
+example: `abc`
+",
+    ),
+    (
+        5,
+        "\
+5 Directive
+a line begins with `#`: no other file is included
+example: `#include \"x\"`
+",
+    ),
+    (
+        6,
+        "\
+6 Template
+a `(` behind a header
+example: `[main](!)`
+",
+    ),
+    (
+        7,
+        "\
+7 ReadFailed
+a file could not be opened or read
+example: a folder in a file's place
+",
+    ),
+    (
+        8,
+        "\
+8 TooLong
+a file has more than 16,777,216 bytes
+example: a file of 16,777,217 line feeds
+",
+    ),
+    (
+        9,
+        "\
+9 WriteFailed
+the output could not be written
+example: a closed pipe
+",
+    ),
+    (
+        10,
+        "\
+10 EmptyName
+a name of nothing or of dashes alone, or a pattern of nothing behind its `_`
+example: `exten => _,1,NoOp()`
+",
+    ),
+    (
+        11,
+        "\
+11 EmptySet
+a set with no member
+example: `exten => _[],1,NoOp()`
+",
+    ),
+    (
+        12,
+        "\
+12 BadRange
+a `-` in a set that is no range from a digit, a capital or a small letter up to another of its kind
+example: `exten => _[9-0],1,NoOp()`
+",
+    ),
+    (
+        13,
+        "\
+13 OpenSet
+a `[` in a pattern and no `]` behind it
+example: `exten => _[12,1,NoOp()`
+",
+    ),
+    (
+        14,
+        "\
+14 AfterWildcard
+anything but dashes behind a `.` or a `!` of a pattern
+example: `exten => _1.2,1,NoOp()`
+",
+    ),
+    (
+        15,
+        "\
+15 BadByte
+a byte of 32 or less, 127 or `\\` in a name
+example: `exten => a b,1,NoOp()`
+",
+    ),
+    (
+        20,
+        "\
+20 BadPriority
+a priority that is neither `n` nor a number from 1 on
+example: `exten => s,0,NoOp()`
+",
+    ),
+    (
+        21,
+        "\
+21 NoPrevious
+an `n` with no earlier line of the context that has the extension
+example: `exten => s,n,NoOp()` as the first line
+",
+    ),
+    (
+        22,
+        "\
+22 BadLabel
+a label that is empty, of digits alone or has a parenthesis in it, or a `(` behind a priority and no `)` at the end
+example: `exten => s,1(),NoOp()`
+",
+    ),
+    (
+        23,
+        "\
+23 BadApplication
+an application with no name, or with a `(` and no `)` at its end
+example: `exten => s,1,NoOp(`
+",
+    ),
+    (
+        24,
+        "\
+24 LeftOut
+what this program leaves out: one of the kinds below
+example: `switch => Loopback/x`
+
+the keys `switch`, `lswitch`, `eswitch`
+example: `lswitch => Loopback/x`
+
+the key `ignorepat`
+example: `ignorepat => 9`
+
+the priority `hint`
+example: `exten => 100,hint,Line/1`
+
+the priorities `next`, `s` and `same`, and those with a `+`
+example: `exten => s,n+1,NoOp()`
+
+a `/` in a name: names for one caller
+example: `exten => s/5551234,1,NoOp()`
+
+a `${` in a name, or in its one spelling: variables
+example: `exten => ${X},1,NoOp()`, `exten => _[{$],1,NoOp()`
+
+an include with a comma: times
+example: `include => late,9:00-17:00,*,*,*`
+
+an application with a comma in place of parentheses
+example: `exten => s,1,Wait,5`
+",
+    ),
+    (
+        25,
+        "\
+25 TooDeep
+more than 32 groups `${..}` or `$[..]` inside each other, in the arguments of an application or in the value of a global variable
+example: 33 groups inside each other
+",
+    ),
+    (
+        26,
+        "\
+26 NoExten
+a `same` with no line `exten` before it in its section
+example: `same => 1,NoOp()` as the first line
+",
+    ),
+    (
+        27,
+        "\
+27 PriorityLimit
+a priority above 2,147,483,647
+example: `exten => s,2147483648,NoOp()`
+",
+    ),
+    (
+        28,
+        "\
+28 ShortLine
+an `exten` line with fewer than two commas, or a `same` line with none
+example: `exten => s,1`
+",
+    ),
+    (
+        30,
+        "\
+30 BadStrategy
+a strategy that is none
+example: `strategy=best`
+",
+    ),
+    (
+        31,
+        "\
+31 BadNumber
+a `maxlen` or a penalty that is no number from 0 to 2,147,483,647
+example: `maxlen=x`, `member => Line/1,x`
+",
+    ),
+    (
+        32,
+        "\
+32 LeftOut
+a strategy that this program leaves out (`random`, `wrandom`, `rrordered`), or another word for `joinempty` or `leavewhenempty` than `yes`, `no`, `strict` and `loose`
+example: `strategy=random`, `joinempty=paused`
+",
+    ),
+    (
+        33,
+        "\
+33 DoubleQueue
+a second section of one queue
+example: `[sales]` twice
+",
+    ),
+    (
+        60,
+        "\
+60 SeatMissing
+a history is settled without one of its seats; `run --threads` hands in each of its seats, so this is for programs over the library
+example: a board of two seats, settled with one of them
+",
+    ),
+    (
+        61,
+        "\
+61 Disagree
+what a seat was told is not what the history has of it; also for programs over the library, and not known to happen
+example: none is known
+",
+    ),
+    (
+        62,
+        "\
+62 NoMemory
+there is not the memory to settle a history
+example: a machine without memory
+",
+    ),
+    (
+        70,
+        "\
+70 BadScript
+a line of the script that begins with another word than those of scripts, that has too few or too many words, or of which CH or COUNT is no number or too great, or STATUS none of its five; or `reload` where there is no second dialplan
+example: `jump 1`, `step 1 100001`, `digit 1 55`, `result 1 busy`
+",
+    ),
+    (
+        71,
+        "\
+71 BadBreak
+a break of `debug` that has not three parts, or of which the priority is no number from 1 to 2,147,483,647
+example: `--break main,s`, `--break main,s,0`, `--break main,s,+1`
+",
+    ),
+];
+
+/// The entry of a number, where one of them has it.
+fn entry_in<'a>(entries: &[(u32, &'a str)], number: u32) -> Option<&'a str>
+    ensures { option_map (λ entry. entry.now) result ≡ spec.entry_in (map (λ entry. (entry.0, entry.1.now)) entries.now) number }
+{
+    for (of, entry) in entries {
+        if *of == number {
+            return Some(*entry);
+        }
+    }
+    None
+}
+
+/// The entry of a number, where a fault has it.
+#[tactic(auto, unfolding(crate::specs::Entries::found_entry))]
+fn found_entry(number: u32) -> Option<&'static str>
+    ensures { option_map (λ entry. entry.now) result ≡ spec.found_entry number }
+{
+    entry_in(&ENTRIES, number)
+}
+
+/// The number of a fault that has an entry. A contract sees it as its number.
+#[derive(Clone, Copy, Debug, PartialEq, Eq)]
+pub struct FaultNumber {
+    number: u32,
+}
+
+impl Model for FaultNumber {
+    ghost use Rattle.std.specs.Prelude.{◌≡◌, ℕ, true};
+    ghost use Rattle.dp_program.specs.Entries.{has_entry};
+
+    ghost Value = { ℕ };
+
+    ghost view = { λ fault. fault.number };
+
+    ghost invariant = { λ fault. has_entry fault.number ≡ true };
+
+    ghost inverse = { λ number. record { number = number } };
+}
+
+impl FaultNumber {
+    ghost use Rattle.std.specs.Prelude.{◌≡◌, true};
+    ghost use Rattle.std.specs.Option.{SomeIff};
+    ghost use Rattle.dp_program.specs.Entries.{entry_of, has_entry};
+
+    /// The fault of this number, or None where no fault has it.
+    pub fn new(number: u32) -> Option<Self>
+        ensures { SomeIff result (has_entry number ≡ true) number }
+    {
+        if found_entry(number).is_none() {
+            return None;
+        }
+        Some(FaultNumber { number })
+    }
+
+    /// The manual's entry of the fault: its number and name, when it comes, and an example, each in a line.
+    pub fn entry(self) -> &'static str
+        ensures { result.now ≡ entry_of self }
+    {
+        found_entry(self.number).unwrap()
+    }
+}

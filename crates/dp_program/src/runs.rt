@@ -1,0 +1,175 @@
+//! What the requests do that run a script.
+ghost use Rattle.std.specs.Prelude.{◌≡◌, ◌||◌, max};
+ghost use Rattle.std.specs.Option.{option_map};
+ghost use Rattle.dp_commands.specs.Debug.{WritesDebug};
+ghost use Rattle.dp_commands.specs.Faults.{is_write_failed};
+ghost use Rattle.dp_commands.specs.Run.{Writes, run_of};
+ghost use Rattle.dp_program.specs.Files.{has_read_failed, source};
+ghost use Rattle.dp_program.specs.Serves as spec;
+ghost use Rattle.dp_program.specs.Texts.{paths_of, sources_of, texts_of};
+
+use crate::files::{ReadFiles, read_source};
+use crate::request::RunFiles;
+use crate::texts::{Texts, read_texts};
+use dp_board::Gate;
+use dp_commands::{PbxFault, debug_script, run_joined, run_script, run_threads};
+use dp_conf::{ReadTold, WriteTold};
+use dp_machine::Reply;
+use std::alloc::Global;
+use std::sync::Wait;
+use std::thread::Threads;
+
+/// The gate of the program, which holds nobody.
+struct OpenGate;
+
+impl Gate for OpenGate {
+    fn before(&self, _channel: u32, _turn: u64) {}
+
+    fn after(&self, _channel: u32, _reply: &Reply) {}
+}
+
+/// Runs the joined text of the input.
+pub(crate) fn serve_joined<I: ReadTold, W: WriteTold>(
+    alloc: Global,
+    input: &mut I,
+    output: &mut W,
+) -> Result<u8, PbxFault>
+    ensures serves { spec.RunsJoined (source (I.remaining input.old) (I.has_failed input.new)) (W.contents output.old) (W.contents output.new) result }
+    ensures told { W.has_failed output.new ≡ (W.has_failed output.old || is_write_failed result) }
+    ensures heard { I.has_failed input.new ≡ (I.has_failed input.old || has_read_failed result) }
+{
+    let text = read_source(alloc, input)?;
+    run_joined(alloc, &text, output)
+}
+
+/// The status of a run whose history is let go.
+fn status_of<H: Drop>(ran: (u8, H)) -> u8
+    ensures { result ≡ ran.0 }
+{
+    let (status, _history) = ran;
+    status
+}
+
+/// Runs a script in so many threads that nobody holds, and gives the status.
+fn run_in_threads<W: WriteTold, R: Threads + Wait + Sync>(
+    rt: &R,
+    alloc: Global,
+    plan: &[u8],
+    queues: Option<&[u8]>,
+    second_plan: Option<&[u8]>,
+    script: &[u8],
+    threads: u32,
+    output: &mut W,
+) -> Result<u8, PbxFault>
+    ensures shares { spec.SharesSome (max 1 threads) (W.contents output.old) (W.contents output.new)
+        (run_of plan.now (option_map (λ text. text.now) queues.entry) (option_map (λ text. text.now) second_plan.entry) script.now) result }
+    ensures told { W.has_failed output.new ≡ (W.has_failed output.old || is_write_failed result) }
+{
+    let ran = run_threads(
+        rt,
+        alloc,
+        plan,
+        queues,
+        second_plan,
+        script,
+        threads,
+        &OpenGate,
+        output,
+    )?;
+    Ok(status_of(ran))
+}
+
+/// Runs the script of a run on its dialplan, one turn after another.
+fn run_in_order<W: WriteTold>(alloc: Global, texts: &Texts, output: &mut W) -> Result<u8, PbxFault>
+    ensures writes { Writes (W.contents output.old) (W.contents output.new) (spec.run_of_texts (texts_of texts.now)) result }
+    ensures told { W.has_failed output.new ≡ (W.has_failed output.old || is_write_failed result) }
+{
+    run_script(
+        alloc,
+        &texts.plan,
+        texts.queues.as_deref(),
+        texts.second_plan.as_deref(),
+        &texts.script,
+        output,
+    )
+}
+
+/// Runs the script of a run on its dialplan, in threads where their number is given.
+fn run_texts<W: WriteTold, R: Threads + Wait + Sync>(
+    rt: &R,
+    alloc: Global,
+    texts: &Texts,
+    threads: Option<u32>,
+    output: &mut W,
+) -> Result<u8, PbxFault>
+    ensures runs { spec.Runs threads (W.contents output.old) (W.contents output.new) (spec.run_of_texts (texts_of texts.now)) result }
+    ensures told { W.has_failed output.new ≡ (W.has_failed output.old || is_write_failed result) }
+{
+    match threads {
+        None => run_in_order(alloc, texts, output),
+        Some(threads) => run_in_threads(
+            rt,
+            alloc,
+            &texts.plan,
+            texts.queues.as_deref(),
+            texts.second_plan.as_deref(),
+            &texts.script,
+            threads,
+            output,
+        ),
+    }
+}
+
+/// Runs the script of a file on the dialplan of another, with the queues and beside the second dialplan of more files where they are
+/// named, in threads where their number is given.
+pub(crate) fn serve_run<F: ReadFiles, W: WriteTold, R: Threads + Wait + Sync>(
+    rt: &R,
+    files: &F,
+    alloc: Global,
+    run: &RunFiles<'_>,
+    threads: Option<u32>,
+    output: &mut W,
+) -> Result<u8, PbxFault>
+    ensures serves { spec.RunsFiles (sources_of (F.source_at files.now) (paths_of run.now)) threads (W.contents output.old) (W.contents output.new) result }
+    ensures told { W.has_failed output.new ≡ (W.has_failed output.old || is_write_failed result) }
+{
+    let texts = read_texts(files, alloc, run)?;
+    run_texts(rt, alloc, &texts, threads, output)
+}
+
+/// Debugs the script of a run on its dialplan, with the break of a text.
+fn debug_texts<W: WriteTold>(
+    alloc: Global,
+    texts: &Texts,
+    held: &str,
+    output: &mut W,
+) -> Result<u8, PbxFault>
+    ensures debugs { WritesDebug (W.contents output.old) (W.contents output.new) (spec.debug_of_texts held.now (texts_of texts.now)) result }
+    ensures told { W.has_failed output.new ≡ (W.has_failed output.old || is_write_failed result) }
+{
+    debug_script(
+        alloc,
+        &texts.plan,
+        texts.queues.as_deref(),
+        texts.second_plan.as_deref(),
+        &texts.script,
+        held.as_bytes(),
+        output,
+    )
+}
+
+/// Debugs the script of a file on the dialplan of another, with the queues and beside the second dialplan of more files where they
+/// are named, and with the break of a text.
+pub(crate) fn serve_debug<F: ReadFiles, W: WriteTold>(
+    files: &F,
+    alloc: Global,
+    run: &RunFiles<'_>,
+    held: &str,
+    output: &mut W,
+) -> Result<u8, PbxFault>
+    ensures serves { spec.DebugsFiles (sources_of (F.source_at files.now) (paths_of run.now)) held.now (W.contents output.old) (W.contents output.new) result }
+    ensures told { W.has_failed output.new ≡ (W.has_failed output.old || is_write_failed result) }
+{
+    let texts = read_texts(files, alloc, run)?;
+    debug_texts(alloc, &texts, held, output)
+}
