@@ -11,8 +11,5 @@ mod apps;
 mod dial;
 #[cfg(test)]
 mod own;
-mod own_table;
 #[cfg(test)]
 mod variables;
-
-pub use own_table::{OwnApps, Ping, Stay};

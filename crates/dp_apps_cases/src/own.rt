@@ -1,7 +1,7 @@
 //! A machine over a table of applications of another maker.
-use crate::own_table::OwnApps;
 use dp_machine::{Dialplan, Event, Machine, NoMemory, Queues};
 use dp_machine_rows::call;
+use dp_own_table::OwnApps;
 use dp_rows::{check_same, push_bytes};
 use std::alloc::Global;
 use std::test::Fail;

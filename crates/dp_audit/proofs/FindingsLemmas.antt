@@ -26,8 +26,10 @@ entries_more f before number n =
     flat_map_more f before (numbers_of number n) (record { context = number; entry = n })
     ∙ ap (λ ids. before ++ flat_map f ids) (sym (map-range_with_len_more (λ (k : ℕ). record { context = number; entry = k }) 0 n n (omega arith)))
 
--- four lists behind others
-pub four : (before a b c d : List Finding) → (((before ++ a) ++ b) ++ c) ++ d ≡ before ++ (a ++ b ++ c ++ d)
-four before a b c d =
-    ap (λ (xs : List Finding). xs ++ d) (ap (λ (xs : List Finding). xs ++ c) (append_assoc before a b) ∙ append_assoc before (a ++ b) c)
-    ∙ append_assoc before (a ++ b ++ c) d
+-- five lists behind others
+pub five : (before a b c d e : List Finding) → ((((before ++ a) ++ b) ++ c) ++ d) ++ e ≡ before ++ (a ++ b ++ c ++ d ++ e)
+five before a b c d e =
+    ap (λ (xs : List Finding). (((xs ++ c) ++ d) ++ e)) (append_assoc before a b)
+    ∙ ap (λ (xs : List Finding). (xs ++ d) ++ e) (append_assoc before (a ++ b) c)
+    ∙ ap (λ (xs : List Finding). xs ++ e) (append_assoc before (a ++ b ++ c) d)
+    ∙ append_assoc before (a ++ b ++ c ++ d) e

@@ -32,7 +32,7 @@ use Rattle.dp_audit.specs.Neighbours.{are_of_one_name, is_followed, marked, IsBe
 -- ---- names
 
 -- a spelling reads as one meaning alone
-one_meaning : (a b : Meaning) → IsName a → IsName b → same_name a b ≡ true → a ≡ b
+pub one_meaning : (a b : Meaning) → IsName a → IsName b → same_name a b ≡ true → a ≡ b
 one_meaning a b named_a named_b same =
     let read_a = spelled_again a named_a in
     let read_b = spelled_again b named_b in
@@ -178,7 +178,7 @@ one_back : (i j : ℕ) → j < i → i - 1 + 1 ≡ i
 one_back i j below = omega (arith, below)
 
 -- the name of an entry at a place is one that some text means
-named_at : (entries : List Entry) → AreNamed entries → (k : ℕ) (a : Entry) → slice_get entries k ≡ Some a → IsName a.name
+pub named_at : (entries : List Entry) → AreNamed entries → (k : ℕ) (a : Entry) → slice_get entries k ≡ Some a → IsName a.name
 named_at entries named k a there =
     subst (λ (e : Entry). IsName e.name) (get_or_from_slice_get entries k a a there) (named k a (slice_get_within entries k a there))
 
@@ -348,7 +348,7 @@ module _ (number : ℕ) (entries : List Entry) (ids : List EntryId) (named : Are
 
 -- ---- the entries of the context of a number
 
-ranked_at_named : (plan : PlanOf) → All (λ (c : PlanContext). AreNamed c.entries) plan.contexts → (number : ℕ) (context : PlanContext) → slice_get plan.contexts number ≡ Some context → AreNamed context.entries
+pub ranked_at_named : (plan : PlanOf) → All (λ (c : PlanContext). AreNamed c.entries) plan.contexts → (number : ℕ) (context : PlanContext) → slice_get plan.contexts number ≡ Some context → AreNamed context.entries
 ranked_at_named plan named number context known =
     subst (λ (c : PlanContext). AreNamed c.entries) (get_or_from_slice_get plan.contexts number context context known) (named number context (slice_get_within plan.contexts number context known))
 

@@ -16,10 +16,11 @@ use Rattle.dp_plan.specs.declared.entry.EntryId.{EntryId}
 use Rattle.dp_vars.specs.Openings.{has_opening}
 use Rattle.dp_audit.specs.Findings.{findings_of}
 use Rattle.dp_audit.specs.Finders.{answers}
+use Rattle.dp_audit.specs.Hidden.{hidden_from}
 use Rattle.dp_audit.specs.Labels.{is_unused}
 use Rattle.dp_audit.specs.Targets.{missing_targets}
 use Rattle.dp_audit.specs.Unset.{names_read, unset_names}
-use Rattle.dp_audit.specs.declared.finding.Finding.TheVariants.{Cycle, NoApplication, NoTarget, Gap, NoFirst, Unset, Unused}
+use Rattle.dp_audit.specs.declared.finding.Finding.TheVariants.{Cycle, NoApplication, NoTarget, Gap, Hidden, NoFirst, Unset, Unused}
 
 -- a table with one name
 abbrev known : List ℕ → Bool
@@ -60,7 +61,7 @@ applications = plan_of (
     ∷ entry_of (Plain (codes "1")) 2 (codes "Nope") ∷ []) [] ∷ [])
 
 found-applications : findings_of known applications ≡ NoApplication (id_of 0 1) ∷ []
-unfolding findings_of visit found_entry name_cmp spelling missing_targets unset_names names_read is_unused
+unfolding findings_of visit found_entry name_cmp spelling missing_targets hidden_from unset_names names_read is_unused
 found-applications = refl
 
 -- ---- gaps
@@ -78,7 +79,7 @@ gaps = plan_of (
     ∷ context_of (codes "b") (entry_of (Pattern [] Dot) 2 (codes "NoOp") ∷ []) [] ∷ [])
 
 found-gaps : findings_of known gaps ≡ Gap (id_of 0 2) ∷ NoFirst (id_of 1 0) ∷ []
-unfolding findings_of visit found_entry name_cmp spelling missing_targets unset_names names_read is_unused
+unfolding findings_of visit found_entry name_cmp spelling missing_targets hidden_from unset_names names_read is_unused
 found-gaps = refl
 
 -- a pattern has no gap, since another name may give its texts the priority
@@ -89,7 +90,7 @@ patterns = plan_of (
     ∷ entry_of (Pattern [] Dot) 3 (codes "NoOp") ∷ []) [] ∷ [])
 
 found-patterns : findings_of known patterns ≡ []
-unfolding findings_of visit found_entry name_cmp spelling missing_targets unset_names names_read is_unused
+unfolding findings_of visit found_entry name_cmp spelling missing_targets hidden_from unset_names names_read is_unused
 found-patterns = refl
 
 -- ---- beginnings
@@ -105,7 +106,7 @@ beginnings = plan_of (
     ∷ context_of (codes "b") (entry_of (Plain (codes "2")) 1 (codes "NoOp") ∷ []) [] ∷ [])
 
 found-beginnings : findings_of known beginnings ≡ NoFirst (id_of 0 1) ∷ []
-unfolding findings_of visit found_entry name_cmp spelling missing_targets unset_names names_read is_unused
+unfolding findings_of visit found_entry name_cmp spelling missing_targets hidden_from unset_names names_read is_unused
 found-beginnings = refl
 
 -- two patterns begin at 2; an included context has the second with priority 1
@@ -117,8 +118,46 @@ pattern_beginnings = plan_of (
     ∷ context_of (codes "b") (entry_of (Pattern [] Dot) 1 (codes "NoOp") ∷ []) [] ∷ [])
 
 found-pattern_beginnings : findings_of known pattern_beginnings ≡ NoFirst (id_of 0 0) ∷ []
-unfolding findings_of visit found_entry name_cmp spelling missing_targets unset_names names_read is_unused
+unfolding findings_of visit found_entry name_cmp spelling missing_targets hidden_from unset_names names_read is_unused
 found-pattern_beginnings = refl
+
+-- ---- hidden entries
+
+-- `a` includes `b`: `1` of `b` is hidden from it at priority 1 and not at 2, `2` has no other, and from `b` nothing is hidden
+abbrev hidden : PlanOf
+hidden = plan_of (
+    context_of (codes "a") (
+    entry_of (Plain (codes "1")) 1 (codes "NoOp") ∷ []) (codes "b" ∷ [])
+    ∷ context_of (codes "b") (
+    entry_of (Plain (codes "1")) 1 (codes "NoOp")
+    ∷ entry_of (Plain (codes "1")) 2 (codes "NoOp")
+    ∷ entry_of (Plain (codes "2")) 1 (codes "NoOp") ∷ []) [] ∷ [])
+
+found-hidden : findings_of known hidden ≡ Hidden (id_of 1 0) 0 ∷ []
+unfolding findings_of visit found_entry name_cmp spelling missing_targets hidden_from unset_names names_read is_unused
+found-hidden = refl
+
+-- `a` and `b` include each other, and each hides the other's `1`
+abbrev hidden_in_cycle : PlanOf
+hidden_in_cycle = plan_of (
+    context_of (codes "a") (entry_of (Plain (codes "1")) 1 (codes "NoOp") ∷ []) (codes "b" ∷ [])
+    ∷ context_of (codes "b") (entry_of (Plain (codes "1")) 1 (codes "NoOp") ∷ []) (codes "a" ∷ []) ∷ [])
+
+found-hidden_in_cycle : findings_of known hidden_in_cycle ≡ Cycle 0 ∷ Hidden (id_of 0 0) 1 ∷ Cycle 1 ∷ Hidden (id_of 1 0) 0 ∷ []
+unfolding findings_of visit found_entry name_cmp spelling missing_targets hidden_from unset_names names_read is_unused
+found-hidden_in_cycle = refl
+
+-- `a` includes `b`, which includes `c` and then `d`: the pattern of `c` hides that of `d` from both, though neither has one
+abbrev hidden_by_way : PlanOf
+hidden_by_way = plan_of (
+    context_of (codes "a") [] (codes "b" ∷ [])
+    ∷ context_of (codes "b") [] (codes "c" ∷ codes "d" ∷ [])
+    ∷ context_of (codes "c") (entry_of (Pattern ((50 ∷ []) ∷ []) Dot) 1 (codes "NoOp") ∷ []) []
+    ∷ context_of (codes "d") (entry_of (Pattern ((50 ∷ []) ∷ []) Dot) 1 (codes "NoOp") ∷ []) [] ∷ [])
+
+found-hidden_by_way : findings_of known hidden_by_way ≡ Hidden (id_of 3 0) 0 ∷ Hidden (id_of 3 0) 1 ∷ []
+unfolding findings_of visit found_entry name_cmp spelling missing_targets hidden_from unset_names names_read is_unused
+found-hidden_by_way = refl
 
 -- ---- texts
 
@@ -134,5 +173,5 @@ texts = plan_of (
 
 found-texts : findings_of known texts
     ≡ NoApplication (id_of 0 0) ∷ NoTarget (id_of 0 0) (codes "9") ∷ Unused (id_of 0 0) ∷ Unset (id_of 0 1) (codes "X") ∷ []
-unfolding findings_of visit found_entry name_cmp spelling missing_targets unset_names names_read is_unused answers parts_of has_opening
+unfolding findings_of visit found_entry name_cmp spelling missing_targets hidden_from unset_names names_read is_unused answers parts_of has_opening
 found-texts = refl

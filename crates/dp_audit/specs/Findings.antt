@@ -4,7 +4,7 @@ use Rattle.std.specs.Cmp.Lexicographic.{pointwise}
 use Rattle.std.specs.List.{flat_map, list_any, range_with_len}
 use Rattle.std.specs.Option.{option_map_or}
 use Rattle.dp_lookup.specs.FoundEntry.{entries_at, found_entry}
-use Rattle.dp_lookup.specs.SearchOrder.{context_count, has, links_at, search_order}
+use Rattle.dp_lookup.specs.SearchOrder.{context_count, has, links_at}
 use Rattle.dp_pattern.specs.Name.{Meaning, Plain, Pattern}
 use Rattle.dp_pattern.specs.Spelling.{spelling}
 use Rattle.dp_plan.specs.Extensions.{same_name}
@@ -13,19 +13,17 @@ use Rattle.dp_plan.specs.Plan.{PlanOf}
 use Rattle.dp_plan.specs.Ranking.{ids_of}
 use Rattle.dp_plan.specs.declared.entry.Entry.{Entry}
 use Rattle.dp_plan.specs.declared.entry.EntryId.{EntryId}
+use Rattle.dp_audit.specs.Hidden.{hidden_from}
 use Rattle.dp_audit.specs.Labels.{is_unused}
+use Rattle.dp_audit.specs.Orders.{order_at}
 use Rattle.dp_audit.specs.Targets.{missing_targets}
 use Rattle.dp_audit.specs.Unset.{unset_names}
 use Rattle.dp_audit.specs.declared.finding.Finding.{Finding}
-use Rattle.dp_audit.specs.declared.finding.Finding.TheVariants.{Cycle, NoApplication, NoTarget, Gap, NoFirst, Unset, Unused}
+use Rattle.dp_audit.specs.declared.finding.Finding.TheVariants.{Cycle, NoApplication, NoTarget, Gap, NoFirst, Hidden, Unset, Unused}
 
 -- the finding, where it is one
 abbrev pub found_if : Bool → Finding → List Finding
 found_if is_one finding = if is_one then finding ∷ [] else []
-
--- the search order of the context of a number; where there is none, it is empty
-abbrev pub order_at : PlanOf → ℕ → List ℕ
-order_at plan number = option_map_or (λ context. search_order plan context.name) (slice_get plan.contexts number) []
 
 -- a context of its search order includes the context of the number
 abbrev pub includes_itself : PlanOf → ℕ → Bool
@@ -72,6 +70,10 @@ lacks_first plan id entry =
 abbrev pub of_priorities : PlanOf → EntryId → Entry → List Finding
 of_priorities plan id entry = found_if (is_gap plan id entry) (Gap id) ++ found_if (lacks_first plan id entry) (NoFirst id)
 
+-- from which contexts the entry is hidden
+abbrev pub of_hidden : PlanOf → EntryId → Entry → List Finding
+of_hidden plan id entry = map (Hidden id) (hidden_from plan id entry)
+
 -- the name of the context of a number
 abbrev pub context_name : PlanOf → ℕ → List ℕ
 context_name plan number = option_map_or (λ context. context.name) (slice_get plan.contexts number) []
@@ -87,7 +89,8 @@ of_texts plan id entry = map (Unset id) (unset_names plan entry) ++ found_if (is
 -- what is found of the entry of these numbers, where the table has the names that are known
 abbrev pub of_entry : (List ℕ → Bool) → PlanOf → EntryId → Entry → List Finding
 of_entry known plan id entry =
-    found_if (not (known entry.application)) (NoApplication id) ++ of_targets plan id entry ++ of_priorities plan id entry ++ of_texts plan id entry
+    found_if (not (known entry.application)) (NoApplication id) ++ of_targets plan id entry ++ of_priorities plan id entry
+    ++ of_hidden plan id entry ++ of_texts plan id entry
 
 -- what is found of the entry of these numbers; where there is none, nothing
 abbrev pub findings_of_entry : (List ℕ → Bool) → PlanOf → EntryId → List Finding

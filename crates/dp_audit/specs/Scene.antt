@@ -2,10 +2,12 @@
 use Rattle.std.specs.Prelude.{◌≡◌, ℕ, []}
 use Rattle.dp_lookup.specs.FoundEntry.{entries_at}
 use Rattle.dp_trie.specs.Known.{Keeps}
-use Rattle.dp_audit.specs.Findings.{context_name, has_greater, has_lower, order_at, some_first}
+use Rattle.dp_audit.specs.Findings.{context_name, has_greater, has_lower, some_first}
 use Rattle.dp_audit.specs.Firsts.{Adds}
 use Rattle.dp_audit.specs.Neighbours.{AreMarks}
+use Rattle.dp_audit.specs.Hiding.{AreHidden}
 use Rattle.dp_audit.specs.Labels.{AreNamed}
+use Rattle.dp_audit.specs.Orders.{order_at}
 use Rattle.dp_audit.specs.Unset.{AreSet}
 use Rattle.dp_audit.specs.declared.findings.Known.{Known}
 use Rattle.dp_audit.specs.declared.scene.Scene.{Scene}
@@ -20,9 +22,11 @@ pub record IsScene (number : ℕ) (scene : Scene) : Type 0 where
   pub context : scene.context.now ≡ context_name scene.plan.now number
   pub named : AreNamed scene.plan.now scene.named.now
   pub set : AreSet scene.plan.now scene.set.now
+  pub hidden : AreHidden scene.plan.now scene.hidden.now
 
--- the trie keeps the dialplan, and what is noted is what its targets name and what it sets
+-- the trie keeps the dialplan, and what is noted is what its targets name, what it sets and what it hides
 pub record IsKnown (known : Known) : Type 0 where
   pub keeps : Keeps known.plan.now known.trie.now
   pub named : AreNamed known.plan.now known.named.now
   pub set : AreSet known.plan.now known.set.now
+  pub hidden : AreHidden known.plan.now known.hidden.now

@@ -14,6 +14,9 @@ pub enum Finding {
     Gap { entry: EntryId },
     /// The extension, of which the entry has the lowest priority, has no priority 1, and no context of its search order gives it one.
     NoFirst { entry: EntryId },
+    /// The entry never answers from the context of this number, which includes its own: an entry with a name of the same
+    /// meaning and the same priority comes before it in the search order.
+    Hidden { entry: EntryId, from: usize },
     /// The arguments of the entry read a variable that nothing sets.
     Unset { entry: EntryId, name: Text },
     /// The entry has a label that no target names.

@@ -2,7 +2,9 @@
 ghost use Rattle.std.specs.Prelude.{◌≡◌, ◌≤◌, ◌<◌, ◌++◌, Some, IfOk, OnOk};
 ghost use Rattle.std.specs.List.{flat_map, range_with_len};
 ghost use Rattle.dp_audit.specs.Findings as spec;
+ghost use Rattle.dp_audit.specs.Hiding.{AreHidden};
 ghost use Rattle.dp_audit.specs.Labels.{AreNamed};
+ghost use Rattle.dp_audit.specs.Orders.{order_at};
 ghost use Rattle.dp_audit.specs.Scene.{IsKnown, IsScene};
 ghost use Rattle.dp_audit.specs.Unset.{AreSet};
 ghost use Rattle.dp_lookup.specs.SearchOrder.{context_count};
@@ -13,9 +15,11 @@ use crate::finder::Finder;
 use crate::finding::Finding;
 use crate::firsts::firsts_of;
 use crate::gap::{is_gap, lacks_first};
+use crate::hidden::{Hidings, push_hidden};
 use crate::labels::Named;
 use crate::names::Names;
 use crate::neighbours::{entries_at, greater_marks, lower_marks};
+use crate::order::fill;
 use crate::scene::Scene;
 use crate::target::push_missing;
 use crate::unset::{SetNames, push_unset};
@@ -24,13 +28,14 @@ use dp_plan::{Dialplan, Entry, EntryId, NoMemory, Text};
 use dp_trie::Trie;
 use std::alloc::Global;
 
-/// A dialplan with its trie, and what its targets name and what it sets.
+/// A dialplan with its trie, and what its targets name, what it sets and what it hides.
 #[derive(Clone, Copy)]
 struct Known<'a> {
     plan: &'a Dialplan,
     trie: &'a Trie,
     named: &'a Named,
     set: &'a SetNames,
+    hidden: &'a Hidings,
 }
 
 /// Adds the finding, where it is one.
@@ -82,7 +87,7 @@ fn push_of_texts(
 }
 
 /// Adds what is found of an entry that stands at these numbers.
-#[tactic(auto, using(crate::proofs::FindingsLemmas::four))]
+#[tactic(auto, using(crate::proofs::FindingsLemmas::five))]
 fn push_of<N: Names>(
     findings: &mut Vec<Finding>,
     alloc: Global,
@@ -101,6 +106,7 @@ fn push_of<N: Names>(
     push_if(findings, is_unknown, Finding::NoApplication { entry: id })?;
     push_missing(findings, alloc, finder, scene.context, id, entry)?;
     push_of_priorities(findings, scene, id, entry)?;
+    push_hidden(findings, scene.hidden, id)?;
     push_of_texts(findings, alloc, scene, id, entry)?;
     Ok(())
 }
@@ -161,7 +167,7 @@ fn push_by_order<N: Names>(
     requires known { IsKnown known }
     requires finds { finder.old ≡ known.plan.now }
     requires context { context.now ≡ spec.context_name known.plan.now number }
-    requires order { order.now.contexts ≡ spec.order_at known.plan.now number }
+    requires order { order.now.contexts ≡ order_at known.plan.now number }
     ensures found { OnOk result (findings.new.items ≡ findings.old.items ++ spec.findings_of_entries N.known known.entry.plan.now number) }
     ensures same { finder.new ≡ finder.old }
 {
@@ -178,22 +184,10 @@ fn push_by_order<N: Names>(
         context,
         named: known.named,
         set: known.set,
+        hidden: known.hidden,
     };
     push_of_entries::<N>(findings, alloc, finder, &scene, number)?;
     Ok(())
-}
-
-/// Makes the order that of the context of the number, and gives the context's name.
-fn fill<'a>(plan: &'a Dialplan, number: usize, order: &mut SearchOrder) -> &'a Text
-    requires context { number < context_count plan.now }
-    requires room { context_count plan.now ≤ order.old.room }
-    ensures name { result.now ≡ spec.context_name plan.now number }
-    ensures order { order.new.contexts ≡ spec.order_at plan.now number }
-    ensures room { order.new.room ≡ order.old.room }
-{
-    let name = plan.contexts()[number].name();
-    order.fill(plan, name);
-    name
 }
 
 /// Adds what is found of the context of the number and of its entries.
@@ -240,16 +234,18 @@ fn findings_of<N: Names>(
     Ok(findings)
 }
 
-/// What is found in the dialplan, by what its targets name and what it sets.
+/// What is found in the dialplan, by what its targets name, what it sets and what it hides.
 #[tactic(auto, unfolding(crate::specs::Findings::findings_of))]
 fn findings_by<N: Names>(
     alloc: Global,
     plan: &Dialplan,
     named: &Named,
     set: &SetNames,
+    hidden: &Hidings,
 ) -> Result<Vec<Finding>, NoMemory>
     requires named { AreNamed plan.now named.now }
     requires set { AreSet plan.now set.now }
+    requires hidden { AreHidden plan.now hidden.now }
     ensures { IfOk result (λ findings. findings.items ≡ spec.findings_of N.known plan.now) }
 {
     let trie = Trie::build(alloc, plan)?;
@@ -260,6 +256,7 @@ fn findings_by<N: Names>(
         trie: &trie,
         named,
         set,
+        hidden,
     };
     let findings = findings_of::<N>(alloc, &mut finder, known, &mut order)?;
     Ok(findings)
@@ -267,8 +264,8 @@ fn findings_by<N: Names>(
 
 /// What an audit finds in the dialplan, in the order of the file: of each context first whether it includes itself, and
 /// then of each of its entries whether the table lacks its application, which of its targets lead nowhere, whether it is
-/// followed by a gap, whether its extension has no beginning, which variables in its arguments nothing sets, and whether no
-/// target names its label.
+/// followed by a gap, whether its extension has no beginning, from which contexts it is hidden, which variables in its
+/// arguments nothing sets, and whether no target names its label.
 ///
 /// It is linear in the dialplan and its search orders, but for what look-ups in tries cost. The error comes only where a
 /// growth was refused.
@@ -277,5 +274,6 @@ pub fn audit<N: Names>(alloc: Global, plan: &Dialplan) -> Result<Vec<Finding>, N
 {
     let named = Named::of(alloc, plan)?;
     let set = SetNames::of(alloc, plan)?;
-    findings_by::<N>(alloc, plan, &named, &set)
+    let hidden = Hidings::of(alloc, plan)?;
+    findings_by::<N>(alloc, plan, &named, &set, &hidden)
 }

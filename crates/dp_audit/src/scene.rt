@@ -1,4 +1,5 @@
 //! What the entries of a context are asked by.
+use crate::hidden::Hidings;
 use crate::labels::Named;
 use crate::spelling::Spelling;
 use crate::unset::SetNames;
@@ -23,4 +24,6 @@ pub(crate) struct Scene<'a> {
     pub(crate) named: &'a Named,
     /// What the dialplan sets.
     pub(crate) set: &'a SetNames,
+    /// What the dialplan hides.
+    pub(crate) hidden: &'a Hidings,
 }

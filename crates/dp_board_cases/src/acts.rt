@@ -1,30 +1,55 @@
 //! Two seats act on two threads.
-use crate::play::{Exchange, Play, perform, put_back};
+use crate::play::{Exchange, Play, perform};
 use dp_board::{Board, History, Seat, Session};
 use dp_machine::{EntryId, Event, Phase, Reply};
 use dp_table::StandardApps;
 use std::alloc::Global;
 use std::process::Abort;
 use std::sync::Wait;
-use std::thread;
-use std::thread::Threads;
 
 /// What a call was told: the place of its entry, and the reply.
 pub(super) type Told = (usize, Reply);
 
-/// One step of a channel, by a seat that is given back.
-fn step<S: Session, R: Wait>(
+/// What a seat was told last, by its record.
+fn last_told<S: Session>(seat: &Seat<S>) -> Option<Told> {
+    let (place, _event, reply) = seat.record().last()?;
+    Some((*place, *reply))
+}
+
+/// What two seats were told last, where there are two.
+pub(super) fn told_of<S: Session>(seats: &[Seat<S>]) -> Option<(Told, Told)> {
+    match seats {
+        [first, second] => Some((last_told(first)?, last_told(second)?)),
+        _ => None,
+    }
+}
+
+/// The channel that a seat acts for: the one of its number, counted from 1.
+pub(super) fn channel_of<S: Session>(seat: &Seat<S>) -> u32 {
+    seat.number().saturating_add(1)
+}
+
+/// One step of the seat's channel. Where memory is refused the record is as it was, and the step is
+/// given once more; then what is answered stands last in the record.
+pub(super) fn act_step<S: Session, R: Wait + Abort>(
     rt: &R,
     alloc: Global,
     board: &Board<StandardApps, S>,
-    mut seat: Seat<S>,
-    channel: u32,
-) -> (Seat<S>, Option<Told>) {
-    let told = board.act(rt, alloc, &mut seat, Event::Step { channel });
-    (seat, told.ok())
+    seat: &mut Seat<S>,
+) {
+    let channel = channel_of(seat);
+    let told = match board.act(rt, alloc, seat, Event::Step { channel }) {
+        Ok(told) => told,
+        Err(_) => {
+            assert!(rt; seat.record().is_empty());
+            let told = board.act(rt, alloc, seat, Event::Step { channel }).ok();
+            told.expect(rt, "memory")
+        }
+    };
+    assert_eq!(rt; last_told(seat), Some(told));
 }
 
-fn ran(entry: usize) -> Reply {
+pub(super) fn ran(entry: usize) -> Reply {
     Reply::Ran(EntryId { context: 0, entry })
 }
 
@@ -54,15 +79,33 @@ fn has_member(machine: &Exchange) -> bool {
     members.len() == 1 && members[0].agent == 0 && agent.name.bytes() == b"Line/3".as_slice()
 }
 
+/// The value of a name in a channel, which is asked for once more where memory is refused.
+pub(super) fn has_value(
+    rt: &impl Abort,
+    alloc: Global,
+    machine: &Exchange,
+    channel: u32,
+    name: &[u8],
+    wanted: &[u8],
+) -> bool {
+    let value = match machine.value(alloc, channel, name) {
+        Ok(value) => value,
+        Err(_) => machine
+            .value(alloc, channel, name)
+            .ok()
+            .expect(rt, "a value"),
+    };
+    value.as_slice() == wanted
+}
+
 /// Whether channel 2 waits where its queue had a member by then, and else goes on and reads why it does not wait.
 fn has_asked(rt: &impl Abort, alloc: Global, machine: &Exchange, is_added: bool) -> bool {
-    let status = machine.value(alloc, 2, b"QUEUESTATUS").ok();
-    let status = status.expect(rt, "a value");
     let phase = machine.phase(2).expect(rt, "a channel");
     if is_added {
-        matches!(phase, Phase::Queued { .. }) && status.is_empty()
+        matches!(phase, Phase::Queued { .. })
+            && has_value(rt, alloc, machine, 2, b"QUEUESTATUS", b"")
     } else {
-        *phase == Phase::Ready && status.as_slice() == b"JOINEMPTY".as_slice()
+        *phase == Phase::Ready && has_value(rt, alloc, machine, 2, b"QUEUESTATUS", b"JOINEMPTY")
     }
 }
 
@@ -70,11 +113,10 @@ fn has_asked(rt: &impl Abort, alloc: Global, machine: &Exchange, is_added: bool)
 pub(super) fn check_steps(
     rt: &impl Abort,
     alloc: Global,
-    add: Told,
-    ask: Told,
+    told: (Told, Told),
     history: &History<StandardApps>,
 ) {
-    assert_eq!(rt; history.entries().len(), 2);
+    let (add, ask) = told;
     assert!(rt; are_told(add, ask));
     assert!(rt; is_step(history, add, 0, 1));
     assert!(rt; is_step(history, ask, 1, 2));
@@ -82,37 +124,10 @@ pub(super) fn check_steps(
     assert!(rt; has_asked(rt, alloc, history.machine(), add.0 == 0));
 }
 
-pub(super) fn act_steps<S: Session + Send + Sync, R: Threads + Wait + Abort + Sync>(
-    rt: &R,
-    alloc: Global,
-    board: &Board<StandardApps, S>,
-    seats: &mut Vec<Seat<S>>,
-) -> (Option<Told>, Option<Told>) {
-    let second = seats.pop().expect(rt, "a seat");
-    let first = seats.pop().expect(rt, "a seat");
-    let ((first, add), (second, ask)) = thread::join(
-        rt,
-        move || step(rt, alloc, board, first, 1),
-        move || step(rt, alloc, board, second, 2),
-    );
-    put_back(rt, seats, first, second);
-    (add, ask)
-}
-
 /// Each call is told the place of its entry, and the board settles once both seats are there.
 #[test]
 fn two_seats(rt: HostRuntime) {
     perform(&rt, rt.alloc(), b"add", b"ask", 2, &Play::Steps);
-}
-
-/// Nobody acts.
-pub(super) fn act_not<S: Session + Send + Sync, R: Threads + Wait + Abort + Sync>(
-    rt: &R,
-    alloc: Global,
-    board: &Board<StandardApps, S>,
-    seats: &mut Vec<Seat<S>>,
-) {
-    assert!(rt; seats.is_empty());
 }
 
 /// A board of no seats has an empty history.

@@ -1,49 +1,42 @@
 //! Two channels are attended on two threads, and gates hold one until the other has acted.
-use crate::play::{Play, perform, put_back};
+use crate::acts::channel_of;
+use crate::play::{Play, perform};
 use dp_board::{Attended, Board, Gate, Seat, Session, Why};
 use dp_board_rows::{Crossed, gate_of};
 use dp_table::StandardApps;
 use std::alloc::Global;
 use std::process::Abort;
 use std::sync::Wait;
-use std::thread;
-use std::thread::Threads;
 
-/// A channel is attended for at most two turns, by a seat that is given back.
+/// A channel is attended for at most two turns.
 pub(super) fn attend<S: Session, R: Wait, G: Gate>(
     rt: &R,
     alloc: Global,
     board: &Board<StandardApps, S>,
-    mut seat: Seat<S>,
+    seat: &mut Seat<S>,
     channel: u32,
     gate: &G,
-) -> (Seat<S>, Option<Attended>) {
-    let attended = board.attend(rt, alloc, &mut seat, channel, gate, 2);
-    (seat, attended.ok())
+) -> Option<Attended> {
+    board.attend(rt, alloc, seat, channel, gate, 2).ok()
 }
 
 /// A channel that ended with its second step.
-pub(super) const ENDED: Option<Attended> = Some(Attended {
+pub(super) const ENDED: Attended = Attended {
     steps: 2,
     why: Why::Ended,
-});
+};
 
-pub(super) fn act_crossed<S: Session + Send + Sync, R: Threads + Wait + Abort + Sync>(
+/// The seat's channel is attended to its end.
+pub(super) fn act_crossed<S: Session, R: Wait + Abort>(
     rt: &R,
     alloc: Global,
     board: &Board<StandardApps, S>,
-    seats: &mut Vec<Seat<S>>,
+    seat: &mut Seat<S>,
     gate: &Crossed,
 ) {
-    let second = seats.pop().expect(rt, "a seat");
-    let first = seats.pop().expect(rt, "a seat");
-    let ((first, a), (second, b)) = thread::join(
-        rt,
-        move || attend(rt, alloc, board, first, 1, gate),
-        move || attend(rt, alloc, board, second, 2, gate),
-    );
-    put_back(rt, seats, first, second);
-    assert!(rt; a == ENDED && b == ENDED);
+    let channel = channel_of(seat);
+    let attended = attend(rt, alloc, board, seat, channel, gate);
+    assert!(rt; attended == Some(ENDED));
 }
 
 /// Each of two channels is attended while the other's thread is held before its first step, and the gate is called round each step.

@@ -6,6 +6,8 @@
 #[cfg(test)]
 mod acts;
 #[cfg(test)]
+mod again;
+#[cfg(test)]
 mod differences;
 #[cfg(test)]
 mod gates;

@@ -1,6 +1,6 @@
 //! A channel pauses, and the other seat dials digits and ends the pause.
 use crate::gates::attend;
-use crate::play::{Play, perform, put_back};
+use crate::play::{Play, perform};
 use dp_board::{Attended, Board, Gate, Seat, Session, Why};
 use dp_board_rows::hold;
 use dp_machine::{Event, Reply};
@@ -9,8 +9,6 @@ use std::alloc::Global;
 use std::process::Abort;
 use std::sync::Wait;
 use std::sync::atomic::{AtomicU64, Ordering};
-use std::thread;
-use std::thread::Threads;
 
 /// Holds the thread behind its first step until a digit was answered, and marks the turn behind the pause where it comes too
 /// early.
@@ -37,15 +35,17 @@ impl Gate for Paced {
     }
 }
 
-fn give<S: Session, R: Wait>(
+/// Gives an event that is done.
+fn give<S: Session, R: Wait + Abort>(
     rt: &R,
     alloc: Global,
     board: &Board<StandardApps, S>,
     seat: &mut Seat<S>,
     event: Event,
-) -> Option<Reply> {
-    let (_place, reply) = board.act(rt, alloc, seat, event).ok()?;
-    Some(reply)
+) {
+    let told = board.act(rt, alloc, seat, event).ok();
+    let (_place, reply) = told.expect(rt, "memory");
+    assert_eq!(rt; reply, Reply::Done);
 }
 
 /// Lets some time go by.
@@ -55,75 +55,63 @@ fn idle(gate: &Paced) {
     }
 }
 
-/// The replies to two digits and to the end of a pause.
-type Paces = (Option<Reply>, Option<Reply>, Option<Reply>);
-
-/// Dials a digit once the channel pauses, another when somebody waits for it, and some time later ends the pause. Gives the seat
-/// back, and the replies.
-fn pace<S: Session, R: Wait>(
-    rt: &R,
-    alloc: Global,
-    board: &Board<StandardApps, S>,
-    mut seat: Seat<S>,
-    gate: &Paced,
-) -> (Seat<S>, Paces) {
-    let (channel, digit) = (1, b'5');
-    hold(&gate.stepped, &gate.marks);
-    let dialled = give(rt, alloc, board, &mut seat, Event::Digit { channel, digit });
-    gate.dialled.store(1, Ordering::SeqCst);
-    idle(gate);
-    let again = give(rt, alloc, board, &mut seat, Event::Digit { channel, digit });
-    idle(gate);
-    gate.due.store(1, Ordering::SeqCst);
-    let timed = give(rt, alloc, board, &mut seat, Event::Timeout { channel });
-    (seat, (dialled, again, timed))
-}
-
-/// Lets the channel pause before it is attended, where the gate says so.
-fn park<S: Session, R: Wait + Abort>(
+/// Dials a digit once the channel pauses, another when somebody waits for it, and some time later ends the pause.
+fn pace<S: Session, R: Wait + Abort>(
     rt: &R,
     alloc: Global,
     board: &Board<StandardApps, S>,
     seat: &mut Seat<S>,
     gate: &Paced,
 ) {
+    let (channel, digit) = (1, b'5');
+    hold(&gate.stepped, &gate.marks);
+    give(rt, alloc, board, seat, Event::Digit { channel, digit });
+    gate.dialled.store(1, Ordering::SeqCst);
+    idle(gate);
+    give(rt, alloc, board, seat, Event::Digit { channel, digit });
+    idle(gate);
+    gate.due.store(1, Ordering::SeqCst);
+    give(rt, alloc, board, seat, Event::Timeout { channel });
+}
+
+/// Lets the channel pause before it is attended, where the gate says so.
+pub(super) fn park<S: Session, R: Wait + Abort>(
+    rt: &R,
+    alloc: Global,
+    board: &Board<StandardApps, S>,
+    seats: &mut [Seat<S>],
+    gate: &Paced,
+) {
     if gate.late == 0 {
-        let reply = give(rt, alloc, board, seat, Event::Step { channel: 1 });
-        assert!(rt; reply.is_some());
+        let seat = seats.first_mut().expect(rt, "a seat");
+        let told = board.act(rt, alloc, seat, Event::Step { channel: 1 });
+        assert!(rt; told.is_ok());
         gate.stepped.store(1, Ordering::SeqCst);
     }
 }
 
-/// Asserts that the channel was attended to its end, and what the other seat was told.
-fn check_paced(rt: &impl Abort, gate: &Paced, attended: Option<Attended>, paces: Paces) {
+/// The first seat attends the channel to its end, while the other one ends the pause.
+pub(super) fn act_paced<S: Session, R: Wait + Abort>(
+    rt: &R,
+    alloc: Global,
+    board: &Board<StandardApps, S>,
+    seat: &mut Seat<S>,
+    gate: &Paced,
+) {
+    if seat.number() == 1 {
+        return pace(rt, alloc, board, seat, gate);
+    }
     let ended = Attended {
         steps: if gate.late == 0 { 1 } else { 2 },
         why: Why::Ended,
     };
+    let attended = attend(rt, alloc, board, seat, 1, gate);
     assert!(rt; attended == Some(ended));
-    assert_eq!(rt; paces.0, Some(Reply::Done));
-    assert_eq!(rt; paces.1, Some(Reply::Done));
-    assert_eq!(rt; paces.2, Some(Reply::Done));
-    assert_eq!(rt; gate.marks.load(Ordering::SeqCst), 0);
 }
 
-pub(super) fn act_paced<S: Session + Send + Sync, R: Threads + Wait + Abort + Sync>(
-    rt: &R,
-    alloc: Global,
-    board: &Board<StandardApps, S>,
-    seats: &mut Vec<Seat<S>>,
-    gate: &Paced,
-) {
-    let second = seats.pop().expect(rt, "a seat");
-    let mut first = seats.pop().expect(rt, "a seat");
-    park(rt, alloc, board, &mut first, gate);
-    let ((first, attended), (second, paces)) = thread::join(
-        rt,
-        move || attend(rt, alloc, board, first, 1, gate),
-        move || pace(rt, alloc, board, second, gate),
-    );
-    put_back(rt, seats, first, second);
-    check_paced(rt, gate, attended, paces);
+/// Whether nothing was marked.
+pub(super) fn has_paced(gate: &Paced) -> bool {
+    gate.marks.load(Ordering::SeqCst) == 0
 }
 
 fn gate_of(late: u64) -> Paced {

@@ -1,10 +1,12 @@
 //! Plays: a board is opened over a machine with two calls, its seats act, and it is settled. One function owns the history,
-//! and the plays ask it by reference.
+//! and the plays ask it by reference. Where memory is refused each call of a board hands back what it was given, or leaves it as it was,
+//! and is called once more.
 ghost use Rattle.std.specs.Prelude.{◌≡◌, ◌+◌};
 
-use crate::acts::{Told, act_not, act_steps, check_steps};
+use crate::acts::{Told, act_step, check_steps, told_of};
+use crate::again::{act_steps_alone, attend_alone};
 use crate::gates::act_crossed;
-use crate::pauses::{Paced, act_paced};
+use crate::pauses::{Paced, act_paced, has_paced, park};
 use crate::reloads::{act_reload, check_reload};
 use crate::turns::act_turns;
 use dp_board::{Back, Board, History, Seat, Session, Unsettled};
@@ -17,7 +19,7 @@ use std::marker::Brand;
 use std::process::Abort;
 use std::sync::Wait;
 use std::sync::ledger::Blank;
-use std::thread::Threads;
+use std::thread::{Threads, for_each_mut};
 
 /// A machine with the applications of the program.
 pub(super) type Exchange = Machine<StandardApps>;
@@ -46,10 +48,20 @@ fn with_queues(alloc: Global, plan: Dialplan) -> Option<Exchange> {
     }
 }
 
-fn exchange(rt: &impl Abort, alloc: Global) -> Exchange {
-    let loaded = Dialplan::load(alloc, PLAN).ok();
-    let (plan, _notes) = loaded.expect(rt, "the dialplan");
-    with_queues(alloc, plan).expect(rt, "the machine")
+/// A machine over the dialplan, where memory is not refused.
+fn exchange(alloc: Global) -> Option<Exchange> {
+    match Dialplan::load(alloc, PLAN) {
+        Ok((plan, _notes)) => with_queues(alloc, plan),
+        Err(_) => None,
+    }
+}
+
+/// A machine over the dialplan, which is made once more where memory is refused.
+fn exchange_again(rt: &impl Abort, alloc: Global) -> Exchange {
+    match exchange(alloc) {
+        Some(machine) => machine,
+        None => exchange(alloc).expect(rt, "the machine"),
+    }
 }
 
 fn call_to(alloc: Global, exten: &[u8]) -> Result<Event, NoMemory> {
@@ -63,17 +75,24 @@ fn call_to(alloc: Global, exten: &[u8]) -> Result<Event, NoMemory> {
     })
 }
 
-fn start(rt: &impl Abort, alloc: Global, machine: &mut Exchange, exten: &[u8], channel: u32) {
-    let event = call_to(alloc, exten).ok().expect(rt, "the call");
-    let reply = machine.apply(alloc, event).ok();
+fn start(alloc: Global, machine: &mut Exchange, exten: &[u8]) -> Result<Reply, NoMemory> {
+    machine.apply(alloc, call_to(alloc, exten)?)
+}
+
+/// A call comes in, once more where memory is refused, and has this number.
+fn start_again(rt: &impl Abort, alloc: Global, machine: &mut Exchange, exten: &[u8], channel: u32) {
+    let reply = match start(alloc, machine, exten) {
+        Ok(reply) => Some(reply),
+        Err(_) => start(alloc, machine, exten).ok(),
+    };
     assert_eq!(rt; reply, Some(Reply::Started(channel)));
 }
 
 /// A machine with channel 1 at one extension and channel 2 at the other.
 fn machine_of(rt: &impl Abort, alloc: Global, first: &[u8], second: &[u8]) -> Exchange {
-    let mut machine = exchange(rt, alloc);
-    start(rt, alloc, &mut machine, first, 1);
-    start(rt, alloc, &mut machine, second, 2);
+    let mut machine = exchange_again(rt, alloc);
+    start_again(rt, alloc, &mut machine, first, 1);
+    start_again(rt, alloc, &mut machine, second, 2);
     machine
 }
 
@@ -82,8 +101,12 @@ fn machine_of(rt: &impl Abort, alloc: Global, first: &[u8], second: &[u8]) -> Ex
 pub(super) enum Play {
     /// Each of two seats steps a channel of its own, in threads.
     Steps,
+    /// Each of two seats steps a channel of its own, one after the other.
+    StepsAlone,
     /// Each of two seats attends a channel of its own, in threads, through this gate.
     Crossed(Crossed),
+    /// Each of two seats attends a channel of its own, one after the other.
+    AttendedAlone,
     /// One seat attends a channel that pauses, and the other ends the pause.
     Paced(Paced),
     /// The first seat attends one channel after another.
@@ -94,36 +117,66 @@ pub(super) enum Play {
     Nothing,
 }
 
-/// Acts by the seats. Gives what the two steps were told, where these are given.
+/// Acts by one of two seats, in a thread of its own.
+fn act_one<S: Session, R: Wait + Abort>(
+    rt: &R,
+    alloc: Global,
+    board: &Board<StandardApps, S>,
+    seat: &mut Seat<S>,
+    play: &Play,
+) {
+    match play {
+        Play::Crossed(gate) => act_crossed(rt, alloc, board, seat, gate),
+        Play::Paced(gate) => act_paced(rt, alloc, board, seat, gate),
+        _ => act_step(rt, alloc, board, seat),
+    }
+}
+
+/// Acts by two seats at once.
+fn act_at_once<S: Session + Send + Sync, R: Threads + Wait + Abort + Sync>(
+    rt: &R,
+    alloc: Global,
+    board: &Board<StandardApps, S>,
+    seats: &mut [Seat<S>],
+    play: &Play,
+) {
+    let act = |_place: usize, seat: &mut Seat<S>| act_one(rt, alloc, board, seat, play);
+    for_each_mut(rt, seats, 2, &act);
+}
+
+/// Acts by the seats.
 fn act<S: Session + Send + Sync, R: Threads + Wait + Abort + Sync>(
     rt: &R,
     alloc: Global,
     board: &Board<StandardApps, S>,
-    seats: &mut Vec<Seat<S>>,
+    seats: &mut [Seat<S>],
     play: &Play,
-) -> (Option<Told>, Option<Told>) {
+) {
     match play {
-        Play::Steps => return act_steps(rt, alloc, board, seats),
-        Play::Crossed(gate) => act_crossed(rt, alloc, board, seats, gate),
-        Play::Paced(gate) => act_paced(rt, alloc, board, seats, gate),
+        Play::Steps | Play::Crossed(_) => act_at_once(rt, alloc, board, seats, play),
+        Play::Paced(gate) => {
+            park(rt, alloc, board, seats, gate);
+            act_at_once(rt, alloc, board, seats, play);
+        }
+        Play::StepsAlone => act_steps_alone(rt, alloc, board, seats),
+        Play::AttendedAlone => attend_alone(rt, alloc, board, seats),
         Play::Turns => act_turns(rt, alloc, board, seats),
         Play::Reload => act_reload(rt, alloc, board, seats),
-        Play::Nothing => act_not(rt, alloc, board, seats),
+        Play::Nothing => assert!(rt; seats.is_empty()),
     }
-    (None, None)
 }
 
-/// Holds the settled history against what the seats did.
+/// Holds the settled history against what the seats did, and were told.
 fn check(
     rt: &impl Abort,
     alloc: Global,
     history: &History<StandardApps>,
     play: &Play,
-    told: (Option<Told>, Option<Told>),
+    told: Option<(Told, Told)>,
 ) {
     let calls = match play {
-        Play::Steps => 2,
-        Play::Crossed(_) => 4,
+        Play::Steps | Play::StepsAlone => 2,
+        Play::Crossed(_) | Play::AttendedAlone => 4,
         Play::Paced(_) => 5,
         Play::Turns => 7,
         Play::Reload => 3,
@@ -131,26 +184,40 @@ fn check(
     };
     assert_eq!(rt; history.entries().len(), calls);
     match play {
-        Play::Steps => {
-            let add = told.0.expect(rt, "added");
-            let ask = told.1.expect(rt, "asked");
-            check_steps(rt, alloc, add, ask, history);
+        Play::Steps | Play::StepsAlone => {
+            check_steps(rt, alloc, told.expect(rt, "two calls"), history);
         }
         Play::Crossed(gate) => assert!(rt; gate.fits(history.entries())),
+        Play::Paced(gate) => assert!(rt; has_paced(gate)),
         Play::Reload => check_reload(rt, alloc, history),
         _ => {}
     }
 }
 
-/// Puts two seats back.
-pub(super) fn put_back<S: Session>(
+/// Settles, where memory is refused, what a board hands back then.
+fn settled_from<S: Session>(
     rt: &impl Abort,
-    seats: &mut Vec<Seat<S>>,
-    first: Seat<S>,
-    second: Seat<S>,
-) {
-    seats.push(first).ok().expect(rt, "room");
-    seats.push(second).ok().expect(rt, "room");
+    alloc: Global,
+    back: Back<StandardApps, S>,
+) -> Result<History<StandardApps>, Unsettled<StandardApps, S>> {
+    match back {
+        Back::Open { board, seats } => board.settle(alloc, seats),
+        Back::Closed { .. } => panic!(rt; "closed for want of memory"),
+    }
+}
+
+/// Settles, and once more where memory is refused, which is fault 62 and hands all back.
+fn settled<S: Session>(
+    rt: &impl Abort,
+    alloc: Global,
+    board: Board<StandardApps, S>,
+    seats: Vec<Seat<S>>,
+) -> Result<History<StandardApps>, Unsettled<StandardApps, S>> {
+    match board.settle(alloc, seats) {
+        Ok(history) => Ok(history),
+        Err(Unsettled { fault, back }) if fault.code() == 62 => settled_from(rt, alloc, back),
+        Err(unsettled) => Err(unsettled),
+    }
 }
 
 /// Settles with the seats that are handed back and the last one.
@@ -163,8 +230,7 @@ fn settle_with<S: Session>(
     match back {
         Back::Open { board, mut seats } => {
             seats.push(last).ok().expect(rt, "room");
-            let history = board.settle(alloc, seats).ok();
-            history.expect(rt, "settled")
+            settled(rt, alloc, board, seats).ok().expect(rt, "settled")
         }
         Back::Closed { .. } => panic!(rt; "closed without a seat"),
     }
@@ -178,7 +244,7 @@ fn settle_twice<S: Session>(
     seats: Vec<Seat<S>>,
     last: Seat<S>,
 ) -> History<StandardApps> {
-    let unsettled = board.settle(alloc, seats).err();
+    let unsettled = settled(rt, alloc, board, seats).err();
     let Unsettled { fault, back } = unsettled.expect(rt, "not settled without a seat");
     assert_eq!(rt; fault.code(), 60);
     settle_with(rt, alloc, back, last)
@@ -193,13 +259,25 @@ fn settle<S: Session>(
 ) -> History<StandardApps> {
     match seats.pop() {
         Some(last) => settle_twice(rt, alloc, board, seats, last),
-        None => {
-            let history = board.settle(alloc, seats).ok();
-            history.expect(rt, "settled")
-        }
+        None => settled(rt, alloc, board, seats).ok().expect(rt, "settled"),
     }
 }
 
+/// Acts by the seats of a board, settles it, and holds its history against what they did.
+fn play_out<S: Session + Send + Sync, R: Threads + Wait + Abort + Sync>(
+    rt: &R,
+    alloc: Global,
+    board: Board<StandardApps, S>,
+    mut seats: Vec<Seat<S>>,
+    play: &Play,
+) {
+    act(rt, alloc, &board, &mut seats, play);
+    let told = told_of(&seats);
+    let history = settle(rt, alloc, board, seats);
+    check(rt, alloc, &history, play, told);
+}
+
+/// Plays on a board of so many seats over the machine, which is given back where the board does not open.
 fn play_on<S: Session + Send + Sync, R: Threads + Wait + Abort + Sync>(
     rt: &R,
     alloc: Global,
@@ -207,30 +285,34 @@ fn play_on<S: Session + Send + Sync, R: Threads + Wait + Abort + Sync>(
     machine: Exchange,
     seats: u32,
     play: &Play,
-) -> (History<StandardApps>, (Option<Told>, Option<Told>))
+) -> Option<Exchange>
     requires name { blank.name ≡ S.name }
     requires parts { (blank.parts ≡ S.parts) × (blank.parts ≡ seats + 1) }
     requires opening { machine ≡ S.opening }
 {
-    let opened = Board::<StandardApps, S>::open(alloc, blank, machine, seats).ok();
-    let (board, mut seats) = opened.expect(rt, "a board");
-    let told = act(rt, alloc, &board, &mut seats, play);
-    (settle(rt, alloc, board, seats), told)
+    match Board::<StandardApps, S>::open(alloc, blank, machine, seats) {
+        Ok((board, seats)) => {
+            play_out(rt, alloc, board, seats, play);
+            None
+        }
+        Err((machine, _)) => Some(machine),
+    }
 }
 
-/// The settled history of a board of so many seats over a machine.
+/// Plays so, in a session of its own.
 fn played<R: Threads + Wait + Abort + Sync>(
     rt: &R,
     alloc: Global,
     machine: Exchange,
     seats: u32,
     play: &Play,
-) -> (History<StandardApps>, (Option<Told>, Option<Told>)) {
+) -> Option<Exchange> {
     let blank = Blank::new(u64::from(seats) + 1);
     play_on::<Brand, R>(rt, alloc, blank, machine, seats, play)
 }
 
-/// Plays on a board of so many seats, with channel 1 at one extension and channel 2 at the other.
+/// Plays on a board of so many seats, with channel 1 at one extension and channel 2 at the other. A machine that is given back for want
+/// of memory is played on once more.
 pub(super) fn perform<R: Threads + Wait + Abort + Sync>(
     rt: &R,
     alloc: Global,
@@ -240,6 +322,8 @@ pub(super) fn perform<R: Threads + Wait + Abort + Sync>(
     play: &Play,
 ) {
     let machine = machine_of(rt, alloc, first, second);
-    let (history, told) = played(rt, alloc, machine, seats, play);
-    check(rt, alloc, &history, play, told);
+    if let Some(machine) = played(rt, alloc, machine, seats, play) {
+        let given_back = played(rt, alloc, machine, seats, play);
+        assert!(rt; given_back.is_none());
+    }
 }

@@ -1,12 +1,12 @@
 //! A seat puts another dialplan in force between the steps of another seat's channel.
-use crate::play::{Exchange, Play, perform};
+use crate::acts::has_value;
+use crate::play::{Play, perform};
 use dp_board::{Board, Entry, History, Seat, Session};
 use dp_machine::{EntryId, Event, Phase, Reply, SharedText, Text};
 use dp_table::StandardApps;
 use std::alloc::Global;
 use std::process::Abort;
 use std::sync::Wait;
-use std::thread::Threads;
 
 /// The dialplan that comes in force.
 const SECOND: &[u8] = b"[globals]
@@ -48,11 +48,11 @@ fn event_of(rt: &impl Abort, alloc: Global, seat: u32) -> Event {
 }
 
 /// One call after another, each of which is told its place and its reply.
-pub(super) fn act_reload<S: Session + Send + Sync, R: Threads + Wait + Abort + Sync>(
+pub(super) fn act_reload<S: Session, R: Wait + Abort>(
     rt: &R,
     alloc: Global,
     board: &Board<StandardApps, S>,
-    seats: &mut Vec<Seat<S>>,
+    seats: &mut [Seat<S>],
 ) {
     for (place, call) in CALLS.iter().enumerate() {
         let event = event_of(rt, alloc, call.0);
@@ -68,17 +68,6 @@ fn is_call(entry: &Entry, seat: u32, reply: Reply) -> bool {
         && matches!(entry.event, Event::Reload { .. }) == (seat == 1)
 }
 
-fn has_value(
-    rt: &impl Abort,
-    alloc: Global,
-    machine: &Exchange,
-    name: &[u8],
-    wanted: &[u8],
-) -> bool {
-    let value = machine.value(alloc, 1, name).ok();
-    value.expect(rt, "a value").as_slice() == wanted
-}
-
 /// Holds the history against what was told. The globals of the second dialplan are set over those of the first.
 pub(super) fn check_reload(rt: &impl Abort, alloc: Global, history: &History<StandardApps>) {
     for (entry, call) in history.entries().iter().zip(CALLS) {
@@ -86,8 +75,8 @@ pub(super) fn check_reload(rt: &impl Abort, alloc: Global, history: &History<Sta
     }
     let machine = history.machine();
     assert!(rt; machine.phase(1) == Some(&Phase::Ended));
-    assert!(rt; has_value(rt, alloc, machine, b"X", b"12"));
-    assert!(rt; has_value(rt, alloc, machine, b"Y", b"5"));
+    assert!(rt; has_value(rt, alloc, machine, 1, b"X", b"12"));
+    assert!(rt; has_value(rt, alloc, machine, 1, b"Y", b"5"));
 }
 
 /// The places rise, and the board settles.

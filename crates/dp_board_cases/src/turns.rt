@@ -7,7 +7,6 @@ use dp_table::StandardApps;
 use std::alloc::Global;
 use std::process::Abort;
 use std::sync::Wait;
-use std::thread::Threads;
 
 /// For each attendance on one board the channel, its turns, and how it goes.
 const TURNS: &[(u32, u64, u64, Why)] = &[
@@ -26,14 +25,14 @@ const TURNS: &[(u32, u64, u64, Why)] = &[
 const GIVEN: (&str, &str) = ("0 ran 0 none 0 refused", "0 refused 0 ran 1 none 0 refused");
 
 /// The first seat attends all.
-pub(super) fn act_turns<S: Session + Send + Sync, R: Threads + Wait + Abort + Sync>(
+pub(super) fn act_turns<S: Session, R: Wait + Abort>(
     rt: &R,
     alloc: Global,
     board: &Board<StandardApps, S>,
-    seats: &mut Vec<Seat<S>>,
+    seats: &mut [Seat<S>],
 ) {
     let gate = gate_of(0, 0, GIVEN.0, GIVEN.1);
-    if let [seat, _second] = seats.as_mut_slice() {
+    if let [seat, _second] = seats {
         for &(channel, turns, steps, why) in TURNS {
             let attended = board.attend(rt, alloc, seat, channel, &gate, turns);
             assert_eq!(rt; attended.ok(), Some(Attended { steps, why }));

@@ -13,7 +13,7 @@ use Rattle.dp_plan.specs.declared.entry.Entry.{Entry}
 use Rattle.dp_plan.specs.declared.entry.EntryId.{EntryId}
 use Rattle.dp_audit.specs.Findings.{context_name, findings_of}
 use Rattle.dp_audit.specs.declared.finding.Finding.{Finding}
-use Rattle.dp_audit.specs.declared.finding.Finding.TheVariants.{Cycle, NoApplication, NoTarget, Gap, NoFirst, Unset, Unused}
+use Rattle.dp_audit.specs.declared.finding.Finding.TheVariants.{Cycle, NoApplication, NoTarget, Gap, NoFirst, Hidden, Unset, Unused}
 use Rattle.dp_table.specs.Names.{is_standard}
 use Rattle.dp_commands.specs.Run.{plan_fault}
 use Rattle.dp_commands.specs.Trace.{entry_text, place_text}
@@ -45,6 +45,7 @@ finding_text plan (NoApplication id) = codes "NoApplication " ++ entry_text plan
 finding_text plan (NoTarget id target) = codes "NoTarget " ++ spot_text plan id ++ codes " " ++ target
 finding_text plan (Gap id) = codes "Gap " ++ spot_text plan id ++ codes " " ++ next_priority plan id
 finding_text plan (NoFirst id) = codes "NoFirst " ++ spot_text plan id
+finding_text plan (Hidden id from) = codes "Hidden " ++ spot_text plan id ++ codes " " ++ context_name plan from
 finding_text plan (Unset id name) = codes "Unset " ++ spot_text plan id ++ codes " " ++ name
 finding_text plan (Unused id) = codes "Unused " ++ spot_text plan id ++ codes " " ++ label_text plan id
 

@@ -7,7 +7,7 @@ use Rattle.dp_pattern.specs.Codes.{name_code, fault_name}
 use Rattle.dp_plan.specs.Codes.{plan_code, plan_name}
 use Rattle.dp_queue.specs.Codes.{queue_code, queue_name}
 use Rattle.dp_commands.specs.declared.fault.Code.{Code}
-use Rattle.dp_commands.specs.declared.fault.Code.TheVariants.{Line, Name, Plan, Queue, ReadFailed, TooLong, WriteFailed, Settle, BadScript, BadBreak}
+use Rattle.dp_commands.specs.declared.fault.Code.TheVariants.{Line, Name, Plan, QueueLine, Queue, ReadFailed, TooLong, WriteFailed, Settle, BadScript, BadBreak}
 use Rattle.dp_commands.specs.declared.fault.PbxFault.{PbxFault}
 use Rattle.dp_commands.specs.declared.fault.PbxFault.TheVariants.{Coded, NoMemory}
 
@@ -16,6 +16,7 @@ abbrev pub code_number : Code → ℕ
 code_number (Line kind) = line_code kind
 code_number (Name fault) = name_code fault
 code_number (Plan kind) = plan_code kind
+code_number (QueueLine kind) = line_code kind
 code_number (Queue kind) = queue_code kind
 code_number ReadFailed = 7
 code_number TooLong = 8
@@ -29,6 +30,7 @@ abbrev pub code_name : Code → List ℕ
 code_name (Line kind) = line_name kind
 code_name (Name fault) = fault_name fault
 code_name (Plan kind) = plan_name kind
+code_name (QueueLine kind) = line_name kind
 code_name (Queue kind) = queue_name kind
 code_name ReadFailed = read_name read_failed
 code_name TooLong = read_name read_too_long

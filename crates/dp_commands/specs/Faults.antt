@@ -7,7 +7,7 @@ use Rattle.dp_plan.specs.declared.fault.LoadFault.{LoadFault}
 use Rattle.dp_plan.specs.declared.fault.LoadFault.TheVariants.{Conf, Pattern, Plan as load_plan, NoMemory as load_no_memory}
 use Rattle.dp_queue.specs.declared.fault.QueueFault.{QueueFault}
 use Rattle.dp_queue.specs.declared.fault.QueueFault.TheVariants.{Conf as queue_conf, Queue as queue_line, NoMemory as queue_no_memory}
-use Rattle.dp_commands.specs.declared.fault.Code.TheVariants.{Line, Name, Plan, Queue, ReadFailed, TooLong, WriteFailed, Settle, BadScript, BadBreak}
+use Rattle.dp_commands.specs.declared.fault.Code.TheVariants.{Line, Name, Plan, QueueLine, Queue, ReadFailed, TooLong, WriteFailed, Settle, BadScript, BadBreak}
 use Rattle.dp_commands.specs.declared.fault.PbxFault.{PbxFault}
 use Rattle.dp_commands.specs.declared.fault.PbxFault.TheVariants.{Coded, NoMemory}
 
@@ -21,7 +21,7 @@ fault_of_load load_no_memory = NoMemory
 
 -- a fault of a file of queues
 abbrev pub fault_of_queue : QueueFault → PbxFault
-fault_of_queue (queue_conf (At line kind)) = Coded (Line kind) (Some line)
+fault_of_queue (queue_conf (At line kind)) = Coded (QueueLine kind) (Some line)
 fault_of_queue (queue_conf conf_no_memory) = NoMemory
 fault_of_queue (queue_line line kind) = Coded (Queue kind) (Some line)
 fault_of_queue queue_no_memory = NoMemory
@@ -42,6 +42,7 @@ abbrev pub is_write_fault : PbxFault → Bool
 is_write_fault (Coded (Line kind) line) = false
 is_write_fault (Coded (Name fault) line) = false
 is_write_fault (Coded (Plan kind) line) = false
+is_write_fault (Coded (QueueLine kind) line) = false
 is_write_fault (Coded (Queue kind) line) = false
 is_write_fault (Coded ReadFailed line) = false
 is_write_fault (Coded TooLong line) = false

@@ -3,6 +3,7 @@ pub mod Block
 pub mod Candidates
 pub mod Codes
 pub mod Debug
+pub mod Explained
 pub mod Faults
 pub mod Joined
 pub mod Report

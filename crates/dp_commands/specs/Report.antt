@@ -4,6 +4,7 @@ use Rattle.std.specs.Io.KnownBytes.{Appends}
 use Rattle.std.specs.List.{flat_map}
 use Rattle.dp_conf.specs.Answers.{◌>>=◌}
 use Rattle.dp_conf.specs.Fronts.{AppendsFront}
+use Rattle.dp_conf.specs.Lines.{parts_of}
 use Rattle.dp_lister.specs.Listing.{listing}
 use Rattle.dp_lookup.specs.FoundEntry.{found_entry}
 use Rattle.dp_lookup.specs.SearchOrder.{search_order}
@@ -13,6 +14,7 @@ use Rattle.dp_plan.specs.Loaded.{loaded}
 use Rattle.dp_plan.specs.Plan.{PlanOf}
 use Rattle.dp_plan.specs.declared.entry.EntryId.{EntryId}
 use Rattle.dp_plan.specs.declared.note.Note.{Note}
+use Rattle.dp_commands.specs.Explained.{file_line, line_among, line_text, note_sentence, sentence_text}
 use Rattle.dp_commands.specs.Run.{plan_fault}
 use Rattle.dp_commands.specs.Trace.{entry_text}
 use Rattle.dp_commands.specs.declared.fault.Code.TheVariants.{WriteFailed}
@@ -39,6 +41,19 @@ check_text read = flat_map note_line read.1 ++ counts_line read.0
 -- what is reported of a text, or its fault
 unfoldable pub check_of : List ℕ → Result (List ℕ) PbxFault
 check_of plan = plan_fault (loaded plan) >>= λ read. Ok (check_text read)
+
+-- the line of a note and below it its explanation, by the path of the file and the lines of its text
+abbrev pub explained_note : List ℕ → List (List ℕ) → Note → List ℕ
+explained_note path lines note =
+    note_line note ++ (line_text (file_line path note.line (line_among lines note.line)) ++ sentence_text (note_sentence note.kind))
+
+-- what is reported of a dialplan with its notes where these are explained
+abbrev pub explained_text : List ℕ → List (List ℕ) → PlanOf × List Note → List ℕ
+explained_text path lines read = flat_map (explained_note path lines) read.1 ++ counts_line read.0
+
+-- what is reported of the text of a file where its notes are explained, or its fault
+unfoldable pub check_explained_of : List ℕ → List ℕ → Result (List ℕ) PbxFault
+check_explained_of path plan = plan_fault (loaded plan) >>= λ read. Ok (explained_text path (parts_of plan) read)
 
 -- the canonical listing of the dialplan of a text, or its fault
 unfoldable pub list_of : List ℕ → Result (List ℕ) PbxFault

@@ -15,7 +15,7 @@ use Rattle.dp_machine.specs.declared.event.Event.{Event}
 use Rattle.dp_machine.specs.declared.event.Event.TheVariants.{Start, Step, Digit, Timeout, Poll, Hangup, DialResult, Offer, Answer, Decline, AgentDone, Reload}
 use Rattle.dp_table.specs.Standard.{standard_rows}
 use Rattle.dp_commands.specs.Run.{Run, status_by}
-use Rattle.dp_commands.specs.declared.fault.Code.TheVariants.{Line, Name, Plan, Queue, ReadFailed, TooLong, WriteFailed, Settle, BadScript, BadBreak}
+use Rattle.dp_commands.specs.declared.fault.Code.TheVariants.{Line, Name, Plan, QueueLine, Queue, ReadFailed, TooLong, WriteFailed, Settle, BadScript, BadBreak}
 use Rattle.dp_commands.specs.declared.fault.PbxFault.{PbxFault}
 use Rattle.dp_commands.specs.declared.fault.PbxFault.TheVariants.{Coded, NoMemory}
 use Rattle.dp_commands.specs.declared.script.Turn.{Turn}
@@ -132,6 +132,7 @@ is_settle_fault (Coded (Settle fault) line) = misses_no_seat fault && is_none li
 is_settle_fault (Coded (Line kind) line) = false
 is_settle_fault (Coded (Name fault) line) = false
 is_settle_fault (Coded (Plan kind) line) = false
+is_settle_fault (Coded (QueueLine kind) line) = false
 is_settle_fault (Coded (Queue kind) line) = false
 is_settle_fault (Coded ReadFailed line) = false
 is_settle_fault (Coded TooLong line) = false

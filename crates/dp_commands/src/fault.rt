@@ -8,7 +8,7 @@ use dp_plan::{LoadFault, NameFault, NoMemory, PlanKind};
 use dp_queue::{QueueFault, QueueKind};
 use std::alloc::AllocFailed;
 
-/// What a fault is.
+/// What a fault is. It tells which text has the line of the fault, where there is one.
 #[derive(Clone, Copy, Debug, PartialEq, Eq)]
 pub enum Code {
     /// A line of the dialplan's text is refused.
@@ -17,7 +17,9 @@ pub enum Code {
     Name(NameFault),
     /// A line of a context or of the global variables is refused.
     Plan(PlanKind),
-    /// A line of the file of queues is refused.
+    /// A line of the text of queues is refused, as one of a dialplan's text is.
+    QueueLine(LineKind),
+    /// A line of a queue is refused.
     Queue(QueueKind),
     /// A file or the standard input could not be read.
     ReadFailed,
@@ -42,6 +44,7 @@ impl Code {
             Code::Line(kind) => kind.code(),
             Code::Name(fault) => fault.code(),
             Code::Plan(kind) => kind.code(),
+            Code::QueueLine(kind) => kind.code(),
             Code::Queue(kind) => kind.code(),
             Code::ReadFailed => ReadFault::ReadFailed.code().unwrap(),
             Code::TooLong => ReadFault::TooLong.code().unwrap(),
@@ -60,6 +63,7 @@ impl Code {
             Code::Line(kind) => kind.name(),
             Code::Name(fault) => fault.name(),
             Code::Plan(kind) => kind.name(),
+            Code::QueueLine(kind) => kind.name(),
             Code::Queue(kind) => kind.name(),
             Code::ReadFailed => ReadFault::ReadFailed.name(),
             Code::TooLong => ReadFault::TooLong.name(),
@@ -113,7 +117,7 @@ impl From<QueueFault> for PbxFault {
     fn from(queue: QueueFault) -> Self {
         match queue {
             QueueFault::Conf(ConfFault::At { line, kind }) => PbxFault::Coded {
-                code: Code::Line(kind),
+                code: Code::QueueLine(kind),
                 line: Some(line),
             },
             QueueFault::Conf(ConfFault::NoMemory) => PbxFault::NoMemory,

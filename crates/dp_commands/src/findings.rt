@@ -103,6 +103,12 @@ fn push_finding(out: &mut Block, plan: &Dialplan, finding: &Finding) -> Result<(
             out.push(b"NoFirst ")?;
             push_spot(out, plan, *entry)
         }
+        Finding::Hidden { entry, from } => {
+            out.push(b"Hidden ")?;
+            push_spot(out, plan, *entry)?;
+            out.push(b" ")?;
+            out.push(context_name(plan, *from))
+        }
         Finding::Unset { entry, name } => {
             out.push(b"Unset ")?;
             push_spot(out, plan, *entry)?;

@@ -4,6 +4,7 @@
 mod block;
 mod candidates;
 mod debug;
+mod explained;
 mod fault;
 mod findings;
 mod joined;
@@ -16,10 +17,11 @@ mod trace;
 
 pub use candidates::match_all;
 pub use debug::debug_script;
+pub use explained::{FileLine, line_in};
 pub use fault::{Code, PbxFault};
 pub use findings::audit;
 pub use joined::run_joined;
-pub use report::{check, list_plan, match_one};
+pub use report::{check, check_explained, list_plan, match_one};
 pub use run::run_script;
 pub use script::{ScriptLine, Turn, number_within, read_script};
 pub use threads::run_threads;

@@ -1,7 +1,8 @@
 //! Reports on a dialplan: what it loads as, and which entry answers a call.
-ghost use Rattle.std.specs.Prelude.{◌≡◌, ◌++◌, ◌||◌, IfOk, OnOk, length, false};
+ghost use Rattle.std.specs.Prelude.{◌≡◌, ◌++◌, ◌||◌, IfOk, OnOk, length, map, false};
 ghost use Rattle.std.specs.List.{flat_map};
 ghost use Rattle.dp_conf.specs.Answers.{Answers};
+ghost use Rattle.dp_conf.specs.Lines.{parts_of};
 ghost use Rattle.dp_commands.specs.Faults.{is_write_failed, reason_of};
 ghost use Rattle.dp_commands.specs.Report as spec;
 ghost use Rattle.dp_commands.specs.Run.{plan_fault};
@@ -9,6 +10,7 @@ ghost use Rattle.dp_pattern.specs.Dashes.{undashed};
 ghost use Rattle.dp_plan.specs.Loaded.{loaded};
 
 use crate::block::Block;
+use crate::explained::{FileLine, line_among, push_explanation};
 use crate::fault::PbxFault;
 use crate::trace::{push_entry, push_number};
 use dp_conf::WriteTold;
@@ -121,6 +123,88 @@ pub fn check<W: WriteTold>(alloc: Global, plan: &[u8], writer: &mut W) -> Result
     ensures told { W.has_failed writer.new ≡ (W.has_failed writer.old || is_write_failed result) }
 {
     let text = checked(alloc, plan)?;
+    writer.write_told(text.begun())?;
+    Ok(0)
+}
+
+/// The lines of a text.
+fn lines_of(alloc: Global, text: &[u8]) -> Result<Vec<&[u8]>, NoMemory>
+    ensures { IfOk result (λ lines. map (λ line. line.now) lines.items ≡ parts_of text.now) }
+{
+    text.split(|byte| *byte == b'\n').collect(alloc)
+}
+
+/// Adds the line of a note and below it its explanation, by the lines of the text.
+fn push_explained_note(
+    out: &mut Block,
+    path: &str,
+    lines: &[&[u8]],
+    note: Note,
+) -> Result<(), NoMemory>
+    ensures { OnOk result (out.new.begun ≡ out.old.begun ++ spec.explained_note path.now (map (λ line. line.now) lines.now) note) }
+{
+    push_note(out, note)?;
+    let line = FileLine::new(path, note.line, line_among(lines, note.line));
+    push_explanation(out, &line, note.kind)
+}
+
+/// Adds the lines of the notes and below each its explanation, by the lines of the text.
+fn push_explained_notes(
+    out: &mut Block,
+    path: &str,
+    lines: &[&[u8]],
+    notes: &[Note],
+) -> Result<(), NoMemory>
+    ensures { OnOk result (out.new.begun
+        ≡ out.old.begun ++ flat_map (spec.explained_note path.now (map (λ line. line.now) lines.now)) notes.now) }
+{
+    for note in notes {
+        push_explained_note(out, path, lines, *note)?;
+    }
+    Ok(())
+}
+
+/// What is reported of a dialplan with its notes where these are explained, by the lines of its text.
+fn explained_text(
+    alloc: Global,
+    path: &str,
+    lines: &[&[u8]],
+    plan: &Dialplan,
+    notes: &[Note],
+) -> Result<Block, NoMemory>
+    ensures { IfOk result (λ text. text.begun ≡ spec.explained_text path.now (map (λ line. line.now) lines.now) (plan.now, notes.now)) }
+{
+    let mut text = Block::new(alloc, 0)?;
+    push_explained_notes(&mut text, path, lines, notes)?;
+    push_counts(&mut text, plan)?;
+    Ok(text)
+}
+
+/// What is reported of the text of a file where its notes are explained, or its fault.
+#[tactic(auto, unfolding(crate::specs::Report::check_explained_of))]
+fn explained(alloc: Global, path: &str, plan: &[u8]) -> Result<Block, PbxFault>
+    ensures text { Answers (λ text. text.begun) reason_of result (spec.check_explained_of path.now plan.now) }
+    ensures quiet { is_write_failed result ≡ false }
+{
+    let read = read_plan(alloc, plan)?;
+    let lines = lines_of(alloc, plan)?;
+    let text = explained_text(alloc, path, &lines, &read.plan, &read.notes)?;
+    Ok(text)
+}
+
+/// Does what [`check`] does, and writes below each note's line its explanation: `PATH:LINE`, the line as it stands, and what is said
+/// of such a note, each indented in a line of its own. Of the line at most 200 bytes are shown, and bytes that are not printed as
+/// `\xNN`.
+pub fn check_explained<W: WriteTold>(
+    alloc: Global,
+    path: &str,
+    plan: &[u8],
+    writer: &mut W,
+) -> Result<u8, PbxFault>
+    ensures writes { spec.Reports (W.contents writer.old) (W.contents writer.new) (spec.check_explained_of path.now plan.now) result }
+    ensures told { W.has_failed writer.new ≡ (W.has_failed writer.old || is_write_failed result) }
+{
+    let text = explained(alloc, path, plan)?;
     writer.write_told(text.begun())?;
     Ok(0)
 }

@@ -6,7 +6,7 @@ use Rattle.dp_conf.specs.declared.fault.ReadFault.{ReadFault}
 use Rattle.dp_conf.specs.declared.fault.ReadFault.TheVariants.{ReadFailed as read_failed, TooLong as too_long, NoMemory as no_memory}
 use Rattle.dp_commands.specs.Faults.{fault_of_read, reason_of}
 use Rattle.dp_commands.specs.declared.fault.Code.{Code}
-use Rattle.dp_commands.specs.declared.fault.Code.TheVariants.{Line, Name, Plan, Queue, ReadFailed, TooLong, WriteFailed, Settle, BadScript, BadBreak}
+use Rattle.dp_commands.specs.declared.fault.Code.TheVariants.{Line, Name, Plan, QueueLine, Queue, ReadFailed, TooLong, WriteFailed, Settle, BadScript, BadBreak}
 use Rattle.dp_commands.specs.declared.fault.PbxFault.{PbxFault}
 use Rattle.dp_commands.specs.declared.fault.PbxFault.TheVariants.{Coded, NoMemory}
 use Rattle.dp_program.specs.Files.{Source, IsTextOf, Reads, is_read_fault, read_fault, source, whole_text}
@@ -133,6 +133,7 @@ pub refused_unknown : (fault : PbxFault) → is_read_fault fault ≡ true → Re
 refused_unknown (Coded (Line kind) line) is = absurd cc
 refused_unknown (Coded (Name fault) line) is = absurd cc
 refused_unknown (Coded (Plan kind) line) is = absurd cc
+refused_unknown (Coded (QueueLine kind) line) is = absurd cc
 refused_unknown (Coded (Queue kind) line) is = absurd cc
 refused_unknown (Coded ReadFailed None) is = record { text = Err (Coded ReadFailed None); given = inr (refl, refl); holds = refl }
 refused_unknown (Coded ReadFailed (Some line)) is = absurd cc

@@ -3,7 +3,7 @@ use Rattle.std.specs.Prelude.{◌≡◌, ◌⊎◌, ℕ, Bool, true, false, List
 use Rattle.dp_conf.specs.Whole.{whole_of}
 use Rattle.dp_conf.specs.declared.fault.ReadFault.{ReadFault}
 use Rattle.dp_commands.specs.Faults.{fault_of_read}
-use Rattle.dp_commands.specs.declared.fault.Code.TheVariants.{Line, Name, Plan, Queue, ReadFailed, TooLong, WriteFailed, Settle, BadScript, BadBreak}
+use Rattle.dp_commands.specs.declared.fault.Code.TheVariants.{Line, Name, Plan, QueueLine, Queue, ReadFailed, TooLong, WriteFailed, Settle, BadScript, BadBreak}
 use Rattle.dp_commands.specs.declared.fault.PbxFault.{PbxFault}
 use Rattle.dp_commands.specs.declared.fault.PbxFault.TheVariants.{Coded, NoMemory}
 
@@ -21,6 +21,7 @@ abbrev pub is_read_fault : PbxFault → Bool
 is_read_fault (Coded (Line kind) line) = false
 is_read_fault (Coded (Name fault) line) = false
 is_read_fault (Coded (Plan kind) line) = false
+is_read_fault (Coded (QueueLine kind) line) = false
 is_read_fault (Coded (Queue kind) line) = false
 is_read_fault (Coded ReadFailed None) = true
 is_read_fault (Coded ReadFailed (Some line)) = false
@@ -37,6 +38,7 @@ abbrev pub is_failed_read : PbxFault → Bool
 is_failed_read (Coded (Line kind) line) = false
 is_failed_read (Coded (Name fault) line) = false
 is_failed_read (Coded (Plan kind) line) = false
+is_failed_read (Coded (QueueLine kind) line) = false
 is_failed_read (Coded (Queue kind) line) = false
 is_failed_read (Coded ReadFailed line) = true
 is_failed_read (Coded TooLong line) = false

@@ -1,4 +1,5 @@
 pub mod Entries
+pub mod Faulted
 pub mod Files
 pub mod Requests
 pub mod Serves

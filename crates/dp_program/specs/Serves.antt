@@ -1,32 +1,43 @@
 -- What a request writes and answers, by what is known of the files and of the input that it reads.
-use Rattle.std.specs.Prelude.{ℕ, Bool, true, false, List, max, Option, Some, None, Result, Ok, Err}
+use Rattle.std.specs.Prelude.{ℕ, Bool, true, false, List, max, Option, Some, None, Result, Ok, Err, if◌then◌else◌}
 use Rattle.dp_board.specs.Log.{Log}
 use Rattle.dp_conf.specs.Answers.{◌>>=◌}
 use Rattle.dp_commands.specs.Audit.{WritesAudit, audit_of}
 use Rattle.dp_commands.specs.Candidates.{match_all_of}
 use Rattle.dp_commands.specs.Debug.{DebugRun, WritesDebug, debug_of}
 use Rattle.dp_commands.specs.Joined.{joined_run}
-use Rattle.dp_commands.specs.Report.{Reports, check_of, list_of, match_of}
+use Rattle.dp_commands.specs.Report.{Reports, check_explained_of, check_of, list_of, match_of}
 use Rattle.dp_commands.specs.Run.{Run, Writes, run_of}
 use Rattle.dp_commands.specs.Threads.{Shares}
 use Rattle.dp_commands.specs.declared.fault.PbxFault.{PbxFault}
 use Rattle.dp_program.specs.Entries.{entry_of}
+use Rattle.dp_program.specs.Faulted.{StandsIn, line_of_report, line_of_run, unplaced}
 use Rattle.dp_program.specs.Files.{Source, Reads, has_read_failed}
 use Rattle.dp_program.specs.Requests.{Asked, LookupOf, joined, check, listing, auditing, matching, explaining, run, debug}
 use Rattle.dp_program.specs.Texts.{OfRun, ReadsTexts, sources_of}
+use Rattle.dp_program.specs.declared.faulted.Faulted.{Faulted}
 
--- what a report on the text of a file writes and answers
-abbrev pub ReportsOn : Source → (List ℕ → Result (List ℕ) PbxFault) → Option (List ℕ) → Option (List ℕ) → Result ℕ PbxFault → Type 0
-ReportsOn file report old new result = Reads file (λ text. Reports old new (text >>= report) result)
+-- what a report on the text of the file of a path writes and answers, and where its fault stands
+abbrev pub ReportsOn : List ℕ → Source → (List ℕ → Result (List ℕ) PbxFault) → Option (List ℕ) → Option (List ℕ) → Result ℕ Faulted → Type 0
+ReportsOn path file report old new answered =
+    Reads file (λ text. Reports old new (text >>= report) (unplaced answered) × StandsIn (line_of_report path text) answered)
 
--- what an audit of the dialplan of a file writes and answers
-abbrev pub AuditsFile : Source → Option (List ℕ) → Option (List ℕ) → Result ℕ PbxFault → Type 0
-AuditsFile file old new result = Reads file (λ text. WritesAudit old new (text >>= audit_of) result)
+-- the same of an audit of the dialplan of a file
+abbrev pub AuditsFile : List ℕ → Source → Option (List ℕ) → Option (List ℕ) → Result ℕ Faulted → Type 0
+AuditsFile path file old new answered =
+    Reads file (λ text. WritesAudit old new (text >>= audit_of) (unplaced answered) × StandsIn (line_of_report path text) answered)
 
--- what a run of a joined text writes and answers
-abbrev pub RunsJoined : Source → Option (List ℕ) → Option (List ℕ) → Result ℕ PbxFault → Type 0
-RunsJoined input old new result =
-    Reads input (λ text. Writes old new (text >>= joined_run) result)
+-- what a run of a joined text writes and answers, but for where its fault stands
+abbrev pub RunsInput : Source → Option (List ℕ) → Option (List ℕ) → Result ℕ PbxFault → Type 0
+RunsInput input old new result = Reads input (λ text. Writes old new (text >>= joined_run) result)
+
+-- the same; its fault stands in no line of a file
+abbrev pub RunsJoined : Source → Option (List ℕ) → Option (List ℕ) → Result ℕ Faulted → Type 0
+RunsJoined input old new answered = RunsInput input old new (unplaced answered) × StandsIn (λ _. None) answered
+
+-- what is reported of a dialplan by the path of its file and its text, where its notes are explained or not
+abbrev pub check_by : Bool → List ℕ → List ℕ → Result (List ℕ) PbxFault
+check_by explains path plan = if explains then check_explained_of path plan else check_of plan
 
 -- the status of a run in threads that has some history
 pub record EndsWith (count : ℕ) (old new : Option (List ℕ)) (ran : Result Run PbxFault) (status : ℕ) : Type 0 where
@@ -56,24 +67,27 @@ run_of_texts texts = run_of texts.plan texts.queues texts.second_plan texts.scri
 abbrev pub debug_of_texts : List ℕ → OfRun (List ℕ) → Result DebugRun PbxFault
 debug_of_texts held texts = debug_of texts.plan texts.queues texts.second_plan texts.script held
 
--- what a run over its files writes and answers
-abbrev pub RunsFiles : OfRun Source → Option ℕ → Option (List ℕ) → Option (List ℕ) → Result ℕ PbxFault → Type 0
-RunsFiles sources threads old new result = ReadsTexts sources (λ texts. Runs threads old new (texts >>= run_of_texts) result)
+-- what a run over the files of paths writes and answers, and where its fault stands
+abbrev pub RunsFiles : OfRun (List ℕ) → OfRun Source → Option ℕ → Option (List ℕ) → Option (List ℕ) → Result ℕ Faulted → Type 0
+RunsFiles paths sources threads old new answered =
+    ReadsTexts sources (λ texts. Runs threads old new (texts >>= run_of_texts) (unplaced answered) × StandsIn (line_of_run paths texts) answered)
 
 -- the same of a debugged run
-abbrev pub DebugsFiles : OfRun Source → List ℕ → Option (List ℕ) → Option (List ℕ) → Result ℕ PbxFault → Type 0
-DebugsFiles sources held old new result = ReadsTexts sources (λ texts. WritesDebug old new (texts >>= debug_of_texts held) result)
+abbrev pub DebugsFiles : OfRun (List ℕ) → OfRun Source → List ℕ → Option (List ℕ) → Option (List ℕ) → Result ℕ Faulted → Type 0
+DebugsFiles paths sources held old new answered =
+    ReadsTexts sources (λ texts. WritesDebug old new (texts >>= debug_of_texts held) (unplaced answered) × StandsIn (line_of_run paths texts) answered)
 
--- what a request writes and answers, by the files of its paths and the input
-abbrev pub Serves : (List ℕ → Source) → Source → Asked → Option (List ℕ) → Option (List ℕ) → Result ℕ PbxFault → Type 0
-Serves files input joined old new result = RunsJoined input old new result
-Serves files input (check file) old new result = ReportsOn (files file) check_of old new result
-Serves files input (listing file) old new result = ReportsOn (files file) list_of old new result
-Serves files input (auditing file) old new result = AuditsFile (files file) old new result
-Serves files input (matching lookup all) old new result = ReportsOn (files lookup.file) (look_up lookup all) old new result
-Serves files input (explaining fault) old new result = Reports old new (Ok (entry_of fault)) result
-Serves files input (run paths threads) old new result = RunsFiles (sources_of files paths) threads old new result
-Serves files input (debug paths held) old new result = DebugsFiles (sources_of files paths) held old new result
+-- what a request writes and answers, by the files of its paths and the input, and by whether it explains what it prints
+abbrev pub Serves : (List ℕ → Source) → Source → Asked → Bool → Option (List ℕ) → Option (List ℕ) → Result ℕ Faulted → Type 0
+Serves files input joined explains old new answered = RunsJoined input old new answered
+Serves files input (check file) explains old new answered = ReportsOn file (files file) (check_by explains file) old new answered
+Serves files input (listing file) explains old new answered = ReportsOn file (files file) list_of old new answered
+Serves files input (auditing file) explains old new answered = AuditsFile file (files file) old new answered
+Serves files input (matching lookup all) explains old new answered = ReportsOn lookup.file (files lookup.file) (look_up lookup all) old new answered
+Serves files input (explaining fault) explains old new answered =
+    Reports old new (Ok (entry_of fault)) (unplaced answered) × StandsIn (λ _. None) answered
+Serves files input (run paths threads) explains old new answered = RunsFiles paths (sources_of files paths) threads old new answered
+Serves files input (debug paths held) explains old new answered = DebugsFiles paths (sources_of files paths) held old new answered
 
 -- whether a read of the input failed, by what was answered: only a request without a command reads it
 abbrev pub fails_on_input : Asked → Result ℕ PbxFault → Bool

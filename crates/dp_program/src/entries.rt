@@ -2,6 +2,7 @@
 ghost use Rattle.std.specs.Prelude.{◌≡◌, ◌==◌, map, option_map};
 ghost use Rattle.dp_program.specs.Entries as spec;
 
+use dp_commands::line_in;
 use std::marker::Model;
 
 /// Each fault that has a number, with its entry as it is printed: the number and the name, when the fault comes, and an example. `docs/check`
@@ -163,7 +164,7 @@ example: `exten => s,1,NoOp(`
         24,
         "\
 24 LeftOut
-what this program leaves out: one of the kinds below
+what this program leaves out: one of the kinds that `explain 24` lists
 example: `switch => Loopback/x`
 
 the keys `switch`, `lswitch`, `eswitch`
@@ -357,4 +358,12 @@ impl FaultNumber {
     {
         found_entry(self.number).unwrap()
     }
+}
+
+/// The manual's sentence on the fault of the number.
+pub(crate) fn sentence_of(number: u32) -> &'static [u8]
+    ensures { result.now ≡ spec.sentence_of number }
+{
+    let entry = found_entry(number).unwrap_or("");
+    line_in(entry.as_bytes(), 2)
 }

@@ -1,11 +1,16 @@
 //! What is printed of a fault, and the status behind it.
-ghost use Rattle.std.specs.Prelude.{◌≡◌, ◌||◌, ◌++◌, OnOk, decimal, codes, false};
+ghost use Rattle.std.specs.Prelude.{◌≡◌, ◌||◌, ◌++◌, OnOk, decimal, codes, false, true};
+ghost use Rattle.std.specs.Option.{option_copied};
 ghost use Rattle.std.specs.Result.{is_err};
 ghost use Rattle.std.specs.Io.KnownBytes.{Appends};
-ghost use Rattle.dp_commands.specs.Codes.{code_text, fault_line};
-ghost use Rattle.dp_program.specs.Status.{status_after, Prints};
+ghost use Rattle.dp_commands.specs.Codes.{code_number, code_text, fault_line};
+ghost use Rattle.dp_commands.specs.Explained.{line_text, sentence_text, shown_text, where_text};
+ghost use Rattle.dp_program.specs.Entries.{sentence_of};
+ghost use Rattle.dp_program.specs.Status as spec;
 
-use dp_commands::{Code, PbxFault};
+use crate::entries::sentence_of;
+use crate::faulted::Faulted;
+use dp_commands::{Code, FileLine, PbxFault};
 use dp_conf::{WriteFailed, WriteTold};
 use itoa::{Buffer, Integer};
 
@@ -60,15 +65,98 @@ pub fn print_fault<E: WriteTold>(errors: &mut E, fault: PbxFault) -> Result<(), 
     }
 }
 
-/// The status of what was answered, where a fault is printed.
-pub fn finish<E: WriteTold>(errors: &mut E, answered: Result<u8, PbxFault>) -> u8
-    ensures status { result ≡ status_after answered }
-    ensures prints { E.has_failed errors.new ≡ false → Prints (E.contents errors.old) (E.contents errors.new) answered }
+/// Prints where a line stands.
+fn print_where<E: WriteTold>(errors: &mut E, line: &FileLine<'_>) -> Result<(), WriteFailed>
+    ensures ok { OnOk result (Appends (E.contents errors.old) (E.contents errors.new) (where_text line.now)) }
+    ensures told { E.has_failed errors.new ≡ (E.has_failed errors.old || is_err result) }
+{
+    errors.write_told(b"  ")?;
+    errors.write_told(line.path().as_bytes())?;
+    errors.write_told(b":")?;
+    print_number(errors, line.number())?;
+    errors.write_told(b"\n")
+}
+
+/// Prints the line itself.
+fn print_shown<E: WriteTold>(errors: &mut E, line: &FileLine<'_>) -> Result<(), WriteFailed>
+    ensures ok { OnOk result (Appends (E.contents errors.old) (E.contents errors.new) (shown_text line.now)) }
+    ensures told { E.has_failed errors.new ≡ (E.has_failed errors.old || is_err result) }
+{
+    errors.write_told(b"  ")?;
+    errors.write_told(line.shown())?;
+    errors.write_told(b"\n")
+}
+
+/// Prints where a line stands, and the line itself.
+fn print_line<E: WriteTold>(errors: &mut E, line: &FileLine<'_>) -> Result<(), WriteFailed>
+    ensures ok { OnOk result (Appends (E.contents errors.old) (E.contents errors.new) (line_text line.now)) }
+    ensures told { E.has_failed errors.new ≡ (E.has_failed errors.old || is_err result) }
+{
+    print_where(errors, line)?;
+    print_shown(errors, line)
+}
+
+/// Prints the line where a fault stands, if it stands in one.
+fn print_place<E: WriteTold>(errors: &mut E, line: Option<&FileLine<'_>>) -> Result<(), WriteFailed>
+    ensures ok { OnOk result (Appends (E.contents errors.old) (E.contents errors.new) (spec.place_text (option_copied line.entry))) }
+    ensures told { E.has_failed errors.new ≡ (E.has_failed errors.old || is_err result) }
+{
+    match line {
+        Some(line) => print_line(errors, line),
+        None => Ok(()),
+    }
+}
+
+/// Prints the manual's sentence on a fault.
+fn print_sentence<E: WriteTold>(errors: &mut E, code: Code) -> Result<(), WriteFailed>
+    ensures ok { OnOk result (Appends (E.contents errors.old) (E.contents errors.new) (sentence_text (sentence_of (code_number code)))) }
+    ensures told { E.has_failed errors.new ≡ (E.has_failed errors.old || is_err result) }
+{
+    errors.write_told(b"  ")?;
+    errors.write_told(sentence_of(u32::from(code.number())))?;
+    errors.write_told(b"\n")
+}
+
+/// Prints the explanation of a fault.
+fn print_explanation<E: WriteTold>(errors: &mut E, faulted: &Faulted<'_>) -> Result<(), WriteFailed>
+    ensures ok { OnOk result (Appends (E.contents errors.old) (E.contents errors.new)
+        (spec.explanation faulted.now.fault faulted.now.line)) }
+    ensures told { E.has_failed errors.new ≡ (E.has_failed errors.old || is_err result) }
+{
+    match faulted.fault {
+        PbxFault::Coded { code, line: _ } => {
+            print_place(errors, faulted.line.as_ref())?;
+            print_sentence(errors, code)
+        }
+        PbxFault::NoMemory => Ok(()),
+    }
+}
+
+/// Prints a fault, and below it its explanation where that is asked for. No memory is asked for.
+fn print_faulted<E: WriteTold>(
+    errors: &mut E,
+    explains: bool,
+    faulted: &Faulted<'_>,
+) -> Result<(), WriteFailed>
+    ensures ok { OnOk result (Appends (E.contents errors.old) (E.contents errors.new) (spec.fault_text explains faulted.now)) }
+    ensures told { E.has_failed errors.new ≡ (E.has_failed errors.old || is_err result) }
+{
+    if !explains {
+        return print_fault(errors, faulted.fault);
+    }
+    print_fault(errors, faulted.fault)?;
+    print_explanation(errors, faulted)
+}
+
+/// The status of what was answered, where a fault is printed, with its explanation where that is asked for. No memory is asked for.
+pub fn finish<E: WriteTold>(errors: &mut E, explains: bool, answered: Result<u8, Faulted<'_>>) -> u8
+    ensures status { result ≡ spec.status_after answered.entry }
+    ensures prints { E.has_failed errors.new ≡ false → spec.Prints (E.contents errors.old) (E.contents errors.new) explains answered.entry }
 {
     match answered {
         Ok(status) => status,
-        Err(fault) => {
-            let _ = print_fault(errors, fault);
+        Err(faulted) => {
+            let _ = print_faulted(errors, explains, &faulted);
             1
         }
     }

@@ -3,6 +3,7 @@
 
 mod entries;
 mod fault;
+mod faulted;
 mod files;
 mod program;
 mod reports;
@@ -10,9 +11,10 @@ mod request;
 mod runs;
 mod texts;
 
-pub use dp_commands::{Code, PbxFault};
+pub use dp_commands::{Code, FileLine, PbxFault};
 pub use entries::FaultNumber;
 pub use fault::{finish, print_fault};
+pub use faulted::Faulted;
 pub use files::ReadFiles;
 pub use program::serve;
 pub use request::{Lookup, Request, RunFiles};

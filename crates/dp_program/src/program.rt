@@ -1,42 +1,45 @@
 //! What a request does with the files and the input.
 ghost use Rattle.std.specs.Prelude.{◌≡◌, ◌≢◌, ◌||◌};
 ghost use Rattle.dp_commands.specs.Faults.{is_write_failed};
+ghost use Rattle.dp_program.specs.Faulted.{unplaced};
 ghost use Rattle.dp_program.specs.Files.{source};
 ghost use Rattle.dp_program.specs.Requests.{asked, joined};
 ghost use Rattle.dp_program.specs.Serves as spec;
 
+use crate::faulted::Faulted;
 use crate::files::ReadFiles;
 use crate::reports::{
     serve_audit, serve_check, serve_explain, serve_list, serve_match, serve_match_all,
 };
 use crate::request::Request;
 use crate::runs::{serve_debug, serve_joined, serve_run};
-use dp_commands::PbxFault;
 use dp_conf::{ReadTold, WriteTold};
 use std::alloc::Global;
 use std::sync::Wait;
 use std::thread::Threads;
 
-/// Does what was asked for, and gives the status: the files are read first, and then their texts.
+/// Does what was asked for, and gives the status: the files are read first, and then their texts. A fault is answered with the line of
+/// the file where it stands. With `explains` the notes of `check` have their explanations below them.
 ///
 /// `rt` is for the threads of a run that asks for them.
-pub fn serve<F: ReadFiles, I: ReadTold, W: WriteTold, R: Threads + Wait + Sync>(
+pub fn serve<'a, F: ReadFiles, I: ReadTold, W: WriteTold, R: Threads + Wait + Sync>(
     rt: &R,
     files: &F,
     alloc: Global,
-    request: &Request<'_>,
+    request: &Request<'a>,
+    explains: bool,
     input: &mut I,
     output: &mut W,
-) -> Result<u8, PbxFault>
-    ensures serves { spec.Serves (F.source_at files.now) (source (I.remaining input.old) (I.has_failed input.new)) (asked request.now)
+) -> Result<u8, Faulted<'a>>
+    ensures serves { spec.Serves (F.source_at files.now) (source (I.remaining input.old) (I.has_failed input.new)) (asked request.now) explains
         (W.contents output.old) (W.contents output.new) result }
-    ensures told { W.has_failed output.new ≡ (W.has_failed output.old || is_write_failed result) }
-    ensures heard { I.has_failed input.new ≡ (I.has_failed input.old || spec.fails_on_input (asked request.now) result) }
+    ensures told { W.has_failed output.new ≡ (W.has_failed output.old || is_write_failed (unplaced result)) }
+    ensures heard { I.has_failed input.new ≡ (I.has_failed input.old || spec.fails_on_input (asked request.now) (unplaced result)) }
     ensures unread { asked request.now ≢ joined → input.new ≡ input.old }
 {
     match request {
         Request::Joined => serve_joined(alloc, input, output),
-        Request::Check { file } => serve_check(files, alloc, file, output),
+        Request::Check { file } => serve_check(files, alloc, file, explains, output),
         Request::Listing { file } => serve_list(files, alloc, file, output),
         Request::Audit { file } => serve_audit(files, alloc, file, output),
         Request::Match { lookup, all: false } => serve_match(files, alloc, lookup, output),

@@ -1,97 +1,130 @@
 //! What the requests do that report on a dialplan, or on a fault.
-ghost use Rattle.std.specs.Prelude.{◌≡◌, ◌||◌, false, true};
+ghost use Rattle.std.specs.Prelude.{◌≡◌, ◌||◌, None, false, true};
 ghost use Rattle.dp_commands.specs.Faults.{is_write_failed};
-ghost use Rattle.dp_commands.specs.Report.{Reports, check_of, list_of};
+ghost use Rattle.dp_commands.specs.Report.{Reports, list_of};
 ghost use Rattle.dp_program.specs.Entries.{entry_of};
+ghost use Rattle.dp_program.specs.Faulted.{StandsIn, unplaced};
 ghost use Rattle.dp_program.specs.Requests.{lookup_of};
 ghost use Rattle.dp_program.specs.Serves as spec;
 
 use crate::entries::FaultNumber;
+use crate::faulted::{Faulted, placed, placed_nowhere};
 use crate::files::ReadFiles;
 use crate::request::Lookup;
-use dp_commands::{PbxFault, audit, check, list_plan, match_all, match_one};
+use dp_commands::{PbxFault, audit, check, check_explained, list_plan, match_all, match_one};
 use dp_conf::WriteTold;
 use std::alloc::Global;
 
-/// Reports on the dialplan of a file.
-pub(crate) fn serve_check<F: ReadFiles, W: WriteTold>(
-    files: &F,
+/// Reports on a dialplan by the path of its file and its text, and explains its notes where that is asked for.
+fn check_by<W: WriteTold>(
     alloc: Global,
-    file: &str,
+    path: &str,
+    plan: &[u8],
+    explains: bool,
     output: &mut W,
 ) -> Result<u8, PbxFault>
-    ensures serves { spec.ReportsOn (F.source_at files.now file.now) check_of (W.contents output.old) (W.contents output.new) result }
+    ensures reports { Reports (W.contents output.old) (W.contents output.new) (spec.check_by explains path.now plan.now) result }
     ensures told { W.has_failed output.new ≡ (W.has_failed output.old || is_write_failed result) }
 {
+    if explains {
+        check_explained(alloc, path, plan, output)
+    } else {
+        check(alloc, plan, output)
+    }
+}
+
+/// Reports on the dialplan of a file.
+pub(crate) fn serve_check<'a, F: ReadFiles, W: WriteTold>(
+    files: &F,
+    alloc: Global,
+    file: &'a str,
+    explains: bool,
+    output: &mut W,
+) -> Result<u8, Faulted<'a>>
+    ensures serves { spec.ReportsOn file.now (F.source_at files.now file.now) (spec.check_by explains file.now)
+        (W.contents output.old) (W.contents output.new) result }
+    ensures told { W.has_failed output.new ≡ (W.has_failed output.old || is_write_failed (unplaced result)) }
+{
     let plan = files.read_file(alloc, file)?;
-    check(alloc, &plan, output)
+    placed(file, &plan, check_by(alloc, file, &plan, explains, output))
 }
 
 /// Audits the dialplan of a file.
-pub(crate) fn serve_audit<F: ReadFiles, W: WriteTold>(
+pub(crate) fn serve_audit<'a, F: ReadFiles, W: WriteTold>(
     files: &F,
     alloc: Global,
-    file: &str,
+    file: &'a str,
     output: &mut W,
-) -> Result<u8, PbxFault>
-    ensures serves { spec.AuditsFile (F.source_at files.now file.now) (W.contents output.old) (W.contents output.new) result }
-    ensures told { W.has_failed output.new ≡ (W.has_failed output.old || is_write_failed result) }
+) -> Result<u8, Faulted<'a>>
+    ensures serves { spec.AuditsFile file.now (F.source_at files.now file.now) (W.contents output.old) (W.contents output.new) result }
+    ensures told { W.has_failed output.new ≡ (W.has_failed output.old || is_write_failed (unplaced result)) }
 {
     let plan = files.read_file(alloc, file)?;
-    audit(alloc, &plan, output)
+    placed(file, &plan, audit(alloc, &plan, output))
 }
 
 /// Lists the dialplan of a file.
-pub(crate) fn serve_list<F: ReadFiles, W: WriteTold>(
+pub(crate) fn serve_list<'a, F: ReadFiles, W: WriteTold>(
     files: &F,
     alloc: Global,
-    file: &str,
+    file: &'a str,
     output: &mut W,
-) -> Result<u8, PbxFault>
-    ensures serves { spec.ReportsOn (F.source_at files.now file.now) list_of (W.contents output.old) (W.contents output.new) result }
-    ensures told { W.has_failed output.new ≡ (W.has_failed output.old || is_write_failed result) }
+) -> Result<u8, Faulted<'a>>
+    ensures serves { spec.ReportsOn file.now (F.source_at files.now file.now) list_of (W.contents output.old) (W.contents output.new) result }
+    ensures told { W.has_failed output.new ≡ (W.has_failed output.old || is_write_failed (unplaced result)) }
 {
     let plan = files.read_file(alloc, file)?;
-    list_plan(alloc, &plan, output)
+    placed(file, &plan, list_plan(alloc, &plan, output))
+}
+
+/// Reports which entry of a dialplan answers.
+fn find_one<W: WriteTold>(
+    alloc: Global,
+    plan: &[u8],
+    lookup: &Lookup<'_>,
+    output: &mut W,
+) -> Result<u8, PbxFault>
+    ensures reports { Reports (W.contents output.old) (W.contents output.new) (spec.look_up (lookup_of lookup.now) false plan.now) result }
+    ensures told { W.has_failed output.new ≡ (W.has_failed output.old || is_write_failed result) }
+{
+    match_one(
+        alloc,
+        plan,
+        lookup.context.as_bytes(),
+        lookup.text.as_bytes(),
+        lookup.priority,
+        output,
+    )
 }
 
 /// Reports which entry of the dialplan of a file answers.
-pub(crate) fn serve_match<F: ReadFiles, W: WriteTold>(
+pub(crate) fn serve_match<'a, F: ReadFiles, W: WriteTold>(
     files: &F,
     alloc: Global,
-    lookup: &Lookup<'_>,
+    lookup: &Lookup<'a>,
     output: &mut W,
-) -> Result<u8, PbxFault>
-    ensures serves { spec.ReportsOn (F.source_at files.now lookup.now.file.now) (spec.look_up (lookup_of lookup.now) false)
+) -> Result<u8, Faulted<'a>>
+    ensures serves { spec.ReportsOn lookup.now.file.now (F.source_at files.now lookup.now.file.now) (spec.look_up (lookup_of lookup.now) false)
         (W.contents output.old) (W.contents output.new) result }
-    ensures told { W.has_failed output.new ≡ (W.has_failed output.old || is_write_failed result) }
+    ensures told { W.has_failed output.new ≡ (W.has_failed output.old || is_write_failed (unplaced result)) }
 {
     let plan = files.read_file(alloc, lookup.file)?;
-    match_one(
-        alloc,
-        &plan,
-        lookup.context.as_bytes(),
-        lookup.text.as_bytes(),
-        lookup.priority,
-        output,
-    )
+    placed(lookup.file, &plan, find_one(alloc, &plan, lookup, output))
 }
 
 /// Reports the same, and what becomes of each extension of the dialplan that matches.
-pub(crate) fn serve_match_all<F: ReadFiles, W: WriteTold>(
-    files: &F,
+fn find_all<W: WriteTold>(
     alloc: Global,
+    plan: &[u8],
     lookup: &Lookup<'_>,
     output: &mut W,
 ) -> Result<u8, PbxFault>
-    ensures serves { spec.ReportsOn (F.source_at files.now lookup.now.file.now) (spec.look_up (lookup_of lookup.now) true)
-        (W.contents output.old) (W.contents output.new) result }
+    ensures reports { Reports (W.contents output.old) (W.contents output.new) (spec.look_up (lookup_of lookup.now) true plan.now) result }
     ensures told { W.has_failed output.new ≡ (W.has_failed output.old || is_write_failed result) }
 {
-    let plan = files.read_file(alloc, lookup.file)?;
     match_all(
         alloc,
-        &plan,
+        plan,
         lookup.context.as_bytes(),
         lookup.text.as_bytes(),
         lookup.priority,
@@ -99,14 +132,38 @@ pub(crate) fn serve_match_all<F: ReadFiles, W: WriteTold>(
     )
 }
 
-/// Writes the manual's entry of a fault.
-pub(crate) fn serve_explain<W: WriteTold>(
-    fault: FaultNumber,
+/// Reports on the dialplan of a file which entry answers, and what becomes of each extension that matches.
+pub(crate) fn serve_match_all<'a, F: ReadFiles, W: WriteTold>(
+    files: &F,
+    alloc: Global,
+    lookup: &Lookup<'a>,
     output: &mut W,
-) -> Result<u8, PbxFault>
-    ensures serves { Reports (W.contents output.old) (W.contents output.new) (Ok (entry_of fault)) result }
+) -> Result<u8, Faulted<'a>>
+    ensures serves { spec.ReportsOn lookup.now.file.now (F.source_at files.now lookup.now.file.now) (spec.look_up (lookup_of lookup.now) true)
+        (W.contents output.old) (W.contents output.new) result }
+    ensures told { W.has_failed output.new ≡ (W.has_failed output.old || is_write_failed (unplaced result)) }
+{
+    let plan = files.read_file(alloc, lookup.file)?;
+    placed(lookup.file, &plan, find_all(alloc, &plan, lookup, output))
+}
+
+/// Writes the manual's entry of a fault.
+fn write_entry<W: WriteTold>(fault: FaultNumber, output: &mut W) -> Result<u8, PbxFault>
+    ensures reports { Reports (W.contents output.old) (W.contents output.new) (Ok (entry_of fault)) result }
     ensures told { W.has_failed output.new ≡ (W.has_failed output.old || is_write_failed result) }
 {
     output.write_told(fault.entry().as_bytes())?;
     Ok(0)
+}
+
+/// Answers with the manual's entry of a fault.
+pub(crate) fn serve_explain<'a, W: WriteTold>(
+    fault: FaultNumber,
+    output: &mut W,
+) -> Result<u8, Faulted<'a>>
+    ensures serves { Reports (W.contents output.old) (W.contents output.new) (Ok (entry_of fault)) (unplaced result) }
+    ensures stands { StandsIn (λ _. None) result }
+    ensures told { W.has_failed output.new ≡ (W.has_failed output.old || is_write_failed (unplaced result)) }
+{
+    placed_nowhere(write_entry(fault, output))
 }

@@ -4,10 +4,12 @@ ghost use Rattle.std.specs.Option.{option_map};
 ghost use Rattle.dp_commands.specs.Debug.{WritesDebug};
 ghost use Rattle.dp_commands.specs.Faults.{is_write_failed};
 ghost use Rattle.dp_commands.specs.Run.{Writes, run_of};
+ghost use Rattle.dp_program.specs.Faulted.{unplaced};
 ghost use Rattle.dp_program.specs.Files.{has_read_failed, source};
 ghost use Rattle.dp_program.specs.Serves as spec;
 ghost use Rattle.dp_program.specs.Texts.{paths_of, sources_of, texts_of};
 
+use crate::faulted::{Faulted, placed_in_run, placed_nowhere};
 use crate::files::{ReadFiles, read_source};
 use crate::request::RunFiles;
 use crate::texts::{Texts, read_texts};
@@ -29,17 +31,30 @@ impl Gate for OpenGate {
 }
 
 /// Runs the joined text of the input.
-pub(crate) fn serve_joined<I: ReadTold, W: WriteTold>(
+fn run_input<I: ReadTold, W: WriteTold>(
     alloc: Global,
     input: &mut I,
     output: &mut W,
 ) -> Result<u8, PbxFault>
-    ensures serves { spec.RunsJoined (source (I.remaining input.old) (I.has_failed input.new)) (W.contents output.old) (W.contents output.new) result }
+    ensures runs { spec.RunsInput (source (I.remaining input.old) (I.has_failed input.new)) (W.contents output.old) (W.contents output.new) result }
     ensures told { W.has_failed output.new ≡ (W.has_failed output.old || is_write_failed result) }
     ensures heard { I.has_failed input.new ≡ (I.has_failed input.old || has_read_failed result) }
 {
     let text = read_source(alloc, input)?;
     run_joined(alloc, &text, output)
+}
+
+/// Runs the joined text of the input. A fault of it stands in no line of a file.
+pub(crate) fn serve_joined<'a, I: ReadTold, W: WriteTold>(
+    alloc: Global,
+    input: &mut I,
+    output: &mut W,
+) -> Result<u8, Faulted<'a>>
+    ensures serves { spec.RunsJoined (source (I.remaining input.old) (I.has_failed input.new)) (W.contents output.old) (W.contents output.new) result }
+    ensures told { W.has_failed output.new ≡ (W.has_failed output.old || is_write_failed (unplaced result)) }
+    ensures heard { I.has_failed input.new ≡ (I.has_failed input.old || has_read_failed (unplaced result)) }
+{
+    placed_nowhere(run_input(alloc, input, output))
 }
 
 /// The status of a run whose history is let go.
@@ -122,19 +137,20 @@ fn run_texts<W: WriteTold, R: Threads + Wait + Sync>(
 
 /// Runs the script of a file on the dialplan of another, with the queues and beside the second dialplan of more files where they are
 /// named, in threads where their number is given.
-pub(crate) fn serve_run<F: ReadFiles, W: WriteTold, R: Threads + Wait + Sync>(
+pub(crate) fn serve_run<'a, F: ReadFiles, W: WriteTold, R: Threads + Wait + Sync>(
     rt: &R,
     files: &F,
     alloc: Global,
-    run: &RunFiles<'_>,
+    run: &RunFiles<'a>,
     threads: Option<u32>,
     output: &mut W,
-) -> Result<u8, PbxFault>
-    ensures serves { spec.RunsFiles (sources_of (F.source_at files.now) (paths_of run.now)) threads (W.contents output.old) (W.contents output.new) result }
-    ensures told { W.has_failed output.new ≡ (W.has_failed output.old || is_write_failed result) }
+) -> Result<u8, Faulted<'a>>
+    ensures serves { spec.RunsFiles (paths_of run.now) (sources_of (F.source_at files.now) (paths_of run.now)) threads (W.contents output.old) (W.contents output.new) result }
+    ensures told { W.has_failed output.new ≡ (W.has_failed output.old || is_write_failed (unplaced result)) }
 {
     let texts = read_texts(files, alloc, run)?;
-    run_texts(rt, alloc, &texts, threads, output)
+    let answered = run_texts(rt, alloc, &texts, threads, output);
+    placed_in_run(run, &texts, answered)
 }
 
 /// Debugs the script of a run on its dialplan, with the break of a text.
@@ -160,16 +176,17 @@ fn debug_texts<W: WriteTold>(
 
 /// Debugs the script of a file on the dialplan of another, with the queues and beside the second dialplan of more files where they
 /// are named, and with the break of a text.
-pub(crate) fn serve_debug<F: ReadFiles, W: WriteTold>(
+pub(crate) fn serve_debug<'a, F: ReadFiles, W: WriteTold>(
     files: &F,
     alloc: Global,
-    run: &RunFiles<'_>,
+    run: &RunFiles<'a>,
     held: &str,
     output: &mut W,
-) -> Result<u8, PbxFault>
-    ensures serves { spec.DebugsFiles (sources_of (F.source_at files.now) (paths_of run.now)) held.now (W.contents output.old) (W.contents output.new) result }
-    ensures told { W.has_failed output.new ≡ (W.has_failed output.old || is_write_failed result) }
+) -> Result<u8, Faulted<'a>>
+    ensures serves { spec.DebugsFiles (paths_of run.now) (sources_of (F.source_at files.now) (paths_of run.now)) held.now (W.contents output.old) (W.contents output.new) result }
+    ensures told { W.has_failed output.new ≡ (W.has_failed output.old || is_write_failed (unplaced result)) }
 {
     let texts = read_texts(files, alloc, run)?;
-    debug_texts(alloc, &texts, held, output)
+    let answered = debug_texts(alloc, &texts, held, output);
+    placed_in_run(run, &texts, answered)
 }

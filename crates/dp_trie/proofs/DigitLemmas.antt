@@ -1,12 +1,12 @@
 -- The digits of a text that has no dash are its bytes.
-use Rattle.std.proofs.Common.{◌≡◌, ℕ, zero, suc, ◌+◌, ◌-◌, ◌<◌, ◌≤◌, Bool, true, false, cond, not, List, [], ◌∷◌, length, take, Option, Some, None, Bor, arith, refl, sym, ap, ◌∙◌, add-one, inl, inr, set}
-use Rattle.std.specs.Prelude.{slice_get, option_copied}
-use Rattle.std.specs.Slice.{IsItemAt}
-use Rattle.std.proofs.lemmas.Bool.{cases_order}
-use Rattle.std.proofs.lemmas.List.{length-set}
-use Rattle.std.proofs.lemmas.Option.{slice_get_read, slice_get_past, slice_get_within, same_Some}
+use Rattle.std.proofs.Common.{◌≡◌, ℕ, zero, suc, ◌+◌, ◌-◌, ◌<◌, ◌≤◌, Bool, true, false, cond, not, eqb, ◌||◌, List, [], ◌∷◌, length, take, Option, Some, None, arith, refl, sym, ap, ◌∙◌, add-one, inl, inr, set}
+use Rattle.std.specs.Prelude.{slice_get, nat_lt, is_some}
+use Rattle.std.specs.List.{list_any}
+use Rattle.std.proofs.lemmas.Bool.{cases_order, ltb-true, ltb-false, lt-ltb, le-ltb}
+use Rattle.std.proofs.lemmas.List.{length-set, length-take}
+use Rattle.std.proofs.lemmas.Option.{slice_get_past, slice_get_within, slice_get_cases, same_Some}
 use Rattle.dp_pattern.specs.Dashes.{is_dash, undashed}
-use Rattle.dp_trie.specs.Digits.{Stands, AreNear}
+use Rattle.dp_trie.specs.Digits.{Stands, IsClear, AreNear}
 use Rattle.dp_trie.specs.declared.digits.Cursor.{Cursor}
 
 pub length-undashed : (text : List ℕ) → length (undashed text) ≤ length text
@@ -25,11 +25,6 @@ undashed_whole (b ∷ text) e = by (not (is_dash b)) (length-undashed text) (und
     by : (t : Bool) → length (undashed text) ≤ length text → (length (undashed text) ≡ length text → undashed text ≡ text) → length (cond t (b ∷ undashed text) (undashed text)) ≡ suc (length text) → cond t (b ∷ undashed text) (undashed text) ≡ b ∷ text
     by true few rest e = ap (λ l. b ∷ l) (rest (omega (arith, e)))
     by false few rest e = absurd (omega (arith, few, e))
-
--- what a look-up by place lends, as a value
-pub item-copied : (xs : List ℕ) (i : ℕ) (r : Option (Bor ℕ)) → IsItemAt xs i r → option_copied r ≡ slice_get xs i
-item-copied xs i None item = sym (slice_get_past xs i item.3)
-item-copied xs i (Some x) item = sym (slice_get_read xs _ i x.now refl item.3.0 (item.3.1 x.now))
 
 -- ---- a place in a text
 
@@ -83,6 +78,47 @@ pub digits-ended : (text : List ℕ) (p number : ℕ) → length text ≤ p → 
 digits-ended text p number few most =
     let all : digits_before p text ≡ length (undashed text) = ap (λ l. length (undashed l)) (take_end text p few) in
     slice_get_past (undashed text) number (omega (arith, all, most))
+
+-- ---- the bytes that are known to be no dashes
+
+-- a text with no dash is its digits
+pub undashed-none : (text : List ℕ) → list_any (λ b. eqb b 45) text ≡ false → undashed text ≡ text
+undashed-none [] e = refl
+undashed-none (b ∷ text) e = by (eqb b 45) (undashed-none text) e
+  where
+    by : (t : Bool) → (list_any (λ b. eqb b 45) text ≡ false → undashed text ≡ text) → (t || list_any (λ b. eqb b 45) text) ≡ false → cond (not t) (b ∷ undashed text) (undashed text) ≡ b ∷ text
+    by true later e = absurd cc
+    by false later e = ap (λ rest. b ∷ rest) (later e)
+
+pub is-clear : (text : List ℕ) (count : ℕ) → count ≤ length text → list_any (λ b. eqb b 45) (take count text) ≡ false → IsClear text count
+is-clear text count few none = record {
+  within = few;
+  before = (let size = length-take count text in let same = ap length (undashed-none (take count text) none) in omega (arith, few, size, same));
+}
+
+before-few : (text : List ℕ) (count : ℕ) → digits_before count text ≤ count
+before-few text count = let fewer = length-undashed (take count text) in let size = length-take count text in omega (arith, fewer, size)
+
+clear-place : (text : List ℕ) (count k : ℕ) → count ≤ length text → count ≡ digits_before count text → k < count → slice_get (undashed text) k ≡ slice_get text k
+clear-place text zero k within before few = absurd (omega (arith, few))
+clear-place [] (suc count) k within before few = absurd (omega (arith, within))
+clear-place (x ∷ text) (suc count) k within before few = by (not (is_dash x)) k before few (clear-place text count)
+  where
+    by : (t : Bool) (k : ℕ) → suc count ≡ length (cond t (x ∷ undashed (take count text)) (undashed (take count text))) → k < suc count → ((k : ℕ) → count ≤ length text → count ≡ digits_before count text → k < count → slice_get (undashed text) k ≡ slice_get text k) → slice_get (cond t (x ∷ undashed text) (undashed text)) k ≡ slice_get (x ∷ text) k
+    by true zero before few rest = refl
+    by true (suc k) before few rest = rest k (omega (arith, within)) (omega (arith, before)) (omega (arith, few))
+    by false k before few rest = let fewer = before-few text count in absurd (omega (arith, before, fewer))
+
+-- they are the first digits
+pub clear-digit : (text : List ℕ) (count k : ℕ) → IsClear text count → k < count → slice_get (undashed text) k ≡ slice_get text k
+clear-digit text count k clear few = clear-place text count k clear.within clear.before few
+
+-- where they are all bytes, the digits are the text
+pub clear-whole : (text : List ℕ) (count : ℕ) → IsClear text count → count ≡ length text → undashed text ≡ text
+clear-whole text count clear all =
+    let before = clear.before in
+    let whole : digits_before count text ≡ length (undashed text) = ap (λ l. length (undashed l)) (take_end text count (omega (arith, all))) in
+    undashed_whole text (omega (arith, before, whole, all))
 
 -- a cursor a byte further
 pub stands-digit : (text : List ℕ) (p n b : ℕ) → slice_get text p ≡ Some b → is_dash b ≡ false → Stands text (record { place = p; number = n }) → Stands text (record { place = p + 1; number = n + 1 })
@@ -164,12 +200,46 @@ kept-dash text near p n b here is are = record {
   kept = are.kept;
 }
 
-pub near-full : (text near : List ℕ) (p n : ℕ) → n ≡ 32 → AreKept text near p n → AreNear text near
-near-full text near p n full are k d less there = are.kept k d (omega (arith, full, less)) there
+-- before a place there are no more digits than in the whole
+before-most : (text : List ℕ) (p : ℕ) → digits_before p text ≤ length (undashed text)
+before-most text zero = omega arith
+before-most [] (suc p) = omega arith
+before-most (x ∷ text) (suc p) = by (not (is_dash x)) (before-most text p)
+  where
+    by : (t : Bool) → digits_before p text ≤ length (undashed text) → length (cond t (x ∷ undashed (take p text)) (undashed (take p text))) ≤ length (cond t (x ∷ undashed text) (undashed text))
+    by true rest = omega (arith, rest)
+    by false rest = rest
 
-pub near-ended : (text near : List ℕ) (p n : ℕ) → length text ≤ p → AreKept text near p n → AreNear text near
-near-ended text near p n ended are k d less there =
+pub near-full : (text near : List ℕ) (p n : ℕ) → n ≡ 32 → AreKept text near p n → AreNear text (record { bytes = near; count = n })
+near-full text near p n full are = record {
+  few = (let most = before-most text p in let before = are.before in omega (arith, most, before));
+  all = λ less. absurd (omega (arith, full, less));
+  kept = λ k d less there. are.kept k d (omega (arith, full, less)) there;
+}
+
+pub near-ended : (text near : List ℕ) (p n : ℕ) → length text ≤ p → AreKept text near p n → AreNear text (record { bytes = near; count = n })
+near-ended text near p n ended are =
     let all : digits_before p text ≡ length (undashed text) = ap (λ l. length (undashed l)) (take_end text p ended) in
-    let inside = slice_get_within (undashed text) k d there in
     let before = are.before in
-    are.kept k d (omega (arith, all, inside, before)) there
+    record {
+      few = omega (arith, all, before);
+      all = λ less. omega (arith, all, before);
+      kept = λ k d less there. (let inside = slice_get_within (undashed text) k d there in are.kept k d (omega (arith, all, inside, before)) there);
+    }
+
+-- ---- whether there is a digit
+
+pub is-there : (digits : List ℕ) (number : ℕ) (o : Option ℕ) → o ≡ slice_get digits number → is_some o ≡ nat_lt number (length digits)
+is-there digits number None is = elim (slice_get_cases digits number).1 [
+  | inl found ↦ (let wrong : None ≡ Some found.0 = is ∙ found.2 in absurd cc)
+  | inr past ↦ sym (le-ltb number (length digits) past.0)
+]
+is-there digits number (Some d) is = sym (lt-ltb number (length digits) (slice_get_within digits number d (sym is)))
+
+-- the digits are fewer where the one before a number is not there
+pub fewer-none : (digits : List ℕ) (number : ℕ) → 0 < number → not (nat_lt (number - 1) (length digits)) ≡ nat_lt (length digits) number
+fewer-none digits number some = by (nat_lt (number - 1) (length digits)) refl
+  where
+    by : (b : Bool) → nat_lt (number - 1) (length digits) ≡ b → not b ≡ nat_lt (length digits) number
+    by true is = (let less = ltb-true (number - 1) (length digits) is in sym (le-ltb (length digits) number (omega (arith, some, less))))
+    by false is = (let more = ltb-false (number - 1) (length digits) is in sym (lt-ltb (length digits) number (omega (arith, some, more))))

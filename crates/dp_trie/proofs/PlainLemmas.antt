@@ -1,12 +1,12 @@
 -- What is found among plain names, which stand in order.
-use Rattle.std.proofs.Common.{◌≡◌, ℕ, zero, suc, ◌+◌, ◌-◌, ◌<◌, ◌≤◌, Bool, true, false, cond, ◌==◌, ◌||◌, List, [], ◌∷◌, ◌++◌, length, map, take, drop, Option, Some, None, MatchOption, inl, inr, arith, refl, sym, ap, subst, ◌∙◌, Ordering, Less, Equal, Greater, nat_cmp, is_eq}
-use Rattle.std.specs.Prelude.{slice_get, slice_range, is_some, find, nat_lt}
-use Rattle.std.specs.List.{AllByRecursion}
+use Rattle.std.proofs.Common.{◌≡◌, ℕ, zero, suc, ◌+◌, ◌-◌, ◌<◌, ◌≤◌, Bool, true, false, cond, ◌==◌, ◌&&◌, ◌||◌, List, [], ◌∷◌, ◌++◌, length, map, take, drop, Option, Some, None, MatchOption, inl, inr, arith, refl, sym, ap, subst, ◌∙◌, Ordering, Less, Equal, Greater, nat_cmp, is_eq}
+use Rattle.std.specs.Prelude.{slice_get, slice_range, is_some, find, nat_eq, nat_lt}
+use Rattle.std.specs.List.{AllByRecursion, starts_with}
 use Rattle.std.specs.List.Sorted.{IsPartitionedBy}
 use Rattle.std.specs.Option.{option_map, option_or}
-use Rattle.std.specs.Ordering.{ordering_then}
+use Rattle.std.specs.Ordering.{is_lt, ordering_then}
 use Rattle.std.specs.Cmp.Lexicographic.{slice_cmp}
-use Rattle.std.proofs.lemmas.Bool.{eq-eqb, ne_eqb}
+use Rattle.std.proofs.lemmas.Bool.{eq-eqb, ne_eqb, eqb-true, eqb-false, cases_order}
 use Rattle.std.proofs.lemmas.Cmp.{ranked}
 use Rattle.std.proofs.lemmas.List.{length-take, length-drop, take-append-drop}
 use Rattle.std.proofs.lemmas.List.Folds.{find-append}
@@ -17,16 +17,17 @@ use Rattle.dp_pattern.specs.Walk.{Refused, walked, singles, classes_of}
 use Rattle.dp_pattern.specs.declared.tail.Tail.TheVariants.{End}
 use Rattle.dp_trie.specs.Asked.{Wanted, fits, is_wanted, asked, holds, hit_held, hit_of}
 use Rattle.dp_trie.specs.Known.{Known, class_count}
-use Rattle.dp_trie.specs.Names.{own_plain, known_plain, side_of, rank, rank_of, fitting, ArePlainRanges, RiseEach, NamesRise, AreFitting}
+use Rattle.dp_trie.specs.Names.{own_plain, known_plain, side_of, rank, rank_of, fitting, ArePlainRanges, RiseEach, NamesRise}
 use Rattle.dp_trie.specs.Ranked.{known_cmp, AreInOrder}
-use Rattle.dp_trie.specs.Tree.{known_held}
+use Rattle.dp_trie.specs.Tree.{known_held, known_from}
 use Rattle.dp_plan.specs.declared.entry.EntryId.{EntryId}
 use Rattle.dp_trie.specs.declared.node.Held.{Held}
+use Rattle.dp_trie.specs.declared.node.Node.{Node}
 use Rattle.dp_trie.specs.declared.plain.PlainName.{PlainName}
 use Rattle.dp_trie.specs.declared.plain.Side.{Side}
 use Rattle.dp_trie.specs.declared.plain.Side.TheVariants.{Before, Same, Longer, Behind}
 use Rattle.dp_trie.proofs.BuildLemmas.{all-at, map-get}
-use Rattle.dp_trie.proofs.PointLemmas.{rising-parted}
+use Rattle.dp_trie.proofs.PointLemmas.{rising-parted, all-last}
 use Rattle.dp_trie.proofs.RisingLemmas.{all-left, all-right, sorted-left, sorted-right, sorted-across, held-rise}
 use Rattle.dp_trie.proofs.TreeLemmas.{find_images, drop-get, drop-end}
 
@@ -66,6 +67,33 @@ side-before name digits n few more = ap (λ l. side_of l (drop n digits)) (ended
 
 pub side-same : (name digits : List ℕ) (n : ℕ) → length name ≤ n → length digits ≤ n → side_of (drop n name) (drop n digits) ≡ Same
 side-same name digits n few many = ap (λ l. side_of l (drop n digits)) (ended name n few) ∙ (side_short n digits).1 many
+
+-- the side by the order of bytes, and by whether the name begins with the digits
+abbrev pub side_by : Ordering → Bool → Side
+side_by Less begins = Before
+side_by Equal begins = Same
+side_by Greater begins = cond begins Longer Behind
+
+pub side-compared : (name digits : List ℕ) → side_of name digits ≡ side_by (slice_cmp nat_cmp name digits) (starts_with nat_eq name digits)
+side-compared [] [] = refl
+side-compared [] (d ∷ digits) = refl
+side-compared (b ∷ name) [] = refl
+side-compared (b ∷ name) (d ∷ digits) = by (nat_cmp b d) refl (side-compared name digits)
+  where
+    by : (o : Ordering) → o ≡ nat_cmp b d → side_of name digits ≡ side_by (slice_cmp nat_cmp name digits) (starts_with nat_eq name digits) → step_side o (side_of name digits) ≡ side_by (ordering_then o (slice_cmp nat_cmp name digits)) (nat_eq d b && starts_with nat_eq name digits)
+    by Less e rest = refl
+    by Equal e rest = let u = ranked b d Equal e in rest ∙ ap (λ t. side_by (slice_cmp nat_cmp name digits) (t && starts_with nat_eq name digits)) (sym (eq-eqb d b (sym u)))
+    by Greater e rest = let u = ranked b d Greater e in ap (λ t. side_by Greater (t && starts_with nat_eq name digits)) (sym (ne_eqb d b (λ same. omega (arith, u, same))))
+
+-- a name is before the digits exactly where it stands below them
+pub before-compared : (name digits : List ℕ) → is_lt (slice_cmp nat_cmp name digits) ≡ nat_lt (rank (side_of name digits)) 1
+before-compared name digits = by (slice_cmp nat_cmp name digits) (starts_with nat_eq name digits) ∙ ap (λ s. nat_lt (rank s) 1) (sym (side-compared name digits))
+  where
+    by : (o : Ordering) (b : Bool) → is_lt o ≡ nat_lt (rank (side_by o b)) 1
+    by Less b = refl
+    by Equal b = refl
+    by Greater true = refl
+    by Greater false = refl
 
 pub rank-most : (s : Side) → rank s ≤ 3
 rank-most Before = omega arith
@@ -141,32 +169,15 @@ rise-drop (p ∷ names) zero rise = rise
 rise-drop [] (suc n) rise = rise
 rise-drop (p ∷ names) (suc n) rise = rise-drop names n rise.1
 
-all_both : (P Q R : PlainName → Type 0) → ((p : PlainName) → P p → Q p → R p) → (names : List PlainName) → AllByRecursion P names → AllByRecursion Q names → AllByRecursion R names
-all_both P Q R both [] ps qs = tt
-all_both P Q R both (p ∷ names) ps qs = (both p ps.0 qs.0, all_both P Q R both names ps.1 qs.1)
-
-all-taken : (P : PlainName → Type 0) (names : List PlainName) (n : ℕ) → AllByRecursion P names → AllByRecursion P (take n names)
-all-taken P names zero each = tt
-all-taken P [] (suc n) each = tt
-all-taken P (p ∷ names) (suc n) each = (each.0, all-taken P names n each.1)
+pub all-dropped : (P : PlainName → Type 0) (names : List PlainName) (n : ℕ) → AllByRecursion P names → AllByRecursion P (drop n names)
+all-dropped P [] zero each = each
+all-dropped P (p ∷ names) zero each = each
+all-dropped P [] (suc n) each = tt
+all-dropped P (p ∷ names) (suc n) each = all-dropped P names n each.1
 
 all-weaker : (P Q : PlainName → Type 0) → ((p : PlainName) → P p → Q p) → (names : List PlainName) → AllByRecursion P names → AllByRecursion Q names
 all-weaker P Q weaker [] each = tt
 all-weaker P Q weaker (p ∷ names) each = (weaker p each.0, all-weaker P Q weaker names each.1)
-
-pub are-fitting : (digits : List ℕ) (more : Bool) (names : List PlainName) (n k limit : ℕ) → limit ≡ rank (fitting more) → AllByRecursion (λ (p : PlainName). rank_of digits p < limit) (take n names) → AllByRecursion (λ (p : PlainName). limit ≤ rank_of digits p) (drop n names) → AllByRecursion (λ (p : PlainName). rank_of digits p < limit + 1) (take k (drop n names)) → AllByRecursion (λ (p : PlainName). limit + 1 ≤ rank_of digits p) (drop k (drop n names)) → AreFitting digits more names (take k (drop n names))
-are-fitting digits more names n k limit is before least few most = record {
-  before = take n names;
-  behind = drop k (drop n names);
-  whole = sym (take-append-drop n names) ∙ ap (λ l. take n names ++ l) (sym (take-append-drop k (drop n names)));
-  lower = subst (λ m. AllByRecursion (λ (p : PlainName). rank_of digits p < m) (take n names)) is before;
-  fit =
-      all_both (λ (p : PlainName). limit ≤ rank_of digits p) (λ (p : PlainName). rank_of digits p < limit + 1) (λ (p : PlainName). rank_of digits p ≡ rank (fitting more))
-      (λ p low high. omega (arith, is, low, high)) (take k (drop n names)) (all-taken (λ (p : PlainName). limit ≤ rank_of digits p) (drop n names) k least) few;
-  higher =
-      all-weaker (λ (p : PlainName). limit + 1 ≤ rank_of digits p) (λ (p : PlainName). rank (fitting more) < rank_of digits p)
-      (λ p low. omega (arith, is, low)) (drop k (drop n names)) most;
-}
 
 -- ---- the order of the entries is one of the names
 
@@ -208,11 +219,6 @@ module _ (held : List Held) where
   rise-each [] sorted = tt
   rise-each (p ∷ names) sorted =
       (held-rise (Plain p.name) (slice_range held p.from p.until) (sorted-left known_cmp (own_plain held p) (known_plain held names) sorted), rise-each names (sorted-right known_cmp (own_plain held p) (known_plain held names) sorted))
-
--- what holds of all names holds of those that fit
-pub all-fitting : (P : PlainName → Type 0) (digits : List ℕ) (more : Bool) (names found : List PlainName) → AreFitting digits more names found → AllByRecursion P names → AllByRecursion P found
-all-fitting P digits more names found are each =
-    all-left P found are.behind (all-right P are.before (found ++ are.behind) (subst (AllByRecursion P) are.whole each))
 
 -- ---- what is found
 
@@ -286,19 +292,11 @@ module _ (held : List Held) (wanted : Wanted) where
   own-wanted plain = hit-twice plain (find (holds wanted) (slice_range held plain.from plain.until)) ∙ ap (option_map hit_of) (sym (own-held plain))
 
   module _ (more : Bool) (digits : List ℕ) where
-    own-asked : (plain : PlainName) (b : Bool) → (rank_of digits plain == rank (fitting more)) ≡ b → find (asked more wanted digits) (own_plain held plain) ≡ cond b (find (is_wanted wanted) (own_plain held plain)) None
+    pub own-asked : (plain : PlainName) (b : Bool) → (rank_of digits plain == rank (fitting more)) ≡ b → find (asked more wanted digits) (own_plain held plain) ≡ cond b (find (is_wanted wanted) (own_plain held plain)) None
     own-asked plain b e =
         find_images (fits more End (walked (singles plain.name) digits)) (known_held (Plain plain.name)) (asked more wanted digits) (holds wanted) (λ h. refl) (slice_range held plain.from plain.until)
         ∙ (ap (λ b. cond b (option_map (known_held (Plain plain.name)) (find (holds wanted) (slice_range held plain.from plain.until))) None) (fits-side more plain.name digits ∙ e)
         ∙ ap (λ o. cond b o None) (sym (own-held plain)))
-
-    names-fit : (names : List PlainName) → AllByRecursion (λ (p : PlainName). rank_of digits p ≡ rank (fitting more)) names → find (asked more wanted digits) (known_plain held names) ≡ find (is_wanted wanted) (known_plain held names)
-    names-fit [] each = refl
-    names-fit (p ∷ names) each =
-        find-append (asked more wanted digits) (own_plain held p) (known_plain held names)
-        ∙ (ap (λ o. option_or o (find (asked more wanted digits) (known_plain held names))) (own-asked p true (eq-eqb (rank_of digits p) (rank (fitting more)) each.0))
-        ∙ (ap (option_or (find (is_wanted wanted) (own_plain held p))) (names-fit names each.1)
-        ∙ sym (find-append (is_wanted wanted) (own_plain held p) (known_plain held names))))
 
     names-other : (names : List PlainName) → AllByRecursion (λ (p : PlainName). rank_of digits p ≡ rank (fitting more) → ⊥) names → find (asked more wanted digits) (known_plain held names) ≡ None
     names-other [] each = refl
@@ -307,24 +305,28 @@ module _ (held : List Held) (wanted : Wanted) where
         ∙ (ap (λ o. option_or o (find (asked more wanted digits) (known_plain held names))) (own-asked p false (ne_eqb (rank_of digits p) (rank (fitting more)) each.0))
         ∙ names-other names each.1)
 
-    -- what is asked for is found among the names that fit
-    pub fitting-found : (names found : List PlainName) → AreFitting digits more names found → find (asked more wanted digits) (known_plain held names) ≡ find (is_wanted wanted) (known_plain held found)
-    fitting-found names found are =
-        let before : find (asked more wanted digits) (known_plain held are.before) ≡ None =
-        names-other are.before (all-weaker (λ (p : PlainName). rank_of digits p < rank (fitting more)) (λ (p : PlainName). rank_of digits p ≡ rank (fitting more) → ⊥) (λ p low same. omega (arith, low, same)) are.before are.lower) in
-        let behind : find (asked more wanted digits) (known_plain held are.behind) ≡ None =
-        names-other are.behind (all-weaker (λ (p : PlainName). rank (fitting more) < rank_of digits p) (λ (p : PlainName). rank_of digits p ≡ rank (fitting more) → ⊥) (λ p high same. omega (arith, high, same)) are.behind are.higher) in
-        ap (λ l. find (asked more wanted digits) (known_plain held l)) are.whole
-        ∙ (found-both held (asked more wanted digits) are.before (found ++ are.behind)
-        ∙ (ap (λ o. option_or o (find (asked more wanted digits) (known_plain held (found ++ are.behind)))) before
-        ∙ (found-both held (asked more wanted digits) found are.behind
-        ∙ (ap (option_or (find (asked more wanted digits) (known_plain held found))) behind
-        ∙ (or_none (find (asked more wanted digits) (known_plain held found))
-        ∙ names-fit found are.fit)))))
-      where
-        or_none : (o : Option Known) → option_or o None ≡ o
-        or_none None = refl
-        or_none (Some x) = refl
+    -- what is asked for is not among the names that stand below those that fit
+    pub found-rest : (names : List PlainName) (n : ℕ) → AllByRecursion (λ (p : PlainName). rank_of digits p < rank (fitting more)) (take n names) → find (asked more wanted digits) (known_plain held (drop n names)) ≡ find (asked more wanted digits) (known_plain held names)
+    found-rest names n lower =
+        let before : find (asked more wanted digits) (known_plain held (take n names)) ≡ None =
+        names-other (take n names) (all-weaker (λ (p : PlainName). rank_of digits p < rank (fitting more)) (λ (p : PlainName). rank_of digits p ≡ rank (fitting more) → ⊥) (λ p low same. omega (arith, low, same)) (take n names) lower) in
+        sym (ap (λ l. find (asked more wanted digits) (known_plain held l)) (sym (take-append-drop n names))
+        ∙ (found-both held (asked more wanted digits) (take n names) (drop n names)
+        ∙ ap (λ o. option_or o (find (asked more wanted digits) (known_plain held (drop n names)))) before))
+
+    -- and not from a name on that stands above those that fit
+    pub found-ended : (names : List PlainName) (k : ℕ) (plain : PlainName) → NamesRise names → AllByRecursion (λ (p : PlainName). rank (fitting more) ≤ rank_of digits p) names → slice_get names k ≡ Some plain → (rank_of digits plain == rank (fitting more)) ≡ false → find (asked more wanted digits) (known_plain held (drop k names)) ≡ None
+    found-ended names k plain rise least here other =
+        let apart = eqb-false (rank_of digits plain) (rank (fitting more)) other in
+        let low = all-at (λ (p : PlainName). rank (fitting more) ≤ rank_of digits p) names k plain least here in
+        names-other (drop k names)
+        (all-last (λ (p : PlainName). rank_of digits p ≡ rank (fitting more) → ⊥) names k (λ j p from there same. elim (cases_order k j) [
+          | inl is ↦ apart (ap (rank_of digits) (same_Some plain p (sym here ∙ (ap (slice_get names) is ∙ there))) ∙ same)
+          | inr (inl before) ↦
+              let less = names-at names digits rise k j plain p before here there in
+              apart (omega (arith, low, less, same))
+          | inr (inr behind) ↦ omega (arith, from, behind)
+        ]))
 
 -- ---- plain names and then patterns
 
@@ -342,6 +344,11 @@ module _ (test : Known → Bool) (first rest : List Known) where
       by : (o : Option Known) → None ≡ option_map hit_of o → option_or o (find test rest) ≡ find test rest
       by None e = refl
       by (Some k) e = absurd cc
+
+-- where there are no nodes, nothing is found below them
+pub no-nodes : (test : Known → Bool) (held : List Held) (nodes : List Node) → (length nodes == 0) ≡ true → find test (known_from held [] nodes) ≡ None
+no-nodes test held [] none = refl
+no-nodes test held (node ∷ nodes) none = (let wrong = eqb-true (length (node ∷ nodes)) 0 none in absurd (omega (arith, wrong)))
 
 -- what is found has at most so many classes
 abbrev pub HasAtMost : Option Known → ℕ → Type 0

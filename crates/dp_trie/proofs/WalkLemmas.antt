@@ -1,8 +1,7 @@
 -- How far the classes of a path take the digits: what a node that is entered, and one that is not, says of all below it.
-use Rattle.std.proofs.Common.{◌≡◌, ℕ, zero, suc, Bool, true, false, cond, true≢false, List, [], ◌∷◌, ◌++◌, length, take, arith, refl, sym, ◌∙◌}
+use Rattle.std.proofs.Common.{◌≡◌, ℕ, zero, suc, Bool, true, false, not, cond, true≢false, List, [], ◌∷◌, ◌++◌, length, take, arith, refl, sym, ap, ◌∙◌}
 use Rattle.std.specs.Prelude.{nat_lt}
 use Rattle.std.proofs.lemmas.Bool.{ltb-true, ltb-false, lt-ltb, le-ltb}
-use Rattle.std.proofs.Math.Dec.{eqb-zero-suc, eqb-suc-suc}
 use Rattle.dp_pattern.specs.Name.{is_one_of}
 use Rattle.dp_pattern.specs.Walk.{Walked, Refused, Short, Behind, walked}
 use Rattle.dp_pattern.specs.declared.tail.Tail.{Tail}
@@ -66,7 +65,7 @@ lt_suc m n = by (nat_lt m n) refl
 -- behind a path that takes the digits a tail fits exactly where the counts say so
 pub fits-allows : (more : Bool) (tail : Tail) (path : List (List ℕ)) (digits : List ℕ) → alive more path digits ≡ true → fits more tail (walked path digits) ≡ allows more tail (length path) (length digits)
 fits-allows false End [] [] on = refl
-fits-allows false End [] (d ∷ digits) on = sym (eqb-zero-suc (length digits))
+fits-allows false End [] (d ∷ digits) on = ap not (sym (lt-ltb 0 (suc (length digits)) (omega arith)))
 fits-allows false Dot [] [] on = refl
 fits-allows false Dot [] (d ∷ digits) on = sym (lt-ltb 0 (suc (length digits)) (omega arith))
 fits-allows false Bang [] digits on = refl
@@ -80,7 +79,7 @@ fits-allows true Bang (c ∷ path) [] on = refl
 fits-allows more tail (c ∷ path) (d ∷ digits) on = by (is_one_of c d) on (fits-allows more tail path digits)
   where
     same : (more : Bool) (tail : Tail) (m n : ℕ) → allows more tail m n ≡ allows more tail (suc m) (suc n)
-    same false End m n = sym (eqb-suc-suc m n)
+    same false End m n = ap not (lt_suc m n)
     same false Dot m n = lt_suc m n
     same false Bang m n = refl
     same true End m n = lt_suc n m

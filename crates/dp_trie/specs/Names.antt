@@ -57,12 +57,3 @@ fitting more = if more then Longer else Same
 -- how far up a name stands
 abbrev pub rank_of : List ℕ → PlainName → ℕ
 rank_of digits plain = rank (side_of plain.name digits)
-
--- some of the names are those that fit: what stands before them is lower, and what stands behind them higher
-pub record AreFitting (digits : List ℕ) (more : Bool) (names found : List PlainName) : Type 0 where
-  pub before : List PlainName
-  pub behind : List PlainName
-  pub whole : names ≡ before ++ (found ++ behind)
-  pub lower : AllByRecursion (λ plain. rank_of digits plain < rank (fitting more)) before
-  pub fit : AllByRecursion (λ plain. rank_of digits plain ≡ rank (fitting more)) found
-  pub higher : AllByRecursion (λ plain. rank (fitting more) < rank_of digits plain) behind

@@ -1,5 +1,5 @@
 -- A tree of patterns: the entries that its nodes stand for, and what a walk does at a node.
-use Rattle.std.specs.Prelude.{◌≡◌, ℕ, suc, ◌+◌, ◌<◌, ◌≤◌, Bool, true, false, ◌==◌, nat_lt, List, [], ◌∷◌, ◌++◌, length, take, drop, map, slice_get, slice_index, slice_range, Option, None, Some, if◌then◌else◌}
+use Rattle.std.specs.Prelude.{◌≡◌, ℕ, suc, ◌+◌, ◌<◌, ◌≤◌, Bool, true, false, not, nat_lt, List, [], ◌∷◌, ◌++◌, length, take, drop, map, slice_get, slice_index, slice_range, Option, None, Some, if◌then◌else◌}
 use Rattle.std.specs.List.{find}
 use Rattle.std.specs.Option.{option_map_or}
 use Rattle.dp_pattern.specs.Name.{Meaning, Pattern, is_one_of}
@@ -139,7 +139,7 @@ alive more path digits = is_alive more (walked path digits)
 
 -- whether the tail allows what is left behind so many of so many digits, for a match or for going on
 abbrev pub allows : Bool → Tail → ℕ → ℕ → Bool
-allows false End number count = number == count
+allows false End number count = not (nat_lt number count)
 allows false Dot number count = nat_lt number count
 allows false Bang number count = true
 allows true End number count = nat_lt count number

@@ -1,8 +1,8 @@
 //! The digits of a dialled text: its bytes without the dashes.
-ghost use Rattle.std.specs.Prelude.{◌≡◌, ◌<◌, ◌≤◌, length, slice_get};
+ghost use Rattle.std.specs.Prelude.{◌≡◌, ◌<◌, ◌≤◌, length, nat_lt, slice_get};
 ghost use Rattle.std.specs.Option.{ForSome};
 ghost use Rattle.dp_pattern.specs.Dashes.{undashed};
-ghost use Rattle.dp_trie.specs.Digits.{Stands, AreNear};
+ghost use Rattle.dp_trie.specs.Digits.{Stands, IsClear, AreNear};
 
 /// A place in a text, and how many of its digits stand before it.
 #[derive(Clone, Copy)]
@@ -11,49 +11,58 @@ pub(crate) struct Cursor {
     number: usize,
 }
 
-/// How many of the first digits are kept beside the text.
+/// How many of the first digits are kept beside a text that has dashes.
 const NEAR: usize = 32;
 
-/// The digits of a dialled text, how many there are, and where the first stands. Where the text has dashes, the first digits
-/// stand beside it.
+/// How many of the first bytes of a text are looked at for dashes.
+const LOOKED: usize = 64;
+
+/// The first digits of a text, and how many of them there are.
+#[derive(Clone, Copy)]
+pub(crate) struct Near {
+    bytes: [u8; 32],
+    count: usize,
+}
+
+/// The digits of a dialled text, how many of its first bytes are known to be no dashes, and where a walk begins. Where there
+/// are dashes among the first bytes, the first digits stand beside the text.
 #[derive(Clone, Copy)]
 pub(crate) struct Digits<'a> {
     text: &'a [u8],
-    count: usize,
-    near: Option<[u8; 32]>,
+    clear: usize,
+    near: Option<Near>,
     first: Cursor,
-    ghost counted: { count ≡ length (undashed text.now) },
+    ghost clears: { IsClear text.now clear },
     ghost stands: { Stands text.now first },
     ghost begins: { ForSome near (AreNear text.now) },
 }
 
-/// How many bytes of the text are no dashes.
-fn count_digits(text: &[u8]) -> usize
-    ensures { result ≡ length (undashed text.now) }
+/// How many of the first bytes are known to be no dashes: none where one of those that are looked at is a dash. However long
+/// the text, few of its bytes are looked at.
+fn count_clear(text: &[u8]) -> usize
+    ensures { IsClear text.now result }
 {
-    // What a caller dials has no dash, and the search for one byte is the faster.
-    if !text.contains(&b'-') {
-        return text.len();
-    }
-    text.iter().filter(|byte| **byte != b'-').count()
+    let count = text.len().min(LOOKED);
+    let (first, _) = text.split_at(count);
+    if first.contains(&b'-') { 0 } else { count }
 }
 
 /// The first digits of the text.
-fn near_digits(text: &[u8]) -> [u8; 32]
+fn near_digits(text: &[u8]) -> Near
     ensures { AreNear text.now result }
 {
-    let mut near = [0; NEAR];
-    let mut number = 0;
+    let mut bytes = [0; NEAR];
+    let mut count = 0;
     for byte in text {
-        if number == NEAR {
-            return near;
+        if count == NEAR {
+            return Near { bytes, count };
         }
         if *byte != b'-' {
-            near[number] = *byte;
-            number += 1;
+            bytes[count] = *byte;
+            count += 1;
         }
     }
-    near
+    Near { bytes, count }
 }
 
 /// Goes back until at most so many digits stand before the cursor.
@@ -97,33 +106,39 @@ impl<'a> Digits<'a> {
     pub(crate) fn of(text: &'a [u8]) -> Self
         ensures { undashed result.text.now ≡ undashed text.now }
     {
-        let count = count_digits(text);
+        let clear = count_clear(text);
         let start = Cursor {
-            place: 0,
-            number: 0,
+            place: clear,
+            number: clear,
         };
-        let first = go_on(text, start, 0);
-        let near = if count == text.len() {
-            None
-        } else {
-            Some(near_digits(text))
-        };
+        if clear > 0 || text.is_empty() {
+            return Digits {
+                text,
+                clear,
+                near: None,
+                first: start,
+            };
+        }
         Digits {
             text,
-            count,
-            near,
-            first,
+            clear,
+            near: Some(near_digits(text)),
+            first: go_on(text, start, 0),
         }
     }
 
-    /// How many digits there are.
-    pub(crate) fn count(&self) -> usize
-        ensures { result ≡ length (undashed self.now.text.now) }
+    /// The text, where it is known to have no dash.
+    pub(crate) fn plain(&self) -> Option<&'a [u8]>
+        ensures { ForSome result (λ text. text.now ≡ undashed self.now.text.now) }
     {
-        self.count
+        if self.clear == self.text.len() {
+            Some(self.text)
+        } else {
+            None
+        }
     }
 
-    /// A cursor at the first digit.
+    /// A cursor from which a walk begins.
     pub(crate) fn first(&self) -> Cursor
         ensures { Stands self.now.text.now result }
     {
@@ -131,13 +146,13 @@ impl<'a> Digits<'a> {
     }
 
     /// The digit of this number, which is one of the first that stand beside the text.
-    fn near(&self, near: &[u8; 32], number: usize) -> Option<u8>
+    fn near(&self, near: &Near, number: usize) -> Option<u8>
         requires number { number < 32 }
         requires near { AreNear self.now.text.now near.now }
         ensures { result ≡ slice_get (undashed self.now.text.now) number }
     {
-        if number < self.count {
-            Some(near[number])
+        if number < near.count {
+            Some(near.bytes[number])
         } else {
             None
         }
@@ -153,19 +168,41 @@ impl<'a> Digits<'a> {
         self.text.get(cursor.place).copied()
     }
 
-    /// The digit of this number, counted from 0, or None where there are no more. Behind the first digits the
-    /// cursor goes there, from the digit that was asked for before.
+    /// The digit of this number, counted from 0, or None where there are no more. Behind the bytes that are known to be no
+    /// dashes, and behind the digits that stand beside the text, the cursor goes there, from the digit that was asked for
+    /// before.
     pub(crate) fn at(&self, number: usize, cursor: &mut Cursor) -> Option<u8>
         requires { Stands self.now.text.now cursor.old }
         ensures value { result ≡ slice_get (undashed self.now.text.now) number }
         ensures stands { Stands self.now.text.now cursor.new }
     {
-        if self.count == self.text.len() {
-            return self.text.get(number).copied();
+        if number < self.clear {
+            return Some(self.text[number]);
+        }
+        if self.clear == self.text.len() {
+            return None;
         }
         match &self.near {
             Some(near) if number < NEAR => self.near(near, number),
             _ => self.walk_to(number, cursor),
         }
+    }
+
+    /// Whether there is a digit of this number.
+    pub(crate) fn has(&self, number: usize, cursor: &mut Cursor) -> bool
+        requires { Stands self.now.text.now cursor.old }
+        ensures value { result ≡ nat_lt number (length (undashed self.now.text.now)) }
+        ensures stands { Stands self.now.text.now cursor.new }
+    {
+        self.at(number, cursor).is_some()
+    }
+
+    /// Whether there are fewer digits than this number.
+    pub(crate) fn are_fewer(&self, number: usize, cursor: &mut Cursor) -> bool
+        requires { Stands self.now.text.now cursor.old }
+        ensures value { result ≡ nat_lt (length (undashed self.now.text.now)) number }
+        ensures stands { Stands self.now.text.now cursor.new }
+    {
+        number > 0 && !self.has(number - 1, cursor)
     }
 }

@@ -29,7 +29,8 @@ pub(crate) fn matches(name: &Name, digits: &Digits<'_>) -> bool
     match name.parts() {
         Parts::Plain(text) => matches!(side_of(text, digits), Side::Same),
         Parts::Pattern(classes, tail) => {
-            takes_all(classes, digits) && allows(tail, classes.len(), digits.count(), false)
+            let mut cursor = digits.first();
+            takes_all(classes, digits) && allows(tail, classes.len(), digits, &mut cursor, false)
         }
     }
 }

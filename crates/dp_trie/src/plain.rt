@@ -1,10 +1,10 @@
 //! The plain names of a context.
-ghost use Rattle.std.specs.Prelude.{◌≡◌, ℕ, ◌<◌, ◌≤◌, [], ◌∷◌, length, map, take, drop, find, slice_range, IfOk};
+ghost use Rattle.std.specs.Prelude.{◌≡◌, ℕ, ◌<◌, ◌≤◌, [], ◌∷◌, length, map, take, drop, find, nat_lt, slice_range, ◌==◌, IfOk};
 ghost use Rattle.std.specs.List.{AllByRecursion};
 ghost use Rattle.std.specs.Option.{option_map};
 ghost use Rattle.dp_pattern.specs.Dashes.{undashed};
 ghost use Rattle.dp_trie.specs.Asked.{is_more, wants, is_wanted, asked, hit_of, Rise};
-ghost use Rattle.dp_trie.specs.Names.{own_plain, known_plain, side_of, rank, rank_of, fitting, ArePlainRanges, RiseEach, NamesRise, AreFitting};
+ghost use Rattle.dp_trie.specs.Names.{own_plain, known_plain, side_of, rank, rank_of, fitting, ArePlainRanges, RiseEach, NamesRise};
 ghost use Rattle.dp_trie.specs.Ranked.{known_now, hold_of, IsPlain, AreInOrder};
 
 use crate::digits::Digits;
@@ -36,8 +36,25 @@ pub(crate) enum Side {
     Behind,
 }
 
-/// Where the name stands to the digits.
-pub(crate) fn side_of(name: &[u8], digits: &Digits<'_>) -> Side
+/// Where the name stands to a text that has no dash.
+fn side_of_text(name: &[u8], text: &[u8]) -> Side
+    ensures { result ≡ side_of name.now text.now }
+{
+    match name.cmp(text) {
+        Ordering::Less => Side::Before,
+        Ordering::Equal => Side::Same,
+        Ordering::Greater => {
+            if name.starts_with(text) {
+                Side::Longer
+            } else {
+                Side::Behind
+            }
+        }
+    }
+}
+
+/// Where the name stands to the digits, each asked in turn.
+fn side_in_turn(name: &[u8], digits: &Digits<'_>) -> Side
     ensures { result ≡ side_of name.now (undashed digits.now.text.now) }
 {
     let mut cursor = digits.first();
@@ -51,10 +68,20 @@ pub(crate) fn side_of(name: &[u8], digits: &Digits<'_>) -> Side
             None => return Side::Longer,
         }
     }
-    if name.len() < digits.count() {
+    if digits.has(name.len(), &mut cursor) {
         Side::Before
     } else {
         Side::Same
+    }
+}
+
+/// Where the name stands to the digits.
+pub(crate) fn side_of(name: &[u8], digits: &Digits<'_>) -> Side
+    ensures { result ≡ side_of name.now (undashed digits.now.text.now) }
+{
+    match digits.plain() {
+        Some(text) => side_of_text(name, text),
+        None => side_in_turn(name, digits),
     }
 }
 
@@ -77,6 +104,19 @@ fn fitting(more: bool) -> Side
     if more { Side::Longer } else { Side::Same }
 }
 
+/// The rank of a name that is the digits.
+const SAME: u8 = 1;
+
+/// Whether the name stands below a rank. Where that is the rank of the digits, the order of bytes alone says it.
+fn is_below(name: &[u8], digits: &Digits<'_>, limit: u8) -> bool
+    ensures { result ≡ nat_lt (rank (side_of name.now (undashed digits.now.text.now))) limit }
+{
+    match digits.plain() {
+        Some(text) if limit == SAME => name.cmp(text).is_lt(),
+        _ => rank(side_of(name, digits)) < limit,
+    }
+}
+
 /// How many of the names stand below a rank.
 fn count_below(names: &[PlainName], digits: &Digits<'_>, limit: u8) -> usize
     requires { NamesRise names.now }
@@ -84,18 +124,14 @@ fn count_below(names: &[PlainName], digits: &Digits<'_>, limit: u8) -> usize
     ensures below { AllByRecursion (λ plain. rank_of (undashed digits.now.text.now) plain < limit) (take result names.now) }
     ensures above { AllByRecursion (λ plain. limit ≤ rank_of (undashed digits.now.text.now) plain) (drop result names.now) }
 {
-    names.partition_point(|plain| rank(side_of(plain.name.bytes(), digits)) < limit)
+    names.partition_point(|plain| is_below(plain.name.bytes(), digits, limit))
 }
 
-/// The names that fit, which stand side by side.
-fn fitting_names<'a>(names: &'a [PlainName], digits: &Digits<'_>, more: bool) -> &'a [PlainName]
-    requires { NamesRise names.now }
-    ensures { AreFitting (undashed digits.now.text.now) more names.now result.now }
+/// Whether the name is one of those that the question asks for.
+fn fits(plain: &PlainName, question: Question, digits: &Digits<'_>) -> bool
+    ensures { result ≡ (rank_of (undashed digits.now.text.now) plain.now == rank (fitting (is_more question))) }
 {
-    let limit = rank(fitting(more));
-    let (_, rest) = names.split_at(count_below(names, digits, limit));
-    let (found, _) = rest.split_at(count_below(rest, digits, limit + 1));
-    found
+    rank(side_of(plain.name.bytes(), digits)) == rank(fitting(is_more(question)))
 }
 
 /// The first entry of one plain name that the question asks for beside its name.
@@ -108,13 +144,25 @@ fn find_own(plain: &PlainName, held: &[Held], question: Question) -> Option<Entr
     first_wanted(question, &held[plain.from..plain.until])
 }
 
-/// The first entry of plain names that the question asks for beside their names.
-fn find_own_of_all(names: &[PlainName], held: &[Held], question: Question) -> Option<EntryId>
+/// The first entry that the question asks for of plain names none of which stands below those that fit. The first name that
+/// does not fit ends the search.
+fn find_in_front(
+    names: &[PlainName],
+    held: &[Held],
+    question: Question,
+    digits: &Digits<'_>,
+) -> Option<EntryId>
     requires ranges { ArePlainRanges (length held.now) names.now }
     requires rise { RiseEach held.now names.now }
-    ensures { result ≡ option_map hit_of (find (is_wanted (wants question)) (known_plain held.now names.now)) }
+    requires order { NamesRise names.now }
+    requires least { AllByRecursion (λ plain. rank (fitting (is_more question)) ≤ rank_of (undashed digits.now.text.now) plain) names.now }
+    ensures { result ≡ option_map hit_of
+        (find (asked (is_more question) (wants question) (undashed digits.now.text.now)) (known_plain held.now names.now)) }
 {
     for plain in names {
+        if !fits(plain, question, digits) {
+            return None;
+        }
         let found = find_own(plain, held, question);
         if found.is_some() {
             return found;
@@ -123,7 +171,7 @@ fn find_own_of_all(names: &[PlainName], held: &[Held], question: Question) -> Op
     None
 }
 
-/// The first entry of the plain names that the question asks for. The names that fit are found by halves.
+/// The first entry of the plain names that the question asks for. The first name that fits is found by halves.
 pub(crate) fn find_plain(
     names: &[PlainName],
     held: &[Held],
@@ -135,11 +183,9 @@ pub(crate) fn find_plain(
     ensures { result ≡ option_map hit_of
         (find (asked (is_more question) (wants question) (undashed digits.now.text.now)) (known_plain held.now names.now)) }
 {
-    find_own_of_all(
-        fitting_names(names, digits, is_more(question)),
-        held,
-        question,
-    )
+    let limit = rank(fitting(is_more(question)));
+    let (_, rest) = names.split_at(count_below(names, digits, limit));
+    find_in_front(rest, held, question, digits)
 }
 
 /// The plain names of these entries.

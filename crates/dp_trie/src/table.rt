@@ -148,7 +148,16 @@ fn find_in_parts(
             hit: Some(hit),
             count: 0,
         },
-        None => find_in_tree(nodes, ends, leaps, held, question, digits),
+        None => {
+            if nodes.is_empty() {
+                Counted {
+                    hit: None,
+                    count: 0,
+                }
+            } else {
+                find_in_tree(nodes, ends, leaps, held, question, digits)
+            }
+        }
     }
 }
 

@@ -54,14 +54,22 @@ pub(crate) fn takes(
 }
 
 /// Whether the tail allows what is left behind so many of the digits.
-pub(crate) fn allows(tail: Tail, number: usize, count: usize, more: bool) -> bool
-    ensures { result ≡ allows more tail number count }
+pub(crate) fn allows(
+    tail: Tail,
+    number: usize,
+    digits: &Digits<'_>,
+    cursor: &mut Cursor,
+    more: bool,
+) -> bool
+    requires { Stands digits.now.text.now cursor.old }
+    ensures value { result ≡ allows more tail number (length (undashed digits.now.text.now)) }
+    ensures stands { Stands digits.now.text.now cursor.new }
 {
     match (more, tail) {
-        (false, Tail::End) => number == count,
-        (false, Tail::Dot) => number < count,
+        (false, Tail::End) => !digits.has(number, cursor),
+        (false, Tail::Dot) => digits.has(number, cursor),
         (false, Tail::Bang) => true,
-        (true, Tail::End) => count < number,
+        (true, Tail::End) => digits.are_fewer(number, cursor),
         (true, Tail::Dot) => true,
         (true, Tail::Bang) => false,
     }
@@ -93,13 +101,16 @@ fn visit_leaf(
     held: &[Held],
     question: Question,
     digits: &Digits<'_>,
+    cursor: &mut Cursor,
 ) -> Visit
     requires range { IsRange (length held.now) (Step.Leaf leaf) }
     requires rises { Rises held.now (Step.Leaf leaf) }
-    ensures { result ≡ step_visit held.now (is_more question) (wants question) (undashed digits.now.text.now) depth
+    requires stands { Stands digits.now.text.now cursor.old }
+    ensures stands { Stands digits.now.text.now cursor.new }
+    ensures visit { result ≡ step_visit held.now (is_more question) (wants question) (undashed digits.now.text.now) depth
         (Step.Leaf leaf) }
 {
-    if !allows(leaf.tail, depth, digits.count(), is_more(question)) {
+    if !allows(leaf.tail, depth, digits, cursor, is_more(question)) {
         return Visit::Enters;
     }
     match first_wanted(question, &held[leaf.from..leaf.until]) {
@@ -125,7 +136,7 @@ fn visit_node(
 {
     match &node.step {
         Step::Class(class) => visit_class(class, node.depth, digits, cursor, is_more(question)),
-        Step::Leaf(leaf) => visit_leaf(*leaf, node.depth, held, question, digits),
+        Step::Leaf(leaf) => visit_leaf(*leaf, node.depth, held, question, digits, cursor),
     }
 }
 

@@ -1,12 +1,15 @@
 -- What the program answers to words that are refused.
-use Rattle.std.proofs.Common.{◌≡◌, ◌⊎◌, ◌||◌, ℕ, Bool, true, false, List, [], ◌∷◌, All, Result, Ok, Err, IfErr, inl, inr, refl, ap, subst, sym, ◌∙◌, arith}
+use Rattle.std.proofs.Common.{◌≡◌, ◌⊎◌, ◌||◌, ℕ, Bool, true, false, List, [], ◌∷◌, All, Option, Result, Ok, Err, IfErr, inl, inr, refl, ap, subst, sym, ◌∙◌, arith}
 use Rattle.std.proofs.lemmas.List.Elements.{All-head, All-tail}
 use Rattle.clap.specs.Kinds.{IsAmong, Kinds}
 use Rattle.clap.specs.declared.error.kind.ErrorKind.{ErrorKind}
 use Rattle.clap.specs.declared.error.kind.ErrorKind.TheVariants.{OutOfMemory}
+use Rattle.std.specs.Io.KnownBytes.{Appends}
+use Rattle.dp_commands.specs.Codes.{fault_line}
 use Rattle.dp_commands.specs.Faults.{is_write_failed}
 use Rattle.dp_commands.specs.declared.fault.PbxFault.{PbxFault}
 use Rattle.dp_commands.specs.declared.fault.PbxFault.TheVariants.{NoMemory}
+use Rattle.dp_program.specs.Faulted.{nowhere}
 use Rattle.dp_program.specs.Files.{Source}
 use Rattle.dp_program.specs.Requests.{Asked}
 use Rattle.dp_program.specs.Serves.{Serves}
@@ -42,15 +45,22 @@ or_false : (b : Bool) → b ≡ (b || false)
 or_false true = refl
 or_false false = refl
 
+-- want of memory has no explanation
+prints_lacks : (explains : Bool) (old new : Option (List ℕ)) → Appends old new (fault_line NoMemory) → Prints old new explains (Err (nowhere NoMemory))
+prints_lacks true old new printed = printed
+prints_lacks false old new printed = printed
+
 -- a request that found no memory is one that was served so
-pub fulfils_lacks : (files : List ℕ → Source) (input : Source) (want : Asked) (output output_after errors errors_after : Sink) (kind : ErrorKind) (status : ℕ)
-    → kind ≡ OutOfMemory → output_after ≡ output → RefusesAs kind errors errors_after status → Fulfils files input want output output_after errors errors_after status
-fulfils_lacks files input want output output_after errors errors_after kind status memory same refused =
+pub fulfils_lacks : (files : List ℕ → Source) (input : Source) (want : Asked) (explains : Bool) (output output_after errors errors_after : Sink) (kind : ErrorKind) (status : ℕ)
+    → kind ≡ OutOfMemory → output_after ≡ output → RefusesAs kind errors errors_after status → Fulfils files input want explains output output_after errors errors_after status
+fulfils_lacks files input want explains output output_after errors errors_after kind status memory same refused =
     let is : refused.answered ≡ Err NoMemory = lacks kind refused.answered memory refused.explains in
+    let printed : errors_after.failed ≡ false → Appends errors.contents errors_after.contents (fault_line NoMemory) =
+    subst (λ (answered : Result ℕ PbxFault). IfErr answered (λ fault. errors_after.failed ≡ false → Appends errors.contents errors_after.contents (fault_line fault))) is refused.printed in
     record {
-      answered = Err NoMemory;
-      serves = subst (λ (after : Sink). Serves files input want output.contents after.contents (Err NoMemory)) (sym same) (Serves-lacks files input want output.contents);
+      answered = Err (nowhere NoMemory);
+      serves = subst (λ (after : Sink). Serves files input want explains output.contents after.contents (Err (nowhere NoMemory))) (sym same) (Serves-lacks files input want explains output.contents);
       written = subst (λ (after : Sink). after.failed ≡ (output.failed || is_write_failed {X = ℕ} (Err NoMemory))) (sym same) (or_false output.failed);
       told = subst (λ (answered : Result ℕ PbxFault). status ≡ status_after answered) is refused.told;
-      printed = subst (λ (answered : Result ℕ PbxFault). IfErr answered (λ _. errors_after.failed ≡ false → Prints errors.contents errors_after.contents answered)) is refused.printed;
+      printed = λ fine. prints_lacks explains errors.contents errors_after.contents (printed fine);
     }

@@ -5,7 +5,7 @@ use Rattle.clap.specs.Faults.{fault_of}
 use Rattle.clap.specs.declared.error.kind.ErrorKind.TheVariants as kind
 use Rattle.dp_program.specs.Entries.{found_entry}
 use Rattle.dp_program.specs.Requests.{joined, check, listing, auditing, matching, explaining, run, debug}
-use Rattle.dp_words.specs.CommandLine.{pbx_app, asked_of}
+use Rattle.dp_words.specs.CommandLine.{pbx_app, asked_of, explains_of}
 use Rattle.dp_words.specs.Refusals.{refusals_of}
 
 no_command : asked_of (codes "pbx" ∷ []) ≡ Some joined
@@ -88,7 +88,36 @@ debugged_with_second_plan : asked_of (codes "pbx" ∷ codes "debug" ∷ codes "-
 unfolding clap_on_literals asked_of
 debugged_with_second_plan = refl
 
+-- whether each fault is to be explained
+no_command_explains : explains_of (codes "pbx" ∷ []) ≡ false
+unfolding clap_on_literals explains_of
+no_command_explains = refl
+
+check_explains : explains_of (codes "pbx" ∷ codes "check" ∷ codes "a.conf" ∷ codes "--explain" ∷ []) ≡ true
+unfolding clap_on_literals explains_of
+check_explains = refl
+
+match_explains_not : explains_of (codes "pbx" ∷ codes "match" ∷ codes "--all" ∷ codes "a.conf" ∷ codes "main" ∷ codes "5" ∷ []) ≡ false
+unfolding clap_on_literals explains_of
+match_explains_not = refl
+
+debug_explains : explains_of (codes "pbx" ∷ codes "debug" ∷ codes "--explain" ∷ codes "--break" ∷ codes "x" ∷ codes "a.conf" ∷ codes "b.script" ∷ []) ≡ true
+unfolding clap_on_literals explains_of
+debug_explains = refl
+
+dashes_explain_not : explains_of (codes "pbx" ∷ codes "run" ∷ codes "a.conf" ∷ codes "--" ∷ codes "--explain" ∷ []) ≡ false
+unfolding clap_on_literals explains_of
+dashes_explain_not = refl
+
+explain_beside_all : asked_of (codes "pbx" ∷ codes "match" ∷ codes "--all" ∷ codes "--explain" ∷ codes "a.conf" ∷ codes "main" ∷ codes "5" ∷ []) ≡ Some (matching (record { file = codes "a.conf"; context = codes "main"; text = codes "5"; priority = 1 }) true)
+unfolding clap_on_literals asked_of
+explain_beside_all = refl
+
 -- words that are refused, and words that are not
+explain_alone : fault_of pbx_app (codes "pbx" ∷ codes "--explain" ∷ []) ≡ kind.UnknownArgument ∷ []
+unfolding clap_on_literals
+explain_alone = refl
+
 no_fault : fault_of pbx_app (codes "pbx" ∷ codes "check" ∷ codes "a.conf" ∷ []) ≡ []
 unfolding clap_on_literals
 no_fault = refl

@@ -33,42 +33,64 @@ required_named_word name long = record (named_word name long) { required = true 
 abbrev pub flag : List ℕ → List ℕ → Rule
 flag name long = record (named_word name long) { action = Some SetTrue }
 
--- `check FILE`
-abbrev pub check_app : App
-check_app = with_rule (new_app (codes "check")) (required_word (codes "FILE"))
+-- the word of a dialplan's file
+abbrev pub file_word : Rule
+file_word = required_word (codes "FILE")
 
--- `list FILE`
-abbrev pub list_app : App
-list_app = with_rule (new_app (codes "list")) (required_word (codes "FILE"))
+-- a command with the flag that asks for an explanation of each fault
+abbrev pub with_explain : App → App
+with_explain app = with_rule app (flag (codes "explain") (codes "explain"))
 
--- `match [--all] FILE CONTEXT TEXT [PRIORITY]`
-abbrev pub match_app : App
-match_app =
-    with_rule (with_rule (with_rule (with_rule (with_rule (new_app (codes "match")) (flag (codes "all") (codes "all")))
-    (required_word (codes "FILE"))) (required_word (codes "CONTEXT"))) (required_word (codes "TEXT")))
+-- a command whose one word is a dialplan's file
+abbrev pub file_app : List ℕ → App
+file_app name = with_explain (with_rule (new_app name) file_word)
+
+-- a command with the words of the files that a run may have: those of its queues and of its second dialplan
+abbrev pub with_more_files : App → App
+with_more_files app =
+    with_rule (with_rule app (named_word (codes "QUEUES") (codes "queues"))) (named_word (codes "DIALPLAN") (codes "reload"))
+
+-- a command with the words of the files that a run has: those of its dialplan and of its script
+abbrev pub with_files : App → App
+with_files app = with_rule (with_rule app file_word) (required_word (codes "SCRIPT"))
+
+-- a command with the words of a look-up: those of its context, of what was dialled, and of the priority that is asked for
+abbrev pub with_lookup : App → App
+with_lookup app =
+    with_rule (with_rule (with_rule app (required_word (codes "CONTEXT"))) (required_word (codes "TEXT")))
     (word_or (codes "PRIORITY") (codes "1"))
 
--- `audit FILE`
+-- `check [--explain] FILE`
+abbrev pub check_app : App
+check_app = file_app (codes "check")
+
+-- `list [--explain] FILE`
+abbrev pub list_app : App
+list_app = file_app (codes "list")
+
+-- `match [--all] [--explain] FILE CONTEXT TEXT [PRIORITY]`
+abbrev pub match_app : App
+match_app =
+    with_explain (with_lookup (with_rule (with_rule (new_app (codes "match")) (flag (codes "all") (codes "all"))) file_word))
+
+-- `audit [--explain] FILE`
 abbrev pub audit_app : App
-audit_app = with_rule (new_app (codes "audit")) (required_word (codes "FILE"))
+audit_app = file_app (codes "audit")
 
--- `explain CODE`
+-- `explain [--explain] CODE`
 abbrev pub explain_app : App
-explain_app = with_rule (new_app (codes "explain")) (required_word (codes "CODE"))
+explain_app = with_explain (with_rule (new_app (codes "explain")) (required_word (codes "CODE")))
 
--- `run [--queues QUEUES] [--reload DIALPLAN] [--threads N] FILE SCRIPT`
+-- `run [--queues QUEUES] [--reload DIALPLAN] [--threads N] [--explain] FILE SCRIPT`
 abbrev pub run_app : App
 run_app =
-    with_rule (with_rule (with_rule (with_rule (with_rule (new_app (codes "run")) (named_word (codes "QUEUES") (codes "queues")))
-    (named_word (codes "DIALPLAN") (codes "reload"))) (named_word (codes "N") (codes "threads")))
-    (required_word (codes "FILE"))) (required_word (codes "SCRIPT"))
+    with_explain (with_files (with_rule (with_more_files (new_app (codes "run"))) (named_word (codes "N") (codes "threads"))))
 
--- `debug [--queues QUEUES] [--reload DIALPLAN] --break CONTEXT,EXTEN,PRIORITY FILE SCRIPT`
+-- `debug [--queues QUEUES] [--reload DIALPLAN] --break CONTEXT,EXTEN,PRIORITY [--explain] FILE SCRIPT`
 abbrev pub debug_app : App
 debug_app =
-    with_rule (with_rule (with_rule (with_rule (with_rule (new_app (codes "debug")) (named_word (codes "QUEUES") (codes "queues")))
-    (named_word (codes "DIALPLAN") (codes "reload"))) (required_named_word (codes "CONTEXT,EXTEN,PRIORITY") (codes "break")))
-    (required_word (codes "FILE"))) (required_word (codes "SCRIPT"))
+    with_explain (with_files (with_rule (with_more_files (new_app (codes "debug")))
+    (required_named_word (codes "CONTEXT,EXTEN,PRIORITY") (codes "break"))))
 
 -- the program's commands
 abbrev pub pbx_app : App
@@ -177,3 +199,12 @@ texts words = map string_bytes words
 -- what a command line asks for, by all its words, the first of which is the program's own name
 unfoldable pub asked_of : List (List ℕ) → Option Asked
 asked_of words = asked_by (subcommand_of pbx_app words)
+
+-- whether each fault is to be explained, by the words of a command; where there is none it is not
+abbrev pub explains_by : Option (List ℕ × List Row) → Bool
+explains_by None = false
+explains_by (Some command) = is_set (codes "explain") command.1
+
+-- the same, by all words of a command line
+unfoldable pub explains_of : List (List ℕ) → Bool
+explains_of words = explains_by (subcommand_of pbx_app words)

@@ -3,14 +3,18 @@ use Rattle.std.specs.Prelude.{◌≡◌, ◌≢◌, ◌⊎◌, ◌||◌, ℕ, Bo
 use Rattle.clap.specs.Kinds.{IsAmong, Kinds}
 use Rattle.clap.specs.declared.error.kind.ErrorKind.{ErrorKind}
 use Rattle.clap.specs.declared.error.kind.ErrorKind.TheVariants.{DisplayHelp, DisplayVersion, OutOfMemory}
+use Rattle.std.specs.Io.KnownBytes.{Appends}
+use Rattle.dp_commands.specs.Codes.{fault_line}
 use Rattle.dp_commands.specs.Faults.{is_write_failed}
 use Rattle.dp_commands.specs.declared.fault.Code.TheVariants.{WriteFailed}
 use Rattle.dp_commands.specs.declared.fault.PbxFault.{PbxFault}
 use Rattle.dp_commands.specs.declared.fault.PbxFault.TheVariants.{Coded, NoMemory}
+use Rattle.dp_program.specs.Faulted.{unplaced}
 use Rattle.dp_program.specs.Files.{Source}
 use Rattle.dp_program.specs.Requests.{Asked}
 use Rattle.dp_program.specs.Serves.{Serves}
 use Rattle.dp_program.specs.Status.{Prints, status_after}
+use Rattle.dp_program.specs.declared.faulted.Faulted.{Faulted}
 
 -- the status where the words are no request: 0 where help was asked for, and 2 of a mistake
 abbrev pub explained_status : ErrorKind → ℕ
@@ -27,13 +31,14 @@ abbrev pub sink : Option (List ℕ) → Bool → Sink
 sink contents failed = record { contents = contents; failed = failed }
 
 -- what the program writes and answers where its words ask for something: what the request does, with its status, and with the
--- line of its fault on the errors
-pub record Fulfils (files : List ℕ → Source) (input : Source) (want : Asked) (output output_after errors errors_after : Sink) (status : ℕ) : Type 0 where
-  pub answered : Result ℕ PbxFault
-  pub serves : Serves files input want output.contents output_after.contents answered
-  pub written : output_after.failed ≡ (output.failed || is_write_failed answered)
+-- text of its fault on the errors; `explains` says whether the fault and the notes of `check` are explained
+pub record Fulfils (files : List ℕ → Source) (input : Source) (want : Asked) (explains : Bool)
+    (output output_after errors errors_after : Sink) (status : ℕ) : Type 0 where
+  pub answered : Result ℕ Faulted
+  pub serves : Serves files input want explains output.contents output_after.contents answered
+  pub written : output_after.failed ≡ (output.failed || is_write_failed (unplaced answered))
   pub told : status ≡ status_after answered
-  pub printed : errors_after.failed ≡ false → Prints errors.contents errors_after.contents answered
+  pub printed : errors_after.failed ≡ false → Prints errors.contents errors_after.contents explains answered
 
 -- what stands in place of a request, by its kind, comes to the kind's status; else memory was refused, or help was not written
 abbrev pub Explains : ErrorKind → Result ℕ PbxFault → Type 0
@@ -45,7 +50,7 @@ pub record RefusesAs (kind : ErrorKind) (errors errors_after : Sink) (status : �
   pub answered : Result ℕ PbxFault
   pub explains : Explains kind answered
   pub told : status ≡ status_after answered
-  pub printed : IfErr answered (λ _. errors_after.failed ≡ false → Prints errors.contents errors_after.contents answered)
+  pub printed : IfErr answered (λ fault. errors_after.failed ≡ false → Appends errors.contents errors_after.contents (fault_line fault))
 
 -- the words are refused with one of these kinds, or for want of memory
 pub record Refuses (kinds : Kinds) (errors errors_after : Sink) (status : ℕ) : Type 0 where

@@ -21,6 +21,15 @@ use dp_plan::{MOST_PRIORITY, NoMemory, Priority};
 use dp_program::{FaultNumber, Lookup, Request, RunFiles};
 use std::alloc::Global;
 
+/// What a command line asks for.
+#[derive(Clone, Copy, Debug, PartialEq, Eq)]
+pub struct Invocation<'a> {
+    /// What the program is to do.
+    pub request: Request<'a>,
+    /// Whether each fault is to be explained: the flag `--explain` stands among the words of the command.
+    pub explains: bool,
+}
+
 /// The greatest number of threads of a run; this is the program's own limit.
 const MOST_THREADS: u32 = 64;
 
@@ -262,6 +271,16 @@ fn command_request<'a>(
     }
 }
 
+/// Whether the matches of the program's commands ask that each fault be explained.
+fn explains(matches: &ArgMatches<'_>) -> bool
+    ensures { result ≡ spec.explains_by (subcommand_rows_of matches.now) }
+{
+    match matches.subcommand() {
+        Some((_, given)) => is_set(given, "explain"),
+        None => false,
+    }
+}
+
 /// What the matches of the program's commands ask for, or None where a word that is required is missing.
 fn request_of<'a>(alloc: Global, matches: &ArgMatches<'a>) -> Result<Option<Request<'a>>, Error>
     ensures asked { IfOk result (λ request. option_map asked request ≡ spec.asked_by (subcommand_rows_of matches.now)) }
@@ -297,16 +316,18 @@ fn read_matches<'a>(alloc: Global, words: &'a [String]) -> Result<ArgMatches<'a>
 
 /// What a command line asks for, the program's own name first among its words; or the help that it asks for, or what is
 /// wrong with it.
-#[tactic(auto, unfolding(crate::specs::CommandLine::asked_of, crate::specs::Refusals::refusals_of))]
-pub fn read_words<'a>(alloc: Global, words: &'a [String]) -> Result<Request<'a>, Error>
-    ensures asked { IfOk result (λ request. spec.asked_of (spec.texts words.now) ≡ Some (asked request)) }
+#[tactic(auto, unfolding(crate::specs::CommandLine::asked_of, crate::specs::CommandLine::explains_of, crate::specs::Refusals::refusals_of))]
+pub fn read_words<'a>(alloc: Global, words: &'a [String]) -> Result<Invocation<'a>, Error>
+    ensures asked { IfOk result (λ read. spec.asked_of (spec.texts words.now) ≡ Some (asked read.request)) }
+    ensures explains { IfOk result (λ read. spec.explains_of (spec.texts words.now) ≡ read.explains) }
     ensures refused { IfErr result (λ error. takes spec.pbx_app (spec.texts words.now) ≡ true
         → is_some (spec.asked_of (spec.texts words.now)) ≡ true → kind_of error ≡ OutOfMemory) }
     ensures kinds { FailsBy (refusals.refusals_of (spec.texts words.now)) result }
 {
     let matches = read_matches(alloc, words)?;
+    let explains = explains(&matches);
     match request_of(alloc, &matches)? {
-        Some(request) => Ok(request),
+        Some(request) => Ok(Invocation { request, explains }),
         None => Err(refuse_missing(alloc)?),
     }
 }

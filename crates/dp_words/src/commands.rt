@@ -1,9 +1,11 @@
-//! The program's commands, with what their help says.
-ghost use Rattle.std.specs.Prelude.{◌≡◌, IfOk, IsOkAnd, false, codes};
-ghost use Rattle.clap.specs.Simple.{app_of, new_app, with_rule, with_subcommand};
+//! The program's commands, with what their help says. Each function takes what was made before, or its refusal for want of
+//! memory, which it hands on.
+ghost use Rattle.std.specs.Prelude.{◌≡◌, false, codes};
+ghost use Rattle.clap.specs.Simple.{App, app_of, new_app, with_rule, with_subcommand};
 ghost use Rattle.clap.specs.Walk.{rule_of};
 ghost use Rattle.clap.specs.declared.builder.command.Command.TheViews.{out-Command as fields_of};
 ghost use Rattle.dp_words.specs.CommandLine as spec;
+ghost use Rattle.dp_words.specs.Made.{Makes};
 
 use crate::help::{
     AUDIT_NOTES, CHECK_NOTES, DEBUG_NOTES, EXPLAIN_NOTES, LIST_NOTES, MATCH_NOTES, PBX_NOTES,
@@ -14,20 +16,26 @@ use dp_plan::NoMemory;
 use std::alloc::Global;
 
 /// A command with no words yet, and what its help says above and below them.
-fn described<'a>(alloc: Global, name: &'a str, about: &'a str, notes: &'a str) -> Command<'a>
-    ensures app { app_of result ≡ new_app name.now }
-    ensures local { (fields_of result).has_globals ≡ false }
+fn described<'a>(
+    alloc: Global,
+    name: &'a str,
+    about: &'a str,
+    notes: &'a str,
+) -> Result<Command<'a>, NoMemory>
+    ensures { Makes (new_app name.now) result }
 {
-    Command::new(alloc, name).about(about).after_help(notes)
+    Ok(Command::new(alloc, name).about(about).after_help(notes))
 }
 
 /// The command with one more word.
-fn with_word<'a>(command: Command<'a>, word: Arg<'a>) -> Result<Command<'a>, NoMemory>
+fn with_word<'a>(
+    command: Result<Command<'a>, NoMemory>,
+    word: Arg<'a>,
+) -> Result<Command<'a>, NoMemory>
     requires { word.global ≡ false }
-    ensures app { IfOk result (λ with. app_of with ≡ with_rule (app_of command.entry) (rule_of word.entry)) }
-    ensures local { IfOk result (λ with. (fields_of with).has_globals ≡ (fields_of command.entry).has_globals) }
+    ensures { (app : App) → Makes app command.entry → Makes (with_rule app (rule_of word.entry)) result }
 {
-    let with = command.arg(word)?;
+    let with = command?.arg(word)?;
     Ok(with)
 }
 
@@ -75,31 +83,64 @@ fn flag<'a>(alloc: Global, name: &'a str, long: &'a str, help: &'a str) -> Arg<'
 }
 
 /// The command with the word of its dialplan's file.
-fn with_dialplan<'a>(alloc: Global, command: Command<'a>) -> Result<Command<'a>, NoMemory>
-    ensures app { IfOk result (λ with. app_of with ≡ with_rule (app_of command.entry) (spec.required_word (codes "FILE"))) }
-    ensures local { IfOk result (λ with. (fields_of with).has_globals ≡ (fields_of command.entry).has_globals) }
+fn with_dialplan<'a>(
+    alloc: Global,
+    command: Result<Command<'a>, NoMemory>,
+) -> Result<Command<'a>, NoMemory>
+    ensures { (app : App) → Makes app command.entry → Makes (with_rule app spec.file_word) result }
 {
     let file = required_word(alloc, "FILE", "The dialplan, as extensions.conf");
-    let with = with_word(command, file)?;
-    Ok(with)
+    with_word(command, file)
 }
 
-/// The command with the words of the files of a run: those of its dialplan and its script.
-fn with_files<'a>(alloc: Global, command: Command<'a>) -> Result<Command<'a>, NoMemory>
-    ensures app { IfOk result (λ with. app_of with
-        ≡ with_rule (with_rule (app_of command.entry) (spec.required_word (codes "FILE"))) (spec.required_word (codes "SCRIPT"))) }
-    ensures local { IfOk result (λ with. (fields_of with).has_globals ≡ (fields_of command.entry).has_globals) }
+/// The command with the flag `--explain`, which each command has as the last of its options.
+fn with_explain<'a>(
+    alloc: Global,
+    command: Result<Command<'a>, NoMemory>,
+) -> Result<Command<'a>, NoMemory>
+    ensures { (app : App) → Makes app command.entry → Makes (spec.with_explain app) result }
 {
-    let with = with_dialplan(alloc, command)?;
-    let script = required_word(alloc, "SCRIPT", "The script of events");
-    let with = with_word(with, script)?;
-    Ok(with)
+    let explain = flag(
+        alloc,
+        "explain",
+        "explain",
+        "Print below each fault, and below each note of `check`, where it stands and what the manual says of it",
+    );
+    with_word(command, explain)
 }
 
-/// The command with the word of the file of queues.
-fn with_queues<'a>(alloc: Global, command: Command<'a>) -> Result<Command<'a>, NoMemory>
-    ensures app { IfOk result (λ with. app_of with ≡ with_rule (app_of command.entry) (spec.named_word (codes "QUEUES") (codes "queues"))) }
-    ensures local { IfOk result (λ with. (fields_of with).has_globals ≡ (fields_of command.entry).has_globals) }
+/// A command whose one word is its dialplan's file.
+fn file_command<'a>(
+    alloc: Global,
+    name: &'a str,
+    about: &'a str,
+    notes: &'a str,
+) -> Result<Command<'a>, NoMemory>
+    ensures { Makes (spec.file_app name.now) result }
+{
+    let command = described(alloc, name, about, notes);
+    let command = with_dialplan(alloc, command);
+    with_explain(alloc, command)
+}
+
+/// The command with the words of the files that a run has: those of its dialplan and of its script.
+fn with_files<'a>(
+    alloc: Global,
+    command: Result<Command<'a>, NoMemory>,
+) -> Result<Command<'a>, NoMemory>
+    ensures { (app : App) → Makes app command.entry → Makes (spec.with_files app) result }
+{
+    let with = with_dialplan(alloc, command);
+    let script = required_word(alloc, "SCRIPT", "The script of events");
+    with_word(with, script)
+}
+
+/// The command with the words of the files that a run may have: those of its queues and of its second dialplan.
+fn with_more_files<'a>(
+    alloc: Global,
+    command: Result<Command<'a>, NoMemory>,
+) -> Result<Command<'a>, NoMemory>
+    ensures { (app : App) → Makes app command.entry → Makes (spec.with_more_files app) result }
 {
     let queues = named_word(
         alloc,
@@ -107,99 +148,98 @@ fn with_queues<'a>(alloc: Global, command: Command<'a>) -> Result<Command<'a>, N
         "queues",
         "The queues, as queues.conf; without it there are none",
     );
-    let with = with_word(command, queues)?;
-    Ok(with)
-}
-
-/// The command with the word of the file of the second dialplan.
-fn with_second_plan<'a>(alloc: Global, command: Command<'a>) -> Result<Command<'a>, NoMemory>
-    ensures app { IfOk result (λ with. app_of with ≡ with_rule (app_of command.entry) (spec.named_word (codes "DIALPLAN") (codes "reload"))) }
-    ensures local { IfOk result (λ with. (fields_of with).has_globals ≡ (fields_of command.entry).has_globals) }
-{
+    let with = with_word(command, queues);
     let second_plan = named_word(
         alloc,
         "DIALPLAN",
         "reload",
         "The second dialplan, which a line `reload` of the script puts in force",
     );
-    let with = with_word(command, second_plan)?;
-    Ok(with)
+    with_word(with, second_plan)
 }
 
-/// The program's command with one more command below it.
-fn with_command<'a>(
+/// A command that was made, with one more command below it.
+fn add_command<'a>(
     command: Command<'a>,
     below: Result<Command<'a>, NoMemory>,
 ) -> Result<Command<'a>, NoMemory>
-    requires { IfOk below (λ below. (fields_of below).has_globals ≡ false) }
-    ensures { IfOk result (λ with. IsOkAnd below.entry (λ below. app_of with ≡ with_subcommand (app_of command.entry) (app_of below).top)) }
+    ensures { (below_app : App) → (fields_of command.entry).has_globals ≡ false → Makes below_app below.entry
+        → Makes (with_subcommand (app_of command.entry) below_app.top) result }
 {
     let with = command.subcommand(below?)?;
     Ok(with)
 }
 
+/// The program's command with one more command below it.
+fn with_command<'a>(
+    command: Result<Command<'a>, NoMemory>,
+    below: Result<Command<'a>, NoMemory>,
+) -> Result<Command<'a>, NoMemory>
+    ensures { (app below_app : App) → Makes app command.entry → Makes below_app below.entry
+        → Makes (with_subcommand app below_app.top) result }
+{
+    add_command(command?, below)
+}
+
 /// The command `check`.
 fn check_command<'a>(alloc: Global) -> Result<Command<'a>, NoMemory>
-    ensures app { IfOk result (λ command. app_of command ≡ spec.check_app) }
-    ensures local { IfOk result (λ command. (fields_of command).has_globals ≡ false) }
+    ensures { Makes spec.check_app result }
 {
-    let check = described(
+    file_command(
         alloc,
         "check",
         "Load a dialplan, and print its notes and its counts",
         CHECK_NOTES,
-    );
-    let check = with_dialplan(alloc, check)?;
-    Ok(check)
+    )
 }
 
 /// The command `audit`.
 fn audit_command<'a>(alloc: Global) -> Result<Command<'a>, NoMemory>
-    ensures app { IfOk result (λ command. app_of command ≡ spec.audit_app) }
-    ensures local { IfOk result (λ command. (fields_of command).has_globals ≡ false) }
+    ensures { Makes spec.audit_app result }
 {
-    let audit = described(
+    file_command(
         alloc,
         "audit",
         "Print what the writer of a dialplan may not have meant",
         AUDIT_NOTES,
-    );
-    let audit = with_dialplan(alloc, audit)?;
-    Ok(audit)
+    )
 }
 
 /// The command `list`.
 fn list_command<'a>(alloc: Global) -> Result<Command<'a>, NoMemory>
-    ensures app { IfOk result (λ command. app_of command ≡ spec.list_app) }
-    ensures local { IfOk result (λ command. (fields_of command).has_globals ≡ false) }
+    ensures { Makes spec.list_app result }
 {
-    let list = described(
+    file_command(
         alloc,
         "list",
         "Print a dialplan in its canonical text",
         LIST_NOTES,
-    );
-    let list = with_dialplan(alloc, list)?;
-    Ok(list)
+    )
 }
 
-/// The command with the words of a call: its context and what was dialled.
-fn with_call<'a>(alloc: Global, command: Command<'a>) -> Result<Command<'a>, NoMemory>
-    ensures app { IfOk result (λ with. app_of with
-        ≡ with_rule (with_rule (app_of command.entry) (spec.required_word (codes "CONTEXT"))) (spec.required_word (codes "TEXT"))) }
-    ensures local { IfOk result (λ with. (fields_of with).has_globals ≡ (fields_of command.entry).has_globals) }
+/// The command with the words of a look-up: those of its context, of what was dialled, and of the priority that is asked for.
+fn with_lookup<'a>(
+    alloc: Global,
+    command: Result<Command<'a>, NoMemory>,
+) -> Result<Command<'a>, NoMemory>
+    ensures { (app : App) → Makes app command.entry → Makes (spec.with_lookup app) result }
 {
     let context = required_word(alloc, "CONTEXT", "The context where the call begins");
-    let with = with_word(command, context)?;
+    let with = with_word(command, context);
     let text = required_word(alloc, "TEXT", "What was dialled");
-    let with = with_word(with, text)?;
-    Ok(with)
+    let with = with_word(with, text);
+    let priority = optional_word(
+        alloc,
+        "PRIORITY",
+        "The priority that is asked for, from 1 to 2147483647",
+        "1",
+    );
+    with_word(with, priority)
 }
 
 /// The command `match`.
 pub(crate) fn match_command<'a>(alloc: Global) -> Result<Command<'a>, NoMemory>
-    ensures app { IfOk result (λ command. app_of command ≡ spec.match_app) }
-    ensures local { IfOk result (λ command. (fields_of command).has_globals ≡ false) }
+    ensures { Makes spec.match_app result }
 {
     let matching = described(
         alloc,
@@ -213,23 +253,15 @@ pub(crate) fn match_command<'a>(alloc: Global) -> Result<Command<'a>, NoMemory>
         "all",
         "Print below it what becomes of each extension that matches",
     );
-    let matching = with_word(matching, all)?;
-    let matching = with_dialplan(alloc, matching)?;
-    let matching = with_call(alloc, matching)?;
-    let priority = optional_word(
-        alloc,
-        "PRIORITY",
-        "The priority that is asked for, from 1 to 2147483647",
-        "1",
-    );
-    let matching = with_word(matching, priority)?;
-    Ok(matching)
+    let matching = with_word(matching, all);
+    let matching = with_dialplan(alloc, matching);
+    let matching = with_lookup(alloc, matching);
+    with_explain(alloc, matching)
 }
 
 /// The command `explain`.
 pub(crate) fn explain_command<'a>(alloc: Global) -> Result<Command<'a>, NoMemory>
-    ensures app { IfOk result (λ command. app_of command ≡ spec.explain_app) }
-    ensures local { IfOk result (λ command. (fields_of command).has_globals ≡ false) }
+    ensures { Makes spec.explain_app result }
 {
     let explain = described(
         alloc,
@@ -238,14 +270,13 @@ pub(crate) fn explain_command<'a>(alloc: Global) -> Result<Command<'a>, NoMemory
         EXPLAIN_NOTES,
     );
     let code = required_word(alloc, "CODE", "The number of the fault, from 1 to 71");
-    let explain = with_word(explain, code)?;
-    Ok(explain)
+    let explain = with_word(explain, code);
+    with_explain(alloc, explain)
 }
 
 /// The command `run`.
 pub(crate) fn run_command<'a>(alloc: Global) -> Result<Command<'a>, NoMemory>
-    ensures app { IfOk result (λ command. app_of command ≡ spec.run_app) }
-    ensures local { IfOk result (λ command. (fields_of command).has_globals ≡ false) }
+    ensures { Makes spec.run_app result }
 {
     let run = described(
         alloc,
@@ -253,23 +284,21 @@ pub(crate) fn run_command<'a>(alloc: Global) -> Result<Command<'a>, NoMemory>
         "Run a script of events on a dialplan, and print the trace",
         RUN_NOTES,
     );
-    let run = with_queues(alloc, run)?;
-    let run = with_second_plan(alloc, run)?;
+    let run = with_more_files(alloc, run);
     let threads = named_word(
         alloc,
         "N",
         "threads",
         "Give the events in so many threads at once, from 1 to 64",
     );
-    let run = with_word(run, threads)?;
-    let run = with_files(alloc, run)?;
-    Ok(run)
+    let run = with_word(run, threads);
+    let run = with_files(alloc, run);
+    with_explain(alloc, run)
 }
 
 /// The command `debug`.
 fn debug_command<'a>(alloc: Global) -> Result<Command<'a>, NoMemory>
-    ensures app { IfOk result (λ command. app_of command ≡ spec.debug_app) }
-    ensures local { IfOk result (λ command. (fields_of command).has_globals ≡ false) }
+    ensures { Makes spec.debug_app result }
 {
     let debug = described(
         alloc,
@@ -277,22 +306,21 @@ fn debug_command<'a>(alloc: Global) -> Result<Command<'a>, NoMemory>
         "Run a script of events on a dialplan, and halt before the steps at a place",
         DEBUG_NOTES,
     );
-    let debug = with_queues(alloc, debug)?;
-    let debug = with_second_plan(alloc, debug)?;
+    let debug = with_more_files(alloc, debug);
     let held = required_named_word(
         alloc,
         "CONTEXT,EXTEN,PRIORITY",
         "break",
         "The place where the run halts",
     );
-    let debug = with_word(debug, held)?;
-    let debug = with_files(alloc, debug)?;
-    Ok(debug)
+    let debug = with_word(debug, held);
+    let debug = with_files(alloc, debug);
+    with_explain(alloc, debug)
 }
 
 /// The program's own part of its commands.
 fn bare_command<'a>(alloc: Global) -> Result<Command<'a>, NoMemory>
-    ensures { IfOk result (λ command. app_of command ≡ new_app (codes "pbx")) }
+    ensures { Makes (new_app (codes "pbx")) result }
 {
     let pbx = described(
         alloc,
@@ -300,21 +328,20 @@ fn bare_command<'a>(alloc: Global) -> Result<Command<'a>, NoMemory>
         "Say which priority of an Asterisk dialplan answers a call, and run calls through it",
         PBX_NOTES,
     );
-    let pbx = pbx.bin_name("pbx")?;
+    let pbx = pbx?.bin_name("pbx")?;
     Ok(pbx)
 }
 
 /// The program's commands.
 pub(crate) fn pbx_command<'a>(alloc: Global) -> Result<Command<'a>, NoMemory>
-    ensures { IfOk result (λ command. app_of command ≡ spec.pbx_app) }
+    ensures { Makes spec.pbx_app result }
 {
-    let pbx = bare_command(alloc)?;
-    let pbx = with_command(pbx, check_command(alloc))?;
-    let pbx = with_command(pbx, list_command(alloc))?;
-    let pbx = with_command(pbx, match_command(alloc))?;
-    let pbx = with_command(pbx, run_command(alloc))?;
-    let pbx = with_command(pbx, debug_command(alloc))?;
-    let pbx = with_command(pbx, audit_command(alloc))?;
-    let pbx = with_command(pbx, explain_command(alloc))?;
-    Ok(pbx)
+    let pbx = bare_command(alloc);
+    let pbx = with_command(pbx, check_command(alloc));
+    let pbx = with_command(pbx, list_command(alloc));
+    let pbx = with_command(pbx, match_command(alloc));
+    let pbx = with_command(pbx, run_command(alloc));
+    let pbx = with_command(pbx, debug_command(alloc));
+    let pbx = with_command(pbx, audit_command(alloc));
+    with_command(pbx, explain_command(alloc))
 }

@@ -59,6 +59,7 @@ Prints `KIND CONTEXT,NAME,PRIORITY` for each finding, with what it is about behi
   NoTarget       a target leads to no entry
   Gap            the next priority is not found, but greater ones are there
   NoFirst        there is no priority 1
+  Hidden         another entry of the same name and priority comes before it
   Unset          nothing sets the variable that is read
   Unused         no target names the label
 The status is 0 where nothing is found, and else 1.

@@ -6,5 +6,5 @@ mod commands;
 mod help;
 mod program;
 
-pub use command_line::read_words;
+pub use command_line::{Invocation, read_words};
 pub use program::answer;

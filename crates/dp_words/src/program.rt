@@ -4,15 +4,15 @@ ghost use Rattle.clap.specs.Values.{kind_of};
 ghost use Rattle.dp_commands.specs.Faults.{is_write_failed};
 ghost use Rattle.dp_program.specs.Files.{source};
 ghost use Rattle.dp_program.specs.Requests.{Asked, asked};
-ghost use Rattle.dp_words.specs.CommandLine.{asked_of, texts};
+ghost use Rattle.dp_words.specs.CommandLine.{asked_of, explains_of, texts};
 ghost use Rattle.dp_words.specs.Refusals.{refusals_of};
 ghost use Rattle.dp_words.specs.Status.{Explains, Fulfils, Refuses, RefusesAs, explained_status, sink};
 
-use crate::command_line::read_words;
+use crate::command_line::{Invocation, read_words};
 use clap::Error;
 use clap::error::ErrorKind;
 use dp_conf::{ReadTold, WriteTold};
-use dp_program::{PbxFault, ReadFiles, Request, finish, serve};
+use dp_program::{Faulted, PbxFault, ReadFiles, finish, serve};
 use std::alloc::Global;
 use std::sync::Wait;
 use std::thread::Threads;
@@ -53,26 +53,37 @@ fn refuse<W: WriteTold, E: WriteTold>(
         (sink (E.contents errors.new) (E.has_failed errors.new)) result }
     ensures mistake { explained_status (kind_of error.now) ≡ 2 → output.new ≡ output.old }
 {
-    let answered = explain(alloc, error, output, errors);
-    finish(errors, answered)
+    match explain(alloc, error, output, errors) {
+        Ok(status) => status,
+        Err(fault) => finish(errors, false, Err(Faulted::from(fault))),
+    }
 }
 
-/// Does what a request asks for, and gives the status.
+/// Does what a command line asks for, and gives the status.
 fn fulfil<F: ReadFiles, I: ReadTold, W: WriteTold, E: WriteTold, R: Threads + Wait + Sync>(
     rt: &R,
     files: &F,
     alloc: Global,
-    request: &Request<'_>,
+    invocation: &Invocation<'_>,
     input: &mut I,
     output: &mut W,
     errors: &mut E,
 ) -> u8
-    ensures { Fulfils (F.source_at files.now) (source (I.remaining input.old) (I.has_failed input.new)) (asked request.now)
+    ensures { Fulfils (F.source_at files.now) (source (I.remaining input.old) (I.has_failed input.new)) (asked invocation.now.request)
+        invocation.now.explains
         (sink (W.contents output.old) (W.has_failed output.old)) (sink (W.contents output.new) (W.has_failed output.new))
         (sink (E.contents errors.old) (E.has_failed errors.old)) (sink (E.contents errors.new) (E.has_failed errors.new)) result }
 {
-    let answered = serve(rt, files, alloc, request, input, output);
-    finish(errors, answered)
+    let answered = serve(
+        rt,
+        files,
+        alloc,
+        &invocation.request,
+        invocation.explains,
+        input,
+        output,
+    );
+    finish(errors, invocation.explains, answered)
 }
 
 /// Does what the words of the command line ask for, the program's own name first among them, and gives the status: 0; 1
@@ -93,6 +104,7 @@ pub fn answer<F: ReadFiles, I: ReadTold, W: WriteTold, E: WriteTold, R: Threads 
 ) -> u8
     ensures fulfils { (want : Asked) → refusals_of (texts words.now) ≡ [] → asked_of (texts words.now) ≡ Some want
         → Fulfils (F.source_at files.now) (source (I.remaining input.old) (I.has_failed input.new)) want
+        (explains_of (texts words.now))
         (sink (W.contents output.old) (W.has_failed output.old)) (sink (W.contents output.new) (W.has_failed output.new))
         (sink (E.contents errors.old) (E.has_failed errors.old)) (sink (E.contents errors.new) (E.has_failed errors.new)) result }
     ensures refuses { refusals_of (texts words.now) ≢ [] → Refuses (refusals_of (texts words.now))
@@ -102,7 +114,7 @@ pub fn answer<F: ReadFiles, I: ReadTold, W: WriteTold, E: WriteTold, R: Threads 
     ensures unread { refusals_of (texts words.now) ≢ [] → input.new ≡ input.old }
 {
     match read_words(alloc, words) {
-        Ok(request) => fulfil(rt, files, alloc, &request, input, output, errors),
+        Ok(invocation) => fulfil(rt, files, alloc, &invocation, input, output, errors),
         Err(error) => refuse(alloc, &error, output, errors),
     }
 }

@@ -70,6 +70,23 @@ const ROWS: &str = r"
 # an included context is searched for targets, for what comes behind a gap and for a beginning
 [a]\nexten => s,1,Goto(t,1)\nexten => s,3,NoOp()\nexten => u,2,NoOp()\nexten => _X,2,NoOp()\ninclude => b\n[b]\nexten => t,1,NoOp()\nexten => s,2,NoOp()\nexten => u,1,NoOp()\nexten => _X,1,NoOp()\n→NoFirst b,s,2\nok 1 findings\nstatus 1
 
+# an entry is hidden by one of the same name and priority in a context before its own, and not by another priority or name
+[a]\nexten => s,1,NoOp()\nexten => 1,1,NoOp()\ninclude => b\n[b]\nexten => s,1,NoOp()\nexten => s,2,NoOp()\nexten => _X,1,NoOp()\n→Hidden b,s,1 a\nok 1 findings\nstatus 1
+[a]\nexten => s,1,NoOp()\nexten => s,3,NoOp()\ninclude => b\n[b]\nexten => s,1,NoOp()\nexten => s,2,NoOp()\n→Hidden b,s,1 a\nok 1 findings\nstatus 1
+
+# two spellings of a name have one meaning
+[a]\nexten => _[0-9].,1,NoOp()\ninclude => b\n[b]\nexten => _X.,1,NoOp()\n→Hidden b,_X.,1 a\nok 1 findings\nstatus 1
+
+# each context from which it is hidden is told, in the order of the file, by way of others too; the one that includes need not have it
+[a]\ninclude => b\n[b]\ninclude => c\ninclude => d\n[c]\nexten => s,1,NoOp()\n[d]\nexten => s,1,NoOp()\n[e]\ninclude => d\ninclude => c\n→Hidden c,s,1 e\nHidden d,s,1 a\nHidden d,s,1 b\nok 3 findings\nstatus 1
+
+# contexts that include each other hide each other's, and a context that includes itself hides nothing
+[a]\nexten => s,1,NoOp()\ninclude => b\n[b]\nexten => s,1,NoOp()\ninclude => a\n→Cycle a\nHidden a,s,1 b\nCycle b\nHidden b,s,1 a\nok 4 findings\nstatus 1
+[a]\nexten => s,1,NoOp()\ninclude => a\ninclude => a\n→Cycle a\nok 1 findings\nstatus 1
+
+# it stands behind what is found of the priorities, and before what is found of the texts
+[a]\nexten => s,2,NoOp()\ninclude => b\n[b]\nexten => s,2(x),NoOp(${X})\n→NoFirst a,s,2\nNoFirst b,s,2\nHidden b,s,2 a\nUnset b,s,2 X\nUnused b,s,2 x\nok 5 findings\nstatus 1
+
 # a label is named wherever the target leads
 [a]\nexten => s,1(x),Goto(b,s,x)\n[b]\nexten => s,1(x),NoOp()\n→ok 0 findings\nstatus 0
 

@@ -8,7 +8,7 @@ use dp_rows::check_same;
 use std::test::Fail;
 
 /// All codes.
-const CODES: [Code; 30] = [
+const CODES: [Code; 36] = [
     Code::Line(LineKind::BlockComment),
     Code::Line(LineKind::NoSection),
     Code::Line(LineKind::BadHeader),
@@ -34,6 +34,12 @@ const CODES: [Code; 30] = [
     Code::Plan(PlanKind::NoExten),
     Code::Plan(PlanKind::PriorityLimit),
     Code::Plan(PlanKind::ShortLine),
+    Code::QueueLine(LineKind::BlockComment),
+    Code::QueueLine(LineKind::NoSection),
+    Code::QueueLine(LineKind::BadHeader),
+    Code::QueueLine(LineKind::NoEquals),
+    Code::QueueLine(LineKind::Directive),
+    Code::QueueLine(LineKind::Template),
     Code::Settle(SettleFault::SeatMissing { seat: 0 }),
     Code::Settle(SettleFault::Differs(Disagree { seat: 0, index: 0 })),
     Code::Settle(SettleFault::NoMemory),
@@ -68,6 +74,12 @@ fault 25 TooDeep
 fault 26 NoExten
 fault 27 PriorityLimit
 fault 28 ShortLine
+fault 1 BlockComment
+fault 2 NoSection
+fault 3 BadHeader
+fault 4 NoEquals
+fault 5 Directive
+fault 6 Template
 fault 60 SeatMissing
 fault 61 Disagree
 fault 62 NoMemory

@@ -1,5 +1,5 @@
-//! Long scripts, and long chains of includes.
-use dp_commands::{PbxFault, match_one};
+//! Long scripts, long chains of includes, and many notes.
+use dp_commands::{PbxFault, check_explained, match_one};
 use dp_commands_rows::{Command, Run, Sink, check_into, check_text, make_sink};
 use dp_conf::{NoMemory, Told};
 use dp_plan::Priority;
@@ -169,11 +169,53 @@ fn check_depth(alloc: Global) -> Result<(), Fail> {
     check_text::<Run>(alloc, text.as_bytes(), want.as_bytes())
 }
 
+/// What a dialplan loads as, with its notes explained, where the path of its file is `p`.
+struct CheckNoted;
+
+impl Command for CheckNoted {
+    fn serve(alloc: Global, text: &[u8], writer: &mut Told<Sink>) -> Result<u8, PbxFault> {
+        check_explained(alloc, "p", text, writer)
+    }
+}
+
+/// A dialplan with a note of each of so many lines.
+fn plan_with_notes(alloc: Global, count: u32) -> Result<String, NoMemory> {
+    let mut plan = String::new(alloc);
+    plan.push_str("[main]\n")?;
+    for number in 0..count {
+        write!(plan, "k{number}=\n")?;
+    }
+    Ok(plan)
+}
+
+/// What is reported of it.
+fn noted_report(alloc: Global, count: u32) -> Result<String, NoMemory> {
+    let mut want = String::new(alloc);
+    for number in 0..count {
+        let line = u64::from(number) + 2;
+        write!(
+            want,
+            "note {line} UnknownKey\n  p:{line}\n  k{number}=\n  a context has no such key, or a key in `[globals]` is empty, \
+            whatever its value is; this line is dropped\n"
+        )?;
+    }
+    want.push_str("ok 1 contexts 0 entries\nstatus 0")?;
+    Ok(want)
+}
+
+/// Each of a hundred thousand notes finds its line.
+fn check_notes(alloc: Global) -> Result<(), Fail> {
+    let plan = plan_with_notes(alloc, 100_000)?;
+    let want = noted_report(alloc, 100_000)?;
+    check_text::<CheckNoted>(alloc, plan.as_bytes(), want.as_bytes())
+}
+
 #[test]
 fn large_texts_are_served(rt: HostRuntime) -> Result<(), Fail> {
     check_numbers(rt.alloc())?;
     check_steps(rt.alloc())?;
     check_wide(rt.alloc())?;
     check_depth(rt.alloc())?;
+    check_notes(rt.alloc())?;
     check_chain(rt.alloc())
 }

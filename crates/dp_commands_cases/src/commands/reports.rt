@@ -1,5 +1,8 @@
 //! Reports on dialplans: what they write, and what they end with.
-use dp_commands_rows::{Check, check_table};
+use dp_commands::{PbxFault, check_explained};
+use dp_commands_rows::{Check, Command, Sink, check_table};
+use dp_conf::Told;
+use std::alloc::Global;
 use std::test::Fail;
 
 /// Each fault of a line.
@@ -29,4 +32,28 @@ a=1\n→fault 2 NoSection line 1
 #[test]
 fn dialplans_are_reported_so(rt: HostRuntime) -> Result<(), Fail> {
     check_table::<Check>(rt.alloc(), FAULT_LINES)
+}
+
+/// What a dialplan loads as, with its notes explained, where the path of its file is `p`.
+struct CheckExplained;
+
+impl Command for CheckExplained {
+    fn serve(alloc: Global, text: &[u8], writer: &mut Told<Sink>) -> Result<u8, PbxFault> {
+        check_explained(alloc, "p", text, writer)
+    }
+}
+
+/// Notes with their lines. Of a line at most 200 bytes are shown, and bytes that are not printed as `\xNN`. A fault stands alone.
+const EXPLAINED: &str = r"
+[main]\nexten => s,1,A\n→ok 1 contexts 1 entries\nstatus 0
+[main]\nabc\n→fault 4 NoEquals line 2
+[main]\nb=1\nabc\n→fault 4 NoEquals line 3
+[main]\ninclude => out→note 2 UnknownContext\n  p:2\n  include => out\n  there is no context of this name; the include is kept, and finds nothing\nok 1 contexts 0 entries\nstatus 0
+[main]\n\n\x20a = 1 ; x\r\nb=\xe9\x7f~\x1f\x20\n→note 3 UnknownKey\n  p:3\n  \x20a = 1 ; x\x5cx0d\n  a context has no such key, or a key in `[globals]` is empty, whatever its value is; this line is dropped\nnote 4 UnknownKey\n  p:4\n  b=\x5cxe9\x5cx7f~\x5cx1f\x20\n  a context has no such key, or a key in `[globals]` is empty, whatever its value is; this line is dropped\nok 1 contexts 0 entries\nstatus 0
+\xef\xbb\xbf[main]\na=xxxxxxxxxxxxxxxxxxxxxxxxxxxxxxxxxxxxxxxxxxxxxxxxxxxxxxxxxxxxxxxxxxxxxxxxxxxxxxxxxxxxxxxxxxxxxxxxxxxxxxxxxxxxxxxxxxxxxxxxxxxxxxxxxxxxxxxxxxxxxxxxxxxxxxxxxxxxxxxxxxxxxxxxxxxxxxxxxxxxxxxxxxxxxxxxxxxxxxxxxxxxxxxxxx\n→note 2 UnknownKey\n  p:2\n  a=xxxxxxxxxxxxxxxxxxxxxxxxxxxxxxxxxxxxxxxxxxxxxxxxxxxxxxxxxxxxxxxxxxxxxxxxxxxxxxxxxxxxxxxxxxxxxxxxxxxxxxxxxxxxxxxxxxxxxxxxxxxxxxxxxxxxxxxxxxxxxxxxxxxxxxxxxxxxxxxxxxxxxxxxxxxxxxxxxxxxxxxxxxxxxxxxxxxxxx\n  a context has no such key, or a key in `[globals]` is empty, whatever its value is; this line is dropped\nok 1 contexts 0 entries\nstatus 0
+";
+
+#[test]
+fn notes_are_explained_so(rt: HostRuntime) -> Result<(), Fail> {
+    check_table::<CheckExplained>(rt.alloc(), EXPLAINED)
 }

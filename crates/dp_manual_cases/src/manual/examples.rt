@@ -313,11 +313,13 @@ exten => s,1(begin),Queue(${QUEUE})
  same => n,Hangup()
 
 [night]
+exten => 1,1,NoOp(the sales desk is closed)
 exten => 9,2,NoOp(the night desk)
 include => menu
 @
 $ pbx audit sample/faulty.conf
 Cycle menu
+Hidden menu,1,1 night
 NoTarget menu,2,1 support,s,start
 NoTarget menu,i,2 goodbye,s,1
 NoApplication menu,t,1 Playbck
@@ -326,8 +328,9 @@ NoApplication sales,s,3 Voicemail
 Unset support,s,1 QUEUE
 Unused support,s,1 begin
 Cycle night
+Hidden night,1,1 menu
 NoFirst night,9,2
-ok 10 findings
+ok 12 findings
 ? 1
 $ pbx audit sample/extensions.conf
 ok 0 findings
@@ -345,10 +348,27 @@ example: `strategy=random`, `joinempty=paused`
 $ pbx explain 16
 error: invalid value '16' for '<CODE>': no fault has this number
 
-Usage: pbx explain <CODE>
+Usage: pbx explain [OPTIONS] <CODE>
 
 For more information, try '--help'.
 ? 2
+$ pbx list --explain faulty.conf
+fault 20 BadPriority line 2
+  faulty.conf:2
+  exten => s,0,NoOp()
+  a priority that is neither `n` nor a number from 1 on
+? 1
+$ pbx check --explain usual.conf
+note 13 UnknownContext
+  usual.conf:13
+  include => out
+  there is no context of this name; the include is kept, and finds nothing
+ok 1 contexts 4 entries
+? 0
+$ pbx run --explain missing.conf missing.script
+fault 7 ReadFailed
+  a file could not be opened or read
+? 1
 @ joined.text
 [main]
 exten => 100,1,NoOp()

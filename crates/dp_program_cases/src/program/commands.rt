@@ -100,10 +100,53 @@ audit @empty←[main]¶abc¶→0→ok 0 findings¶→
 const EXPLAINS: &str = "\
 explain 1→0→1 BlockComment¶a comment begins with `;--` and no third dash (`;---` is a plain comment)¶example: `a = 1 ;-- x`¶→
 explain 020→0→20 BadPriority¶a priority that is neither `n` nor a number from 1 on¶example: `exten => s,0,NoOp()`¶→
-explain 24→0→24 LeftOut¶what this program leaves out: one of the kinds below¶example: `switch => Loopback/x`¶¶the keys `switch`, `lswitch`, `eswitch`¶example: `lswitch => Loopback/x`¶¶the key `ignorepat`¶example: `ignorepat => 9`¶¶the priority `hint`¶example: `exten => 100,hint,Line/1`¶¶the priorities `next`, `s` and `same`, and those with a `+`¶example: `exten => s,n+1,NoOp()`¶¶a `/` in a name: names for one caller¶example: `exten => s/5551234,1,NoOp()`¶¶a `${` in a name, or in its one spelling: variables¶example: `exten => ${X},1,NoOp()`, `exten => _[{$],1,NoOp()`¶¶an include with a comma: times¶example: `include => late,9:00-17:00,*,*,*`¶¶an application with a comma in place of parentheses¶example: `exten => s,1,Wait,5`¶→
+explain 24→0→24 LeftOut¶what this program leaves out: one of the kinds that `explain 24` lists¶example: `switch => Loopback/x`¶¶the keys `switch`, `lswitch`, `eswitch`¶example: `lswitch => Loopback/x`¶¶the key `ignorepat`¶example: `ignorepat => 9`¶¶the priority `hint`¶example: `exten => 100,hint,Line/1`¶¶the priorities `next`, `s` and `same`, and those with a `+`¶example: `exten => s,n+1,NoOp()`¶¶a `/` in a name: names for one caller¶example: `exten => s/5551234,1,NoOp()`¶¶a `${` in a name, or in its one spelling: variables¶example: `exten => ${X},1,NoOp()`, `exten => _[{$],1,NoOp()`¶¶an include with a comma: times¶example: `include => late,9:00-17:00,*,*,*`¶¶an application with a comma in place of parentheses¶example: `exten => s,1,Wait,5`¶→
 explain 71→0→71 BadBreak¶a break of `debug` that has not three parts, or of which the priority is no number from 1 to 2,147,483,647¶example: `--break main,s`, `--break main,s,0`, `--break main,s,+1`¶→
 # It reads no input.
 explain 33←[main]¶abc¶→0→33 DoubleQueue¶a second section of one queue¶example: `[sales]` twice¶→
+";
+
+/// `--explain`: below a fault, and below a note of `check`, stand its place, the line and a sentence.
+const EXPLAINED: &str = "\
+# In a dialplan.
+check --explain @faulty→1→→fault 4 NoEquals line 2¶  @faulty:2¶  abc¶  a line of a section with no `=`¶
+list @faulty --explain→1→→fault 4 NoEquals line 2¶  @faulty:2¶  abc¶  a line of a section with no `=`¶
+match @faulty main s --explain→1→→fault 4 NoEquals line 2¶  @faulty:2¶  abc¶  a line of a section with no `=`¶
+match --all --explain @faulty main s→1→→fault 4 NoEquals line 2¶  @faulty:2¶  abc¶  a line of a section with no `=`¶
+audit --explain @faulty→1→→fault 4 NoEquals line 2¶  @faulty:2¶  abc¶  a line of a section with no `=`¶
+run --explain @faulty @faulty.script→1→→fault 4 NoEquals line 2¶  @faulty:2¶  abc¶  a line of a section with no `=`¶
+run --threads 2 --explain @faulty @faulty.script→1→→fault 4 NoEquals line 2¶  @faulty:2¶  abc¶  a line of a section with no `=`¶
+debug --break main,s,1 --explain @faulty @faulty.script→1→→fault 4 NoEquals line 2¶  @faulty:2¶  abc¶  a line of a section with no `=`¶
+check --explain @priority→1→→fault 20 BadPriority line 2¶  @priority:2¶  exten => s,0,NoOp()¶  a priority that is neither `n` nor a number from 1 on¶
+check --explain @name→1→→fault 11 EmptySet line 3¶  @name:3¶  exten => _[],1,NoOp()¶  a set with no member¶
+# In the queues, also where the line is none of any text.
+run --explain --queues @strategy @first @first.script→1→→fault 30 BadStrategy line 2¶  @strategy:2¶  strategy = best¶  a strategy that is none¶
+run --explain --queues @faulty @first @first.script→1→→fault 4 NoEquals line 2¶  @faulty:2¶  abc¶  a line of a section with no `=`¶
+run --explain --threads 2 --queues @odd @first @faulty.script→1→→fault 4 NoEquals line 2¶  @odd:2¶  a\\x09b\\x7f\\xc3\\xa9 c\\x0d¶  a line of a section with no `=`¶
+debug --explain --break main,s,1 --queues @faulty @first @faulty.script→1→→fault 4 NoEquals line 2¶  @faulty:2¶  abc¶  a line of a section with no `=`¶
+# In a script. The second dialplan has no fault of its own.
+run --explain @first @faulty.script→1→→fault 70 BadScript line 2¶  @faulty.script:2¶  jump 1¶  a line of the script that begins with another word than those of scripts, that has too few or too many words, or of which CH or COUNT is no number or too great, or STATUS none of its five; or `reload` where there is no second dialplan¶
+run --explain --queues @help --reload @faulty @first @faulty.script→1→→fault 70 BadScript line 2¶  @faulty.script:2¶  jump 1¶  a line of the script that begins with another word than those of scripts, that has too few or too many words, or of which CH or COUNT is no number or too great, or STATUS none of its five; or `reload` where there is no second dialplan¶
+debug --explain --break main,s,1 @first @faulty.script→1→→fault 70 BadScript line 2¶  @faulty.script:2¶  jump 1¶  a line of the script that begins with another word than those of scripts, that has too few or too many words, or of which CH or COUNT is no number or too great, or STATUS none of its five; or `reload` where there is no second dialplan¶
+# Bytes that are not printed, a line of more than 200 bytes, and a mark at the front of the first.
+check --explain @odd→1→→fault 4 NoEquals line 2¶  @odd:2¶  a\\x09b\\x7f\\xc3\\xa9 c\\x0d¶  a line of a section with no `=`¶
+check --explain @wide→1→→fault 4 NoEquals line 2¶  @wide:2¶  xxxxxxxxxxxxxxxxxxxxxxxxxxxxxxxxxxxxxxxxxxxxxxxxxxxxxxxxxxxxxxxxxxxxxxxxxxxxxxxxxxxxxxxxxxxxxxxxxxxxxxxxxxxxxxxxxxxxxxxxxxxxxxxxxxxxxxxxxxxxxxxxxxxxxxxxxxxxxxxxxxxxxxxxxxxxxxxxxxxxxxxxxxxxxxxxxxxxxxxx¶  a line of a section with no `=`¶
+check --explain @marked→1→→fault 3 BadHeader line 1¶  @marked:1¶  \\xef\\xbb\\xbf[main¶  a header with no `]`, with an empty name, or with text behind the `]`¶
+# Faults that stand in no line.
+check --explain @missing→1→→fault 7 ReadFailed¶  a file could not be opened or read¶
+check --explain @long→1→→fault 8 TooLong¶  a file has more than 16,777,216 bytes¶
+run --explain --queues @missing @first @first.script→1→→fault 7 ReadFailed¶  a file could not be opened or read¶
+debug --explain --break main,s @faulty @faulty.script→1→→fault 71 BadBreak¶  a break of `debug` that has not three parts, or of which the priority is no number from 1 to 2,147,483,647¶
+# Notes.
+check --explain @usual→0→note 13 UnknownContext¶  @usual:13¶  include => out¶  there is no context of this name; the include is kept, and finds nothing¶ok 1 contexts 4 entries¶→
+check @notes --explain→0→note 2 UnknownKey¶  @notes:2¶  =x¶  a context has no such key, or a key in `[globals]` is empty, whatever its value is; this line is dropped¶note 5 DoublePriority¶  @notes:5¶  exten => s,1,Hangup()¶  an earlier line of the context that is kept has the extension and the priority; this line is dropped¶note 7 DoubleLabel¶  @notes:7¶  exten => s,3(x),NoOp()¶  an earlier line of the context and the extension that is kept has the label; this line is dropped¶note 8 UnknownContext¶  @notes:8¶  include => nowhere¶  there is no context of this name; the include is kept, and finds nothing¶note 9 UnknownKey¶  @notes:9¶  colour = red¶  a context has no such key, or a key in `[globals]` is empty, whatever its value is; this line is dropped¶ok 1 contexts 2 entries¶→
+# Where there is neither a fault nor a note, and of a refused event, there is nothing more.
+check --explain @sections→0→ok 3 contexts 2 entries¶→
+list --explain @cycle→0→[a]¶include => b¶[b]¶include => a¶→
+audit --explain @cycle→1→Cycle a¶Cycle b¶ok 2 findings¶→
+run --explain @notes @empty→0→→
+run --explain @first @refused.script→1→refused 40 NoChannel¶started 1¶ran 1 main,100,1 NoOp -> ready main,100,2¶→
+explain --explain 4→0→4 NoEquals¶a line of a section with no `=`¶example: `abc`¶→
 ";
 
 /// `run`.
@@ -260,12 +303,13 @@ check @empty←[main]¶exten => 100,1,NoOp(hello)¶exten => 100,2,Goto(200,1)¶e
 ";
 
 /// All the tables.
-const TABLES: [&str; 10] = [
+const TABLES: [&str; 11] = [
     CHECKS,
     LISTS,
     MATCHES,
     AUDITS,
     EXPLAINS,
+    EXPLAINED,
     RUNS,
     THREAD_RUNS,
     DEBUGS,

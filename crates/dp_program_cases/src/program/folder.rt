@@ -46,6 +46,12 @@ joined→[main]¶exten => s,1,NoOp()¶;; reload¶;; script¶exten => s,2,NoOp()�
 joined.script→start main s¶;; reload¶step 1 2¶
 faulty→[main]¶abc¶
 faulty.script→start main 100¶jump 1¶
+priority→[main]¶exten => s,0,NoOp()¶
+name→[main]¶exten => s,1,NoOp()¶exten => _[],1,NoOp()¶
+strategy→[help]¶strategy = best¶
+odd→[main]¶a\tb\u{7f}é c\r¶
+wide→[main]¶xxxxxxxxxxxxxxxxxxxxxxxxxxxxxxxxxxxxxxxxxxxxxxxxxxxxxxxxxxxxxxxxxxxxxxxxxxxxxxxxxxxxxxxxxxxxxxxxxxxxxxxxxxxxxxxxxxxxxxxxxxxxxxxxxxxxxxxxxxxxxxxxxxxxxxxxxxxxxxxxxxxxxxxxxxxxxxxxxxxxxxxxxxxxxxxxxxxxxxxxxxxxxxxxxx¶
+marked→\u{feff}[main¶
 notes→[globals]¶=x¶[main]¶exten => s,1,NoOp()¶exten => s,1,Hangup()¶exten => s,2(x),NoOp()¶exten => s,3(x),NoOp()¶include => nowhere¶colour = red¶
 sections→[a]¶exten => 1,1,A¶[b]¶[a]¶exten => 2,1,A¶include => b¶[c]¶include => a¶include => b¶
 empty→
@@ -121,7 +127,20 @@ fn printed<R: Files + Threads + Wait + Sync + AllocGlobal>(
     Ok(out)
 }
 
-/// Asserts the status of a command line and all that it prints, in one line. Behind a `←` stands the standard input.
+/// The text with `@NAME` for the path of each file of the folder.
+fn with_names(alloc: Global, folder: &str, text: &str) -> Result<String, NoMemory> {
+    let front = format!(in alloc; "{folder}/")?;
+    let mut out = String::new(alloc);
+    for (at, part) in text.split(front.as_str()).enumerate() {
+        if at > 0 {
+            out.push('@')?;
+        }
+        out.push_str(part)?;
+    }
+    Ok(out)
+}
+
+/// Asserts the status of a command line and all that it prints, in one line, with `@NAME` for the path of a file. Behind a `←` stands the standard input.
 pub(super) fn check_line<R: Files + Threads + Wait + Sync + Abort + AllocGlobal>(
     rt: &R,
     folder: &str,
@@ -131,7 +150,7 @@ pub(super) fn check_line<R: Files + Threads + Wait + Sync + Abort + AllocGlobal>
     let (line, input) = asked.split_once('←').unwrap_or((asked, ""));
     let input = in_lines(rt.alloc(), input)?;
     let got = printed(rt, folder, line, &input)?;
-    let got = in_a_line(rt.alloc(), &got)?;
+    let got = in_a_line(rt.alloc(), &with_names(rt.alloc(), folder, &got)?)?;
     assert_eq!(rt; got.as_str(), want, "of {asked}");
     Ok(())
 }

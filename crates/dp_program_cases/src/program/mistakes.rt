@@ -12,9 +12,9 @@ chekc @usual→unrecognized subcommand 'chekc'¶¶  tip: a similar subcommand ex
 dial→unrecognized subcommand 'dial'→pbx [COMMAND]
 --loud→unexpected argument '--loud' found→pbx [COMMAND]
 check→the following required arguments were not provided:¶  <FILE>→pbx check <FILE>
-check @usual more→unexpected argument 'more' found→pbx check <FILE>
-check --loud x→unexpected argument '--loud' found¶¶  tip: to pass '--loud' as a value, use '-- --loud'→pbx check <FILE>
-check --reload @usual @usual→unexpected argument '--reload' found¶¶  tip: to pass '--reload' as a value, use '-- --reload'→pbx check <FILE>
+check @usual more→unexpected argument 'more' found→pbx check [OPTIONS] <FILE>
+check --loud x→unexpected argument '--loud' found¶¶  tip: to pass '--loud' as a value, use '-- --loud'→pbx check [OPTIONS] <FILE>
+check --reload @usual @usual→unexpected argument '--reload' found¶¶  tip: to pass '--reload' as a value, use '-- --reload'→pbx check [OPTIONS] <FILE>
 match @usual→the following required arguments were not provided:¶  <CONTEXT>¶  <TEXT>→pbx match <FILE> <CONTEXT> <TEXT> [PRIORITY]
 match @usual main 1 2 3→unexpected argument '3' found→pbx match [OPTIONS] <FILE> <CONTEXT> <TEXT> [PRIORITY]
 match @usual main -5→unexpected argument '-5' found¶¶  tip: to pass '-5' as a value, use '-- -5'→pbx match [OPTIONS] <FILE> <CONTEXT> <TEXT> [PRIORITY]
@@ -28,15 +28,15 @@ match @missing main 5 0→invalid value '0' for '[PRIORITY]': a priority is a nu
 match @usual main 5 --all --all→the argument '--all' cannot be used multiple times→pbx match [OPTIONS] <FILE> <CONTEXT> <TEXT> [PRIORITY]
 match --all=1 @usual main 5→unexpected value '1' for '--all' found; no more were expected→pbx match --all <FILE> <CONTEXT> <TEXT> [PRIORITY]
 audit→the following required arguments were not provided:¶  <FILE>→pbx audit <FILE>
-audit a b→unexpected argument 'b' found→pbx audit <FILE>
+audit a b→unexpected argument 'b' found→pbx audit [OPTIONS] <FILE>
 explain→the following required arguments were not provided:¶  <CODE>→pbx explain <CODE>
-explain 20 21→unexpected argument '21' found→pbx explain <CODE>
-explain 0→invalid value '0' for '<CODE>': no fault has this number→pbx explain <CODE>
-explain 16→invalid value '16' for '<CODE>': no fault has this number→pbx explain <CODE>
-explain 72→invalid value '72' for '<CODE>': no fault has this number→pbx explain <CODE>
-explain BadPriority→invalid value 'BadPriority' for '<CODE>': no fault has this number→pbx explain <CODE>
-explain 4294967316→invalid value '4294967316' for '<CODE>': no fault has this number→pbx explain <CODE>
-explain ''→invalid value '' for '<CODE>': no fault has this number→pbx explain <CODE>
+explain 20 21→unexpected argument '21' found→pbx explain [OPTIONS] <CODE>
+explain 0→invalid value '0' for '<CODE>': no fault has this number→pbx explain [OPTIONS] <CODE>
+explain 16→invalid value '16' for '<CODE>': no fault has this number→pbx explain [OPTIONS] <CODE>
+explain 72→invalid value '72' for '<CODE>': no fault has this number→pbx explain [OPTIONS] <CODE>
+explain BadPriority→invalid value 'BadPriority' for '<CODE>': no fault has this number→pbx explain [OPTIONS] <CODE>
+explain 4294967316→invalid value '4294967316' for '<CODE>': no fault has this number→pbx explain [OPTIONS] <CODE>
+explain ''→invalid value '' for '<CODE>': no fault has this number→pbx explain [OPTIONS] <CODE>
 run→the following required arguments were not provided:¶  <FILE>¶  <SCRIPT>→pbx run <FILE> <SCRIPT>
 run @missing→the following required arguments were not provided:¶  <SCRIPT>→pbx run <FILE> <SCRIPT>
 run a b c→unexpected argument 'c' found→pbx run [OPTIONS] <FILE> <SCRIPT>
@@ -116,13 +116,14 @@ Status: 0; 1 where a fault was printed, an event was refused or an audit found s
 const CHECK_HELP: &str = "\
 Load a dialplan, and print its notes and its counts
 
-Usage: pbx check <FILE>
+Usage: pbx check [OPTIONS] <FILE>
 
 Arguments:
   <FILE>  The dialplan, as extensions.conf
 
 Options:
-  -h, --help  Print help
+      --explain  Print below each fault, and below each note of `check`, where it stands and what the manual says of it
+  -h, --help     Print help
 
 Prints `note LINE KIND` for each line that is dropped and for each include that finds nothing, and then the counts.
 A dialplan that does not load has its first fault on standard error, with its line, and the status 1.
@@ -137,13 +138,14 @@ Example:
 const LIST_HELP: &str = "\
 Print a dialplan in its canonical text
 
-Usage: pbx list <FILE>
+Usage: pbx list [OPTIONS] <FILE>
 
 Arguments:
   <FILE>  The dialplan, as extensions.conf
 
 Options:
-  -h, --help  Print help
+      --explain  Print below each fault, and below each note of `check`, where it stands and what the manual says of it
+  -h, --help     Print help
 
 Prints the dialplan in one canonical text: its global variables, and each context with its entries and its includes. Each
 priority is a number, and each name stands in its one spelling. The notes of the dialplan are not printed.
@@ -169,8 +171,9 @@ Arguments:
   [PRIORITY]  The priority that is asked for, from 1 to 2147483647 [default: 1]
 
 Options:
-      --all   Print below it what becomes of each extension that matches
-  -h, --help  Print help
+      --all      Print below it what becomes of each extension that matches
+      --explain  Print below each fault, and below each note of `check`, where it stands and what the manual says of it
+  -h, --help     Print help
 
 Prints `CONTEXT,NAME,PRIORITY APPLICATION` of the entry that answers, or `none`. The context is searched first, and then
 what it includes. A word that begins with `-` may stand behind `--`.
@@ -187,13 +190,14 @@ Example:
 const AUDIT_HELP: &str = "\
 Print what the writer of a dialplan may not have meant
 
-Usage: pbx audit <FILE>
+Usage: pbx audit [OPTIONS] <FILE>
 
 Arguments:
   <FILE>  The dialplan, as extensions.conf
 
 Options:
-  -h, --help  Print help
+      --explain  Print below each fault, and below each note of `check`, where it stands and what the manual says of it
+  -h, --help     Print help
 
 Prints `KIND CONTEXT,NAME,PRIORITY` for each finding, with what it is about behind it, and then how many there are:
   Cycle          a context includes itself
@@ -201,6 +205,7 @@ Prints `KIND CONTEXT,NAME,PRIORITY` for each finding, with what it is about behi
   NoTarget       a target leads to no entry
   Gap            the next priority is not found, but greater ones are there
   NoFirst        there is no priority 1
+  Hidden         another entry of the same name and priority comes before it
   Unset          nothing sets the variable that is read
   Unused         no target names the label
 The status is 0 where nothing is found, and else 1.
@@ -216,13 +221,14 @@ Example:
 const EXPLAIN_HELP: &str = "\
 Print what the manual says of a fault
 
-Usage: pbx explain <CODE>
+Usage: pbx explain [OPTIONS] <CODE>
 
 Arguments:
   <CODE>  The number of the fault, from 1 to 71
 
 Options:
-  -h, --help  Print help
+      --explain  Print below each fault, and below each note of `check`, where it stands and what the manual says of it
+  -h, --help     Print help
 
 Prints the number and the name of a fault, when it comes, and an example of it, as the manual has them.
 
@@ -247,6 +253,7 @@ Options:
       --queues <QUEUES>    The queues, as queues.conf; without it there are none
       --reload <DIALPLAN>  The second dialplan, which a line `reload` of the script puts in force
       --threads <N>        Give the events in so many threads at once, from 1 to 64
+      --explain            Print below each fault, and below each note of `check`, where it stands and what the manual says of it
   -h, --help               Print help
 
 A script has one event a line. Channels are numbered from 1 as they start, queues and agents are named:
@@ -291,6 +298,7 @@ Options:
       --queues <QUEUES>                 The queues, as queues.conf; without it there are none
       --reload <DIALPLAN>               The second dialplan, which a line `reload` of the script puts in force
       --break <CONTEXT,EXTEN,PRIORITY>  The place where the run halts
+      --explain                         Print below each fault, and below each note of `check`, where it stands and what the manual says of it
   -h, --help                            Print help
 
 Runs the script as `run` does, but passes over `show`. Before a step of a channel that is ready at the place of the break it prints

@@ -21,4 +21,5 @@ push_of_entries-requires-clause-scene g c = record {
   context = c.requires.context;
   named = c.requires.known.named;
   set = c.requires.known.set;
+  hidden = c.requires.known.hidden;
 }

@@ -1,7 +1,6 @@
-use Rattle.std.proofs.Common.{◌∙◌, ◌==◌, false, sym, ap, length}
+use Rattle.std.proofs.Common.{◌∙◌, ◌==◌, sym, ap}
 use Rattle.dp_pattern.specs.Dashes.{undashed}
 use Rattle.dp_trie.specs.Names.{rank}
-use Rattle.dp_trie.specs.Tree.{allows}
 use Rattle.dp_trie.proofs.MatchLemmas.{plain-side, other-side, pattern-taken}
 use Rattle.dp_trie.proofs.matching.matches.Goals as goal
 
@@ -18,6 +17,5 @@ returns-in_default c =
 pub returns-then-takes_all : goal.returns-then-takes_all
 returns-then-takes_all c =
     let digits = undashed c.args.digits.now.text.now in
-    c.allows.ensures
-    ∙ (ap (allows false c.in-Pattern.tail (length c.in-Pattern.classes.now)) c.count.ensures
-    ∙ sym (pattern-taken digits c.in-Pattern.classes.now c.in-Pattern.tail c.args.name.now c.in-Pattern.ensures.value (sym c.takes_all.ensures ∙ c.if-takes_all.true)))
+    c.allows.ensures.value
+    ∙ sym (pattern-taken digits c.in-Pattern.classes.now c.in-Pattern.tail c.args.name.now c.in-Pattern.ensures.value (sym c.takes_all.ensures ∙ c.if-takes_all.true))

@@ -1,29 +1,42 @@
-use Rattle.std.proofs.Common.{◌≤◌, ◌<◌, ◌∙◌, sym, ap, subst, length}
+use Rattle.std.proofs.Common.{◌<◌, ◌≤◌, ◌∙◌, sym, ap, subst, take, drop}
 use Rattle.std.specs.Prelude.{slice_range}
+use Rattle.std.specs.List.{AllByRecursion, find}
 use Rattle.std.specs.Option.{option_map}
 use Rattle.dp_pattern.specs.Dashes.{undashed}
-use Rattle.dp_trie.specs.Asked.{is_more, wants, hit_of, Rise}
-use Rattle.dp_trie.specs.Names.{AreFitting}
+use Rattle.dp_trie.specs.Asked.{is_more, wants, asked, hit_of, Rise}
+use Rattle.dp_trie.specs.Names.{known_plain, rank, rank_of, fitting, NamesRise, RiseEach}
 use Rattle.dp_trie.specs.declared.plain.PlainName.{PlainName}
-use Rattle.dp_trie.proofs.PlainLemmas.{names-rise, rise-each, all-fitting, fitting-found}
+use Rattle.dp_trie.proofs.PlainLemmas.{names-rise, rise-each, rise-drop, all-dropped, found-rest}
 use Rattle.dp_trie.proofs.plain.find_plain.Goals as goal
 
-pub fitting_names-requires : goal.fitting_names-requires
-fitting_names-requires c = names-rise c.args.held.now c.args.names.now c.requires.ranges c.requires.order
+pub count_below-requires : goal.count_below-requires
+count_below-requires c = names-rise c.args.held.now c.args.names.now c.requires.ranges c.requires.order
 
-pub find_own_of_all-requires-clause-ranges : goal.find_own_of_all-requires-clause-ranges
-find_own_of_all-requires-clause-ranges c =
-    all-fitting (λ (p : PlainName). (p.from < p.until) × (p.until ≤ length c.args.held.now)) (undashed c.args.digits.now.text.now) c.is_more.result c.args.names.now c.fitting_names.result.now c.fitting_names.ensures c.requires.ranges
+pub find_in_front-requires-clause-rise : goal.find_in_front-requires-clause-rise
+find_in_front-requires-clause-rise c =
+    subst (RiseEach c.args.held.now) (sym c.split_at.ensures.back)
+    (all-dropped (λ (p : PlainName). Rise (slice_range c.args.held.now p.from p.until)) c.args.names.now c.count_below.result
+    (rise-each c.args.held.now c.args.names.now c.requires.order))
 
-pub find_own_of_all-requires-clause-rise : goal.find_own_of_all-requires-clause-rise
-find_own_of_all-requires-clause-rise c =
-    all-fitting (λ (p : PlainName). Rise (slice_range c.args.held.now p.from p.until)) (undashed c.args.digits.now.text.now) c.is_more.result c.args.names.now c.fitting_names.result.now c.fitting_names.ensures
-    (rise-each c.args.held.now c.args.names.now c.requires.order)
+pub find_in_front-requires-clause-order : goal.find_in_front-requires-clause-order
+find_in_front-requires-clause-order c =
+    subst NamesRise (sym c.split_at.ensures.back)
+    (rise-drop c.args.names.now c.count_below.result (names-rise c.args.held.now c.args.names.now c.requires.ranges c.requires.order))
+
+pub find_in_front-requires-clause-least : goal.find_in_front-requires-clause-least
+find_in_front-requires-clause-least c =
+    let digits = undashed c.args.digits.now.text.now in
+    let limit = c.rank-limit.ensures ∙ ap rank (c.fitting.ensures ∙ ap fitting c.is_more.ensures) in
+    subst (AllByRecursion (λ (p : PlainName). rank (fitting (is_more c.args.question)) ≤ rank_of digits p)) (sym c.split_at.ensures.back)
+    (subst (λ least. AllByRecursion (λ (p : PlainName). least ≤ rank_of digits p) (drop c.count_below.result c.args.names.now)) limit c.count_below.ensures.above)
 
 pub returns : goal.returns
 returns c =
     let digits = undashed c.args.digits.now.text.now in
-    c.find_own_of_all.ensures
+    let more = is_more c.args.question in
+    let limit = c.rank-limit.ensures ∙ ap rank (c.fitting.ensures ∙ ap fitting c.is_more.ensures) in
+    c.find_in_front.ensures
+    ∙ (ap (λ names. option_map hit_of (find (asked more (wants c.args.question) digits) (known_plain c.args.held.now names))) c.split_at.ensures.back
     ∙ ap (option_map hit_of)
-    (sym (fitting-found c.args.held.now (wants c.args.question) (is_more c.args.question) digits c.args.names.now c.fitting_names.result.now
-    (subst (λ more. AreFitting digits more c.args.names.now c.fitting_names.result.now) c.is_more.ensures c.fitting_names.ensures)))
+    (found-rest c.args.held.now (wants c.args.question) more digits c.args.names.now c.count_below.result
+    (subst (λ least. AllByRecursion (λ (p : PlainName). rank_of digits p < least) (take c.count_below.result c.args.names.now)) limit c.count_below.ensures.below)))

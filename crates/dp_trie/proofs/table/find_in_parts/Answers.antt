@@ -5,7 +5,7 @@ use Rattle.dp_trie.specs.Asked.{is_more, wants, asked, hit_of}
 use Rattle.dp_trie.specs.Known.{Known}
 use Rattle.dp_trie.specs.Names.{known_plain}
 use Rattle.dp_trie.specs.Tree.{known_from}
-use Rattle.dp_trie.proofs.PlainLemmas.{both-some, both-none, none-counted, tree-counted, names-plain, HasAtMost}
+use Rattle.dp_trie.proofs.PlainLemmas.{both-some, both-none, no-nodes, none-counted, tree-counted, names-plain, HasAtMost}
 use Rattle.dp_trie.proofs.table.find_in_parts.Goals as goal
 
 pub returns-in-Some-clause-hit : goal.returns-in-Some-clause-hit
@@ -18,12 +18,27 @@ returns-in-Some-clause-least c =
     subst (λ (o : Option Known). HasAtMost o 0) (sym (both-some (asked (is_more c.args.question) (wants c.args.question) (undashed c.args.digits.now.text.now)) (known_plain c.args.plain.now c.args.names.now) (known_from c.args.held.now [] c.args.nodes.now) c.in-Some.hit c.in-Some.ensures))
     (none-counted _ 0 (names-plain c.args.plain.now (asked (is_more c.args.question) (wants c.args.question) (undashed c.args.digits.now.text.now)) c.args.names.now))
 
-pub returns-in-None-clause-hit : goal.returns-in-None-clause-hit
-returns-in-None-clause-hit c =
+pub returns-then-is_empty-clause-hit : goal.returns-then-is_empty-clause-hit
+returns-then-is_empty-clause-hit c =
+    let test = asked (is_more c.args.question) (wants c.args.question) (undashed c.args.digits.now.text.now) in
+    ap (option_map hit_of)
+    (sym (both-none test (known_plain c.args.plain.now c.args.names.now) (known_from c.args.held.now [] c.args.nodes.now) c.in-None.ensures
+    ∙ no-nodes test c.args.held.now c.args.nodes.now (sym c.is_empty.ensures ∙ c.if-is_empty.true)))
+
+pub returns-then-is_empty-clause-least : goal.returns-then-is_empty-clause-least
+returns-then-is_empty-clause-least c =
+    let test = asked (is_more c.args.question) (wants c.args.question) (undashed c.args.digits.now.text.now) in
+    subst (λ (o : Option Known). HasAtMost o 0)
+    (sym (both-none test (known_plain c.args.plain.now c.args.names.now) (known_from c.args.held.now [] c.args.nodes.now) c.in-None.ensures
+    ∙ no-nodes test c.args.held.now c.args.nodes.now (sym c.is_empty.ensures ∙ c.if-is_empty.true)))
+    tt
+
+pub returns-else-is_empty-clause-hit : goal.returns-else-is_empty-clause-hit
+returns-else-is_empty-clause-hit c =
     c.find_in_tree.ensures.hit
     ∙ ap (option_map hit_of) (sym (both-none (asked (is_more c.args.question) (wants c.args.question) (undashed c.args.digits.now.text.now)) (known_plain c.args.plain.now c.args.names.now) (known_from c.args.held.now [] c.args.nodes.now) c.in-None.ensures))
 
-pub returns-in-None-clause-least : goal.returns-in-None-clause-least
-returns-in-None-clause-least c =
+pub returns-else-is_empty-clause-least : goal.returns-else-is_empty-clause-least
+returns-else-is_empty-clause-least c =
     subst (λ (o : Option Known). HasAtMost o c.find_in_tree.result.count) (sym (both-none (asked (is_more c.args.question) (wants c.args.question) (undashed c.args.digits.now.text.now)) (known_plain c.args.plain.now c.args.names.now) (known_from c.args.held.now [] c.args.nodes.now) c.in-None.ensures))
     (tree-counted _ c.find_in_tree.result.count c.find_in_tree.ensures.least)

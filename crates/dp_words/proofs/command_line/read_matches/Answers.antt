@@ -23,12 +23,12 @@ command_is words (Err error) has = tt
 pub returns-clause-command : goal.returns-clause-command
 returns-clause-command c =
     let P : App → Type 0 = λ app. IfOk c.try_get_matches_from.result (HasMatchesOf app (texts c.args.words.now)) in
-    command_is (texts c.args.words.now) c.try_get_matches_from.result (subst P c.in_ok-commands.ensures c.try_get_matches_from.ensures.matches)
+    command_is (texts c.args.words.now) c.try_get_matches_from.result (subst P c.in_ok-commands.ensures.0 c.try_get_matches_from.ensures.matches)
 
 pub returns-clause-refused : goal.returns-clause-refused
 returns-clause-refused c =
     let P : App → Type 0 = λ app. IfErr c.try_get_matches_from.result (λ error. takes app (texts c.args.words.now) ≡ true → kind_of error ≡ OutOfMemory) in
-    subst P c.in_ok-commands.ensures c.try_get_matches_from.ensures.passes
+    subst P c.in_ok-commands.ensures.0 c.try_get_matches_from.ensures.passes
 
 -- the program's commands are of those whose faults are told
 is_simple_pbx : is_simple_and_free pbx_app ≡ true
@@ -38,4 +38,4 @@ is_simple_pbx = refl
 pub returns-clause-faults : goal.returns-clause-faults
 returns-clause-faults c =
     let P : App → Type 0 = λ app. is_simple_and_free app ≡ true → FailsBy (fault_of app (texts c.args.words.now)) c.try_get_matches_from.result in
-    subst P c.in_ok-commands.ensures c.try_get_matches_from.ensures.kinds is_simple_pbx
+    subst P c.in_ok-commands.ensures.0 c.try_get_matches_from.ensures.kinds is_simple_pbx

@@ -7,7 +7,7 @@ use Rattle.dp_words.proofs.program.answer.Goals as goal
 pub returns-in-Err-clause-fulfils : goal.returns-in-Err-clause-fulfils
 returns-in-Err-clause-fulfils g c = λ want none is.
     let memory = no_kind _ c.in-Err.error.kind none c.in-Err.ensures.kinds in
-    fulfils_lacks _ _ want _ _ _ _ c.in-Err.error.kind _ memory
+    fulfils_lacks _ _ want _ _ _ _ _ c.in-Err.error.kind _ memory
     (ap (λ out. sink (g.W.WriteTold.contents out) (g.W.WriteTold.has_failed out)) (c.refuse.ensures.mistake (ap explained_status memory))) c.refuse.ensures.refuses
 
 pub returns-in-Err-clause-silent : goal.returns-in-Err-clause-silent
