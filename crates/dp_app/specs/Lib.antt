@@ -1,7 +1,6 @@
 pub mod Extensions
-pub mod Keeping
-pub mod Laws
+pub mod Lawful
 pub mod Parts
 pub mod Rows
-pub mod StoreKept
 pub mod Tables
+pub mod laws

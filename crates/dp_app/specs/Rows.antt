@@ -3,7 +3,7 @@ use Rattle.std.specs.Prelude.{ℕ, List, Option, Some, None}
 use Rattle.dp_app.specs.declared.cell.Cell.{Cell}
 use Rattle.dp_app.specs.declared.moves.Move.{Move}
 
--- the cell behind an application, and where its channel goes
+-- the cell after an application, and where its channel goes
 pub record Outcome : Type 0 where
   pub cell : Cell
   pub next : Move

@@ -5,7 +5,7 @@ use Rattle.std.specs.Char.{to_ascii_lowercase}
 use Rattle.std.proofs.Common.{ap, subst, sym, ◌∙◌}
 use Rattle.std.proofs.lemmas.Option.{none-some, same_Some}
 use Rattle.dp_conf.specs.Words.{same_word}
-use Rattle.dp_app.specs.Laws.{IsBlind, IsLawful, IsLawfulRow}
+use Rattle.dp_app.specs.Lawful.{IsBlind, IsLawful, IsLawfulRow}
 use Rattle.dp_app.specs.Rows.{Row, Rows}
 use Rattle.dp_app.specs.declared.touch.Touch.{Touch}
 

@@ -1,6 +1,6 @@
 //! Applications, and tables of them.
 ghost use Rattle.std.specs.Prelude.{◌≡◌, ℕ, List, IfOk, OnErr, IfSome, Some};
-ghost use Rattle.dp_app.specs.Laws.{IsBlind, IsLawful, IsLawfulRow, MayRun};
+ghost use Rattle.dp_app.specs.Lawful.{IsBlind, IsLawful, IsLawfulRow, MayRun};
 ghost use Rattle.dp_app.specs.Rows.{Row, Rows, dispatched};
 ghost use Rattle.dp_app.specs.declared.cell.Cell.{Cell};
 ghost use Rattle.dp_app.specs.declared.touch.Touch as touches;

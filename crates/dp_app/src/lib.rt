@@ -1,5 +1,5 @@
 //! What an application of a dialplan is, after the Asterisk documentation's application reference: a row from its
-//! arguments and a cell to the cell behind it and to where the channel goes, under laws that every table keeps.
+//! arguments and a cell to the cell after it and to where the channel goes, under laws that every table keeps.
 #![tactic(auto)]
 
 mod application;

@@ -46,15 +46,15 @@ impl TargetParts {
         while let Some(left) = rest {
             let text = Text::copy_of(alloc, trim(part))?;
             front.push(text)?;
-            let (next, behind) = first_argument(left);
+            let (next, after) = first_argument(left);
             part = next;
-            rest = behind;
+            rest = after;
         }
         let last = SmallVec::from_slice(alloc, trim(part))?;
         Ok(TargetParts { front, last })
     }
 
-    /// These parts and one more behind them, as texts of their own.
+    /// These parts and one more after them, as texts of their own.
     pub fn with_last(alloc: Global, front: &[&[u8]], last: &[u8]) -> Result<Self, NoMemory>
         ensures { IfOk result (λ made. made ≡ map (λ part. part.now) front.now ++ last.now ∷ []) }
     {

@@ -1,11 +1,11 @@
 //! Applications in a dialplan of two contexts, worked out by hand from the rules.
 use dp_machine::NoMemory;
-use dp_machine_rows::{Asked, Exchange, answer_on, call, notes_of, push_called, push_stepped};
+use dp_machine_rows::{Ask, Exchange, answer_on, call, notes_of, push_called, push_stepped};
 use dp_rows::{Question, bytes_of, check, check_same};
 use std::alloc::Global;
 use std::test::Fail;
 
-/// What stands behind the line of the application.
+/// What stands after the line of the application.
 const BEHIND: &[u8] = b"\nexten => 100,2,NoOp()\nexten => 200,1,NoOp()\nexten => 200,3,Hangup()\n\
 [out]\nexten => 100,1,NoOp()\nexten => 200,5,NoOp()\n";
 
@@ -122,7 +122,7 @@ fn plan_with(alloc: Global, application: &[u8]) -> Result<Vec<u8>, NoMemory> {
 /// What a call to `100` in `main` answers to two steps.
 struct TwoSteps;
 
-impl Asked for TwoSteps {
+impl Ask for TwoSteps {
     fn answer(alloc: Global, machine: &mut Exchange, _asked: &str) -> Result<String, Fail> {
         let mut out = String::new(alloc);
         let call = call(alloc, b"main", b"100", b"")?;

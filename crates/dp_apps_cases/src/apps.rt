@@ -7,7 +7,7 @@ use dp_table::StandardApps;
 use std::alloc::Global;
 use std::test::Fail;
 
-/// The names of applications with their arguments behind a bar. The parts of a target stand between bars.
+/// The names of applications with their arguments after a bar. The parts of a target stand between bars.
 const GOING: &str = r"
 # Those that go on and those that end the call.
 NoOp|→next

@@ -1,12 +1,12 @@
 //! What `Dial` makes of its arguments, worked out by hand from the rules.
 use dp_machine::{Event, NoMemory, Phase};
-use dp_machine_rows::{Asked, Exchange, answer_on, call, push_state, push_value};
+use dp_machine_rows::{Ask, Exchange, answer_on, call, push_state, push_value};
 use dp_rows::{Question, bytes_of, check};
 use std::alloc::Global;
 use std::test::Fail;
 
-/// Arguments of `Dial` in a channel of which `DIALSTATUS` is `before`: how the channel waits behind it or where it stands, and
-/// `DIALSTATUS` then; and behind the `;` the same in a channel that runs its extension `h`.
+/// Arguments of `Dial` in a channel of which `DIALSTATUS` is `before`: how the channel waits after it or where it stands, and
+/// `DIALSTATUS` then; and after the `;` the same in a channel that runs its extension `h`.
 const ROWS: &str = r"
 # No devices: nothing is called, and the channel goes on, in `h` too.
 →ready main,100,3, CHANUNAVAIL ; ready main,h,2, CHANUNAVAIL
@@ -47,7 +47,7 @@ Line/5,,(g,)→dialling, before ; ended main,h,1, before
 Line/5,,G→dialling, before ; ended main,h,1, before
 Line/5,,t→dialling, before ; ended main,h,1, before
 Line/5,,→dialling, before ; ended main,h,1, before
-# It is an option in the third part alone, and what stands behind that has no effect.
+# It is an option in the third part alone, and what stands after that has no effect.
 Line/5,g→dialling timer, before ; ended main,h,1, before
 g→dialling, before ; ended main,h,1, before
 Line/5,,,g→dialling, before ; ended main,h,1, before
@@ -103,7 +103,7 @@ fn begin(alloc: Global, machine: &mut Exchange, channel: u32) -> Result<(), NoMe
 /// What becomes of two calls, of which the second is hung up first.
 struct TwoCalls;
 
-impl Asked for TwoCalls {
+impl Ask for TwoCalls {
     fn answer(alloc: Global, machine: &mut Exchange, _asked: &str) -> Result<String, Fail> {
         let mut out = String::new(alloc);
         begin(alloc, machine, 1)?;

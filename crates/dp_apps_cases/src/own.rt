@@ -53,7 +53,7 @@ fn push_waiting(out: &mut String, alloc: Global, machine: &OwnMachine) -> Result
     write!(out, ", {:?}\n", machine.phase(1))
 }
 
-/// A time-out with the priority behind it, and one more step with the phase behind it.
+/// A time-out with the priority after it, and one more step with the phase after it.
 fn push_end(out: &mut String, alloc: Global, machine: &mut OwnMachine) -> Result<(), NoMemory> {
     push_applied(out, alloc, machine, Event::Timeout { channel: 1 })?;
     write!(out, "{:?}\n", machine.place(1).map(|place| place.priority))?;

@@ -1,6 +1,6 @@
 //! Dialplans with variables, worked out by hand from the rules.
 use dp_machine::{Event, NoMemory};
-use dp_machine_rows::{Asked, Exchange, answer_on, call, push_value, state_of};
+use dp_machine_rows::{Ask, Exchange, answer_on, call, push_value, state_of};
 use dp_rows::{Question, check, push_bytes};
 use std::alloc::Global;
 use std::test::Fail;
@@ -18,7 +18,7 @@ fn plan_of(alloc: Global, globals: &str, arguments: &str) -> Result<String, NoMe
 }
 
 /// What a machine with such a dialplan answers.
-fn answer_with<A: Asked>(
+fn answer_with<A: Ask>(
     alloc: Global,
     globals: &str,
     arguments: &str,
@@ -41,15 +41,15 @@ fn call_and_step(alloc: Global, machine: &mut Exchange) -> Result<(), NoMemory> 
     Ok(())
 }
 
-/// What stands before the last ` ; `, and what behind it.
+/// What stands before the last ` ; `, and what after it.
 fn cut(asked: &str) -> (&str, &str) {
     asked.rsplit_once(" ; ").unwrap_or(("", asked))
 }
 
-/// The value of a name in a channel behind a call: `CHANNEL NAME`.
+/// The value of a name in a channel after a call: `CHANNEL NAME`.
 struct ValueOf;
 
-impl Asked for ValueOf {
+impl Ask for ValueOf {
     fn answer(alloc: Global, machine: &mut Exchange, asked: &str) -> Result<String, Fail> {
         let (channel, name) = asked.split_once(' ').ok_or("no name")?;
         let channel: u32 = channel.parse().ok().ok_or("no number")?;
@@ -116,10 +116,10 @@ N=1 ; 2 EXTEN→
 N=1 ; 4294967295 CHANNEL→
 ";
 
-/// The extension at which a call stands behind its first step, which stands between `<` and `>`, without these two.
+/// The extension at which a call stands after its first step, which stands between `<` and `>`, without these two.
 struct GoneTo;
 
-impl Asked for GoneTo {
+impl Ask for GoneTo {
     fn answer(alloc: Global, machine: &mut Exchange, _asked: &str) -> Result<String, Fail> {
         call_and_step(alloc, machine)?;
         let place = machine.place(1).ok_or("no channel")?;
@@ -190,7 +190,7 @@ ${len(x)}→
 ${ LEN(x)}→
 ${CALLERID( num)}→
 ${CALLERID(name)}→
-# Functions with no `)`, with something behind it, and with a faulty cut.
+# Functions with no `)`, with something after it, and with a faulty cut.
 ${F(}→
 ${LEN(abc:1}→
 ${LEN(a)b}→1
@@ -214,23 +214,23 @@ $[1 2]→
 N=3 ; $[${N} + ${LEN(${N})}]→4
 "#;
 
-/// The state of a call behind its first step.
-struct StateBehind;
+/// The state of a call after its first step.
+struct StateAfter;
 
-impl Asked for StateBehind {
+impl Ask for StateAfter {
     fn answer(alloc: Global, machine: &mut Exchange, _asked: &str) -> Result<String, Fail> {
         call_and_step(alloc, machine)?;
         Ok(state_of(alloc, machine, 1)?)
     }
 }
 
-/// The state of the call behind a `Goto` of these arguments: `NAME=VALUE ; .. ; ARGUMENTS`.
+/// The state of the call after a `Goto` of these arguments: `NAME=VALUE ; .. ; ARGUMENTS`.
 struct Went;
 
 impl Question for Went {
     fn answer(alloc: Global, asked: &str) -> Result<String, Fail> {
         let (globals, arguments) = cut(asked);
-        answer_with::<StateBehind>(alloc, globals, arguments, "")
+        answer_with::<StateAfter>(alloc, globals, arguments, "")
     }
 }
 

@@ -76,7 +76,7 @@ first_size-most plan (id ∷ next ∷ ids) = by (have_one_name plan id next) (fi
   by true rest = omega (arith, rest)
   by false rest = omega arith
 
--- the extensions are the first and those of the entries behind it
+-- the extensions are the first and those of the entries after it
 pub extensions-split : (plan : PlanOf) (ids : List EntryId) → 0 < length ids → extensions plan ids ≡ take (first_size plan ids) ids ∷ extensions plan (drop (first_size plan ids) ids)
 extensions-split plan [] some = absurd (omega (arith, some))
 extensions-split plan (id ∷ []) some = refl
@@ -89,9 +89,9 @@ extensions-split plan (id ∷ next ∷ ids) some = by (have_one_name plan id nex
       ∙ (λ i. take (sym (one-add (first_size plan (next ∷ ids))) i) (id ∷ next ∷ ids) ∷ extensions plan (drop (sym (one-add (first_size plan (next ∷ ids))) i) (id ∷ next ∷ ids)))
   by false rest = refl
 
--- the extensions that match of ranked entries, by the first extension and what stands behind it
-pub matching_in-split : (plan : PlanOf) (text : List ℕ) (priority : ℕ) (ids extension behind : List EntryId) → extensions plan ids ≡ extension ∷ extensions plan behind → matching_in plan text priority ids ≡ cons_option (matching_of plan text priority extension) (matching_in plan text priority behind)
-matching_in-split plan text priority ids extension behind split = ap (filter_map (matching_of plan text priority)) split
+-- the extensions that match of ranked entries, by the first extension and what stands after it
+pub matching_in-split : (plan : PlanOf) (text : List ℕ) (priority : ℕ) (ids extension after : List EntryId) → extensions plan ids ≡ extension ∷ extensions plan after → matching_in plan text priority ids ≡ cons_option (matching_of plan text priority extension) (matching_in plan text priority after)
+matching_in-split plan text priority ids extension after split = ap (filter_map (matching_of plan text priority)) split
 
 -- ---- the one that answers
 

@@ -42,7 +42,7 @@ module _ (entries : List Entry) where
   NotBefore x [] = Unit {0}
   NotBefore x (y ∷ ids) = is_before entries y x ≡ false
 
-  -- none is before the one that it stands behind
+  -- none is before the one that it stands after
   abbrev Steps : List EntryId → Type 0
   Steps [] = Unit {0}
   Steps (x ∷ ids) = NotBefore x ids × Steps ids
@@ -125,13 +125,13 @@ module _ (entries : List Entry) where
       (up 0 (suc j) known_x.0 known_y.0 (omega arith) known_x.1 (seen (x ∷ xs) (suc j) y known_y.0 there known_y.1))
       (other 0 (suc i) known_y.0 known_x.0 (omega arith) known_y.1 (seen (y ∷ ys) (suc i) x known_x.0 here known_x.1)))
 
-  -- what stands behind the first of one stands behind the first of the other
-  behind : (x y z : EntryId) (xs ys : List EntryId) (k : ℕ) → x ≡ y → Rises (x ∷ xs) → Known x → slice_get xs k ≡ Some z → IsIn (y ∷ ys) z → IsIn ys z
-  behind x y z xs ys k same up known here (zero, there) =
+  -- what stands after the first of one stands after the first of the other
+  after : (x y z : EntryId) (xs ys : List EntryId) (k : ℕ) → x ≡ y → Rises (x ∷ xs) → Known x → slice_get xs k ≡ Some z → IsIn (y ∷ ys) z → IsIn ys z
+  after x y z xs ys k same up known here (zero, there) =
       let is_x : slice_get xs k ≡ Some x = here ∙ ap Some (sym (same_Some y z there) ∙ sym same) in
       let less = up 0 (suc k) known.0 known.0 (omega arith) known.1 (seen (x ∷ xs) (suc k) x known.0 is_x known.1) in
       absurd (both_less known.0 known.0 less less)
-  behind x y z xs ys k same up known here (suc j, there) = (j, there)
+  after x y z xs ys k same up known here (suc j, there) = (j, there)
 
   one : (xs ys : List EntryId) → Rises xs → Rises ys → ((x : EntryId) → IsIn xs x → IsIn ys x) → ((y : EntryId) → IsIn ys y → IsIn xs y) → ((x : EntryId) → IsIn xs x → Known x) → xs ≡ ys
   one [] [] up other to back known = refl
@@ -142,8 +142,8 @@ module _ (entries : List Entry) where
       let known_y = known y (back y (0, refl)) in
       let first = first_same x y xs ys up other known_x known_y (to x (0, refl)) (back y (0, refl)) in
       let rest = one xs ys (λ i j a b lt. up (suc i) (suc j) a b (omega (arith, lt))) (λ i j a b lt. other (suc i) (suc j) a b (omega (arith, lt)))
-      (λ z p. behind x y z xs ys p.0 first up known_x p.1 (to z (suc p.0, p.1)))
-      (λ z p. behind y x z ys xs p.0 (sym first) other known_y p.1 (back z (suc p.0, p.1)))
+      (λ z p. after x y z xs ys p.0 first up known_x p.1 (to z (suc p.0, p.1)))
+      (λ z p. after y x z ys xs p.0 (sym first) other known_y p.1 (back z (suc p.0, p.1)))
       (λ z p. known z (suc p.0, p.1)) in
       λ i. first i ∷ rest i
 

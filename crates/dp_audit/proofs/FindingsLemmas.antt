@@ -26,7 +26,7 @@ entries_more f before number n =
     flat_map_more f before (numbers_of number n) (record { context = number; entry = n })
     ∙ ap (λ ids. before ++ flat_map f ids) (sym (map-range_with_len_more (λ (k : ℕ). record { context = number; entry = k }) 0 n n (omega arith)))
 
--- five lists behind others
+-- five lists after others
 pub five : (before a b c d e : List Finding) → ((((before ++ a) ++ b) ++ c) ++ d) ++ e ≡ before ++ (a ++ b ++ c ++ d ++ e)
 five before a b c d e =
     ap (λ (xs : List Finding). (((xs ++ c) ++ d) ++ e)) (append_assoc before a b)

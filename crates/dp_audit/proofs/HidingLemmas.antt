@@ -20,7 +20,8 @@ use Rattle.dp_plan.specs.declared.entry.Entry.{Entry}
 use Rattle.dp_plan.specs.declared.entry.EntryId.{EntryId}
 use Rattle.dp_audit.specs.Candidates.{same_id}
 use Rattle.dp_audit.specs.Hidden.{hidden_from, is_hidden, some_shares}
-use Rattle.dp_audit.specs.Hiding.{Adds, AreHidden, Grows, Notes, all_hidden, asked, changed_at, for_each, for_one, is_among, is_at, no_notes, noted_at, place_of, same_place, some_at, with_number}
+use Rattle.dp_conf.specs.Changes.{changed_at}
+use Rattle.dp_audit.specs.steps.Hiding.{Adds, AreHidden, Grows, Notes, all_hidden, asked, for_each, for_one, is_among, is_at, no_notes, noted_at, place_of, same_place, some_at, with_number}
 use Rattle.dp_audit.specs.Orders.{before, order_at}
 use Rattle.dp_audit.specs.declared.place.Place.{Place}
 use Rattle.dp_audit.proofs.OrderLemmas.{AreOnce, order_once}
@@ -43,25 +44,11 @@ place_added added place among = ap (λ b. if b then true else among) (same_place
 -- ---- lists with one element changed
 
 module _ {X : Type 0} where
-  -- a write at a place changes the element there
-  pub changed_at-set : (change : X → X) (place : ℕ) (xs : List X) (x y : X) → place < length xs → x ≡ get_or xs place x → y ≡ change x
-      → set xs place y ≡ changed_at change place xs
-  changed_at-set change place [] x y within here new = absurd (omega (arith, within))
-  changed_at-set change zero (z ∷ xs) x y within here new = ap (λ (t : _). t ∷ xs) (new ∙ ap change here)
-  changed_at-set change (suc place) (z ∷ xs) x y within here new =
-      ap (λ (t : List _). z ∷ t) (changed_at-set change place xs x y (omega (arith, within)) here new)
-
-  -- beyond the list nothing changes
-  pub changed_at-past : (change : X → X) (place : ℕ) (xs : List X) → length xs ≤ place → changed_at change place xs ≡ xs
-  changed_at-past change place [] past = refl
-  changed_at-past change zero (x ∷ xs) past = absurd (omega (arith, past))
-  changed_at-past change (suc place) (x ∷ xs) past = ap (λ (t : List _). x ∷ t) (changed_at-past change place xs (omega (arith, past)))
-
   same_map : (o : Option X) → o ≡ option_map (λ x. x) o
   same_map None = refl
   same_map (Some x) = refl
 
-  -- what stands at a place behind a change
+  -- what stands at a place after a change
   abbrev changed_if : (X → X) → Bool → Option X → Option X
   changed_if change here o = option_map (λ x. if here then change x else x) o
 
@@ -77,7 +64,7 @@ module _ {X : Type 0} where
 
 -- ---- notes
 
--- what is noted behind a change of what was noted of one entry
+-- what is noted after a change of what was noted of one entry
 noted-changed : (change : List ℕ → List ℕ) (id other : EntryId) (notes : Notes)
     → noted_at (changed_at (changed_at change id.entry) id.context notes) other
     ≡ option_map (λ noted. if same_id other id then change noted else noted) (noted_at notes other)
@@ -221,7 +208,7 @@ module _ (plan : PlanOf) (places : List Place) (number from : ℕ) where
 -- ---- the contexts of an order
 
 module _ (plan : PlanOf) (from : ℕ) where
-  -- what is noted of the contexts of an order, behind those of others
+  -- what is noted of the contexts of an order, after those of others
   pub asked-push : (earlier order : List ℕ) (number : ℕ) (id : EntryId)
       → asked plan from earlier order id ++ for_each plan (some_shares plan (earlier ++ order)) number from id
       ≡ asked plan from earlier (order ++ number ∷ []) id
@@ -288,7 +275,7 @@ pub places_next : (plan : PlanOf) (order : List ℕ) (place context : ℕ) (old 
     → context ≡ get_or order (place - 1) 0
     → Adds (some_at plan (take (place - 1) order)) [] old → Adds (λ p. list_any (is_at p) (entries_at plan context)) old new
     → Adds (some_at plan (take place order)) [] new
-places_next plan order place context old new behind within here before added p =
+places_next plan order place context old new after within here before added p =
     added p
     ∙ ap (λ b. b || list_any (is_at p) (entries_at plan context)) (before p)
     ∙ ap (λ b. some_at plan (take (place - 1) order) p || b) (sym (or-false (list_any (is_at p) (entries_at plan context))))
@@ -297,7 +284,7 @@ places_next plan order place context old new behind within here before added p =
   where
     one_more_taken : take place order ≡ take (place - 1) order ++ context ∷ []
     one_more_taken =
-        ap (λ n. take n order) (omega (arith, behind)) ∙ take_more order (place - 1) 0 (omega (arith, behind, within))
+        ap (λ n. take n order) (omega (arith, after)) ∙ take_more order (place - 1) 0 (omega (arith, after, within))
         ∙ ap (λ n. take (place - 1) order ++ n ∷ []) (sym here)
 
 -- what is noted of one context more

@@ -60,7 +60,7 @@ notes_texts jump a b c xs ys first second =
 abbrev NotesEntries : Named → Named → List Entry → Type 0
 NotesEntries old new entries = Notes old new (list_any computes entries) (flat_map names entries)
 
--- an entry, and then those behind it
+-- an entry, and then those after it
 pub notes_next : (now new last : Named) (entries : List Entry) (place : ℕ) (entry : Entry) → place < length entries → get_or entries place entry ≡ entry →
     Notes now new (computes entry) (names entry) → Notes new last (list_any computes (drop (place + 1) entries)) (flat_map names (drop (place + 1) entries)) →
     Notes now last (list_any computes (drop place entries)) (flat_map names (drop place entries))
@@ -68,17 +68,17 @@ notes_next now new last entries place entry within here noted rest =
     subst (NotesEntries now last) (sym (drop_next entries place entry within here))
     (notes_both now new last (computes entry) (list_any computes (drop (place + 1) entries)) (names entry) (flat_map names (drop (place + 1) entries)) noted rest)
 
--- a context, and then those behind it
+-- a context, and then those after it
 pub notes_next_context : (now new last : Named) (contexts : List PlanContext) (place : ℕ) (context : PlanContext) →
     place < length contexts → get_or contexts place context ≡ context →
     Notes now new (list_any computes context.entries) (flat_map names context.entries) →
     Notes new last (list_any computes (entries_in (drop (place + 1) contexts))) (flat_map names (entries_in (drop (place + 1) contexts))) →
     Notes now last (list_any computes (entries_in (drop place contexts))) (flat_map names (entries_in (drop place contexts)))
 notes_next_context now new last contexts place context within here noted rest =
-    let behind = entries_in (drop (place + 1) contexts) in
+    let after = entries_in (drop (place + 1) contexts) in
     subst (λ left. NotesEntries now last (entries_in left)) (sym (drop_next contexts place context within here))
-    (transport2 now last context.entries behind
-    (notes_both now new last (list_any computes context.entries) (list_any computes behind) (flat_map names context.entries) (flat_map names behind) noted rest))
+    (transport2 now last context.entries after
+    (notes_both now new last (list_any computes context.entries) (list_any computes after) (flat_map names context.entries) (flat_map names after) noted rest))
   where
     transport2 : (now last : Named) (xs ys : List Entry) → Notes now last (list_any computes xs || list_any computes ys) (flat_map names xs ++ flat_map names ys) → NotesEntries now last (xs ++ ys)
     transport2 now last xs ys both =

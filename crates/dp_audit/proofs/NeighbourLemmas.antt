@@ -27,7 +27,7 @@ use Rattle.dp_plan.specs.Ranking.{entry_cmp, ids_of, ranked_entry, IsRanking}
 use Rattle.dp_plan.specs.declared.entry.Entry.{Entry}
 use Rattle.dp_plan.specs.declared.entry.EntryId.{EntryId}
 use Rattle.dp_audit.specs.Findings.{has_greater, has_lower}
-use Rattle.dp_audit.specs.Neighbours.{are_of_one_name, is_followed, marked, IsBehind, AreBehind, AreMarks}
+use Rattle.dp_audit.specs.steps.Neighbours.{are_of_one_name, is_followed, marked, IsAfter, AreAfter, AreMarks}
 
 -- ---- names
 
@@ -62,13 +62,13 @@ between a b c named left right = by (name_cmp a.name b.name) refl left
     not_less : name_cmp a.name c.name ≡ Less → ⊥
     not_less less = let tied = (orders_names.same a.name c.name).1 named in absurd cc
 
-    behind : name_cmp a.name b.name ≡ Less → (o : Ordering) → name_cmp b.name c.name ≡ o → ordering_then o (nat_cmp b.priority c.priority) ≡ Less → b.name ≡ a.name
-    behind less Less e h = absurd (not_less (orders_names.total.trans a.name b.name c.name less e))
-    behind less Equal e h = (orders_names.same b.name c.name).0 e ∙ sym named
-    behind less Greater e h = absurd cc
+    after : name_cmp a.name b.name ≡ Less → (o : Ordering) → name_cmp b.name c.name ≡ o → ordering_then o (nat_cmp b.priority c.priority) ≡ Less → b.name ≡ a.name
+    after less Less e h = absurd (not_less (orders_names.total.trans a.name b.name c.name less e))
+    after less Equal e h = (orders_names.same b.name c.name).0 e ∙ sym named
+    after less Greater e h = absurd cc
 
     by : (o : Ordering) → name_cmp a.name b.name ≡ o → ordering_then o (nat_cmp a.priority b.priority) ≡ Less → b.name ≡ a.name
-    by Less e h = behind e (name_cmp b.name c.name) refl right
+    by Less e h = after e (name_cmp b.name c.name) refl right
     by Equal e h = sym ((orders_names.same a.name b.name).0 e)
     by Greater e h = absurd cc
 
@@ -255,7 +255,7 @@ module _ (number : ℕ) (entries : List Entry) (ids : List EntryId) (named : Are
     | inr (inr past) ↦ absurd (not_past from past)
   ]
 
-  -- between two entries of one name each has one of that name behind it
+  -- between two entries of one name each has one of that name after it
   followed_within : (i q j : ℕ) (a c : Entry) → i ≤ q → q < j → ranked_entry entries ids i ≡ Some a → ranked_entry entries ids j ≡ Some c → a.name ≡ c.name → is_followed entries ids q ≡ true
   followed_within i q j a c from below at_i at_j one =
       let last = number_at entries ids j c at_j in
@@ -276,7 +276,7 @@ module _ (number : ℕ) (entries : List Entry) (ids : List EntryId) (named : Are
 
   -- ---- a greater priority
 
-  greater_there : (k : ℕ) (a : Entry) → slice_get entries k ≡ Some a → IsBehind entries ids 0 (length ids) k → has_greater entries a ≡ true
+  greater_there : (k : ℕ) (a : Entry) → slice_get entries k ≡ Some a → IsAfter entries ids 0 (length ids) k → has_greater entries a ≡ true
   greater_there k a known h =
       let n = neighbours entries ids h.place h.followed in
       let there : slice_get ids h.place ≡ Some h.id = ap (slice_get ids) (sym (add-zero h.place)) ∙ h.there in
@@ -299,11 +299,11 @@ module _ (number : ℕ) (entries : List Entry) (ids : List EntryId) (named : Are
       elim (cases_order i.0 j.0) [
         | inl same ↦ absurd (apart a other.1 (same_Some a other.1 (sym i.2 ∙ (ap (ranked_entry entries ids) same ∙ j.2))) below)
         | inr (inl before) ↦ (i.0, followed_within i.0 i.0 j.0 a other.1 (at_least i.0) before i.2 j.2 (sym one), i.1)
-        | inr (inr behind) ↦ absurd (not_both (lower_from_less other.1 a one (ranking.rising j.0 i.0 other.1 a behind j.2 i.2)) below)
+        | inr (inr after) ↦ absurd (not_both (lower_from_less other.1 a one (ranking.rising j.0 i.0 other.1 a after j.2 i.2)) below)
       ]
 
-  -- the marks of those that have one of their name behind them are of those that have one of a greater priority
-  pub greater_marked : (marks : List Bool) → AreBehind entries ids 0 (length ids) marks → AreMarks (has_greater entries) entries marks
+  -- the marks of those that have one of their name after them are of those that have one of a greater priority
+  pub greater_marked : (marks : List Bool) → AreAfter entries ids 0 (length ids) marks → AreMarks (has_greater entries) entries marks
   greater_marked marks are k a known =
       let found = λ (has : has_greater entries a ≡ true).
       (let place = greater_place k a known has in
@@ -312,7 +312,7 @@ module _ (number : ℕ) (entries : List Entry) (ids : List EntryId) (named : Are
 
   -- ---- a lower priority
 
-  lower_there : (k : ℕ) (a : Entry) → slice_get entries k ≡ Some a → IsBehind entries ids 1 (length ids) k → has_lower entries a ≡ true
+  lower_there : (k : ℕ) (a : Entry) → slice_get entries k ≡ Some a → IsAfter entries ids 1 (length ids) k → has_lower entries a ≡ true
   lower_there k a known h =
       let n = neighbours entries ids h.place h.followed in
       let is_next : n.next ≡ a = same_Some n.next a (sym n.at_next ∙ (entry_of_id entries ids (h.place + 1) h.id h.there ∙ (ap (slice_get entries) h.same ∙ known))) in
@@ -334,11 +334,11 @@ module _ (number : ℕ) (entries : List Entry) (ids : List EntryId) (named : Are
       elim (cases_order j.0 i.0) [
         | inl same ↦ absurd (apart other.1 a (same_Some other.1 a (sym j.2 ∙ (ap (ranked_entry entries ids) same ∙ i.2))) below)
         | inr (inl before) ↦ (i.0 - 1, followed_within j.0 (i.0 - 1) i.0 other.1 a (le_back before) (less_back before) j.2 i.2 one, ap (slice_get ids) (one_back i.0 j.0 before) ∙ i.1)
-        | inr (inr behind) ↦ absurd (not_both (lower_from_less a other.1 (sym one) (ranking.rising i.0 j.0 a other.1 behind i.2 j.2)) below)
+        | inr (inr after) ↦ absurd (not_both (lower_from_less a other.1 (sym one) (ranking.rising i.0 j.0 a other.1 after i.2 j.2)) below)
       ]
 
-  -- the marks of those behind one of their name are of those that have one of a lower priority
-  pub lower_marked : (marks : List Bool) → AreBehind entries ids 1 (length ids) marks → AreMarks (has_lower entries) entries marks
+  -- the marks of those after one of their name are of those that have one of a lower priority
+  pub lower_marked : (marks : List Bool) → AreAfter entries ids 1 (length ids) marks → AreMarks (has_lower entries) entries marks
   lower_marked marks are k a known =
       let found = λ (has : has_lower entries a ≡ true).
       (let place = lower_place k a known has in
@@ -354,21 +354,21 @@ ranked_at_named plan named number context known =
 
 -- the marks of a context that are found by its ranking
 pub greater_at : (plan : PlanOf) (number : ℕ) (ids : List EntryId) (marks : List Bool) → All (λ (c : PlanContext). AreNamed c.entries) plan.contexts → IsRankedAt plan number ids
-    → AreBehind (entries_at plan number) ids 0 (length ids) marks → AreMarks (has_greater (entries_at plan number)) (entries_at plan number) marks
+    → AreAfter (entries_at plan number) ids 0 (length ids) marks → AreMarks (has_greater (entries_at plan number)) (entries_at plan number) marks
 greater_at plan number ids marks named ranking are = by (slice_get plan.contexts number) refl ranking are
   where
     by : (o : Option PlanContext) → slice_get plan.contexts number ≡ o → MatchOption o (ids ≡ []) (λ (c : PlanContext). IsRanking number c.entries ids)
-        → AreBehind (option_map_or (λ (c : PlanContext). c.entries) o []) ids 0 (length ids) marks
+        → AreAfter (option_map_or (λ (c : PlanContext). c.entries) o []) ids 0 (length ids) marks
         → AreMarks (has_greater (option_map_or (λ (c : PlanContext). c.entries) o [])) (option_map_or (λ (c : PlanContext). c.entries) o []) marks
     by None known ranking are = λ k a there. absurd (none-some a there)
     by (Some context) known ranking are = greater_marked number context.entries ids (ranked_at_named plan named number context known) ranking marks are
 
 pub lower_at : (plan : PlanOf) (number : ℕ) (ids : List EntryId) (marks : List Bool) → All (λ (c : PlanContext). AreNamed c.entries) plan.contexts → IsRankedAt plan number ids
-    → AreBehind (entries_at plan number) ids 1 (length ids) marks → AreMarks (has_lower (entries_at plan number)) (entries_at plan number) marks
+    → AreAfter (entries_at plan number) ids 1 (length ids) marks → AreMarks (has_lower (entries_at plan number)) (entries_at plan number) marks
 lower_at plan number ids marks named ranking are = by (slice_get plan.contexts number) refl ranking are
   where
     by : (o : Option PlanContext) → slice_get plan.contexts number ≡ o → MatchOption o (ids ≡ []) (λ (c : PlanContext). IsRanking number c.entries ids)
-        → AreBehind (option_map_or (λ (c : PlanContext). c.entries) o []) ids 1 (length ids) marks
+        → AreAfter (option_map_or (λ (c : PlanContext). c.entries) o []) ids 1 (length ids) marks
         → AreMarks (has_lower (option_map_or (λ (c : PlanContext). c.entries) o [])) (option_map_or (λ (c : PlanContext). c.entries) o []) marks
     by None known ranking are = λ k a there. absurd (none-some a there)
     by (Some context) known ranking are = lower_marked number context.entries ids (ranked_at_named plan named number context known) ranking marks are
@@ -382,8 +382,8 @@ set_past (x ∷ marks) zero past = absurd (not_past past (positive (length marks
 set_past (x ∷ marks) (suc i) past = ap (λ (l : List Bool). x ∷ l) (set_past marks i (le_pred past))
 
 -- no entry is marked yet
-pub AreBehind-none : (entries : List Entry) (ids : List EntryId) (shift : ℕ) (marks : List Bool) → marks ≡ replicate (length entries) false → AreBehind entries ids shift 0 marks
-AreBehind-none entries ids shift marks none = record {
+pub AreAfter-none : (entries : List Entry) (ids : List EntryId) (shift : ℕ) (marks : List Bool) → marks ≡ replicate (length entries) false → AreAfter entries ids shift 0 marks
+AreAfter-none entries ids shift marks none = record {
   size = ap length none ∙ length-replicate (length entries) false;
   marked = λ number e. absurd (true≢false (sym e ∙ (ap (λ (l : List Bool). get_or l number false) none ∙ none_marked (length entries) number)));
   all = λ place id below followed there inside. absurd (not_below_zero below);
@@ -395,11 +395,11 @@ AreBehind-none entries ids shift marks none = record {
     none_marked (suc n) (suc k) = none_marked n k
 
 -- with the mark of one place more
-pub AreBehind-more : (entries : List Entry) (ids : List EntryId) (shift n : ℕ) (marks : List Bool) → AreBehind entries ids shift n marks
-    → AreBehind entries ids shift (n + 1) (cond (is_followed entries ids n) (marked ids (n + shift) marks) marks)
-AreBehind-more entries ids shift n marks are = by (is_followed entries ids n) refl (slice_get ids (n + shift)) refl
+pub AreAfter-more : (entries : List Entry) (ids : List EntryId) (shift n : ℕ) (marks : List Bool) → AreAfter entries ids shift n marks
+    → AreAfter entries ids shift (n + 1) (cond (is_followed entries ids n) (marked ids (n + shift) marks) marks)
+AreAfter-more entries ids shift n marks are = by (is_followed entries ids n) refl (slice_get ids (n + shift)) refl
   where
-    wider : (k : ℕ) → IsBehind entries ids shift n k → IsBehind entries ids shift (n + 1) k
+    wider : (k : ℕ) → IsAfter entries ids shift n k → IsAfter entries ids shift (n + 1) k
     wider k h = record { place = h.place; id = h.id; below = less_next h.below; followed = h.followed; there = h.there; same = h.same }
 
     kept : (id : EntryId) (k : ℕ) → k < length entries → get_or marks k false ≡ true → get_or (slice_set marks id.entry true) k false ≡ true
@@ -422,7 +422,7 @@ AreBehind-more entries ids shift n marks are = by (is_followed entries ids n) re
     ]
 
     by : (b : Bool) → is_followed entries ids n ≡ b → (o : Option EntryId) → slice_get ids (n + shift) ≡ o
-        → AreBehind entries ids shift (n + 1) (cond b (option_map_or (λ id. slice_set marks id.entry true) o marks) marks)
+        → AreAfter entries ids shift (n + 1) (cond b (option_map_or (λ id. slice_set marks id.entry true) o marks) marks)
     by true e (Some id) there = record {
       size = length-set marks id.entry true ∙ are.size;
       marked = λ k marked. elim (cases_eq k id.entry) [

@@ -19,7 +19,7 @@ or_parts : (a b : Bool) → (a || b) ≡ false → (a ≡ false) × (b ≡ false
 or_parts false b none = (refl, none)
 or_parts true b none = absurd cc
 
--- a new number behind the others
+-- a new number after the others
 once_push : (numbers : List ℕ) (number : ℕ) → AreOnce numbers → has numbers number ≡ false → AreOnce (numbers ++ number ∷ [])
 once_push [] number once new = (refl, tt)
 once_push (first ∷ numbers) number once new =

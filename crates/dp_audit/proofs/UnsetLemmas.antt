@@ -10,7 +10,7 @@ use Rattle.std.proofs.lemmas.List.FromFn.{map-range_with_len_more}
 use Rattle.dp_conf.specs.Words.{same_text}
 use Rattle.dp_plan.specs.Plan.{PlanOf}
 use Rattle.dp_plan.specs.declared.entry.Entry.{Entry}
-use Rattle.dp_audit.specs.Unset.{Adds, AreSet, argument_name, argument_names, has_set, is_given, lacks, name_behind, names_read, unset_names}
+use Rattle.dp_audit.specs.Unset.{Adds, AreSet, argument_name, argument_names, has_set, is_given, lacks, name_after, names_read, unset_names}
 use Rattle.dp_audit.specs.declared.finding.Finding.{Finding}
 use Rattle.dp_audit.specs.declared.unset.SetNames.{SetNames}
 
@@ -30,7 +30,7 @@ drop_next : {X : Type 0} (xs : List X) (place : ℕ) (x : X) → place < length 
 drop_next xs place x within here =
     drop-cons xs place x within ∙ ap (λ y. y ∷ drop (suc place) xs) here ∙ ap (λ next. x ∷ drop next xs) (sym (add-one place))
 
--- what one of a list sets, and then what those behind it set
+-- what one of a list sets, and then what those after it set
 pub adds_next : {X : Type 0} (f : X → List (List ℕ)) (now new last : SetNames) (xs : List X) (place : ℕ) (x : X) → place < length xs →
     get_or xs place x ≡ x → Adds now new (f x) → Adds new last (flat_map f (drop (place + 1) xs)) → Adds now last (flat_map f (drop place xs))
 adds_next f now new last xs place x within here noted rest =
@@ -54,12 +54,12 @@ unfolding unset_names
 lacks_are_unset plan noted entry are = λ i. filter (λ name. not (is_given name || are name i)) (names_read entry.arguments)
 
 -- the names that a text reads and that are not noted, with what a byte opens before it
-pub names_next : (noted : SetNames) (found : List ℕ → Finding) (before : List Finding) (byte : ℕ) (behind : List ℕ) →
-    (before ++ map found (filter (lacks noted) (option_to_list (name_behind byte behind)))) ++ map found (filter (lacks noted) (names_read behind))
-    ≡ before ++ map found (filter (lacks noted) (names_read (byte ∷ behind)))
+pub names_next : (noted : SetNames) (found : List ℕ → Finding) (before : List Finding) (byte : ℕ) (after : List ℕ) →
+    (before ++ map found (filter (lacks noted) (option_to_list (name_after byte after)))) ++ map found (filter (lacks noted) (names_read after))
+    ≡ before ++ map found (filter (lacks noted) (names_read (byte ∷ after)))
 unfolding names_read
-names_next noted found before byte behind =
-    append_assoc before (map found (filter (lacks noted) (option_to_list (name_behind byte behind)))) (map found (filter (lacks noted) (names_read behind)))
+names_next noted found before byte after =
+    append_assoc before (map found (filter (lacks noted) (option_to_list (name_after byte after)))) (map found (filter (lacks noted) (names_read after)))
     ∙ ap (λ found_here. before ++ found_here)
-    (sym (map-append found (filter (lacks noted) (option_to_list (name_behind byte behind))) (filter (lacks noted) (names_read behind)))
-    ∙ ap (map found) (sym (filter-append (lacks noted) (option_to_list (name_behind byte behind)) (names_read behind))))
+    (sym (map-append found (filter (lacks noted) (option_to_list (name_after byte after))) (filter (lacks noted) (names_read after)))
+    ∙ ap (map found) (sym (filter-append (lacks noted) (option_to_list (name_after byte after)) (names_read after))))

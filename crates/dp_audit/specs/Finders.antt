@@ -1,15 +1,8 @@
 -- What look-ups in a dialplan search in.
-use Rattle.std.specs.Prelude.{◌≡◌, ℕ, ◌≤◌, Bool, [], List, is_some}
-use Rattle.std.specs.Option.{option_map_or}
+use Rattle.std.specs.Prelude.{ℕ, Bool, List, is_some}
 use Rattle.dp_lookup.specs.FoundEntry.{found_entry, found_label}
-use Rattle.dp_lookup.specs.SearchOrder.{context_count, search_order, visit}
+use Rattle.dp_lookup.specs.SearchOrder.{search_order}
 use Rattle.dp_plan.specs.Plan.{PlanOf}
-use Rattle.dp_audit.specs.declared.finder.Order.{Order}
-
--- the order has room for each context of the dialplan, and is that of the context that it was filled for
-pub record IsOrder (plan : PlanOf) (held : Order) : Type 0 where
-  pub room : context_count plan ≤ held.order.room
-  pub contexts : held.order.contexts ≡ option_map_or (visit plan []) held.context []
 
 -- whether an entry answers for the extension of the context at the priority
 unfoldable pub answers : PlanOf → List ℕ → List ℕ → ℕ → Bool

@@ -42,7 +42,7 @@ abbrev pub lacks : PlanOf → List ℕ → Meaning → ℕ → Bool
 lacks plan order (Plain text) priority = not (is_some (found_entry plan order text priority))
 lacks plan order (Pattern classes tail) priority = false
 
--- the priority behind the entry's is not found, though its extension has a greater one
+-- the priority after the entry's is not found, though its extension has a greater one
 abbrev pub is_gap : PlanOf → EntryId → Entry → Bool
 is_gap plan id entry =
     has_greater (entries_at plan id.context) entry && lacks plan (order_at plan id.context) entry.name (entry.priority + 1)

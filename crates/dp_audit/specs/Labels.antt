@@ -22,7 +22,7 @@ named_in jump text = if is_computed jump text then None else option_map (λ part
 abbrev pub has_name : Named → List ℕ → Bool
 has_name named label = list_any (same_text label) named.names.keys
 
--- behind what was noted some targets more are noted: whether one of them is computed, and what they name
+-- after what was noted some targets more are noted: whether one of them is computed, and what they name
 pub record Notes (old new : Named) (computed : Bool) (named : List (List ℕ)) : Type 0 where
   pub computing : new.is_computing ≡ (old.is_computing || computed)
   pub names : (label : List ℕ) → has_name new label ≡ (has_name old label || list_any (same_text label) named)

@@ -1,12 +1,9 @@
 pub mod Candidates
 pub mod Finders
 pub mod Findings
-pub mod Firsts
 pub mod Hidden
-pub mod Hiding
 pub mod Labels
-pub mod Neighbours
 pub mod Orders
-pub mod Scene
 pub mod Targets
 pub mod Unset
+pub mod steps

@@ -35,7 +35,7 @@ side (b ∷ bs) = Some (b ∷ bs)
 abbrev pub sides : Option (List ℕ) → Option (List ℕ) → List (List ℕ)
 sides first second = option_to_list first ++ option_to_list second
 
--- those of the text behind the `?`, which the first `:` outside parentheses parts
+-- those of the text after the `?`, which the first `:` outside parentheses parts
 abbrev pub sides_by : List ℕ → Option (List ℕ × List ℕ) → List (List ℕ)
 sides_by text None = sides (side (trim text)) None
 sides_by text (Some cut) = sides (side (trim cut.0)) (side (trim cut.1))

@@ -27,15 +27,15 @@ front_by body (Some place) = if ends_name (get_or body place 0) then Some (take 
 abbrev pub front_name : List ℕ → Option (List ℕ)
 front_name body = front_by body (position stops_name body)
 
--- the name of the group in braces that a byte opens, by the bytes behind it
-abbrev pub name_behind : ℕ → List ℕ → Option (List ℕ)
-name_behind byte [] = None
-name_behind byte (next ∷ behind) = if byte == 36 && next == 123 then front_name behind else None
+-- the name of the group in braces that a byte opens, by the bytes after it
+abbrev pub name_after : ℕ → List ℕ → Option (List ℕ)
+name_after byte [] = None
+name_after byte (next ∷ after) = if byte == 36 && next == 123 then front_name after else None
 
--- the names that a text reads, from the left: one for each `${` with a name and a `:` or `}` behind it
+-- the names that a text reads, from the left: one for each `${` with a name and a `:` or `}` after it
 unfoldable pub names_read : List ℕ → List (List ℕ)
 names_read [] = []
-names_read (byte ∷ behind) = option_to_list (name_behind byte behind) ++ names_read behind
+names_read (byte ∷ after) = option_to_list (name_after byte after) ++ names_read after
 
 -- what a channel gives, and what the machine sets
 abbrev pub is_of_channel : List ℕ → Bool
@@ -68,7 +68,7 @@ abbrev pub variable_of : Option (List ℕ × List ℕ) → Option (List ℕ)
 variable_of None = None
 variable_of (Some cut) = variable_by (trim cut.0) (cut_once 40 (trim cut.0))
 
--- the arguments that a subroutine is given: those between the first `(` of its target and the last `)` behind it
+-- the arguments that a subroutine is given: those between the first `(` of its target and the last `)` after it
 abbrev pub inner_arguments : List ℕ → List (List ℕ)
 inner_arguments [] = []
 inner_arguments (b ∷ bs) = arguments_of (b ∷ bs)
@@ -117,7 +117,7 @@ has_set noted name = list_any (same_text name) noted.names.keys
 abbrev pub lacks : SetNames → List ℕ → Bool
 lacks noted name = not (is_given name || has_set noted name)
 
--- behind what was noted some names more are noted
+-- after what was noted some names more are noted
 abbrev pub Adds : SetNames → SetNames → List (List ℕ) → Type 0
 Adds old new names = (name : List ℕ) → has_set new name ≡ (has_set old name || list_any (same_text name) names)
 

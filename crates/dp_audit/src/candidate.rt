@@ -83,7 +83,7 @@ fn first_size(plan: &Dialplan, ids: &[EntryId]) -> usize
     ids.len()
 }
 
-/// The first extension of ranked entries, and the entries behind it.
+/// The first extension of ranked entries, and the entries after it.
 fn split_first<'a>(plan: &Dialplan, ids: &'a [EntryId]) -> (&'a [EntryId], &'a [EntryId])
     requires { 0 < length ids.now }
     ensures split { spec.extensions plan.now ids.now ≡ result.0.now ∷ spec.extensions plan.now result.1.now }
@@ -141,11 +141,11 @@ fn push_matching(
 {
     let mut rest = ids;
     while !rest.is_empty() {
-        let (extension, behind) = split_first(plan, rest);
+        let (extension, after) = split_first(plan, rest);
         if let Some(matching) = matching_of(plan, text, priority, extension) {
             list.push(matching)?;
         }
-        rest = behind;
+        rest = after;
     }
     Ok(())
 }
@@ -161,7 +161,7 @@ fn push_context(
     ensures { OnOk result (list.new.items
         ≡ list.old.items ++ spec.matching_in plan.now text.now priority (spec.ranked_of plan.now number)) }
 {
-    plan.entries_are_known();
+    plan.show_entries_known();
     push_matching(list, plan, plan.ranked_at(number), text, priority)
 }
 
@@ -236,12 +236,14 @@ pub fn candidates(
     text: &[u8],
     priority: u32,
 ) -> Result<Vec<Candidate>, NoMemory>
-    ensures exact { IfOk result (λ list. list.items ≡ spec.candidates_of plan.now order.now.contexts text.now priority) }
+    ensures exact { IfOk result (λ list. list.items
+        ≡ spec.candidates_of plan.now order.now.contexts text.now priority) }
     ensures answer { IfOk result (λ list. option_map (λ c. c.id) (lists.find spec.answers list.items)
         ≡ found_entry plan.now order.now.contexts text.now priority) }
-    ensures only { IfOk result (λ list. All (spec.IsOfAnswer (found_entry plan.now order.now.contexts text.now priority)) list.items) }
+    ensures only { IfOk result (λ list. All (spec.IsOfAnswer
+        (found_entry plan.now order.now.contexts text.now priority)) list.items) }
 {
-    plan.entries_are_known();
+    plan.show_entries_known();
     let list = all_matching(alloc, plan, order.contexts(), text, priority)?;
     judged(alloc, answer_of(&list), &list)
 }

@@ -1,61 +1,26 @@
 //! Look-ups in a dialplan through its tries.
 ghost use Rattle.std.specs.Prelude.{◌≡◌, IfOk};
-ghost use Rattle.dp_lookup.specs.SearchOrder.{search_order};
 ghost use Rattle.dp_trie.specs.Known.{Keeps};
 ghost use Rattle.dp_audit.specs.Finders as spec;
 
-use dp_lookup::SearchOrder;
+use dp_lookup::ContextOrder;
 use dp_plan::{Dialplan, NoMemory, Text};
 use dp_trie::Trie;
 use std::alloc::Global;
 use std::marker::Model;
-
-/// A search order, and the context that it is of.
-#[derive(Drop)]
-struct Order {
-    order: SearchOrder,
-    // The number of the context; None where that is unknown, and before the first.
-    context: Option<usize>,
-}
-
-impl Order {
-    /// An order of no context, with room for that of any.
-    fn room(alloc: Global, plan: &Dialplan) -> Result<Self, NoMemory>
-        ensures { IfOk result (λ order. spec.IsOrder plan.now order) }
-    {
-        let order = SearchOrder::room(alloc, plan)?;
-        Ok(Order {
-            order,
-            context: None,
-        })
-    }
-
-    /// Makes this the order of the context of this name. It is filled anew only where it was that of another.
-    fn turn_to(&mut self, plan: &Dialplan, context: &Text)
-        requires { spec.IsOrder plan.now self.old }
-        ensures contexts { self.new.order.contexts ≡ search_order plan.now context.now }
-        ensures order { spec.IsOrder plan.now self.new }
-    {
-        let number = plan.number_of(context);
-        if self.context != number {
-            self.order.fill(plan, context);
-            self.context = number;
-        }
-    }
-}
 
 /// The tries of a dialplan, and the search order of the context that was asked last. A contract sees it as the dialplan.
 #[derive(Drop)]
 pub(crate) struct Finder<'a> {
     plan: &'a Dialplan,
     trie: &'a Trie,
-    order: Order,
+    order: ContextOrder,
 }
 
 impl<'a> Model for Finder<'a> {
     ghost use Rattle.dp_plan.specs.Plan.{PlanOf};
     ghost use Rattle.dp_trie.specs.Known.{Keeps};
-    ghost use Rattle.dp_audit.specs.Finders.{IsOrder};
+    ghost use Rattle.dp_lookup.specs.ContextOrders.{IsOrder};
 
     ghost Value = { PlanOf };
 
@@ -70,7 +35,7 @@ impl<'a> Finder<'a> {
         requires { Keeps plan.now trie.now }
         ensures { IfOk result (λ finder. finder ≡ plan.now) }
     {
-        let order = Order::room(alloc, plan)?;
+        let order = ContextOrder::room(alloc, plan)?;
         Ok(Finder { plan, trie, order })
     }
 
@@ -81,7 +46,9 @@ impl<'a> Finder<'a> {
         ensures same { self.new ≡ self.old }
     {
         self.order.turn_to(self.plan, context);
-        self.trie.find(&self.order.order, exten, priority).is_some()
+        self.trie
+            .find(self.order.order(), exten, priority)
+            .is_some()
     }
 
     /// Whether the extension of the context has the label.
@@ -92,7 +59,7 @@ impl<'a> Finder<'a> {
     {
         self.order.turn_to(self.plan, context);
         self.trie
-            .find_label(&self.order.order, exten, label)
+            .find_label(self.order.order(), exten, label)
             .is_some()
     }
 }

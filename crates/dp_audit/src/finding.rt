@@ -10,7 +10,7 @@ pub enum Finding {
     NoApplication { entry: EntryId },
     /// The entry has a target that stands there and leads nowhere.
     NoTarget { entry: EntryId, target: Text },
-    /// The priority behind that of the entry is not found, while its extension has greater ones.
+    /// The priority after that of the entry is not found, while its extension has greater ones.
     Gap { entry: EntryId },
     /// The extension, of which the entry has the lowest priority, has no priority 1, and no context of its search order gives it one.
     NoFirst { entry: EntryId },

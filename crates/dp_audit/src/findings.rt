@@ -2,10 +2,10 @@
 ghost use Rattle.std.specs.Prelude.{◌≡◌, ◌≤◌, ◌<◌, ◌++◌, Some, IfOk, OnOk};
 ghost use Rattle.std.specs.List.{flat_map, range_with_len};
 ghost use Rattle.dp_audit.specs.Findings as spec;
-ghost use Rattle.dp_audit.specs.Hiding.{AreHidden};
+ghost use Rattle.dp_audit.specs.steps.Hiding.{AreHidden};
 ghost use Rattle.dp_audit.specs.Labels.{AreNamed};
 ghost use Rattle.dp_audit.specs.Orders.{order_at};
-ghost use Rattle.dp_audit.specs.Scene.{IsKnown, IsScene};
+ghost use Rattle.dp_audit.specs.steps.Scene.{IsKnown, IsScene};
 ghost use Rattle.dp_audit.specs.Unset.{AreSet};
 ghost use Rattle.dp_lookup.specs.SearchOrder.{context_count};
 ghost use Rattle.dp_plan.specs.Lookup.{entry_at};
@@ -57,7 +57,8 @@ fn push_of_priorities(
 ) -> Result<(), NoMemory>
     requires scene { IsScene id.context scene.now }
     requires there { entry_at scene.now.plan.now id ≡ Some entry.now }
-    ensures { OnOk result (findings.new.items ≡ findings.old.items ++ spec.of_priorities scene.now.plan.now id entry.now) }
+    ensures { OnOk result (findings.new.items
+        ≡ findings.old.items ++ spec.of_priorities scene.now.plan.now id entry.now) }
 {
     let is_gap = is_gap(scene, id, entry);
     push_if(findings, is_gap, Finding::Gap { entry: id })?;
@@ -99,7 +100,8 @@ fn push_of<N: Names>(
     requires scene { IsScene id.context scene.now }
     requires there { entry_at scene.now.plan.now id ≡ Some entry.now }
     requires finds { finder.old ≡ scene.now.plan.now }
-    ensures found { OnOk result (findings.new.items ≡ findings.old.items ++ spec.of_entry N.known scene.now.plan.now id entry.now) }
+    ensures found { OnOk result (findings.new.items
+        ≡ findings.old.items ++ spec.of_entry N.known scene.now.plan.now id entry.now) }
     ensures same { finder.new ≡ finder.old }
 {
     let is_unknown = !N::has_application(entry.application.bytes());
@@ -121,7 +123,8 @@ fn push_of_entry<N: Names>(
 ) -> Result<(), NoMemory>
     requires scene { IsScene id.context scene.now }
     requires finds { finder.old ≡ scene.now.plan.now }
-    ensures found { OnOk result (findings.new.items ≡ findings.old.items ++ spec.findings_of_entry N.known scene.now.plan.now id) }
+    ensures found { OnOk result (findings.new.items
+        ≡ findings.old.items ++ spec.findings_of_entry N.known scene.now.plan.now id) }
     ensures same { finder.new ≡ finder.old }
 {
     match scene.plan.entry(id) {
@@ -141,7 +144,8 @@ fn push_of_entries<N: Names>(
 ) -> Result<(), NoMemory>
     requires scene { IsScene number scene.now }
     requires finds { finder.old ≡ scene.now.plan.now }
-    ensures found { OnOk result (findings.new.items ≡ findings.old.items ++ spec.findings_of_entries N.known scene.now.plan.now number) }
+    ensures found { OnOk result (findings.new.items
+        ≡ findings.old.items ++ spec.findings_of_entries N.known scene.now.plan.now number) }
     ensures same { finder.new ≡ finder.old }
 {
     for entry in 0..entries_at(scene.plan, number).len() {
@@ -168,7 +172,8 @@ fn push_by_order<N: Names>(
     requires finds { finder.old ≡ known.plan.now }
     requires context { context.now ≡ spec.context_name known.plan.now number }
     requires order { order.now.contexts ≡ order_at known.plan.now number }
-    ensures found { OnOk result (findings.new.items ≡ findings.old.items ++ spec.findings_of_entries N.known known.entry.plan.now number) }
+    ensures found { OnOk result (findings.new.items
+        ≡ findings.old.items ++ spec.findings_of_entries N.known known.entry.plan.now number) }
     ensures same { finder.new ≡ finder.old }
 {
     let greater = greater_marks(alloc, known.plan, number)?;
@@ -203,7 +208,8 @@ fn push_of_context<N: Names>(
     requires known { IsKnown known }
     requires finds { finder.old ≡ known.plan.now }
     requires room { context_count known.plan.now ≤ order.old.room }
-    ensures found { OnOk result (findings.new.items ≡ findings.old.items ++ spec.findings_of_context N.known known.entry.plan.now number) }
+    ensures found { OnOk result (findings.new.items
+        ≡ findings.old.items ++ spec.findings_of_context N.known known.entry.plan.now number) }
     ensures same { finder.new ≡ finder.old }
     ensures room { order.new.room ≡ order.old.room }
 {
@@ -225,7 +231,8 @@ fn findings_of<N: Names>(
     requires finds { finder.old ≡ known.plan.now }
     requires room { context_count known.plan.now ≤ order.old.room }
     ensures { IfOk result (λ findings. findings.items
-        ≡ flat_map (spec.findings_of_context N.known known.entry.plan.now) (range_with_len 0 (context_count known.entry.plan.now))) }
+        ≡ flat_map (spec.findings_of_context N.known known.entry.plan.now)
+        (range_with_len 0 (context_count known.entry.plan.now))) }
 {
     let mut findings = Vec::new(alloc);
     for number in 0..known.plan.contexts().len() {

@@ -3,7 +3,7 @@ ghost use Rattle.std.specs.Prelude.{◌≡◌, [], IfOk, OnOk, nat_eq};
 ghost use Rattle.std.specs.Cmp.Lexicographic.{pointwise};
 ghost use Rattle.std.specs.List.{list_any};
 ghost use Rattle.dp_audit.specs.Findings.{is_first, some_first};
-ghost use Rattle.dp_audit.specs.Firsts.{Adds};
+ghost use Rattle.dp_audit.specs.steps.Firsts.{Adds};
 ghost use Rattle.dp_pattern.specs.Spelling.{spelling};
 
 use crate::neighbours::entries_at;

@@ -3,8 +3,8 @@ ghost use Rattle.std.specs.Prelude.{◌≡◌, ◌+◌, [], Some, IfOk, false, g
 ghost use Rattle.std.specs.Cmp.Lexicographic.{pointwise};
 ghost use Rattle.std.specs.List.{list_any};
 ghost use Rattle.dp_audit.specs.Findings as spec;
-ghost use Rattle.dp_audit.specs.Firsts.{Adds};
-ghost use Rattle.dp_audit.specs.Scene.{IsScene};
+ghost use Rattle.dp_audit.specs.steps.Firsts.{Adds};
+ghost use Rattle.dp_audit.specs.steps.Scene.{IsScene};
 ghost use Rattle.dp_pattern.specs.Spelling.{spelling};
 ghost use Rattle.dp_plan.specs.Lookup.{entry_at};
 ghost use Rattle.dp_plan.specs.Plan.{PlanOf};
@@ -38,7 +38,7 @@ fn lacks(trie: &Trie, order: &SearchOrder, name: &Name, priority: u32) -> bool
     }
 }
 
-/// Whether a call that runs the entry ends at the next priority, though its extension goes on behind it.
+/// Whether a call that runs the entry ends at the next priority, though its extension goes on after it.
 pub(crate) fn is_gap(scene: &Scene<'_>, id: EntryId, entry: &Entry) -> bool
     requires scene { IsScene id.context scene.now }
     requires there { entry_at scene.now.plan.now id ≡ Some entry.now }

@@ -2,8 +2,9 @@
 //! before them.
 ghost use Rattle.std.specs.Prelude.{◌≡◌, ◌≢◌, ◌≤◌, ◌++◌, ℕ, List, [], All, IsTrue, map, replicate, slice_get, unwrap_or, Some, IfOk, OnOk};
 ghost use Rattle.std.specs.List.{list_any};
+ghost use Rattle.dp_conf.specs.Changes.{changed_at};
 ghost use Rattle.dp_audit.specs.Hidden.{hidden_from, is_hidden};
-ghost use Rattle.dp_audit.specs.Hiding as spec;
+ghost use Rattle.dp_audit.specs.steps.Hiding as spec;
 ghost use Rattle.dp_lookup.specs.FoundEntry.{entries_at, found_entry};
 ghost use Rattle.dp_lookup.specs.SearchOrder.{context_count};
 ghost use Rattle.dp_audit.specs.Orders.{order_at};
@@ -84,7 +85,7 @@ impl Row {
 
     /// Adds a number to those of an entry, where there is one.
     fn push(&mut self, entry: usize, number: usize) -> Result<(), NoMemory>
-        ensures { OnOk result (self.new ≡ spec.changed_at (spec.with_number number) entry self.old) }
+        ensures { OnOk result (self.new ≡ changed_at (spec.with_number number) entry self.old) }
     {
         if entry < self.entries.len() {
             let numbers = &mut self.entries[entry];
@@ -111,7 +112,7 @@ pub(crate) struct Hidings {
 }
 
 impl Model for Hidings {
-    ghost use Rattle.dp_audit.specs.Hiding.{Notes};
+    ghost use Rattle.dp_audit.specs.steps.Hiding.{Notes};
 
     ghost Value = { Notes };
 
@@ -132,7 +133,8 @@ impl Hidings {
 
     /// Adds a number to those of an entry, where there is one.
     fn push(&mut self, id: EntryId, number: usize) -> Result<(), NoMemory>
-        ensures { OnOk result (self.new ≡ spec.changed_at (spec.changed_at (spec.with_number number) id.entry) id.context self.old) }
+        ensures { OnOk result (self.new ≡ changed_at
+            (changed_at (spec.with_number number) id.entry) id.context self.old) }
     {
         if id.context < self.rows.len() {
             let row = &mut self.rows[id.context];
@@ -165,7 +167,8 @@ impl Hidings {
         number: usize,
         from: usize,
     ) -> Result<(), NoMemory>
-        ensures { OnOk result (spec.Grows self.old self.new (spec.for_each plan.now (spec.is_among places.now.keys) number from)) }
+        ensures { OnOk result (spec.Grows self.old self.new
+            (spec.for_each plan.now (spec.is_among places.now.keys) number from)) }
     {
         let entries = entries_at(plan, number);
         for entry in 0..entries.len() {
@@ -178,7 +181,7 @@ impl Hidings {
         Ok(())
     }
 
-    /// Adds the places of a context's entries, and asks the entries of the context that comes behind it.
+    /// Adds the places of a context's entries, and asks the entries of the context that comes after it.
     fn ask_next(
         &mut self,
         plan: &Dialplan,
@@ -187,8 +190,10 @@ impl Hidings {
         number: usize,
         from: usize,
     ) -> Result<(), NoMemory>
-        ensures places { OnOk result (spec.Adds (λ place. list_any (spec.is_at place) (entries_at plan.now before)) places.old.keys places.new.keys) }
-        ensures noted { OnOk result (spec.Grows self.old self.new (spec.for_each plan.now (spec.is_among places.new.keys) number from)) }
+        ensures places { OnOk result (spec.Adds (λ place. list_any (spec.is_at place)
+            (entries_at plan.now before)) places.old.keys places.new.keys) }
+        ensures noted { OnOk result (spec.Grows self.old self.new
+            (spec.for_each plan.now (spec.is_among places.new.keys) number from)) }
     {
         add_places(places, entries_at(plan, before))?;
         self.ask_context(plan, places, number, from)?;
@@ -272,7 +277,8 @@ pub(crate) fn push_hidden(
     hidings: &Hidings,
     id: EntryId,
 ) -> Result<(), NoMemory>
-    ensures { OnOk result ((plan : PlanOf) (entry : Entry) → spec.AreHidden plan hidings.now → entry_at plan id ≡ Some entry
+    ensures { OnOk result ((plan : PlanOf) (entry : Entry) → spec.AreHidden plan hidings.now
+        → entry_at plan id ≡ Some entry
         → findings.new.items ≡ findings.old.items ++ map (Finding.Hidden id) (hidden_from plan id entry)) }
 {
     push_each(findings, id, hidings.get(id))?;
@@ -282,7 +288,8 @@ pub(crate) fn push_hidden(
 /// An entry that is hidden from a context is none that a look-up from there finds, whatever text is dialled and at whatever
 /// priority, in any dialplan whose names some texts mean, as in every loaded one.
 pub fn hidden_is_never_found()
-    ensures { (plan : PlanOf) → All (λ context. AreNamed context.entries) plan.contexts → (from : ℕ) (id : EntryId) (entry : Entry)
+    ensures { (plan : PlanOf) → All (λ context. AreNamed context.entries) plan.contexts
+        → (from : ℕ) (id : EntryId) (entry : Entry)
         → entry_at plan id ≡ Some entry → IsTrue (is_hidden plan id entry from) → (text : List ℕ) (priority : ℕ)
         → found_entry plan (order_at plan from) text priority ≢ Some id }
 {}

@@ -15,7 +15,7 @@ use dp_vars::has_opening;
 pub struct Jump {
     /// By a condition, to one of two sides.
     pub is_choice: bool,
-    /// Into a subroutine, whose arguments stand behind the target.
+    /// Into a subroutine, whose arguments stand after the target.
     pub is_subroutine: bool,
 }
 
@@ -128,24 +128,24 @@ fn priority_in(jump: Jump, part: &[u8]) -> &[u8]
 pub(crate) fn parts_of(jump: Jump, text: &[u8]) -> Option<Parts<'_>>
     ensures { option_map spec.seen result ≡ spec.parts_of jump text.now }
 {
-    let (first, behind) = first_argument(text);
-    let Some(behind) = behind else {
+    let (first, after) = first_argument(text);
+    let Some(after) = after else {
         return Some(Parts {
             context: b"",
             exten: b"",
             priority: priority_in(jump, trim(first)),
         });
     };
-    let (second, behind) = first_argument(behind);
-    let Some(behind) = behind else {
+    let (second, after) = first_argument(after);
+    let Some(after) = after else {
         return Some(Parts {
             context: b"",
             exten: trim(first),
             priority: priority_in(jump, trim(second)),
         });
     };
-    let (third, behind) = first_argument(behind);
-    let Some(behind) = behind else {
+    let (third, after) = first_argument(after);
+    let Some(after) = after else {
         return Some(Parts {
             context: trim(first),
             exten: trim(second),
@@ -153,7 +153,7 @@ pub(crate) fn parts_of(jump: Jump, text: &[u8]) -> Option<Parts<'_>>
         });
     };
     // There is a fourth.
-    let _fourth = first_argument(behind);
+    let _fourth = first_argument(after);
     None
 }
 

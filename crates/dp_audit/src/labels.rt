@@ -38,7 +38,8 @@ impl Named {
     /// Notes a target, where there is one.
     #[tactic(auto, using(crate::proofs::LabelsLemmas::notes_none))]
     fn note_side(&mut self, alloc: Global, jump: Jump, side: Option<&[u8]>) -> Result<(), NoMemory>
-        ensures { OnOk result (spec.NotesTexts jump self.old self.new (option_to_list (option_map (λ text. text.now) side.entry))) }
+        ensures { OnOk result (spec.NotesTexts jump self.old self.new
+            (option_to_list (option_map (λ text. text.now) side.entry))) }
     {
         match side {
             Some(text) => self.note(alloc, jump, text),
@@ -76,7 +77,8 @@ impl Named {
     /// Notes the targets of the entries.
     #[tactic(auto, using(crate::proofs::LabelsLemmas::notes_both, crate::proofs::LabelsLemmas::notes_none))]
     fn note_entries(&mut self, alloc: Global, entries: &[Entry]) -> Result<(), NoMemory>
-        ensures { OnOk result (spec.Notes self.old self.new (list_any spec.computes entries.now) (flat_map spec.names entries.now)) }
+        ensures { OnOk result (spec.Notes self.old self.new (list_any spec.computes entries.now)
+            (flat_map spec.names entries.now)) }
     {
         for entry in entries {
             self.note_entry(alloc, entry)?;

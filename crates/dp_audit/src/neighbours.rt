@@ -3,7 +3,7 @@
 ghost use Rattle.std.specs.Prelude.{◌≡◌, ◌+◌, ◌<◌, ◌≤◌, false, length, replicate, IfOk, if◌then◌else◌};
 ghost use Rattle.std.specs.Option.{option_copied};
 ghost use Rattle.dp_audit.specs.Findings.{has_greater, has_lower};
-ghost use Rattle.dp_audit.specs.Neighbours as spec;
+ghost use Rattle.dp_audit.specs.steps.Neighbours as spec;
 ghost use Rattle.dp_lookup.specs.FoundEntry.{entries_at};
 ghost use Rattle.dp_plan.specs.Ranking.{ranked_entry};
 
@@ -28,7 +28,7 @@ fn are_of_one_name(left: Option<&Entry>, right: Option<&Entry>) -> bool
     }
 }
 
-/// Whether the entry at the place of a ranking has one of its name behind it.
+/// Whether the entry at the place of a ranking has one of its name after it.
 fn is_followed(entries: &[Entry], ids: &[EntryId], place: usize) -> bool
     requires { place < length ids.now }
     ensures { result ≡ spec.is_followed entries.now ids.now place }
@@ -49,29 +49,30 @@ fn mark(ids: &[EntryId], place: usize, marks: &mut [bool])
     }
 }
 
-/// Marks the entry that stands so far behind the one at the place, where that one has one of its name behind it.
-fn mark_behind(entries: &[Entry], ids: &[EntryId], place: usize, shift: usize, marks: &mut [bool])
+/// Marks the entry that stands so far after the one at the place, where that one has one of its name after it.
+fn mark_after(entries: &[Entry], ids: &[EntryId], place: usize, shift: usize, marks: &mut [bool])
     requires place { place < length ids.now }
     requires near { shift ≤ 1 }
-    ensures { marks.new ≡ (if spec.is_followed entries.now ids.now place then spec.marked ids.now (place + shift) marks.old else marks.old) }
+    ensures { marks.new ≡ (if spec.is_followed entries.now ids.now place then spec.marked ids.now
+        (place + shift) marks.old else marks.old) }
 {
     if is_followed(entries, ids, place) {
         mark(ids, place + shift, marks);
     }
 }
 
-/// Marks the entries that stand so far behind those that have one of their name behind them.
+/// Marks the entries that stand so far after those that have one of their name after them.
 fn mark_all(entries: &[Entry], ids: &[EntryId], shift: usize, marks: &mut [bool])
     requires near { shift ≤ 1 }
     requires none { marks.old ≡ replicate (length entries.now) false }
-    ensures { spec.AreBehind entries.now ids.now shift (length ids.now) marks.new }
+    ensures { spec.AreAfter entries.now ids.now shift (length ids.now) marks.new }
 {
     for place in 0..ids.len() {
-        mark_behind(entries, ids, place, shift, marks);
+        mark_after(entries, ids, place, shift, marks);
     }
 }
 
-/// The marks of the entries that stand so far behind those that have one of their name behind them.
+/// The marks of the entries that stand so far after those that have one of their name after them.
 fn marks_of(
     alloc: Global,
     entries: &[Entry],
@@ -79,7 +80,7 @@ fn marks_of(
     shift: usize,
 ) -> Result<Vec<bool>, NoMemory>
     requires { shift ≤ 1 }
-    ensures { IfOk result (λ marks. spec.AreBehind entries.now ids.now shift (length ids.now) marks.items) }
+    ensures { IfOk result (λ marks. spec.AreAfter entries.now ids.now shift (length ids.now) marks.items) }
 {
     let mut marks = vec![in alloc; false; entries.len()]?;
     mark_all(entries, ids, shift, &mut marks);
@@ -105,7 +106,7 @@ pub(crate) fn greater_marks(
     ensures { IfOk result (λ marks. let entries = entries_at plan.now number in
         spec.AreMarks (has_greater entries) entries marks.items) }
 {
-    plan.entries_are_known();
+    plan.show_entries_known();
     let marks = marks_of(alloc, entries_at(plan, number), plan.ranked_at(number), 0)?;
     Ok(marks)
 }
@@ -119,7 +120,7 @@ pub(crate) fn lower_marks(
     ensures { IfOk result (λ marks. let entries = entries_at plan.now number in
         spec.AreMarks (has_lower entries) entries marks.items) }
 {
-    plan.entries_are_known();
+    plan.show_entries_known();
     let marks = marks_of(alloc, entries_at(plan, number), plan.ranked_at(number), 1)?;
     Ok(marks)
 }

@@ -1,7 +1,7 @@
 //! The places of entries: two entries of one place in different contexts have names of one meaning, and the same priority.
 ghost use Rattle.std.specs.Prelude.{◌≡◌, IfOk, OnOk};
 ghost use Rattle.std.specs.List.{list_any};
-ghost use Rattle.dp_audit.specs.Hiding as spec;
+ghost use Rattle.dp_audit.specs.steps.Hiding as spec;
 
 use crate::spelling::Spelling;
 use dp_plan::{Entry, NoMemory};
@@ -44,7 +44,8 @@ fn add_place(places: &mut IndexSet<Place>, entry: &Entry) -> Result<(), NoMemory
 
 /// Adds the places of the entries.
 pub(crate) fn add_places(places: &mut IndexSet<Place>, entries: &[Entry]) -> Result<(), NoMemory>
-    ensures { OnOk result (spec.Adds (λ place. list_any (spec.is_at place) entries.now) places.old.keys places.new.keys) }
+    ensures { OnOk result (spec.Adds (λ place. list_any
+        (spec.is_at place) entries.now) places.old.keys places.new.keys) }
 {
     for entry in entries {
         add_place(places, entry)?;

@@ -78,7 +78,8 @@ fn leads(
     name: &Name,
     parts: Option<Parts<'_>>,
 ) -> Result<bool, NoMemory>
-    ensures leads { IfOk result (λ leads. leads ≡ spec.leads finder.old own.now name.now (option_map spec.seen parts.entry)) }
+    ensures leads { IfOk result (λ leads. leads
+        ≡ spec.leads finder.old own.now name.now (option_map spec.seen parts.entry)) }
     ensures same { finder.new ≡ finder.old }
 {
     let Some(parts) = parts else {
@@ -195,7 +196,8 @@ fn push_targets(
     id: EntryId,
     targets: Targets<'_>,
 ) -> Result<(), NoMemory>
-    ensures { OnOk result (findings.new.items ≡ findings.old.items ++ map (Finding.NoTarget id) (spec.shown targets.entry)) }
+    ensures { OnOk result (findings.new.items
+        ≡ findings.old.items ++ map (Finding.NoTarget id) (spec.shown targets.entry)) }
 {
     push_target(findings, alloc, id, targets.first)?;
     push_target(findings, alloc, id, targets.second)?;

@@ -48,11 +48,11 @@ fn front_name(body: &[u8]) -> Option<&[u8]>
     None
 }
 
-/// The name of the group in braces that a byte opens, by the bytes behind it.
-fn name_behind(byte: u8, behind: &[u8]) -> Option<&[u8]>
-    ensures { option_map (λ name. name.now) result ≡ spec.name_behind byte behind.now }
+/// The name of the group in braces that a byte opens, by the bytes after it.
+fn name_after(byte: u8, after: &[u8]) -> Option<&[u8]>
+    ensures { option_map (λ name. name.now) result ≡ spec.name_after byte after.now }
 {
-    let (next, body) = behind.split_first()?;
+    let (next, body) = after.split_first()?;
     if byte == b'$' && *next == b'{' {
         return front_name(body);
     }
@@ -124,10 +124,10 @@ fn variable_of(arguments: &[u8]) -> Option<&[u8]>
 fn count_arguments(alloc: Global, text: &[u8]) -> Result<usize, NoMemory>
     ensures { IfOk result (λ count. count ≡ length (spec.arguments_given text.now)) }
 {
-    let Some((_place, behind)) = cut_once(text, b'(') else {
+    let Some((_place, after)) = cut_once(text, b'(') else {
         return Ok(0);
     };
-    let Some(inside) = before_last(behind, b')') else {
+    let Some(inside) = before_last(after, b')') else {
         return Ok(0);
     };
     if inside.is_empty() {
@@ -165,7 +165,8 @@ impl SetNames {
     /// Notes a name, where there is one.
     #[tactic(auto, using(crate::proofs::UnsetLemmas::adds_none))]
     fn add_variable(&mut self, alloc: Global, name: Option<&[u8]>) -> Result<(), NoMemory>
-        ensures { OnOk result (spec.Adds self.old self.new (option_to_list (option_map (λ name. name.now) name.entry))) }
+        ensures { OnOk result (spec.Adds self.old self.new
+            (option_to_list (option_map (λ name. name.now) name.entry))) }
     {
         let Some(name) = name else {
             return Ok(());
@@ -173,7 +174,7 @@ impl SetNames {
         self.add_copy(alloc, name)
     }
 
-    /// Notes the name of the argument behind so many.
+    /// Notes the name of the argument after so many.
     fn add_argument(&mut self, alloc: Global, before: usize) -> Result<(), NoMemory>
         requires { before < 2 ^ 64 - 1 }
         ensures { OnOk result (spec.Adds self.old self.new (spec.argument_name (before + 1) ∷ [])) }
@@ -264,7 +265,8 @@ impl SetNames {
 
     /// Notes what the entries of the contexts set.
     fn add_contexts(&mut self, alloc: Global, contexts: &[Context]) -> Result<(), NoMemory>
-        ensures { OnOk result (spec.Adds self.old self.new (flat_map (λ context. flat_map spec.entry_sets context.entries) contexts.now)) }
+        ensures { OnOk result (spec.Adds self.old self.new
+            (flat_map (λ context. flat_map spec.entry_sets context.entries) contexts.now)) }
     {
         for context in contexts {
             self.add_entries(alloc, context.entries())?;
@@ -312,7 +314,8 @@ fn push_name(
     name: Option<&[u8]>,
 ) -> Result<(), NoMemory>
     ensures { OnOk result (findings.new.items ≡ findings.old.items
-        ++ map (Finding.Unset id) (filter (spec.lacks noted.now) (option_to_list (option_map (λ name. name.now) name.entry)))) }
+        ++ map (Finding.Unset id) (filter (spec.lacks noted.now)
+        (option_to_list (option_map (λ name. name.now) name.entry)))) }
 {
     let Some(name) = name else {
         return Ok(());
@@ -336,9 +339,9 @@ fn push_names(
         ++ map (Finding.Unset id) (filter (spec.lacks noted.now) (spec.names_read text.now))) }
 {
     let mut left = text;
-    while let Some((byte, behind)) = left.split_first() {
-        push_name(findings, alloc, noted, id, name_behind(*byte, behind))?;
-        left = behind;
+    while let Some((byte, after)) = left.split_first() {
+        push_name(findings, alloc, noted, id, name_after(*byte, after))?;
+        left = after;
     }
     Ok(())
 }

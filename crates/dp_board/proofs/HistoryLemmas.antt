@@ -13,12 +13,13 @@ use Rattle.dp_board.specs.Difference.{told_of, told_from}
 use Rattle.dp_board.specs.Log.{Log, Replays, events_in, replies_in}
 use Rattle.dp_board.specs.Settled.{Agrees}
 use Rattle.dp_board.specs.Silence.{MayBeSilent, entries_without}
-use Rattle.dp_board.specs.Sittings.{PlacesRise, Sitting, Told}
+use Rattle.dp_board.specs.Sittings.{PlacesRise, Sitting}
+use Rattle.dp_board.specs.declared.seat_call.SeatCall.{SeatCall}
 use Rattle.dp_board.specs.declared.entry.Entry.{Entry}
 
 -- the places in a record
-abbrev places : List Told → List ℕ
-places told = map (λ call. call.0) told
+abbrev places : List SeatCall → List ℕ
+places told = map (λ call. call.place) told
 
 -- numbers that rise, from this one on
 record RiseFrom (place : ℕ) (numbers : List ℕ) : Type 0 where
@@ -58,7 +59,7 @@ told_from-rises seat place (entry ∷ entries) = by (told_from-rises seat (place
 
 -- and so those in the record of a seat that agrees
 pub PlacesRise-of : (entries : List Entry) (seat : Sitting) → Agrees entries seat → PlacesRise seat
-PlacesRise-of entries seat agrees = subst (λ (told : List Told). IsStrictlyIncreasing (places told)) agrees (told_from-rises seat.number 0 entries).rise
+PlacesRise-of entries seat agrees = subst (λ (told : List SeatCall). IsStrictlyIncreasing (places told)) agrees (told_from-rises seat.number 0 entries).rise
 
 -- the replies to the events of others are those in the entries of others
 replies-without : (number : ℕ) (entries : List Entry) → replies_without number (events_in entries) (replies_in entries) ≡ replies_in (entries_without number entries)

@@ -5,7 +5,7 @@ use Rattle.std.proofs.lemmas.Bool.{eqb-true, eq-eqb}
 use Rattle.std.proofs.lemmas.List.{get_or-set_same, get_or-set_other}
 use Rattle.std.proofs.lemmas.List.Folds.{list_any-append, sum_by-replicate}
 use Rattle.std.proofs.lemmas.List.Sums.{sum_by-set}
-use Rattle.dp_board.specs.Presence.{is_marked, unmarked_in, MarksSeats, AllMarked, IsLeastUnmarked}
+use Rattle.dp_board.specs.steps.Presence.{is_marked, unmarked_in, MarksSeats, AllMarked, IsLeastUnmarked}
 use Rattle.dp_board.specs.Settled.{has_seat, AllPresent, IsLeastAbsent}
 use Rattle.dp_board.specs.Sittings.{Sitting}
 

@@ -9,7 +9,8 @@ use Rattle.dp_app.specs.Rows.{Rows}
 use Rattle.dp_machine.specs.World.{World}
 use Rattle.dp_board.specs.Log.{Log, Replays, AreSeated}
 use Rattle.dp_board.specs.Settled.{Agrees, AllPresent, IsLeastDifference, IsWhole, lesser, calls_of}
-use Rattle.dp_board.specs.Sittings.{Told, Sitting}
+use Rattle.dp_board.specs.Sittings.{Sitting}
+use Rattle.dp_board.specs.declared.seat_call.SeatCall.{SeatCall}
 use Rattle.dp_board.specs.declared.difference.Disagree.{Disagree}
 use Rattle.dp_board.specs.declared.entry.Entry.{Entry}
 
@@ -64,7 +65,7 @@ pub seated-within : (parts count : ℕ) (entries : List Entry) → parts ≡ cou
 seated-within parts count entries is seated k d lt = omega (arith, is, seated k d lt)
 
 -- what is found of one seat, by its number and its record
-pub FindsOne-of : (entries : List Entry) (seat : Sitting) (found : Option Disagree) (number : ℕ) (told : List Told) → number ≡ seat.number → told ≡ seat.told → MatchOption found (told_to number entries ≡ told) (λ d. (d.seat ≡ number) × FirstDiffers (told_to number entries) told d.index) → FindsOne entries seat found
+pub FindsOne-of : (entries : List Entry) (seat : Sitting) (found : Option Disagree) (number : ℕ) (told : List SeatCall) → number ≡ seat.number → told ≡ seat.told → MatchOption found (told_to number entries ≡ told) (λ d. (d.seat ≡ number) × FirstDiffers (told_to number entries) told d.index) → FindsOne entries seat found
 FindsOne-of entries seat None number told n t one = ap (λ k. told_to k entries) (sym n) ∙ (one ∙ t)
 FindsOne-of entries seat (Some d) number told n t one = (one.0 ∙ n, subst (λ k. FirstDiffers (told_to k entries) seat.told d.index) n (subst (λ l. FirstDiffers (told_to number entries) l d.index) t one.1))
 

@@ -1,9 +1,9 @@
 pub mod Codes
 pub mod Difference
 pub mod Log
-pub mod Presence
 pub mod Settled
 pub mod Silence
 pub mod Sittings
-pub mod Steps
+pub mod Attending
 pub mod Unsettled
+pub mod steps

@@ -3,19 +3,20 @@ use Rattle.std.specs.Prelude.{ℕ, List, [], ◌∷◌, ◌++◌, map}
 use Rattle.std.specs.List.Sorted.{IsStrictlyIncreasing}
 use Rattle.dp_machine.specs.declared.event.Event.{Event}
 use Rattle.dp_machine.specs.declared.reply.Reply.{Reply}
+use Rattle.dp_board.specs.declared.seat_call.SeatCall.{SeatCall}
 
 -- what a seat was told of one call: the place of the call's entry, the event and the reply
-abbrev pub Told : Type 0
-Told = ℕ × Event × Reply
+abbrev pub call_of : ℕ → Event → Reply → SeatCall
+call_of place event reply = record { place = place; event = event; reply = reply }
 
 -- a seat: its number, and what it was told, call by call
 pub record Sitting : Type 0 where
   pub number : ℕ
-  pub told : List Told
+  pub told : List SeatCall
 
 -- a seat that was told of one more call
 abbrev pub with_call : Sitting → ℕ → Event → Reply → Sitting
-with_call seat place event reply = record seat { told = seat.told ++ (place, event, reply) ∷ [] }
+with_call seat place event reply = record seat { told = seat.told ++ call_of place event reply ∷ [] }
 
 -- a seat that was told of no call yet
 abbrev pub unheard : ℕ → Sitting
@@ -23,4 +24,4 @@ unheard number = record { number = number; told = [] }
 
 -- the places of the calls in a record rise: each call stands once, in its order
 abbrev pub PlacesRise : Sitting → Type 0
-PlacesRise seat = IsStrictlyIncreasing (map (λ call. call.0) seat.told)
+PlacesRise seat = IsStrictlyIncreasing (map (λ call. call.place) seat.told)

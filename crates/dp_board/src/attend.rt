@@ -1,6 +1,6 @@
 //! Attending a channel: step after step, until it ends or the turns are spent.
 ghost use Rattle.std.specs.Prelude.{◌≡◌, ◌+◌, ◌≤◌, length, IfOk, OnErr};
-ghost use Rattle.dp_board.specs.Steps as steps;
+ghost use Rattle.dp_board.specs.Attending as steps;
 
 use crate::board::Board;
 use crate::seat::Seat;
@@ -37,8 +37,8 @@ pub struct Attended {
     pub why: Why,
 }
 
-/// Why an attendance is over behind this reply, where it is: `has_ended` says that the turn left the channel ended.
-fn end_behind(reply: Reply, has_ended: bool) -> Option<Why>
+/// Why an attendance is over after this reply, where it is: `has_ended` says that the turn left the channel ended.
+fn end_after(reply: Reply, has_ended: bool) -> Option<Why>
     ensures { steps.IsEnd reply result }
 {
     if has_ended || reply == Reply::Refused(Refusal::Ended) {
@@ -60,7 +60,7 @@ impl<T: AppTable, S: Session> Board<T, S> {
     }
 
     /// Gives a channel its next step, for a seat. Answers the place of its entry, the reply, and whether the channel has
-    /// ended behind it.
+    /// ended after it.
     fn step<R: Wait>(
         &self,
         rt: &R,
@@ -97,7 +97,7 @@ impl<T: AppTable, S: Session> Board<T, S> {
         gate.before(channel, turn);
         let (place, reply, has_ended) = self.step(rt, alloc, seat, channel)?;
         gate.after(channel, &reply);
-        Ok((place, reply, end_behind(reply, has_ended)))
+        Ok((place, reply, end_after(reply, has_ended)))
     }
 
     /// Gives a channel step after step, for a seat, at most so many. Before each it waits while the channel is parked, and
@@ -118,7 +118,8 @@ impl<T: AppTable, S: Session> Board<T, S> {
         ensures bound { length seat.new.told ≤ length seat.old.told + turns }
         ensures count { IfOk result (λ attended. length seat.new.told ≡ length seat.old.told + attended.steps) }
         ensures on { steps.GoesOnToLast (steps.added seat.old seat.new) }
-        ensures why { IfOk result (λ attended. steps.IsReason attended.why attended.steps turns (steps.added seat.old seat.new)) }
+        ensures why { IfOk result (λ attended. steps.IsReason attended.why attended.steps turns
+            (steps.added seat.old seat.new)) }
     {
         for turn in 0..turns {
             let (_place, _reply, end) = self.turn(rt, alloc, seat, channel, gate, turn)?;

@@ -3,6 +3,7 @@ ghost use Rattle.std.specs.Prelude.{◌≡◌, ◌↔◌, IsTrue, Some, MatchOpt
 ghost use Rattle.dp_board.specs.Difference as spec;
 
 use crate::entry::Entry;
+use crate::seat_call::SeatCall;
 use dp_machine::{Event, Reply};
 
 /// The entries of a seat and its record differ at this index of the record, and not before it.
@@ -27,14 +28,16 @@ fn is_same_reply(left: Reply, right: Reply) -> bool
 }
 
 /// Whether a seat was told of the entry at a place.
-fn is_told(call: &(usize, Event, Reply), place: usize, entry: &Entry) -> bool
+fn is_told(call: &SeatCall, place: usize, entry: &Entry) -> bool
     ensures { IsTrue result ↔ (call.now ≡ spec.told_of place entry.now) }
 {
-    call.0 == place && is_same_event(&call.1, &entry.event) && is_same_reply(call.2, entry.reply)
+    call.place == place
+        && is_same_event(&call.event, &entry.event)
+        && is_same_reply(call.reply, entry.reply)
 }
 
 /// Whether a record has the entry at a place as its item of this index.
-fn is_recorded(told: &[(usize, Event, Reply)], index: usize, place: usize, entry: &Entry) -> bool
+fn is_recorded(told: &[SeatCall], index: usize, place: usize, entry: &Entry) -> bool
     ensures { IsTrue result ↔ (slice_get told.now index ≡ Some (spec.told_of place entry.now)) }
 {
     match told.get(index) {
@@ -45,12 +48,9 @@ fn is_recorded(told: &[(usize, Event, Reply)], index: usize, place: usize, entry
 
 /// Where the entries of a seat, with their places from 0, and the record of the seat first differ: the least index at which
 /// one of them has another item, or none. It is None exactly where they are equal.
-pub fn first_difference(
-    entries: &[Entry],
-    seat: u32,
-    told: &[(usize, Event, Reply)],
-) -> Option<Disagree>
-    ensures { MatchOption result (spec.told_to seat entries.now ≡ told.now) (λ found. (found.seat ≡ seat) × spec.FirstDiffers (spec.told_to seat entries.now) told.now found.index) }
+pub fn first_difference(entries: &[Entry], seat: u32, told: &[SeatCall]) -> Option<Disagree>
+    ensures { MatchOption result (spec.told_to seat entries.now ≡ told.now)
+        (λ found. (found.seat ≡ seat) × spec.FirstDiffers (spec.told_to seat entries.now) told.now found.index) }
 {
     let mut index = 0;
     for place in 0..entries.len() {

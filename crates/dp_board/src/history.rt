@@ -5,7 +5,7 @@ use crate::entry::Entry;
 use dp_machine::Machine;
 use std::marker::Model;
 
-/// All calls of a board, in the order in which they were done, and the machine behind the last of them. A contract sees it
+/// All calls of a board, in the order in which they were done, and the machine after the last of them. A contract sees it
 /// as the entries and the machine's world.
 #[derive(Drop)]
 pub struct History<T> {
@@ -40,7 +40,7 @@ impl<T> History<T> {
         &self.entries
     }
 
-    /// The machine behind the last call.
+    /// The machine after the last call.
     pub fn machine(&self) -> &Machine<T>
         ensures { result.now ≡ self.now.world }
     {

@@ -1,6 +1,6 @@
 //! Which seats of a board are there.
 ghost use Rattle.std.specs.Prelude.{◌≡◌, ◌+◌, ◌≤◌, false, length, replicate, MatchOption};
-ghost use Rattle.dp_board.specs.Presence as marks;
+ghost use Rattle.dp_board.specs.steps.Presence as marks;
 ghost use Rattle.dp_board.specs.Settled as settled;
 
 use crate::seat::Seat;
@@ -21,7 +21,8 @@ fn mark_seats<S: Session>(present: &mut [bool], seats: &[Seat<S>])
 
 /// The least number without a mark.
 fn least_unmarked(present: &[bool]) -> Option<usize>
-    ensures { MatchOption result (marks.AllMarked present.now × (marks.unmarked_in present.now ≡ 0)) (marks.IsLeastUnmarked present.now) }
+    ensures { MatchOption result (marks.AllMarked present.now × (marks.unmarked_in present.now ≡ 0))
+        (marks.IsLeastUnmarked present.now) }
 {
     for number in 0..present.len() {
         if !present[number] {
@@ -40,7 +41,8 @@ pub(crate) fn least_absent<S: Session>(
 ) -> Option<u32>
     requires parts { S.parts ≡ count + 1 }
     requires fresh { present.old ≡ replicate count false }
-    ensures { MatchOption result (settled.AllPresent count seats.now × (count ≤ length seats.now)) (settled.IsLeastAbsent count seats.now) }
+    ensures { MatchOption result (settled.AllPresent count seats.now × (count ≤ length seats.now))
+        (settled.IsLeastAbsent count seats.now) }
 {
     mark_seats(present, seats);
     let number = least_unmarked(present)?;

@@ -1,8 +1,8 @@
 //! Seats, by which threads act on a shared world.
 ghost use Rattle.std.specs.Prelude.{◌≡◌, ◌+◌, ◌<◌};
 
+use crate::seat_call::SeatCall;
 use crate::session::Session;
-use dp_machine::{Event, Reply};
 use std::marker::Model;
 use std::sync::ledger::Share;
 
@@ -11,7 +11,7 @@ use std::sync::ledger::Share;
 #[derive(Drop)]
 pub struct Seat<S: Session> {
     pub(crate) number: u32,
-    pub(crate) told: Vec<(usize, Event, Reply)>,
+    pub(crate) told: Vec<SeatCall>,
     pub(crate) share: Share<S>,
 }
 
@@ -37,7 +37,7 @@ impl<S: Session> Seat<S> {
     }
 
     /// What the seat was told, call by call: the place of the call's entry in the history, the event, and the reply.
-    pub fn record(&self) -> &[(usize, Event, Reply)]
+    pub fn record(&self) -> &[SeatCall]
         ensures { result.now ≡ self.now.told }
     {
         &self.told

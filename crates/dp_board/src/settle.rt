@@ -52,7 +52,8 @@ fn lesser(least: Option<Disagree>, found: Option<Disagree>) -> Option<Disagree>
 
 /// Of the seats that differ from the entries, the one of the least number, and where it first does.
 fn least_difference<S: Session>(entries: &[Entry], seats: &[Seat<S>]) -> Option<Disagree>
-    ensures { MatchOption result (All (settled.Agrees entries.now) seats.now) (settled.IsLeastDifference entries.now seats.now) }
+    ensures { MatchOption result (All (settled.Agrees entries.now) seats.now)
+        (settled.IsLeastDifference entries.now seats.now) }
 {
     let mut least = None;
     for seat in seats {
@@ -81,7 +82,7 @@ fn sheets_of_all<S: Session>(
     }
 }
 
-/// The calls of all seats of a board in one history. The seats are the same behind it.
+/// The calls of all seats of a board in one history. The seats are the same after it.
 fn history_of<T: AppTable, S: Session>(
     board: Board<T, S>,
     mut sheets: Vec<Sheet<S>>,

@@ -7,6 +7,7 @@ ghost use Rattle.dp_machine.specs.Events as events;
 use crate::entry::Entry;
 use crate::history::History;
 use crate::seat::Seat;
+use crate::seat_call::SeatCall;
 use crate::session::Session;
 use dp_app::AppTable;
 use dp_machine::{Event, Machine, NoMemory, Phase, Reply};
@@ -72,13 +73,11 @@ fn is_ended(phase: &Phase) -> bool
 }
 
 /// Makes room for one more entry, and for one more call in a record.
-fn make_room(
-    entries: &mut Vec<Entry>,
-    told: &mut Vec<(usize, Event, Reply)>,
-) -> Result<(), NoMemory>
+fn make_room(entries: &mut Vec<Entry>, told: &mut Vec<SeatCall>) -> Result<(), NoMemory>
     ensures entries { entries.new.items ≡ entries.old.items }
     ensures told { told.new.items ≡ told.old.items }
-    ensures room { OnOk result ((vec_len entries.new < vec_capacity entries.new) × (vec_len told.new < vec_capacity told.new)) }
+    ensures room { OnOk result ((vec_len entries.new < vec_capacity entries.new) ×
+        (vec_len told.new < vec_capacity told.new)) }
 {
     entries.reserve(1)?;
     told.reserve(1)
@@ -90,12 +89,13 @@ fn apply_copied<T: AppTable>(
     alloc: Global,
     machine: &mut Machine<T>,
     entries: &mut Vec<Entry>,
-    told: &mut Vec<(usize, Event, Reply)>,
+    told: &mut Vec<SeatCall>,
     event: &Event,
 ) -> Result<(Event, Reply), NoMemory>
     ensures entries { entries.new.items ≡ entries.old.items }
     ensures told { told.new.items ≡ told.old.items }
-    ensures room { OnOk result ((vec_len entries.new < vec_capacity entries.new) × (vec_len told.new < vec_capacity told.new)) }
+    ensures room { OnOk result ((vec_len entries.new < vec_capacity entries.new) ×
+        (vec_len told.new < vec_capacity told.new)) }
     ensures copy { IfOk result (λ applied. applied.0 ≡ event.now) }
     ensures row { IfOk result (λ applied. events.event_row T.rows machine.old event.now ≡ (machine.new, applied.1)) }
     ensures err { OnErr result (machine.new ≡ machine.old) }
@@ -132,7 +132,8 @@ impl<T: AppTable, S: Session> Shared<T, S> {
     ) -> Result<(usize, Reply), NoMemory>
         ensures row { IfOk result (λ told. log.IsRow T.rows self.old event told.1 self.new) }
         ensures place { IfOk result (λ told. told.0 ≡ length self.old.entries) }
-        ensures logged { IfOk result (λ told. self.new.entries ≡ self.old.entries ++ record { seat = seat.old.number; event = event; reply = told.1 } ∷ []) }
+        ensures logged { IfOk result (λ told. self.new.entries
+            ≡ self.old.entries ++ record { seat = seat.old.number; event = event; reply = told.1 } ∷ []) }
         ensures kept { IfOk result (λ told. seat.new ≡ sittings.with_call seat.old told.0 event told.1) }
         ensures err { OnErr result ((self.new ≡ self.old) × (seat.new ≡ seat.old)) }
     {
@@ -149,7 +150,11 @@ impl<T: AppTable, S: Session> Shared<T, S> {
             event,
             reply,
         });
-        seat.told.push_reserved((place, told, reply));
+        seat.told.push_reserved(SeatCall {
+            place,
+            event: told,
+            reply,
+        });
         self.calls.add(&mut seat.share, 1);
         Ok((place, reply))
     }

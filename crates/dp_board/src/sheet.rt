@@ -2,8 +2,8 @@
 ghost use Rattle.std.specs.Prelude.{◌≡◌, length};
 
 use crate::seat::Seat;
+use crate::seat_call::SeatCall;
 use crate::session::Session;
-use dp_machine::{Event, Reply};
 use std::marker::{Model, PhantomData};
 use std::sync::ledger::Share;
 
@@ -11,7 +11,7 @@ use std::sync::ledger::Share;
 #[derive(Drop)]
 pub(crate) struct Sheet<S: Session> {
     number: u32,
-    told: Vec<(usize, Event, Reply)>,
+    told: Vec<SeatCall>,
     session: PhantomData<S>,
 }
 

@@ -8,16 +8,16 @@ use std::process::Abort;
 use std::sync::Wait;
 
 /// What a call was told: the place of its entry, and the reply.
-pub(super) type Told = (usize, Reply);
+pub(super) type SeatReply = (usize, Reply);
 
 /// What a seat was told last, by its record.
-fn last_told<S: Session>(seat: &Seat<S>) -> Option<Told> {
-    let (place, _event, reply) = seat.record().last()?;
-    Some((*place, *reply))
+fn last_told<S: Session>(seat: &Seat<S>) -> Option<SeatReply> {
+    let call = seat.record().last()?;
+    Some((call.place, call.reply))
 }
 
 /// What two seats were told last, where there are two.
-pub(super) fn told_of<S: Session>(seats: &[Seat<S>]) -> Option<(Told, Told)> {
+pub(super) fn told_of<S: Session>(seats: &[Seat<S>]) -> Option<(SeatReply, SeatReply)> {
     match seats {
         [first, second] => Some((last_told(first)?, last_told(second)?)),
         _ => None,
@@ -54,13 +54,13 @@ pub(super) fn ran(entry: usize) -> Reply {
 }
 
 /// Whether the places are the first two, one each, and each seat's own entry of the plan ran.
-fn are_told(add: Told, ask: Told) -> bool {
+fn are_told(add: SeatReply, ask: SeatReply) -> bool {
     let places = (add.0, ask.0);
     add.1 == ran(0) && ask.1 == ran(1) && (places == (0, 1) || places == (1, 0))
 }
 
 /// Whether the entry at a place is this seat's step of this channel, with this reply.
-fn is_step(history: &History<StandardApps>, told: Told, seat: u32, channel: u32) -> bool {
+fn is_step(history: &History<StandardApps>, told: SeatReply, seat: u32, channel: u32) -> bool {
     match history.entries().get(told.0) {
         Some(entry) => {
             entry.seat == seat && entry.event == Event::Step { channel } && entry.reply == told.1
@@ -113,7 +113,7 @@ fn has_asked(rt: &impl Abort, alloc: Global, machine: &Exchange, is_added: bool)
 pub(super) fn check_steps(
     rt: &impl Abort,
     alloc: Global,
-    told: (Told, Told),
+    told: (SeatReply, SeatReply),
     history: &History<StandardApps>,
 ) {
     let (add, ask) = told;

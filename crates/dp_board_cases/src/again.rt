@@ -43,7 +43,7 @@ fn has_steps<S: Session>(seat: &Seat<S>, channel: u32, count: u64) -> bool {
     let mut calls = record.iter().zip(replies.iter());
     record.len() as u64 == count
         && count <= 2
-        && calls.all(|(call, reply)| call.1 == Event::Step { channel } && call.2 == *reply)
+        && calls.all(|(call, reply)| call.event == Event::Step { channel } && call.reply == *reply)
 }
 
 /// Attends a channel for the turns that are left of two. Before it the seat was told of each step that was given.

@@ -1,5 +1,5 @@
 //! Where a history and a record first differ.
-use dp_board::{Disagree, Entry, first_difference};
+use dp_board::{Disagree, Entry, SeatCall, first_difference};
 use dp_machine::{Event, Reply};
 
 /// The first difference of a history and a record.
@@ -12,7 +12,11 @@ fn differences(rt: HostRuntime) {
         event,
         reply,
     }];
-    let told = [(0, Event::Step { channel: 1 }, reply)];
+    let told = [SeatCall {
+        place: 0,
+        event: Event::Step { channel: 1 },
+        reply,
+    }];
     let at_once = Some(Disagree { seat: 0, index: 0 });
     assert!(rt; first_difference(&entries, 0, &[]) == at_once);
     assert!(rt; first_difference(&entries, 0, &told).is_none());

@@ -10,11 +10,11 @@ use std::process::Abort;
 use std::sync::Wait;
 use std::sync::atomic::{AtomicU64, Ordering};
 
-/// Holds the thread behind its first step until a digit was answered, and marks the turn behind the pause where it comes too
+/// Holds the thread after its first step until a digit was answered, and marks the turn after the pause where it comes too
 /// early.
 #[derive(Drop)]
 pub(super) struct Paced {
-    // The turn behind the pause: 0 where the channel pauses before it is attended.
+    // The turn after the pause: 0 where the channel pauses before it is attended.
     late: u64,
     stepped: AtomicU64,
     dialled: AtomicU64,

@@ -3,7 +3,7 @@
 //! and is called once more.
 ghost use Rattle.std.specs.Prelude.{◌≡◌, ◌+◌};
 
-use crate::acts::{Told, act_step, check_steps, told_of};
+use crate::acts::{SeatReply, act_step, check_steps, told_of};
 use crate::again::{act_steps_alone, attend_alone};
 use crate::gates::act_crossed;
 use crate::pauses::{Paced, act_paced, has_paced, park};
@@ -172,7 +172,7 @@ fn check(
     alloc: Global,
     history: &History<StandardApps>,
     play: &Play,
-    told: Option<(Told, Told)>,
+    told: Option<(SeatReply, SeatReply)>,
 ) {
     let calls = match play {
         Play::Steps | Play::StepsAlone => 2,

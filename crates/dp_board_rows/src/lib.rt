@@ -32,7 +32,7 @@ impl Calls {
         }
     }
 
-    /// The word of the next call, which is empty behind the last one.
+    /// The word of the next call, which is empty after the last one.
     fn next(&self) -> &'static str {
         let given = self.given.fetch_add(1, Ordering::SeqCst);
         self.wanted.split(' ').nth(given as usize).unwrap_or("")
@@ -53,7 +53,7 @@ fn word_of(reply: &Reply) -> &'static str {
     }
 }
 
-/// Holds one channel before its first turn until the other channel has had all of its own, and this one behind each of its turns until
+/// Holds one channel before its first turn until the other channel has had all of its own, and this one after each of its turns until
 /// the first has come to the gate. So an event that is given before its gate is called stands too early in the history.
 #[derive(Drop)]
 pub struct Crossed {
@@ -95,11 +95,11 @@ impl Crossed {
 
 /// Whether all events of the channel stand before those of others.
 fn are_parted(entries: &[Entry], channel: u32) -> bool {
-    let mut is_behind = false;
+    let mut is_after = false;
     for entry in entries {
         if entry.event.channel() != channel {
-            is_behind = true;
-        } else if is_behind {
+            is_after = true;
+        } else if is_after {
             return false;
         }
     }

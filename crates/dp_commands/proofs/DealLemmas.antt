@@ -7,17 +7,17 @@ use Rattle.std.proofs.lemmas.Nat.{mod-mul-add, div-add-mod', mod_below}
 use Rattle.std.proofs.Math.Seq.{take-append_seam}
 use Rattle.std.specs.List.{range_with_len}
 use Rattle.dp_board.specs.Difference.{told_from, told_of, told_to}
-use Rattle.dp_board.specs.Sittings.{Told}
+use Rattle.dp_board.specs.declared.seat_call.SeatCall.{SeatCall}
 use Rattle.dp_board.specs.declared.entry.Entry.{Entry}
 use Rattle.dp_machine.specs.declared.event.Event.{Event}
 use Rattle.dp_commands.specs.Threads.{dealt_from, dealt, events_told, turn_of}
 
 -- one item before what is dealt of two lists, by whether it is the seat's
-dealt-before : {X : Type 0} (own : Bool) (x : X) (all front behind : List X) → all ≡ front ++ behind → (if own then x ∷ all else all) ≡ (if own then x ∷ front else front) ++ behind
-dealt-before {X} true x all front behind parted = ap (λ (l : List X). x ∷ l) parted
-dealt-before false x all front behind parted = parted
+dealt-before : {X : Type 0} (own : Bool) (x : X) (all front after : List X) → all ≡ front ++ after → (if own then x ∷ all else all) ≡ (if own then x ∷ front else front) ++ after
+dealt-before {X} true x all front after parted = ap (λ (l : List X). x ∷ l) parted
+dealt-before false x all front after parted = parted
 
--- what is dealt of two lists, one behind the other
+-- what is dealt of two lists, one after the other
 pub dealt_from-append : {X : Type 0} (count seat at : ℕ) (xs ys : List X) → dealt_from count seat at (xs ++ ys) ≡ dealt_from count seat at xs ++ dealt_from count seat (at + length xs) ys
 dealt_from-append count seat at [] ys = ap (λ n. dealt_from count seat n ys) (omega arith)
 dealt_from-append count seat at (x ∷ xs) ys =
@@ -46,9 +46,9 @@ dealt-other {X} count seat i xs x within there other =
 pub dealt-front : {X : Type 0} (count seat i : ℕ) (xs : List X) → dealt count seat (take i xs) ≡ take (length (dealt count seat (take i xs))) (dealt count seat xs)
 dealt-front {X} count seat i xs =
     let front = dealt count seat (take i xs) in
-    let behind = dealt_from count seat (0 + length (take i xs)) (drop i xs) in
-    let whole : dealt count seat xs ≡ front ++ behind = ap (dealt count seat) (sym (take-append-drop i xs)) ∙ dealt_from-append count seat 0 (take i xs) (drop i xs) in
-    sym (ap (take (length front)) whole ∙ take-append_seam front behind)
+    let after = dealt_from count seat (0 + length (take i xs)) (drop i xs) in
+    let whole : dealt count seat xs ≡ front ++ after = ap (dealt count seat) (sym (take-append-drop i xs)) ∙ dealt_from-append count seat 0 (take i xs) (drop i xs) in
+    sym (ap (take (length front)) whole ∙ take-append_seam front after)
 
 -- there is an item at a place
 item_at : {X : Type 0} (xs : List X) (i : ℕ) → i < length xs → (x : X) × (get_or xs i x ≡ x)
@@ -144,10 +144,10 @@ pub calls-dealt : (count : ℕ) (events : List Event) (entries : List Entry) →
 calls-dealt count events entries some seated in_turn =
     sym (told_from-shared count 0 entries seated)
     ∙ (sum_below-same count (λ seat. length (told_to seat entries)) (λ seat. length (dealt count seat events))
-    (λ seat lt. sym (length-map (told_to seat entries) (λ (it : Told). it.1)) ∙ ap length (in_turn seat lt))
+    (λ seat lt. sym (length-map (told_to seat entries) (λ (it : SeatCall). it.event)) ∙ ap length (in_turn seat lt))
     ∙ dealt_from-shared count 0 events some)
 
--- places, and the one behind them
+-- places, and the one after them
 range-push : (a n : ℕ) → range_with_len a (suc n) ≡ range_with_len a n ++ (a + n) ∷ []
 range-push a zero = ap (λ n. n ∷ []) (omega arith)
 range-push a (suc n) = ap (λ (ns : List ℕ). a ∷ ns) (range-push (a + 1) n ∙ ap (λ x. range_with_len (a + 1) n ++ x ∷ []) (omega arith))
@@ -179,8 +179,8 @@ seat-passed seat r = grind (arith, nat_tests)
 seat-below : (seat r : ℕ) → seat < r → one_if (nat_lt seat r) ≡ 1
 seat-below seat r lt = grind (arith, nat_tests)
 
-seat-behind : (seat r : ℕ) → r ≤ seat → one_if (nat_lt seat r) ≡ 0
-seat-behind seat r le = grind (arith, nat_tests)
+seat-after : (seat r : ℕ) → r ≤ seat → one_if (nat_lt seat r) ≡ 0
+seat-after seat r le = grind (arith, nat_tests)
 
 -- one place more, in a row and a column
 column-more : (count seat n q r : ℕ) → r < count → n ≡ q * count + r → length (dealt count seat (range_with_len 0 n)) ≡ q + one_if (nat_lt seat r) → length (dealt count seat (range_with_len 0 (suc n))) ≡ q + one_if (nat_lt seat (suc r))
@@ -191,7 +191,7 @@ column-more count seat n q r within is before =
 
 -- how many of the places before the one in a row and a column are dealt to a seat
 places-at : (count seat n q r : ℕ) → seat < count → r < count → n ≡ q * count + r → length (dealt count seat (range_with_len 0 n)) ≡ q + one_if (nat_lt seat r)
-places-at count seat zero zero r below within is = omega (arith, seat-behind seat r (omega (arith, is)))
+places-at count seat zero zero r below within is = omega (arith, seat-after seat r (omega (arith, is)))
 places-at count seat zero (suc q) r below within is = absurd (omega (arith, is, below))
 places-at count seat (suc n) q (suc r) below within is =
     let here : n ≡ q * count + r = omega (arith, is) in
@@ -199,7 +199,7 @@ places-at count seat (suc n) q (suc r) below within is =
 places-at count seat (suc n) (suc q) zero below within is =
     let here : n ≡ q * count + (count - 1) = omega (arith, is, within) in
     let before = column-more count seat n q (count - 1) (omega (arith, within)) here (places-at count seat n q (count - 1) below (omega (arith, within)) here) in
-    omega (arith, before, seat-below seat (suc (count - 1)) (omega (arith, below)), seat-behind seat 0 (omega arith))
+    omega (arith, before, seat-below seat (suc (count - 1)) (omega (arith, below)), seat-after seat 0 (omega arith))
 places-at count seat (suc n) zero zero below within is = absurd (omega (arith, is))
 
 -- as many of the places before one are its seat's as there are whole rounds of the seats
@@ -207,13 +207,13 @@ pub turn_of-div : (count at : ℕ) → 0 < count → at / count ≡ turn_of coun
 turn_of-div count at some =
     let column = at % count in
     let lower : at % count < count = mod_below at count some in
-    omega (arith, places-at count (at % count) at (at / count) (at % count) lower lower (sym (div-add-mod' at count)), seat-behind (at % count) (at % count) (omega arith))
+    omega (arith, places-at count (at % count) at (at / count) (at % count) lower lower (sym (div-add-mod' at count)), seat-after (at % count) (at % count) (omega arith))
 
 -- a seat that was told of the events before a place that are dealt to it was told of as many as its turn there
-pub turn-told : (count number at : ℕ) (events : List Event) (told : List Told) → at ≤ length events → (at % count == number) ≡ true → events_told told ≡ dealt count number (take at events) → turn_of count at ≡ length told
+pub turn-told : (count number at : ℕ) (events : List Event) (told : List SeatCall) → at ≤ length events → (at % count == number) ≡ true → events_told told ≡ dealt count number (take at events) → turn_of count at ≡ length told
 turn-told count number at events told within own is =
     let mine : at % count ≡ number = grind (arith, nat_tests) in
     let long : length (range_with_len 0 at) ≡ length (take at events) = length-range_with_len 0 at ∙ sym (length-take-le at events within) in
     ap (λ k. length (dealt count k (range_with_len 0 at))) mine
     ∙ (dealt_from-lengths count number 0 (range_with_len 0 at) (take at events) long
-    ∙ (ap length (sym is) ∙ length-map told (λ (it : Told). it.1)))
+    ∙ (ap length (sym is) ∙ length-map told (λ (it : SeatCall). it.event)))

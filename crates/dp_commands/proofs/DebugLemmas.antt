@@ -27,15 +27,15 @@ module _ (rows : Rows) (w : World) (event : Event) (breaks : List Break) (halt :
       let why : (0 ≤ halt.taken) × (first_at rows w (event ∷ []) 0 breaks halt.taken ≡ Some number) =
       subst (λ why. IsWhy 1 0 halt.taken (first_at rows w (event ∷ []) 0 breaks halt.taken) why) halted run.why in why.1
 
-  -- behind the event there is none before which a break could hold
-  first_behind : (number : ℕ) → first_at rows w (event ∷ []) 0 breaks (suc number) ≡ None
+  -- after the event there is none before which a break could hold
+  first_after : (number : ℕ) → first_at rows w (event ∷ []) 0 breaks (suc number) ≡ None
   unfolding first_at
-  first_behind number = refl
+  first_after number = refl
 
   none_taken : (taken number : ℕ) → first_at rows w (event ∷ []) 0 breaks taken ≡ Some number → taken ≡ 0
   none_taken zero number first = refl
   none_taken (suc taken) number first =
-      let none : first_at rows w (event ∷ []) 0 breaks (suc taken) ≡ None = first_behind taken in
+      let none : first_at rows w (event ∷ []) 0 breaks (suc taken) ≡ None = first_after taken in
       absurd cc
 
   halt_taken : (number : ℕ) → halt.why ≡ at_break number → halt.taken ≡ 0

@@ -7,15 +7,15 @@ use Rattle.std.proofs.lemmas.List.{append_assoc, append-nil, length-append, take
 use Rattle.std.proofs.lemmas.List.Splits.{join_with_byte-slice_split, length-slice_split}
 use Rattle.std.proofs.Math.Seq.{take-append_seam}
 use Rattle.dp_conf.specs.Lines.{parts_of}
-use Rattle.dp_commands.specs.Joined.{is_separator, lines_before, lines_behind, text_before, text_behind, text_left}
-use Rattle.dp_commands.proofs.ScriptLemmas.{parts_left}
+use Rattle.dp_commands.specs.Joined.{is_separator, lines_before, lines_after, text_before, text_after, text_left}
+use Rattle.dp_conf.proofs.LinesLemmas.{parts_left}
 
 -- the bytes of what is left to read, where something is
 abbrev pub bytes_left : Option (Bor (List ℕ)) → List ℕ
-bytes_left behind = text_left (option_map (λ text. text.now) behind)
+bytes_left after = text_left (option_map (λ text. text.now) after)
 
 -- what is left, as its parts joined
-join-parts_left : (behind : Option (Bor (List ℕ))) → join_with_byte 10 (parts_left behind) ≡ bytes_left behind
+join-parts_left : (after : Option (Bor (List ℕ))) → join_with_byte 10 (parts_left after) ≡ bytes_left after
 join-parts_left None = refl
 join-parts_left (Some rest) = join_with_byte-slice_split 10 rest.now
 
@@ -40,8 +40,8 @@ front-taken text front rest whole =
     let len : length text - length rest ≡ length front = omega (arith, ap length whole, length-append front rest) in
     ap (λ n. take n text) len ∙ (ap (λ (t : List ℕ). take (length front) t) (sym whole) ∙ take-append_seam front rest)
 
--- where the reading stands behind a line
-pub place-turn : (text left part : List ℕ) (behind : Option (Bor (List ℕ))) (start : ℕ) → take start text ++ left ≡ text → parts_of left ≡ part ∷ parts_left behind → take (length text - length (bytes_left behind)) text ++ bytes_left behind ≡ text
+-- where the reading stands after a line
+pub place-turn : (text left part : List ℕ) (after : Option (Bor (List ℕ))) (start : ℕ) → take start text ++ left ≡ text → parts_of left ≡ part ∷ parts_left after → take (length text - length (bytes_left after)) text ++ bytes_left after ≡ text
 place-turn text left part None start place cut = append-nil (take (length text - 0) text) ∙ take_all (length text - 0) text (omega arith)
 place-turn text left part (Some rest) start place cut =
     let whole = front-whole text left part rest.now start place cut in
@@ -53,11 +53,11 @@ option_map-option_map front more (Some x) = ap (λ (t : List ℕ). Some t) (sym 
 
 module _ (separator : List ℕ) where
   -- a line that is no separator stands before it
-  pub lines_before-turn : (text left part : List ℕ) (behind : Option (Bor (List ℕ))) (start : ℕ)
+  pub lines_before-turn : (text left part : List ℕ) (after : Option (Bor (List ℕ))) (start : ℕ)
       → take start text ++ left ≡ text
-      → parts_of left ≡ part ∷ parts_left behind
+      → parts_of left ≡ part ∷ parts_left after
       → is_separator separator part ≡ false
-      → option_map (λ (later : List ℕ). take start text ++ later) (lines_before separator (parts_of left)) ≡ option_map (λ (later : List ℕ). take (length text - length (bytes_left behind)) text ++ later) (lines_before separator (parts_left behind))
+      → option_map (λ (later : List ℕ). take start text ++ later) (lines_before separator (parts_of left)) ≡ option_map (λ (later : List ℕ). take (length text - length (bytes_left after)) text ++ later) (lines_before separator (parts_left after))
   lines_before-turn text left part None start place cut other =
       ap (λ (ps : List (List ℕ)). option_map (λ (later : List ℕ). take start text ++ later) (lines_before separator ps)) cut
       ∙ ap (λ t. option_map (λ (later : List ℕ). take start text ++ later) (cond {A = Option (List ℕ)} t (Some []) None)) other
@@ -69,10 +69,10 @@ module _ (separator : List ℕ) where
       ∙ (option_map-option_map (take start text) (part ++ 10 ∷ []) (lines_before separator (parts_of rest.now))
       ∙ ap (λ (f : List ℕ). option_map (λ (later : List ℕ). f ++ later) (lines_before separator (parts_of rest.now))) (sym front)))
 
-  -- and is none of those behind it
-  pub lines_behind-turn : (left part : List ℕ) (parts : List (List ℕ)) → parts_of left ≡ part ∷ parts → is_separator separator part ≡ false → lines_behind separator (parts_of left) ≡ lines_behind separator parts
-  lines_behind-turn left part parts cut other =
-      ap (lines_behind separator) cut ∙ ap (λ t. cond {A = Option (List (List ℕ))} t (Some parts) (lines_behind separator parts)) other
+  -- and is none of those after it
+  pub lines_after-turn : (left part : List ℕ) (parts : List (List ℕ)) → parts_of left ≡ part ∷ parts → is_separator separator part ≡ false → lines_after separator (parts_of left) ≡ lines_after separator parts
+  lines_after-turn left part parts cut other =
+      ap (lines_after separator) cut ∙ ap (λ t. cond {A = Option (List (List ℕ))} t (Some parts) (lines_after separator parts)) other
 
   -- at the separator what was passed stands before it
   pub text_before-found : (text left part : List ℕ) (parts : List (List ℕ)) (start : ℕ) → lines_before separator (parts_of text) ≡ option_map (λ later. take start text ++ later) (lines_before separator (parts_of left)) → parts_of left ≡ part ∷ parts → is_separator separator part ≡ true → take start text ≡ text_before separator text
@@ -83,19 +83,19 @@ module _ (separator : List ℕ) where
       ∙ ap (λ t. option_map (λ (later : List ℕ). take start text ++ later) (cond {A = Option (List ℕ)} t (Some []) (option_map (λ (later : List ℕ). (part ++ 10 ∷ []) ++ later) (lines_before separator parts)))) here))
       ∙ append-nil (take start text))
 
-  -- and what is left stands behind it
-  pub text_behind-found : (text left part : List ℕ) (behind : Option (Bor (List ℕ))) → lines_behind separator (parts_of text) ≡ lines_behind separator (parts_of left) → parts_of left ≡ part ∷ parts_left behind → is_separator separator part ≡ true → Some (bytes_left behind) ≡ text_behind separator text
-  unfolding text_behind
-  text_behind-found text left part behind so_far cut here =
-      sym (ap (λ (o : Option (List (List ℕ))). option_map (join_with_byte 10) o) (so_far ∙ (ap (lines_behind separator) cut
-      ∙ ap (λ t. cond {A = Option (List (List ℕ))} t (Some (parts_left behind)) (lines_behind separator (parts_left behind))) here))
-      ∙ ap (λ (t : List ℕ). Some t) (join-parts_left behind))
+  -- and what is left stands after it
+  pub text_after-found : (text left part : List ℕ) (after : Option (Bor (List ℕ))) → lines_after separator (parts_of text) ≡ lines_after separator (parts_of left) → parts_of left ≡ part ∷ parts_left after → is_separator separator part ≡ true → Some (bytes_left after) ≡ text_after separator text
+  unfolding text_after
+  text_after-found text left part after so_far cut here =
+      sym (ap (λ (o : Option (List (List ℕ))). option_map (join_with_byte 10) o) (so_far ∙ (ap (lines_after separator) cut
+      ∙ ap (λ t. cond {A = Option (List (List ℕ))} t (Some (parts_left after)) (lines_after separator (parts_left after))) here))
+      ∙ ap (λ (t : List ℕ). Some t) (join-parts_left after))
 
-  -- with no separator the whole text stands before, and nothing behind
+  -- with no separator the whole text stands before, and nothing after
   pub text_before-absent : (text : List ℕ) (start : ℕ) → lines_before separator (parts_of text) ≡ option_map (λ later. take start text ++ later) (lines_before separator []) → text ≡ text_before separator text
   unfolding text_before
   text_before-absent text start so_far = sym (ap (λ (o : Option (List ℕ)). unwrap_or o text) so_far)
 
-  pub text_behind-absent : (text : List ℕ) → lines_behind separator (parts_of text) ≡ None → None ≡ text_behind separator text
-  unfolding text_behind
-  text_behind-absent text so_far = sym (ap (λ (o : Option (List (List ℕ))). option_map (join_with_byte 10) o) so_far)
+  pub text_after-absent : (text : List ℕ) → lines_after separator (parts_of text) ≡ None → None ≡ text_after separator text
+  unfolding text_after
+  text_after-absent text so_far = sym (ap (λ (o : Option (List (List ℕ))). option_map (join_with_byte 10) o) so_far)

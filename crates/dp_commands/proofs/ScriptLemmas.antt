@@ -4,6 +4,7 @@ use Rattle.std.proofs.lemmas.List.{length-append}
 use Rattle.dp_conf.specs.Answers.{with_front, all_of, each_after}
 use Rattle.dp_conf.specs.Lines.{parts_of}
 use Rattle.dp_conf.proofs.AnswersLemmas.{all_of-Ok}
+use Rattle.dp_conf.proofs.LinesLemmas.{parts_left}
 use Rattle.dp_commands.specs.Script.{words_of, line_of, numbered, reading_of}
 use Rattle.dp_commands.specs.declared.fault.PbxFault.{PbxFault}
 use Rattle.dp_commands.specs.declared.script.ScriptLine.{ScriptLine}
@@ -22,32 +23,14 @@ each_after-reading_of second_plan before (part ∷ parts) =
     (each_after-reading_of second_plan (before ++ part ∷ []) parts
     ∙ ap (λ n. readings_from second_plan n parts) (length-append before (part ∷ [])))
 
--- the parts of what is left to read, where something is
-abbrev pub parts_left : Option (Bor (List ℕ)) → List (List ℕ)
-parts_left None = []
-parts_left (Some rest) = parts_of rest.now
-
--- a number that falls as the text is read
-abbrev pub left_len : Option (Bor (List ℕ)) → ℕ
-left_len None = 0
-left_len (Some rest) = length rest.now + 1
-
-pub parts_left-cut : (text part : List ℕ) (behind : Option (Bor (List ℕ))) → MatchOption behind (parts_of text ≡ part ∷ []) (λ rest. parts_of text ≡ part ∷ parts_of rest.now) → parts_of text ≡ part ∷ parts_left behind
-parts_left-cut text part None e = e
-parts_left-cut text part (Some rest) e = e
-
-pub left_len-cut : (text : List ℕ) (behind : Option (Bor (List ℕ))) → IfSome behind (λ rest. length rest.now < length text) → left_len behind ≤ length text
-left_len-cut text None shorter = omega arith
-left_len-cut text (Some rest) shorter = omega (arith, shorter)
-
 -- one turn of the reading
-pub readings_from-turn : (second_plan : Option (List ℕ)) (text part : List ℕ) (behind : Option (Bor (List ℕ))) (number : ℕ)
+pub readings_from-turn : (second_plan : Option (List ℕ)) (text part : List ℕ) (after : Option (Bor (List ℕ))) (number : ℕ)
     (lines line : List ScriptLine)
-    → parts_of text ≡ part ∷ parts_left behind
+    → parts_of text ≡ part ∷ parts_left after
     → numbered (number + 1) (line_of second_plan (words_of part)) ≡ Ok line
     → with_front lines (all_of (readings_from second_plan number (parts_of text)))
-    ≡ with_front (lines ++ line) (all_of (readings_from second_plan (number + 1) (parts_left behind)))
-readings_from-turn second_plan text part behind number lines line cut read =
+    ≡ with_front (lines ++ line) (all_of (readings_from second_plan (number + 1) (parts_left after)))
+readings_from-turn second_plan text part after number lines line cut read =
     ap (λ (parts : List (List ℕ)). with_front lines (all_of (readings_from second_plan number parts))) cut
     ∙ all_of-Ok lines line (numbered (number + 1) (line_of second_plan (words_of part)))
-    (readings_from second_plan (number + 1) (parts_left behind)) read
+    (readings_from second_plan (number + 1) (parts_left after)) read

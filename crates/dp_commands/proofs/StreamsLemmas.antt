@@ -1,4 +1,4 @@
--- A run goes on behind what it wrote and what waits, and stops where memory or a write fails.
+-- A run goes on after what it wrote and what waits, and stops where memory or a write fails.
 use Rattle.std.proofs.Common.{◌≡◌, ℕ, ◌+◌, Bool, true, false, ◌||◌, List, [], ◌∷◌, ◌++◌, Option, Some, None, Result, Ok, Err, length, take, drop, refl, ap, subst, ◌∙◌, sym, arith}
 use Rattle.std.specs.Io.KnownBytes.{Appends, Keeps}
 use Rattle.std.proofs.lemmas.List.{append_assoc, append-nil, length-append, take-append-le, take-append-drop}
@@ -56,7 +56,7 @@ Flows-sent (Some xs) (Some ys) waited wrote =
       subst Q (sym wrote) (IsFront-append xs waited),
     )
 
--- more bytes behind the others
+-- more bytes after the others
 pub Flows-trans : (c d e : Option (List ℕ)) (a b f first second : List ℕ) → Flows c a d b first → Flows d b e f second → Flows c a e f (first ++ second)
 Flows-trans None d e a b f first second p q = tt
 Flows-trans (Some xs) None e a b f first second p q = absurd p
@@ -67,7 +67,7 @@ Flows-trans (Some xs) (Some ys) (Some zs) a b f first second p q = (
   IsFront-trans xs ys zs p.1 q.1,
 )
 
--- a failed write behind what flowed
+-- a failed write after what flowed
 pub Flows-fails : (c d e : Option (List ℕ)) (a b first second : List ℕ) → Flows c a d b first → AppendsFront d e (b ++ second) → AppendsFront c e (a ++ (first ++ second))
 Flows-fails None d e a b first second p q = tt
 Flows-fails (Some xs) None e a b first second p q = absurd p
@@ -87,7 +87,7 @@ AppendsFront-more (Some xs) (Some zs) first second failed =
     let Q : List ℕ → Type 0 = λ t. IsFront zs t in
     (failed.0, subst Q (append_assoc xs first second) (IsFront-more zs (xs ++ first) second failed.1))
 
--- a failed write with nothing behind it
+-- a failed write with nothing after it
 AppendsFront-kept : (c d e : Option (List ℕ)) (bytes : List ℕ) → AppendsFront c d bytes → Keeps d e → AppendsFront c e bytes
 AppendsFront-kept None d e bytes failed kept = tt
 AppendsFront-kept (Some xs) None e bytes failed kept = absurd failed
@@ -130,7 +130,7 @@ module _ {S : Type 0} (step : S → Turn → Taken S) where
   pub Streams-start : (s : S) (old : Option (List ℕ)) (waited : List ℕ) → Streams step s [] old waited old waited s (Ok false)
   Streams-start s old waited = (Flows-stay old waited, refl, refl)
 
-  -- more turns are met by the state behind the others
+  -- more turns are met by the state after the others
   pub Streams-goes_on : (s : S) (ts us : List Turn) (c d e : Option (List ℕ)) (a b f : List ℕ) (s1 s2 : S) (r1 r2 : Bool) → Streams step s ts c a d b s1 (Ok r1) → Streams step s1 us d b e f s2 (Ok r2) → Streams step s (ts ++ us) c a e f s2 (Ok (r1 || r2))
   Streams-goes_on s ts us c d e a b f s1 s2 r1 r2 so_far more =
       let P : List ℕ → Type 0 = λ t. Flows c a e f t in
@@ -140,7 +140,7 @@ module _ {S : Type 0} (step : S → Turn → Taken S) where
         ap (λ r. r || r2) so_far.2 ∙ (ap (λ r. refused_in step s ts || r) (more.2 ∙ ap (λ at. refused_in step at us) so_far.1) ∙ sym (refused_in-append s ts us)),
       )
 
-  -- a stop behind what flowed
+  -- a stop after what flowed
   pub Streams-stops : (s : S) (ts us : List Turn) (c d e : Option (List ℕ)) (a b f : List ℕ) (s1 s2 : S) (r1 : Bool) (fault : PbxFault) → Streams step s ts c a d b s1 (Ok r1) → Streams step s1 us d b e f s2 (Err fault) → Streams step s (ts ++ us) c a e f s2 (Err fault)
   Streams-stops s ts us c d e a b f s1 s2 r1 (Coded code line) so_far more =
       let P : List ℕ → Type 0 = λ t. AppendsFront c e (a ++ t) in
@@ -208,14 +208,14 @@ module _ {S : Type 0} (step : S → Turn → Taken S) where
       subst P whole (AppendsFront-more c e (lines_of step s (take count turns) ++ lines_of step (state_past step s (take count turns)) (drop count turns)) (last (state_past step s turns))
       (AppendsFront-more c e (lines_of step s (take count turns)) (lines_of step (state_past step s (take count turns)) (drop count turns)) failed))
 
-  -- all turns were taken, and the lines behind the last of them wait
+  -- all turns were taken, and the lines after the last of them wait
   pub StreamsAll_ends : (last : S → List ℕ) (s : S) (turns : List Turn) (c d : Option (List ℕ)) (a b f : List ℕ) (after : S) (refused : Bool) → Streams step s turns c a d b after (Ok refused) → f ≡ b ++ last after → StreamsAll step last s turns c a d f (Ok refused)
-  StreamsAll_ends last s turns c d a b f after refused ran behind =
+  StreamsAll_ends last s turns c d a b f after refused ran beyond =
       let bytes = lines_of step s turns in
       let P : S → Type 0 = λ at. Flows c a d f (bytes ++ last at) in
-      (subst P ran.1 (Flows-trans c d d a b f bytes (last after) ran.0 (Flows-waits d b f (last after) behind)), ran.2)
+      (subst P ran.1 (Flows-trans c d d a b f bytes (last after) ran.0 (Flows-waits d b f (last after) beyond)), ran.2)
 
-  -- all turns were taken, and memory was refused behind them
+  -- all turns were taken, and memory was refused after them
   pub StreamsAll_lacks : (last : S → List ℕ) (s : S) (turns : List Turn) (c d : Option (List ℕ)) (a b f : List ℕ) (after : S) (refused : Bool) → Streams step s turns c a d b after (Ok refused) → f ≡ b → StreamsAll step last s turns c a d f (Err NoMemory)
   StreamsAll_lacks last s turns c d a b f after refused ran same =
       let P : List ℕ → Type 0 = λ waits. Flows c a d waits (lines_of step s (take (length turns) turns)) in
@@ -272,11 +272,11 @@ module _ {P : Type 0} where
 
 -- whether a write failed, by what a run came to and what it ended with
 pub told-ends : (d e : Option (List ℕ)) (b : List ℕ) (ran : Result Bool PbxFault) (result : Result ℕ PbxFault) (was mid now : Bool) → Ends d b e ran result → mid ≡ (was || is_write_failed ran) → now ≡ (mid || fails_at_the_end ran result) → now ≡ (was || is_write_failed result)
-told-ends d e b (Ok refused) result was mid now ends before behind =
-    behind ∙ ap (λ m. m || is_write_failed result) (before ∙ or-false was)
-told-ends d e b (Err (Coded code line)) (Ok status) was mid now ends before behind = absurd ends
-told-ends d e b (Err (Coded code line)) (Err (Coded other at)) was mid now ends before behind =
-    behind ∙ (or-false mid ∙ (before ∙ ap (λ x. was || x) (sym (ap (λ c. is_write_fault (Coded c at)) ends.1 ∙ ap (λ l. is_write_fault (Coded code l)) ends.2))))
-told-ends d e b (Err (Coded code line)) (Err NoMemory) was mid now ends before behind = absurd ends
-told-ends d e b (Err NoMemory) result was mid now ends before behind =
-    behind ∙ ap (λ m. m || is_write_failed result) (before ∙ or-false was)
+told-ends d e b (Ok refused) result was mid now ends before beyond =
+    beyond ∙ ap (λ m. m || is_write_failed result) (before ∙ or-false was)
+told-ends d e b (Err (Coded code line)) (Ok status) was mid now ends before beyond = absurd ends
+told-ends d e b (Err (Coded code line)) (Err (Coded other at)) was mid now ends before beyond =
+    beyond ∙ (or-false mid ∙ (before ∙ ap (λ x. was || x) (sym (ap (λ c. is_write_fault (Coded c at)) ends.1 ∙ ap (λ l. is_write_fault (Coded code l)) ends.2))))
+told-ends d e b (Err (Coded code line)) (Err NoMemory) was mid now ends before beyond = absurd ends
+told-ends d e b (Err NoMemory) result was mid now ends before beyond =
+    beyond ∙ ap (λ m. m || is_write_failed result) (before ∙ or-false was)

@@ -4,7 +4,7 @@ use Rattle.dp_conf.specs.Answers.{◌>>=◌}
 use Rattle.dp_debug.specs.declared.breaks.Break.{Break}
 use Rattle.dp_commands.specs.Debug.{WritesDebug, debug_on, debugged, end_text}
 use Rattle.dp_commands.specs.Run.{Run, Writes}
-use Rattle.dp_commands.specs.Texts.{WritesRun}
+use Rattle.dp_commands.specs.steps.Texts.{WritesRun}
 use Rattle.dp_commands.specs.Turns.{plainly}
 use Rattle.dp_commands.specs.declared.fault.PbxFault.{PbxFault}
 use Rattle.dp_commands.specs.declared.fault.PbxFault.TheVariants.{Coded, NoMemory}

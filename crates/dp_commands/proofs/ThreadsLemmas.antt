@@ -11,7 +11,8 @@ use Rattle.dp_app.specs.Rows.{Rows}
 use Rattle.dp_board.specs.Difference.{told_to}
 use Rattle.dp_board.specs.Log.{Log}
 use Rattle.dp_board.specs.Settled.{Agrees, AllPresent, IsSettled, has_seat}
-use Rattle.dp_board.specs.Sittings.{Told, Sitting, unheard}
+use Rattle.dp_board.specs.Sittings.{Sitting, unheard}
+use Rattle.dp_board.specs.declared.seat_call.SeatCall.{SeatCall}
 use Rattle.dp_board.specs.Unsettled.{IsUnsettled}
 use Rattle.dp_board.specs.declared.fault.SettleFault.{SettleFault}
 use Rattle.dp_board.specs.declared.fault.SettleFault.TheVariants.{SeatMissing, Differs, NoMemory as settle_no_memory}
@@ -44,24 +45,24 @@ events_in-shows (suc n) channel name = events_in-shows n channel name
 pub front-of : (count i : ℕ) (events : List Event) (seat : Sitting) (number : ℕ) → seat.number ≡ number → events_told seat.told ≡ dealt count number (take i events) → GaveFront count events seat
 front-of count i events seat number same told =
     let own : events_told seat.told ≡ dealt count seat.number (take i events) = told ∙ ap (λ n. dealt count n (take i events)) (sym same) in
-    let many : length (dealt count seat.number (take i events)) ≡ length seat.told = ap length (sym own) ∙ length-map seat.told (λ (it : Told). it.1) in
+    let many : length (dealt count seat.number (take i events)) ≡ length seat.told = ap length (sym own) ∙ length-map seat.told (λ (it : SeatCall). it.event) in
     own ∙ (dealt-front count seat.number i events ∙ ap (λ n. take n (dealt count seat.number events)) many)
 
 -- a seat of these, of this number, of which this holds
 abbrev Found : (Sitting → Type 0) → ℕ → Type 0
 Found P number = (seat : Sitting) × (seat.number ≡ number) × P seat
 
--- the first of the seats has the number, or one behind it
+-- the first of the seats has the number, or one after it
 seat-by : (P : Sitting → Type 0) (number : ℕ) (s : Sitting) (b there : Bool) → (s.number == number) ≡ b → P s → (b || there) ≡ true → (there ≡ true → Found P number) → Found P number
-seat-by P number s true there is holds among behind = (s, search (rules, is), holds)
-seat-by P number s false there is holds among behind = behind among
+seat-by P number s true there is holds among after = (s, search (rules, is), holds)
+seat-by P number s false there is holds among after = after among
 
 -- a seat of the seats, with what holds of all of them
 seat-of : (P : Sitting → Type 0) (number : ℕ) (seats : List Sitting) → All P seats → has_seat seats number ≡ true → Found P number
 seat-of P number [] all there = absurd (search (rules, there))
 seat-of P number (s ∷ seats) all there =
     seat-by P number s (s.number == number) (has_seat seats number) refl (all 0 s (omega arith)) there
-    (λ behind. seat-of P number seats (λ k d lt. all (suc k) d (omega (arith, lt))) behind)
+    (λ after. seat-of P number seats (λ k d lt. all (suc k) d (omega (arith, lt))) after)
 
 -- a seat that was told of as many events as are its own was told of all of them
 told-all : (count : ℕ) (events : List Event) (seat : Sitting) → GaveFront count events seat → length (dealt count seat.number events) ≤ length seat.told → events_told seat.told ≡ dealt count seat.number events
@@ -153,10 +154,10 @@ pub has_seat-same : (old new : List Sitting) (number : ℕ) → map (λ seat. se
 has_seat-same old new number same =
     has_seat-map new number ∙ (ap (λ ns. list_any (λ n. n == number) ns) same ∙ sym (has_seat-map old number))
 
--- the first number is the one, or it is behind it
+-- the first number is the one, or it is after it
 first-or : (a number : ℕ) (b there : Bool) → (a == number) ≡ b → (a ≢ number → there ≡ true) → (b || there) ≡ true
-first-or a number true there is behind = refl
-first-or a number false there is behind = behind (grind (arith, nat_tests))
+first-or a number true there is after = refl
+first-or a number false there is after = after (grind (arith, nat_tests))
 
 -- a board has a seat of each number below its count
 has_seat-from : (a n number : ℕ) → a ≤ number → number < a + n → has_seat (map unheard (range_with_len a n)) number ≡ true

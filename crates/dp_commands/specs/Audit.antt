@@ -30,7 +30,7 @@ spot_by plan id (Some entry) = place_text (context_name plan id.context) (spelli
 abbrev pub spot_text : PlanOf → EntryId → List ℕ
 spot_text plan id = spot_by plan id (entry_at plan id)
 
--- the priority behind that of an entry
+-- the priority after that of an entry
 abbrev pub next_priority : PlanOf → EntryId → List ℕ
 next_priority plan id = option_map_or (λ entry. decimal (entry.priority + 1)) (entry_at plan id) []
 

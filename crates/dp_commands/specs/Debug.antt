@@ -8,7 +8,7 @@ use Rattle.dp_debug.specs.Breaks.{first_before}
 use Rattle.dp_debug.specs.declared.breaks.Break.{Break}
 use Rattle.dp_debug.specs.declared.breaks.Break.TheVariants.{At}
 use Rattle.dp_machine.specs.Events.{event_row, is_refused}
-use Rattle.dp_machine.specs.Replay.{world_behind}
+use Rattle.dp_machine.specs.Replay.{final_world}
 use Rattle.dp_machine.specs.World.{World}
 use Rattle.dp_plan.specs.Priority.{most_priority}
 use Rattle.dp_queue.specs.Changes.{one_more}
@@ -58,7 +58,7 @@ pub record Watch : Type 0 where
   pub held : Break
   pub taken : ℕ
 
--- the line of a halt behind so many events, `break TAKEN`
+-- the line of a halt after so many events, `break TAKEN`
 abbrev pub halt_line : ℕ → List ℕ
 halt_line taken = codes "break " ++ decimal taken ++ 10 ∷ []
 
@@ -71,7 +71,7 @@ halt_text halted taken = if halted then halt_line taken else []
 abbrev pub debugged : Watch × World → Turn → Taken (Watch × World)
 debugged at (turn_event event) =
     record {
-      state = (record { held = at.0.held; taken = one_more at.0.taken }, world_behind standard_rows at.1 event);
+      state = (record { held = at.0.held; taken = one_more at.0.taken }, final_world standard_rows at.1 event);
       lines = halt_text (is_some (first_before at.1 event (at.0.held ∷ []))) at.0.taken ++ event_line at.1 event;
       refused = is_refused (event_row standard_rows at.1 event).1;
     }

@@ -19,18 +19,18 @@ lines_before separator (part ∷ parts) =
     if is_separator separator part then Some []
     else option_map (λ later. (part ++ 10 ∷ []) ++ later) (lines_before separator parts)
 
--- the lines behind the first such line, where there is one
-abbrev pub lines_behind : List ℕ → List (List ℕ) → Option (List (List ℕ))
-lines_behind separator [] = None
-lines_behind separator (part ∷ parts) = if is_separator separator part then Some parts else lines_behind separator parts
+-- the lines after the first such line, where there is one
+abbrev pub lines_after : List ℕ → List (List ℕ) → Option (List (List ℕ))
+lines_after separator [] = None
+lines_after separator (part ∷ parts) = if is_separator separator part then Some parts else lines_after separator parts
 
 -- what of a text stands before its first such line, and the whole text where there is none
 unfoldable pub text_before : List ℕ → List ℕ → List ℕ
 text_before separator text = unwrap_or (lines_before separator (parts_of text)) text
 
--- what stands behind that line, where there is one
-unfoldable pub text_behind : List ℕ → List ℕ → Option (List ℕ)
-text_behind separator text = option_map (join_with_byte 10) (lines_behind separator (parts_of text))
+-- what stands after that line, where there is one
+unfoldable pub text_after : List ℕ → List ℕ → Option (List ℕ)
+text_after separator text = option_map (join_with_byte 10) (lines_after separator (parts_of text))
 
 -- the bytes of what is left of a text, where something is
 abbrev pub text_left : Option (List ℕ) → List ℕ
@@ -45,13 +45,13 @@ joined_plans text = text_before (codes ";; script") text
 abbrev pub joined_plan : List ℕ → List ℕ
 joined_plan text = text_before (codes ";; reload") (joined_plans text)
 
--- the second dialplan: what stands behind that line, where there is one
+-- the second dialplan: what stands after that line, where there is one
 abbrev pub joined_second_plan : List ℕ → Option (List ℕ)
-joined_second_plan text = text_behind (codes ";; reload") (joined_plans text)
+joined_second_plan text = text_after (codes ";; reload") (joined_plans text)
 
--- the script: what stands behind the first line `;; script`, and nothing where there is none
+-- the script: what stands after the first line `;; script`, and nothing where there is none
 abbrev pub joined_script : List ℕ → List ℕ
-joined_script text = text_left (text_behind (codes ";; script") text)
+joined_script text = text_left (text_after (codes ";; script") text)
 
 -- the run of a joined text, or the first fault
 abbrev pub joined_run : List ℕ → Result Run PbxFault

@@ -9,7 +9,7 @@ pub mod Joined
 pub mod Report
 pub mod Run
 pub mod Script
-pub mod Texts
 pub mod Threads
 pub mod Trace
 pub mod Turns
+pub mod steps

@@ -41,7 +41,7 @@ Ends old waits new (Err NoMemory) (Ok status) = ⊥
 Ends old waits new (Err NoMemory) (Err (Coded code line)) = AppendsFront old new waits × (code ≡ WriteFailed) × (line ≡ None)
 Ends old waits new (Err NoMemory) (Err NoMemory) = Appends old new waits
 
--- whether the write at the end of a run failed, by what the run came to: behind a failed write there is none
+-- whether the write at the end of a run failed, by what the run came to: after a failed write there is none
 abbrev pub fails_at_the_end : Result Bool PbxFault → Result ℕ PbxFault → Bool
 fails_at_the_end (Ok refused) result = is_write_failed result
 fails_at_the_end (Err (Coded code line)) result = false
@@ -77,7 +77,7 @@ pub record Files : Type 0 where
   pub queues : QueuesOf
 
 -- what the texts of a run say
-pub record Told : Type 0 where
+pub record RunTexts : Type 0 where
   pub plan : PlanOf
   pub queues : QueuesOf
   pub lines : List ScriptLine
@@ -89,15 +89,15 @@ files_of plan queues =
 
 -- what the texts of a dialplan, its queues and a script say beside a second dialplan, where there is one; or the first fault: the
 -- dialplan's, the queues', the script's. That of the second dialplan is not asked
-abbrev pub told_of : List ℕ → Option (List ℕ) → Option (List ℕ) → List ℕ → Result Told PbxFault
-told_of plan queues second_plan script =
+abbrev pub all_texts_of : List ℕ → Option (List ℕ) → Option (List ℕ) → List ℕ → Result RunTexts PbxFault
+all_texts_of plan queues second_plan script =
     files_of plan queues >>= λ files. script_of second_plan script >>= λ lines.
     Ok (record { plan = files.plan; queues = files.queues; lines = lines })
 
 -- the run of a dialplan, its queues, a second dialplan and a script, or the first fault
 unfoldable pub run_of : List ℕ → Option (List ℕ) → Option (List ℕ) → List ℕ → Result Run PbxFault
 run_of plan queues second_plan script =
-    told_of plan queues second_plan script >>= λ told. Ok (run_on (opening told.plan told.queues) (turns_of told.lines))
+    all_texts_of plan queues second_plan script >>= λ told. Ok (run_on (opening told.plan told.queues) (turns_of told.lines))
 
 -- the status of a run: 1 where a turn was refused
 abbrev pub status_of : Run → ℕ

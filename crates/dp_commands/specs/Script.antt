@@ -106,13 +106,13 @@ result_line (channel ∷ []) = None
 result_line (channel ∷ status ∷ []) = result_by (channel_in channel) (status_in status)
 result_line (channel ∷ status ∷ more ∷ words) = None
 
--- the channel that is the one word of a line behind its first
+-- the channel that is the one word of a line after its first
 abbrev pub one_channel : List (List ℕ) → Option ℕ
 one_channel [] = None
 one_channel (channel ∷ []) = channel_in channel
 one_channel (channel ∷ more ∷ words) = None
 
--- the name that is the one word of a line behind its first
+-- the name that is the one word of a line after its first
 abbrev pub one_name : List (List ℕ) → Option (List ℕ)
 one_name [] = None
 one_name (name ∷ []) = Some name

@@ -4,7 +4,8 @@ use Rattle.std.specs.Io.KnownBytes.{Appends}
 use Rattle.std.specs.List.{flat_map, list_any, prefix_len, range_with_len}
 use Rattle.dp_board.specs.Difference.{told_to}
 use Rattle.dp_board.specs.Log.{Log, Replays}
-use Rattle.dp_board.specs.Sittings.{Told, Sitting}
+use Rattle.dp_board.specs.Sittings.{Sitting}
+use Rattle.dp_board.specs.declared.seat_call.SeatCall.{SeatCall}
 use Rattle.dp_board.specs.declared.fault.SettleFault.{SettleFault}
 use Rattle.dp_board.specs.declared.fault.SettleFault.TheVariants.{SeatMissing, Differs, NoMemory as settle_no_memory}
 use Rattle.dp_conf.specs.Fronts.{AppendsFront}
@@ -49,7 +50,7 @@ is_start (Reload text) = false
 abbrev pub leading_calls : List Event → List Event
 leading_calls events = take (prefix_len is_start events) events
 
--- the events behind these calls
+-- the events after these calls
 abbrev pub shared_events : List Event → List Event
 shared_events events = drop (prefix_len is_start events) events
 
@@ -68,8 +69,8 @@ abbrev pub turn_of : ℕ → ℕ → ℕ
 turn_of count at = length (dealt count (at % count) (range_with_len 0 at))
 
 -- the events that a seat was told of
-abbrev pub events_told : List Told → List Event
-events_told told = map (λ it. it.1) told
+abbrev pub events_told : List SeatCall → List Event
+events_told told = map (λ call. call.event) told
 
 -- a seat gave the first so many of its events
 abbrev pub GaveFront : ℕ → List Event → Sitting → Type 0
@@ -88,7 +89,7 @@ pub record IsDealt (first : World) (count : ℕ) (events : List Event) (history 
   pub in_turn : (seat : ℕ) → seat < count → events_told (told_to seat history.entries) ≡ dealt count seat events
   pub calls : length history.entries ≡ length events
 
--- the world behind the leading calls of a run, in which its board opens
+-- the world after the leading calls of a run, in which its board opens
 abbrev pub opened_world : Run → World
 opened_world run = world_after standard_rows run.world (leading_calls (events_in run.turns))
 
@@ -100,7 +101,7 @@ shared_in run = shared_events (events_in run.turns)
 abbrev pub is_call_refused : Run → Bool
 is_call_refused run = list_any is_refused (replies_to standard_rows run.world (leading_calls (events_in run.turns)))
 
--- what a run is before its board opens: the world behind the calls that come in first, the events behind them, and whether a call was
+-- what a run is before its board opens: the world after the calls that come in first, the events after them, and whether a call was
 -- refused
 abbrev pub begun_of : Result Run PbxFault → Result (World × List Event × Bool) PbxFault
 begun_of (Ok run) = Ok (opened_world run, shared_in run, is_call_refused run)

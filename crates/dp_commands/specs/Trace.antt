@@ -9,7 +9,7 @@ use Rattle.dp_plan.specs.declared.entry.Entry.{Entry}
 use Rattle.dp_plan.specs.declared.entry.EntryId.{EntryId}
 use Rattle.dp_machine.specs.Codes.{refusal_code, refusal_name}
 use Rattle.dp_machine.specs.Events.{channel_of, event_row, is_refused}
-use Rattle.dp_machine.specs.Replay.{world_behind}
+use Rattle.dp_machine.specs.Replay.{final_world}
 use Rattle.dp_machine.specs.World.{World, channel_at, value_in}
 use Rattle.dp_app.specs.declared.place.Place.{Place}
 use Rattle.dp_app.specs.declared.phase.Phase.{Phase}
@@ -79,7 +79,7 @@ entry_text plan id = entry_in id.entry (slice_get plan.contexts id.context)
 abbrev pub refusal_text : Refusal → List ℕ
 refusal_text refusal = codes "refused " ++ decimal (refusal_code refusal) ++ codes " " ++ refusal_name refusal
 
--- what is printed of a taken event behind its reply, by the number of the channel that it names; an agent's event names none, nor
+-- what is printed of a taken event after its reply, by the number of the channel that it names; an agent's event names none, nor
 -- does a reload
 abbrev pub done_text : World → ℕ → List ℕ
 done_text w number =
@@ -99,7 +99,7 @@ reply_text w number (Refused refusal) = refusal_text refusal
 -- the line of an event that a world meets
 unfoldable pub event_line : World → Event → List ℕ
 event_line w event =
-    reply_text (world_behind standard_rows w event) (channel_of event) (event_row standard_rows w event).1 ++ 10 ∷ []
+    reply_text (final_world standard_rows w event) (channel_of event) (event_row standard_rows w event).1 ++ 10 ∷ []
 
 -- what is shown of a name, by the phase of the channel, where there is one
 abbrev pub show_by : World → ℕ → List ℕ → Option Phase → List ℕ
@@ -119,14 +119,14 @@ pub record Turned : Type 0 where
 abbrev pub turned : World → Turn → Turned
 turned w (turn_event event) =
     record {
-      world = world_behind standard_rows w event;
+      world = final_world standard_rows w event;
       line = event_line w event;
       refused = is_refused (event_row standard_rows w event).1;
     }
 turned w (Show number name) =
     record { world = w; line = show_text w number name ++ 10 ∷ []; refused = is_none (phase_at w number) }
 
--- the world behind the turns
+-- the world after the turns
 abbrev pub world_past : World → List Turn → World
 world_past w turns = fold (λ at turn. (turned at turn).world) w turns
 

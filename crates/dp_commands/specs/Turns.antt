@@ -21,7 +21,7 @@ pub record Taken (S : Type 0) : Type 0 where
 abbrev pub plainly : {P : Type 0} → P × World → Turn → Taken (P × World)
 plainly at turn = record { state = (at.0, (turned at.1 turn).world); lines = (turned at.1 turn).line; refused = (turned at.1 turn).refused }
 
--- the state behind the turns
+-- the state after the turns
 abbrev pub state_past : {S : Type 0} → (S → Turn → Taken S) → S → List Turn → S
 state_past step s turns = fold (λ at turn. (step at turn).state) s turns
 
@@ -35,7 +35,7 @@ abbrev pub refused_in : {S : Type 0} → (S → Turn → Taken S) → S → List
 refused_in step s [] = false
 refused_in step s (turn ∷ turns) = (step s turn).refused || refused_in step (step s turn).state turns
 
--- the lines of some turns and those behind the last of them
+-- the lines of some turns and those after the last of them
 abbrev pub text_of : {S : Type 0} → (S → Turn → Taken S) → (S → List ℕ) → S → List Turn → List ℕ
 text_of step last s turns = lines_of step s turns ++ last (state_past step s turns)
 
@@ -52,7 +52,7 @@ pub record FlowsFirst {S : Type 0} (step : S → Turn → Taken S) (s : S) (turn
   pub flowed : Flows old waited new waits (lines_of step s (take count turns))
 
 -- what some turns come to where a state meets them, by what was written and what waited before, and what is written and
--- waits behind them: their lines flow, with whether one was refused; where a write failed, a front was written of what
+-- waits after them: their lines flow, with whether one was refused; where a write failed, a front was written of what
 -- waited and the lines; and the lines of the first so many of them flow where memory was refused
 abbrev pub Streams : {S : Type 0} → (S → Turn → Taken S) → S → List Turn → Option (List ℕ) → List ℕ → Option (List ℕ) → List ℕ → S → Result Bool PbxFault → Type 0
 Streams step s turns old waited new waits after (Ok refused) =
@@ -61,7 +61,7 @@ Streams step s turns old waited new waits after (Err (Coded code line)) =
     AppendsFront old new (waited ++ lines_of step s turns) × (code ≡ WriteFailed) × (line ≡ None)
 Streams step s turns old waited new waits after (Err NoMemory) = FlowsFirst step s turns old waited new waits
 
--- the same of the turns and of the lines behind the last of them
+-- the same of the turns and of the lines after the last of them
 abbrev pub StreamsAll : {S : Type 0} → (S → Turn → Taken S) → (S → List ℕ) → S → List Turn → Option (List ℕ) → List ℕ → Option (List ℕ) → List ℕ → Result Bool PbxFault → Type 0
 StreamsAll step last s turns old waited new waits (Ok refused) =
     Flows old waited new waits (text_of step last s turns) × (refused ≡ refused_in step s turns)
@@ -69,7 +69,7 @@ StreamsAll step last s turns old waited new waits (Err (Coded code line)) =
     AppendsFront old new (waited ++ text_of step last s turns) × (code ≡ WriteFailed) × (line ≡ None)
 StreamsAll step last s turns old waited new waits (Err NoMemory) = FlowsFirst step s turns old waited new waits
 
--- what taking the turns writes and answers, with the lines behind the last of them
+-- what taking the turns writes and answers, with the lines after the last of them
 abbrev pub WritesTurns : {S : Type 0} → (S → Turn → Taken S) → (S → List ℕ) → S → List Turn → Option (List ℕ) → Option (List ℕ) → Result ℕ PbxFault → Type 0
 WritesTurns step last s turns old new (Ok status) =
     Appends old new (text_of step last s turns) × (status ≡ status_by (refused_in step s turns))

@@ -16,7 +16,7 @@ pub(crate) const ROOM: usize = 65_536;
 /// grow.
 const LEAST_LEFT: usize = 4_096;
 
-/// Bytes that wait to be written: whole lines, and what is begun behind them.
+/// Bytes that wait to be written: whole lines, and what is begun after them.
 #[derive(Drop)]
 pub(crate) struct Block {
     bytes: Vec<u8>,
@@ -91,7 +91,7 @@ impl Block {
         self.whole > ROOM - LEAST_LEFT
     }
 
-    /// Writes the whole lines. Nothing waits behind that; where the write fails, a front of the lines was written.
+    /// Writes the whole lines. Nothing waits after that; where the write fails, a front of the lines was written.
     pub(crate) fn send<W: WriteTold>(&mut self, writer: &mut W) -> Result<(), WriteFailed>
         ensures empty { self.new ≡ waiting [] [] }
         ensures ok { OnOk result (Appends (W.contents writer.old) (W.contents writer.new) self.old.whole) }

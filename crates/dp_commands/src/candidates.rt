@@ -58,7 +58,8 @@ fn push_subject(
     priority: Priority,
     candidate: Candidate,
 ) -> Result<(), NoMemory>
-    ensures { OnOk result (out.new.begun ≡ out.old.begun ++ spec.subject_text plan.now priority candidate.id candidate.verdict) }
+    ensures { OnOk result (out.new.begun ≡ out.old.begun
+        ++ spec.subject_text plan.now priority candidate.id candidate.verdict) }
 {
     match candidate.verdict {
         Verdict::Answers | Verdict::LessSpecific | Verdict::LaterContext => {
@@ -90,7 +91,8 @@ fn push_candidates(
     priority: Priority,
     candidates: &[Candidate],
 ) -> Result<(), NoMemory>
-    ensures { OnOk result (out.new.begun ≡ out.old.begun ++ flat_map (spec.candidate_line plan.now priority) candidates.now) }
+    ensures { OnOk result (out.new.begun ≡ out.old.begun ++ flat_map
+        (spec.candidate_line plan.now priority) candidates.now) }
 {
     for candidate in candidates {
         push_candidate(out, plan, priority, *candidate)?;
@@ -156,7 +158,8 @@ fn all_matched(
     text: &[u8],
     priority: Priority,
 ) -> Result<Block, PbxFault>
-    ensures lines { Answers (λ lines. lines.begun) reason_of result (spec.match_all_of plan.now context.now text.now priority) }
+    ensures lines { Answers (λ lines. lines.begun) reason_of result
+        (spec.match_all_of plan.now context.now text.now priority) }
     ensures quiet { is_write_failed result ≡ false }
 {
     let read = read_plan(alloc, plan)?;
@@ -169,7 +172,7 @@ fn all_matched(
 ///
 /// The extensions stand in the order in which a look-up asks them: the context first and then what it includes, in each the more
 /// specific name first (dialplan, pattern matching). A line is `CONTEXT,NAME,PRIORITY APP: answers` of the entry that answers;
-/// `.. : less specific` of an entry of the priority in the context of that one; `.. : later context` of one in a context behind it; and
+/// `.. : less specific` of an entry of the priority in the context of that one; `.. : later context` of one in a context after it; and
 /// `CONTEXT,NAME,PRIORITY: no such priority` of an extension that lacks the priority. These lines are a choice of this program. A faulty
 /// dialplan has its first fault, and nothing is written. Where the write fails, what was written stays written.
 pub fn match_all<W: WriteTold>(

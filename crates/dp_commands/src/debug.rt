@@ -12,7 +12,8 @@ ghost use Rattle.dp_commands.specs.Trace.{reply_text};
 use crate::block::Block;
 use crate::fault::{Code, PbxFault};
 use crate::run::run_texts;
-use crate::script::{Turn, number_within};
+use crate::script::Turn;
+use crate::script_line::number_within;
 use crate::taker::Taker;
 use crate::trace::{push_number, push_reply};
 use dp_conf::WriteTold;
@@ -86,7 +87,7 @@ fn read_break(alloc: Global, text: &[u8]) -> Result<Break, PbxFault>
     }
 }
 
-/// Adds the line of a halt behind so many events.
+/// Adds the line of a halt after so many events.
 fn push_halt(out: &mut Block, taken: u64) -> Result<(), NoMemory>
     ensures kept { out.new.whole ≡ out.old.whole }
     ensures ok { OnOk result (out.new.begun ≡ out.old.begun ++ spec.halt_line taken) }
@@ -151,7 +152,8 @@ fn step(
     event: &Event,
     held: &Break,
 ) -> Result<Stepped, NoMemory>
-    ensures halted { IfOk result (λ stepped. stepped.halted ≡ is_some (first_before machine.old event.now (held.now ∷ []))) }
+    ensures halted { IfOk result (λ stepped. stepped.halted
+        ≡ is_some (first_before machine.old event.now (held.now ∷ []))) }
     ensures reply { IfOk result (λ stepped. stepped.reply ≡ (event_row standard_rows machine.old event.now).1) }
     ensures world { OnOk result (machine.new ≡ (event_row standard_rows machine.old event.now).0) }
 {
@@ -236,9 +238,12 @@ impl Watched {
         event: &Event,
         block: &mut Block,
     ) -> Result<bool, NoMemory>
-        ensures lines { OnOk result (block.new.whole ≡ block.old.whole ++ (spec.debugged (self.old, machine.old) (Turn.Event event.now)).lines) }
-        ensures state { OnOk result ((self.new, machine.new) ≡ (spec.debugged (self.old, machine.old) (Turn.Event event.now)).state) }
-        ensures refused { IfOk result (λ refused. refused ≡ (spec.debugged (self.old, machine.old) (Turn.Event event.now)).refused) }
+        ensures lines { OnOk result (block.new.whole
+            ≡ block.old.whole ++ (spec.debugged (self.old, machine.old) (Turn.Event event.now)).lines) }
+        ensures state { OnOk result ((self.new, machine.new)
+            ≡ (spec.debugged (self.old, machine.old) (Turn.Event event.now)).state) }
+        ensures refused { IfOk result (λ refused. refused
+            ≡ (spec.debugged (self.old, machine.old) (Turn.Event event.now)).refused) }
         ensures err { OnErr result (block.new.whole ≡ block.old.whole) }
     {
         let stepped = step(alloc, &mut self.debugger, machine, event, &self.held)?;
@@ -277,7 +282,8 @@ pub fn debug_script<W: WriteTold>(
     writer: &mut W,
 ) -> Result<u8, PbxFault>
     ensures writes { spec.WritesDebug (W.contents writer.old) (W.contents writer.new)
-        (spec.debug_of plan.now (option_map (λ text. text.now) queues.entry) (option_map (λ text. text.now) second_plan.entry) script.now held.now) result }
+        (spec.debug_of plan.now (option_map (λ text. text.now) queues.entry)
+        (option_map (λ text. text.now) second_plan.entry) script.now held.now) result }
     ensures told { W.has_failed writer.new ≡ (W.has_failed writer.old || is_write_failed result) }
 {
     let held = read_break(alloc, held)?;

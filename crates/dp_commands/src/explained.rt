@@ -153,12 +153,12 @@ pub fn line_in(text: &[u8], number: usize) -> &[u8]
     let mut before = number.saturating_sub(1);
     let mut rest = Some(text);
     while let Some(left) = rest {
-        let (part, behind) = first_part(left);
+        let (part, after) = first_part(left);
         if before == 0 {
             return part;
         }
         before -= 1;
-        rest = behind;
+        rest = after;
     }
     b""
 }
@@ -226,7 +226,8 @@ pub(crate) fn push_explanation(
     line: &FileLine<'_>,
     kind: NoteKind,
 ) -> Result<(), NoMemory>
-    ensures { OnOk result (out.new.begun ≡ out.old.begun ++ (spec.line_text line.now ++ spec.sentence_text (spec.note_sentence kind))) }
+    ensures { OnOk result (out.new.begun ≡ out.old.begun ++
+        (spec.line_text line.now ++ spec.sentence_text (spec.note_sentence kind))) }
 {
     push_line(out, line)?;
     push_sentence(out, kind)

@@ -51,7 +51,7 @@ fn push_spot(out: &mut Block, plan: &Dialplan, id: EntryId) -> Result<(), NoMemo
     push_place(out, context, entry.name.spelling(), entry.priority.get())
 }
 
-/// Adds the priority behind that of the entry of the numbers.
+/// Adds the priority after that of the entry of the numbers.
 fn push_next_priority(out: &mut Block, plan: &Dialplan, id: EntryId) -> Result<(), NoMemory>
     ensures { OnOk result (out.new.begun ≡ out.old.begun ++ spec.next_priority plan.now id) }
 {
@@ -191,7 +191,7 @@ fn audited(alloc: Global, plan: &[u8]) -> Result<Outcome, PbxFault>
 }
 
 /// Loads a dialplan and writes what an audit finds in it: a line `KIND CONTEXT,NAME,PRIORITY` for each finding, with what it is
-/// about behind it, in the order of the file, and then `ok N findings`. The status is 0 where nothing is found, else 1.
+/// about after it, in the order of the file, and then `ok N findings`. The status is 0 where nothing is found, else 1.
 ///
 /// A faulty dialplan has its first fault, and nothing is written. All is written at once; where that write fails, what was
 /// written stays written. Which findings there are is this program's own choice.

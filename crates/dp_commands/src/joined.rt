@@ -29,26 +29,26 @@ fn or_empty(rest: Option<&[u8]>) -> &[u8]
 }
 
 /// A text that is cut at its first line that is the separator without the blanks at its ends: what stands before that line, and what
-/// stands behind it. With no such line the whole text stands before, and there is nothing behind.
+/// stands after it. With no such line the whole text stands before, and there is nothing after.
 fn split_at_line<'a>(text: &'a [u8], separator: &[u8]) -> (&'a [u8], Option<&'a [u8]>)
     ensures before { result.0.now ≡ spec.text_before separator.now text.now }
-    ensures behind { option_map (λ text. text.now) result.1 ≡ spec.text_behind separator.now text.now }
+    ensures after { option_map (λ text. text.now) result.1 ≡ spec.text_after separator.now text.now }
 {
     let mut start: usize = 0;
     let mut rest = Some(text);
     while let Some(left) = rest {
-        let (part, behind) = first_part(left);
+        let (part, after) = first_part(left);
         if is_separator(separator, part) {
-            return (&text[..start], Some(or_empty(behind)));
+            return (&text[..start], Some(or_empty(after)));
         }
-        start = text.len() - or_empty(behind).len();
-        rest = behind;
+        start = text.len() - or_empty(after).len();
+        rest = after;
     }
     (text, None)
 }
 
 /// Runs the script of a joined text on its dialplan, beside its second one, and writes the trace as it goes, as [`run_script`] does.
-/// The script is what stands behind the first line `;; script`, and the second dialplan what stands before that behind the first line
+/// The script is what stands after the first line `;; script`, and the second dialplan what stands before that after the first line
 /// `;; reload`.
 pub fn run_joined<W: WriteTold>(alloc: Global, text: &[u8], writer: &mut W) -> Result<u8, PbxFault>
     ensures writes { Writes (W.contents writer.old) (W.contents writer.new) (spec.joined_run text.now) result }

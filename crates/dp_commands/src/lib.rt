@@ -1,8 +1,10 @@
 //! The commands of the program `pbx`, over texts and a writer: reports on a dialplan, and runs of it by a script.
 #![tactic(auto)]
 
+mod begun;
 mod block;
 mod candidates;
+mod deal;
 mod debug;
 mod explained;
 mod fault;
@@ -11,6 +13,7 @@ mod joined;
 mod report;
 mod run;
 mod script;
+mod script_line;
 mod taker;
 mod threads;
 mod trace;
@@ -23,5 +26,6 @@ pub use findings::audit;
 pub use joined::run_joined;
 pub use report::{check, check_explained, list_plan, match_one};
 pub use run::run_script;
-pub use script::{ScriptLine, Turn, number_within, read_script};
+pub use script::{ScriptLine, Turn, read_script};
+pub use script_line::number_within;
 pub use threads::run_threads;

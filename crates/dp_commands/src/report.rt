@@ -141,7 +141,8 @@ fn push_explained_note(
     lines: &[&[u8]],
     note: Note,
 ) -> Result<(), NoMemory>
-    ensures { OnOk result (out.new.begun ≡ out.old.begun ++ spec.explained_note path.now (map (λ line. line.now) lines.now) note) }
+    ensures { OnOk result (out.new.begun ≡ out.old.begun ++ spec.explained_note path.now
+        (map (λ line. line.now) lines.now) note) }
 {
     push_note(out, note)?;
     let line = FileLine::new(path, note.line, line_among(lines, note.line));
@@ -172,7 +173,8 @@ fn explained_text(
     plan: &Dialplan,
     notes: &[Note],
 ) -> Result<Block, NoMemory>
-    ensures { IfOk result (λ text. text.begun ≡ spec.explained_text path.now (map (λ line. line.now) lines.now) (plan.now, notes.now)) }
+    ensures { IfOk result (λ text. text.begun
+        ≡ spec.explained_text path.now (map (λ line. line.now) lines.now) (plan.now, notes.now)) }
 {
     let mut text = Block::new(alloc, 0)?;
     push_explained_notes(&mut text, path, lines, notes)?;
@@ -201,7 +203,8 @@ pub fn check_explained<W: WriteTold>(
     plan: &[u8],
     writer: &mut W,
 ) -> Result<u8, PbxFault>
-    ensures writes { spec.Reports (W.contents writer.old) (W.contents writer.new) (spec.check_explained_of path.now plan.now) result }
+    ensures writes { spec.Reports (W.contents writer.old) (W.contents writer.new)
+        (spec.check_explained_of path.now plan.now) result }
     ensures told { W.has_failed writer.new ≡ (W.has_failed writer.old || is_write_failed result) }
 {
     let text = explained(alloc, path, plan)?;
@@ -296,7 +299,8 @@ fn answer_line(
     text: &[u8],
     priority: Priority,
 ) -> Result<Block, NoMemory>
-    ensures { IfOk result (λ line. line.begun ≡ spec.match_line plan.now (spec.answering plan.now context.now text.now priority)) }
+    ensures { IfOk result (λ line. line.begun
+        ≡ spec.match_line plan.now (spec.answering plan.now context.now text.now priority)) }
 {
     let found = find_answer(alloc, plan, context, text, priority)?;
     match_line(alloc, plan, found)
@@ -311,7 +315,8 @@ fn matched(
     text: &[u8],
     priority: Priority,
 ) -> Result<Block, PbxFault>
-    ensures line { Answers (λ line. line.begun) reason_of result (spec.match_of plan.now context.now text.now priority) }
+    ensures line { Answers (λ line. line.begun) reason_of result
+        (spec.match_of plan.now context.now text.now priority) }
     ensures quiet { is_write_failed result ≡ false }
 {
     let read = read_plan(alloc, plan)?;

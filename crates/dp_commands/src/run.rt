@@ -2,26 +2,24 @@
 ghost use Rattle.std.specs.Prelude.{◌≡◌, ◌++◌, ◌||◌, ◌∷◌, [], IfOk, OnOk, OnErr, Ok, false};
 ghost use Rattle.std.specs.Option.{option_map};
 ghost use Rattle.std.specs.Result.{is_err};
-ghost use Rattle.dp_conf.specs.Answers.{Answers};
 ghost use Rattle.dp_conf.specs.Fronts.{AppendsFront};
-ghost use Rattle.dp_queue.specs.Rest.{IsAtRest};
-ghost use Rattle.dp_commands.specs.Block.{Flows, waiting};
-ghost use Rattle.dp_commands.specs.Faults.{is_write_failed, reason_of};
+ghost use Rattle.dp_commands.specs.Block.{Flows};
+ghost use Rattle.dp_commands.specs.Faults.{is_write_failed};
 ghost use Rattle.dp_commands.specs.Run as spec;
 ghost use Rattle.dp_commands.specs.Script.{line_turns, turns_of};
-ghost use Rattle.dp_commands.specs.Texts.{WritesRun};
+ghost use Rattle.dp_commands.specs.steps.Texts.{WritesRun};
 ghost use Rattle.dp_commands.specs.Trace.{turned};
 ghost use Rattle.dp_commands.specs.Turns.{Streams, StreamsAll, WritesTurns};
 
-use crate::block::{Block, ROOM};
+use crate::begun::{Begun, begin};
+use crate::block::Block;
 use crate::fault::PbxFault;
-use crate::script::{ScriptLine, Turn, read_script};
+use crate::script::{ScriptLine, Turn};
 use crate::taker::Taker;
 use crate::trace::{push_line, push_show_line};
 use dp_conf::{WriteFailed, WriteTold};
 use dp_machine::{Event, Machine};
-use dp_plan::{Dialplan, NoMemory, Text};
-use dp_queue::Queues;
+use dp_plan::{NoMemory, Text};
 use dp_table::StandardApps;
 use std::alloc::Global;
 
@@ -51,7 +49,8 @@ fn take_show(
     name: &Text,
     block: &mut Block,
 ) -> Result<bool, NoMemory>
-    ensures line { OnOk result (block.new.whole ≡ block.old.whole ++ (turned machine.now (Turn.Show channel name.now)).line) }
+    ensures line { OnOk result (block.new.whole
+        ≡ block.old.whole ++ (turned machine.now (Turn.Show channel name.now)).line) }
     ensures refused { IfOk result (λ refused. refused ≡ (turned machine.now (Turn.Show channel name.now)).refused) }
     ensures err { OnErr result (block.new.whole ≡ block.old.whole) }
 {
@@ -91,7 +90,8 @@ impl Taker for Plain {
 
 /// Writes the lines that wait where the block is full.
 fn send_full<W: WriteTold>(block: &mut Block, writer: &mut W) -> Result<(), WriteFailed>
-    ensures ok { OnOk result (Flows (W.contents writer.old) block.old.whole (W.contents writer.new) block.new.whole []) }
+    ensures ok { OnOk result (Flows (W.contents writer.old) block.old.whole
+        (W.contents writer.new) block.new.whole []) }
     ensures err { OnErr result (AppendsFront (W.contents writer.old) (W.contents writer.new) block.old.whole) }
     ensures told { W.has_failed writer.new ≡ (W.has_failed writer.old || is_err result) }
 {
@@ -110,7 +110,9 @@ fn run_turn<T: Taker, W: WriteTold>(
     block: &mut Block,
     writer: &mut W,
 ) -> Result<bool, PbxFault>
-    ensures streams { Streams T.step (taker.old, machine.old) (turn.now ∷ []) (W.contents writer.old) block.old.whole (W.contents writer.new) block.new.whole (taker.new, machine.new) result }
+    ensures streams { Streams T.step (taker.old, machine.old) (turn.now ∷ [])
+        (W.contents writer.old) block.old.whole (W.contents writer.new) block.new.whole
+        (taker.new, machine.new) result }
     ensures told { W.has_failed writer.new ≡ (W.has_failed writer.old || is_write_failed result) }
 {
     let refused = taker.take(alloc, machine, turn, block)?;
@@ -127,7 +129,9 @@ fn run_line<T: Taker, W: WriteTold>(
     block: &mut Block,
     writer: &mut W,
 ) -> Result<bool, PbxFault>
-    ensures streams { Streams T.step (taker.old, machine.old) (line_turns line.now) (W.contents writer.old) block.old.whole (W.contents writer.new) block.new.whole (taker.new, machine.new) result }
+    ensures streams { Streams T.step (taker.old, machine.old) (line_turns line.now)
+        (W.contents writer.old) block.old.whole (W.contents writer.new) block.new.whole
+        (taker.new, machine.new) result }
     ensures told { W.has_failed writer.new ≡ (W.has_failed writer.old || is_write_failed result) }
 {
     let mut refused = false;
@@ -146,7 +150,9 @@ fn run_lines<T: Taker, W: WriteTold>(
     block: &mut Block,
     writer: &mut W,
 ) -> Result<bool, PbxFault>
-    ensures streams { Streams T.step (taker.old, machine.old) (turns_of lines.now) (W.contents writer.old) block.old.whole (W.contents writer.new) block.new.whole (taker.new, machine.new) result }
+    ensures streams { Streams T.step (taker.old, machine.old) (turns_of lines.now)
+        (W.contents writer.old) block.old.whole (W.contents writer.new) block.new.whole
+        (taker.new, machine.new) result }
     ensures told { W.has_failed writer.new ≡ (W.has_failed writer.old || is_write_failed result) }
 {
     let mut refused = false;
@@ -154,148 +160,6 @@ fn run_lines<T: Taker, W: WriteTold>(
         refused |= run_line(alloc, taker, machine, line, block, writer)?;
     }
     Ok(refused)
-}
-
-/// The queues of a run, by the text of their file, where there is one.
-fn load_queues(alloc: Global, text: Option<&[u8]>) -> Result<Queues, PbxFault>
-    ensures queues { Answers (λ queues. queues) reason_of result (spec.queues_of (option_map (λ text. text.now) text.entry)) }
-    ensures rest { IfOk result IsAtRest }
-    ensures quiet { is_write_failed result ≡ false }
-{
-    let Some(text) = text else {
-        return Ok(Queues::none(alloc));
-    };
-    let queues = Queues::load(alloc, text)?;
-    Ok(queues)
-}
-
-/// The dialplan of a run and its queues. Their drop is one function, so that it is proved once, and not on each way out of all that
-/// hold them.
-struct Files {
-    plan: Dialplan,
-    queues: Queues,
-}
-
-impl Drop for Files {
-    fn drop(self) {
-        let Files { plan: _, queues: _ } = self;
-    }
-}
-
-impl Files {
-    ghost use Rattle.std.specs.Prelude.{◌≡◌, IfOk};
-    ghost use Rattle.dp_machine.specs.World.{opening};
-    ghost use Rattle.dp_queue.specs.Rest.{IsAtRest};
-
-    /// A machine in which nothing has happened.
-    fn into_machine(self, alloc: Global) -> Result<Machine<StandardApps>, NoMemory>
-        requires { IsAtRest self.queues }
-        ensures { IfOk result (λ machine. machine ≡ opening self.plan self.queues) }
-    {
-        let Files { plan, queues } = self;
-        Machine::new(alloc, plan, queues)
-    }
-}
-
-/// What the files of a run say: the dialplan is read first, then the queues.
-fn read_files(alloc: Global, plan: &[u8], queues: Option<&[u8]>) -> Result<Files, PbxFault>
-    ensures files { Answers (λ files. record { plan = files.plan; queues = files.queues }) reason_of result
-        (spec.files_of plan.now (option_map (λ text. text.now) queues.entry)) }
-    ensures rest { IfOk result (λ files. IsAtRest files.queues) }
-    ensures quiet { is_write_failed result ≡ false }
-{
-    let (plan, _) = Dialplan::load(alloc, plan)?;
-    match load_queues(alloc, queues) {
-        Ok(queues) => Ok(Files { plan, queues }),
-        Err(fault) => Err(fault),
-    }
-}
-
-/// What the texts of a run say.
-#[derive(Drop)]
-struct Told {
-    files: Files,
-    lines: Vec<ScriptLine>,
-}
-
-/// What the texts of a run say: its files are read first, then the script.
-fn read_texts(
-    alloc: Global,
-    plan: &[u8],
-    queues: Option<&[u8]>,
-    second_plan: Option<&[u8]>,
-    script: &[u8],
-) -> Result<Told, PbxFault>
-    ensures told { Answers (λ told. record { plan = told.files.plan; queues = told.files.queues; lines = told.lines.items }) reason_of result
-        (spec.told_of plan.now (option_map (λ text. text.now) queues.entry) (option_map (λ text. text.now) second_plan.entry) script.now) }
-    ensures rest { IfOk result (λ told. IsAtRest told.files.queues) }
-    ensures quiet { is_write_failed result ≡ false }
-{
-    let files = read_files(alloc, plan, queues)?;
-    match read_script(alloc, second_plan, script) {
-        Ok(lines) => Ok(Told { files, lines }),
-        Err(fault) => Err(fault),
-    }
-}
-
-/// What a run has before its first turn: its machine, the lines of its script, and a block in which nothing waits. Its drop is one
-/// function, as that of the files is.
-pub(crate) struct Begun {
-    pub(crate) machine: Machine<StandardApps>,
-    pub(crate) lines: Vec<ScriptLine>,
-    pub(crate) block: Block,
-}
-
-impl Drop for Begun {
-    fn drop(self) {
-        let Begun {
-            machine: _,
-            lines: _,
-            block: _,
-        } = self;
-    }
-}
-
-impl Begun {
-    ghost use Rattle.std.specs.Prelude.{◌≡◌};
-
-    /// The machine alone.
-    pub(crate) fn into_machine(self) -> Machine<StandardApps>
-        ensures { result ≡ self.machine }
-    {
-        let Begun {
-            machine,
-            lines: _,
-            block: _,
-        } = self;
-        machine
-    }
-}
-
-/// What a run has before its first turn.
-#[tactic(auto, unfolding(crate::specs::Run::run_of))]
-pub(crate) fn begin(
-    alloc: Global,
-    plan: &[u8],
-    queues: Option<&[u8]>,
-    second_plan: Option<&[u8]>,
-    script: &[u8],
-) -> Result<Begun, PbxFault>
-    ensures run { Answers (λ begun. spec.run_on begun.machine (turns_of begun.lines.items)) reason_of result
-        (spec.run_of plan.now (option_map (λ text. text.now) queues.entry) (option_map (λ text. text.now) second_plan.entry) script.now) }
-    ensures empty { IfOk result (λ begun. begun.block ≡ waiting [] []) }
-    ensures quiet { is_write_failed result ≡ false }
-{
-    let block = Block::new(alloc, ROOM)?;
-    let Told { files, lines } = read_texts(alloc, plan, queues, second_plan, script)?;
-    match files.into_machine(alloc) {
-        Ok(machine) => Ok(Begun {
-            machine,
-            lines,
-            block,
-        }),
-        Err(_) => Err(PbxFault::NoMemory),
-    }
 }
 
 /// Ends a run by what it came to: the lines that wait are written, unless a write has failed. The status is 1 where a
@@ -321,7 +185,7 @@ fn end<W: WriteTold>(
     }
 }
 
-/// Takes the turns of all lines, and adds the lines behind the last of them to what waits.
+/// Takes the turns of all lines, and adds the lines after the last of them to what waits.
 #[tactic(auto, using(crate::proofs::StreamsLemmas::StreamsAll_ends, crate::proofs::StreamsLemmas::StreamsAll_lacks, crate::proofs::StreamsLemmas::StreamsAll_stops))]
 fn run_through<T: Taker, W: WriteTold>(
     alloc: Global,
@@ -391,7 +255,8 @@ pub(crate) fn run_texts<T: Taker, W: WriteTold>(
     writer: &mut W,
 ) -> Result<u8, PbxFault>
     ensures writes { WritesRun T.step (λ at. T.last at.0) taker.old (W.contents writer.old) (W.contents writer.new)
-        (spec.run_of plan.now (option_map (λ text. text.now) queues.entry) (option_map (λ text. text.now) second_plan.entry) script.now) result }
+        (spec.run_of plan.now (option_map (λ text. text.now) queues.entry)
+        (option_map (λ text. text.now) second_plan.entry) script.now) result }
     ensures told { W.has_failed writer.new ≡ (W.has_failed writer.old || is_write_failed result) }
 {
     let mut begun = begin(alloc, plan, queues, second_plan, script)?;
@@ -414,7 +279,8 @@ pub fn run_script<W: WriteTold>(
     writer: &mut W,
 ) -> Result<u8, PbxFault>
     ensures writes { spec.Writes (W.contents writer.old) (W.contents writer.new)
-        (spec.run_of plan.now (option_map (λ text. text.now) queues.entry) (option_map (λ text. text.now) second_plan.entry) script.now) result }
+        (spec.run_of plan.now (option_map (λ text. text.now) queues.entry)
+        (option_map (λ text. text.now) second_plan.entry) script.now) result }
     ensures told { W.has_failed writer.new ≡ (W.has_failed writer.old || is_write_failed result) }
 {
     run_texts(alloc, plan, queues, second_plan, script, &mut Plain, writer)

@@ -16,7 +16,7 @@ pub(crate) trait Taker {
     // What a turn makes of the taker and of a world, its lines, and whether it is refused.
     ghost step: { Self × World → turns.Turn → Taken (Self × World) };
 
-    // The lines behind the last turn.
+    // The lines after the last turn.
     ghost last: { Self → List ℕ };
 
     /// Takes one turn, and adds its lines to what waits. It says whether the turn was refused.
@@ -27,12 +27,13 @@ pub(crate) trait Taker {
         turn: &Turn,
         block: &mut Block,
     ) -> Result<bool, NoMemory>
-        ensures lines { OnOk result (block.new.whole ≡ block.old.whole ++ (step (self.old, machine.old) turn.now).lines) }
+        ensures lines { OnOk result (block.new.whole
+            ≡ block.old.whole ++ (step (self.old, machine.old) turn.now).lines) }
         ensures state { OnOk result ((self.new, machine.new) ≡ (step (self.old, machine.old) turn.now).state) }
         ensures refused { IfOk result (λ refused. refused ≡ (step (self.old, machine.old) turn.now).refused) }
         ensures err { OnErr result (block.new.whole ≡ block.old.whole) };
 
-    /// Adds the lines behind the last turn to what waits.
+    /// Adds the lines after the last turn to what waits.
     fn finish(&self, block: &mut Block) -> Result<(), NoMemory>
         ensures ok { OnOk result (block.new.whole ≡ block.old.whole ++ last self.now) }
         ensures err { OnErr result (block.new.whole ≡ block.old.whole) };

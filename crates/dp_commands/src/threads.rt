@@ -1,6 +1,6 @@
 //! Runs in threads: the events of a script are dealt to the seats of a board, which act at once.
-ghost use Rattle.std.specs.Prelude.{◌≡◌, ◌++◌, ◌∷◌, ◌<◌, ◌≤◌, ◌||◌, [], IfOk, IfErr, OnOk, OnErr, All, length, map, max, replicate, true, false, ◌+◌};
-ghost use Rattle.std.specs.List.{list_any, prefix_len, range_with_len};
+ghost use Rattle.std.specs.Prelude.{◌≡◌, ◌++◌, ◌<◌, ◌||◌, [], IfOk, IfErr, OnOk, OnErr, length, map, max, true, false, ◌+◌};
+ghost use Rattle.std.specs.List.{list_any, range_with_len};
 ghost use Rattle.std.specs.Io.KnownBytes.{Appends};
 ghost use Rattle.std.specs.Option.{option_map};
 ghost use Rattle.dp_board.specs.Settled.{AllPresent, IsSettled};
@@ -12,14 +12,14 @@ ghost use Rattle.dp_commands.specs.Block.{waiting};
 ghost use Rattle.dp_commands.specs.Faults.{is_write_failed, reason_of};
 ghost use Rattle.dp_conf.specs.Answers.{Answers};
 ghost use Rattle.dp_commands.specs.Run as run;
-ghost use Rattle.dp_commands.specs.Script.{line_turns, turns_of};
+ghost use Rattle.dp_commands.specs.Script.{turns_of};
 ghost use Rattle.dp_commands.specs.Threads as spec;
-ghost use Rattle.dp_commands.specs.declared.script.Turn.TheVariants as turns;
 
+use crate::begun::{Begun, begin};
 use crate::block::Block;
+use crate::deal::{act_at_once, events_of, have_acted, leading_calls, parted};
 use crate::fault::{Code, PbxFault};
-use crate::run::{Begun, begin};
-use crate::script::{ScriptLine, Turn};
+use crate::script::ScriptLine;
 use crate::trace::push_number;
 use dp_board::{Back, Board, Entry, Gate, History, Seat, Session, SettleFault, Unsettled};
 use dp_conf::WriteTold;
@@ -30,167 +30,7 @@ use std::alloc::Global;
 use std::marker::Brand;
 use std::sync::Wait;
 use std::sync::ledger::Blank;
-use std::thread::{Threads, for_each_mut};
-
-/// Adds an event so many times.
-fn push_copies(events: &mut Vec<Event>, event: &Event, count: u32) -> Result<(), NoMemory>
-    ensures { OnOk result (events.new.items ≡ events.old.items ++ spec.events_in (replicate count (turns.Event event.now))) }
-{
-    for _copy in 0..count {
-        events.push(event.copy()?)?;
-    }
-    Ok(())
-}
-
-/// Adds the events of a line; one that shows a value has none.
-fn push_events(events: &mut Vec<Event>, line: &ScriptLine) -> Result<(), NoMemory>
-    ensures { OnOk result (events.new.items ≡ events.old.items ++ spec.events_in (line_turns line.now)) }
-{
-    match &line.turn {
-        Turn::Event(event) => push_copies(events, event, line.count),
-        Turn::Show { .. } => Ok(()),
-    }
-}
-
-/// The events of a script, one after another.
-fn events_of(alloc: Global, lines: &[ScriptLine]) -> Result<Vec<Event>, NoMemory>
-    ensures { IfOk result (λ events. events.items ≡ spec.events_in (turns_of lines.now)) }
-{
-    let mut events = Vec::new(alloc);
-    for line in lines {
-        push_events(&mut events, line)?;
-    }
-    Ok(events)
-}
-
-fn is_start(event: &Event) -> bool
-    ensures { result ≡ spec.is_start event.now }
-{
-    matches!(event, Event::Start { .. })
-}
-
-/// How many events stand before the first that is no call that comes in.
-fn leading_calls(events: &[Event]) -> usize
-    ensures { result ≡ prefix_len spec.is_start events.now }
-{
-    events.iter().take_while(|event| is_start(event)).count()
-}
-
-/// The calls that events begin with, and the events behind these.
-fn parted(events: &[Event]) -> (&[Event], &[Event])
-    ensures calls { result.0.now ≡ spec.leading_calls events.now }
-    ensures shared { result.1.now ≡ spec.shared_events events.now }
-{
-    events.split_at(leading_calls(events))
-}
-
-/// Which turn of its seat the event at a place is, where so many seats take turns. Turns of a seat are counted from 0.
-fn turn_at(at: usize, count: usize) -> u64
-    requires { 0 < count }
-    ensures { result ≡ spec.turn_of count at }
-{
-    (at / count) as u64
-}
-
-/// Gives the machine one event for a seat, between the calls of the gate, which are told the turn of the seat.
-fn act_one<S: Session, R: Wait, G: Gate>(
-    rt: &R,
-    alloc: Global,
-    board: &Board<StandardApps, S>,
-    seat: &mut Seat<S>,
-    event: &Event,
-    gate: &G,
-    turn: u64,
-) -> Result<(), NoMemory>
-    requires { turn ≡ length seat.old.told }
-    ensures number { seat.new.number ≡ seat.old.number }
-    ensures ok { OnOk result (spec.events_told seat.new.told ≡ spec.events_told seat.old.told ++ event.now ∷ []) }
-    ensures err { OnErr result (seat.new ≡ seat.old) }
-{
-    let copy = event.copy()?;
-    let channel = event.channel();
-    gate.before(channel, turn);
-    let (_place, reply) = board.act(rt, alloc, seat, copy)?;
-    gate.after(channel, &reply);
-    Ok(())
-}
-
-/// Gives the machine the events of a seat, where so many seats take turns, one after another.
-fn act_all<S: Session, R: Wait, G: Gate>(
-    rt: &R,
-    alloc: Global,
-    board: &Board<StandardApps, S>,
-    seat: &mut Seat<S>,
-    count: usize,
-    events: &[Event],
-    gate: &G,
-) -> Result<(), NoMemory>
-    requires count { 0 < count }
-    requires fresh { seat.old.told ≡ [] }
-    ensures number { seat.new.number ≡ seat.old.number }
-    ensures front { spec.GaveFront count events.now seat.new }
-{
-    let number = seat.number() as usize;
-    for at in 0..events.len() {
-        if at % count == number {
-            let turn = turn_at(at, count);
-            act_one(rt, alloc, board, seat, &events[at], gate, turn)?;
-        }
-    }
-    Ok(())
-}
-
-/// How many events are a seat's, where so many seats take turns.
-fn own_count(events: &[Event], count: usize, number: usize) -> usize
-    requires { 0 < count }
-    ensures is { result ≡ length (spec.dealt count number events.now) }
-    ensures within { result ≤ length events.now }
-{
-    let mut own = 0;
-    for at in 0..events.len() {
-        if at % count == number {
-            own += 1;
-        }
-    }
-    own
-}
-
-/// Whether each seat was told of as many events as are its own.
-fn have_acted<S: Session>(seats: &[Seat<S>], events: &[Event]) -> bool
-    ensures { result ≡ true → All (λ seat. length (spec.dealt (length seats.now) seat.number events.now) ≤ length seat.told) seats.now }
-{
-    for seat in seats {
-        if seat.record().len() < own_count(events, seats.len(), seat.number() as usize) {
-            return false;
-        }
-    }
-    true
-}
-
-/// Each seat gives its events in a thread of its own.
-fn act_at_once<S: Session + Send + Sync, R: Threads + Wait + Sync, G: Gate + Sync>(
-    rt: &R,
-    alloc: Global,
-    board: &Board<StandardApps, S>,
-    seats: &mut [Seat<S>],
-    events: &[Event],
-    gate: &G,
-)
-    requires some { 0 < length seats.old }
-    requires fresh { All (λ seat. seat.told ≡ []) seats.old }
-    ensures gave { All (spec.GaveFront (length seats.old) events.now) seats.new }
-    ensures numbers { spec.KeepNumbers seats.old seats.new }
-{
-    let count = seats.len();
-    let give = |_place: usize, seat: &mut Seat<S>|
-        requires { (0 < count) × (seat.now.told ≡ []) }
-        ensures { spec.GaveFront count events.entry.now seat.exit.now × (seat.exit.now.number ≡ seat.entry.now.number) }
-    {
-        // Where memory was refused, the seat was told of fewer events than are its own.
-        let _ = act_all(rt, alloc, board, seat, count, events, gate);
-    };
-    for_each_mut(rt, seats, count, &give);
-}
+use std::thread::Threads;
 
 /// Lets go of a board that is open, and of its seats.
 fn let_go_open<S: Session>(_board: Board<StandardApps, S>, _seats: Vec<Seat<S>>) {}
@@ -296,7 +136,8 @@ fn run_events(
     events: &[Event],
 ) -> Result<bool, NoMemory>
     ensures world { OnOk result (machine.new ≡ world_after standard_rows machine.old events.now) }
-    ensures refused { IfOk result (λ refused. refused ≡ list_any refuses (replies_to standard_rows machine.old events.now)) }
+    ensures refused { IfOk result (λ refused. refused
+        ≡ list_any refuses (replies_to standard_rows machine.old events.now)) }
 {
     let mut replies = Vec::new(alloc);
     machine.run(alloc, events, &mut replies)?;
@@ -323,9 +164,12 @@ fn give_calls(
     machine: &mut Machine<StandardApps>,
     lines: &[ScriptLine],
 ) -> Result<Given, NoMemory>
-    ensures world { OnOk result (machine.new ≡ world_after standard_rows machine.old (spec.leading_calls (spec.events_in (turns_of lines.now)))) }
+    ensures world { OnOk result (machine.new ≡ world_after standard_rows machine.old
+        (spec.leading_calls (spec.events_in (turns_of lines.now)))) }
     ensures events { IfOk result (λ given. given.events.items ≡ spec.events_in (turns_of lines.now)) }
-    ensures refused { IfOk result (λ given. given.is_refused ≡ list_any refuses (replies_to standard_rows machine.old (spec.leading_calls (spec.events_in (turns_of lines.now))))) }
+    ensures refused { IfOk result (λ given. given.is_refused
+        ≡ list_any refuses (replies_to standard_rows machine.old
+        (spec.leading_calls (spec.events_in (turns_of lines.now))))) }
 {
     let events = events_of(alloc, lines)?;
     let (calls, _) = parted(&events);
@@ -333,7 +177,7 @@ fn give_calls(
     Ok(Given { events, is_refused })
 }
 
-/// What a run in threads has before its board opens: the machine behind the calls that come in first, and what these leave.
+/// What a run in threads has before its board opens: the machine after the calls that come in first, and what these leave.
 #[derive(Drop)]
 struct Opened {
     machine: Machine<StandardApps>,
@@ -360,7 +204,8 @@ fn begin_shared(
     script: &[u8],
 ) -> Result<Opened, PbxFault>
     ensures begun { Answers (λ opened. (opened.machine, spec.shared_events opened.given.events.items, opened.given.is_refused)) reason_of result
-        (spec.begun_of (run.run_of plan.now (option_map (λ text. text.now) queues.entry) (option_map (λ text. text.now) second_plan.entry) script.now)) }
+        (spec.begun_of (run.run_of plan.now (option_map (λ text. text.now) queues.entry)
+        (option_map (λ text. text.now) second_plan.entry) script.now)) }
     ensures quiet { is_write_failed result ≡ false }
 {
     let mut begun = begin(alloc, plan, queues, second_plan, script)?;
@@ -372,7 +217,8 @@ fn begin_shared(
 
 /// Adds the line of a settled history to what waits.
 fn push_settled(block: &mut Block, seats: u32, calls: usize) -> Result<(), NoMemory>
-    ensures ok { OnOk result (block.new ≡ waiting (block.old.whole ++ (block.old.begun ++ spec.settled_line seats calls)) []) }
+    ensures ok { OnOk result (block.new ≡ waiting
+        (block.old.whole ++ (block.old.begun ++ spec.settled_line seats calls)) []) }
     ensures err { OnErr result (block.new.whole ≡ block.old.whole) }
 {
     block.push(b"settled ")?;
@@ -408,9 +254,12 @@ fn report<W: WriteTold>(
     is_refused: bool,
     writer: &mut W,
 ) -> Result<u8, PbxFault>
-    ensures ok { OnOk result (Appends (W.contents writer.old) (W.contents writer.new) (spec.settled_line seats (length history.now.entries))) }
-    ensures status { IfOk result (λ status. status ≡ run.status_by (is_refused || list_any (λ entry. refuses entry.reply) history.now.entries)) }
-    ensures err { IfErr result (spec.IsUnwritten seats (length history.now.entries) (W.contents writer.old) (W.contents writer.new)) }
+    ensures ok { OnOk result (Appends (W.contents writer.old) (W.contents writer.new)
+        (spec.settled_line seats (length history.now.entries))) }
+    ensures status { IfOk result (λ status. status
+        ≡ run.status_by (is_refused || list_any (λ entry. refuses entry.reply) history.now.entries)) }
+    ensures err { IfErr result (spec.IsUnwritten seats (length history.now.entries) (W.contents writer.old)
+        (W.contents writer.new)) }
     ensures told { W.has_failed writer.new ≡ (W.has_failed writer.old || is_write_failed result) }
 {
     let mut block = Block::new(alloc, 64)?;
@@ -427,7 +276,8 @@ fn share<G: Gate + Sync, R: Threads + Wait + Sync>(
     gate: &G,
 ) -> Result<History<StandardApps>, PbxFault>
     requires some { 0 < count }
-    ensures dealt { IfOk result (λ history. spec.IsDealt opened.machine count (spec.shared_events opened.given.events.items) history) }
+    ensures dealt { IfOk result (λ history. spec.IsDealt opened.machine count
+        (spec.shared_events opened.given.events.items) history) }
     ensures code { IfErr result (λ fault. spec.is_settle_fault fault ≡ true) }
 {
     let blank = Blank::new(u64::from(count) + 1);
@@ -444,10 +294,13 @@ fn conclude<W: WriteTold>(
     is_refused: bool,
     writer: &mut W,
 ) -> Result<(u8, History<StandardApps>), PbxFault>
-    ensures ok { OnOk result (Appends (W.contents writer.old) (W.contents writer.new) (spec.settled_line seats (length history.entries))) }
+    ensures ok { OnOk result (Appends (W.contents writer.old) (W.contents writer.new)
+        (spec.settled_line seats (length history.entries))) }
     ensures history { IfOk result (λ ran. ran.1 ≡ history) }
-    ensures status { IfOk result (λ ran. ran.0 ≡ run.status_by (is_refused || list_any (λ entry. refuses entry.reply) history.entries)) }
-    ensures err { IfErr result (spec.IsUnwritten seats (length history.entries) (W.contents writer.old) (W.contents writer.new)) }
+    ensures status { IfOk result (λ ran. ran.0
+        ≡ run.status_by (is_refused || list_any (λ entry. refuses entry.reply) history.entries)) }
+    ensures err { IfErr result (spec.IsUnwritten seats (length history.entries) (W.contents writer.old)
+        (W.contents writer.new)) }
     ensures told { W.has_failed writer.new ≡ (W.has_failed writer.old || is_write_failed result) }
 {
     match report(alloc, &history, seats, is_refused, writer) {
@@ -458,7 +311,7 @@ fn conclude<W: WriteTold>(
 
 /// Runs a script on a dialplan with its queues in so many threads, and writes `settled N seats M calls`: so many seats, and how many
 /// events they shared, each of which is a call of the history. With 0 threads it runs in one. The calls that the script begins with come in first; then a board opens, and
-/// the events behind these are dealt to its seats in turn, each of which gives its own in a thread, between the calls of the gate.
+/// the events after these are dealt to its seats in turn, each of which gives its own in a thread, between the calls of the gate.
 /// Lines that show a value are passed over. The history is answered, and the status: 1 where an event was refused, else 0.
 ///
 /// All texts are read first, and their faults come as in a run without threads. Where memory is refused nothing is written. Each seat
@@ -475,7 +328,8 @@ pub fn run_threads<G: Gate + Sync, W: WriteTold, R: Threads + Wait + Sync>(
     writer: &mut W,
 ) -> Result<(u8, History<StandardApps>), PbxFault>
     ensures shares { spec.Shares (max 1 threads) (W.contents writer.old) (W.contents writer.new)
-        (run.run_of plan.now (option_map (λ text. text.now) queues.entry) (option_map (λ text. text.now) second_plan.entry) script.now) result }
+        (run.run_of plan.now (option_map (λ text. text.now) queues.entry)
+        (option_map (λ text. text.now) second_plan.entry) script.now) result }
     ensures told { W.has_failed writer.new ≡ (W.has_failed writer.old || is_write_failed result) }
 {
     let opened = begin_shared(alloc, plan, queues, second_plan, script)?;

@@ -74,7 +74,8 @@ fn push_phase(
     place: Option<&Place>,
 ) -> Result<(), NoMemory>
     ensures kept { out.new.whole ≡ out.old.whole }
-    ensures ok { OnOk result (out.new.begun ≡ out.old.begun ++ spec.state_by queues.now (Some phase.now) (option_copied place.entry)) }
+    ensures ok { OnOk result (out.new.begun ≡ out.old.begun ++ spec.state_by queues.now (Some phase.now)
+        (option_copied place.entry)) }
 {
     match phase {
         Phase::Ready => push_ready(out, place),
@@ -165,11 +166,7 @@ pub(crate) fn push_entry(out: &mut Block, plan: &Dialplan, id: EntryId) -> Resul
 }
 
 /// Adds ` -> ` and the state of the channel of this number.
-fn push_behind(
-    out: &mut Block,
-    machine: &Machine<StandardApps>,
-    number: u32,
-) -> Result<(), NoMemory>
+fn push_after(out: &mut Block, machine: &Machine<StandardApps>, number: u32) -> Result<(), NoMemory>
     ensures kept { out.new.whole ≡ out.old.whole }
     ensures ok { OnOk result (out.new.begun ≡ out.old.begun ++ codes " -> " ++ spec.state_text machine.now number) }
 {
@@ -202,7 +199,7 @@ fn push_ran(
     push_number(out, number)?;
     out.push(b" ")?;
     push_entry(out, machine.plan(), id)?;
-    push_behind(out, machine, number)
+    push_after(out, machine, number)
 }
 
 /// Adds the line of a channel that comes in.
@@ -225,7 +222,7 @@ fn push_no_entry(
 {
     out.push(b"no entry ")?;
     push_number(out, number)?;
-    push_behind(out, machine, number)
+    push_after(out, machine, number)
 }
 
 /// Adds the line of a channel that went to the extension `i`.
@@ -239,13 +236,14 @@ fn push_invalid(
 {
     out.push(b"invalid ")?;
     push_number(out, number)?;
-    push_behind(out, machine, number)
+    push_after(out, machine, number)
 }
 
 /// Adds the line of an offer.
 fn push_offered(out: &mut Block, channel: u32, rung: usize) -> Result<(), NoMemory>
     ensures kept { out.new.whole ≡ out.old.whole }
-    ensures ok { OnOk result (out.new.begun ≡ out.old.begun ++ (codes "offered " ++ decimal channel ++ codes " " ++ decimal rung)) }
+    ensures ok { OnOk result (out.new.begun ≡ out.old.begun ++
+        (codes "offered " ++ decimal channel ++ codes " " ++ decimal rung)) }
 {
     out.push(b"offered ")?;
     push_number(out, channel)?;
@@ -263,10 +261,10 @@ fn push_done(out: &mut Block, machine: &Machine<StandardApps>, number: u32) -> R
     }
     out.push(b"ok ")?;
     push_number(out, number)?;
-    push_behind(out, machine, number)
+    push_after(out, machine, number)
 }
 
-/// Adds the line of a reply to an event of the channel of this number, with the machine behind the event.
+/// Adds the line of a reply to an event of the channel of this number, with the machine after the event.
 pub(crate) fn push_reply(
     out: &mut Block,
     machine: &Machine<StandardApps>,
@@ -287,7 +285,7 @@ pub(crate) fn push_reply(
     }
 }
 
-/// Adds the line of a reply to what waits, by the channel that the event names and the machine behind the event. Where
+/// Adds the line of a reply to what waits, by the channel that the event names and the machine after the event. Where
 /// memory is refused the whole lines stay as they were.
 pub(crate) fn push_line(
     block: &mut Block,
@@ -295,7 +293,8 @@ pub(crate) fn push_line(
     number: u32,
     reply: Reply,
 ) -> Result<(), NoMemory>
-    ensures ok { OnOk result (block.new.whole ≡ block.old.whole ++ (spec.reply_text machine.now number reply ++ 10 ∷ [])) }
+    ensures ok { OnOk result (block.new.whole
+        ≡ block.old.whole ++ (spec.reply_text machine.now number reply ++ 10 ∷ [])) }
     ensures err { OnErr result (block.new.whole ≡ block.old.whole) }
 {
     block.begin_line();
@@ -312,7 +311,8 @@ fn push_value(
     name: &[u8],
 ) -> Result<(), NoMemory>
     ensures kept { out.new.whole ≡ out.old.whole }
-    ensures ok { OnOk result (out.new.begun ≡ out.old.begun ++ (name.now ++ codes "=" ++ value_in machine.now channel name.now)) }
+    ensures ok { OnOk result (out.new.begun ≡ out.old.begun ++
+        (name.now ++ codes "=" ++ value_in machine.now channel name.now)) }
 {
     let value = machine.value(alloc, channel, name)?;
     out.push(name)?;
@@ -346,7 +346,8 @@ pub(crate) fn push_show_line(
     channel: u32,
     name: &[u8],
 ) -> Result<(), NoMemory>
-    ensures ok { OnOk result (block.new.whole ≡ block.old.whole ++ (spec.show_text machine.now channel name.now ++ 10 ∷ [])) }
+    ensures ok { OnOk result (block.new.whole
+        ≡ block.old.whole ++ (spec.show_text machine.now channel name.now ++ 10 ∷ [])) }
     ensures err { OnErr result (block.new.whole ≡ block.old.whole) }
 {
     block.begin_line();

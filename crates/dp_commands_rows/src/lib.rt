@@ -113,7 +113,7 @@ fn ending(
     Ok(out)
 }
 
-/// All that was written, and behind it what the command ended with.
+/// All that was written, and after it what the command ended with.
 fn outcome(
     alloc: Global,
     ended: Result<u8, PbxFault>,
@@ -138,7 +138,7 @@ pub fn told(
     Ok(out)
 }
 
-/// Whether a command has written these bytes, with what it ended with behind them. The bytes `of` name the case.
+/// Whether a command has written these bytes, with what it ended with after them. The bytes `of` name the case.
 fn check_outcome(of: &[u8], got: &[u8], want: &[u8]) -> Result<(), Fail> {
     if got == want {
         return Ok(());
@@ -163,7 +163,7 @@ pub struct Texts {
 }
 
 /// The texts of a run by three cells, of which the dialplan begins in `[main]`, and the last is the script, with a second dialplan
-/// behind a `¦`, where there is one.
+/// after a `¦`, where there is one.
 pub fn read_texts(
     alloc: Global,
     plan: &str,
@@ -182,7 +182,7 @@ pub fn read_texts(
     })
 }
 
-/// Whether a command writes these bytes into this writer, with what it ends with behind them.
+/// Whether a command writes these bytes into this writer, with what it ends with after them.
 pub fn check_into<C: Command>(
     alloc: Global,
     text: &[u8],
@@ -205,7 +205,7 @@ fn check_row<C: Command>(alloc: Global, asked: &str, want: &str) -> Result<(), F
     check_text::<C>(alloc, &text, &want)
 }
 
-/// Holds each row of a table: a text, an arrow, and all that the command writes with what it ends with behind it.
+/// Holds each row of a table: a text, an arrow, and all that the command writes with what it ends with after it.
 pub fn check_table<C: Command>(alloc: Global, table: &str) -> Result<(), Fail> {
     for line in table.lines() {
         match line.split_once('→') {

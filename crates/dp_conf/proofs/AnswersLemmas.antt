@@ -24,11 +24,6 @@ pub all_of-Ok : {X E : Type 0} (front xs : List X) (reading : Result (List X) E)
 all_of-Ok front xs reading readings e =
     ap (λ (r : Result (List _) _). with_front front (r >>= λ ys. with_front ys (all_of readings))) e ∙ with_front-with_front front xs (all_of readings)
 
--- a reading that gave a fault is the fault of the whole
-pub all_of-Err : {X E : Type 0} (front : List X) (fault : E) (reading : Result (List X) E) (readings : List (Result (List X) E)) → reading ≡ Err fault → with_front front (all_of (reading ∷ readings)) ≡ Err fault
-all_of-Err front fault reading readings e =
-    ap (λ (r : Result (List _) _). with_front front (r >>= λ ys. with_front ys (all_of readings))) e
-
 -- one more element is read with all the others before it
 pub each_after-push : {X Y : Type 0} (f : List X → X → Y) (before xs : List X) (x : X) → each_after f before (xs ++ x ∷ []) ≡ each_after f before xs ++ f (before ++ xs) x ∷ []
 each_after-push f before [] x = ap (λ (b : List _). f b x ∷ []) (sym (append-nil before))

@@ -26,23 +26,23 @@ pub cut_once-none : (byte : ℕ) (xs : List ℕ) → position_or_len (λ b. eqb 
 cut_once-none byte xs e = rw e (grind arith)
 
 -- where the byte first stands at a place, the text is cut there
-cut_once-found : (byte : ℕ) (xs : List ℕ) (at : ℕ) → at < length xs → position_or_len (λ b. eqb b byte) xs ≡ at → cut_once byte xs ≡ Some (take at xs, drop (at + 1) xs)
+pub cut_once-found : (byte : ℕ) (xs : List ℕ) (at : ℕ) → at < length xs → position_or_len (λ b. eqb b byte) xs ≡ at → cut_once byte xs ≡ Some (take at xs, drop (at + 1) xs)
 cut_once-found byte xs at l e = rw e (grind arith)
 
--- the same, with what stands behind the place as a range up to the end
+-- the same, with what stands after the place as a range up to the end
 pub cut_once-at : (byte : ℕ) (xs : List ℕ) (at : ℕ) → at < length xs → position_or_len (λ b. eqb b byte) xs ≡ at → cut_once byte xs ≡ Some (take at xs, take (length xs - (at + 1)) (drop (at + 1) xs))
 cut_once-at byte xs at l e =
     cut_once-found byte xs at l e
-    ∙ ap (λ (behind : List ℕ). Some (take at xs, behind)) (sym (take_all (length xs - (at + 1)) (drop (at + 1) xs) (omega (arith, length-drop (at + 1) xs))))
+    ∙ ap (λ (after : List ℕ). Some (take at xs, after)) (sym (take_all (length xs - (at + 1)) (drop (at + 1) xs) (omega (arith, length-drop (at + 1) xs))))
 
 -- what a text is cut into, by the test that the byte stands in it
 abbrev cut_by : ℕ → List ℕ → Bool → Option (List ℕ × List ℕ)
 cut_by byte xs t = cond {A = Option (List ℕ × List ℕ)} t (Some (before_first (λ b. eqb b byte) xs, after_first (λ b. eqb b byte) xs)) None
 
 -- what a found cut is
-same_cut : (before behind part rest : List ℕ) → (let cut : Option (List ℕ × List ℕ) = Some (before, behind) in cut ≡ Some (part, rest)) → (before ≡ part) × (behind ≡ rest)
-same_cut before behind part rest e =
-    let pair : (let p : List ℕ × List ℕ = (before, behind) in p ≡ (part, rest)) = cc in
+same_cut : (before after part rest : List ℕ) → (let cut : Option (List ℕ × List ℕ) = Some (before, after) in cut ≡ Some (part, rest)) → (before ≡ part) × (after ≡ rest)
+same_cut before after part rest e =
+    let pair : (let p : List ℕ × List ℕ = (before, after) in p ≡ (part, rest)) = cc in
     (ap (λ (p : List ℕ × List ℕ). p.0) pair, ap (λ (p : List ℕ × List ℕ). p.1) pair)
 
 -- where the byte stands in the text
@@ -53,8 +53,8 @@ parts_of-cut_by : (xs part rest : List ℕ) → (t : Bool) → ltb (place_of 10 
 parts_of-cut_by xs part rest true l e =
     let same = same_cut (before_first (λ b. eqb b 10) xs) (after_first (λ b. eqb b 10) xs) part rest e in
     let before = same.0 in
-    let behind = same.1 in
-    slice_split_first (λ b. eqb b 10) xs 0 (ltb-true _ _ l) ∙ (ap (λ (p : List ℕ). p ∷ parts_of (after_first (λ b. eqb b 10) xs)) before ∙ ap (λ (r : List ℕ). part ∷ parts_of r) behind)
+    let after = same.1 in
+    slice_split_first (λ b. eqb b 10) xs 0 (ltb-true _ _ l) ∙ (ap (λ (p : List ℕ). p ∷ parts_of (after_first (λ b. eqb b 10) xs)) before ∙ ap (λ (r : List ℕ). part ∷ parts_of r) after)
 parts_of-cut_by xs part rest false l e = cc
 
 -- where a line feed cuts the text, what stands before it is the first part
@@ -72,17 +72,17 @@ parts_of-whole xs e = parts_of-whole_by xs (ltb (place_of 10 xs) (length xs)) re
 
 length-cut_by : (byte : ℕ) (xs part rest : List ℕ) → (t : Bool) → ltb (place_of byte xs) (length xs) ≡ t → cut_by byte xs t ≡ Some (part, rest) → length rest < length xs
 length-cut_by byte xs part rest true l e =
-    let behind = (same_cut (before_first (λ b. eqb b byte) xs) (after_first (λ b. eqb b byte) xs) part rest e).1 in
+    let after = (same_cut (before_first (λ b. eqb b byte) xs) (after_first (λ b. eqb b byte) xs) part rest e).1 in
     let shorter = length-drop (place_of byte xs + 1) xs in
     let within = ltb-true _ _ l in
-    rw (← behind) (omega (arith, shorter, within))
+    rw (← after) (omega (arith, shorter, within))
 length-cut_by byte xs part rest false l e = absurd cc
 
--- what stands behind a cut is shorter
+-- what stands after a cut is shorter
 pub length-cut_once : (byte : ℕ) (xs part rest : List ℕ) → cut_once byte xs ≡ Some (part, rest) → length rest < length xs
 length-cut_once byte xs part rest e = length-cut_by byte xs part rest (ltb (place_of byte xs) (length xs)) refl e
 
--- a front of which a test is computed before or behind one more byte
+-- a front of which a test is computed before or after one more byte
 placed : (b : Bool) (f : ℕ) (front : List ℕ) (o other : Option (List ℕ))
     → option_map_or (λ before. Some (f ∷ before)) (cond b (Some front) o) other ≡ cond b (Some (f ∷ front)) (option_map_or (λ before. Some (f ∷ before)) o other)
 placed true f front o other = refl

@@ -14,7 +14,7 @@ escaped-part : (part rest : List ℕ) → Avoids 59 part → escaped (part ++ 59
 escaped-part [] rest avoids = refl
 escaped-part (b ∷ part) rest avoids = escaped-other b (part ++ 59 ∷ rest) avoids.0 ∙ ap (λ (text : List ℕ). b ∷ text) (escaped-part part rest avoids.1)
 
--- one part more, with the `;` behind it
+-- one part more, with the `;` after it
 pub escaped-more : (start out now left part rest whole : List ℕ) → out ++ escaped left ≡ start ++ escaped whole → now ≡ out ++ (part ++ 92 ∷ 59 ∷ []) → cut_once 59 left ≡ Some (part, rest) → now ++ escaped rest ≡ start ++ escaped whole
 escaped-more start out now left part rest whole so_far more cut =
     let is = cut_once-is 59 left part rest cut in

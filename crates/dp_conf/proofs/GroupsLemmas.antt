@@ -17,22 +17,22 @@ neither : {A : Type 0} (b : Bool) (x : A) → cond b x x ≡ x
 neither true x = refl
 neither false x = refl
 
--- an end behind a text opens nothing with it
-pub opening-closer : (kind : GroupKind) (byte : ℕ) (bytes behind : List ℕ) → opening byte (bytes ++ closer kind ∷ behind) ≡ opening byte bytes
-opening-closer Braces byte [] behind = neither (eqb byte 36) None
-opening-closer Brackets byte [] behind = neither (eqb byte 36) None
-opening-closer kind byte (b ∷ bytes) behind = refl
+-- an end after a text opens nothing with it
+pub opening-closer : (kind : GroupKind) (byte : ℕ) (bytes after : List ℕ) → opening byte (bytes ++ closer kind ∷ after) ≡ opening byte bytes
+opening-closer Braces byte [] after = neither (eqb byte 36) None
+opening-closer Brackets byte [] after = neither (eqb byte 36) None
+opening-closer kind byte (b ∷ bytes) after = refl
 
-opening-opener : (kind : GroupKind) (behind : List ℕ) → opening 36 (opener kind ∷ behind) ≡ Some kind
-opening-opener Braces behind = refl
-opening-opener Brackets behind = refl
+opening-opener : (kind : GroupKind) (after : List ℕ) → opening 36 (opener kind ∷ after) ≡ Some kind
+opening-opener Braces after = refl
+opening-opener Brackets after = refl
 
 -- the second byte of an opening opens nothing
-opener-opens_nothing : (kind : GroupKind) (behind : List ℕ) → opening (opener kind) behind ≡ None
+opener-opens_nothing : (kind : GroupKind) (after : List ℕ) → opening (opener kind) after ≡ None
 opener-opens_nothing Braces [] = refl
-opener-opens_nothing Braces (b ∷ behind) = refl
+opener-opens_nothing Braces (b ∷ after) = refl
 opener-opens_nothing Brackets [] = refl
-opener-opens_nothing Brackets (b ∷ behind) = refl
+opener-opens_nothing Brackets (b ∷ after) = refl
 
 opener-injective : (a b : GroupKind) → opener a ≡ opener b → a ≡ b
 opener-injective Braces Braces e = refl
@@ -46,10 +46,10 @@ opener-not_36 Brackets e = omega arith
 
 -- what a mark says of the place where it stands
 abbrev pub MarkSays : List GroupKind → ℕ → List ℕ → Mark → Type 0
-MarkSays [] byte behind End = ⊥
-MarkSays (kind ∷ kinds) byte behind End = byte ≡ closer kind
-MarkSays kinds byte behind (Opening kind) = (byte ≡ 36) × ((rest : List ℕ) × (behind ≡ opener kind ∷ rest))
-MarkSays kinds byte behind (Byte b) = (b ≡ byte) × (is_end kinds byte ≡ false) × (opening byte behind ≡ None)
+MarkSays [] byte after End = ⊥
+MarkSays (kind ∷ kinds) byte after End = byte ≡ closer kind
+MarkSays kinds byte after (Opening kind) = (byte ≡ 36) × ((rest : List ℕ) × (after ≡ opener kind ∷ rest))
+MarkSays kinds byte after (Byte b) = (b ≡ byte) × (is_end kinds byte ≡ false) × (opening byte after ≡ None)
 
 kind_of-says : (byte : ℕ) (kind : GroupKind) → kind_of byte ≡ Some kind → byte ≡ opener kind
 kind_of-says byte kind is =
@@ -64,26 +64,26 @@ kind_of-says byte kind is =
     ap (λ b. cond b (Some Brackets) None) (sym neither.0) ∙ ap (λ b. cond b (Some Braces) (cond (eqb byte 91) (Some Brackets) None)) (sym other.0) ∙ is in
     cc))
 
-opening-says : (byte : ℕ) (behind : List ℕ) (kind : GroupKind) → opening byte behind ≡ Some kind
-    → (byte ≡ 36) × ((rest : List ℕ) × (behind ≡ opener kind ∷ rest))
+opening-says : (byte : ℕ) (after : List ℕ) (kind : GroupKind) → opening byte after ≡ Some kind
+    → (byte ≡ 36) × ((rest : List ℕ) × (after ≡ opener kind ∷ rest))
 opening-says byte [] kind is = cc
-opening-says byte (next ∷ behind) kind is =
+opening-says byte (next ∷ after) kind is =
     by_test (eqb_tells byte 36)
-    (λ same. (same.1, (behind, ap (λ b. b ∷ behind) (kind_of-says next kind (ap (λ b. cond b (kind_of next) None) (sym same.0) ∙ is)))))
+    (λ same. (same.1, (after, ap (λ b. b ∷ after) (kind_of-says next kind (ap (λ b. cond b (kind_of next) None) (sym same.0) ∙ is)))))
     (λ other. let none : None ≡ Some kind = ap (λ b. cond b (kind_of next) None) (sym other.0) ∙ is in cc)
 
-mark_of-says : (kinds : List GroupKind) (byte : ℕ) (behind : List ℕ) (o : Option GroupKind) → opening byte behind ≡ o → is_end kinds byte ≡ false
-    → MarkSays kinds byte behind (mark_of o byte)
-mark_of-says kinds byte behind None none other = (refl, other, none)
-mark_of-says kinds byte behind (Some kind) is other = opening-says byte behind kind is
+mark_of-says : (kinds : List GroupKind) (byte : ℕ) (after : List ℕ) (o : Option GroupKind) → opening byte after ≡ o → is_end kinds byte ≡ false
+    → MarkSays kinds byte after (mark_of o byte)
+mark_of-says kinds byte after None none other = (refl, other, none)
+mark_of-says kinds byte after (Some kind) is other = opening-says byte after kind is
 
-pub mark_says : (kinds : List GroupKind) (byte : ℕ) (behind : List ℕ) → MarkSays kinds byte behind (mark_at kinds byte behind)
-mark_says [] byte behind = mark_of-says [] byte behind (opening byte behind) refl refl
-mark_says (kind ∷ kinds) byte behind =
+pub mark_says : (kinds : List GroupKind) (byte : ℕ) (after : List ℕ) → MarkSays kinds byte after (mark_at kinds byte after)
+mark_says [] byte after = mark_of-says [] byte after (opening byte after) refl refl
+mark_says (kind ∷ kinds) byte after =
     by_test (eqb_tells byte (closer kind))
-    (λ same. subst (λ b. MarkSays (kind ∷ kinds) byte behind (cond b End (mark_of (opening byte behind) byte))) (sym same.0) same.1)
-    (λ other. subst (λ b. MarkSays (kind ∷ kinds) byte behind (cond b End (mark_of (opening byte behind) byte))) (sym other.0)
-    (mark_of-says (kind ∷ kinds) byte behind (opening byte behind) refl other.0))
+    (λ same. subst (λ b. MarkSays (kind ∷ kinds) byte after (cond b End (mark_of (opening byte after) byte))) (sym same.0) same.1)
+    (λ other. subst (λ b. MarkSays (kind ∷ kinds) byte after (cond b End (mark_of (opening byte after) byte))) (sym other.0)
+    (mark_of-says (kind ∷ kinds) byte after (opening byte after) refl other.0))
 
 -- ---- what the levels of a text print
 
@@ -113,62 +113,62 @@ pub levels-printed : (bytes : List ℕ) (kinds : List GroupKind) (skipped : ℕ)
 unfolding levels printed
 levels-printed [] kinds zero = refl
 levels-printed [] kinds (suc skipped) = refl
-levels-printed (byte ∷ behind) kinds (suc skipped) = levels-printed behind kinds skipped
-levels-printed (byte ∷ behind) kinds zero = by kinds (mark_at kinds byte behind) (mark_says kinds byte behind) (levels-printed behind)
+levels-printed (byte ∷ after) kinds (suc skipped) = levels-printed after kinds skipped
+levels-printed (byte ∷ after) kinds zero = by kinds (mark_at kinds byte after) (mark_says kinds byte after) (levels-printed after)
   where
-    by : (kinds : List GroupKind) (m : Mark) → MarkSays kinds byte behind m
-        → ((ks : List GroupKind) (n : ℕ) → printed_levels ks (levels behind ks n) ≡ drop n behind)
-        → printed_levels kinds (with_mark m (levels behind) 1 kinds) ≡ byte ∷ behind
+    by : (kinds : List GroupKind) (m : Mark) → MarkSays kinds byte after m
+        → ((ks : List GroupKind) (n : ℕ) → printed_levels ks (levels after ks n) ≡ drop n after)
+        → printed_levels kinds (with_mark m (levels after) 1 kinds) ≡ byte ∷ after
     by [] End says rest = absurd says
     by (kind ∷ kinds) End says rest = λ i. sym says i ∷ rest kinds 0 i
     by kinds (Opening kind) says rest =
-        with_opening-printed kinds kind (levels behind (kind ∷ kinds) 1)
+        with_opening-printed kinds kind (levels after (kind ∷ kinds) 1)
         ∙ ap (λ bytes. 36 ∷ opener kind ∷ bytes) (rest (kind ∷ kinds) 1 ∙ ap (drop 1) says.1.1)
         ∙ (λ i. sym says.0 i ∷ sym says.1.1 i)
-    by kinds (Byte b) says rest = with_byte-printed kinds b (levels behind kinds 0) ∙ (λ i. says.0 i ∷ rest kinds 0 i)
+    by kinds (Byte b) says rest = with_byte-printed kinds b (levels after kinds 0) ∙ (λ i. says.0 i ∷ rest kinds 0 i)
 
 -- ---- what stands before an end is read as it is printed
 
-mark_at-end : (kind : GroupKind) (kinds : List GroupKind) (behind : List ℕ) → mark_at (kind ∷ kinds) (closer kind) behind ≡ End
-mark_at-end Braces kinds behind = refl
-mark_at-end Brackets kinds behind = refl
+mark_at-end : (kind : GroupKind) (kinds : List GroupKind) (after : List ℕ) → mark_at (kind ∷ kinds) (closer kind) after ≡ End
+mark_at-end Braces kinds after = refl
+mark_at-end Brackets kinds after = refl
 
-mark_at-opening : (kind : GroupKind) (kinds : List GroupKind) (behind : List ℕ) → mark_at kinds 36 (opener kind ∷ behind) ≡ Opening kind
-mark_at-opening kind [] behind = ap (λ o. mark_of o 36) (opening-opener kind behind)
-mark_at-opening kind (Braces ∷ kinds) behind = ap (λ o. mark_of o 36) (opening-opener kind behind)
-mark_at-opening kind (Brackets ∷ kinds) behind = ap (λ o. mark_of o 36) (opening-opener kind behind)
+mark_at-opening : (kind : GroupKind) (kinds : List GroupKind) (after : List ℕ) → mark_at kinds 36 (opener kind ∷ after) ≡ Opening kind
+mark_at-opening kind [] after = ap (λ o. mark_of o 36) (opening-opener kind after)
+mark_at-opening kind (Braces ∷ kinds) after = ap (λ o. mark_of o 36) (opening-opener kind after)
+mark_at-opening kind (Brackets ∷ kinds) after = ap (λ o. mark_of o 36) (opening-opener kind after)
 
-mark_at-byte : (kind : GroupKind) (kinds : List GroupKind) (byte : ℕ) (behind : List ℕ) → byte ≢ closer kind → opening byte behind ≡ None
-    → mark_at (kind ∷ kinds) byte behind ≡ Byte byte
-mark_at-byte kind kinds byte behind other none =
+mark_at-byte : (kind : GroupKind) (kinds : List GroupKind) (byte : ℕ) (after : List ℕ) → byte ≢ closer kind → opening byte after ≡ None
+    → mark_at (kind ∷ kinds) byte after ≡ Byte byte
+mark_at-byte kind kinds byte after other none =
     by_test (eqb_tells byte (closer kind)) (λ same. absurd (other same.1))
-    (λ apart. ap (λ b. cond b End (mark_of (opening byte behind) byte)) apart.0 ∙ ap (λ o. mark_of o byte) none)
+    (λ apart. ap (λ b. cond b End (mark_of (opening byte after) byte)) apart.0 ∙ ap (λ o. mark_of o byte) none)
 
 -- a body and the end of its group
-pub levels-body : (kind : GroupKind) (inside : Reading) → IsBody kind inside → (kinds : List GroupKind) (behind : List ℕ)
-    → levels (printed inside ++ closer kind ∷ behind) (kind ∷ kinds) 0 ≡ Within inside (levels behind kinds 0)
+pub levels-body : (kind : GroupKind) (inside : Reading) → IsBody kind inside → (kinds : List GroupKind) (after : List ℕ)
+    → levels (printed inside ++ closer kind ∷ after) (kind ∷ kinds) 0 ≡ Within inside (levels after kinds 0)
 unfolding levels printed IsBody
-levels-body kind Over body kinds behind =
-    ap (λ m. with_mark m (levels behind) 1 (kind ∷ kinds)) (mark_at-end kind kinds behind)
-levels-body kind (Plain byte rest) body kinds behind =
-    ap (λ m. with_mark m (levels (printed rest ++ closer kind ∷ behind)) 1 (kind ∷ kinds))
-    (mark_at-byte kind kinds byte (printed rest ++ closer kind ∷ behind) body.0 (opening-closer kind byte (printed rest) behind ∙ body.1))
-    ∙ ap (with_byte byte) (levels-body kind rest body.2 kinds behind)
-levels-body kind (Group inner inside rest) body kinds behind =
-    ap (λ m. with_mark m (levels (opener inner ∷ ((printed inside ++ closer inner ∷ printed rest) ++ closer kind ∷ behind))) 1 (kind ∷ kinds))
-    (mark_at-opening inner (kind ∷ kinds) ((printed inside ++ closer inner ∷ printed rest) ++ closer kind ∷ behind))
-    ∙ ap (λ bytes. with_opening inner (levels bytes (inner ∷ kind ∷ kinds) 0)) (append_assoc (printed inside) (closer inner ∷ printed rest) (closer kind ∷ behind))
-    ∙ ap (with_opening inner) (levels-body inner inside body.0 (kind ∷ kinds) (printed rest ++ closer kind ∷ behind))
-    ∙ ap (λ l. with_opening inner (Within inside l)) (levels-body kind rest body.1 kinds behind)
+levels-body kind Over body kinds after =
+    ap (λ m. with_mark m (levels after) 1 (kind ∷ kinds)) (mark_at-end kind kinds after)
+levels-body kind (Plain byte rest) body kinds after =
+    ap (λ m. with_mark m (levels (printed rest ++ closer kind ∷ after)) 1 (kind ∷ kinds))
+    (mark_at-byte kind kinds byte (printed rest ++ closer kind ∷ after) body.0 (opening-closer kind byte (printed rest) after ∙ body.1))
+    ∙ ap (with_byte byte) (levels-body kind rest body.2 kinds after)
+levels-body kind (Group inner inside rest) body kinds after =
+    ap (λ m. with_mark m (levels (opener inner ∷ ((printed inside ++ closer inner ∷ printed rest) ++ closer kind ∷ after))) 1 (kind ∷ kinds))
+    (mark_at-opening inner (kind ∷ kinds) ((printed inside ++ closer inner ∷ printed rest) ++ closer kind ∷ after))
+    ∙ ap (λ bytes. with_opening inner (levels bytes (inner ∷ kind ∷ kinds) 0)) (append_assoc (printed inside) (closer inner ∷ printed rest) (closer kind ∷ after))
+    ∙ ap (with_opening inner) (levels-body inner inside body.0 (kind ∷ kinds) (printed rest ++ closer kind ∷ after))
+    ∙ ap (λ l. with_opening inner (Within inside l)) (levels-body kind rest body.1 kinds after)
 
 -- a group
-pub levels-group : (kind : GroupKind) (inside : Reading) → IsBody kind inside → (kinds : List GroupKind) (behind : List ℕ)
-    → levels (36 ∷ opener kind ∷ (printed inside ++ closer kind ∷ behind)) kinds 0 ≡ with_opening kind (Within inside (levels behind kinds 0))
+pub levels-group : (kind : GroupKind) (inside : Reading) → IsBody kind inside → (kinds : List GroupKind) (after : List ℕ)
+    → levels (36 ∷ opener kind ∷ (printed inside ++ closer kind ∷ after)) kinds 0 ≡ with_opening kind (Within inside (levels after kinds 0))
 unfolding levels
-levels-group kind inside body kinds behind =
-    ap (λ m. with_mark m (levels (opener kind ∷ (printed inside ++ closer kind ∷ behind))) 1 kinds)
-    (mark_at-opening kind kinds (printed inside ++ closer kind ∷ behind))
-    ∙ ap (with_opening kind) (levels-body kind inside body kinds behind)
+levels-group kind inside body kinds after =
+    ap (λ m. with_mark m (levels (opener kind ∷ (printed inside ++ closer kind ∷ after))) 1 kinds)
+    (mark_at-opening kind kinds (printed inside ++ closer kind ∷ after))
+    ∙ ap (with_opening kind) (levels-body kind inside body kinds after)
 
 -- ---- the levels of a text are read as groups and bytes
 
@@ -180,9 +180,9 @@ AreValid (kind ∷ kinds) (Within rest outer) = IsBody kind rest × AreValid kin
 
 begins_none : (byte : ℕ) (bytes : List ℕ) → opening byte bytes ≡ None → ¬ (BeginsGroup (byte ∷ bytes))
 begins_none byte bytes none group =
-    let same : (byte ≡ 36) × (bytes ≡ opener group.kind ∷ (printed group.inside ++ closer group.kind ∷ group.behind)) =
+    let same : (byte ≡ 36) × (bytes ≡ opener group.kind ∷ (printed group.inside ++ closer group.kind ∷ group.after)) =
     let is = group.text_is in (cc, cc) in
-    let opens : None ≡ Some group.kind = sym none ∙ (λ i. opening (same.0 i) (same.1 i)) ∙ opening-opener group.kind (printed group.inside ++ closer group.kind ∷ group.behind) in
+    let opens : None ≡ Some group.kind = sym none ∙ (λ i. opening (same.0 i) (same.1 i)) ∙ opening-opener group.kind (printed group.inside ++ closer group.kind ∷ group.after) in
     cc
 
 with_byte-valid : (kinds : List GroupKind) (byte : ℕ) (l : Levels) → is_end kinds byte ≡ false → opening byte (printed_levels kinds l) ≡ None
@@ -205,12 +205,12 @@ unclosed : (kinds : List GroupKind) (kind : GroupKind) (rest : Reading) → leve
 unclosed kinds kind rest open_end group =
     let is = group.text_is in
     let kind_is : opener kind ≡ opener group.kind = cc in
-    let rest_is : printed rest ≡ printed group.inside ++ closer group.kind ∷ group.behind = cc in
+    let rest_is : printed rest ≡ printed group.inside ++ closer group.kind ∷ group.after = cc in
     let same : group.kind ≡ kind = sym (opener-injective kind group.kind kind_is) in
-    let closed : levels (printed rest) (kind ∷ kinds) 0 ≡ Within group.inside (levels group.behind kinds 0) =
+    let closed : levels (printed rest) (kind ∷ kinds) 0 ≡ Within group.inside (levels group.after kinds 0) =
     ap (λ k. levels (printed rest) (k ∷ kinds) 0) (sym same) ∙ ap (λ bytes. levels bytes (group.kind ∷ kinds) 0) rest_is
-    ∙ levels-body group.kind group.inside group.body kinds group.behind in
-    let both : Last rest ≡ Within group.inside (levels group.behind kinds 0) = sym open_end ∙ closed in
+    ∙ levels-body group.kind group.inside group.body kinds group.after in
+    let both : Last rest ≡ Within group.inside (levels group.after kinds 0) = sym open_end ∙ closed in
     cc
 
 with_opening-valid : (kinds : List GroupKind) (kind : GroupKind) (rest : List ℕ) (l : Levels) → levels rest (kind ∷ kinds) 0 ≡ l
@@ -228,18 +228,18 @@ with_opening-valid (k ∷ kinds) kind rest (Within inside (Within reading outer)
 pub levels-valid : (bytes : List ℕ) (kinds : List GroupKind) (skipped : ℕ) → AreValid kinds (levels bytes kinds skipped)
 unfolding levels IsWhole IsBody
 levels-valid [] kinds skipped = tt
-levels-valid (byte ∷ behind) kinds (suc skipped) = levels-valid behind kinds skipped
-levels-valid (byte ∷ behind) kinds zero = by kinds (mark_at kinds byte behind) (mark_says kinds byte behind) (levels-valid behind)
+levels-valid (byte ∷ after) kinds (suc skipped) = levels-valid after kinds skipped
+levels-valid (byte ∷ after) kinds zero = by kinds (mark_at kinds byte after) (mark_says kinds byte after) (levels-valid after)
   where
-    by : (kinds : List GroupKind) (m : Mark) → MarkSays kinds byte behind m
-        → ((ks : List GroupKind) (n : ℕ) → AreValid ks (levels behind ks n)) → AreValid kinds (with_mark m (levels behind) 1 kinds)
+    by : (kinds : List GroupKind) (m : Mark) → MarkSays kinds byte after m
+        → ((ks : List GroupKind) (n : ℕ) → AreValid ks (levels after ks n)) → AreValid kinds (with_mark m (levels after) 1 kinds)
     by [] End says rest = absurd says
     by (kind ∷ kinds) End says rest = (tt, rest kinds 0)
     by kinds (Opening kind) says rest =
-        with_opening-valid kinds kind says.1.0 (levels behind (kind ∷ kinds) 1) (ap (λ bytes. levels bytes (kind ∷ kinds) 1) (sym says.1.1)) (rest (kind ∷ kinds) 1)
+        with_opening-valid kinds kind says.1.0 (levels after (kind ∷ kinds) 1) (ap (λ bytes. levels bytes (kind ∷ kinds) 1) (sym says.1.1)) (rest (kind ∷ kinds) 1)
     by kinds (Byte b) says rest =
-        with_byte-valid kinds b (levels behind kinds 0) (ap (is_end kinds) says.0 ∙ says.1)
-        ((λ i. opening (says.0 i) (levels-printed behind kinds 0 i)) ∙ says.2) (rest kinds 0)
+        with_byte-valid kinds b (levels after kinds 0) (ap (is_end kinds) says.0 ∙ says.1)
+        ((λ i. opening (says.0 i) (levels-printed after kinds 0 i)) ∙ says.2) (rest kinds 0)
 
 -- ---- no other reading of a text is one
 
@@ -257,19 +257,19 @@ only-Group kind inside rest body only kinds last is =
         let inner : Group kind inside reading ≡ last = cc in sym inner ∙ ap (Group kind inside) (only kinds reading e)
     by (Within reading outer) e same = cc
 
--- what is read behind the first byte, where the second byte opens a group with it
+-- what is read after the first byte, where the second byte opens a group with it
 NextOnly : Reading → Type 0
 NextOnly Over = Unit {0}
 NextOnly (Plain byte rest) = IsOnly rest
 NextOnly (Group kind inside rest) = Unit {0}
 
-second-Plain : (r : Reading) (kind : GroupKind) (kinds : List GroupKind) (behind : List ℕ) (last : Reading) → printed r ≡ opener kind ∷ behind
+second-Plain : (r : Reading) (kind : GroupKind) (kinds : List GroupKind) (after : List ℕ) (last : Reading) → printed r ≡ opener kind ∷ after
     → NextOnly r → levels (printed r) (kind ∷ kinds) 1 ≡ Last last → Plain (opener kind) last ≡ r
 unfolding printed levels NextOnly
-second-Plain Over kind kinds behind last text next is = cc
-second-Plain (Plain byte rest) kind kinds behind last text next is =
+second-Plain Over kind kinds after last text next is = cc
+second-Plain (Plain byte rest) kind kinds after last text next is =
     let same : opener kind ≡ byte = cc in λ i. Plain (same i) (next (kind ∷ kinds) last is i)
-second-Plain (Group k inside rest) kind kinds behind last text next is =
+second-Plain (Group k inside rest) kind kinds after last text next is =
     let same : 36 ≡ opener kind = cc in absurd (opener-not_36 kind (sym same))
 
 only-Plain : (byte : ℕ) (rest : Reading) → ¬ (BeginsGroup (byte ∷ printed rest)) → IsOnly rest → NextOnly rest → IsOnly (Plain byte rest)
@@ -282,19 +282,19 @@ only-Plain byte rest plain only next kinds last is =
         let inner : Plain b reading ≡ last = cc in sym inner ∙ (λ i. Plain (same i) (only kinds reading e i))
     same_byte kinds b (Within reading outer) same e is = cc
 
-    opened : (kinds : List GroupKind) (kind : GroupKind) (behind : List ℕ) (l : Levels) → byte ≡ 36 → printed rest ≡ opener kind ∷ behind
+    opened : (kinds : List GroupKind) (kind : GroupKind) (after : List ℕ) (l : Levels) → byte ≡ 36 → printed rest ≡ opener kind ∷ after
         → levels (printed rest) (kind ∷ kinds) 1 ≡ l → with_opening kind l ≡ Last last → last ≡ Plain byte rest
-    opened kinds kind behind (Last reading) first text e is =
+    opened kinds kind after (Last reading) first text e is =
         let inner : Plain 36 (Plain (opener kind) reading) ≡ last = cc in
-        sym inner ∙ (λ i. Plain (sym first i) (second-Plain rest kind kinds behind reading text next e i))
-    opened kinds kind behind (Within inside outer) first text e is =
+        sym inner ∙ (λ i. Plain (sym first i) (second-Plain rest kind kinds after reading text next e i))
+    opened kinds kind after (Within inside outer) first text e is =
         let valid : AreValid (kind ∷ kinds) (Within inside outer) = subst (AreValid (kind ∷ kinds)) e (levels-valid (printed rest) (kind ∷ kinds) 1) in
-        let shown : printed inside ++ closer kind ∷ printed_levels kinds outer ≡ behind =
+        let shown : printed inside ++ closer kind ∷ printed_levels kinds outer ≡ after =
         ap (printed_levels (kind ∷ kinds)) (sym e) ∙ levels-printed (printed rest) (kind ∷ kinds) 1 ∙ ap (drop 1) text in
         absurd (plain (record {
           kind = kind;
           inside = inside;
-          behind = printed_levels kinds outer;
+          after = printed_levels kinds outer;
           body = valid.0;
           text_is = (λ i. first i ∷ text i) ∙ ap (λ bytes. 36 ∷ opener kind ∷ bytes) (sym shown);
         }))
@@ -333,15 +333,15 @@ with_opening-closings kind (Within inside (Within rest outer)) n few = omega ari
 levels-closings : (bytes : List ℕ) (kinds : List GroupKind) (skipped : ℕ) → closings (levels bytes kinds skipped) ≤ length kinds
 unfolding levels closings
 levels-closings [] kinds skipped = omega arith
-levels-closings (byte ∷ behind) kinds (suc skipped) = levels-closings behind kinds skipped
-levels-closings (byte ∷ behind) kinds zero = by kinds (mark_at kinds byte behind) (mark_says kinds byte behind) (levels-closings behind)
+levels-closings (byte ∷ after) kinds (suc skipped) = levels-closings after kinds skipped
+levels-closings (byte ∷ after) kinds zero = by kinds (mark_at kinds byte after) (mark_says kinds byte after) (levels-closings after)
   where
-    by : (kinds : List GroupKind) (m : Mark) → MarkSays kinds byte behind m
-        → ((ks : List GroupKind) (n : ℕ) → closings (levels behind ks n) ≤ length ks) → closings (with_mark m (levels behind) 1 kinds) ≤ length kinds
+    by : (kinds : List GroupKind) (m : Mark) → MarkSays kinds byte after m
+        → ((ks : List GroupKind) (n : ℕ) → closings (levels after ks n) ≤ length ks) → closings (with_mark m (levels after) 1 kinds) ≤ length kinds
     by [] End says rest = absurd says
     by (kind ∷ kinds) End says rest = omega (arith, rest kinds 0)
-    by kinds (Opening kind) says rest = with_opening-closings kind (levels behind (kind ∷ kinds) 1) (length kinds) (rest (kind ∷ kinds) 1)
-    by kinds (Byte b) says rest = omega (arith, with_byte-closings b (levels behind kinds 0), rest kinds 0)
+    by kinds (Opening kind) says rest = with_opening-closings kind (levels after (kind ∷ kinds) 1) (length kinds) (rest (kind ∷ kinds) 1)
+    by kinds (Byte b) says rest = omega (arith, with_byte-closings b (levels after kinds 0), rest kinds 0)
 
 -- outside of groups nothing ends
 pub levels-last : (bytes : List ℕ) → levels bytes [] 0 ≡ Last (reading_of bytes)
@@ -368,36 +368,36 @@ one_reading text reading = (
 
 -- ---- the first mark of a text
 
-mark_at-innermost : (kinds : List GroupKind) (innermost : Option GroupKind) (byte : ℕ) (behind : List ℕ) → first_of kinds ≡ innermost
-    → mark_at kinds byte behind ≡ cond (is_end_of innermost byte) End (mark_of (opening byte behind) byte)
-mark_at-innermost [] innermost byte behind first = ap (λ o. cond (is_end_of o byte) End (mark_of (opening byte behind) byte)) first
-mark_at-innermost (kind ∷ kinds) innermost byte behind first = ap (λ o. cond (is_end_of o byte) End (mark_of (opening byte behind) byte)) first
+mark_at-innermost : (kinds : List GroupKind) (innermost : Option GroupKind) (byte : ℕ) (after : List ℕ) → first_of kinds ≡ innermost
+    → mark_at kinds byte after ≡ cond (is_end_of innermost byte) End (mark_of (opening byte after) byte)
+mark_at-innermost [] innermost byte after first = ap (λ o. cond (is_end_of o byte) End (mark_of (opening byte after) byte)) first
+mark_at-innermost (kind ∷ kinds) innermost byte after first = ap (λ o. cond (is_end_of o byte) End (mark_of (opening byte after) byte)) first
 
-module _ (innermost : Option GroupKind) (text : List ℕ) (byte : ℕ) (behind : List ℕ) (text_is : text ≡ byte ∷ behind) where
+module _ (innermost : Option GroupKind) (text : List ℕ) (byte : ℕ) (after : List ℕ) (text_is : text ≡ byte ∷ after) where
   levels-mark : (kinds : List GroupKind) (m : Mark) → first_of kinds ≡ innermost
-      → cond (is_end_of innermost byte) End (mark_of (opening byte behind) byte) ≡ m → levels text kinds 0 ≡ with_mark m (levels behind) 1 kinds
+      → cond (is_end_of innermost byte) End (mark_of (opening byte after) byte) ≡ m → levels text kinds 0 ≡ with_mark m (levels after) 1 kinds
   unfolding levels
   levels-mark kinds m first is =
       ap (λ bytes. levels bytes kinds 0) text_is
-      ∙ ap (λ mark. with_mark mark (levels behind) 1 kinds) (mark_at-innermost kinds innermost byte behind first ∙ is)
+      ∙ ap (λ mark. with_mark mark (levels after) 1 kinds) (mark_at-innermost kinds innermost byte after first ∙ is)
 
-  pub marked_end : true ≡ is_end_of innermost byte → IsMarked innermost text End behind
+  pub marked_end : true ≡ is_end_of innermost byte → IsMarked innermost text End after
   marked_end ends kinds first =
-      levels-mark kinds End first (ap (λ b. cond b End (mark_of (opening byte behind) byte)) (sym ends))
+      levels-mark kinds End first (ap (λ b. cond b End (mark_of (opening byte after) byte)) (sym ends))
 
-  pub marked_byte : false ≡ is_end_of innermost byte → None ≡ opening byte behind → IsMarked innermost text (Byte byte) behind
+  pub marked_byte : false ≡ is_end_of innermost byte → None ≡ opening byte after → IsMarked innermost text (Byte byte) after
   marked_byte plain none kinds first =
       levels-mark kinds (Byte byte) first
-      (ap (λ b. cond b End (mark_of (opening byte behind) byte)) (sym plain) ∙ ap (λ o. mark_of o byte) (sym none))
+      (ap (λ b. cond b End (mark_of (opening byte after) byte)) (sym plain) ∙ ap (λ o. mark_of o byte) (sym none))
 
   skipped_one : (bytes : List ℕ) (kinds : List GroupKind) → levels bytes kinds 1 ≡ levels (drop 1 bytes) kinds 0
   unfolding levels
   skipped_one [] kinds = refl
   skipped_one (b ∷ bytes) kinds = refl
 
-  pub marked_opening : (kind : GroupKind) (rest : List ℕ) → false ≡ is_end_of innermost byte → Some kind ≡ opening byte behind → rest ≡ drop 1 behind
+  pub marked_opening : (kind : GroupKind) (rest : List ℕ) → false ≡ is_end_of innermost byte → Some kind ≡ opening byte after → rest ≡ drop 1 after
       → IsMarked innermost text (Opening kind) rest
   marked_opening kind rest plain some rest_is kinds first =
       levels-mark kinds (Opening kind) first
-      (ap (λ b. cond b End (mark_of (opening byte behind) byte)) (sym plain) ∙ ap (λ o. mark_of o byte) (sym some))
-      ∙ ap (with_opening kind) (skipped_one behind (kind ∷ kinds) ∙ ap (λ bytes. levels bytes (kind ∷ kinds) 0) (sym rest_is))
+      (ap (λ b. cond b End (mark_of (opening byte after) byte)) (sym plain) ∙ ap (λ o. mark_of o byte) (sym some))
+      ∙ ap (with_opening kind) (skipped_one after (kind ∷ kinds) ∙ ap (λ bytes. levels bytes (kind ∷ kinds) 0) (sym rest_is))

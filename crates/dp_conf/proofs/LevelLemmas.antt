@@ -34,7 +34,7 @@ split_after-plain front x rest e =
     ap (λ t. onto_front front (cond t ([] ∷ split_after parts_arguments (front ++ x ∷ []) rest) (onto_first x (split_after parts_arguments (front ++ x ∷ []) rest)))) e
     ∙ onto_front-onto_first front x (split_after parts_arguments (front ++ x ∷ []) rest)
 
--- behind a comma of level 0 the text goes on as if it began there
+-- after a comma of level 0 the text goes on as if it began there
 pub split_after-comma : (front rest : List ℕ) → level_of front ≡ 0 → onto_front front (split_after parts_arguments front (44 ∷ rest)) ≡ front ∷ split_after parts_arguments [] rest
 split_after-comma front rest e =
     let level : level_of (front ++ 44 ∷ []) ≡ 0 = level_of-push front 44 ∙ ap (λ n. next_level n 44) e in
@@ -56,11 +56,6 @@ onto_front-split_after before (x ∷ xs) = onto_front-nil x (parts_arguments bef
 abbrev pub parts_left : Option (Bor (List ℕ)) → List (List ℕ)
 parts_left None = []
 parts_left (Some rest) = parts_of rest.now
-
--- a number that falls as the text is cut
-abbrev pub left_len : Option (Bor (List ℕ)) → ℕ
-left_len None = 0
-left_len (Some rest) = length rest.now + 1
 
 -- what is left from a place on begins with the byte there
 pub drop-byte : (text : List ℕ) (at byte : ℕ) → at < length text → get_or text at 0 ≡ byte → drop at text ≡ byte ∷ drop (at + 1) text

@@ -1,11 +1,13 @@
 pub mod AnswersLemmas
 mod CutLemmas
+pub mod ChangesLemmas
 pub mod EscapeLemmas
 mod EscapeParts
 mod LevelLemmas
 pub mod LinesKnown
 pub mod LinesLemmas
 mod Rows
+pub mod TakingLemmas
 pub mod ToldLemmas
 mod TrimLemmas
 pub mod GroupsLemmas

@@ -5,11 +5,9 @@ use Rattle.std.specs.Str.{byte}
 use Rattle.dp_conf.specs.Answers.{◌>>=◌, with_front, all_of, each_after}
 use Rattle.dp_conf.specs.Blanks.{is_blank, trim, trim_start, trim_end}
 use Rattle.dp_conf.specs.Cut.{cut_once}
-use Rattle.dp_conf.specs.Lines.{byte_order_mark, without_mark, line_feed, parts_of, comment_start, comment_of, opens_block, unescaped, content_of, header_by, header_of, behind_sign, pair_of, item_of, part_item, opens_section, at_line, reading_of, lines_of}
+use Rattle.dp_conf.specs.Lines.{LineOf, Header, Pair, byte_order_mark, without_mark, line_feed, parts_of, comment_start, comment_of, opens_block, unescaped, content_of, header_by, header_of, after_sign, pair_of, item_of, part_item, opens_section, at_line, reading_of, lines_of}
 use Rattle.dp_conf.specs.declared.fault.LineKind.{LineKind}
 use Rattle.dp_conf.specs.declared.fault.LineKind.TheVariants.{BlockComment, NoSection, Directive}
-use Rattle.dp_conf.specs.declared.lines.ConfLine.{ConfLine}
-use Rattle.dp_conf.specs.declared.lines.ConfLine.TheVariants.{Header, Pair}
 use Rattle.dp_conf.proofs.TextLemmas.{each-append, each-take, each-drop, each-trim, Avoids, cut_once-is, each-cut_front, each-cut_rest, IsTrimmed, trimmed-trim, trim_start-firm, before_kept-firm}
 
 -- a byte of a line
@@ -42,7 +40,7 @@ pub record IsPair (key value : List ℕ) : Type 0 where
   pub value_trimmed : IsTrimmed value
   pub value_bytes : AreLineBytes value
 
-abbrev pub IsKnownLine : ConfLine → Type 0
+abbrev pub IsKnownLine : LineOf → Type 0
 IsKnownLine (Header line name) = IsHeader name
 IsKnownLine (Pair line key value) = IsPair key value
 
@@ -82,14 +80,14 @@ content_of-bytes part bytes =
 
 -- ---- one line
 
-header_by-known : (line : ℕ) (name behind : List ℕ) (items : List ConfLine) → IsTrimmed name → Avoids 93 name → AreLineBytes name → header_by line name behind ≡ Ok items → AllByRecursion IsKnownLine items
-header_by-known line [] behind items trimmed avoids bytes e = absurd cc
-header_by-known line (n ∷ name) (b ∷ behind) items trimmed avoids bytes e = absurd cc
+header_by-known : (line : ℕ) (name after : List ℕ) (items : List LineOf) → IsTrimmed name → Avoids 93 name → AreLineBytes name → header_by line name after ≡ Ok items → AllByRecursion IsKnownLine items
+header_by-known line [] after items trimmed avoids bytes e = absurd cc
+header_by-known line (n ∷ name) (b ∷ after) items trimmed avoids bytes e = absurd cc
 header_by-known line (n ∷ name) [] items trimmed avoids bytes e =
     let same : Header line (n ∷ name) ∷ [] ≡ items = cc in
     subst (AllByRecursion IsKnownLine) same (record { first = n; rest = name; is = refl; trimmed = trimmed; no_end = avoids; bytes = bytes }, tt)
 
-header_of-known : (line : ℕ) (text : List ℕ) (cut : Option (List ℕ × List ℕ)) (items : List ConfLine) → AreLineBytes text → cut_once 93 text ≡ cut → header_of line cut ≡ Ok items → AllByRecursion IsKnownLine items
+header_of-known : (line : ℕ) (text : List ℕ) (cut : Option (List ℕ × List ℕ)) (items : List LineOf) → AreLineBytes text → cut_once 93 text ≡ cut → header_of line cut ≡ Ok items → AllByRecursion IsKnownLine items
 header_of-known line text None items bytes c e = absurd cc
 header_of-known line text (Some cut) items bytes c e =
     let is = cut_once-is 93 text cut.0 cut.1 c in
@@ -103,32 +101,32 @@ begins_pair b bs (d ∷ front) rest header directive firm e =
     subst BeginsPair (sym (ap trim_end (trim_start-firm (d ∷ front) firm_d) ∙ before_kept-firm d (trim_end front) firm_d))
     (subst (λ c. (c == 91) ≡ false) same header, subst (λ c. (c == 35) ≡ false) same directive)
 
-behind_sign-bytes : (text : List ℕ) → AreLineBytes text → AreLineBytes (behind_sign text)
-behind_sign-bytes [] bytes = tt
-behind_sign-bytes (b ∷ text) bytes = by (b == byte ">")
+after_sign-bytes : (text : List ℕ) → AreLineBytes text → AreLineBytes (after_sign text)
+after_sign-bytes [] bytes = tt
+after_sign-bytes (b ∷ text) bytes = by (b == byte ">")
   where
     by : (t : Bool) → AreLineBytes (cond t text (b ∷ text))
     by true = bytes.1
     by false = bytes
 
-pair_of-known : (line b : ℕ) (bs : List ℕ) (cut : Option (List ℕ × List ℕ)) (items : List ConfLine) → (b == 91) ≡ false → (b == 35) ≡ false → is_blank b ≡ false → AreLineBytes (b ∷ bs) → cut_once 61 (b ∷ bs) ≡ cut → pair_of line cut ≡ Ok items → AllByRecursion IsKnownLine items
+pair_of-known : (line b : ℕ) (bs : List ℕ) (cut : Option (List ℕ × List ℕ)) (items : List LineOf) → (b == 91) ≡ false → (b == 35) ≡ false → is_blank b ≡ false → AreLineBytes (b ∷ bs) → cut_once 61 (b ∷ bs) ≡ cut → pair_of line cut ≡ Ok items → AllByRecursion IsKnownLine items
 pair_of-known line b bs None items header directive firm bytes c e = absurd cc
 pair_of-known line b bs (Some cut) items header directive firm bytes c e =
     let is = cut_once-is 61 (b ∷ bs) cut.0 cut.1 c in
-    let same : Pair line (trim cut.0) (trim (behind_sign cut.1)) ∷ [] ≡ items = cc in
+    let same : Pair line (trim cut.0) (trim (after_sign cut.1)) ∷ [] ≡ items = cc in
     subst (AllByRecursion IsKnownLine) same (
       record {
         begins = begins_pair b bs cut.0 cut.1 header directive firm is.whole;
         key_trimmed = trimmed-trim cut.0;
         no_sign = each-trim (λ b. (b == 61) ≡ false) cut.0 is.avoids;
         key_bytes = each-trim IsLineByte cut.0 (each-cut_front IsLineByte 61 (b ∷ bs) cut.0 cut.1 is bytes);
-        value_trimmed = trimmed-trim (behind_sign cut.1);
-        value_bytes = each-trim IsLineByte (behind_sign cut.1) (behind_sign-bytes cut.1 (each-cut_rest IsLineByte 61 (b ∷ bs) cut.0 cut.1 is bytes));
+        value_trimmed = trimmed-trim (after_sign cut.1);
+        value_bytes = each-trim IsLineByte (after_sign cut.1) (after_sign-bytes cut.1 (each-cut_rest IsLineByte 61 (b ∷ bs) cut.0 cut.1 is bytes));
       },
       tt,
     )
 
-item_of-known : (in_section : Bool) (line : ℕ) (content : List ℕ) (items : List ConfLine) → IsTrimmed content → AreLineBytes content → item_of in_section line content ≡ Ok items → AllByRecursion IsKnownLine items
+item_of-known : (in_section : Bool) (line : ℕ) (content : List ℕ) (items : List LineOf) → IsTrimmed content → AreLineBytes content → item_of in_section line content ≡ Ok items → AllByRecursion IsKnownLine items
 item_of-known in_section line [] items trimmed bytes e =
     let none : [] ≡ items = cc in subst (AllByRecursion IsKnownLine) none tt
 item_of-known in_section line (b ∷ bs) items trimmed bytes e = by (b == 91) refl (b == 35) refl in_section e
@@ -139,7 +137,7 @@ item_of-known in_section line (b ∷ bs) items trimmed bytes e = by (b == 91) re
     by false header false directive false e = absurd cc
     by false header false directive true e = pair_of-known line b bs (cut_once 61 (b ∷ bs)) items header directive trimmed.begins bytes refl e
 
-part_item-known : (in_section : Bool) (line : ℕ) (part : List ℕ) (items : List ConfLine) → AreLineBytes part → part_item in_section line part ≡ Ok items → AllByRecursion IsKnownLine items
+part_item-known : (in_section : Bool) (line : ℕ) (part : List ℕ) (items : List LineOf) → AreLineBytes part → part_item in_section line part ≡ Ok items → AllByRecursion IsKnownLine items
 part_item-known in_section line part items bytes e = by (opens_block (comment_of part)) e
   where
     by : (t : Bool) → cond t (Err BlockComment) (item_of in_section line (content_of part)) ≡ Ok items → AllByRecursion IsKnownLine items
@@ -160,14 +158,14 @@ each-all_of {X} {Y} {E} Q P f one before (x ∷ xs) ys all e =
     by (λ zs r. each-all_of Q P f one (before ++ x ∷ []) xs zs all.1 r) (f before x) refl (all_of (each_after f (before ++ x ∷ []) xs)) refl e
   where
     by : ((zs : List Y) → all_of (each_after f (before ++ x ∷ []) xs) ≡ Ok zs → AllByRecursion P zs) → (r : Result (List Y) E) → f before x ≡ r → (rest : Result (List Y) E) → all_of (each_after f (before ++ x ∷ []) xs) ≡ rest → (r >>= λ zs. with_front zs rest) ≡ Ok ys → AllByRecursion P ys
-    by later (Err fault) read rest behind e = absurd cc
-    by later (Ok front) read (Err fault) behind e = absurd cc
-    by later (Ok front) read (Ok zs) behind e =
+    by later (Err fault) read rest after e = absurd cc
+    by later (Ok front) read (Err fault) after e = absurd cc
+    by later (Ok front) read (Ok zs) after e =
         let same : front ++ zs ≡ ys = cc in
-        subst (AllByRecursion P) same (each-append P front zs (one before x front all.0 read) (later zs behind))
+        subst (AllByRecursion P) same (each-append P front zs (one before x front all.0 read) (later zs after))
 
 -- each line of a text that is read
-pub lines_of-known : (text : List ℕ) (lines : List ConfLine) → AllByRecursion (λ b. b < 256) text → lines_of text ≡ Ok lines → AllByRecursion IsKnownLine lines
+pub lines_of-known : (text : List ℕ) (lines : List LineOf) → AllByRecursion (λ b. b < 256) text → lines_of text ≡ Ok lines → AllByRecursion IsKnownLine lines
 unfolding lines_of
 lines_of-known text lines bytes e =
     each-all_of AreLineBytes IsKnownLine reading_of

@@ -4,19 +4,16 @@ use Rattle.std.specs.List.{list_any, starts_with}
 use Rattle.std.proofs.lemmas.List.Folds.{list_any-append}
 use Rattle.std.proofs.lemmas.List.{length-append, length-drop}
 use Rattle.std.proofs.Math.Bool.{or-false}
-use Rattle.dp_conf.specs.Answers.{◌>>=◌, with_front, all_of, each_after}
-use Rattle.dp_conf.proofs.AnswersLemmas.{all_of-Ok, all_of-Err}
+use Rattle.dp_conf.specs.Answers.{◌>>=◌, each_after}
 use Rattle.dp_conf.specs.Blanks.{trim, trim_start}
-use Rattle.dp_conf.specs.Borrowed.{content_read, added_line}
+use Rattle.dp_conf.specs.Borrowed.{content_read}
 use Rattle.dp_conf.specs.Cut.{begins_with, cut_once}
-use Rattle.dp_conf.specs.Lines.{LineFault, without_mark, comment_start, comment_of, unescaped, opens_block, content_of, header_by, header_of, behind_sign, pair_of, item_of, is_header, at_line, part_item, opens_section, reading_of, parts_of}
+use Rattle.dp_conf.specs.Lines.{LineOf, Header, Pair, LineFault, without_mark, comment_start, comment_of, unescaped, opens_block, content_of, header_by, header_of, after_sign, pair_of, item_of, is_header, at_line, part_item, opens_section, reading_of, parts_of}
 use Rattle.dp_conf.specs.declared.fault.LineKind.{LineKind}
 use Rattle.dp_conf.specs.declared.fault.LineKind.TheVariants.{BlockComment, NoSection, Directive}
-use Rattle.dp_conf.specs.declared.lines.ConfLine.{ConfLine}
-use Rattle.dp_conf.specs.declared.lines.ConfLine.TheVariants.{Header, Pair}
 
 -- the readings, where `line` lines stand before and a section has begun or not
-abbrev pub readings_from : Bool → ℕ → List (List ℕ) → List (Result (List ConfLine) LineFault)
+abbrev pub readings_from : Bool → ℕ → List (List ℕ) → List (Result (List LineOf) LineFault)
 readings_from in_section line [] = []
 readings_from in_section line (part ∷ parts) =
     at_line (line + 1) (part_item in_section (line + 1) part) ∷ readings_from (in_section || opens_section part) (line + 1) parts
@@ -26,7 +23,7 @@ each_after-reading_of before [] = refl
 each_after-reading_of before (part ∷ parts) =
     let any : list_any opens_section (before ++ part ∷ []) ≡ (list_any opens_section before || opens_section part) = list_any-append opens_section before (part ∷ []) ∙ ap (λ (t : Bool). list_any opens_section before || t) (or-false (opens_section part)) in
     let len : length (before ++ part ∷ []) ≡ length before + 1 = length-append before (part ∷ []) in
-    ap (λ (later : List (Result (List ConfLine) LineFault)). reading_of before part ∷ later)
+    ap (λ (later : List (Result (List LineOf) LineFault)). reading_of before part ∷ later)
     (each_after-reading_of (before ++ part ∷ []) parts
     ∙ ap (λ t. readings_from t (length (before ++ part ∷ [])) parts) any
     ∙ ap (λ n. readings_from (list_any opens_section before || opens_section part) n parts) len)
@@ -42,12 +39,12 @@ left_len None = 0
 left_len (Some rest) = length rest.now + 1
 
 -- the parts of what is left to read, where the first part was cut off
-pub parts_left-cut : (text part : List ℕ) (behind : Option (Bor (List ℕ))) → MatchOption behind (parts_of text ≡ part ∷ []) (λ rest. parts_of text ≡ part ∷ parts_of rest.now) → parts_of text ≡ part ∷ parts_left behind
+pub parts_left-cut : (text part : List ℕ) (after : Option (Bor (List ℕ))) → MatchOption after (parts_of text ≡ part ∷ []) (λ rest. parts_of text ≡ part ∷ parts_of rest.now) → parts_of text ≡ part ∷ parts_left after
 parts_left-cut text part None e = e
 parts_left-cut text part (Some rest) e = e
 
 -- what is left to read is shorter
-pub left_len-cut : (text : List ℕ) (behind : Option (Bor (List ℕ))) → IfSome behind (λ rest. length rest.now < length text) → left_len behind ≤ length text
+pub left_len-cut : (text : List ℕ) (after : Option (Bor (List ℕ))) → IfSome after (λ rest. length rest.now < length text) → left_len after ≤ length text
 left_len-cut text None shorter = omega arith
 left_len-cut text (Some rest) shorter = omega (arith, shorter)
 
@@ -62,44 +59,44 @@ length-without_mark text = length-without (starts_with nat_eq text (239 ∷ 187 
 -- a part that is no block comment is read by its content
 pub part_item-plain : (in_section : Bool) (line : ℕ) (part : List ℕ) → opens_block (comment_of part) ≡ false → part_item in_section line part ≡ item_of in_section line (content_of part)
 part_item-plain in_section line part e =
-    ap (λ t. cond {A = Result (List ConfLine) LineKind} t (Err BlockComment) (item_of in_section line (content_of part))) e
+    ap (λ t. cond {A = Result (List LineOf) LineKind} t (Err BlockComment) (item_of in_section line (content_of part))) e
 
 -- a header by its parts is a header
-header_by-is_header : (line : ℕ) (name behind : List ℕ) (items : List ConfLine) → header_by line name behind ≡ Ok items → list_any is_header items ≡ true
-header_by-is_header line [] behind items e = absurd cc
+header_by-is_header : (line : ℕ) (name after : List ℕ) (items : List LineOf) → header_by line name after ≡ Ok items → list_any is_header items ≡ true
+header_by-is_header line [] after items e = absurd cc
 header_by-is_header line (n ∷ name) [] items e =
     let same : Header line (n ∷ name) ∷ [] ≡ items = cc in
     ap (list_any is_header) (sym same)
-header_by-is_header line (n ∷ name) (b ∷ behind) items e = absurd cc
+header_by-is_header line (n ∷ name) (b ∷ after) items e = absurd cc
 
-header_of-is_header : (line : ℕ) (cut : Option (List ℕ × List ℕ)) (items : List ConfLine) → header_of line cut ≡ Ok items → list_any is_header items ≡ true
+header_of-is_header : (line : ℕ) (cut : Option (List ℕ × List ℕ)) (items : List LineOf) → header_of line cut ≡ Ok items → list_any is_header items ≡ true
 header_of-is_header line None items e = absurd cc
 header_of-is_header line (Some cut) items e = header_by-is_header line (trim cut.0) (trim_start cut.1) items e
 
-pair_of-is_no_header : (line : ℕ) (cut : Option (List ℕ × List ℕ)) (items : List ConfLine) → pair_of line cut ≡ Ok items → list_any is_header items ≡ false
+pair_of-is_no_header : (line : ℕ) (cut : Option (List ℕ × List ℕ)) (items : List LineOf) → pair_of line cut ≡ Ok items → list_any is_header items ≡ false
 pair_of-is_no_header line None items e = absurd cc
 pair_of-is_no_header line (Some cut) items e =
-    let same : Pair line (trim cut.0) (trim (behind_sign cut.1)) ∷ [] ≡ items = cc in
+    let same : Pair line (trim cut.0) (trim (after_sign cut.1)) ∷ [] ≡ items = cc in
     ap (list_any is_header) (sym same)
 
-other_by : (in_section directive : Bool) (line : ℕ) (cut : Option (List ℕ × List ℕ)) (items : List ConfLine) → cond directive (Err Directive) (cond in_section (pair_of line cut) (Err NoSection)) ≡ Ok items → list_any is_header items ≡ false
+other_by : (in_section directive : Bool) (line : ℕ) (cut : Option (List ℕ × List ℕ)) (items : List LineOf) → cond directive (Err Directive) (cond in_section (pair_of line cut) (Err NoSection)) ≡ Ok items → list_any is_header items ≡ false
 other_by in_section true line cut items e = absurd cc
 other_by true false line cut items e = pair_of-is_no_header line cut items e
 other_by false false line cut items e = absurd cc
 
-item_by : (in_section opens directive : Bool) (line : ℕ) (inside cut : Option (List ℕ × List ℕ)) (items : List ConfLine) → cond opens (header_of line inside) (cond directive (Err Directive) (cond in_section (pair_of line cut) (Err NoSection))) ≡ Ok items → list_any is_header items ≡ opens
+item_by : (in_section opens directive : Bool) (line : ℕ) (inside cut : Option (List ℕ × List ℕ)) (items : List LineOf) → cond opens (header_of line inside) (cond directive (Err Directive) (cond in_section (pair_of line cut) (Err NoSection))) ≡ Ok items → list_any is_header items ≡ opens
 item_by in_section true directive line inside cut items e = header_of-is_header line inside items e
 item_by in_section false directive line inside cut items e = other_by in_section directive line cut items e
 
 -- an item is a header exactly where its content begins with `[`
-item_of-is_header : (in_section : Bool) (line : ℕ) (content : List ℕ) (items : List ConfLine) → item_of in_section line content ≡ Ok items → list_any is_header items ≡ begins_with 91 content
+item_of-is_header : (in_section : Bool) (line : ℕ) (content : List ℕ) (items : List LineOf) → item_of in_section line content ≡ Ok items → list_any is_header items ≡ begins_with 91 content
 item_of-is_header in_section line [] items e =
     let none : [] ≡ items = cc in
     ap (list_any is_header) (sym none)
 item_of-is_header in_section line (b ∷ bs) items e =
     item_by in_section (eqb b 91) (eqb b 35) line (cut_once 93 bs) (cut_once 61 (b ∷ bs)) items e
 
-part_by : (blocked in_section : Bool) (line : ℕ) (content : List ℕ) (items : List ConfLine) → cond blocked (Err BlockComment) (item_of in_section line content) ≡ Ok items → list_any is_header items ≡ begins_with 91 content
+part_by : (blocked in_section : Bool) (line : ℕ) (content : List ℕ) (items : List LineOf) → cond blocked (Err BlockComment) (item_of in_section line content) ≡ Ok items → list_any is_header items ≡ begins_with 91 content
 part_by true in_section line content items e = absurd cc
 part_by false in_section line content items e = item_of-is_header in_section line content items e
 
@@ -108,28 +105,9 @@ at_line-Ok line (Ok y) x e = cc
 at_line-Ok line (Err kind) x e = absurd cc
 
 -- the item of a part is a header exactly where the part begins a section
-pub opens_section-is_header : (in_section : Bool) (line : ℕ) (part : List ℕ) (items : List ConfLine) → at_line line (part_item in_section line part) ≡ Ok items → list_any is_header items ≡ opens_section part
+pub opens_section-is_header : (in_section : Bool) (line : ℕ) (part : List ℕ) (items : List LineOf) → at_line line (part_item in_section line part) ≡ Ok items → list_any is_header items ≡ opens_section part
 opens_section-is_header in_section line part items e =
     part_by (opens_block (comment_of part)) in_section line (content_of part) items (at_line-Ok line (part_item in_section line part) items e)
-
--- one turn of the reading: the item of the first part goes to the items so far
-pub readings_from-turn : (text part : List ℕ) (behind : Option (Bor (List ℕ))) (in_section : Bool) (line : ℕ) (items item : List ConfLine)
-    → parts_of text ≡ part ∷ parts_left behind
-    → at_line (line + 1) (part_item in_section (line + 1) part) ≡ Ok item
-    → with_front items (all_of (readings_from in_section line (parts_of text))) ≡ with_front (items ++ item) (all_of (readings_from (in_section || list_any is_header item) (line + 1) (parts_left behind)))
-readings_from-turn text part behind in_section line items item cut read =
-    ap (λ (parts : List (List ℕ)). with_front items (all_of (readings_from in_section line parts))) cut
-    ∙ (all_of-Ok items item (at_line (line + 1) (part_item in_section (line + 1) part)) (readings_from (in_section || opens_section part) (line + 1) (parts_left behind)) read
-    ∙ ap (λ opens. with_front (items ++ item) (all_of (readings_from (in_section || opens) (line + 1) (parts_left behind)))) (sym (opens_section-is_header in_section (line + 1) part item read)))
-
--- a turn that finds a fault: the fault is that of the whole
-pub readings_from-fault : (text part : List ℕ) (behind : Option (Bor (List ℕ))) (in_section : Bool) (line : ℕ) (items : List ConfLine) (fault : LineFault)
-    → parts_of text ≡ part ∷ parts_left behind
-    → at_line (line + 1) (part_item in_section (line + 1) part) ≡ Err fault
-    → with_front items (all_of (readings_from in_section line (parts_of text))) ≡ Err fault
-readings_from-fault text part behind in_section line items fault cut read =
-    ap (λ (parts : List (List ℕ)). with_front items (all_of (readings_from in_section line parts))) cut
-    ∙ all_of-Err items fault (at_line (line + 1) (part_item in_section (line + 1) part)) (readings_from (in_section || opens_section part) (line + 1) (parts_left behind)) read
 
 -- a text with no `\` is written as it is
 pub unescaped-plain : (text : List ℕ) → list_any (λ b. eqb b 92) text ≡ false → unescaped text ≡ text
@@ -166,23 +144,3 @@ part_item-refused in_section line part fault e =
 pub part_item-read : (in_section : Bool) (line : ℕ) (part content : List ℕ) → at_line line (content_read part) ≡ Ok content → at_line line (part_item in_section line part) ≡ at_line line (item_of in_section line content)
 part_item-read in_section line part content e =
     part_item-content in_section line part ∙ ap (λ (r : Result (List ℕ) LineFault). r >>= λ c. at_line line (item_of in_section line c)) e
-
--- the items so far with those of a reading, and whether a section has begun behind them
-abbrev added_by : Bool → List ConfLine → Result (List ConfLine) LineFault → Result (Bool × List ConfLine) LineFault
-added_by in_section items read = read >>= λ item. Ok (in_section || list_any is_header item, items ++ item)
-
--- one turn that adds the item of the first part to the items so far
-pub readings_from-added : (text part : List ℕ) (behind : Option (Bor (List ℕ))) (in_section : Bool) (line : ℕ) (items more : List ConfLine) (begun : Bool)
-    → parts_of text ≡ part ∷ parts_left behind
-    → added_line items in_section (line + 1) part ≡ Ok (begun, more)
-    → with_front items (all_of (readings_from in_section line (parts_of text))) ≡ with_front more (all_of (readings_from begun (line + 1) (parts_left behind)))
-readings_from-added text part behind in_section line items more begun cut added = by (at_line (line + 1) (part_item in_section (line + 1) part)) refl added
-  where
-    by : (read : Result (List ConfLine) LineFault) → at_line (line + 1) (part_item in_section (line + 1) part) ≡ read → added_by in_section items read ≡ Ok (begun, more) → with_front items (all_of (readings_from in_section line (parts_of text))) ≡ with_front more (all_of (readings_from begun (line + 1) (parts_left behind)))
-    by (Ok item) read e =
-        let made : Bool × List ConfLine = (in_section || list_any is_header item, items ++ item) in
-        let given : Bool × List ConfLine = (begun, more) in
-        let same : made ≡ given = cc in
-        readings_from-turn text part behind in_section line items item cut read
-        ∙ ap (λ (p : Bool × List ConfLine). with_front p.1 (all_of (readings_from p.0 (line + 1) (parts_left behind)))) same
-    by (Err fault) read e = absurd cc

@@ -6,10 +6,10 @@ use Rattle.dp_conf.specs.declared.groups.Mark.TheVariants.{End, Opening, Byte}
 use Rattle.dp_conf.specs.declared.nest.Waiting.{Waiting}
 use Rattle.dp_conf.specs.Groups.{Reading, Over, Plain, Group, closer, printed, depth_of}
 use Rattle.dp_conf.specs.GroupsRead.{Levels, Last, Within, with_byte, with_opening, with_mark, levels, reading_of, nesting_of, outer_of}
-use Rattle.dp_conf.specs.Nest.{NestOf, kinds_of, closed, nest_after, deepest_in}
+use Rattle.dp_conf.specs.steps.Nest.{NestOf, kinds_of, closed, nest_after, deepest_in}
 use Rattle.dp_conf.proofs.GroupsLemmas.{levels-last, one_reading}
 
--- the nesting of the whole, by the openings that wait, what the innermost level holds so far, and the levels behind
+-- the nesting of the whole, by the openings that wait, what the innermost level holds so far, and the levels after
 abbrev pub come : List Waiting → ℕ → Levels → ℕ
 come waiting deepest (Last rest) = deepest_in waiting (max deepest (depth_of rest))
 come [] deepest (Within rest outer) = come [] (max deepest (depth_of rest)) outer
@@ -31,19 +31,19 @@ come-with_opening (w ∷ waiting) deepest kind (Within inside (Within rest outer
     ap (λ d. come waiting (max w.deepest (suc d)) outer) (omega arith)
 
 -- a mark changes nothing of what all comes to
-pub come-mark : (m : Mark) (nest : NestOf) (behind : List GroupKind → ℕ → Levels)
-    → come (nest_after m nest).waiting (nest_after m nest).deepest (behind (kinds_of (nest_after m nest).waiting) 0)
-    ≡ come nest.waiting nest.deepest (with_mark m behind 0 (kinds_of nest.waiting))
+pub come-mark : (m : Mark) (nest : NestOf) (after : List GroupKind → ℕ → Levels)
+    → come (nest_after m nest).waiting (nest_after m nest).deepest (after (kinds_of (nest_after m nest).waiting) 0)
+    ≡ come nest.waiting nest.deepest (with_mark m after 0 (kinds_of nest.waiting))
 unfolding depth_of
-come-mark End nest behind = by nest.waiting
+come-mark End nest after = by nest.waiting
   where
     by : (ws : List Waiting)
-        → come (closed ws nest.deepest).waiting (closed ws nest.deepest).deepest (behind (kinds_of (closed ws nest.deepest).waiting) 0)
-        ≡ come ws nest.deepest (Within Over (behind (outer_of (kinds_of ws)) 0))
-    by [] = ap (λ d. come [] d (behind [] 0)) (omega arith)
-    by (w ∷ ws) = ap (λ d. come ws (max w.deepest (suc d)) (behind (kinds_of ws) 0)) (omega arith)
-come-mark (Opening kind) nest behind = come-with_opening nest.waiting nest.deepest kind (behind (kind ∷ kinds_of nest.waiting) 0)
-come-mark (Byte byte) nest behind = sym (come-with_byte nest.waiting nest.deepest byte (behind (kinds_of nest.waiting) 0))
+        → come (closed ws nest.deepest).waiting (closed ws nest.deepest).deepest (after (kinds_of (closed ws nest.deepest).waiting) 0)
+        ≡ come ws nest.deepest (Within Over (after (outer_of (kinds_of ws)) 0))
+    by [] = ap (λ d. come [] d (after [] 0)) (omega arith)
+    by (w ∷ ws) = ap (λ d. come ws (max w.deepest (suc d)) (after (kinds_of ws) 0)) (omega arith)
+come-mark (Opening kind) nest after = come-with_opening nest.waiting nest.deepest kind (after (kind ∷ kinds_of nest.waiting) 0)
+come-mark (Byte byte) nest after = sym (come-with_byte nest.waiting nest.deepest byte (after (kinds_of nest.waiting) 0))
 
 -- nothing is left
 pub come-over : (waiting : List Waiting) (deepest : ℕ) → come waiting deepest (levels [] (kinds_of waiting) 0) ≡ deepest_in waiting deepest

@@ -10,9 +10,9 @@ bytes_of : List ℕ → Reading
 bytes_of [] = Over
 bytes_of (b ∷ text) = Plain b (bytes_of text)
 
-opening-none : (b : ℕ) (behind : List ℕ) → eqb b 36 ≡ false → opening b behind ≡ None
+opening-none : (b : ℕ) (after : List ℕ) → eqb b 36 ≡ false → opening b after ≡ None
 opening-none b [] e = refl
-opening-none b (next ∷ behind) e = ap (λ t. cond {A = Option GroupKind} t (kind_of next) None) e
+opening-none b (next ∷ after) e = ap (λ t. cond {A = Option GroupKind} t (kind_of next) None) e
 
 levels-byte : (b : ℕ) (text : List ℕ) → eqb b 36 ≡ false → levels (b ∷ text) [] 0 ≡ with_byte b (levels text [] 0)
 unfolding levels

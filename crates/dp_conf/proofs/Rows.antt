@@ -6,9 +6,8 @@ use Rattle.dp_conf.specs.Groups.{Over, Plain, Group, depth_of}
 use Rattle.dp_conf.specs.GroupsRead.{levels, reading_of, nesting_of}
 use Rattle.dp_conf.specs.Levels.{parts_of, arguments_of, cut_outside}
 use Rattle.dp_conf.specs.declared.groups.GroupKind.TheVariants.{Braces, Brackets}
-use Rattle.dp_conf.specs.Lines.{opens_block, comment_of, content_of, lines_of}
+use Rattle.dp_conf.specs.Lines.{Header, Pair, opens_block, comment_of, content_of, lines_of}
 use Rattle.dp_conf.specs.declared.fault.LineKind.TheVariants.{BlockComment, NoSection, BadHeader, NoEquals, Directive, Template}
-use Rattle.dp_conf.specs.declared.lines.ConfLine.TheVariants.{Header, Pair}
 
 trimmed : trim (codes "  a b ") ≡ codes "a b"
 trimmed = refl
@@ -74,7 +73,7 @@ lines-directive : lines_of (codes "#include x") ≡ Err (record { line = 1; kind
 unfolding lines_of
 lines-directive = refl
 
--- an opening without its end is plain, and reading goes on behind it
+-- an opening without its end is plain, and reading goes on after it
 groups-unclosed : reading_of (codes "${a${b}") ≡ Plain 36 (Plain 123 (Plain 97 (Group Braces (Plain 98 Over) Over)))
 unfolding reading_of levels
 groups-unclosed = refl

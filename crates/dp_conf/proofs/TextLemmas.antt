@@ -7,6 +7,7 @@ use Rattle.std.proofs.lemmas.Bool.Decides.{nat_tests}
 use Rattle.std.proofs.lemmas.Grind.{common_steps}
 use Rattle.dp_conf.specs.Blanks.{is_blank, trim_start, before_kept, trim_end, trim}
 use Rattle.dp_conf.specs.Cut.{cut_once}
+use Rattle.dp_conf.proofs.CutLemmas.{cut_once-found}
 
 -- ---- what holds of each element
 
@@ -56,10 +57,6 @@ Avoids byte text = AllByRecursion (λ b. (b == byte) ≡ false) text
 
 -- ---- cuts
 
--- where the byte first stands at a place, the text is cut there
-cut_once-found : (byte : ℕ) (xs : List ℕ) (at : ℕ) → at < length xs → position_or_len (λ b. eqb b byte) xs ≡ at → cut_once byte xs ≡ Some (take at xs, drop (at + 1) xs)
-cut_once-found byte xs at l e = rw e (grind arith)
-
 position-here : (byte : ℕ) (front rest : List ℕ) → Avoids byte front → position_or_len (λ b. eqb b byte) (front ++ byte ∷ rest) ≡ length front
 position-here byte [] rest a =
     let same : eqb byte byte ≡ true = grind (arith, nat_tests) in
@@ -72,18 +69,18 @@ take-front : {X : Type 0} (front rest : List X) → take (length front) (front +
 take-front [] rest = refl
 take-front (x ∷ front) rest = ap (λ (xs : List _). x ∷ xs) (take-front front rest)
 
-drop-behind : {X : Type 0} (front : List X) (x : X) (rest : List X) → drop (length front + 1) (front ++ x ∷ rest) ≡ rest
-drop-behind [] x rest = refl
-drop-behind (y ∷ front) x rest =
+drop-after : {X : Type 0} (front : List X) (x : X) (rest : List X) → drop (length front + 1) (front ++ x ∷ rest) ≡ rest
+drop-after [] x rest = refl
+drop-after (y ∷ front) x rest =
     let more : length (y ∷ front) + 1 ≡ suc (length front + 1) = omega arith in
-    ap (λ n. drop n (y ∷ front ++ x ∷ rest)) more ∙ drop-behind front x rest
+    ap (λ n. drop n (y ∷ front ++ x ∷ rest)) more ∙ drop-after front x rest
 
 -- a text is cut at the first such byte
 pub cut_once-here : (byte : ℕ) (front rest : List ℕ) → Avoids byte front → cut_once byte (front ++ byte ∷ rest) ≡ Some (front, rest)
 cut_once-here byte front rest a =
     let within : length front < length (front ++ byte ∷ rest) = grind (arith, common_steps) in
     cut_once-found byte (front ++ byte ∷ rest) (length front) within (position-here byte front rest a)
-    ∙ (λ i. Some (take-front front (byte ∷ rest) i, drop-behind front byte rest i))
+    ∙ (λ i. Some (take-front front (byte ∷ rest) i, drop-after front byte rest i))
 
 position-nowhere : (byte : ℕ) (text : List ℕ) → Avoids byte text → position_or_len (λ b. eqb b byte) text ≡ length text
 position-nowhere byte [] a = refl
@@ -105,12 +102,12 @@ cut_by byte text front rest false l e = absurd cc
 cut_by byte text front rest true l e =
     let pair : (let p : List ℕ × List ℕ = (before_first (λ b. eqb b byte) text, after_first (λ b. eqb b byte) text) in p ≡ (front, rest)) = cc in
     let before : before_first (λ b. eqb b byte) text ≡ front = ap (λ (p : List ℕ × List ℕ). p.0) pair in
-    let behind : after_first (λ b. eqb b byte) text ≡ rest = ap (λ (p : List ℕ × List ℕ). p.1) pair in
+    let after : after_first (λ b. eqb b byte) text ≡ rest = ap (λ (p : List ℕ × List ℕ). p.1) pair in
     let within = ltb-true _ _ l in
     let here : eqb (get_or text (position_or_len (λ b. eqb b byte) text) 0) byte ≡ true = passes_at_first (λ b. eqb b byte) text 0 within in
     let same : get_or text (position_or_len (λ b. eqb b byte) text) 0 ≡ byte = grind (arith, nat_tests) in
     record {
-      whole = split_at_first (λ b. eqb b byte) text 0 within ∙ (λ i. before i ++ same i ∷ behind i);
+      whole = split_at_first (λ b. eqb b byte) text 0 within ∙ (λ i. before i ++ same i ∷ after i);
       avoids = subst (Avoids byte) before (recursion_from_All (λ b. eqb b byte ≡ false) (before_first (λ b. eqb b byte) text) (λ k d l. let k' : eqb (get_or text k d) byte ≡ false = fails_before_first (λ b. eqb b byte) text k d (grind (arith, common_steps)) in grind (arith, common_steps)));
     }
 
@@ -189,26 +186,26 @@ each-trim_start P (b ∷ text) a = by (each-trim_start P text a.1) (is_blank b) 
 pub each-trim : (P : ℕ → Type 0) (text : List ℕ) → AllByRecursion P text → AllByRecursion P (trim text)
 each-trim P text a = each-trim_end P (trim_start text) (each-trim_start P text a)
 
-before_kept-behind : (x : ℕ) (xs : List ℕ) (k : ℕ) (ks : List ℕ) → before_kept x (xs ++ k ∷ ks) ≡ x ∷ (xs ++ k ∷ ks)
-before_kept-behind x [] k ks = refl
-before_kept-behind x (y ∷ xs) k ks = refl
+before_kept-after : (x : ℕ) (xs : List ℕ) (k : ℕ) (ks : List ℕ) → before_kept x (xs ++ k ∷ ks) ≡ x ∷ (xs ++ k ∷ ks)
+before_kept-after x [] k ks = refl
+before_kept-after x (y ∷ xs) k ks = refl
 
 -- what stands before a text that is no blank at its end is kept
-pub trim_end-behind : (xs : List ℕ) (k : ℕ) (ks : List ℕ) → trim_end (k ∷ ks) ≡ k ∷ ks → trim_end (xs ++ k ∷ ks) ≡ xs ++ k ∷ ks
-trim_end-behind [] k ks e = e
-trim_end-behind (x ∷ xs) k ks e = ap (before_kept x) (trim_end-behind xs k ks e) ∙ before_kept-behind x xs k ks
+pub trim_end-after : (xs : List ℕ) (k : ℕ) (ks : List ℕ) → trim_end (k ∷ ks) ≡ k ∷ ks → trim_end (xs ++ k ∷ ks) ≡ xs ++ k ∷ ks
+trim_end-after [] k ks e = e
+trim_end-after (x ∷ xs) k ks e = ap (before_kept x) (trim_end-after xs k ks e) ∙ before_kept-after x xs k ks
 
--- a blank behind a text
+-- a blank after a text
 pub trim_end-blank : (xs : List ℕ) → trim_end (xs ++ 32 ∷ []) ≡ trim_end xs
 trim_end-blank [] = refl
 trim_end-blank (x ∷ xs) = ap (before_kept x) (trim_end-blank xs)
 
-pub firm-behind : (b : ℕ) (front behind : List ℕ) → is_blank b ≡ false → trim_start (b ∷ front ++ behind) ≡ b ∷ front ++ behind
-firm-behind b front behind f = ap (λ t. cond t (trim_start (front ++ behind)) (b ∷ front ++ behind)) f
+pub firm-after : (b : ℕ) (front after : List ℕ) → is_blank b ≡ false → trim_start (b ∷ front ++ after) ≡ b ∷ front ++ after
+firm-after b front after f = ap (λ t. cond t (trim_start (front ++ after)) (b ∷ front ++ after)) f
 
-pub trim-blank_behind : (b : ℕ) (text : List ℕ) → IsTrimmed (b ∷ text) → trim (b ∷ text ++ 32 ∷ []) ≡ b ∷ text
-trim-blank_behind b text t =
-    ap trim_end (firm-behind b text (32 ∷ []) t.begins) ∙ (trim_end-blank (b ∷ text) ∙ t.ends)
+pub trim-blank_after : (b : ℕ) (text : List ℕ) → IsTrimmed (b ∷ text) → trim (b ∷ text ++ 32 ∷ []) ≡ b ∷ text
+trim-blank_after b text t =
+    ap trim_end (firm-after b text (32 ∷ []) t.begins) ∙ (trim_end-blank (b ∷ text) ∙ t.ends)
 
 -- a blank before a trimmed text
 pub trim-blank_before : (text : List ℕ) → IsTrimmed text → trim (32 ∷ text) ≡ text
@@ -230,7 +227,7 @@ trimmed-firm text a = record { begins = firm text a; ends = whole text a }
 pub trimmed-between : (b : ℕ) (text : List ℕ) (last : ℕ) → is_blank b ≡ false → is_blank last ≡ false → IsTrimmed ((b ∷ text) ++ last ∷ [])
 trimmed-between b text last firm closed = record {
   begins = firm;
-  ends = trim_end-behind (b ∷ text) last [] (before_kept-firm last [] closed);
+  ends = trim_end-after (b ∷ text) last [] (before_kept-firm last [] closed);
 }
 
 -- ---- bytes of texts that are cut

@@ -11,12 +11,12 @@ GoesOn None new bytes left = ⊤
 GoesOn (Some xs) None bytes left = ⊥
 GoesOn (Some xs) (Some ys) bytes left = (ys ++ left ≡ xs ++ bytes) × IsFront xs ys
 
--- a text is a front of itself with more behind it
+-- a text is a front of itself with more after it
 pub IsFront-append : (xs ys : List ℕ) → IsFront xs (xs ++ ys)
 IsFront-append [] ys = refl
 IsFront-append (x ∷ xs) ys = ap (λ (t : List ℕ). x ∷ t) (IsFront-append xs ys)
 
--- a front of a text is one of it with more behind it
+-- a front of a text is one of it with more after it
 pub IsFront-more : (xs ys zs : List ℕ) → IsFront xs ys → IsFront xs (ys ++ zs)
 IsFront-more [] ys zs h = refl
 IsFront-more (x ∷ xs) [] zs h = absurd cc

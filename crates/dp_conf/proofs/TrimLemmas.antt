@@ -12,7 +12,7 @@ before_kept-push : (x : ℕ) (xs : List ℕ) (b : ℕ) → before_kept x (xs ++ 
 before_kept-push x [] b = refl
 before_kept-push x (y ∷ xs) b = refl
 
--- behind a last byte that is no blank nothing is cut off
+-- after a last byte that is no blank nothing is cut off
 pub trim_end-push_kept : (xs : List ℕ) (b : ℕ) → is_blank b ≡ false → trim_end (xs ++ b ∷ []) ≡ xs ++ b ∷ []
 trim_end-push_kept [] b e = ap (λ t. cond t [] (b ∷ [])) e
 trim_end-push_kept (x ∷ xs) b e = ap (before_kept x) (trim_end-push_kept xs b e) ∙ before_kept-push x xs b

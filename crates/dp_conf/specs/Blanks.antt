@@ -10,7 +10,7 @@ abbrev pub trim_start : List ℕ → List ℕ
 trim_start [] = []
 trim_start (b ∷ bs) = if is_blank b then trim_start bs else b ∷ bs
 
--- the byte before what is kept behind it: a blank behind which nothing is kept is left out
+-- the byte before what is kept after it: a blank after which nothing is kept is left out
 abbrev pub before_kept : ℕ → List ℕ → List ℕ
 before_kept byte [] = if is_blank byte then [] else byte ∷ []
 before_kept byte (k ∷ kept) = byte ∷ k ∷ kept

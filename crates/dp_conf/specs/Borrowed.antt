@@ -1,25 +1,21 @@
 -- Items and contents of lines whose texts stand in the lines themselves.
-use Rattle.std.specs.Prelude.{ℕ, Bool, ◌||◌, List, [], ◌∷◌, ◌++◌, Option, Some, None, Result, Ok, Err, if◌then◌else◌}
-use Rattle.std.specs.List.{list_any}
-use Rattle.dp_conf.specs.Answers.{◌>>=◌}
+use Rattle.std.specs.Prelude.{ℕ, List, [], ◌∷◌, Option, Some, None, Result, Ok, Err, if◌then◌else◌}
 use Rattle.dp_conf.specs.Blanks.{trim}
-use Rattle.dp_conf.specs.Lines.{LineFault, is_header, comment_of, opens_block, content_of, at_line, part_item}
+use Rattle.dp_conf.specs.Lines.{LineOf, Header, Pair, comment_of, opens_block, content_of}
 use Rattle.dp_conf.specs.declared.fault.LineKind.{LineKind}
 use Rattle.dp_conf.specs.declared.fault.LineKind.TheVariants.{BlockComment}
-use Rattle.dp_conf.specs.declared.lines.ConfLine.{ConfLine}
-use Rattle.dp_conf.specs.declared.lines.ConfLine.TheVariants.{Header, Pair}
 use Rattle.dp_conf.specs.declared.lines.Content.{Content}
 use Rattle.dp_conf.specs.declared.lines.Content.TheVariants.{AsWritten, Unescaped}
 use Rattle.dp_conf.specs.declared.lines.Line.{Line}
 use Rattle.dp_conf.specs.declared.lines.Line.TheVariants.{Header as header_in, Pair as pair_in}
 
 -- the item with its texts
-abbrev pub line_now : Line → ConfLine
+abbrev pub line_now : Line → LineOf
 line_now (header_in line name) = Header line name.now
 line_now (pair_in line key value) = Pair line key.now value.now
 
 -- the item, where there is one
-abbrev pub lines_now : Option Line → List ConfLine
+abbrev pub lines_now : Option Line → List LineOf
 lines_now None = []
 lines_now (Some line) = line_now line ∷ []
 
@@ -31,8 +27,3 @@ content_now (Unescaped bytes) = trim bytes.items
 -- the content of a part, unless it has a block comment
 abbrev pub content_read : List ℕ → Result (List ℕ) LineKind
 content_read part = if opens_block (comment_of part) then Err BlockComment else Ok (content_of part)
-
--- some items with that of one more part, and whether a section has begun behind it
-abbrev pub added_line : List ConfLine → Bool → ℕ → List ℕ → Result (Bool × List ConfLine) LineFault
-added_line items in_section line part =
-    at_line line (part_item in_section line part) >>= λ item. Ok (in_section || list_any is_header item, items ++ item)

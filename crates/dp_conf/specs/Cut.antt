@@ -8,7 +8,7 @@ abbrev pub begins_with : ℕ → List ℕ → Bool
 begins_with byte [] = false
 begins_with byte (b ∷ bs) = b == byte
 
--- what stands before the first such byte and what behind it, where there is one
+-- what stands before the first such byte and what after it, where there is one
 abbrev pub cut_once : ℕ → List ℕ → Option (List ℕ × List ℕ)
 cut_once byte text =
     if nat_lt (position_or_len (λ b. b == byte) text) (length text)

@@ -3,7 +3,7 @@ use Rattle.std.specs.Prelude.{ℕ, ◌==◌, List, [], ◌∷◌, if◌then◌el
 use Rattle.std.specs.List.{flat_map}
 use Rattle.std.specs.Str.{byte}
 
--- a semicolon behind a `\`, and any other byte as it is
+-- a semicolon after a `\`, and any other byte as it is
 abbrev pub escaped_byte : ℕ → List ℕ
 escaped_byte b = if b == byte ";" then byte "\\" ∷ b ∷ [] else b ∷ []
 

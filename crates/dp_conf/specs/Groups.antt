@@ -3,7 +3,7 @@ use Rattle.std.specs.Prelude.{◌≡◌, ◌≢◌, ℕ, suc, ◌==◌, List, []
 use Rattle.dp_conf.specs.declared.groups.GroupKind.{GroupKind}
 use Rattle.dp_conf.specs.declared.groups.GroupKind.TheVariants.{Braces, Brackets}
 
--- the byte behind the `$` that opens a group
+-- the byte after the `$` that opens a group
 abbrev pub opener : GroupKind → ℕ
 opener Braces = 123
 opener Brackets = 91
@@ -13,14 +13,14 @@ abbrev pub closer : GroupKind → ℕ
 closer Braces = 125
 closer Brackets = 93
 
--- the kind of group that a `$` with this byte behind it opens
+-- the kind of group that a `$` with this byte after it opens
 abbrev pub kind_of : ℕ → Option GroupKind
 kind_of byte = if byte == 123 then Some Braces else (if byte == 91 then Some Brackets else None)
 
--- the kind of group that a byte opens, by the bytes behind it
+-- the kind of group that a byte opens, by the bytes after it
 abbrev pub opening : ℕ → List ℕ → Option GroupKind
 opening byte [] = None
-opening byte (next ∷ behind) = if byte == 36 then kind_of next else None
+opening byte (next ∷ after) = if byte == 36 then kind_of next else None
 
 -- a text read as plain bytes and groups: nothing, a byte with the rest, or a group with its inside and the rest
 pub data Reading : Type 0 where
@@ -44,9 +44,9 @@ IsBody kind (Group inner inside rest) = IsBody inner inside × IsBody kind rest
 pub record BeginsGroup (text : List ℕ) : Type 0 where
   pub kind : GroupKind
   pub inside : Reading
-  pub behind : List ℕ
+  pub after : List ℕ
   pub body : IsBody kind inside
-  pub text_is : text ≡ 36 ∷ opener kind ∷ (printed inside ++ closer kind ∷ behind)
+  pub text_is : text ≡ 36 ∷ opener kind ∷ (printed inside ++ closer kind ∷ after)
 
 -- outside of groups a byte is plain only where no group stands
 unfoldable pub IsWhole : Reading → Type 0

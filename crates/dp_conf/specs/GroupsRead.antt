@@ -25,9 +25,9 @@ abbrev pub mark_of : Option GroupKind → ℕ → Mark
 mark_of None byte = Byte byte
 mark_of (Some kind) byte = Opening kind
 
--- what stands at a place, by the open groups and the bytes behind it
+-- what stands at a place, by the open groups and the bytes after it
 abbrev pub mark_at : List GroupKind → ℕ → List ℕ → Mark
-mark_at kinds byte behind = if is_end kinds byte then End else mark_of (opening byte behind) byte
+mark_at kinds byte after = if is_end kinds byte then End else mark_of (opening byte after) byte
 
 -- a text that begins inside of groups: the rest of the innermost up to its end, and so outwards up to a level that does
 -- not end in the text
@@ -46,27 +46,27 @@ with_opening kind (Last rest) = Last (Plain 36 (Plain (opener kind) rest))
 with_opening kind (Within inside (Last rest)) = Last (Group kind inside rest)
 with_opening kind (Within inside (Within rest outer)) = Within (Group kind inside rest) outer
 
--- a mark before the levels that are read behind it, where this many bytes of the mark still stand in what is behind
+-- a mark before the levels that are read after it, where this many bytes of the mark still stand in what is after
 abbrev pub with_mark : Mark → (List GroupKind → ℕ → Levels) → ℕ → List GroupKind → Levels
-with_mark End behind left kinds = Within Over (behind (outer_of kinds) 0)
-with_mark (Opening kind) behind left kinds = with_opening kind (behind (kind ∷ kinds) left)
-with_mark (Byte byte) behind left kinds = with_byte byte (behind kinds 0)
+with_mark End after left kinds = Within Over (after (outer_of kinds) 0)
+with_mark (Opening kind) after left kinds = with_opening kind (after (kind ∷ kinds) left)
+with_mark (Byte byte) after left kinds = with_byte byte (after kinds 0)
 
--- the levels of a text inside of these groups, behind so many bytes that are read already
+-- the levels of a text inside of these groups, after so many bytes that are read already
 unfoldable pub levels : List ℕ → List GroupKind → ℕ → Levels
 levels [] kinds skipped = Last Over
-levels (byte ∷ behind) kinds (suc skipped) = levels behind kinds skipped
-levels (byte ∷ behind) kinds zero = with_mark (mark_at kinds byte behind) (levels behind) 1 kinds
+levels (byte ∷ after) kinds (suc skipped) = levels after kinds skipped
+levels (byte ∷ after) kinds zero = with_mark (mark_at kinds byte after) (levels after) 1 kinds
 
 -- the innermost of the open groups
 abbrev pub first_of : List GroupKind → Option GroupKind
 first_of [] = None
 first_of (kind ∷ kinds) = Some kind
 
--- the text is the mark and what stands behind it, inside of any groups of which this one is the innermost
+-- the text is the mark and what stands after it, inside of any groups of which this one is the innermost
 abbrev pub IsMarked : Option GroupKind → List ℕ → Mark → List ℕ → Type 0
-IsMarked innermost text mark behind =
-    (kinds : List GroupKind) → first_of kinds ≡ innermost → levels text kinds 0 ≡ with_mark mark (levels behind) 0 kinds
+IsMarked innermost text mark after =
+    (kinds : List GroupKind) → first_of kinds ≡ innermost → levels text kinds 0 ≡ with_mark mark (levels after) 0 kinds
 
 -- the innermost level
 abbrev pub first_level : Levels → Reading

@@ -30,7 +30,7 @@ parts_of text = split_after parts_arguments [] text
 abbrev pub arguments_of : List ℕ → List (List ℕ)
 arguments_of text = map trim (parts_of text)
 
--- what stands before the first element at which `cuts` says so, by what stands before it and itself, and what behind it
+-- what stands before the first element at which `cuts` says so, by what stands before it and itself, and what after it
 abbrev pub cut_after : {X : Type 0} → (List X → X → Bool) → List X → List X → Option (List X × List X)
 cut_after cuts before [] = None
 cut_after cuts before (x ∷ xs) = if cuts before x then Some (before, xs) else cut_after cuts (before ++ x ∷ []) xs
@@ -39,6 +39,6 @@ cut_after cuts before (x ∷ xs) = if cuts before x then Some (before, xs) else 
 abbrev pub stands_outside : ℕ → List ℕ → ℕ → Bool
 stands_outside wanted before byte = byte == wanted && level_of before == 0
 
--- what stands before the first such byte of level 0 and what behind it, where there is one
+-- what stands before the first such byte of level 0 and what after it, where there is one
 unfoldable pub cut_outside : ℕ → List ℕ → Option (List ℕ × List ℕ)
 cut_outside wanted text = cut_after (stands_outside wanted) [] text

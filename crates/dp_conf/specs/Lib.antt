@@ -1,6 +1,7 @@
 pub mod Answers
 pub mod Blanks
 pub mod Borrowed
+pub mod Changes
 pub mod Codes
 pub mod Cut
 pub mod Escape
@@ -9,10 +10,11 @@ pub mod Groups
 pub mod GroupsRead
 pub mod Levels
 pub mod Lines
-pub mod Nest
 pub mod Numbers
 pub mod Printed
 pub mod Shallow
+pub mod Taking
 pub mod Told
 pub mod Whole
 pub mod Words
+pub mod steps

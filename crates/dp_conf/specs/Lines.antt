@@ -9,16 +9,19 @@ use Rattle.dp_conf.specs.declared.fault.LineKind.{LineKind}
 use Rattle.dp_conf.specs.declared.fault.LineKind.TheVariants.{BlockComment, NoSection, BadHeader, NoEquals, Directive, Template}
 use Rattle.dp_conf.specs.declared.fault.ConfFault.{ConfFault}
 use Rattle.dp_conf.specs.declared.fault.ConfFault.TheVariants.{At, NoMemory}
-use Rattle.dp_conf.specs.declared.lines.ConfLine.{ConfLine}
-use Rattle.dp_conf.specs.declared.lines.ConfLine.TheVariants.{Header, Pair}
 
 -- a faulty line, counted from 1, and what is wrong with it
 pub record LineFault : Type 0 where
   pub line : ℕ
   pub kind : LineKind
 
+-- an item of a text, with the number of its line, counted from 1: a section's header by its name, or a key with a value
+pub data LineOf : Type 0 where
+  Header : ℕ → List ℕ → LineOf
+  Pair : ℕ → List ℕ → List ℕ → LineOf
+
 -- whether an item is a header
-abbrev pub is_header : ConfLine → Bool
+abbrev pub is_header : LineOf → Bool
 is_header (Header line name) = true
 is_header (Pair line key value) = false
 
@@ -60,29 +63,29 @@ unescaped (b ∷ bs) = if b == byte "\\" && starts_with nat_eq bs (codes ";") th
 abbrev pub content_of : List ℕ → List ℕ
 content_of part = trim (unescaped (take (comment_start line_feed part) part))
 
--- a header by its trimmed name and by what stands behind its `]`, from the first byte that is no blank
-abbrev pub header_by : ℕ → List ℕ → List ℕ → Result (List ConfLine) LineKind
-header_by line [] behind = Err BadHeader
+-- a header by its trimmed name and by what stands after its `]`, from the first byte that is no blank
+abbrev pub header_by : ℕ → List ℕ → List ℕ → Result (List LineOf) LineKind
+header_by line [] after = Err BadHeader
 header_by line (n ∷ name) [] = Ok (Header line (n ∷ name) ∷ [])
-header_by line (n ∷ name) (b ∷ behind) = Err (if b == byte "(" then Template else BadHeader)
+header_by line (n ∷ name) (b ∷ after) = Err (if b == byte "(" then Template else BadHeader)
 
--- a header, by what the `]` cut of what stands behind its `[`
-abbrev pub header_of : ℕ → Option (List ℕ × List ℕ) → Result (List ConfLine) LineKind
+-- a header, by what the `]` cut of what stands after its `[`
+abbrev pub header_of : ℕ → Option (List ℕ × List ℕ) → Result (List LineOf) LineKind
 header_of line None = Err BadHeader
 header_of line (Some cut) = header_by line (trim cut.0) (trim_start cut.1)
 
--- a `>` directly behind the `=` belongs to the sign
-abbrev pub behind_sign : List ℕ → List ℕ
-behind_sign [] = []
-behind_sign (b ∷ bs) = if b == byte ">" then bs else b ∷ bs
+-- a `>` directly after the `=` belongs to the sign
+abbrev pub after_sign : List ℕ → List ℕ
+after_sign [] = []
+after_sign (b ∷ bs) = if b == byte ">" then bs else b ∷ bs
 
 -- a pair, by what the first `=` cut
-abbrev pub pair_of : ℕ → Option (List ℕ × List ℕ) → Result (List ConfLine) LineKind
+abbrev pub pair_of : ℕ → Option (List ℕ × List ℕ) → Result (List LineOf) LineKind
 pair_of line None = Err NoEquals
-pair_of line (Some cut) = Ok (Pair line (trim cut.0) (trim (behind_sign cut.1)) ∷ [])
+pair_of line (Some cut) = Ok (Pair line (trim cut.0) (trim (after_sign cut.1)) ∷ [])
 
 -- the item of a content, where there is one: whether a section has begun says if a pair may stand there
-abbrev pub item_of : Bool → ℕ → List ℕ → Result (List ConfLine) LineKind
+abbrev pub item_of : Bool → ℕ → List ℕ → Result (List LineOf) LineKind
 item_of in_section line [] = Ok []
 item_of in_section line (b ∷ bs) =
     if b == byte "[" then header_of line (cut_once (byte "]") bs)
@@ -91,7 +94,7 @@ item_of in_section line (b ∷ bs) =
     else Err NoSection
 
 -- a part: a block comment is refused before all else
-abbrev pub part_item : Bool → ℕ → List ℕ → Result (List ConfLine) LineKind
+abbrev pub part_item : Bool → ℕ → List ℕ → Result (List LineOf) LineKind
 part_item in_section line part =
     if opens_block (comment_of part) then Err BlockComment else item_of in_section line (content_of part)
 
@@ -105,12 +108,12 @@ at_line line (Ok x) = Ok x
 at_line line (Err fault) = Err (record { line = line; kind = fault })
 
 -- the reading of a part, by the parts before it
-abbrev pub reading_of : List (List ℕ) → List ℕ → Result (List ConfLine) LineFault
+abbrev pub reading_of : List (List ℕ) → List ℕ → Result (List LineOf) LineFault
 reading_of before part =
     at_line (length before + 1) (part_item (list_any opens_section before) (length before + 1) part)
 
 -- the items of a text in order, or the fault of its first faulty line
-unfoldable pub lines_of : List ℕ → Result (List ConfLine) LineFault
+unfoldable pub lines_of : List ℕ → Result (List LineOf) LineFault
 lines_of text = all_of (each_after reading_of [] (parts_of (without_mark text)))
 
 -- the faulty line that a fault names; want of memory names none

@@ -6,7 +6,7 @@ use Rattle.std.specs.List.{list_all}
 abbrev pub is_digit : ℕ → Bool
 is_digit byte = nat_le 48 byte && nat_le byte 57
 
--- the number of digits, with one more digit behind it
+-- the number of digits, with one more digit after it
 abbrev pub with_digit : ℕ → ℕ → ℕ
 with_digit number byte = 10 * number + (byte - 48)
 

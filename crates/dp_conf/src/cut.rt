@@ -51,7 +51,7 @@ fn trim_end(text: &[u8]) -> &[u8]
     left
 }
 
-/// What stands before the first such byte of the text and what stands behind it, or None where there is none.
+/// What stands before the first such byte of the text and what stands after it, or None where there is none.
 pub fn cut_once(text: &[u8], byte: u8) -> Option<(&[u8], &[u8])>
     ensures { MatchOption result (cuts.cut_once byte text.now ≡ None)
         (λ cut. cuts.cut_once byte text.now ≡ Some (cut.0.now, cut.1.now)) }
@@ -76,7 +76,7 @@ pub fn before_last(text: &[u8], byte: u8) -> Option<&[u8]>
     None
 }
 
-/// The first part of the text between its line feeds, and what stands behind it, where more parts come.
+/// The first part of the text between its line feeds, and what stands after it, where more parts come.
 pub fn first_part(text: &[u8]) -> (&[u8], Option<&[u8]>)
     ensures parts { MatchOption result.1 (lines.parts_of text.now ≡ result.0.now ∷ [])
         (λ rest. lines.parts_of text.now ≡ result.0.now ∷ lines.parts_of rest.now) }
@@ -92,7 +92,7 @@ pub fn first_part(text: &[u8]) -> (&[u8], Option<&[u8]>)
     }
 }
 
-/// The level behind a byte that stands at this level.
+/// The level after a byte that stands at this level.
 fn next_level(level: usize, byte: u8) -> usize
     requires { level + 1 < 2 ^ 64 }
     ensures { result ≡ levels.next_level level byte }
@@ -104,7 +104,7 @@ fn next_level(level: usize, byte: u8) -> usize
     }
 }
 
-/// What stands before the first such byte outside parentheses and what stands behind it, or None where there is none.
+/// What stands before the first such byte outside parentheses and what stands after it, or None where there is none.
 ///
 /// A `)` with no `(` before it is plain (a choice of this program).
 pub fn cut_outside(text: &[u8], byte: u8) -> Option<(&[u8], &[u8])>
@@ -122,7 +122,7 @@ pub fn cut_outside(text: &[u8], byte: u8) -> Option<(&[u8], &[u8])>
     None
 }
 
-/// The text up to its first comma outside parentheses, and what stands behind it, where there is such a comma.
+/// The text up to its first comma outside parentheses, and what stands after it, where there is such a comma.
 pub fn first_argument(text: &[u8]) -> (&[u8], Option<&[u8]>)
     ensures parts { MatchOption result.1 (levels.parts_of text.now ≡ result.0.now ∷ [])
         (λ rest. levels.parts_of text.now ≡ result.0.now ∷ levels.parts_of rest.now) }
@@ -144,9 +144,9 @@ pub fn split_args(alloc: Global, text: &[u8]) -> Result<Vec<&[u8]>, AllocError>
     let mut arguments = Vec::new(alloc);
     let mut rest = Some(text);
     while let Some(left) = rest {
-        let (argument, behind) = first_argument(left);
+        let (argument, after) = first_argument(left);
         arguments.push(trim(argument))?;
-        rest = behind;
+        rest = after;
     }
     Ok(arguments)
 }

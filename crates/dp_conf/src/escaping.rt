@@ -7,7 +7,7 @@ ghost use Rattle.dp_conf.specs.Lines.{content_of};
 use crate::cut::cut_once;
 use std::alloc::{AllocError, Global};
 
-/// Adds a part of a text with no `;`, and the `;` behind it as a line writes it.
+/// Adds a part of a text with no `;`, and the `;` after it as a line writes it.
 fn push_part(out: &mut Vec<u8>, part: &[u8]) -> Result<(), AllocError>
     ensures { OnOk result (out.new.items ≡ out.old.items ++ (part.now ++ codes "\\;")) }
 {

@@ -13,13 +13,13 @@ pub enum LineKind {
     BlockComment,
     /// A pair before any section's header.
     NoSection,
-    /// A header with no `]`, with an empty name, or with text behind the `]` that begins with no `(`.
+    /// A header with no `]`, with an empty name, or with text after the `]` that begins with no `(`.
     BadHeader,
     /// A line of a section that is no header and has no `=`.
     NoEquals,
     /// A line that begins with `#`, as `#include`.
     Directive,
-    /// A header with a `(` behind its `]`: templates are left out.
+    /// A header with a `(` after its `]`: templates are left out.
     Template,
 }
 

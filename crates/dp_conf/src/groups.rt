@@ -2,7 +2,7 @@
 //!
 //! A group is `${` up to its `}`, or `$[` up to its `]`. Openings stack: a byte that is the end of the innermost opening
 //! closes it, and brackets with no `$` before them are plain. An opening without its end is two plain bytes, and
-//! reading goes on behind them (choices of this program).
+//! reading goes on after them (choices of this program).
 ghost use Rattle.std.specs.Prelude.{◌≡◌, ◌↔◌, ◌<◌, ℕ, List, [], IfSome, MatchOption, Some, length};
 ghost use Rattle.dp_conf.specs.Groups as groups;
 ghost use Rattle.dp_conf.specs.Groups.{Reading, IsReading};
@@ -42,7 +42,7 @@ fn is_end(innermost: Option<GroupKind>, byte: u8) -> bool
     }
 }
 
-/// The kind of group that a `$` with this byte behind it opens.
+/// The kind of group that a `$` with this byte after it opens.
 fn kind_of(byte: u8) -> Option<GroupKind>
     ensures { result ≡ groups.kind_of byte }
 {
@@ -53,29 +53,29 @@ fn kind_of(byte: u8) -> Option<GroupKind>
     }
 }
 
-/// The kind of group that a byte opens, by the bytes behind it.
-fn opening(byte: u8, behind: &[u8]) -> Option<GroupKind>
-    ensures kind { result ≡ groups.opening byte behind.now }
-    ensures two { IfSome result (λ _. 0 < length behind.now) }
+/// The kind of group that a byte opens, by the bytes after it.
+fn opening(byte: u8, after: &[u8]) -> Option<GroupKind>
+    ensures kind { result ≡ groups.opening byte after.now }
+    ensures two { IfSome result (λ _. 0 < length after.now) }
 {
-    match behind.first() {
+    match after.first() {
         Some(next) if byte == b'$' => kind_of(*next),
         _ => None,
     }
 }
 
-/// The first mark of a text, and what stands behind it, where this is the innermost group that is open; None for the
+/// The first mark of a text, and what stands after it, where this is the innermost group that is open; None for the
 /// empty text.
 pub fn next_mark(text: &[u8], innermost: Option<GroupKind>) -> Option<(Mark, &[u8])>
     ensures marked { MatchOption result (text.now ≡ []) (λ cut. IsMarked innermost text.now cut.0 cut.1.now) }
     ensures shorter { IfSome result (λ cut. length cut.1.now < length text.now) }
 {
-    let (byte, behind) = text.split_first()?;
+    let (byte, after) = text.split_first()?;
     if is_end(innermost, *byte) {
-        return Some((Mark::End, behind));
+        return Some((Mark::End, after));
     }
-    match opening(*byte, behind) {
-        None => Some((Mark::Byte(*byte), behind)),
-        Some(kind) => Some((Mark::Opening(kind), behind.split_at(1).1)),
+    match opening(*byte, after) {
+        None => Some((Mark::Byte(*byte), after)),
+        Some(kind) => Some((Mark::Opening(kind), after.split_at(1).1)),
     }
 }

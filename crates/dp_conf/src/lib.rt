@@ -8,6 +8,7 @@ mod groups;
 mod lines;
 mod nest;
 mod shallow;
+mod taking;
 mod text;
 mod told;
 mod whole;
@@ -19,12 +20,11 @@ pub use cut::{
 pub use escaping::{escape, push_escaped};
 pub use fault::{ConfFault, LineKind, ReadFault, WriteFailed};
 pub use groups::{GroupKind, Mark, next_mark, one_reading};
-pub use lines::{
-    ConfLine, Content, Line, has_begun, read_content, read_line, read_lines, without_mark,
-};
+pub use lines::Line;
 pub use nest::nesting;
 pub use shallow::{MOST_NESTING, ShallowText};
 pub use std::alloc::AllocError as NoMemory;
+pub use taking::{TakeLine, take_lines};
 pub use text::Text;
 pub use told::{ReadTold, Told, WriteTold};
 pub use whole::{MOST_BYTES, read_whole};

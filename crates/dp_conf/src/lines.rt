@@ -1,4 +1,4 @@
-//! The items of a configuration text, after the Asterisk documentation's page on its configuration files.
+//! The lines of a configuration text and their items, after the Asterisk documentation's page on its configuration files.
 ghost use Rattle.std.specs.Prelude.{◌≡◌, ◌+◌, ◌++◌, ◌∷◌, [], ◌^◌, ◌<◌, ◌≤◌, ◌||◌, OnOk, OnErr, IfOk, IfErr, nat_eq, length, take};
 ghost use Rattle.std.specs.Option.{option_to_list};
 ghost use Rattle.std.specs.List.{list_any};
@@ -8,21 +8,11 @@ ghost use Rattle.dp_conf.specs.Borrowed as borrowed;
 ghost use Rattle.dp_conf.specs.Cut as cut;
 ghost use Rattle.dp_conf.specs.Lines as spec;
 
-use crate::cut::{cut_once, first_part, trim, trim_start};
+use crate::cut::{cut_once, trim, trim_start};
 use crate::fault::{ConfFault, LineKind};
-use crate::text::Text;
 use std::alloc::{AllocError, Global};
 
-/// One item of a configuration text, with the number of its line, counted from 1.
-#[derive(Debug, PartialEq, Eq, Drop)]
-pub enum ConfLine {
-    /// A section's header, `[name]`, by its name without blanks at its ends.
-    Header { line: usize, name: Text },
-    /// A line `key = value` or `key => value`, without blanks at the ends of both.
-    Pair { line: usize, key: Text, value: Text },
-}
-
-/// One item of a configuration text, with the number of its line, as its texts stand in the line.
+/// One item of a configuration text, with the number of its line, counted from 1, as its texts stand in the line.
 #[derive(Clone, Copy)]
 pub enum Line<'a> {
     /// A section's header, `[name]`, by its name without blanks at its ends.
@@ -40,7 +30,7 @@ pub enum Line<'a> {
 
 /// What a line says before its comment.
 #[derive(Drop)]
-pub enum Content<'a> {
+pub(crate) enum Content<'a> {
     /// The bytes of the line itself.
     AsWritten(&'a [u8]),
     /// The bytes of a line that has a `\`, with each `\;` written `;`.
@@ -52,7 +42,7 @@ impl Content<'_> {
     ghost use Rattle.dp_conf.specs.Borrowed as borrowed;
 
     /// The bytes without the blanks at their ends.
-    pub fn bytes(&self) -> &[u8]
+    pub(crate) fn bytes(&self) -> &[u8]
         ensures { result.now ≡ borrowed.content_now self.now }
     {
         match self {
@@ -63,7 +53,7 @@ impl Content<'_> {
 }
 
 /// The text without the byte order mark at its front.
-pub fn without_mark(text: &[u8]) -> &[u8]
+pub(crate) fn without_mark(text: &[u8]) -> &[u8]
     ensures { result.now ≡ spec.without_mark text.now }
 {
     if text.starts_with(b"\xEF\xBB\xBF") {
@@ -128,7 +118,11 @@ fn plain_text(alloc: Global, before: &[u8]) -> Result<Content<'_>, AllocError>
 /// What a line says: what stands before its comment, without the blanks at its ends and with each `\;` written `;`.
 ///
 /// A block comment is refused. It takes memory only for a line with a `\`.
-pub fn read_content(alloc: Global, line: usize, part: &[u8]) -> Result<Content<'_>, ConfFault>
+pub(crate) fn read_content(
+    alloc: Global,
+    line: usize,
+    part: &[u8],
+) -> Result<Content<'_>, ConfFault>
     ensures { Answers borrowed.content_now spec.line_fault result (spec.at_line line (borrowed.content_read part.now)) }
 {
     let (before, comment) = part.split_at(comment_start(part));
@@ -142,12 +136,12 @@ pub fn read_content(alloc: Global, line: usize, part: &[u8]) -> Result<Content<'
     Ok(content)
 }
 
-/// The header of a section, by what stands behind its `[`.
+/// The header of a section, by what stands after its `[`.
 fn read_header(line: usize, inside: &[u8]) -> Result<Line<'_>, ConfFault>
     ensures { Answers (λ item. borrowed.line_now item ∷ []) spec.line_fault result
         (spec.at_line line (spec.header_of line (cut.cut_once 93 inside.now))) }
 {
-    let Some((name, behind)) = cut_once(inside, b']') else {
+    let Some((name, after)) = cut_once(inside, b']') else {
         return Err(ConfFault::At {
             line,
             kind: LineKind::BadHeader,
@@ -160,7 +154,7 @@ fn read_header(line: usize, inside: &[u8]) -> Result<Line<'_>, ConfFault>
             kind: LineKind::BadHeader,
         });
     }
-    match trim_start(behind).first() {
+    match trim_start(after).first() {
         None => Ok(Line::Header { line, name }),
         Some(b'(') => Err(ConfFault::At {
             line,
@@ -173,9 +167,9 @@ fn read_header(line: usize, inside: &[u8]) -> Result<Line<'_>, ConfFault>
     }
 }
 
-/// What stands behind the `=`, without the `>` that belongs to the sign.
-fn behind_sign(text: &[u8]) -> &[u8]
-    ensures { result.now ≡ spec.behind_sign text.now }
+/// What stands after the `=`, without the `>` that belongs to the sign.
+fn after_sign(text: &[u8]) -> &[u8]
+    ensures { result.now ≡ spec.after_sign text.now }
 {
     match text.split_first() {
         Some((b'>', rest)) => rest,
@@ -195,7 +189,7 @@ fn read_pair(line: usize, content: &[u8]) -> Result<Line<'_>, ConfFault>
         });
     };
     let key = trim(key);
-    let value = trim(behind_sign(value));
+    let value = trim(after_sign(value));
     Ok(Line::Pair { line, key, value })
 }
 
@@ -203,7 +197,7 @@ fn read_pair(line: usize, content: &[u8]) -> Result<Line<'_>, ConfFault>
 ///
 /// A line is refused, in this order, for a bad header, a template, a directive, a pair before any header, and a missing
 /// `=`: see [`LineKind`].
-pub fn read_line(
+pub(crate) fn read_line(
     line: usize,
     in_section: bool,
     content: &[u8],
@@ -232,8 +226,8 @@ pub fn read_line(
     }
 }
 
-/// Whether a section has begun behind this item.
-pub fn has_begun(in_section: bool, item: Option<Line<'_>>) -> bool
+/// Whether a section has begun after this item.
+pub(crate) fn has_begun(in_section: bool, item: Option<Line<'_>>) -> bool
     ensures { result ≡ (in_section || list_any spec.is_header (borrowed.lines_now item.entry)) }
 {
     match item {
@@ -241,77 +235,4 @@ pub fn has_begun(in_section: bool, item: Option<Line<'_>>) -> bool
         Some(Line::Pair { .. }) => in_section,
         None => in_section,
     }
-}
-
-/// The item with texts of its own.
-fn keep_line(alloc: Global, item: Line<'_>) -> Result<ConfLine, AllocError>
-    ensures { IfOk result (λ kept. kept ≡ borrowed.line_now item.entry) }
-{
-    match item {
-        Line::Header { line, name } => {
-            let name = Text::copy_of(alloc, name)?;
-            Ok(ConfLine::Header { line, name })
-        }
-        Line::Pair { line, key, value } => {
-            let key = Text::copy_of(alloc, key)?;
-            let value = Text::copy_of(alloc, value)?;
-            Ok(ConfLine::Pair { line, key, value })
-        }
-    }
-}
-
-/// Adds the item at the end, where there is one.
-fn push_line(
-    alloc: Global,
-    lines: &mut Vec<ConfLine>,
-    item: Option<Line<'_>>,
-) -> Result<(), AllocError>
-    ensures { OnOk result (lines.new.items ≡ lines.old.items ++ borrowed.lines_now item.entry) }
-{
-    if let Some(item) = item {
-        let kept = keep_line(alloc, item)?;
-        lines.push(kept)?;
-    }
-    Ok(())
-}
-
-/// Reads one line behind the others, and says whether a section has begun behind it.
-fn add_line(
-    alloc: Global,
-    lines: &mut Vec<ConfLine>,
-    line: usize,
-    in_section: bool,
-    part: &[u8],
-) -> Result<bool, ConfFault>
-    ensures { Answers (λ begun. (begun, lines.new.items)) spec.line_fault result
-        (borrowed.added_line lines.old.items in_section line part.now) }
-{
-    let content = read_content(alloc, line, part)?;
-    let item = read_line(line, in_section, content.bytes())?;
-    push_line(alloc, lines, item)?;
-    Ok(has_begun(in_section, item))
-}
-
-/// The items of a configuration text in order, with the numbers of their lines, or the fault of its first faulty line.
-///
-/// Lines end at line feeds; a byte order mark at the front is skipped, and blanks are bytes of 32 or less (choices of
-/// this program). A `;` begins a comment unless a `\` stands directly before it, and `\;` is a `;`. What is left of
-/// a line, without the blanks at its ends, is nothing, a header `[name]`, or a pair `key = value` or `key => value`.
-///
-/// A line is refused, in this order, for a block comment, a bad header, a template, a directive, a pair before any
-/// header, and a missing `=`: see [`LineKind`].
-pub fn read_lines(alloc: Global, text: &[u8]) -> Result<Vec<ConfLine>, ConfFault>
-    ensures { Answers (λ lines. lines.items) spec.line_fault result (spec.lines_of text.now) }
-{
-    let mut lines = Vec::new(alloc);
-    let mut line: usize = 0;
-    let mut in_section = false;
-    let mut rest = Some(without_mark(text));
-    while let Some(left) = rest {
-        let (part, behind) = first_part(left);
-        line += 1;
-        in_section = add_line(alloc, &mut lines, line, in_section, part)?;
-        rest = behind;
-    }
-    Ok(lines)
 }

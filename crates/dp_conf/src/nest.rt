@@ -2,7 +2,7 @@
 ghost use Rattle.std.specs.Prelude.{◌≡◌, ◌+◌, ◌^◌, ◌<◌, [], IfOk, OnOk};
 ghost use Rattle.dp_conf.specs.Groups.{Reading, IsReading, depth_of};
 ghost use Rattle.dp_conf.specs.GroupsRead.{first_of, nesting_of};
-ghost use Rattle.dp_conf.specs.Nest as nests;
+ghost use Rattle.dp_conf.specs.steps.Nest as nests;
 
 use crate::groups::{GroupKind, Mark, next_mark};
 use std::alloc::{AllocError, Global};
@@ -15,7 +15,7 @@ pub(crate) struct Waiting {
     deepest: usize,
 }
 
-/// The openings that wait, and the nesting of what stands behind the innermost.
+/// The openings that wait, and the nesting of what stands after the innermost.
 #[derive(Drop)]
 struct Nest {
     waiting: Vec<Waiting>,
@@ -24,7 +24,7 @@ struct Nest {
 
 impl Model for Nest {
     ghost use Rattle.std.specs.Prelude.{reverse};
-    ghost use Rattle.dp_conf.specs.Nest.{NestOf};
+    ghost use Rattle.dp_conf.specs.steps.Nest.{NestOf};
 
     ghost Value = { NestOf };
 
@@ -71,7 +71,7 @@ impl Nest {
         Ok(())
     }
 
-    /// Goes behind a mark.
+    /// Goes after a mark.
     fn take(&mut self, mark: Mark) -> Result<(), AllocError>
         requires { self.old.deepest + 1 < 2 ^ 64 }
         ensures { OnOk result (self.new ≡ nests.nest_after mark self.old) }
@@ -103,7 +103,7 @@ impl Nest {
 
 /// The greatest number of groups inside each other in the text.
 ///
-/// It takes one pass. An opening without its end is no group, whatever stands behind it.
+/// It takes one pass. An opening without its end is no group, whatever stands after it.
 ///
 /// The error comes only where a growth was refused.
 pub fn nesting(alloc: Global, text: &[u8]) -> Result<usize, AllocError>
@@ -118,9 +118,9 @@ pub fn nesting(alloc: Global, text: &[u8]) -> Result<usize, AllocError>
     }
     let mut nest = Nest::new(alloc);
     let mut rest = text;
-    while let Some((mark, behind)) = next_mark(rest, nest.innermost()) {
+    while let Some((mark, after)) = next_mark(rest, nest.innermost()) {
         nest.take(mark)?;
-        rest = behind;
+        rest = after;
     }
     Ok(nest.finish())
 }

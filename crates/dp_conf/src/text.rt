@@ -46,7 +46,7 @@ impl Text {
         Ok(Text::new(bytes))
     }
 
-    /// Adds a byte behind the others. After a refused growth all is as before.
+    /// Adds a byte after the others. After a refused growth all is as before.
     pub fn push(&mut self, byte: u8) -> Result<(), AllocError>
         ensures ok { OnOk result (self.new ≡ self.old ++ byte ∷ []) }
         ensures err { OnErr result (self.new ≡ self.old) }

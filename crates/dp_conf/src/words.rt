@@ -11,7 +11,7 @@ pub fn same_word(a: &[u8], b: &[u8]) -> bool
     a.eq_ignore_ascii_case(b)
 }
 
-/// The number of some digits with one more behind it, or the greatest number of a u64 where it is above that.
+/// The number of some digits with one more after it, or the greatest number of a u64 where it is above that.
 fn with_digit(number: u64, byte: u8) -> u64
     requires { 48 ≤ byte }
     ensures { result ≡ min (numbers.with_digit number byte) (2 ^ 64 - 1) }

@@ -8,7 +8,7 @@ use Rattle.std.proofs.lemmas.List.{append_assoc, drop_more, get_or-drop, length-
 use Rattle.std.proofs.lemmas.Option.{slice_get_read}
 use Rattle.dp_app.specs.Rows.{Rows}
 use Rattle.dp_machine.specs.Events.{event_row}
-use Rattle.dp_machine.specs.Replay.{replies_to, world_after, world_behind}
+use Rattle.dp_machine.specs.Replay.{replies_to, world_after, final_world}
 use Rattle.dp_machine.specs.World.{World}
 use Rattle.dp_machine.specs.declared.event.Event.{Event}
 use Rattle.dp_machine.specs.declared.reply.Reply.{Reply}
@@ -60,14 +60,14 @@ IsWhy-later count asked taken first End later is = absurd (omega (arith, is))
 IsWhy-later count asked taken first (at_break number) later is = (later, is.1)
 IsWhy-later count asked taken first NoMemory later is = is
 
--- one event, and then a run that goes on behind it
-pub IsRun-behind : (rows : Rows) (w : World) (events : List Event) (breaks : List Break) (from : ℕ) (event : Event) (old : List Reply) (halt : Halt)
+-- one event, and then a run that goes on after it
+pub IsRun-after : (rows : Rows) (w : World) (events : List Event) (breaks : List Break) (from : ℕ) (event : Event) (old : List Reply) (halt : Halt)
     (new : List Reply) (after : World) → from < length events → event ≡ get_or events from event
-    → IsRun rows (world_behind rows w event) events breaks (from + 1) (from + 1) (old ++ (event_row rows w event).1 ∷ []) halt new after
+    → IsRun rows (final_world rows w event) events breaks (from + 1) (from + 1) (old ++ (event_row rows w event).1 ∷ []) halt new after
     → IsRun rows w events breaks from (from + 1) old halt new after
 unfolding first_at
-IsRun-behind rows w events breaks from event old halt new after within here run =
-    let first : (n : ℕ) → from + 1 ≤ n → first_at rows (world_behind rows w event) events (from + 1) breaks n ≡ first_at rows w events from breaks n =
+IsRun-after rows w events breaks from event old halt new after within here run =
+    let first : (n : ℕ) → from + 1 ≤ n → first_at rows (final_world rows w event) events (from + 1) breaks n ≡ first_at rows w events from breaks n =
     λ n later. ap (λ es. option_and_then (λ e. first_before (world_after rows w es) e breaks) (slice_get events n)) (sym (range-first events from n event (omega (arith, later)) within here)) in
     let more : slice_range events from halt.taken ≡ event ∷ slice_range events (from + 1) halt.taken =
     range-first events from halt.taken event (omega (arith, run.begun)) within here in
@@ -77,7 +77,7 @@ IsRun-behind rows w events breaks from event old halt new after within here run 
       world = run.world ∙ ap (world_after rows w) (sym more);
       replies =
           run.replies
-          ∙ (append_assoc old ((event_row rows w event).1 ∷ []) (replies_to rows (world_behind rows w event) (slice_range events (from + 1) halt.taken))
+          ∙ (append_assoc old ((event_row rows w event).1 ∷ []) (replies_to rows (final_world rows w event) (slice_range events (from + 1) halt.taken))
           ∙ ap (λ es. old ++ replies_to rows w es) (sym more));
       none = λ n later l. sym (first n later) ∙ run.none n later l;
       why = subst (λ f. IsWhy (length events) (from + 1) halt.taken f halt.why) (first halt.taken run.begun) run.why;
@@ -89,18 +89,18 @@ range-all events n =
     let same : n - 0 ≡ n = omega arith in
     ap (λ k. take k events) same
 
--- the first events, and those behind them
-range-behind : (events : List Event) (from n : ℕ) → from ≤ n → take from events ++ slice_range events from n ≡ take n events
-range-behind events from n begun =
+-- the first events, and those after them
+range-after : (events : List Event) (from n : ℕ) → from ≤ n → take from events ++ slice_range events from n ≡ take n events
+range-after events from n begun =
     let same : from + (n - from) ≡ n = omega (arith, begun) in
     sym (take-add from (n - from) events) ∙ ap (λ k. take k events) same
 
--- the replies to events and to more behind them
+-- the replies to events and to more after them
 replies_to-append : (rows : Rows) (w : World) (events more : List Event)
     → replies_to rows w (events ++ more) ≡ replies_to rows w events ++ replies_to rows (world_after rows w events) more
 replies_to-append rows w [] more = refl
 replies_to-append rows w (event ∷ events) more =
-    ap (λ (later : List Reply). (event_row rows w event).1 ∷ later) (replies_to-append rows (world_behind rows w event) events more)
+    ap (λ (later : List Reply). (event_row rows w event).1 ∷ later) (replies_to-append rows (final_world rows w event) events more)
 
 -- a run from the first event on
 pub HasTaken-first : (rows : Rows) (w : World) (events : List Event) (breaks : List Break) (halt : Halt) (trace : List Reply) (after : World)
@@ -111,14 +111,14 @@ HasTaken-first rows w events breaks halt trace after run = record {
   world = run.world ∙ ap (world_after rows w) (range-all events halt.taken);
 }
 
--- a run that goes on behind so many events
+-- a run that goes on after so many events
 pub HasTaken-further : (rows : Rows) (w between after : World) (events : List Event) (breaks : List Break) (taken asked : ℕ) (halt : Halt) (trace whole : List Reply)
     → HasTaken rows w events taken trace between → IsRun rows between events breaks taken asked trace halt whole after
     → HasTaken rows w events halt.taken whole after
 HasTaken-further rows w between after events breaks taken asked halt trace whole before run =
     let so_far = take taken events in
     let more = slice_range events taken halt.taken in
-    let both : so_far ++ more ≡ take halt.taken events = range-behind events taken halt.taken run.begun in
+    let both : so_far ++ more ≡ take halt.taken events = range-after events taken halt.taken run.begun in
     record {
       within = run.within;
       replies =
@@ -129,5 +129,5 @@ HasTaken-further rows w between after events breaks taken asked halt trace whole
       world =
           run.world
           ∙ (ap (λ (now : World). world_after rows now more) before.world
-          ∙ (sym (fold-append (world_behind rows) w so_far more) ∙ ap (world_after rows w) both));
+          ∙ (sym (fold-append (final_world rows) w so_far more) ∙ ap (world_after rows w) both));
     }

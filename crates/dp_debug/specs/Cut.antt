@@ -12,7 +12,7 @@ use Rattle.dp_debug.specs.declared.halt.Halt.{Halt}
 use Rattle.dp_debug.specs.declared.halt.Why.{Why}
 use Rattle.dp_debug.specs.declared.halt.Why.TheVariants.{End, Break as at_break, NoMemory}
 
--- the first break that holds before the event of a number, in the world behind the events from one number up to it
+-- the first break that holds before the event of a number, in the world after the events from one number up to it
 unfoldable pub first_at : Rows → World → List Event → ℕ → List Break → ℕ → Option ℕ
 first_at rows w events from breaks number =
     option_and_then (λ event. first_before (world_after rows w (slice_range events from number)) event breaks) (slice_get events number)
@@ -24,7 +24,7 @@ IsWhy count asked taken first End = taken ≡ count
 IsWhy count asked taken first (at_break number) = (asked ≤ taken) × (first ≡ Some number)
 IsWhy count asked taken first NoMemory = Unit {0}
 
--- a run over the events from one number on, which asks the breaks from another on: where it halts, the replies behind it and the
+-- a run over the events from one number on, which asks the breaks from another on: where it halts, the replies after it and the
 -- world. Before no event that it took and asked did a break hold
 pub record IsRun (rows : Rows) (w : World) (events : List Event) (breaks : List Break) (from asked : ℕ) (old : List Reply) (halt : Halt)
     (new : List Reply) (after : World) : Type 0 where
@@ -35,7 +35,7 @@ pub record IsRun (rows : Rows) (w : World) (events : List Event) (breaks : List 
   pub none : (number : ℕ) → asked ≤ number → number < halt.taken → first_at rows w events from breaks number ≡ None
   pub why : IsWhy (length events) asked halt.taken (first_at rows w events from breaks halt.taken) halt.why
 
--- so many events were taken, the first of the list: the replies to them, and the world behind them
+-- so many events were taken, the first of the list: the replies to them, and the world after them
 pub record HasTaken (rows : Rows) (w : World) (events : List Event) (taken : ℕ) (trace : List Reply) (after : World) : Type 0 where
   pub within : taken ≤ length events
   pub replies : trace ≡ replies_to rows w (take taken events)

@@ -47,7 +47,7 @@ impl Debugger {
     }
 
     /// Runs the machine over the events until a break holds before one, with an empty trace. Where memory is refused it halts
-    /// behind the events that it took.
+    /// after the events that it took.
     pub fn run<T: AppTable>(
         &mut self,
         alloc: Global,
@@ -126,7 +126,8 @@ fn turn<T: AppTable>(
     breaks: &[Break],
 ) -> Option<Why>
     ensures none { IfNone result (first_before machine.old event.now breaks.now ≡ None) }
-    ensures trace { IfNone result (trace.new.items ≡ trace.old.items ++ (event_row T.rows machine.old event.now).1 ∷ []) }
+    ensures trace { IfNone result (trace.new.items
+        ≡ trace.old.items ++ (event_row T.rows machine.old event.now).1 ∷ []) }
     ensures world { IfNone result (machine.new ≡ (event_row T.rows machine.old event.now).0) }
     ensures why { IfSome result (λ why. IsWhy 1 0 0 (first_before machine.old event.now breaks.now) why) }
     ensures same_trace { IfSome result (λ why. trace.new.items ≡ trace.old.items) }

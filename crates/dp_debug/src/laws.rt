@@ -9,17 +9,20 @@ ghost use Rattle.dp_debug.specs.declared.breaks.Break.{Break};
 ghost use Rattle.dp_debug.specs.declared.halt.Halt.{Halt};
 
 /// A run that halts, and goes on over the same list from where it has halted, gives the machine the first events of the list,
-/// as many as the second halt says: each once, in their order. The trace is the replies to these, and the world the one behind
-/// them. So it is behind the first halt, and behind each further one. It does nothing.
+/// as many as the second halt says: each once, in their order. The trace is the replies to these, and the world the one after
+/// them. So it is after the first halt, and after each further one. It does nothing.
 pub fn joined()
-    ensures both { (rows : Rows) (w between after : World) (events : List Event) (breaks : List Break) (first second : Halt)
+    ensures both { (rows : Rows) (w between after : World) (events : List Event) (breaks : List Break)
+        (first second : Halt)
         (trace whole : List Reply)
         → IsRun rows w events breaks 0 0 [] first trace between
         → IsRun rows between events breaks first.taken (first.taken + 1) trace second whole after
         → HasTaken rows w events second.taken whole after }
-    ensures first { (rows : Rows) (w after : World) (events : List Event) (breaks : List Break) (halt : Halt) (trace : List Reply)
+    ensures first { (rows : Rows) (w after : World) (events : List Event) (breaks : List Break) (halt : Halt)
+        (trace : List Reply)
         → IsRun rows w events breaks 0 0 [] halt trace after → HasTaken rows w events halt.taken trace after }
-    ensures further { (rows : Rows) (w between after : World) (events : List Event) (breaks : List Break) (taken : ℕ) (halt : Halt)
+    ensures further { (rows : Rows) (w between after : World) (events : List Event) (breaks : List Break)
+        (taken : ℕ) (halt : Halt)
         (trace whole : List Reply)
         → HasTaken rows w events taken trace between
         → IsRun rows between events breaks taken (taken + 1) trace halt whole after

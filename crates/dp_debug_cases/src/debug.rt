@@ -2,7 +2,7 @@
 use dp_conf::read_number;
 use dp_debug::{Break, Debugger, Event, NoMemory, Place, Text};
 use dp_machine::Exten;
-use dp_machine_rows::{Asked, Exchange, answer_on, call};
+use dp_machine_rows::{Ask, Exchange, answer_on, call};
 use dp_rows::{Question, bytes_of, check};
 use std::alloc::Global;
 use std::test::Fail;
@@ -86,7 +86,7 @@ fn steps(alloc: Global, count: u32) -> Result<Vec<Event>, NoMemory> {
     Ok(events)
 }
 
-/// The halts of the calls, and how many replies are in the trace behind them.
+/// The halts of the calls, and how many replies are in the trace after them.
 fn halts_of(
     alloc: Global,
     machine: &mut Exchange,
@@ -113,7 +113,7 @@ fn halts_of(
 /// Where the calls of a case halt, without its dialplan.
 struct HaltsOn;
 
-impl Asked for HaltsOn {
+impl Ask for HaltsOn {
     fn answer(alloc: Global, machine: &mut Exchange, asked: &str) -> Result<String, Fail> {
         let (breaks, rest) = asked.split_once('¦').ok_or("no steps")?;
         let (count, calls) = rest.split_once('¦').ok_or("no calls")?;

@@ -111,11 +111,11 @@ fn readers_of(alloc: Global, machine: &Exchange) -> Result<String, NoMemory> {
 
 /// Asserts that each reader says what it said before.
 fn check_readers(alloc: Global, machine: &Exchange, before: &str) -> Result<(), Fail> {
-    let behind = readers_of(alloc, machine)?;
-    check_same("a refused event", &behind, before)
+    let after = readers_of(alloc, machine)?;
+    check_same("a refused event", &after, before)
 }
 
-/// Gives an event once more behind refused memory, of which there is enough now.
+/// Gives an event once more after refused memory, of which there is enough now.
 fn give_again(
     alloc: Global,
     machine: &mut Exchange,
@@ -220,7 +220,7 @@ fn start_calls(alloc: Global, machine: &mut Exchange, count: u32) -> Result<(), 
     Ok(())
 }
 
-/// What a machine answers to a script behind so many calls, where its lines `reload` give this dialplan; and the states of two
+/// What a machine answers to a script after so many calls, where its lines `reload` give this dialplan; and the states of two
 /// channels then.
 fn told(
     alloc: Global,

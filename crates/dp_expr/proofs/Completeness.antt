@@ -30,7 +30,7 @@ module _ {X : Type 0} (make : Making X) where
   unfolding walk step reduction
   walk-closing frames x rest = refl
 
-  -- a walk over a tree's tokens holds what the tree stands for, as far as the tokens behind it can tell
+  -- a walk over a tree's tokens holds what the tree stands for, as far as the tokens after it can tell
   pub walk-spelling : (tree : Tree) (n : ℕ) (frames : List (Frame X)) (rest : List Token) → IsGrouped n tree → IsBelow n frames → nesting frames + depth_of tree ≤ most_depth → Follows n rest → walk make (Wanting frames) (spelling tree ++ rest) ≡ walk make (Holding frames (made make tree)) rest
   unfolding walk step nesting
   walk-spelling (Leaf bytes) n frames rest grouped below shallow follows = refl

@@ -4,7 +4,7 @@ use Rattle.std.specs.Prelude.{slice_get}
 use Rattle.dp_expr.specs.declared.frame.Frame.{Frame as OpenFrame}
 use Rattle.dp_expr.specs.Values.{Outcome}
 use Rattle.dp_expr.specs.Walk.{Making, Frame, nesting, depth_with, is_due, value_under, reduction}
-use Rattle.dp_expr.specs.Frames.{frame_seen, frames_above, frames_seen, is_top_due}
+use Rattle.dp_expr.specs.steps.Frames.{frame_seen, frames_above, frames_seen, is_top_due}
 
 -- the last frame is on top, whatever is below
 frames_above-push : (below : List (Frame Outcome)) (frames : List OpenFrame) (frame : OpenFrame) → frames_above below (frames ++ (frame ∷ [])) ≡ frame_seen frame ∷ frames_above below frames

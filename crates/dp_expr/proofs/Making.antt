@@ -85,7 +85,7 @@ module _ {X : Type 0} (make : Making X) where
   first_step-made frames Closing = refl
   first_step-made frames Stray = refl
 
-  -- a token behind an operand
+  -- a token after an operand
   next_step-made : (frames : List (Frame Tree)) (tree : Tree) (token : Token) → next_step make (frames_made frames) (made make tree) token ≡ state_made (next_step trees frames tree token)
   unfolding state_made frames_made frame_made held_made
   next_step-made frames tree (Operand bytes) = refl

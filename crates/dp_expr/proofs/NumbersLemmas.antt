@@ -13,7 +13,7 @@ use Rattle.std.proofs.lemmas.Str.Parse.{digit_from_value}
 use Rattle.std.proofs.lemmas.Bool.Decides.{nat_tests}
 use Rattle.dp_expr.specs.Numbers.{natural_of, in_word, in_range, next_value, negative_of, positive_of, number_of}
 
--- the number of digits behind others whose number is n, in a word at each step
+-- the number of digits after others whose number is n, in a word at each step
 unfoldable pub read_on : ℕ → List ℕ → Option ℕ
 read_on n [] = Some n
 read_on n (d ∷ ds) = option_and_then (λ m. read_on m ds) (next_value n d)

@@ -192,7 +192,7 @@ sound_first_step tokens frames Opening s =
 sound_first_step tokens frames Closing s = tt
 sound_first_step tokens frames Stray s = tt
 
--- an operator behind an operand
+-- an operator after an operand
 sound_operator_step : (tokens : List Token) (frames : List (Frame Tree)) (tree : Tree) (operator : Operator) (held : Held Tree) → tokens ≡ frames_spelling frames ++ spelling tree → Settles (level_of operator) frames tree held → IsSound (tokens ++ (Sign operator ∷ [])) (operator_step operator held)
 unfolding IsSound AreSound frames_spelling
 sound_operator_step tokens frames tree operator held e s = (
@@ -219,7 +219,7 @@ sound_closing tokens (Paren ∷ frames) tree n e operand sound = (
   sound.1,
 )
 
--- a token behind an operand
+-- a token after an operand
 sound_next_step : (tokens : List Token) (frames : List (Frame Tree)) (tree : Tree) (token : Token) → IsSound tokens (Holding frames tree) → IsSound (tokens ++ (token ∷ [])) (next_step trees frames tree token)
 unfolding IsSound
 sound_next_step tokens frames tree (Operand bytes) s = tt

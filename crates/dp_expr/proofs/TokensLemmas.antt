@@ -11,7 +11,7 @@ abbrev pub plus : ℕ → Option ℕ → Option ℕ
 plus n None = None
 plus n (Some m) = Some (n + m)
 
--- one more behind n is the same behind n + 1
+-- one more after n is the same after n + 1
 plus-one_more : (n : ℕ) (o : Option ℕ) → plus n (one_more o) ≡ plus (n + 1) o
 plus-one_more n None = refl
 plus-one_more n (Some m) = ap Some (omega arith)

@@ -5,8 +5,4 @@ pub mod Numbers
 pub mod Values
 pub mod Expression
 pub mod Walk
-pub mod Seen
-pub mod Texts
-pub mod Frames
-pub mod Places
-pub mod Stacks
+pub mod steps

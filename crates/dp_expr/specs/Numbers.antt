@@ -17,7 +17,7 @@ natural_of [] = None
 natural_of (d ∷ digits) =
     if list_all is_ascii_digit (d ∷ digits) then Some (digits_value 10 (d ∷ digits)) else None
 
--- the number behind a minus
+-- the number after a minus
 abbrev pub negative_of : List ℕ → Option ℤ
 negative_of digits = option_and_then (λ n. in_range (neg_ℤ (pos n))) (natural_of digits)
 

@@ -46,7 +46,7 @@ abbrev pub begins_with : ℕ → List ℕ → Bool
 begins_with c [] = false
 begins_with c (b ∷ bytes) = b == c
 
--- a token, and how many bytes it takes of those behind its first
+-- a token, and how many bytes it takes of those after its first
 pub record Cut : Type 0 where
   pub token : Token
   pub more : ℕ
@@ -96,7 +96,7 @@ abbrev pub begin_token : Bool → Cut → (ℕ → List Token) → List Token
 begin_token true cut rest = rest 0
 begin_token false cut rest = cut.token ∷ rest cut.more
 
--- the tokens behind the first n bytes, which a token before them takes
+-- the tokens after the first n bytes, which a token before them takes
 unfoldable pub tokens_after : List ℕ → ℕ → List Token
 tokens_after [] n = []
 tokens_after (b ∷ bytes) zero = begin_token (is_blank b) (cut_at b bytes) (tokens_after bytes)

@@ -107,7 +107,7 @@ operator_step operator held = Wanting (Left operator held.value ∷ held.frames)
 abbrev pub closing_step : {X : Type 0} → Making X → Held X → State X
 closing_step make held = closing make held.frames held.value
 
--- a token behind an operand
+-- a token after an operand
 abbrev pub next_step : {X : Type 0} → Making X → List (Frame X) → X → Token → State X
 next_step make frames x (Operand bytes) = Failed
 next_step make frames x (Sign operator) = operator_step operator (reduction make (level_of operator) frames x)

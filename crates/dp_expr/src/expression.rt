@@ -2,7 +2,7 @@
 
 ghost use Rattle.std.specs.Prelude.{◌≡◌, ◌↔◌, ℕ, List, [], IfOk};
 ghost use Rattle.dp_expr.specs.Tokens.{tokens_of};
-ghost use Rattle.dp_expr.specs.Texts.{text_seen, value_seen};
+ghost use Rattle.dp_expr.specs.steps.Texts.{text_seen, value_seen};
 ghost use Rattle.dp_expr.specs.Trees.{Tree, IsTree};
 ghost use Rattle.dp_expr.specs.Values.{value_of, answer};
 ghost use Rattle.dp_expr.specs.Expression.{IsValue, expression_value};

@@ -1,9 +1,9 @@
 //! What waits for an operand during a walk.
 
 ghost use Rattle.std.specs.Prelude.{◌≡◌, ◌+◌, ◌≤◌, ℕ};
-ghost use Rattle.dp_expr.specs.Texts.{value_seen};
+ghost use Rattle.dp_expr.specs.steps.Texts.{value_seen};
 ghost use Rattle.dp_expr.specs.Walk.{is_due, depth_with, value_under, values};
-ghost use Rattle.dp_expr.specs.Frames.{frame_seen};
+ghost use Rattle.dp_expr.specs.steps.Frames.{frame_seen};
 
 use crate::operation;
 use crate::operator::{Operator, Prefix};

@@ -3,7 +3,7 @@
 ghost use Rattle.std.specs.Prelude.{◌≡◌};
 ghost use Rattle.dp_expr.specs.Numbers.{decimal_text};
 ghost use Rattle.dp_expr.specs.Values.{either, both, value_between, text_between, arithmetic, result_of, quotient, remainder, negation, value_before};
-ghost use Rattle.dp_expr.specs.Texts.{text_seen, value_seen};
+ghost use Rattle.dp_expr.specs.steps.Texts.{text_seen, value_seen};
 
 use crate::operator::{Operator, Prefix};
 use crate::text::Text;

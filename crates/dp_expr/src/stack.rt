@@ -3,7 +3,7 @@
 ghost use Rattle.std.specs.Prelude.{◌≡◌, ◌≤◌};
 ghost use Rattle.dp_expr.specs.Trees.{most_depth};
 ghost use Rattle.dp_expr.specs.Walk.{nesting};
-ghost use Rattle.dp_expr.specs.Frames.{frames_seen};
+ghost use Rattle.dp_expr.specs.steps.Frames.{frames_seen};
 
 use crate::frame::Frame;
 use crate::text::Text;
@@ -24,10 +24,10 @@ pub struct Stack<'a> {
 impl<'a> Stack<'a> {
     ghost use Rattle.std.specs.Prelude.{◌≡◌, ◌≤◌, ◌∷◌, [], IfNone, IfSome, OnOk, is_some};
     ghost use Rattle.dp_expr.specs.Trees.{most_depth};
-    ghost use Rattle.dp_expr.specs.Texts.{value_seen};
+    ghost use Rattle.dp_expr.specs.steps.Texts.{value_seen};
     ghost use Rattle.dp_expr.specs.Walk.{depth_with, reduction, values};
-    ghost use Rattle.dp_expr.specs.Frames.{frame_seen, is_top_due};
-    ghost use Rattle.dp_expr.specs.Stacks.{stack_seen};
+    ghost use Rattle.dp_expr.specs.steps.Frames.{frame_seen, is_top_due};
+    ghost use Rattle.dp_expr.specs.steps.Stacks.{stack_seen};
 
     pub fn new(alloc: Global) -> Self
         ensures { stack_seen result ≡ [] }

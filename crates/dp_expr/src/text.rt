@@ -5,7 +5,7 @@ ghost use Rattle.std.specs.Cmp.Lexicographic.{slice_cmp};
 ghost use Rattle.std.specs.Ordering.{nat_cmp};
 ghost use Rattle.dp_expr.specs.Numbers.{number_of};
 ghost use Rattle.dp_expr.specs.Values.{is_zero, is_false, order_of, truth};
-ghost use Rattle.dp_expr.specs.Texts.{text_seen};
+ghost use Rattle.dp_expr.specs.steps.Texts.{text_seen};
 
 use crate::operand::Operand;
 use itoa::Buffer;

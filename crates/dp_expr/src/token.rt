@@ -2,7 +2,7 @@
 
 ghost use Rattle.std.specs.Prelude.{◌≡◌, ◌+◌, ◌<◌, ◌≤◌, ◌∷◌, [], length, take, MatchOption, ⊤};
 ghost use Rattle.dp_expr.specs.Tokens.{Operand, Sign, is_blank, is_word_byte, word_size, quoted_size, begins_with, longest, mark_cut, cut_at, tokens_of};
-ghost use Rattle.dp_expr.specs.Seen.{token_seen, cut_seen, IsStart, IsNext};
+ghost use Rattle.dp_expr.specs.steps.Seen.{token_seen, cut_seen, IsStart, IsNext};
 
 use crate::operator::Operator;
 
@@ -20,7 +20,7 @@ pub enum Token<'a> {
     Stray,
 }
 
-/// A token, and how many bytes it takes of those behind its first.
+/// A token, and how many bytes it takes of those after its first.
 #[derive(Clone, Copy, Debug)]
 struct Cut<'a> {
     token: Token<'a>,
@@ -178,7 +178,7 @@ fn skip_blanks(text: &[u8]) -> &[u8]
     rest
 }
 
-/// The first token of a text, and the text behind it; none where only blanks are left.
+/// The first token of a text, and the text after it; none where only blanks are left.
 pub fn next_token(text: &[u8]) -> Option<(Token<'_>, &[u8])>
     ensures { MatchOption result (tokens_of text.now ≡ [])
         (λ next. IsNext text.now (token_seen next.0) next.1.now) }

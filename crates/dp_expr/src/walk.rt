@@ -2,12 +2,12 @@
 
 ghost use Rattle.std.specs.Prelude.{◌≡◌, ◌≤◌, ◌∷◌, [], IfOk, None, unwrap_or};
 ghost use Rattle.dp_expr.specs.Tokens.{tokens_of};
-ghost use Rattle.dp_expr.specs.Texts.{value_seen};
-ghost use Rattle.dp_expr.specs.Seen.{token_seen};
+ghost use Rattle.dp_expr.specs.steps.Texts.{value_seen};
+ghost use Rattle.dp_expr.specs.steps.Seen.{token_seen};
 ghost use Rattle.dp_expr.specs.Trees.{level_of};
 ghost use Rattle.dp_expr.specs.Walk.{Wanting, entry, closing_step, prefix_entry, first_step, next_step, operator_step, reduction, step, whole_of, ending, walk, values};
-ghost use Rattle.dp_expr.specs.Frames.{frame_seen};
-ghost use Rattle.dp_expr.specs.Stacks.{stack_seen, state_seen};
+ghost use Rattle.dp_expr.specs.steps.Frames.{frame_seen};
+ghost use Rattle.dp_expr.specs.steps.Stacks.{stack_seen, state_seen};
 
 use crate::frame::Frame;
 use crate::operand::Operand;
@@ -98,7 +98,7 @@ fn enter<'a>(stack: &mut Stack<'a>, frame: Frame<'a>) -> Result<Place<'a>, Alloc
     }
 }
 
-/// A token behind an operand.
+/// A token after an operand.
 fn go_on<'a>(
     stack: &mut Stack<'a>,
     value: Option<Text<'a>>,
@@ -114,21 +114,22 @@ fn go_on<'a>(
     }
 }
 
-/// An operator behind an operand, which becomes its left side.
+/// An operator after an operand, which becomes its left side.
 fn push_left<'a>(
     stack: &mut Stack<'a>,
     operator: Operator,
     value: Option<Text<'a>>,
 ) -> Result<Place<'a>, AllocError>
     ensures { IfOk result (λ next. state_seen next stack.new
-        ≡ operator_step operator (reduction values (level_of operator) (stack_seen stack.old) (value_seen value.entry))) }
+        ≡ operator_step operator (reduction values (level_of operator) (stack_seen stack.old)
+        (value_seen value.entry))) }
 {
     let left = stack.reduce(operator.level(), value);
     stack.push(Frame::Left(operator, left))?;
     Ok(Place::Wanting)
 }
 
-/// A closing parenthesis behind an operand.
+/// A closing parenthesis after an operand.
 fn close<'a>(stack: &mut Stack<'a>, value: Option<Text<'a>>) -> Place<'a>
     ensures { state_seen result stack.new
         ≡ closing_step values (reduction values 0 (stack_seen stack.old) (value_seen value.entry)) }

@@ -37,7 +37,7 @@ abbrev pub goto_if_row : Row
 goto_if_row arguments cell = stays cell (jump_if (chosen arguments))
 
 -- the priority of a subroutine, and the arguments for it
-pub record Called : Type 0 where
+pub record SubroutineCall : Type 0 where
   pub priority : List ℕ
   pub arguments : List (List ℕ)
 
@@ -46,15 +46,15 @@ abbrev pub inner_arguments : List ℕ → List (List ℕ)
 inner_arguments [] = []
 inner_arguments (b ∷ bs) = arguments_of (b ∷ bs)
 
--- the last part of a subroutine's target, by its first `(`: the arguments end at the last `)` behind it, without which there
+-- the last part of a subroutine's target, by its first `(`: the arguments end at the last `)` after it, without which there
 -- is no target
-abbrev pub called_by : List ℕ → Option (List ℕ × List ℕ) → Option Called
+abbrev pub called_by : List ℕ → Option (List ℕ × List ℕ) → Option SubroutineCall
 called_by part None = Some (record { priority = part; arguments = [] })
 called_by part (Some cut) =
     option_map (λ inside. record { priority = trim cut.0; arguments = inner_arguments inside }) (before_last 41 cut.1)
 
 -- the last part of a subroutine's target
-abbrev pub called : List (List ℕ) → Option Called
+abbrev pub called : List (List ℕ) → Option SubroutineCall
 called parts = option_and_then (λ part. called_by part (cut_once 40 part)) (slice_get parts (length parts - 1))
 
 -- the locals of a subroutine: `ARG1`, `ARG2` and so on, from a number on
@@ -62,12 +62,12 @@ abbrev pub numbered : ℕ → List (List ℕ) → List Variable
 numbered number [] = []
 numbered number (value ∷ values) = record { name = codes "ARG" ++ decimal number; value = value } ∷ numbered (number + 1) values
 
--- the place behind a place
+-- the place after a place
 abbrev pub place_after : Place → Place
 place_after place = record { context = place.context; exten = place.exten; priority = place.priority + 1 }
 
--- a subroutine is entered, by the parts before the last one: a frame is pushed that goes back to the place behind this one
-abbrev pub entered : Cell → List (List ℕ) → Option Called → Outcome
+-- a subroutine is entered, by the parts before the last one: a frame is pushed that goes back to the place after this one
+abbrev pub entered : Cell → List (List ℕ) → Option SubroutineCall → Outcome
 entered cell front None = stays cell Hang
 entered cell front (Some c) = record {
   cell = record cell { store = with_frame cell.store (place_after cell.place) (numbered 1 c.arguments) };

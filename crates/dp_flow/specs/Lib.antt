@@ -1,9 +1,9 @@
-pub mod Calls
 pub mod Conditions
 pub mod Dialling
 pub mod Jumps
-pub mod Lawful
 pub mod Plain
 pub mod Settings
 pub mod Touches
 pub mod Waiting
+pub mod steps
+pub mod laws

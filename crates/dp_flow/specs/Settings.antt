@@ -12,11 +12,11 @@ use Rattle.dp_app.specs.declared.moves.Move.TheVariants.{Next}
 
 -- what stands before a `)`, if that is the last byte
 abbrev pub closed : List ℕ → List ℕ → Option (List ℕ)
-closed behind front = if length front + 1 == length behind then Some front else None
+closed after front = if length front + 1 == length after then Some front else None
 
--- the argument of a function by what stands behind its `(`: the `)` has to be the last byte
+-- the argument of a function by what stands after its `(`: the `)` has to be the last byte
 abbrev pub argument_of : List ℕ → Option (List ℕ)
-argument_of behind = option_and_then (closed behind) (before_last 41 behind)
+argument_of after = option_and_then (closed after) (before_last 41 after)
 
 -- a function of an argument is set; names of other functions have no effect
 abbrev pub with_function : Cell → List ℕ → List ℕ → List ℕ → Cell
@@ -45,7 +45,7 @@ with_name cell name (Some cut) value = with_called cell cut.0 (argument_of cut.1
 abbrev pub with_value : Cell → List ℕ → List ℕ → Cell
 with_value cell name value = with_name cell name (cut_once 40 name) value
 
--- what stands before the first `=` is the name, and what stands behind it the value; with no `=` there is no effect
+-- what stands before the first `=` is the name, and what stands after it the value; with no `=` there is no effect
 abbrev pub with_pair : Cell → Option (List ℕ × List ℕ) → Cell
 with_pair cell None = cell
 with_pair cell (Some cut) = with_value cell (trim cut.0) cut.1

@@ -35,7 +35,7 @@ pub struct Dial;
 impl Application for Dial {
     ghost use Rattle.std.specs.Prelude.{codes};
     ghost use Rattle.dp_flow.specs.Dialling.{dial_row};
-    ghost use Rattle.dp_flow.specs.Lawful.{dial_lawful};
+    ghost use Rattle.dp_flow.specs.laws.Lawful.{dial_lawful};
     ghost use Rattle.dp_flow.specs.Touches.{the_variables};
 
     ghost meaning = { dial_row };

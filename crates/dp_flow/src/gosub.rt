@@ -3,8 +3,8 @@ ghost use Rattle.std.specs.Prelude.{◌≡◌, ◌+◌, ◌++◌, ◌≤◌, ◌
 ghost use Rattle.std.specs.Fmt.{decimal};
 ghost use Rattle.std.specs.Option.{option_map};
 ghost use Rattle.dp_conf.specs.Cut.{cut_once};
-ghost use Rattle.dp_app.specs.Laws.{most_priority};
-ghost use Rattle.dp_flow.specs.Calls as calls;
+ghost use Rattle.dp_app.specs.Lawful.{most_priority};
+ghost use Rattle.dp_flow.specs.steps.Calls as calls;
 ghost use Rattle.dp_flow.specs.Jumps as spec;
 
 use crate::choice::chosen;
@@ -16,24 +16,24 @@ use std::alloc::Global;
 
 /// The priority of a subroutine, and the text of the arguments for it, where it has some.
 #[derive(Clone, Copy)]
-struct Called<'a> {
+struct SubroutineCall<'a> {
     priority: &'a [u8],
     arguments: &'a [u8],
 }
 
 /// The last part of a subroutine's target. Its arguments stand between its first `(` and its last `)`, and with no `)` it is
 /// no target (a choice of this program).
-fn called_by(part: &[u8]) -> Option<Called<'_>>
+fn called_by(part: &[u8]) -> Option<SubroutineCall<'_>>
     ensures { option_map calls.called_now result ≡ spec.called_by part.now (cut_once 40 part.now) }
 {
     match cut_once(part, b'(') {
-        None => Some(Called {
+        None => Some(SubroutineCall {
             priority: part,
             arguments: b"",
         }),
-        Some((priority, behind)) => {
-            let arguments = before_last(behind, b')')?;
-            Some(Called {
+        Some((priority, after)) => {
+            let arguments = before_last(after, b')')?;
+            Some(SubroutineCall {
                 priority: trim(priority),
                 arguments,
             })
@@ -83,7 +83,7 @@ fn locals_of(alloc: Global, arguments: &[u8]) -> Result<Vec<Variable>, NoMemory>
     Ok(locals)
 }
 
-/// The place behind a place.
+/// The place after a place.
 fn place_after(place: &Place) -> Result<Place, NoMemory>
     requires { place.now.priority ≤ most_priority }
     ensures { IfOk result (λ after. after ≡ spec.place_after place.now) }
@@ -98,11 +98,12 @@ fn place_after(place: &Place) -> Result<Place, NoMemory>
 fn enter(
     alloc: Global,
     front: &[&[u8]],
-    called: Called<'_>,
+    called: SubroutineCall<'_>,
     cell: &mut Cell,
 ) -> Result<Move, NoMemory>
     requires { cell.old.place.priority ≤ most_priority }
-    ensures ok { IfOk result (λ going. spec.entered cell.old (map (λ part. part.now) front.now) (Some (calls.called_now called.entry)) ≡ record { cell = cell.new; next = going }) }
+    ensures ok { IfOk result (λ going. spec.entered cell.old (map (λ part. part.now) front.now)
+        (Some (calls.called_now called.entry)) ≡ record { cell = cell.new; next = going }) }
     ensures err { OnErr result (cell.new ≡ cell.old) }
 {
     let target = TargetParts::with_last(alloc, front, called.priority)?;
@@ -115,7 +116,8 @@ fn enter(
 /// A subroutine is entered by the parts of its target. After a refused growth the cell is as before.
 fn enter_by_parts(alloc: Global, parts: &[&[u8]], cell: &mut Cell) -> Result<Move, NoMemory>
     requires { cell.old.place.priority ≤ most_priority }
-    ensures ok { IfOk result (λ going. spec.gosub_parts (map (λ part. part.now) parts.now) cell.old ≡ record { cell = cell.new; next = going }) }
+    ensures ok { IfOk result (λ going. spec.gosub_parts (map (λ part. part.now) parts.now) cell.old
+        ≡ record { cell = cell.new; next = going }) }
     ensures err { OnErr result (cell.new ≡ cell.old) }
 {
     let Some((last, front)) = parts.split_last() else {
@@ -140,14 +142,14 @@ fn enter_by_text(alloc: Global, target: &[u8], cell: &mut Cell) -> Result<Move, 
     Ok(going)
 }
 
-/// `Gosub([[context,]extension,]priority[(arguments)])`: a frame is pushed that goes back to the place behind this one, with
+/// `Gosub([[context,]extension,]priority[(arguments)])`: a frame is pushed that goes back to the place after this one, with
 /// the arguments as its locals `ARG1`, `ARG2` and so on, and the channel goes to the target if an entry is found there.
 pub struct Gosub;
 
 impl Application for Gosub {
     ghost use Rattle.std.specs.Prelude.{codes};
     ghost use Rattle.dp_flow.specs.Jumps.{gosub_row};
-    ghost use Rattle.dp_flow.specs.Lawful.{gosub_lawful};
+    ghost use Rattle.dp_flow.specs.laws.Lawful.{gosub_lawful};
     ghost use Rattle.dp_flow.specs.Touches.{the_frames};
 
     ghost meaning = { gosub_row };
@@ -180,7 +182,7 @@ pub struct GosubIf;
 impl Application for GosubIf {
     ghost use Rattle.std.specs.Prelude.{codes};
     ghost use Rattle.dp_flow.specs.Jumps.{gosub_if_row};
-    ghost use Rattle.dp_flow.specs.Lawful.{gosub_if_lawful};
+    ghost use Rattle.dp_flow.specs.laws.Lawful.{gosub_if_lawful};
     ghost use Rattle.dp_flow.specs.Touches.{the_frames};
 
     ghost meaning = { gosub_if_row };
@@ -219,7 +221,7 @@ pub struct Return;
 impl Application for Return {
     ghost use Rattle.std.specs.Prelude.{codes};
     ghost use Rattle.dp_flow.specs.Jumps.{return_row};
-    ghost use Rattle.dp_flow.specs.Lawful.{return_lawful};
+    ghost use Rattle.dp_flow.specs.laws.Lawful.{return_lawful};
     ghost use Rattle.dp_flow.specs.Touches.{variables_and_frames};
 
     ghost meaning = { return_row };
@@ -258,7 +260,7 @@ pub struct StackPop;
 impl Application for StackPop {
     ghost use Rattle.std.specs.Prelude.{codes};
     ghost use Rattle.dp_flow.specs.Jumps.{stack_pop_row};
-    ghost use Rattle.dp_flow.specs.Lawful.{stack_pop_lawful};
+    ghost use Rattle.dp_flow.specs.laws.Lawful.{stack_pop_lawful};
     ghost use Rattle.dp_flow.specs.Touches.{the_frames};
 
     ghost meaning = { stack_pop_row };

@@ -32,7 +32,7 @@ pub struct Goto;
 impl Application for Goto {
     ghost use Rattle.std.specs.Prelude.{codes};
     ghost use Rattle.dp_flow.specs.Jumps.{goto_row};
-    ghost use Rattle.dp_flow.specs.Lawful.{goto_lawful};
+    ghost use Rattle.dp_flow.specs.laws.Lawful.{goto_lawful};
     ghost use Rattle.dp_flow.specs.Touches.{nothing};
 
     ghost meaning = { goto_row };
@@ -66,7 +66,7 @@ pub struct GotoIf;
 impl Application for GotoIf {
     ghost use Rattle.std.specs.Prelude.{codes};
     ghost use Rattle.dp_flow.specs.Jumps.{goto_if_row};
-    ghost use Rattle.dp_flow.specs.Lawful.{goto_if_lawful};
+    ghost use Rattle.dp_flow.specs.laws.Lawful.{goto_if_lawful};
     ghost use Rattle.dp_flow.specs.Touches.{nothing};
 
     ghost meaning = { goto_if_row };

@@ -10,7 +10,7 @@ pub struct NoOp;
 
 impl Application for NoOp {
     ghost use Rattle.std.specs.Prelude.{codes};
-    ghost use Rattle.dp_flow.specs.Lawful.{next_lawful};
+    ghost use Rattle.dp_flow.specs.laws.Lawful.{next_lawful};
     ghost use Rattle.dp_flow.specs.Plain.{next_row};
     ghost use Rattle.dp_flow.specs.Touches.{nothing};
 

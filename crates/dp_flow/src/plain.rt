@@ -11,7 +11,7 @@ pub struct Answer;
 
 impl Application for Answer {
     ghost use Rattle.std.specs.Prelude.{codes};
-    ghost use Rattle.dp_flow.specs.Lawful.{next_lawful};
+    ghost use Rattle.dp_flow.specs.laws.Lawful.{next_lawful};
     ghost use Rattle.dp_flow.specs.Plain.{next_row};
     ghost use Rattle.dp_flow.specs.Touches.{nothing};
 
@@ -43,7 +43,7 @@ pub struct Verbose;
 
 impl Application for Verbose {
     ghost use Rattle.std.specs.Prelude.{codes};
-    ghost use Rattle.dp_flow.specs.Lawful.{next_lawful};
+    ghost use Rattle.dp_flow.specs.laws.Lawful.{next_lawful};
     ghost use Rattle.dp_flow.specs.Plain.{next_row};
     ghost use Rattle.dp_flow.specs.Touches.{nothing};
 
@@ -75,7 +75,7 @@ pub struct Playback;
 
 impl Application for Playback {
     ghost use Rattle.std.specs.Prelude.{codes};
-    ghost use Rattle.dp_flow.specs.Lawful.{next_lawful};
+    ghost use Rattle.dp_flow.specs.laws.Lawful.{next_lawful};
     ghost use Rattle.dp_flow.specs.Plain.{next_row};
     ghost use Rattle.dp_flow.specs.Touches.{nothing};
 
@@ -107,7 +107,7 @@ pub struct Hangup;
 
 impl Application for Hangup {
     ghost use Rattle.std.specs.Prelude.{codes};
-    ghost use Rattle.dp_flow.specs.Lawful.{hangup_lawful};
+    ghost use Rattle.dp_flow.specs.laws.Lawful.{hangup_lawful};
     ghost use Rattle.dp_flow.specs.Plain.{hangup_row};
     ghost use Rattle.dp_flow.specs.Touches.{nothing};
 

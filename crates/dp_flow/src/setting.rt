@@ -8,12 +8,12 @@ use dp_app::{Application, Cell, Move, Touch};
 use dp_conf::{NoMemory, Text, before_last, cut_once, trim};
 use std::alloc::Global;
 
-/// The argument of a function by what stands behind its `(`: the `)` has to be the last byte.
-fn argument_of(behind: &[u8]) -> Option<&[u8]>
-    ensures { option_map (λ argument. argument.now) result ≡ spec.argument_of behind.now }
+/// The argument of a function by what stands after its `(`: the `)` has to be the last byte.
+fn argument_of(after: &[u8]) -> Option<&[u8]>
+    ensures { option_map (λ argument. argument.now) result ≡ spec.argument_of after.now }
 {
-    let argument = before_last(behind, b')')?;
-    if argument.len() + 1 == behind.len() {
+    let argument = before_last(after, b')')?;
+    if argument.len() + 1 == after.len() {
         Some(argument)
     } else {
         None
@@ -56,7 +56,7 @@ fn set_name(alloc: Global, cell: &mut Cell, name: &[u8], value: &[u8]) -> Result
             }
             Ok(())
         }
-        Some((function, behind)) => match argument_of(behind) {
+        Some((function, after)) => match argument_of(after) {
             None => Ok(()),
             Some(argument) => set_function(alloc, cell, function, argument, value),
         },
@@ -70,7 +70,7 @@ pub struct Set;
 
 impl Application for Set {
     ghost use Rattle.std.specs.Prelude.{codes};
-    ghost use Rattle.dp_flow.specs.Lawful.{set_lawful};
+    ghost use Rattle.dp_flow.specs.laws.Lawful.{set_lawful};
     ghost use Rattle.dp_flow.specs.Settings.{set_row};
     ghost use Rattle.dp_flow.specs.Touches.{settable};
 

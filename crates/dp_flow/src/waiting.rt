@@ -34,7 +34,7 @@ pub struct Wait;
 
 impl Application for Wait {
     ghost use Rattle.std.specs.Prelude.{codes};
-    ghost use Rattle.dp_flow.specs.Lawful.{wait_lawful};
+    ghost use Rattle.dp_flow.specs.laws.Lawful.{wait_lawful};
     ghost use Rattle.dp_flow.specs.Touches.{nothing};
     ghost use Rattle.dp_flow.specs.Waiting.{wait_row};
 
@@ -63,7 +63,7 @@ pub struct WaitExten;
 
 impl Application for WaitExten {
     ghost use Rattle.std.specs.Prelude.{codes};
-    ghost use Rattle.dp_flow.specs.Lawful.{wait_exten_lawful};
+    ghost use Rattle.dp_flow.specs.laws.Lawful.{wait_exten_lawful};
     ghost use Rattle.dp_flow.specs.Touches.{nothing};
     ghost use Rattle.dp_flow.specs.Waiting.{wait_exten_row};
 
@@ -92,7 +92,7 @@ pub struct Background;
 
 impl Application for Background {
     ghost use Rattle.std.specs.Prelude.{codes};
-    ghost use Rattle.dp_flow.specs.Lawful.{background_lawful};
+    ghost use Rattle.dp_flow.specs.laws.Lawful.{background_lawful};
     ghost use Rattle.dp_flow.specs.Touches.{nothing};
     ghost use Rattle.dp_flow.specs.Waiting.{background_row};
 

@@ -9,15 +9,13 @@ use Rattle.dp_conf.specs.Answers.{with_front, all_of, each_after}
 use Rattle.dp_conf.specs.Blanks.{is_blank, before_kept, trim, trim_end}
 use Rattle.dp_conf.specs.Cut.{begins_with, cut_once}
 use Rattle.dp_conf.specs.Escape.{escaped}
-use Rattle.dp_conf.specs.Lines.{LineFault, line_feed, parts_of, comment_of, opens_block, content_of, header_by, header_of, pair_of, item_of, part_item, opens_section, at_line, reading_of, lines_of}
+use Rattle.dp_conf.specs.Lines.{LineOf, Header, Pair, LineFault, line_feed, parts_of, comment_of, opens_block, content_of, header_by, header_of, pair_of, item_of, part_item, opens_section, at_line, reading_of, lines_of}
 use Rattle.dp_conf.specs.declared.fault.LineKind.{LineKind}
-use Rattle.dp_conf.specs.declared.fault.LineKind.TheVariants.{BlockComment, Directive}
-use Rattle.dp_conf.specs.declared.lines.ConfLine.{ConfLine}
-use Rattle.dp_conf.specs.declared.lines.ConfLine.TheVariants.{Header, Pair}
+use Rattle.dp_conf.specs.declared.fault.LineKind.TheVariants.{BlockComment}
 use Rattle.dp_conf.proofs.EscapeLemmas.{escaped-semicolon, escaped-other, comment_start-escaped, content_of-escaped}
 use Rattle.dp_lister.specs.Listing.{header_line, text_of}
-use Rattle.dp_plan.proofs.Canonical.{IsKey, IsValue, IsHeaderName}
-use Rattle.dp_conf.proofs.TextLemmas.{Avoids, each-append, IsTrimmed, trim-trimmed, trim_end-behind, trim_end-blank, firm-behind, trim-blank_behind, trim-blank_before, cut_once-here}
+use Rattle.dp_plan.proofs.PartsKnown.{IsKey, IsValue, IsHeaderName}
+use Rattle.dp_conf.proofs.TextLemmas.{Avoids, each-append, IsTrimmed, trim-trimmed, trim_end-after, trim_end-blank, firm-after, trim-blank_after, trim-blank_before, cut_once-here}
 
 -- ---- a line that is written
 
@@ -32,13 +30,13 @@ comment_of-escaped text = ap (λ n. drop n (escaped text)) (comment_start-escape
 -- a written line is read by its trimmed text
 part_item-written : (in_section : Bool) (line : ℕ) (text : List ℕ) → part_item in_section line (escaped text) ≡ item_of in_section line (trim text)
 part_item-written in_section line text =
-    ap (λ (comment : List ℕ). cond {A = Result (List ConfLine) LineKind} (opens_block comment) (Err BlockComment) (item_of in_section line (content_of (escaped text)))) (comment_of-escaped text)
+    ap (λ (comment : List ℕ). cond {A = Result (List LineOf) LineKind} (opens_block comment) (Err BlockComment) (item_of in_section line (content_of (escaped text)))) (comment_of-escaped text)
     ∙ ap (item_of in_section line) (content_of-escaped text)
 
 -- ---- a header
 
 trim-header : (name : List ℕ) → trim (header_line name) ≡ header_line name
-trim-header name = trim_end-behind (91 ∷ name) 93 [] refl
+trim-header name = trim_end-after (91 ∷ name) 93 [] refl
 
 header_of-name : (line first : ℕ) (rest : List ℕ) → IsTrimmed (first ∷ rest) → Avoids 93 (first ∷ rest) → header_of line (cut_once 93 ((first ∷ rest) ++ 93 ∷ [])) ≡ Ok (Header line (first ∷ rest) ∷ [])
 header_of-name line first rest trimmed avoids =
@@ -69,27 +67,23 @@ trim-shown (v ∷ value) t = trim-blank_before (v ∷ value) t
 
 trim-pair : (k : ℕ) (key value : List ℕ) → is_blank k ≡ false → IsTrimmed value → trim (pair_line (k ∷ key) value) ≡ (k ∷ key) ++ 32 ∷ 61 ∷ 62 ∷ shown value
 trim-pair k key [] firm t =
-    ap trim_end (firm-behind k key (32 ∷ 61 ∷ 62 ∷ 32 ∷ []) firm)
+    ap trim_end (firm-after k key (32 ∷ 61 ∷ 62 ∷ 32 ∷ []) firm)
     ∙ (ap trim_end (sym (append_assoc (k ∷ key) (32 ∷ 61 ∷ 62 ∷ []) (32 ∷ [])))
-    ∙ (trim_end-blank ((k ∷ key) ++ 32 ∷ 61 ∷ 62 ∷ []) ∙ trim_end-behind (k ∷ key) 32 (61 ∷ 62 ∷ []) refl))
+    ∙ (trim_end-blank ((k ∷ key) ++ 32 ∷ 61 ∷ 62 ∷ []) ∙ trim_end-after (k ∷ key) 32 (61 ∷ 62 ∷ []) refl))
 trim-pair k key (v ∷ value) firm t =
-    ap trim_end (firm-behind k key (32 ∷ 61 ∷ 62 ∷ 32 ∷ v ∷ value) firm)
-    ∙ trim_end-behind (k ∷ key) 32 (61 ∷ 62 ∷ 32 ∷ v ∷ value) (ap (λ (text : List ℕ). before_kept 32 (before_kept 61 (before_kept 62 (before_kept 32 text)))) t.ends)
+    ap trim_end (firm-after k key (32 ∷ 61 ∷ 62 ∷ 32 ∷ v ∷ value) firm)
+    ∙ trim_end-after (k ∷ key) 32 (61 ∷ 62 ∷ 32 ∷ v ∷ value) (ap (λ (text : List ℕ). before_kept 32 (before_kept 61 (before_kept 62 (before_kept 32 text)))) t.ends)
 
 pair_of-shown : (line k : ℕ) (key value : List ℕ) → IsTrimmed (k ∷ key) → Avoids 61 (k ∷ key) → IsTrimmed value → pair_of line (cut_once 61 ((k ∷ key) ++ 32 ∷ 61 ∷ 62 ∷ shown value)) ≡ Ok (Pair line (k ∷ key) value ∷ [])
 pair_of-shown line k key value trimmed avoids t =
     let blank : Avoids 61 ((k ∷ key) ++ 32 ∷ []) = each-append (λ b. (b == 61) ≡ false) (k ∷ key) (32 ∷ []) avoids (refl, tt) in
     ap (λ (text : List ℕ). pair_of line (cut_once 61 text)) (sym (append_assoc (k ∷ key) (32 ∷ []) (61 ∷ 62 ∷ shown value)))
     ∙ (ap (pair_of line) (cut_once-here 61 ((k ∷ key) ++ 32 ∷ []) (62 ∷ shown value) blank)
-    ∙ (λ i. Ok (Pair line (trim-blank_behind k key trimmed i) (trim-shown value t i) ∷ [])))
+    ∙ (λ i. Ok (Pair line (trim-blank_after k key trimmed i) (trim-shown value t i) ∷ [])))
 
 pair_reads_by : (line k : ℕ) (key value : List ℕ) → (k == 91) ≡ false → (k == 35) ≡ false → IsTrimmed (k ∷ key) → Avoids 61 (k ∷ key) → IsTrimmed value → item_of true line (trim (pair_line (k ∷ key) value)) ≡ Ok (Pair line (k ∷ key) value ∷ [])
 pair_reads_by line k key value no_header no_directive trimmed avoids t =
-    let content : List ℕ = key ++ 32 ∷ 61 ∷ 62 ∷ shown value in
-    ap (item_of true line) (trim-pair k key value trimmed.begins t)
-    ∙ (ap (λ t. cond {A = Result (List ConfLine) LineKind} t (header_of line (cut_once 93 content)) (cond (k == 35) (Err Directive) (pair_of line (cut_once 61 (k ∷ content))))) no_header
-    ∙ (ap (λ t. cond {A = Result (List ConfLine) LineKind} t (Err Directive) (pair_of line (cut_once 61 (k ∷ content)))) no_directive
-    ∙ pair_of-shown line k key value trimmed avoids t))
+    rw (trim-pair k key value trimmed.begins t, no_header, no_directive) (pair_of-shown line k key value trimmed avoids t)
 
 -- a pair is read as its key and its value
 pub pair_reads : (line : ℕ) (key value : List ℕ) → IsKey key → IsValue value → item_of true line (trim (pair_line key value)) ≡ Ok (Pair line key value ∷ [])
@@ -116,37 +110,37 @@ parts_of-text_of (line ∷ lines) a =
 
 -- ---- lines one after another
 
--- a line is read as what it says, behind a header
-abbrev pub ReadsAs : List ℕ → (ℕ → ConfLine) → Type 0
+-- a line is read as what it says, after a header
+abbrev pub ReadsAs : List ℕ → (ℕ → LineOf) → Type 0
 ReadsAs text item = (line : ℕ) → item_of true line (trim text) ≡ Ok (item line ∷ [])
 
 -- the lines beside what they are read as
-abbrev pub ReadAs : List (List ℕ × (ℕ → ConfLine)) → Type 0
+abbrev pub ReadAs : List (List ℕ × (ℕ → LineOf)) → Type 0
 ReadAs = AllByRecursion (λ row. Avoids 10 row.0 × ReadsAs row.0 row.1)
 
--- the items of lines, numbered behind so many lines
-abbrev pub conf_lines : ℕ → List (List ℕ × (ℕ → ConfLine)) → List ConfLine
+-- the items of lines, numbered after so many lines
+abbrev pub conf_lines : ℕ → List (List ℕ × (ℕ → LineOf)) → List LineOf
 conf_lines n [] = []
 conf_lines n (row ∷ rows) = row.1 (n + 1) ∷ conf_lines (n + 1) rows
 
-abbrev readings : List (List ℕ) → List (List ℕ × (ℕ → ConfLine)) → Result (List ConfLine) LineFault
+abbrev readings : List (List ℕ) → List (List ℕ × (ℕ → LineOf)) → Result (List LineOf) LineFault
 readings before rows = all_of (each_after reading_of before (map escaped (map (λ row. row.0) rows) ++ [] ∷ []))
 
-reading_of-written : (before : List (List ℕ)) (s : Bool) (n : ℕ) (text : List ℕ) (item : ConfLine) → list_any opens_section before ≡ s → length before ≡ n → item_of s (n + 1) (trim text) ≡ Ok (item ∷ []) → reading_of before (escaped text) ≡ Ok (item ∷ [])
+reading_of-written : (before : List (List ℕ)) (s : Bool) (n : ℕ) (text : List ℕ) (item : LineOf) → list_any opens_section before ≡ s → length before ≡ n → item_of s (n + 1) (trim text) ≡ Ok (item ∷ []) → reading_of before (escaped text) ≡ Ok (item ∷ [])
 reading_of-written before s n text item opened count read =
     (λ i. at_line (count i + 1) (part_item (opened i) (count i + 1) (escaped text)))
     ∙ (ap (at_line (n + 1)) (part_item-written s (n + 1) text ∙ read))
 
-read-rows : (rows : List (List ℕ × (ℕ → ConfLine))) (before : List (List ℕ)) (n : ℕ) → list_any opens_section before ≡ true → length before ≡ n → ReadAs rows → readings before rows ≡ Ok (conf_lines n rows)
+read-rows : (rows : List (List ℕ × (ℕ → LineOf))) (before : List (List ℕ)) (n : ℕ) → list_any opens_section before ≡ true → length before ≡ n → ReadAs rows → readings before rows ≡ Ok (conf_lines n rows)
 read-rows [] before n opened count read = refl
 read-rows (row ∷ rows) before n opened count read =
     let opened_on : list_any opens_section (before ++ escaped row.0 ∷ []) ≡ true = list_any-append opens_section before (escaped row.0 ∷ []) ∙ ap (λ t. t || list_any opens_section (escaped row.0 ∷ [])) opened in
     let count_on : length (before ++ escaped row.0 ∷ []) ≡ n + 1 = length-append before (escaped row.0 ∷ []) ∙ ap (λ k. k + 1) count in
-    ap (λ (r : Result (List ConfLine) LineFault). all_of (r ∷ each_after reading_of (before ++ escaped row.0 ∷ []) (map escaped (map (λ row. row.0) rows) ++ [] ∷ []))) (reading_of-written before true n row.0 (row.1 (n + 1)) opened count (read.0.1 (n + 1)))
+    ap (λ (r : Result (List LineOf) LineFault). all_of (r ∷ each_after reading_of (before ++ escaped row.0 ∷ []) (map escaped (map (λ row. row.0) rows) ++ [] ∷ []))) (reading_of-written before true n row.0 (row.1 (n + 1)) opened count (read.0.1 (n + 1)))
     ∙ ap (with_front (row.1 (n + 1) ∷ [])) (read-rows rows (before ++ escaped row.0 ∷ []) (n + 1) opened_on count_on read.1)
 
 -- lines of which the first is a header
-pub lines_of-written : (name : List ℕ) (rows : List (List ℕ × (ℕ → ConfLine))) → IsHeaderName name → ReadAs rows → lines_of (text_of (header_line name ∷ map (λ row. row.0) rows)) ≡ Ok (Header 1 name ∷ conf_lines 1 rows)
+pub lines_of-written : (name : List ℕ) (rows : List (List ℕ × (ℕ → LineOf))) → IsHeaderName name → ReadAs rows → lines_of (text_of (header_line name ∷ map (λ row. row.0) rows)) ≡ Ok (Header 1 name ∷ conf_lines 1 rows)
 unfolding lines_of
 lines_of-written name rows fine read =
     let header : Avoids 10 (header_line name) = (refl, each-append (λ b. (b == 10) ≡ false) name (93 ∷ []) fine.one_line (refl, tt)) in
@@ -154,10 +148,10 @@ lines_of-written name rows fine read =
     let opens : list_any opens_section (escaped (header_line name) ∷ []) ≡ true =
     ap (λ (content : List ℕ). begins_with 91 content || false) (content_of-escaped (header_line name) ∙ trim-header name) in
     ap (λ (parts : List (List ℕ)). all_of (each_after reading_of [] parts)) (parts_of-text_of (header_line name ∷ map (λ row. row.0) rows) (header, texts))
-    ∙ (ap (λ (r : Result (List ConfLine) LineFault). all_of (r ∷ each_after reading_of (escaped (header_line name) ∷ []) (map escaped (map (λ row. row.0) rows) ++ [] ∷ []))) (reading_of-written [] false 0 (header_line name) (Header 1 name) refl refl (header_reads false 1 name fine))
+    ∙ (ap (λ (r : Result (List LineOf) LineFault). all_of (r ∷ each_after reading_of (escaped (header_line name) ∷ []) (map escaped (map (λ row. row.0) rows) ++ [] ∷ []))) (reading_of-written [] false 0 (header_line name) (Header 1 name) refl refl (header_reads false 1 name fine))
     ∙ ap (with_front (Header 1 name ∷ [])) (read-rows rows (escaped (header_line name) ∷ []) 1 opens refl read))
   where
-    one_lines : (rows : List (List ℕ × (ℕ → ConfLine))) → ReadAs rows → AllByRecursion (Avoids 10) (map (λ row. row.0) rows)
+    one_lines : (rows : List (List ℕ × (ℕ → LineOf))) → ReadAs rows → AllByRecursion (Avoids 10) (map (λ row. row.0) rows)
     one_lines [] read = tt
     one_lines (row ∷ rows) read = (read.0.0, one_lines rows read.1)
 

@@ -1,11 +1,11 @@
 -- The listing of a dialplan that loads is read as the dialplan again.
-use Rattle.std.proofs.Common.{◌≡◌, ℕ, ◌+◌, ◌<◌, ◌==◌, true, false, List, [], ◌∷◌, ◌++◌, map, Option, Some, None, Ok, codes, decimal, refl, ap, ◌∙◌, sym, subst, append_assoc}
+use Rattle.std.proofs.Common.{◌≡◌, ℕ, ◌+◌, ◌<◌, ◌==◌, true, false, List, [], ◌∷◌, ◌++◌, map, Ok, codes, refl, ap, ◌∙◌, sym, subst, append_assoc}
 use Rattle.std.specs.List.{AllByRecursion, flat_map}
 use Rattle.std.proofs.lemmas.List.{map-append}
+use Rattle.std.proofs.lemmas.Simd.{map-map}
 use Rattle.std.proofs.lemmas.List.Elements.{All-from_recursion}
-use Rattle.dp_conf.specs.Lines.{item_of, lines_of}
+use Rattle.dp_conf.specs.Lines.{LineOf, item_of, lines_of}
 use Rattle.dp_conf.specs.Blanks.{trim}
-use Rattle.dp_conf.specs.declared.lines.ConfLine.{ConfLine}
 use Rattle.dp_conf.proofs.TextLemmas.{Avoids, each-append, none-any}
 use Rattle.dp_pattern.specs.Spelling.{spelling}
 use Rattle.dp_pattern.proofs.NameLemmas.{each_by_index}
@@ -13,19 +13,19 @@ use Rattle.dp_plan.specs.Contexts.{PlanContext}
 use Rattle.dp_plan.specs.Plan.{PlanOf}
 use Rattle.dp_plan.specs.declared.entry.Entry.{Entry}
 use Rattle.dp_plan.specs.declared.plan.GlobalVariable.{GlobalVariable}
-use Rattle.dp_plan.proofs.Canonical as canonical
-use Rattle.dp_plan.proofs.Canonical.{IsKey, IsValue, IsHeaderName, IsGlobal, IsEntry, IsIncluded, IsContext, IsCanonical, entry_text, header_of, global_of, exten_of, include_of, lines_of_globals, lines_of_context, lines_of_contexts, numbered_lines, canonical_lines}
-use Rattle.dp_plan.proofs.EntryAgain.{entry_text-value}
-use Rattle.dp_plan.proofs.PlanAgain.{IsOnUnknown, canonical_notes, canonical_notes-only, loaded-canonical}
-use Rattle.dp_plan.proofs.PlanKnown.{loaded-known}
+use Rattle.dp_plan.proofs.PartsKnown.{IsKey, IsValue, IsHeaderName, IsGlobal, IsEntry, IsIncluded}
+use Rattle.dp_lister.proofs.Canonical.{IsContext, IsCanonical, called_text, entry_text, header_of, global_of, exten_of, include_of, lines_of_globals, lines_of_contexts, numbered_lines, canonical_lines}
+use Rattle.dp_lister.proofs.EntryAgain.{entry_text-value}
+use Rattle.dp_lister.proofs.PlanAgain.{IsOnUnknown, canonical_notes, canonical_notes-only, loaded-canonical}
+use Rattle.dp_lister.proofs.PlanKnown.{loaded-known}
 use Rattle.dp_lister.specs.Again.{LoadsAs}
 use Rattle.dp_plan.specs.Loaded.{IsLoaded}
-use Rattle.dp_lister.specs.Listing.{global_line, global_lines, label_text, application_text, behind_name, entry_line, include_line, header_line, context_lines, text_of, listing}
+use Rattle.dp_lister.specs.Listing.{global_line, global_lines, priority_text, application_text, after_name, entry_line, include_line, header_line, context_lines, text_of, listing}
 use Rattle.dp_lister.proofs.LinesAgain.{header_reads, pair_line, pair_reads, ReadsAs, ReadAs, conf_lines, lines_of-written, lines_of-nothing}
 
 -- a line beside what it is read as
 abbrev Row : Type 0
-Row = List ℕ × (ℕ → ConfLine)
+Row = List ℕ × (ℕ → LineOf)
 
 abbrev IsRow : Row → Type 0
 IsRow row = Avoids 10 row.0 × ReadsAs row.0 row.1
@@ -68,20 +68,16 @@ include_key = record {
   one_line = none-any (λ b. b == 10) (codes "include") refl;
 }
 
-label_text-is : (label : Option (List ℕ)) → label_text label ≡ canonical.label_text label
-label_text-is None = refl
-label_text-is (Some label) = refl
-
-application_text-is : (name arguments : List ℕ) → application_text name arguments ≡ canonical.application_text name arguments
+application_text-is : (name arguments : List ℕ) → application_text name arguments ≡ called_text name arguments
 application_text-is name arguments =
     append_assoc (name ++ 40 ∷ []) arguments (41 ∷ []) ∙ append_assoc name (40 ∷ []) (arguments ++ 41 ∷ [])
 
 entry_line-is : (entry : Entry) → entry_line entry ≡ pair_line (codes "exten") (entry_text entry)
 entry_line-is entry =
-    let behind : behind_name entry ≡ 44 ∷ (canonical.priority_text entry.priority entry.label ++ 44 ∷ canonical.application_text entry.application entry.arguments) =
-    (λ i. ((codes "," ++ (decimal entry.priority ++ label_text-is entry.label i)) ++ codes ",") ++ application_text-is entry.application entry.arguments i)
-    ∙ ap (λ (text : List ℕ). 44 ∷ text) (append_assoc (canonical.priority_text entry.priority entry.label) (44 ∷ []) (canonical.application_text entry.application entry.arguments)) in
-    ap (λ (text : List ℕ). codes "exten => " ++ (spelling entry.name ++ text)) behind
+    let after : after_name entry ≡ 44 ∷ (priority_text entry.priority entry.label ++ 44 ∷ called_text entry.application entry.arguments) =
+    (λ i. ((codes "," ++ priority_text entry.priority entry.label) ++ codes ",") ++ application_text-is entry.application entry.arguments i)
+    ∙ ap (λ (text : List ℕ). 44 ∷ text) (append_assoc (priority_text entry.priority entry.label) (44 ∷ []) (called_text entry.application entry.arguments)) in
+    ap (λ (text : List ℕ). codes "exten => " ++ (spelling entry.name ++ text)) after
 
 entry_row : (entry : Entry) → IsEntry entry → IsRow (entry_line entry, exten_of entry)
 entry_row entry fine = pair_row (entry_line entry) (codes "exten") (entry_text entry) (entry_line-is entry) exten_key (entry_text-value entry fine)
@@ -94,12 +90,12 @@ include_row name fine = pair_row (include_line name) (codes "include") name refl
 rows_of_globals : List GlobalVariable → List Row
 rows_of_globals globals = map (λ g. (global_line g, global_of g)) globals
 
-rows_behind : PlanContext → List Row
-rows_behind context = map (λ e. (entry_line e, exten_of e)) context.entries ++ map (λ i. (include_line i, include_of i)) context.includes
+rows_after : PlanContext → List Row
+rows_after context = map (λ e. (entry_line e, exten_of e)) context.entries ++ map (λ i. (include_line i, include_of i)) context.includes
 
 rows_of_contexts : List PlanContext → List Row
 rows_of_contexts [] = []
-rows_of_contexts (context ∷ contexts) = (header_line context.name, header_of context.name) ∷ (rows_behind context ++ rows_of_contexts contexts)
+rows_of_contexts (context ∷ contexts) = (header_line context.name, header_of context.name) ∷ (rows_after context ++ rows_of_contexts contexts)
 
 each-of : {X : Type 0} (P : X → Type 0) (f : X → Row) (xs : List X) → ((x : X) → P x → IsRow (f x)) → AllByRecursion P xs → ReadAs (map f xs)
 each-of P f [] one all = tt
@@ -109,9 +105,9 @@ globals-read : (globals : List GlobalVariable) → AllByRecursion IsGlobal globa
 unfolding rows_of_globals
 globals-read globals fine = each-of IsGlobal (λ g. (global_line g, global_of g)) globals global_row fine
 
-behind-read : (context : PlanContext) → IsContext context → ReadAs (rows_behind context)
-unfolding rows_behind
-behind-read context fine =
+after-read : (context : PlanContext) → IsContext context → ReadAs (rows_after context)
+unfolding rows_after
+after-read context fine =
     each-append IsRow (map (λ e. (entry_line e, exten_of e)) context.entries) (map (λ i. (include_line i, include_of i)) context.includes)
     (each-of IsEntry (λ e. (entry_line e, exten_of e)) context.entries entry_row fine.entries)
     (each-of IsIncluded (λ i. (include_line i, include_of i)) context.includes include_row fine.includes)
@@ -120,57 +116,53 @@ contexts-read : (contexts : List PlanContext) → AllByRecursion IsContext conte
 unfolding rows_of_contexts
 contexts-read [] fine = tt
 contexts-read (context ∷ contexts) fine =
-    (header_row context.name fine.0.name.header, each-append IsRow (rows_behind context) (rows_of_contexts contexts) (behind-read context fine.0) (contexts-read contexts fine.1))
+    (header_row context.name fine.0.name.header, each-append IsRow (rows_after context) (rows_of_contexts contexts) (after-read context fine.0) (contexts-read contexts fine.1))
 
 -- their texts, and what they are read as
-
-map-after : {X Y Z : Type 0} (f : Y → Z) (g : X → Y) (xs : List X) → map f (map g xs) ≡ map (λ x. f (g x)) xs
-map-after f g [] = refl
-map-after f g (x ∷ xs) = ap (λ (ys : List _). f (g x) ∷ ys) (map-after f g xs)
 
 abbrev texts : List Row → List (List ℕ)
 texts rows = map (λ row. row.0) rows
 
-abbrev says : List Row → List (ℕ → ConfLine)
+abbrev says : List Row → List (ℕ → LineOf)
 says rows = map (λ row. row.1) rows
 
 globals-texts : (globals : List GlobalVariable) → texts (rows_of_globals globals) ≡ map global_line globals
 unfolding rows_of_globals
-globals-texts globals = map-after (λ (row : Row). row.0) (λ g. (global_line g, global_of g)) globals
+globals-texts globals = map-map (λ (row : Row). row.0) (λ g. (global_line g, global_of g)) globals
 
 globals-says : (globals : List GlobalVariable) → says (rows_of_globals globals) ≡ map global_of globals
 unfolding rows_of_globals
-globals-says globals = map-after (λ (row : Row). row.1) (λ g. (global_line g, global_of g)) globals
+globals-says globals = map-map (λ (row : Row). row.1) (λ g. (global_line g, global_of g)) globals
 
-behind-texts : (context : PlanContext) → texts (rows_behind context) ≡ map entry_line context.entries ++ map include_line context.includes
-unfolding rows_behind
-behind-texts context =
+after-texts : (context : PlanContext) → texts (rows_after context) ≡ map entry_line context.entries ++ map include_line context.includes
+unfolding rows_after
+after-texts context =
     map-append (λ (row : Row). row.0) (map (λ e. (entry_line e, exten_of e)) context.entries) (map (λ i. (include_line i, include_of i)) context.includes)
-    ∙ (λ k. map-after (λ (row : Row). row.0) (λ e. (entry_line e, exten_of e)) context.entries k ++ map-after (λ (row : Row). row.0) (λ i. (include_line i, include_of i)) context.includes k)
+    ∙ (λ k. map-map (λ (row : Row). row.0) (λ e. (entry_line e, exten_of e)) context.entries k ++ map-map (λ (row : Row). row.0) (λ i. (include_line i, include_of i)) context.includes k)
 
-behind-says : (context : PlanContext) → says (rows_behind context) ≡ map exten_of context.entries ++ map include_of context.includes
-unfolding rows_behind
-behind-says context =
+after-says : (context : PlanContext) → says (rows_after context) ≡ map exten_of context.entries ++ map include_of context.includes
+unfolding rows_after
+after-says context =
     map-append (λ (row : Row). row.1) (map (λ e. (entry_line e, exten_of e)) context.entries) (map (λ i. (include_line i, include_of i)) context.includes)
-    ∙ (λ k. map-after (λ (row : Row). row.1) (λ e. (entry_line e, exten_of e)) context.entries k ++ map-after (λ (row : Row). row.1) (λ i. (include_line i, include_of i)) context.includes k)
+    ∙ (λ k. map-map (λ (row : Row). row.1) (λ e. (entry_line e, exten_of e)) context.entries k ++ map-map (λ (row : Row). row.1) (λ i. (include_line i, include_of i)) context.includes k)
 
 contexts-texts : (contexts : List PlanContext) → texts (rows_of_contexts contexts) ≡ flat_map context_lines contexts
 unfolding rows_of_contexts
 contexts-texts [] = refl
 contexts-texts (context ∷ contexts) =
     ap (λ (lines : List (List ℕ)). header_line context.name ∷ lines)
-    (map-append (λ (row : Row). row.0) (rows_behind context) (rows_of_contexts contexts) ∙ (λ k. behind-texts context k ++ contexts-texts contexts k))
+    (map-append (λ (row : Row). row.0) (rows_after context) (rows_of_contexts contexts) ∙ (λ k. after-texts context k ++ contexts-texts contexts k))
 
 contexts-says : (contexts : List PlanContext) → says (rows_of_contexts contexts) ≡ lines_of_contexts contexts
 unfolding rows_of_contexts
 contexts-says [] = refl
 contexts-says (context ∷ contexts) =
-    ap (λ (lines : List (ℕ → ConfLine)). header_of context.name ∷ lines)
-    (map-append (λ (row : Row). row.1) (rows_behind context) (rows_of_contexts contexts) ∙ (λ k. behind-says context k ++ contexts-says contexts k))
+    ap (λ (lines : List (ℕ → LineOf)). header_of context.name ∷ lines)
+    (map-append (λ (row : Row). row.1) (rows_after context) (rows_of_contexts contexts) ∙ (λ k. after-says context k ++ contexts-says contexts k))
 
 conf_lines-are : (n : ℕ) (rows : List Row) → conf_lines n rows ≡ numbered_lines n (says rows)
 conf_lines-are n [] = refl
-conf_lines-are n (row ∷ rows) = ap (λ (lines : List ConfLine). row.1 (n + 1) ∷ lines) (conf_lines-are (n + 1) rows)
+conf_lines-are n (row ∷ rows) = ap (λ (lines : List LineOf). row.1 (n + 1) ∷ lines) (conf_lines-are (n + 1) rows)
 
 globals_name : IsHeaderName (codes "globals")
 globals_name = record {
@@ -181,19 +173,19 @@ globals_name = record {
 }
 
 -- lines of which the first is a header, by their texts and by what they are read as
-read_by : (name : List ℕ) (rows : List Row) (lines : List (List ℕ)) (makes : List (ℕ → ConfLine)) → IsHeaderName name → ReadAs rows → texts rows ≡ lines → says rows ≡ makes → lines_of (text_of (header_line name ∷ lines)) ≡ Ok (numbered_lines 0 (header_of name ∷ makes))
+read_by : (name : List ℕ) (rows : List Row) (lines : List (List ℕ)) (makes : List (ℕ → LineOf)) → IsHeaderName name → ReadAs rows → texts rows ≡ lines → says rows ≡ makes → lines_of (text_of (header_line name ∷ lines)) ≡ Ok (numbered_lines 0 (header_of name ∷ makes))
 read_by name rows lines makes fine read text said =
     ap (λ (ls : List (List ℕ)). lines_of (text_of (header_line name ∷ ls))) (sym text)
     ∙ (lines_of-written name rows fine read
-    ∙ ap (λ (ls : List ConfLine). Ok (header_of name 1 ∷ ls)) (conf_lines-are 1 rows ∙ ap (numbered_lines 1) said))
+    ∙ ap (λ (ls : List LineOf). Ok (header_of name 1 ∷ ls)) (conf_lines-are 1 rows ∙ ap (numbered_lines 1) said))
 
 lines-again : (globals : List GlobalVariable) (contexts : List PlanContext) → AllByRecursion IsGlobal globals → AllByRecursion IsContext contexts → lines_of (text_of (global_lines globals ++ flat_map context_lines contexts)) ≡ Ok (numbered_lines 0 (lines_of_globals globals ++ lines_of_contexts contexts))
 lines-again [] [] g c = lines_of-nothing
 lines-again [] (context ∷ contexts) g c =
-    read_by context.name (rows_behind context ++ rows_of_contexts contexts) ((map entry_line context.entries ++ map include_line context.includes) ++ flat_map context_lines contexts) ((map exten_of context.entries ++ map include_of context.includes) ++ lines_of_contexts contexts) c.0.name.header
-    (each-append IsRow (rows_behind context) (rows_of_contexts contexts) (behind-read context c.0) (contexts-read contexts c.1))
-    (map-append (λ (row : Row). row.0) (rows_behind context) (rows_of_contexts contexts) ∙ (λ k. behind-texts context k ++ contexts-texts contexts k))
-    (map-append (λ (row : Row). row.1) (rows_behind context) (rows_of_contexts contexts) ∙ (λ k. behind-says context k ++ contexts-says contexts k))
+    read_by context.name (rows_after context ++ rows_of_contexts contexts) ((map entry_line context.entries ++ map include_line context.includes) ++ flat_map context_lines contexts) ((map exten_of context.entries ++ map include_of context.includes) ++ lines_of_contexts contexts) c.0.name.header
+    (each-append IsRow (rows_after context) (rows_of_contexts contexts) (after-read context c.0) (contexts-read contexts c.1))
+    (map-append (λ (row : Row). row.0) (rows_after context) (rows_of_contexts contexts) ∙ (λ k. after-texts context k ++ contexts-texts contexts k))
+    (map-append (λ (row : Row). row.1) (rows_after context) (rows_of_contexts contexts) ∙ (λ k. after-says context k ++ contexts-says contexts k))
 lines-again (global ∷ globals) contexts g c =
     read_by (codes "globals") (rows_of_globals (global ∷ globals) ++ rows_of_contexts contexts) (map global_line (global ∷ globals) ++ flat_map context_lines contexts) (map global_of (global ∷ globals) ++ lines_of_contexts contexts) globals_name
     (each-append IsRow (rows_of_globals (global ∷ globals)) (rows_of_contexts contexts) (globals-read (global ∷ globals) g) (contexts-read contexts c))

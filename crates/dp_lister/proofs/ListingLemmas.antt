@@ -4,7 +4,7 @@ use Rattle.std.proofs.lemmas.Grind.{flat_map-append}
 use Rattle.std.proofs.lemmas.List.{append-nil, map-append, take_more}
 use Rattle.dp_lister.specs.Listing.{line_text, text_of}
 
--- a text with one more line behind it
+-- a text with one more line after it
 text_of-push : (lines : List (List ℕ)) (line : List ℕ) → text_of (lines ++ line ∷ []) ≡ text_of lines ++ line_text line
 text_of-push lines line = flat_map-append line_text lines (line ∷ []) ∙ ap (λ (rest : List ℕ). text_of lines ++ rest) (append-nil (line_text line))
 

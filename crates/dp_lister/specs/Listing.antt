@@ -18,7 +18,7 @@ abbrev pub global_lines : List GlobalVariable → List (List ℕ)
 global_lines [] = []
 global_lines (global ∷ globals) = codes "[globals]" ∷ map global_line (global ∷ globals)
 
--- a label, in parentheses behind its priority
+-- a label, in parentheses after its priority
 abbrev pub label_text : Option (List ℕ) → List ℕ
 label_text None = []
 label_text (Some label) = codes "(" ++ label ++ codes ")"
@@ -31,14 +31,14 @@ priority_text priority label = decimal priority ++ label_text label
 abbrev pub application_text : List ℕ → List ℕ → List ℕ
 application_text name arguments = name ++ codes "(" ++ arguments ++ codes ")"
 
--- the line of an entry behind its name: the priority and the application
-abbrev pub behind_name : Entry → List ℕ
-behind_name entry =
+-- the line of an entry after its name: the priority and the application
+abbrev pub after_name : Entry → List ℕ
+after_name entry =
     codes "," ++ priority_text entry.priority entry.label ++ codes "," ++ application_text entry.application entry.arguments
 
 -- the line of an entry, its name in the canonical spelling
 abbrev pub entry_line : Entry → List ℕ
-entry_line entry = codes "exten => " ++ spelling entry.name ++ behind_name entry
+entry_line entry = codes "exten => " ++ spelling entry.name ++ after_name entry
 
 -- the line of an include
 abbrev pub include_line : List ℕ → List ℕ

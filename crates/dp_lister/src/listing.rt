@@ -73,9 +73,9 @@ fn push_application(out: &mut Vec<u8>, name: &[u8], arguments: &[u8]) -> Result<
     Ok(())
 }
 
-/// Adds what stands behind the name in the line of an entry.
-fn push_behind_name(out: &mut Vec<u8>, entry: &Entry) -> Result<(), NoMemory>
-    ensures { OnOk result (out.new.items ≡ out.old.items ++ escaped (spec.behind_name entry.now)) }
+/// Adds what stands after the name in the line of an entry.
+fn push_after_name(out: &mut Vec<u8>, entry: &Entry) -> Result<(), NoMemory>
+    ensures { OnOk result (out.new.items ≡ out.old.items ++ escaped (spec.after_name entry.now)) }
 {
     out.push(b',')?;
     push_priority(out, entry.priority.get(), &entry.label)?;
@@ -90,7 +90,7 @@ fn push_entry(out: &mut Vec<u8>, entry: &Entry) -> Result<(), NoMemory>
 {
     out.extend_from_slice(b"exten => ")?;
     push_escaped(out, entry.name.spelling())?;
-    push_behind_name(out, entry)?;
+    push_after_name(out, entry)?;
     out.push(b'\n')?;
     Ok(())
 }
@@ -178,7 +178,7 @@ pub fn list(alloc: Global, plan: &Dialplan) -> Result<Vec<u8>, NoMemory>
     ensures listing { IfOk result (λ text. text.items ≡ spec.listing plan.now) }
     ensures again { IfOk result (λ text. LoadsAs plan.now text.items) }
 {
-    plan.is_loaded();
+    plan.show_loaded();
     let text = listing_of(alloc, plan)?;
     Ok(text)
 }

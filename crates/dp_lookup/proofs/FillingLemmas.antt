@@ -9,7 +9,7 @@ use Rattle.std.proofs.lemmas.Option.{slice_get-get_or, same_Some}
 use Rattle.dp_plan.specs.Lookup.{includes_at, number_of}
 use Rattle.dp_plan.specs.Plan.{PlanOf}
 use Rattle.dp_lookup.specs.SearchOrder.{context_count, has, is_open, link_of, links_at, visit}
-use Rattle.dp_lookup.specs.Filling.{IsMarked, links_left, pending, unseen, one, link_count, work, IsFilling}
+use Rattle.dp_lookup.specs.steps.Filling.{IsMarked, links_left, pending, unseen, one, link_count, work, IsFilling}
 use Rattle.dp_lookup.specs.declared.visit.Frame.{Frame}
 use Rattle.dp_lookup.proofs.SeenLemmas.{has-push_itself, has-push_other, unseen-push}
 use Rattle.dp_lookup.proofs.VisitLemmas.{visit-equation, closed}

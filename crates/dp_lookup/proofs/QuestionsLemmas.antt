@@ -12,7 +12,7 @@ use Rattle.dp_pattern.proofs.WalkLemmas.{matched}
 use Rattle.dp_plan.specs.Plan.{shares_label}
 use Rattle.dp_plan.specs.declared.entry.Entry.{Entry}
 use Rattle.dp_lookup.specs.FoundEntry.{matches_name, goes_on_from}
-use Rattle.dp_lookup.specs.Questions.{asks}
+use Rattle.dp_lookup.specs.steps.Questions.{asks}
 use Rattle.dp_lookup.specs.declared.look_up.Question.{Question}
 use Rattle.dp_lookup.specs.declared.look_up.Question.TheVariants.{Priority, Label, More}
 

@@ -3,7 +3,7 @@ use Rattle.std.proofs.Common.{◌≡◌, ◌≢◌, ℕ, zero, suc, ◌+◌, ◌
 use Rattle.std.proofs.lemmas.Bool.{eqb-true, eq-eqb, ltb-true, not-true, cases_lt}
 use Rattle.dp_plan.specs.Plan.{PlanOf}
 use Rattle.dp_lookup.specs.SearchOrder.{context_count, has, is_open}
-use Rattle.dp_lookup.specs.Filling.{unseen, one}
+use Rattle.dp_lookup.specs.steps.Filling.{unseen, one}
 
 and_parts : (a b : Bool) → (a && b) ≡ true → (a ≡ true) × (b ≡ true)
 and_parts true b e = (refl, e)

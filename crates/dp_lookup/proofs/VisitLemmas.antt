@@ -3,7 +3,7 @@ use Rattle.std.proofs.Common.{◌≡◌, ℕ, zero, suc, ◌+◌, ◌≤◌, Boo
 use Rattle.std.specs.Prelude.{fold}
 use Rattle.dp_plan.specs.Plan.{PlanOf}
 use Rattle.dp_lookup.specs.SearchOrder.{context_count, is_open, links_at, Visit, visited_by, visit_in, visit, IsVisit, IsTheVisit}
-use Rattle.dp_lookup.specs.Filling.{unseen, one}
+use Rattle.dp_lookup.specs.steps.Filling.{unseen, one}
 use Rattle.dp_lookup.proofs.SeenLemmas.{open_parts, unseen-push, unseen-push_le, unseen_all}
 
 module _ (plan : PlanOf) where

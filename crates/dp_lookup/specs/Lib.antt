@@ -1,5 +1,5 @@
-pub mod Filling
+pub mod ContextOrders
 pub mod Found
 pub mod FoundEntry
-pub mod Questions
 pub mod SearchOrder
+pub mod steps

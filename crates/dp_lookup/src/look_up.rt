@@ -7,7 +7,7 @@ ghost use Rattle.dp_plan.specs.Ranking.{AreApart};
 ghost use Rattle.dp_plan.specs.declared.entry.EntryId.{EntryId};
 ghost use Rattle.dp_lookup.specs.Found.{HasPriority, HasLabel, NoneAsked, IsFound, SomeFound, IsFoundLabel, SomeGoesOn};
 ghost use Rattle.dp_lookup.specs.FoundEntry.{passes, passing, least, found_by, found_entry, found_label, goes_on_more};
-ghost use Rattle.dp_lookup.specs.Questions.{asks};
+ghost use Rattle.dp_lookup.specs.steps.Questions.{asks};
 
 use crate::order::SearchOrder;
 use dp_pattern::{could_match_more, matches};
@@ -103,7 +103,7 @@ pub fn find(plan: &Dialplan, order: &SearchOrder, text: &[u8], priority: u32) ->
     ensures once { (a b : EntryId) → IsFound plan.now order.now.contexts text.now priority a
         → IsFound plan.now order.now.contexts text.now priority b → a ≡ b }
 {
-    plan.entries_are_known();
+    plan.show_entries_known();
     find_first(plan, order.contexts(), Question::Priority(priority), text)
 }
 
@@ -139,7 +139,7 @@ pub fn could_be_more(plan: &Dialplan, order: &SearchOrder, text: &[u8]) -> bool
     ensures found { IsTrue result ↔ SomeGoesOn plan.now order.now.contexts text.now }
     ensures value { result ≡ goes_on_more plan.now order.now.contexts text.now }
 {
-    plan.entries_are_known();
+    plan.show_entries_known();
     find_first(plan, order.contexts(), Question::More, text).is_some()
 }
 
@@ -149,7 +149,8 @@ pub fn found_entry_is_the_least()
     ensures found { (plan : PlanOf) (order text : List ℕ) (priority : ℕ)
         → MatchOption (found_entry plan order text priority) (NoneAsked (HasPriority text priority) plan order)
         (IsFound plan order text priority) }
-    ensures once { (plan : PlanOf) (order text : List ℕ) (priority : ℕ) → All (λ context. AreApart context.entries) plan.contexts
+    ensures once { (plan : PlanOf) (order text : List ℕ) (priority : ℕ)
+        → All (λ context. AreApart context.entries) plan.contexts
         → (a b : EntryId) → IsFound plan order text priority a → IsFound plan order text priority b → a ≡ b }
 {}
 

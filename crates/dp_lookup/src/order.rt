@@ -23,7 +23,7 @@ pub struct SearchOrder {
 
 impl Model for SearchOrder {
     ghost use Rattle.std.specs.Prelude.{◌≡◌, ◌<◌, All, vec_capacity, vec_len};
-    ghost use Rattle.dp_lookup.specs.Filling.{IsMarked};
+    ghost use Rattle.dp_lookup.specs.steps.Filling.{IsMarked};
     ghost use Rattle.dp_lookup.specs.SearchOrder.{OrderOf};
 
     ghost Value = { OrderOf };

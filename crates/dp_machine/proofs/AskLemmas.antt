@@ -5,10 +5,10 @@ use Rattle.std.proofs.lemmas.Option.{same_Some, slice_get_read}
 use Rattle.std.specs.declared.alloc.AllocError.{AllocError as NoMemory}
 use Rattle.dp_app.specs.Rows.{Rows}
 use Rattle.dp_machine.specs.Events.{Own, asked_event, own_event, own_row, owned, is_refused_at_once}
-use Rattle.dp_machine.specs.Follows.{Follows, Makes}
-use Rattle.dp_machine.specs.GoodWorld.{IsGoodWorld, IsSoundAsked, IsSoundBehind, MayAct}
+use Rattle.dp_machine.specs.steps.Follows.{Follows, Makes}
+use Rattle.dp_machine.specs.GoodWorld.{IsGoodWorld, IsSoundAsked, IsSoundAfter, MayAct}
 use Rattle.dp_machine.specs.World.{World, channel_at, world_in, world_of}
-use Rattle.dp_machine.specs.declared.asked.Asked.{Asked}
+use Rattle.dp_machine.specs.declared.channel_event.ChannelEvent.{ChannelEvent}
 use Rattle.dp_machine.specs.declared.channel.Channel.{Channel}
 use Rattle.dp_machine.specs.declared.exchange.Exchange.{Exchange}
 use Rattle.dp_machine.specs.declared.reply.Reply.{Reply}
@@ -36,14 +36,14 @@ module _ (before : Exchange) (channels : List Channel) (number index : ℕ) (c :
   kept-at : (d : Channel) → d ≡ c → slice_set channels index d ≡ channels
   kept-at d same = ap (slice_set channels index) (same ∙ value) ∙ set-get_or channels index c
 
-  module _ (rows : Rows) (asked : Asked) (d : Channel) (after : Exchange) where
+  module _ (rows : Rows) (asked : ChannelEvent) (d : Channel) (after : Exchange) where
     -- the world before the event
     abbrev w : World
     w = world_in before channels
 
-    -- the world behind it
-    abbrev behind : World
-    behind = world_in after (slice_set channels index d)
+    -- the world after it
+    abbrev beyond : World
+    beyond = world_in after (slice_set channels index d)
 
     -- what its row says of the channel
     abbrev own : Own
@@ -54,11 +54,11 @@ module _ (before : Exchange) (channels : List Channel) (number index : ℕ) (c :
     asked_here = ap (own_event w number (own_row rows asked)) here
 
     -- what its row makes of it, it makes of the world
-    pub makes-at : (r : Result Reply NoMemory) → Follows own before after c d r → Makes (asked_event rows w number asked) w behind r
+    pub makes-at : (r : Result Reply NoMemory) → Follows own before after c d r → Makes (asked_event rows w number asked) w beyond r
     makes-at (Ok reply) follows = record {
       ok =
           let written : slice_set channels (number - 1) d ≡ slice_set channels index d = ap (λ i. slice_set channels i d) before_number in
-          let world : world_of before.plan (slice_set channels (number - 1) d) after.shared ≡ behind
+          let world : world_of before.plan (slice_set channels (number - 1) d) after.shared ≡ beyond
           = (λ i. world_of (sym follows.plan i) (written i) after.shared) in
           asked_here ∙ (ap (owned w number) follows.ok ∙ ap (λ (v : World). (v, reply)) world);
       err = tt;
@@ -70,10 +70,10 @@ module _ (before : Exchange) (channels : List Channel) (number index : ℕ) (c :
       refused = ap (λ o. is_refused_at_once o.1) asked_here ∙ follows.refused;
     }
 
-    -- behind a step the channel is sound
-    pub sound-at : (r : Result Reply NoMemory) → Follows own before after c d r → IsSoundBehind asked d → OnOk r (IsSoundAsked rows w number asked)
+    -- after a step the channel is sound
+    pub sound-at : (r : Result Reply NoMemory) → Follows own before after c d r → IsSoundAfter asked d → OnOk r (IsSoundAsked rows w number asked)
     sound-at (Ok reply) follows sound = λ e found.
         let is : c ≡ e = same_Some c e (sym here ∙ found) in
-        subst (λ x. IsSoundBehind asked (own_row rows asked before.plan before.shared number x).channel) is
-        (subst (λ (o : Own). IsSoundBehind asked o.channel) (sym follows.ok) sound)
+        subst (λ x. IsSoundAfter asked (own_row rows asked before.plan before.shared number x).channel) is
+        (subst (λ (o : Own). IsSoundAfter asked o.channel) (sym follows.ok) sound)
     sound-at (Err x) follows sound = tt

@@ -67,48 +67,48 @@ closes = record (channel (at (codes "h") 1) Ready) { is_closing = true }
 abbrev world : Channel → World
 world c = world_of plan (c ∷ []) (record { globals = empty; queues = record { queues = []; agents = []; finished = 0 } })
 
-abbrev behind : Channel → Event → World × Reply
-behind c event = event_row no_rows (world c) event
+abbrev after : Channel → Event → World × Reply
+after c event = event_row no_rows (world c) event
 
-result-busy : behind (dials false true) (DialResult 1 Busy) ≡ (world (told (codes "BUSY") goes), Done)
+result-busy : after (dials false true) (DialResult 1 Busy) ≡ (world (told (codes "BUSY") goes), Done)
 unfolding dial_result_row
 result-busy = refl
 
-result-answer : behind (dials false true) (DialResult 1 Answer) ≡ (world (told (codes "ANSWER") closes), Done)
+result-answer : after (dials false true) (DialResult 1 Answer) ≡ (world (told (codes "ANSWER") closes), Done)
 unfolding dial_result_row hung_up is_found found_entry visit set
 result-answer = refl
 
 -- with the option `g` it goes on
-result-goes_on : behind (dials true false) (DialResult 1 Answer) ≡ (world (told (codes "ANSWER") goes), Done)
+result-goes_on : after (dials true false) (DialResult 1 Answer) ≡ (world (told (codes "ANSWER") goes), Done)
 unfolding dial_result_row
 result-goes_on = refl
 
-result-pause : behind (channel (at (codes "s") 1) Pause) (DialResult 1 Busy) ≡ (world (channel (at (codes "s") 1) Pause), Refused NotDialling)
+result-pause : after (channel (at (codes "s") 1) Pause) (DialResult 1 Busy) ≡ (world (channel (at (codes "s") 1) Pause), Refused NotDialling)
 unfolding dial_result_row
 result-pause = refl
 
-result-over : behind (channel (at (codes "s") 1) over) (DialResult 1 Busy) ≡ (world (channel (at (codes "s") 1) over), Refused Ended)
+result-over : after (channel (at (codes "s") 1) over) (DialResult 1 Busy) ≡ (world (channel (at (codes "s") 1) over), Refused Ended)
 unfolding dial_result_row
 result-over = refl
 
-timeout-told : behind (dials false true) (Timeout 1) ≡ (world (told (codes "NOANSWER") goes), Done)
+timeout-told : after (dials false true) (Timeout 1) ≡ (world (told (codes "NOANSWER") goes), Done)
 unfolding timeout_row
 timeout-told = refl
 
-timeout-untimed : behind (dials true false) (Timeout 1) ≡ (world (dials true false), Refused NoTimer)
+timeout-untimed : after (dials true false) (Timeout 1) ≡ (world (dials true false), Refused NoTimer)
 unfolding timeout_row
 timeout-untimed = refl
 
-hangup-cancels : behind (dials false true) (Hangup 1) ≡ (world (told (codes "CANCEL") closes), Done)
+hangup-cancels : after (dials false true) (Hangup 1) ≡ (world (told (codes "CANCEL") closes), Done)
 unfolding hang_up_row hung_up is_found found_entry visit set
 hangup-cancels = refl
 
 -- a digit is not kept
-digit-unkept : behind (dials false true) (Digit 1 (byte "5")) ≡ (world (dials false true), Done)
+digit-unkept : after (dials false true) (Digit 1 (byte "5")) ≡ (world (dials false true), Done)
 unfolding digit_row
 digit-unkept = refl
 
-poll-dials : behind (dials false true) (Poll 1) ≡ (world (dials false true), Refused NotWaiting)
+poll-dials : after (dials false true) (Poll 1) ≡ (world (dials false true), Refused NotWaiting)
 unfolding poll_row
 poll-dials = refl
 

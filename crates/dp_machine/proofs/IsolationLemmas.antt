@@ -9,7 +9,7 @@ use Rattle.dp_machine.specs.Channels.{changed}
 use Rattle.dp_machine.specs.Events.{Own, Served, agent_done, agent_event, answered, declined, dial_result_row, digit_row, entered, event_row, hang_up_row, offered, opened, own_event, poll_row, served_channels, started, step_row, timeout_row}
 use Rattle.dp_machine.specs.Isolation.{AreSameBut, IsUnseen, IsPrivate, is_of, replies_without, without}
 use Rattle.dp_machine.specs.Reloading.{plan_in, reloaded_by, shared_with}
-use Rattle.dp_machine.specs.Replay.{replies_to, world_after, world_behind}
+use Rattle.dp_machine.specs.Replay.{replies_to, world_after, final_world}
 use Rattle.dp_machine.specs.World.{World, channel_at, most_channels, with_channel, world_of}
 use Rattle.dp_machine.specs.declared.channel.Channel.{Channel}
 use Rattle.dp_machine.specs.declared.event.Event.{Event}
@@ -131,7 +131,7 @@ module _ (number : ℕ) (plan : PlanOf) (shared : Shared) (xs ys : List Channel)
           let own : Own = row plan shared other c in
           record { reply = refl; world = same_worlds number plan own.shared _ _ (same_both number other xs ys c own.channel same here there) }
 
-  -- the channels behind an event of an agent, which may change the channel of the number too
+  -- the channels after an event of an agent, which may change the channel of the number too
   same-served : (s : Served) → SameOthers number (served_channels v s (channel_at xs s.who)) (served_channels w s (channel_at ys s.who))
   same-served s = by (s.who == number) refl
     where
@@ -200,7 +200,7 @@ pub none-of : {A : Type 0} → false ≡ true → A
 none-of is = absurd (let no : false ≡ true = is in let b : ⊥ = cc in b)
 
 others-alone : (rows : Rows) (number : ℕ) (w : World) (event : Event) → is_of number event ≡ true
-    → SameOthers number (world_behind rows w event).channels w.channels
+    → SameOthers number (final_world rows w event).channels w.channels
 others-alone rows number w (Start context exten caller) is = none-of is
 others-alone rows number w (Step channel) is = own-alone w number channel (step_row rows) is
 others-alone rows number w (Digit channel digit) is = own-alone w number channel (digit_row digit) is
@@ -222,7 +222,7 @@ pub record IsIsolated (rows : Rows) (number : ℕ) (v w : World) (events : List 
 -- one more event in front
 isolated-more : (rows : Rows) (number : ℕ) (v w : World) (event : Event) (events : List Event) → AreSameBut number v w
     → IsUnseen rows number w (event ∷ events)
-    → ((u : World) → AreSameBut number u (world_behind rows w event) → IsIsolated rows number u (world_behind rows w event) events)
+    → ((u : World) → AreSameBut number u (final_world rows w event) → IsIsolated rows number u (final_world rows w event) events)
     → IsIsolated rows number v w (event ∷ events)
 isolated-more rows number v w event events same unseen later = by (is_of number event) refl
   where
@@ -230,17 +230,17 @@ isolated-more rows number v w event events same unseen later = by (is_of number 
     left = without number events
 
     told : List (Event × Reply)
-    told = filter (λ t. not (is_of number t.0)) (zip events (replies_to rows (world_behind rows w event) events))
+    told = filter (λ t. not (is_of number t.0)) (zip events (replies_to rows (final_world rows w event) events))
 
     Says : Bool → Type 0
     Says b = (replies_to rows v (if not b then event ∷ left else left) ≡ map (λ t. t.1) (if not b then (event, (event_row rows w event).1) ∷ told else told))
-        × AreSameBut number (world_after rows v (if not b then event ∷ left else left)) (world_after rows (world_behind rows w event) events)
+        × AreSameBut number (world_after rows v (if not b then event ∷ left else left)) (world_after rows (final_world rows w event) events)
 
     of_it : is_of number event ≡ true → Says true
     of_it is =
         let leaves : IsPrivate rows w event = unseen [] event events refl is in
-        let alone : SameOthers number (world_behind rows w event).channels w.channels = others-alone rows number w event is in
-        let rest : IsIsolated rows number v (world_behind rows w event) events = later v (record {
+        let alone : SameOthers number (final_world rows w event).channels w.channels = others-alone rows number w event is in
+        let rest : IsIsolated rows number v (final_world rows w event) events = later v (record {
           plan = same.plan ∙ sym leaves.plan;
           shared = same.shared ∙ sym leaves.shared;
           count = same.count ∙ sym alone.count;
@@ -251,7 +251,7 @@ isolated-more rows number v w event events same unseen later = by (is_of number 
     of_another : is_of number event ≡ false → Says false
     of_another other =
         let alike : Alike number (event_row rows v event) (event_row rows w event) = alike-event rows number v w event other same in
-        let rest : IsIsolated rows number (world_behind rows v event) (world_behind rows w event) events = later (world_behind rows v event) alike.world in
+        let rest : IsIsolated rows number (final_world rows v event) (final_world rows w event) events = later (final_world rows v event) alike.world in
         ((λ i. alike.reply i ∷ rest.replies i), rest.world)
 
     by : (b : Bool) → is_of number event ≡ b → IsIsolated rows number v w (event ∷ events)
@@ -266,7 +266,7 @@ isolated-from : (rows : Rows) (number : ℕ) (v w : World) (events : List Event)
     → IsIsolated rows number v w events
 isolated-from rows number v w [] same unseen = record { replies = refl; world = same }
 isolated-from rows number v w (event ∷ events) same unseen = isolated-more rows number v w event events same unseen
-    (λ u alike. isolated-from rows number u (world_behind rows w event) events alike
+    (λ u alike. isolated-from rows number u (final_world rows w event) events alike
     (λ before e after whole is. unseen (event ∷ before) e after (ap (λ es. event ∷ es) whole) is))
 
 -- from any world
@@ -281,11 +281,11 @@ unseen-none rows number w (b ∷ before) event later whole is = absurd (omega (a
 
 -- and in one more event in front, if it is private where it is one of the channel
 pub unseen-more : (rows : Rows) (number : ℕ) (w : World) (event : Event) (events : List Event)
-    → (is_of number event ≡ true → IsPrivate rows w event) → IsUnseen rows number (world_behind rows w event) events
+    → (is_of number event ≡ true → IsPrivate rows w event) → IsUnseen rows number (final_world rows w event) events
     → IsUnseen rows number w (event ∷ events)
 unseen-more rows number w event events here rest [] e later whole is =
     let same : event ≡ e = ap (λ es. get_or es 0 event) whole in
     subst (IsPrivate rows w) same (here (ap (is_of number) same ∙ is))
 unseen-more rows number w event events here rest (b ∷ before) e later whole is =
     let same : event ≡ b = ap (λ es. get_or es 0 event) whole in
-    subst (λ f. IsPrivate rows (world_after rows (world_behind rows w f) before) e) same (rest before e later (ap (drop 1) whole) is)
+    subst (λ f. IsPrivate rows (world_after rows (final_world rows w f) before) e) same (rest before e later (ap (drop 1) whole) is)

@@ -19,7 +19,7 @@ use Rattle.dp_machine.specs.Channels.{hung_up}
 use Rattle.dp_machine.specs.Events.{dial_in, digit_row, hang_up_row, is_digit, is_over, opened, own_event, refuse, started, timeout_row}
 use Rattle.dp_machine.specs.Found.{could_go_on, is_found}
 use Rattle.dp_machine.specs.Isolation.{IsPrivate, IsUnseen, replies_without, without}
-use Rattle.dp_machine.specs.Replay.{replies_to, world_after, world_behind}
+use Rattle.dp_machine.specs.Replay.{replies_to, world_after, final_world}
 use Rattle.dp_machine.specs.Targets.{place_of}
 use Rattle.dp_machine.specs.World.{World, channel_at, world_of}
 use Rattle.dp_machine.specs.declared.channel.Channel.{Channel}
@@ -130,7 +130,7 @@ one_queue waiting = record {
 abbrev queued : World
 queued = world_of plan (channel (codes "s") (Queued 0 true false) ∷ []) (record { globals = empty; queues = one_queue (1 ∷ []) })
 
-hang_up-frees : (world_behind no_rows queued (Hangup 1)).shared ≡ record { globals = empty; queues = one_queue [] }
+hang_up-frees : (final_world no_rows queued (Hangup 1)).shared ≡ record { globals = empty; queues = one_queue [] }
 unfolding hang_up_row hung_up is_found found_entry visit
 hang_up-frees = refl
 

@@ -24,8 +24,8 @@ use Rattle.dp_machine.specs.Found.{Located, entry_found, is_found}
 use Rattle.dp_machine.specs.Reloading.{plan_in, reloaded_by}
 use Rattle.dp_machine.specs.Targets.{place_of}
 use Rattle.dp_machine.specs.World.{World, channel_at, most_channels, with_channel}
-use Rattle.dp_machine.specs.declared.asked.Asked.{Asked}
-use Rattle.dp_machine.specs.declared.asked.Asked.TheVariants.{Step as asked_step, Digit as asked_digit, Timeout as asked_timeout, Poll as asked_poll, Hangup as asked_hangup, DialResult as asked_result}
+use Rattle.dp_machine.specs.declared.channel_event.ChannelEvent.{ChannelEvent}
+use Rattle.dp_machine.specs.declared.channel_event.ChannelEvent.TheVariants.{Step as asked_step, Digit as asked_digit, Timeout as asked_timeout, Poll as asked_poll, Hangup as asked_hangup, DialResult as asked_result}
 use Rattle.dp_machine.specs.declared.channel.Channel.{Channel}
 use Rattle.dp_machine.specs.declared.dial_status.DialStatus.{DialStatus}
 use Rattle.dp_machine.specs.declared.event.Event.{Event}
@@ -138,7 +138,7 @@ module _ (plan : PlanOf) (shared : Shared) (number : ℕ) (c : Channel) where
   result_kept status Ended = λ h. (refl, refl)
 
   -- the row of each of a channel's events
-  own_kept : (rows : Rows) (asked : Asked) → OwnKept shared c (spec.own_row rows asked plan shared number c)
+  own_kept : (rows : Rows) (asked : ChannelEvent) → OwnKept shared c (spec.own_row rows asked plan shared number c)
   unfolding spec.step_row spec.timeout_row spec.poll_row spec.hang_up_row spec.dial_result_row
   own_kept rows asked_step = step_kept rows c.phase
   own_kept rows (asked_digit digit) = digit_kept digit
@@ -162,14 +162,14 @@ with_channel-same channels number c here = by (number == 0) here
 
 -- a refusal leaves the world
 abbrev IsKept : World → World × Reply → Type 0
-IsKept w behind = is_refused behind.1 ≡ true → behind.0 ≡ w
+IsKept w after = is_refused after.1 ≡ true → after.0 ≡ w
 
 owned_kept : (w : World) (number : ℕ) (c : Channel) (own : Own) → channel_at w.channels number ≡ Some c → OwnKept w.shared c own → IsKept w (spec.owned w number own)
 owned_kept w number c own here kept h =
     let same : (own.channel ≡ c) × (own.shared ≡ w.shared) = kept h in
     λ i. record { plan = w.plan; channels = (ap (with_channel w.channels number) same.0 ∙ with_channel-same w.channels number c here) i; shared = same.1 i }
 
-asked_kept : (rows : Rows) (w : World) (number : ℕ) (asked : Asked) → IsKept w (spec.own_event w number (spec.own_row rows asked) (channel_at w.channels number))
+asked_kept : (rows : Rows) (w : World) (number : ℕ) (asked : ChannelEvent) → IsKept w (spec.own_event w number (spec.own_row rows asked) (channel_at w.channels number))
 asked_kept rows w number asked = by (channel_at w.channels number) refl
   where
     by : (o : Option Channel) → channel_at w.channels number ≡ o → IsKept w (spec.own_event w number (spec.own_row rows asked) o)
@@ -252,8 +252,8 @@ refused-kept rows w (AgentDone agent) = done_kept w agent
 refused-kept rows w (Reload text) = reload_by w (plan_in (loaded text))
 
 -- so what an event answers says whether it changed anything
-pub refused_behind : (rows : Rows) (w behind : World) (event : Event) (result : Result Reply NoMemory)
-    → IfOk result (λ reply. spec.event_row rows w event ≡ (behind, reply)) → IfOk result (λ reply. is_refused reply ≡ true → behind ≡ w)
-refused_behind rows w behind event (Ok reply) row =
+pub refused_after : (rows : Rows) (w after : World) (event : Event) (result : Result Reply NoMemory)
+    → IfOk result (λ reply. spec.event_row rows w event ≡ (after, reply)) → IfOk result (λ reply. is_refused reply ≡ true → after ≡ w)
+refused_after rows w after event (Ok reply) row =
     λ h. sym (ap (λ p. p.0) row) ∙ refused-kept rows w event (ap (λ p. is_refused p.1) row ∙ h)
-refused_behind rows w behind event (Err fault) row = tt
+refused_after rows w after event (Err fault) row = tt

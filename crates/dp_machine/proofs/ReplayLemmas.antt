@@ -5,25 +5,25 @@ use Rattle.std.proofs.lemmas.List.Sums.{fold-append}
 use Rattle.dp_app.specs.Rows.{Rows}
 use Rattle.dp_machine.specs.Events.{event_row}
 use Rattle.dp_machine.specs.World.{World}
-use Rattle.dp_machine.specs.Replay.{world_behind, world_after, replies_to, RanFirst}
+use Rattle.dp_machine.specs.Replay.{final_world, world_after, replies_to, RanFirst}
 use Rattle.dp_machine.specs.declared.event.Event.{Event}
 use Rattle.dp_machine.specs.declared.reply.Reply.{Reply}
 
 -- each event has one reply
 pub length-replies_to : (rows : Rows) (w : World) (events : List Event) → length (replies_to rows w events) ≡ length events
 length-replies_to rows w [] = refl
-length-replies_to rows w (event ∷ events) = ap (λ n. suc n) (length-replies_to rows (world_behind rows w event) events)
+length-replies_to rows w (event ∷ events) = ap (λ n. suc n) (length-replies_to rows (final_world rows w event) events)
 
--- one more event is met by the world behind the others
+-- one more event is met by the world after the others
 pub replies_to-push : (rows : Rows) (w : World) (events : List Event) (event : Event)
     → replies_to rows w (events ++ event ∷ []) ≡ replies_to rows w events ++ (event_row rows (world_after rows w events) event).1 ∷ []
 replies_to-push rows w [] event = refl
 replies_to-push rows w (e ∷ events) event =
-    ap (λ (later : List Reply). (event_row rows w e).1 ∷ later) (replies_to-push rows (world_behind rows w e) events event)
+    ap (λ (later : List Reply). (event_row rows w e).1 ∷ later) (replies_to-push rows (final_world rows w e) events event)
 
 pub world_after-push : (rows : Rows) (w : World) (events : List Event) (event : Event)
-    → world_after rows w (events ++ event ∷ []) ≡ world_behind rows (world_after rows w events) event
-world_after-push rows w events event = fold-append (world_behind rows) w events (event ∷ [])
+    → world_after rows w (events ++ event ∷ []) ≡ final_world rows (world_after rows w events) event
+world_after-push rows w events event = fold-append (final_world rows) w events (event ∷ [])
 
 -- the run so far, in the words of its contract
 pub RanFirst-so_far : (rows : Rows) (w : World) (events : List Event) (old new : List Reply) (after : World) (count : ℕ) → count ≤ length events

@@ -4,7 +4,7 @@ use Rattle.std.specs.declared.alloc.AllocError.{AllocError as NoMemory}
 use Rattle.dp_plan.specs.Plan.{PlanOf}
 use Rattle.dp_plan.specs.declared.entry.Entry.{Entry}
 use Rattle.dp_plan.specs.declared.entry.EntryId.{EntryId}
-use Rattle.dp_app.specs.Laws.{ParksNowhere, IsLawful, IsLawfulRow, MayGo, MayPark, MayRun, most_priority}
+use Rattle.dp_app.specs.Lawful.{ParksNowhere, IsLawful, IsLawfulRow, MayGo, MayPark, MayRun, most_priority}
 use Rattle.dp_app.specs.Rows.{Row, Rows, dispatched}
 use Rattle.dp_app.specs.declared.cell.Cell.{Cell}
 use Rattle.dp_app.specs.declared.moves.Move.{Move}
@@ -15,7 +15,7 @@ use Rattle.dp_app.specs.declared.place.Place.{Place}
 use Rattle.dp_app.specs.declared.touch.Touch.{Touch}
 use Rattle.dp_machine.specs.Channels.{hung_up, invalid, is_invalid, landed, moved, ready_in, runs_hang_up, went, without_frames}
 use Rattle.dp_machine.specs.Events.{Applied, Own, applied, cell_of, is_refused_at_once, ran, step_at, unfound}
-use Rattle.dp_machine.specs.Follows.{Follows, Runs}
+use Rattle.dp_machine.specs.steps.Follows.{Follows, Runs}
 use Rattle.dp_machine.specs.Found.{Located, entry_found}
 use Rattle.dp_machine.specs.GoodWorld.{IsSoundIn, MayAct, queue_in, talk_in}
 use Rattle.dp_machine.specs.Seen.{arguments_seen}
@@ -25,9 +25,9 @@ use Rattle.dp_machine.specs.declared.exchange.Exchange.{Exchange}
 use Rattle.dp_machine.specs.declared.reply.Reply.TheVariants.{Invalid, NoEntry, Ran}
 use Rattle.dp_machine.specs.declared.shared.Shared.{Shared}
 
--- the channel behind an application is sound where it goes
-abbrev pub IsSoundBehind : PlanOf → Applied → Type 0
-IsSoundBehind plan behind = IsSoundIn (went plan behind.channel behind.going).phase (went plan behind.channel behind.going)
+-- the channel after an application is sound where it goes
+abbrev pub IsSoundAfter : PlanOf → Applied → Type 0
+IsSoundAfter plan beyond = IsSoundIn (went plan beyond.channel beyond.going).phase (went plan beyond.channel beyond.going)
 
 -- a row that may be lacking is lawful, where it is there
 abbrev pub IsLawfulAt : Touch → Option Row → Type 0
@@ -39,36 +39,36 @@ pub place_dispatched : (touch : Touch) (row : Option Row) → IsLawfulAt touch r
 place_dispatched touch None lawful arguments cell = refl
 place_dispatched touch (Some row) lawful arguments cell = ((lawful row refl).keeps arguments cell).place
 
--- so the place behind it is the place before it
-pub place_kept : (touches : List ℕ → Touch) (rows : Rows) → IsLawful touches rows → (name arguments : List ℕ) (cell behind : Cell) (going : Option Move)
-    → dispatched (rows name) arguments cell ≡ (behind, going) → behind.place ≡ cell.place
-place_kept touches rows lawful name arguments cell behind going e =
+-- so the place after it is the place before it
+pub place_kept : (touches : List ℕ → Touch) (rows : Rows) → IsLawful touches rows → (name arguments : List ℕ) (cell beyond : Cell) (going : Option Move)
+    → dispatched (rows name) arguments cell ≡ (beyond, going) → beyond.place ≡ cell.place
+place_kept touches rows lawful name arguments cell beyond going e =
     sym (ap (λ b. b.0.place) e) ∙ place_dispatched (touches name) (rows name) (lawful name) arguments cell
 
 -- a channel with the parts of a cell that an application may change, at its own place
-pub channel_applied : (c emptied now : Channel) (behind : Cell) → emptied.phase ≡ c.phase → emptied.is_closing ≡ c.is_closing → behind.place ≡ c.place
-    → now ≡ record emptied { place = behind.place; caller = behind.caller; store = behind.store }
-    → now ≡ record c { caller = behind.caller; store = behind.store }
-channel_applied c emptied now behind phase closing place e =
-    e ∙ (let r : record emptied { place = behind.place; caller = behind.caller; store = behind.store } ≡ record c { caller = behind.caller; store = behind.store } = search rules in r)
+pub channel_applied : (c emptied now : Channel) (beyond : Cell) → emptied.phase ≡ c.phase → emptied.is_closing ≡ c.is_closing → beyond.place ≡ c.place
+    → now ≡ record emptied { place = beyond.place; caller = beyond.caller; store = beyond.store }
+    → now ≡ record c { caller = beyond.caller; store = beyond.store }
+channel_applied c emptied now beyond phase closing place e =
+    e ∙ (let r : record emptied { place = beyond.place; caller = beyond.caller; store = beyond.store } ≡ record c { caller = beyond.caller; store = beyond.store } = search rules in r)
 
 -- what an application leaves of the cell that was taken, put back
 pub applied_kept : (touches : List ℕ → Touch) (rows : Rows) → IsLawful touches rows → (name arguments : List ℕ) (shared : Shared) (number : ℕ) (c : Channel)
-    → (taken behind : Cell) → taken ≡ cell_of shared number c → (now : Channel) (shared_now : Shared)
-    → (behind.place ≡ c.place → now ≡ record c { caller = behind.caller; store = behind.store })
-    → shared_now ≡ record { globals = behind.globals; queues = behind.queues }
-    → (result : Result (Option Move) NoMemory) → IfOk result (λ going. dispatched (rows name) arguments taken ≡ (behind, going))
-    → OnErr result (behind ≡ taken)
+    → (taken beyond : Cell) → taken ≡ cell_of shared number c → (now : Channel) (shared_now : Shared)
+    → (beyond.place ≡ c.place → now ≡ record c { caller = beyond.caller; store = beyond.store })
+    → shared_now ≡ record { globals = beyond.globals; queues = beyond.queues }
+    → (result : Result (Option Move) NoMemory) → IfOk result (λ going. dispatched (rows name) arguments taken ≡ (beyond, going))
+    → OnErr result (beyond ≡ taken)
     → Runs (dispatched (rows name) arguments (cell_of shared number c)) shared shared_now c now result
-applied_kept touches rows lawful name arguments shared number c taken behind same now shared_now channel_put shared_put (Ok going) ok err =
+applied_kept touches rows lawful name arguments shared number c taken beyond same now shared_now channel_put shared_put (Ok going) ok err =
     let place : taken.place ≡ c.place = ap (λ cell. cell.place) same in
-    let channel : record c { caller = behind.caller; store = behind.store } ≡ now
-    = sym (channel_put (place_kept touches rows lawful name arguments taken behind going ok ∙ place)) in
-    let rest : record { globals = behind.globals; queues = behind.queues } ≡ shared_now = sym shared_put in
-    let all : applied c (behind, going) ≡ record { channel = now; shared = shared_now; going = going } = search (rules, channel, rest) in
+    let channel : record c { caller = beyond.caller; store = beyond.store } ≡ now
+    = sym (channel_put (place_kept touches rows lawful name arguments taken beyond going ok ∙ place)) in
+    let rest : record { globals = beyond.globals; queues = beyond.queues } ≡ shared_now = sym shared_put in
+    let all : applied c (beyond, going) ≡ record { channel = now; shared = shared_now; going = going } = search (rules, channel, rest) in
     record { ok = ap (λ cell. applied c (dispatched (rows name) arguments cell)) (sym same) ∙ ap (applied c) ok ∙ all; channel = tt; shared = tt }
-applied_kept touches rows lawful name arguments shared number c taken behind same now shared_now channel_put shared_put (Err e) ok err =
-    let is : behind ≡ cell_of shared number c = err ∙ same in
+applied_kept touches rows lawful name arguments shared number c taken beyond same now shared_now channel_put shared_put (Err e) ok err =
+    let is : beyond ≡ cell_of shared number c = err ∙ same in
     record {
       ok = tt;
       channel = channel_put (ap (λ cell. cell.place) is) ∙ ap (λ (cell : Cell). record c { caller = cell.caller; store = cell.store }) is;
@@ -116,7 +116,7 @@ moved_sound plan count c Hang may closes within = hung_up_sound plan c
 
 -- a channel that ran an application is sound where it goes
 applied_sound : (plan : PlanOf) (touch : Touch) (row : Option Row) → IsLawfulAt touch row → (arguments : List ℕ) (shared : Shared) (number : ℕ) (c : Channel)
-    → c.place.priority ≤ most_priority → IsSoundBehind plan (applied c (dispatched row arguments (cell_of shared number c)))
+    → c.place.priority ≤ most_priority → IsSoundAfter plan (applied c (dispatched row arguments (cell_of shared number c)))
 applied_sound plan touch None lawful arguments shared number c within = hung_up_sound plan c
 applied_sound plan touch (Some row) lawful arguments shared number c within =
     let laws : IsLawfulRow touch row = lawful row refl in
@@ -125,11 +125,11 @@ applied_sound plan touch (Some row) lawful arguments shared number c within =
     (laws.parks arguments cell) (laws.closes arguments cell) within
 
 pub went_sound : (touches : List ℕ → Touch) (rows : Rows) → IsLawful touches rows → (plan : PlanOf) (name arguments : List ℕ) (shared : Shared) (number : ℕ) (c : Channel)
-    → c.place.priority ≤ most_priority → (behind : Applied) → applied c (dispatched (rows name) arguments (cell_of shared number c)) ≡ behind
-    → (now : Channel) → now ≡ went plan behind.channel behind.going → IsSoundIn now.phase now
-went_sound touches rows lawful plan name arguments shared number c within behind ran now gone =
+    → c.place.priority ≤ most_priority → (beyond : Applied) → applied c (dispatched (rows name) arguments (cell_of shared number c)) ≡ beyond
+    → (now : Channel) → now ≡ went plan beyond.channel beyond.going → IsSoundIn now.phase now
+went_sound touches rows lawful plan name arguments shared number c within beyond ran now gone =
     subst (λ n. IsSoundIn n.phase n) (sym gone)
-    (subst (IsSoundBehind plan) ran (applied_sound plan (touches name) (rows name) (lawful name) arguments shared number c within))
+    (subst (IsSoundAfter plan) ran (applied_sound plan (touches name) (rows name) (lawful name) arguments shared number c within))
 
 -- a step where no entry is found is not refused
 unfound_taken_by : (invalid : Bool) (went other : Own) → is_refused_at_once went.reply ≡ false → is_refused_at_once other.reply ≡ false
@@ -150,13 +150,13 @@ found_taken rows plan shared number c None = unfound_taken plan shared c
 found_taken rows plan shared number c (Some found) = refl
 
 -- a step that finds its entry, runs its application and goes where that sends the channel
-pub follows-found : (rows : Rows) (number : ℕ) (before after : Exchange) (c d behind : Channel) (shared : Shared) (id : EntryId) (entry : Entry) (going : Option Move)
+pub follows-found : (rows : Rows) (number : ℕ) (before after : Exchange) (c d beyond : Channel) (shared : Shared) (id : EntryId) (entry : Entry) (going : Option Move)
     → entry_found before.plan c.place ≡ Some (record { id = id; entry = entry })
     → applied c (dispatched (rows entry.application) (arguments_seen before.shared number c entry.arguments) (cell_of before.shared number c))
-    ≡ record { channel = behind; shared = shared; going = going }
-    → d ≡ went before.plan behind going → after.plan ≡ before.plan → after.shared ≡ shared
+    ≡ record { channel = beyond; shared = shared; going = going }
+    → d ≡ went before.plan beyond going → after.plan ≡ before.plan → after.shared ≡ shared
     → Follows (step_at rows before.plan before.shared number c (entry_found before.plan c.place)) before after c d (Ok (Ran id))
-follows-found rows number before after c d behind shared id entry going found run went same_plan same_shared = record {
+follows-found rows number before after c d beyond shared id entry going found run went same_plan same_shared = record {
   ok =
       ap (step_at rows before.plan before.shared number c) found
       ∙ (ap (ran before.plan id) run ∙ (λ i. record { channel = sym went i; shared = sym same_shared i; reply = Ran id }));

@@ -191,7 +191,7 @@ step-unknown : step (channel (at (codes "200") 4) Ready false) ≡
 unfolding step_row entry_found found_entry visit arguments_seen reading_of levels expanded hung_up is_found
 step-unknown = refl
 
--- a channel that is closing is over behind a hang-up
+-- a channel that is closing is over after a hang-up
 step-closing : step (channel (at (codes "h") 1) Ready true) ≡
     record { channel = channel (at (codes "h") 1) phase_ended true; shared = shared; reply = Ran (record { context = 0; entry = 7 }) }
 unfolding step_row entry_found found_entry visit arguments_seen reading_of levels expanded parts_place label_found found_label hung_up is_found

@@ -9,17 +9,17 @@ use Rattle.dp_plan.specs.Lookup.{entry_at}
 use Rattle.dp_plan.specs.Plan.{PlanOf}
 use Rattle.dp_plan.specs.declared.entry.Entry.{Entry}
 use Rattle.dp_plan.specs.declared.entry.EntryId.{EntryId}
-use Rattle.dp_machine.specs.Templates.{AreOf, AreTemplates, IsOf, template_at}
+use Rattle.dp_machine.specs.steps.Templates.{AreOf, AreTemplates, IsOf, template_at}
 use Rattle.dp_machine.specs.declared.templates.Template.{Template}
 
--- what goes with what is left goes, behind what is done, with the whole
+-- what goes with what is left goes, after what is done, with the whole
 abbrev pub Goes : {X Y : Type 0} → (X → Y → Type 0) → List X → List X → List Y → Type 0
 Goes {X} {Y} R whole left done = (rest : List Y) → AllZip R left rest → AllZip R whole (done ++ rest)
 
 -- one more is done
-pub goes-next : {X Y : Type 0} (R : X → Y → Type 0) (whole : List X) (x : X) (behind : List X) (done : List Y) (y : Y)
-    → Goes R whole (x ∷ behind) done → R x y → Goes R whole behind (done ++ y ∷ [])
-goes-next R whole x behind done y goes fits rest others =
+pub goes-next : {X Y : Type 0} (R : X → Y → Type 0) (whole : List X) (x : X) (after : List X) (done : List Y) (y : Y)
+    → Goes R whole (x ∷ after) done → R x y → Goes R whole after (done ++ y ∷ [])
+goes-next R whole x after done y goes fits rest others =
     subst (AllZip R whole) (sym (append_assoc done (y ∷ []) rest)) (goes (y ∷ rest) (fits, others))
 
 -- all is done

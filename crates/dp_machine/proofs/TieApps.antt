@@ -4,7 +4,7 @@ use Rattle.dp_queue.specs.Queues.{QueuesOf}
 use Rattle.dp_plan.specs.Plan.{PlanOf}
 use Rattle.dp_plan.specs.declared.entry.EntryId.{EntryId}
 use Rattle.dp_plan.specs.Priority.{most_priority}
-use Rattle.dp_app.specs.Laws.{ParksNowhere, IsLawful, IsLawfulRow, MayGo, MayPark}
+use Rattle.dp_app.specs.Lawful.{ParksNowhere, IsLawful, IsLawfulRow, MayGo, MayPark}
 use Rattle.dp_app.specs.Rows.{Row, Rows, dispatched}
 use Rattle.dp_app.specs.declared.cell.Cell.{Cell}
 use Rattle.dp_app.specs.declared.moves.Move.{Move}
@@ -27,11 +27,11 @@ use Rattle.dp_machine.proofs.TieQueues.{Rests}
 use Rattle.dp_machine.proofs.TieRows.{Acts}
 use Rattle.dp_machine.proofs.TieSteps.{hung_up-rests, hung_up-sound, ties-moved, ties-rests}
 
--- the channel is tied to the queues behind its event
+-- the channel is tied to the queues after its event
 abbrev pub IsTied : ℕ → QueuesOf → Own → Type 0
 IsTied number before own = Ties number before own.shared.queues own.channel.phase
 
--- a channel is sound behind a move of its application
+-- a channel is sound after a move of its application
 landed-sound : (plan : PlanOf) (c : Channel) (o : Option Place) → IsSoundIn (landed plan c o).phase (landed plan c o)
 landed-sound plan c None = hung_up-sound plan c
 landed-sound plan c (Some place) = tt
@@ -72,7 +72,7 @@ module _ (plan : PlanOf) (shared : Shared) (number : ℕ) (c : Channel) (ties : 
       }
 
   module _ (touches : List ℕ → Touch) (rows : Rows) (lawful : IsLawful touches rows) where
-    -- a channel behind its application is tied to the queues
+    -- a channel after its application is tied to the queues
     app-ties : (id : EntryId) (name arguments : List ℕ) (o : Option Row) → rows name ≡ o → Rests c.phase
         → IsTied number shared.queues (ran plan id (applied c (dispatched o arguments (cell_of shared number c))))
     app-ties id name arguments None is rests =
@@ -129,7 +129,7 @@ module _ (plan : PlanOf) (shared : Shared) (number : ℕ) (c : Channel) (ties : 
     in-sound (Dialling goes_on has_timer) is sound within = sound
     in-sound phase_ended is sound within = sound
 
-    -- the event `Step`: the channel is tied to the queues behind it
+    -- the event `Step`: the channel is tied to the queues after it
     pub step-ties : IsTied number shared.queues (step_row rows plan shared number c)
     unfolding step_row
     step-ties = in-ties c.phase refl

@@ -1,4 +1,4 @@
--- The world is good before the first call, and stays good behind each event.
+-- The world is good before the first call, and stays good after each event.
 use Rattle.std.proofs.Common.{◌≡◌, ℕ, zero, suc, ◌+◌, ◌-◌, ◌<◌, ◌==◌, nat_lt, Bool, true, false, List, [], ◌∷◌, ◌++◌, Option, Some, None, refl, sym, ap, ◌∙◌, arith, slice_get, subst, length, if◌then◌else◌, Result, Ok, Err, OnOk}
 use Rattle.std.proofs.Common.{length-append}
 use Rattle.std.proofs.lemmas.Option.{none-some}
@@ -9,11 +9,11 @@ use Rattle.dp_queue.specs.Rest.{IsAtRest}
 use Rattle.dp_queue.proofs.RestLemmas.{state_at-at_rest, waits_in-at_rest}
 use Rattle.dp_plan.specs.Loaded.{loaded}
 use Rattle.dp_plan.specs.Plan.{PlanOf}
-use Rattle.dp_app.specs.Laws.{IsLawful}
+use Rattle.dp_app.specs.Lawful.{IsLawful}
 use Rattle.dp_app.specs.Rows.{Rows}
 use Rattle.dp_app.specs.declared.touch.Touch.{Touch}
 use Rattle.dp_machine.specs.Events.{Own, dial_result_row, digit_row, entered, event_row, hang_up_row, opened, own_event, owned, poll_row, started, step_row, timeout_row}
-use Rattle.dp_machine.specs.Follows.{Makes}
+use Rattle.dp_machine.specs.steps.Follows.{Makes}
 use Rattle.dp_machine.specs.GoodWorld.{AreTied, IsGoodWorld, IsSoundAt, IsSoundOwn, StepsSoundly, queue_of, talk_of}
 use Rattle.dp_machine.specs.Reloading.{plan_in, reloaded_by}
 use Rattle.dp_machine.specs.World.{World, channel_at, most_channels, opening, world_in}
@@ -103,7 +103,7 @@ good-started w context exten caller good = by (nat_lt (length w.channels) most_c
     }
     by false full = record { within = good.within; tied = good.tied }
 
--- the event of a channel behind which it is tied and sound
+-- the event of a channel after which it is tied and sound
 pub good-owned : (w : World) (number : ℕ) (c : Channel) (own : Own) → IsTiedWorld w → channel_at w.channels number ≡ Some c
     → IsTied number w.shared.queues own → IsSoundOwn own → IsTiedWorld (owned w number own).0
 good-owned w number c own good here ties sound = good-changed w number c own.channel own.shared good here ties sound
@@ -113,7 +113,7 @@ module _ (w : World) (number : ℕ) (c : Channel) (good : IsTiedWorld w) (linked
   ties : Ties number w.shared.queues w.shared.queues c.phase
   ties = ties-self w.channels w.shared.queues number c good.tied here
 
-  -- an event behind which the channel acts
+  -- an event after which the channel acts
   acted : (own : Own) → Acts number w.shared.queues own → IsTiedWorld (owned w number own).0
   acted own acts = good-owned w number c own good here acts.ties acts.sound
 
@@ -142,7 +142,7 @@ module _ (w : World) (number : ℕ) (c : Channel) (good : IsTiedWorld w) (linked
   good-dial_result status = acted (dial_result_row status w.plan w.shared number c)
       (dial_result_row-acts w.plan w.shared number c linked ties (subst IsSoundAt here (good.tied.sound number)) status)
 
-  -- a step over a lawful table, behind which the channel is sound
+  -- a step over a lawful table, after which the channel is sound
   pub good-step : (touches : List ℕ → Touch) (rows : Rows) → IsLawful touches rows → IsSoundOwn (step_row rows w.plan w.shared number c)
       → IsTiedWorld (owned w number (step_row rows w.plan w.shared number c)).0
   good-step touches rows lawful sound = good-owned w number c (step_row rows w.plan w.shared number c) good here
@@ -163,7 +163,7 @@ good-reloaded : (w : World) (plan : Option PlanOf) → IsTiedWorld w → IsTiedW
 good-reloaded w None good = good
 good-reloaded w (Some plan) good = record { within = good.within; tied = good.tied }
 
--- the world stays good behind each event, over a lawful table
+-- the world stays good after each event, over a lawful table
 pub good-event : (touches : List ℕ → Touch) (rows : Rows) (w : World) (event : Event) → IsLawful touches rows → IsGood w.shared.queues → IsTiedWorld w
     → StepsSoundly rows w event → IsTiedWorld (event_row rows w event).0
 good-event touches rows w (Start context exten caller) lawful linked good steps = good-started w context exten caller good
@@ -185,20 +185,20 @@ good-event touches rows w (Decline agent) lawful linked good steps = good-declin
 good-event touches rows w (AgentDone agent) lawful linked good steps = good-agent_done w good linked agent
 good-event touches rows w (Reload text) lawful linked good steps = good-reloaded w (plan_in (loaded text)) good
 
--- so channels and queues are tied behind what a call of the machine answers: the world of the event's row, or the world as it was
-tied-behind : (touches : List ℕ → Touch) (rows : Rows) (before after : World) (event : Event) (r : Result Reply NoMemory)
+-- so channels and queues are tied after what a call of the machine answers: the world of the event's row, or the world as it was
+tied-after : (touches : List ℕ → Touch) (rows : Rows) (before after : World) (event : Event) (r : Result Reply NoMemory)
     → IsLawful touches rows → IsGood before.shared.queues → IsTiedWorld before → Makes (event_row rows before event) before after r
     → OnOk r (StepsSoundly rows before event) → IsTiedWorld after
-tied-behind touches rows before after event (Ok reply) lawful linked tied makes steps =
+tied-after touches rows before after event (Ok reply) lawful linked tied makes steps =
     subst IsTiedWorld (ap (λ (p : World × Reply). p.0) makes.ok) (good-event touches rows before event lawful linked tied steps)
-tied-behind touches rows before after event (Err e) lawful linked tied makes steps = subst IsTiedWorld (sym makes.err) tied
+tied-after touches rows before after event (Err e) lawful linked tied makes steps = subst IsTiedWorld (sym makes.err) tied
 
 -- and the world is good there, since its queues are
-pub good-behind : (touches : List ℕ → Touch) (rows : Rows) (before after : World) (event : Event) (r : Result Reply NoMemory)
+pub good-after : (touches : List ℕ → Touch) (rows : Rows) (before after : World) (event : Event) (r : Result Reply NoMemory)
     → IsLawful touches rows → IsGoodWorld before → Makes (event_row rows before event) before after r
     → OnOk r (StepsSoundly rows before event) → IsGood after.shared.queues → IsGoodWorld after
-good-behind touches rows before after event r lawful good makes steps queues =
-    let tied : IsTiedWorld after = tied-behind touches rows before after event r lawful good.queues (record { within = good.within; tied = good.tied }) makes steps in
+good-after touches rows before after event r lawful good makes steps queues =
+    let tied : IsTiedWorld after = tied-after touches rows before after event r lawful good.queues (record { within = good.within; tied = good.tied }) makes steps in
     record { within = tied.within; tied = tied.tied; queues = queues }
 
 -- and so is the world of an exchange before the first call, with no channel

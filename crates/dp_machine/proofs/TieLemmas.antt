@@ -1,4 +1,4 @@
--- Channels and queues stay tied behind a change of one channel and of the queues.
+-- Channels and queues stay tied after a change of one channel and of the queues.
 use Rattle.std.proofs.Common.{◌≡◌, ℕ, zero, suc, ◌-◌, ◌==◌, Bool, true, false, ◌||◌, List, [], ◌∷◌, Some, None, refl, sym, ap, ◌∙◌, arith, slice_get, subst, length, ◌≤◌, if◌then◌else◌}
 use Rattle.std.specs.Prelude.{slice_set}
 use Rattle.std.proofs.lemmas.Option.{none-some}
@@ -46,7 +46,7 @@ module _ {X : Type 0} where
   get-set_other (z ∷ xs) (suc i) zero y other = refl
   get-set_other (z ∷ xs) (suc i) (suc j) y other = get-set_other xs i j y (λ same. other (ap suc same))
 
-  -- the length behind a write
+  -- the length after a write
   pub length-set_at : (xs : List X) (i : ℕ) (y : X) → length (slice_set xs i y) ≡ length xs
   length-set_at [] i y = refl
   length-set_at (z ∷ xs) zero y = refl
@@ -100,7 +100,7 @@ may_act w number c good here = record {
             ∙ ap (λ n. talk_of (channel_at w.channels n)) (sym (eqb-true d number same)) ∙ good.tied.talking a queue d is))
         by false differs = refl
 
--- queues behind a change that concerns the channel of a number alone: it waits and talks by this phase, and the others as before
+-- queues after a change that concerns the channel of a number alone: it waits and talks by this phase, and the others as before
 pub record Ties (number : ℕ) (before after : QueuesOf) (phase : Phase) : Type 0 where
   pub waits : waits_in after.queues number ≡ queue_in phase
   pub others : (m : ℕ) → (number == m) ≡ false → waits_in after.queues m ≡ waits_in before.queues m

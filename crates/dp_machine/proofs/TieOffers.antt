@@ -4,7 +4,7 @@ use Rattle.std.specs.List.{All}
 use Rattle.std.proofs.lemmas.List.Elements.{All-nil, All-head, All-tail, All-weaker}
 use Rattle.dp_queue.specs.Agents.{agent_number, is_idle, state_at, with_state_at}
 use Rattle.dp_queue.specs.Calls.{decline_row, decline_row_at}
-use Rattle.dp_queue.specs.Changes.{changed_at}
+use Rattle.dp_conf.specs.Changes.{changed_at}
 use Rattle.dp_queue.specs.Choices.{is_candidate}
 use Rattle.dp_queue.specs.Offers.{all_ringing, asked_at, chosen_in, chosen_of, offer_row, offer_row_at, with_choice}
 use Rattle.dp_queue.specs.Queues.{QueueOf, QueuesOf, queue_number}

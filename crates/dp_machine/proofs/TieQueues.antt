@@ -7,7 +7,8 @@ use Rattle.std.specs.List.{position_or_len}
 use Rattle.std.specs.Option.{unwrap_or}
 use Rattle.dp_queue.specs.Agents.{all_freed, freed, freed_state, state_at, talker, talks_with, with_state_at}
 use Rattle.dp_queue.specs.Calls.{answered, done_row_at, end_talk_row, ended, finished_queue}
-use Rattle.dp_queue.specs.Changes.{changed_at, one_more}
+use Rattle.dp_conf.specs.Changes.{changed_at}
+use Rattle.dp_queue.specs.Changes.{one_more}
 use Rattle.dp_queue.specs.Good.{IsGood}
 use Rattle.dp_queue.specs.Joining.{left, leave_row, leave_row_at, waits_in, without_caller}
 use Rattle.dp_queue.specs.Queues.{QueuesOf}
@@ -234,7 +235,7 @@ ties-answered number a k q p r good ties rings nowhere is_with = record {
       ∙ ties.talking agent queue (back agent queue number (sym (there agent differs) ∙ is)))));
   talks = λ agent queue is.
       let parts : (k ≡ queue) × (a ≡ agent) = some_pair_parts k queue a agent (sym is_with ∙ is) in
-      ap (state_at behind) (sym parts.1) ∙ here a (eq-eqb a a refl) ∙ ap (λ n. Talking n number) parts.0;
+      ap (state_at beyond) (sym parts.1) ∙ here a (eq-eqb a a refl) ∙ ap (λ n. Talking n number) parts.0;
   still_talking = λ agent queue m differs is. by_test (a == agent)
       (λ same. absurd (apart number m differs (same_talking k number queue m (sym (here agent same) ∙ is)).1))
       (λ apart_from. back agent queue m (sym (there agent apart_from) ∙ is));
@@ -243,17 +244,17 @@ ties-answered number a k q p r good ties rings nowhere is_with = record {
       (λ apart_from. there agent apart_from ∙ state_at-freed number q.agents agent ∙ freed-talks number (state_at q.agents agent) queue m is);
 }
   where
-    behind : List Agent
-    behind = with_state_at a (Talking k number) (all_freed number q.agents)
+    beyond : List Agent
+    beyond = with_state_at a (Talking k number) (all_freed number q.agents)
 
     within : a < length (all_freed number q.agents)
     within = let known : a < length q.agents = busy-within q.agents a (Ringing k number) rings refl in
         omega (arith, known, length-map q.agents (freed number))
 
-    here : (b : ℕ) → (a == b) ≡ true → state_at behind b ≡ Talking k number
+    here : (b : ℕ) → (a == b) ≡ true → state_at beyond b ≡ Talking k number
     here b same = set_here (all_freed number q.agents) a (Talking k number) within b same
 
-    there : (b : ℕ) → (a == b) ≡ false → state_at behind b ≡ state_at (all_freed number q.agents) b
+    there : (b : ℕ) → (a == b) ≡ false → state_at beyond b ≡ state_at (all_freed number q.agents) b
     there b differs = set_there (all_freed number q.agents) a (Talking k number) within b differs
 
     gone : (m : ℕ) → waits_in (changed_at (without_caller number) k q.queues) m ≡ (if number == m then None else waits_in q.queues m)

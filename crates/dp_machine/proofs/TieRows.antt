@@ -1,4 +1,4 @@
--- What each event of a channel makes of it: it is tied to the queues behind the event, and sound.
+-- What each event of a channel makes of it: it is tied to the queues after the event, and sound.
 use Rattle.std.proofs.Common.{◌≡◌, ℕ, ◌+◌, ◌||◌, ◌++◌, Bool, true, false, List, [], ◌∷◌, Some, None, refl, ap, ◌∙◌, subst, if◌then◌else◌}
 use Rattle.std.specs.Prelude.{codes}
 use Rattle.dp_queue.specs.Good.{IsGood}
@@ -24,7 +24,7 @@ use Rattle.dp_machine.proofs.TieLemmas.{Ties}
 use Rattle.dp_machine.proofs.TieQueues.{Rests, ties-end_talk, ties-leave}
 use Rattle.dp_machine.proofs.TieSteps.{hung_up-rests, hung_up-sound, ties-rests}
 
--- behind a channel's event the channel is tied to the queues, and sound
+-- after a channel's event the channel is tied to the queues, and sound
 pub record Acts (number : ℕ) (before : QueuesOf) (own : Own) : Type 0 where
   pub ties : Ties number before own.shared.queues own.channel.phase
   pub sound : IsSoundIn own.channel.phase own.channel

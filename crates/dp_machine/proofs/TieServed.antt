@@ -1,4 +1,4 @@
--- The world stays good behind the events of agents.
+-- The world stays good after the events of agents.
 use Rattle.std.proofs.Common.{◌≡◌, ℕ, ◌-◌, ◌≤◌, Bool, true, false, List, Option, Some, None, refl, sym, ap, ◌∙◌, arith, subst}
 use Rattle.std.proofs.lemmas.Option.{none-some}
 use Rattle.dp_queue.specs.Agents.{agent_number, state_at}
@@ -12,7 +12,7 @@ use Rattle.dp_plan.specs.Plan.{PlanOf}
 use Rattle.dp_plan.specs.Priority.{most_priority}
 use Rattle.dp_app.specs.declared.phase.Phase.{Phase}
 use Rattle.dp_app.specs.declared.phase.Phase.TheVariants.{Ready, Digits, Pause, Queued, Talking as PhaseTalking, Dialling, Ended}
-use Rattle.dp_machine.specs.Channels.{goes_on_behind, talked}
+use Rattle.dp_machine.specs.Channels.{goes_on_after, talked}
 use Rattle.dp_machine.specs.Events.{agent_done, agent_event, answered, declined, met, offered, parted, served_channels, with_queues}
 use Rattle.dp_machine.specs.GoodWorld.{IsSoundAt, IsSoundIn, queue_in, queue_of, talk_of}
 use Rattle.dp_machine.specs.World.{World, channel_at, with_channel}
@@ -71,17 +71,17 @@ module _ (w : World) (good : IsTiedWorld w) (linked : IsGood w.shared.queues) wh
   answered-good a (Talking k number) is = record { within = good.within; tied = good.tied }
   answered-good a (Ringing k number) is = by (channel_at w.channels number) refl
     where
-      behind : Shared
-      behind = with_queues w.shared (answered_queues w.shared.queues a k number)
+      after : Shared
+      after = with_queues w.shared (answered_queues w.shared.queues a k number)
 
       waits : (o : Option Channel) → channel_at w.channels number ≡ o → queue_of o ≡ Some k
       waits o here = sym (ap queue_of here) ∙ sym (good.tied.waits number) ∙ ringing-waits w.shared.queues.queues w.shared.queues.agents a k number linked is
 
       by : (o : Option Channel) → channel_at w.channels number ≡ o
-          → IsTiedWorld (record w { channels = served_channels w (met behind (Some (call_of k a number))) o; shared = behind })
+          → IsTiedWorld (record w { channels = served_channels w (met after (Some (call_of k a number))) o; shared = after })
       by None here = absurd (none-some k (waits None here))
-      by (Some c) here = good-changed w number c (record c { phase = PhaseTalking k a (goes_on_behind c.phase) }) behind good here
-          (ties-answered number a k w.shared.queues c.phase (PhaseTalking k a (goes_on_behind c.phase)) linked
+      by (Some c) here = good-changed w number c (record c { phase = PhaseTalking k a (goes_on_after c.phase) }) after good here
+          (ties-answered number a k w.shared.queues c.phase (PhaseTalking k a (goes_on_after c.phase)) linked
           (ties-self w.channels w.shared.queues number c good.tied here) is refl refl)
           (talks-sound c c.phase k (waits (Some c) here) (subst IsSoundAt here (good.tied.sound number)))
 
@@ -98,16 +98,16 @@ module _ (w : World) (good : IsTiedWorld w) (linked : IsGood w.shared.queues) wh
   done-good a (Ringing k number) is = record { within = good.within; tied = good.tied }
   done-good a (Talking k number) is = by (channel_at w.channels number) refl
     where
-      behind : Shared
-      behind = with_queues w.shared (ended w.shared.queues a k)
+      after : Shared
+      after = with_queues w.shared (ended w.shared.queues a k)
 
       by : (o : Option Channel) → channel_at w.channels number ≡ o
-          → IsTiedWorld (record w { channels = served_channels w (parted behind (Some (call_of k a number))) o; shared = behind })
+          → IsTiedWorld (record w { channels = served_channels w (parted after (Some (call_of k a number))) o; shared = after })
       by None here = absurd (none-some (k, a) (sym (ap talk_of here) ∙ good.tied.talking a k number is))
-      by (Some c) here = good-changed w number c (talked w.plan c (goes_on_behind c.phase)) behind good here
-          (ties-ended number a k w.shared.queues c.phase (talked w.plan c (goes_on_behind c.phase)).phase linked
-          (ties-self w.channels w.shared.queues number c good.tied here) is (talked-quiet w.plan c (goes_on_behind c.phase)).0)
-          (talked-quiet w.plan c (goes_on_behind c.phase)).1
+      by (Some c) here = good-changed w number c (talked w.plan c (goes_on_after c.phase)) after good here
+          (ties-ended number a k w.shared.queues c.phase (talked w.plan c (goes_on_after c.phase)).phase linked
+          (ties-self w.channels w.shared.queues number c good.tied here) is (talked-quiet w.plan c (goes_on_after c.phase)).0)
+          (talked-quiet w.plan c (goes_on_after c.phase)).1
 
   -- an agent is done
   pub good-agent_done : (agent : List ℕ) → IsTiedWorld (agent_event w (agent_done w.shared agent)).0

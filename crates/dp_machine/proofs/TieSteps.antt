@@ -1,12 +1,12 @@
 -- How a move of its application ties a channel.
 use Rattle.std.proofs.Common.{◌≡◌, ℕ, zero, suc, ◌<◌, ◌==◌, Bool, true, false, List, [], ◌∷◌, ◌++◌, Option, Some, None, refl, sym, ap, ◌∙◌, length, if◌then◌else◌, codes}
 use Rattle.std.proofs.lemmas.Option.{none-some}
-use Rattle.dp_queue.specs.Changes.{changed_at}
+use Rattle.dp_conf.specs.Changes.{changed_at}
 use Rattle.dp_queue.specs.Joining.{waits_in, with_caller}
 use Rattle.dp_queue.specs.Queues.{QueueOf, QueuesOf}
 use Rattle.dp_queue.proofs.WaitingLemmas.{lines, waits_in-joined, waits_in-same}
 use Rattle.dp_plan.specs.Plan.{PlanOf}
-use Rattle.dp_app.specs.Laws.{KeepsQueues, MayGo, MayPark, waiting_after, waiting_lists, waiting_parked}
+use Rattle.dp_app.specs.Lawful.{KeepsQueues, MayGo, MayPark, waiting_after, waiting_lists, waiting_parked}
 use Rattle.dp_app.specs.declared.moves.Move.{Move}
 use Rattle.dp_app.specs.declared.moves.Move.TheVariants.{Next, Jump, Park, Hang}
 use Rattle.dp_app.specs.declared.phase.Phase.{Phase}
@@ -52,7 +52,7 @@ landed-rests plan c (Some place) = (refl, refl)
 pub ties-rests : (number : ℕ) (before after : QueuesOf) (p r : Phase) → Ties number before after p → Rests p → Rests r → Ties number before after r
 ties-rests number before after p r ties old new = ties-same number before after p r ties (old.0 ∙ sym new.0) (old.1 ∙ sym new.1)
 
--- the waiting lists behind one more call
+-- the waiting lists after one more call
 lines-joined : (qs : List QueueOf) (c k : ℕ) → lines (changed_at (with_caller c) k qs) ≡ changed_at (λ waiting. waiting ++ c ∷ []) k (lines qs)
 lines-joined [] c k = refl
 lines-joined (q ∷ qs) c zero = refl
@@ -72,16 +72,16 @@ module _ (touch : Touch) (before after : QueuesOf) (keeps : KeepsQueues touch be
       → waiting_lists after ≡ changed_at (λ waiting. waiting ++ number ∷ []) k (waiting_lists before) → queue_in r ≡ Some k → talk_in r ≡ None
       → Ties number before after r
   ties-joined number k p r ties rests within joined waits silent = record {
-    waits = behind number ∙ if_true (number == number) (Some k) (waits_in before.queues number) (eq-eqb number number refl) ∙ sym waits;
-    others = λ m differs. behind m ∙ if_false (number == m) (Some k) (waits_in before.queues m) differs;
+    waits = beyond number ∙ if_true (number == number) (Some k) (waits_in before.queues number) (eq-eqb number number refl) ∙ sym waits;
+    others = λ m differs. beyond m ∙ if_false (number == m) (Some k) (waits_in before.queues m) differs;
     talking = λ agent queue is. absurd (none-some (queue, agent) (sym rests.1 ∙ ties.talking agent queue (sym (keeps.states agent) ∙ is)));
     talks = λ agent queue is. absurd (none-some (queue, agent) (sym silent ∙ is));
     still_talking = λ agent queue m differs is. sym (keeps.states agent) ∙ is;
     still_talks = λ agent queue m differs is. keeps.states agent ∙ is;
   }
     where
-      behind : (m : ℕ) → waits_in after.queues m ≡ (if number == m then Some k else waits_in before.queues m)
-      behind m = waits_in-same after.queues (changed_at (with_caller number) k before.queues) m (joined ∙ sym (lines-joined before.queues number k))
+      beyond : (m : ℕ) → waits_in after.queues m ≡ (if number == m then Some k else waits_in before.queues m)
+      beyond m = waits_in-same after.queues (changed_at (with_caller number) k before.queues) m (joined ∙ sym (lines-joined before.queues number k))
           ∙ waits_in-joined before.queues number k m within (ties.waits ∙ rests.0)
 
   -- a channel is parked by its application
@@ -99,7 +99,7 @@ module _ (touch : Touch) (before after : QueuesOf) (keeps : KeepsQueues touch be
       ties-rests number before after p (Dialling goes_on has_timer) (ties-kept number before before after p (same-kept waits) ties) rests (refl, refl)
   ties-parked number p Ended ties rests may waits = absurd may
 
-  -- the channel behind a move
+  -- the channel after a move
   pub ties-moved : (plan : PlanOf) (number : ℕ) (c : Channel) (going : Move) (p : Phase) → Ties number before before p → Rests p
       → MayGo (length before.queues) going → waiting_lists after ≡ waiting_after (waiting_lists before) number going
       → Ties number before after (moved plan c going).phase

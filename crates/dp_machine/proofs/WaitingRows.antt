@@ -103,7 +103,7 @@ none_waits = queues Idle Idle []
 abbrev one_waits : QueuesOf
 one_waits = queues Idle Idle (1 ∷ [])
 
--- the queue behind a finished call of `Line/1`
+-- the queue after a finished call of `Line/1`
 abbrev one_finished : QueuesOf
 one_finished = record {
   queues = queue No (member 0 1 ∷ member 1 0 ∷ []) [] ∷ [];
@@ -115,111 +115,111 @@ one_finished = record {
 abbrev world : Channel → QueuesOf → World
 world c queues = world_of plan (c ∷ []) (record { globals = empty; queues = queues })
 
--- the world behind an event, and the reply
-abbrev behind : Channel → QueuesOf → Event → World × Reply
-behind c queues event = event_row no_rows (world c queues) event
+-- the world after an event, and the reply
+abbrev after : Channel → QueuesOf → Event → World × Reply
+after c queues event = event_row no_rows (world c queues) event
 
 -- ---- digits
 
 -- `12` may follow
-digit-goes_on : behind (channel (main 1) (Digits [] true)) none_waits (Digit 1 (byte "1")) ≡
+digit-goes_on : after (channel (main 1) (Digits [] true)) none_waits (Digit 1 (byte "1")) ≡
     (world (channel (main 1) (Digits (codes "1") true)) none_waits, Done)
 unfolding digit_row could_go_on goes_on_more visit
 digit-goes_on = refl
 
-digit-leads : behind (channel (main 1) (Digits (codes "1") false)) none_waits (Digit 1 (byte "2")) ≡
+digit-leads : after (channel (main 1) (Digits (codes "1") false)) none_waits (Digit 1 (byte "2")) ≡
     (world (channel (at (codes "main") (codes "12") 1) Ready) none_waits, Done)
 unfolding digit_row could_go_on goes_on_more visit
 digit-leads = refl
 
 -- what leads nowhere is left to the next step
-digit-leads_nowhere : behind (channel (main 1) (Digits (codes "1") false)) none_waits (Digit 1 (byte "*")) ≡
+digit-leads_nowhere : after (channel (main 1) (Digits (codes "1") false)) none_waits (Digit 1 (byte "*")) ≡
     (world (channel (at (codes "main") (codes "1*") 1) Ready) none_waits, Done)
 unfolding digit_row could_go_on goes_on_more visit
 digit-leads_nowhere = refl
 
-digit-pause : behind (channel (main 1) Pause) none_waits (Digit 1 (byte "D")) ≡ (world (channel (main 1) Pause) none_waits, Done)
+digit-pause : after (channel (main 1) Pause) none_waits (Digit 1 (byte "D")) ≡ (world (channel (main 1) Pause) none_waits, Done)
 unfolding digit_row
 digit-pause = refl
 
 -- a way out of the queue leaves the status as it was
-digit-way_out : behind (channel (main 1) (Queued 0 true false)) (queues (Ringing 0 1) Idle (1 ∷ [])) (Digit 1 (byte "5")) ≡
+digit-way_out : after (channel (main 1) (Queued 0 true false)) (queues (Ringing 0 1) Idle (1 ∷ [])) (Digit 1 (byte "5")) ≡
     (world (channel (at (codes "out") (codes "5") 1) Ready) none_waits, Done)
 unfolding digit_row is_found found_entry visit
 digit-way_out = refl
 
-digit-no_way_out : behind (channel (main 1) (Queued 0 true false)) one_waits (Digit 1 (byte "6")) ≡
+digit-no_way_out : after (channel (main 1) (Queued 0 true false)) one_waits (Digit 1 (byte "6")) ≡
     (world (channel (main 1) (Queued 0 true false)) one_waits, Done)
 unfolding digit_row is_found found_entry visit
 digit-no_way_out = refl
 
-digit-ready : behind (channel (main 1) Ready) none_waits (Digit 1 (byte "5")) ≡ (world (channel (main 1) Ready) none_waits, Refused NotWaiting)
+digit-ready : after (channel (main 1) Ready) none_waits (Digit 1 (byte "5")) ≡ (world (channel (main 1) Ready) none_waits, Refused NotWaiting)
 unfolding digit_row
 digit-ready = refl
 
-digit-talking : behind (channel (main 1) (Talking 0 0 true)) (queues (Talks 0 1) Idle []) (Digit 1 (byte "5")) ≡
+digit-talking : after (channel (main 1) (Talking 0 0 true)) (queues (Talks 0 1) Idle []) (Digit 1 (byte "5")) ≡
     (world (channel (main 1) (Talking 0 0 true)) (queues (Talks 0 1) Idle []), Refused NotWaiting)
 unfolding digit_row
 digit-talking = refl
 
-digit-bad : behind (channel (main 1) Pause) none_waits (Digit 1 (byte "E")) ≡ (world (channel (main 1) Pause) none_waits, Refused BadDigit)
+digit-bad : after (channel (main 1) Pause) none_waits (Digit 1 (byte "E")) ≡ (world (channel (main 1) Pause) none_waits, Refused BadDigit)
 unfolding digit_row
 digit-bad = refl
 
 -- that the call is over is told first
-digit-over : behind (channel (main 1) over) none_waits (Digit 1 (byte "E")) ≡ (world (channel (main 1) over) none_waits, Refused Ended)
+digit-over : after (channel (main 1) over) none_waits (Digit 1 (byte "E")) ≡ (world (channel (main 1) over) none_waits, Refused Ended)
 unfolding digit_row
 digit-over = refl
 
-digit-no_channel : behind (channel (main 1) Pause) none_waits (Digit 2 (byte "E")) ≡ (world (channel (main 1) Pause) none_waits, Refused NoChannel)
+digit-no_channel : after (channel (main 1) Pause) none_waits (Digit 2 (byte "E")) ≡ (world (channel (main 1) Pause) none_waits, Refused NoChannel)
 digit-no_channel = refl
 
 -- ---- times
 
-timeout-digits : behind (channel (main 1) (Digits (codes "1") true)) none_waits (Timeout 1) ≡
+timeout-digits : after (channel (main 1) (Digits (codes "1") true)) none_waits (Timeout 1) ≡
     (world (channel (at (codes "main") (codes "1") 1) Ready) none_waits, Done)
 unfolding timeout_row
 timeout-digits = refl
 
 -- `Background` goes on, whether or not the next priority is found
-timeout-background : behind (channel (main 2) (Digits [] true)) none_waits (Timeout 1) ≡ (world (channel (main 3) Ready) none_waits, Done)
+timeout-background : after (channel (main 2) (Digits [] true)) none_waits (Timeout 1) ≡ (world (channel (main 3) Ready) none_waits, Done)
 unfolding timeout_row
 timeout-background = refl
 
 -- `WaitExten` goes on where the next priority is found
-timeout-next : behind (channel (main 1) (Digits [] false)) none_waits (Timeout 1) ≡ (world (channel (main 2) Ready) none_waits, Done)
+timeout-next : after (channel (main 1) (Digits [] false)) none_waits (Timeout 1) ≡ (world (channel (main 2) Ready) none_waits, Done)
 unfolding timeout_row is_found found_entry visit
 timeout-next = refl
 
-timeout-t : behind (channel (main 2) (Digits [] false)) none_waits (Timeout 1) ≡
+timeout-t : after (channel (main 2) (Digits [] false)) none_waits (Timeout 1) ≡
     (world (channel (at (codes "main") (codes "t") 1) Ready) none_waits, Done)
 unfolding timeout_row is_found found_entry visit
 timeout-t = refl
 
-timeout-no_t : behind (channel (at (codes "out") (codes "5") 1) (Digits [] false)) none_waits (Timeout 1) ≡
+timeout-no_t : after (channel (at (codes "out") (codes "5") 1) (Digits [] false)) none_waits (Timeout 1) ≡
     (world (channel (at (codes "out") (codes "5") 1) over) none_waits, Done)
 unfolding timeout_row hung_up is_found found_entry visit
 timeout-no_t = refl
 
-timeout-pause : behind (channel (main 2) Pause) none_waits (Timeout 1) ≡ (world (channel (main 3) Ready) none_waits, Done)
+timeout-pause : after (channel (main 2) Pause) none_waits (Timeout 1) ≡ (world (channel (main 3) Ready) none_waits, Done)
 unfolding timeout_row
 timeout-pause = refl
 
-timeout-queue : behind (channel (main 1) (Queued 0 false true)) (queues Idle (Ringing 0 1) (1 ∷ [])) (Timeout 1) ≡
+timeout-queue : after (channel (main 1) (Queued 0 false true)) (queues Idle (Ringing 0 1) (1 ∷ [])) (Timeout 1) ≡
     (world (told (codes "TIMEOUT") (channel (main 2) Ready)) none_waits, Done)
 unfolding timeout_row
 timeout-queue = refl
 
-timeout-no_timer : behind (channel (main 1) (Queued 0 false false)) one_waits (Timeout 1) ≡
+timeout-no_timer : after (channel (main 1) (Queued 0 false false)) one_waits (Timeout 1) ≡
     (world (channel (main 1) (Queued 0 false false)) one_waits, Refused NoTimer)
 unfolding timeout_row
 timeout-no_timer = refl
 
-timeout-ready : behind (channel (main 1) Ready) none_waits (Timeout 1) ≡ (world (channel (main 1) Ready) none_waits, Refused NotWaiting)
+timeout-ready : after (channel (main 1) Ready) none_waits (Timeout 1) ≡ (world (channel (main 1) Ready) none_waits, Refused NotWaiting)
 unfolding timeout_row
 timeout-ready = refl
 
-timeout-over : behind (channel (main 1) over) none_waits (Timeout 1) ≡ (world (channel (main 1) over) none_waits, Refused Ended)
+timeout-over : after (channel (main 1) over) none_waits (Timeout 1) ≡ (world (channel (main 1) over) none_waits, Refused Ended)
 unfolding timeout_row
 timeout-over = refl
 
@@ -229,16 +229,16 @@ timeout-over = refl
 abbrev too_empty : List ℕ → QueuesOf
 too_empty waiting = record { queues = queue Yes [] waiting ∷ []; agents = []; finished = 0 }
 
-poll-too_empty : behind (channel (main 1) (Queued 0 true true)) (too_empty (1 ∷ [])) (Poll 1) ≡
+poll-too_empty : after (channel (main 1) (Queued 0 true true)) (too_empty (1 ∷ [])) (Poll 1) ≡
     (world (told (codes "LEAVEEMPTY") (channel (main 2) Ready)) (too_empty []), Done)
 unfolding poll_row
 poll-too_empty = refl
 
-poll-stays : behind (channel (main 1) (Queued 0 true true)) one_waits (Poll 1) ≡ (world (channel (main 1) (Queued 0 true true)) one_waits, Done)
+poll-stays : after (channel (main 1) (Queued 0 true true)) one_waits (Poll 1) ≡ (world (channel (main 1) (Queued 0 true true)) one_waits, Done)
 unfolding poll_row
 poll-stays = refl
 
-poll-pause : behind (channel (main 1) Pause) none_waits (Poll 1) ≡ (world (channel (main 1) Pause) none_waits, Refused NotWaiting)
+poll-pause : after (channel (main 1) Pause) none_waits (Poll 1) ≡ (world (channel (main 1) Pause) none_waits, Refused NotWaiting)
 unfolding poll_row
 poll-pause = refl
 
@@ -252,32 +252,32 @@ last = at (codes "end") (codes "s") 1
 abbrev closing : Phase → Channel
 closing phase = record (channel (at (codes "end") (codes "h") 1) phase) { is_closing = true }
 
-hangup-no_h : behind (channel (main 1) Ready) none_waits (Hangup 1) ≡ (world (channel (main 1) over) none_waits, Done)
+hangup-no_h : after (channel (main 1) Ready) none_waits (Hangup 1) ≡ (world (channel (main 1) over) none_waits, Done)
 unfolding hang_up_row hung_up is_found found_entry visit
 hangup-no_h = refl
 
-hangup-h : behind (channel last (Digits [] true)) none_waits (Hangup 1) ≡ (world (closing Ready) none_waits, Done)
+hangup-h : after (channel last (Digits [] true)) none_waits (Hangup 1) ≡ (world (closing Ready) none_waits, Done)
 unfolding hang_up_row hung_up is_found found_entry visit
 hangup-h = refl
 
 -- `h` runs once
-hangup-closing : behind (closing Ready) none_waits (Hangup 1) ≡ (world (closing over) none_waits, Done)
+hangup-closing : after (closing Ready) none_waits (Hangup 1) ≡ (world (closing over) none_waits, Done)
 unfolding hang_up_row hung_up
 hangup-closing = refl
 
 -- the agents that ring for the channel are idle
-hangup-queue : behind (channel last (Queued 0 true false)) (queues (Ringing 0 1) (Ringing 0 1) (1 ∷ [])) (Hangup 1) ≡
+hangup-queue : after (channel last (Queued 0 true false)) (queues (Ringing 0 1) (Ringing 0 1) (1 ∷ [])) (Hangup 1) ≡
     (world (closing Ready) none_waits, Done)
 unfolding hang_up_row hung_up is_found found_entry visit
 hangup-queue = refl
 
 -- the agent has finished one call more
-hangup-talk : behind (channel (main 1) (Talking 0 0 true)) (queues (Talks 0 1) Idle []) (Hangup 1) ≡
+hangup-talk : after (channel (main 1) (Talking 0 0 true)) (queues (Talks 0 1) Idle []) (Hangup 1) ≡
     (world (channel (main 1) over) one_finished, Done)
 unfolding hang_up_row hung_up is_found found_entry visit
 hangup-talk = refl
 
-hangup-over : behind (channel (main 1) over) none_waits (Hangup 1) ≡ (world (channel (main 1) over) none_waits, Refused Ended)
+hangup-over : after (channel (main 1) over) none_waits (Hangup 1) ≡ (world (channel (main 1) over) none_waits, Refused Ended)
 unfolding hang_up_row
 hangup-over = refl
 
@@ -288,60 +288,60 @@ abbrev waiting : Channel
 waiting = channel (main 1) (Queued 0 true false)
 
 -- a name of a queue is read in any ASCII case
-offer-both : behind waiting one_waits (Offer (codes "Q")) ≡ (world waiting (queues (Ringing 0 1) (Ringing 0 1) (1 ∷ [])), Offered 1 2)
+offer-both : after waiting one_waits (Offer (codes "Q")) ≡ (world waiting (queues (Ringing 0 1) (Ringing 0 1) (1 ∷ [])), Offered 1 2)
 unfolding offered
 offer-both = refl
 
-offer-no_queue : behind waiting one_waits (Offer (codes "z")) ≡ (world waiting one_waits, Refused NoQueue)
+offer-no_queue : after waiting one_waits (Offer (codes "z")) ≡ (world waiting one_waits, Refused NoQueue)
 unfolding offered
 offer-no_queue = refl
 
-offer-nobody_waits : behind waiting (queues (Ringing 0 1) Idle (1 ∷ [])) (Offer (codes "q")) ≡
+offer-nobody_waits : after waiting (queues (Ringing 0 1) Idle (1 ∷ [])) (Offer (codes "q")) ≡
     (world waiting (queues (Ringing 0 1) Idle (1 ∷ [])), Refused NobodyWaiting)
 unfolding offered
 offer-nobody_waits = refl
 
-offer-no_member : behind waiting (too_empty (1 ∷ [])) (Offer (codes "q")) ≡ (world waiting (too_empty (1 ∷ [])), Refused NoMember)
+offer-no_member : after waiting (too_empty (1 ∷ [])) (Offer (codes "q")) ≡ (world waiting (too_empty (1 ∷ [])), Refused NoMember)
 unfolding offered
 offer-no_member = refl
 
 -- the other agent that rings is idle
-answer-rings : behind waiting (queues (Ringing 0 1) (Ringing 0 1) (1 ∷ [])) (Answer (codes "Line/2")) ≡
+answer-rings : after waiting (queues (Ringing 0 1) (Ringing 0 1) (1 ∷ [])) (Answer (codes "Line/2")) ≡
     (world (channel (main 1) (Talking 0 1 true)) (queues Idle (Talks 0 1) []), Done)
 unfolding answered
 answer-rings = refl
 
-answer-idle : behind waiting one_waits (Answer (codes "Line/2")) ≡ (world waiting one_waits, Refused NotRinging)
+answer-idle : after waiting one_waits (Answer (codes "Line/2")) ≡ (world waiting one_waits, Refused NotRinging)
 unfolding answered
 answer-idle = refl
 
 -- the name of an agent is read with its case
-answer-unknown : behind waiting (queues (Ringing 0 1) Idle (1 ∷ [])) (Answer (codes "line/1")) ≡
+answer-unknown : after waiting (queues (Ringing 0 1) Idle (1 ∷ [])) (Answer (codes "line/1")) ≡
     (world waiting (queues (Ringing 0 1) Idle (1 ∷ [])), Refused NotRinging)
 unfolding answered
 answer-unknown = refl
 
-decline-rings : behind waiting (queues (Ringing 0 1) (Ringing 0 1) (1 ∷ [])) (Decline (codes "Line/1")) ≡
+decline-rings : after waiting (queues (Ringing 0 1) (Ringing 0 1) (1 ∷ [])) (Decline (codes "Line/1")) ≡
     (world waiting (queues Idle (Ringing 0 1) (1 ∷ [])), Done)
 unfolding declined
 decline-rings = refl
 
-decline-talks : behind (channel (main 1) (Talking 0 0 true)) (queues (Talks 0 1) Idle []) (Decline (codes "Line/1")) ≡
+decline-talks : after (channel (main 1) (Talking 0 0 true)) (queues (Talks 0 1) Idle []) (Decline (codes "Line/1")) ≡
     (world (channel (main 1) (Talking 0 0 true)) (queues (Talks 0 1) Idle []), Refused NotRinging)
 unfolding declined
 decline-talks = refl
 
-done-goes_on : behind (channel (main 1) (Talking 0 0 true)) (queues (Talks 0 1) Idle []) (AgentDone (codes "Line/1")) ≡
+done-goes_on : after (channel (main 1) (Talking 0 0 true)) (queues (Talks 0 1) Idle []) (AgentDone (codes "Line/1")) ≡
     (world (told (codes "CONTINUE") (channel (main 2) Ready)) one_finished, Done)
 unfolding agent_done
 done-goes_on = refl
 
-done-hangs_up : behind (channel last (Talking 0 0 false)) (queues (Talks 0 1) Idle []) (AgentDone (codes "Line/1")) ≡
+done-hangs_up : after (channel last (Talking 0 0 false)) (queues (Talks 0 1) Idle []) (AgentDone (codes "Line/1")) ≡
     (world (closing Ready) one_finished, Done)
 unfolding agent_done hung_up is_found found_entry visit
 done-hangs_up = refl
 
-done-rings : behind waiting (queues (Ringing 0 1) Idle (1 ∷ [])) (AgentDone (codes "Line/1")) ≡
+done-rings : after waiting (queues (Ringing 0 1) Idle (1 ∷ [])) (AgentDone (codes "Line/1")) ≡
     (world waiting (queues (Ringing 0 1) Idle (1 ∷ [])), Refused NotTalking)
 unfolding agent_done
 done-rings = refl

@@ -38,7 +38,7 @@ without_frames c = record c { store = record c.store { frames = [] } }
 abbrev pub runs_hang_up : PlanOf → Channel → Bool
 runs_hang_up plan c = not c.is_closing && is_found plan c.place.context (codes "h") 1
 
--- the channel behind a hang-up: its frames are dropped, and it runs the extension `h` of its context or is over
+-- the channel after a hang-up: its frames are dropped, and it runs the extension `h` of its context or is over
 unfoldable pub hung_up : PlanOf → Channel → Channel
 hung_up plan c =
     if runs_hang_up plan c then record (ready_in (without_frames c) (codes "h")) { is_closing = true }
@@ -49,14 +49,14 @@ abbrev pub landed : PlanOf → Channel → Option Place → Channel
 landed plan c None = hung_up plan c
 landed plan c (Some place) = ready_at c place
 
--- the channel behind a move
+-- the channel after a move
 abbrev pub moved : PlanOf → Channel → Move → Channel
 moved plan c Next = going_on c
 moved plan c (Jump target) = landed plan c (target_place plan c.place target)
 moved plan c (Park phase) = record c { phase = phase }
 moved plan c Hang = hung_up plan c
 
--- the channel behind its application; a name that the table lacks is a hang-up
+-- the channel after its application; a name that the table lacks is a hang-up
 abbrev pub went : PlanOf → Channel → Option Move → Channel
 went plan c None = hung_up plan c
 went plan c (Some move) = moved plan c move
@@ -69,7 +69,7 @@ is_invalid plan place = not (is_found plan place.context place.exten 1) && is_fo
 abbrev pub invalid : Channel → Channel
 invalid c = ready_in (with_value c (codes "INVALID_EXTEN") c.place.exten) (codes "i")
 
--- the channel behind one more digit: it waits for more where the digits may go on, else it goes where they lead
+-- the channel after one more digit: it waits for more where the digits may go on, else it goes where they lead
 abbrev pub collected : Bool → Channel → List ℕ → Bool → Channel
 collected true c digits is_background = record c { phase = Digits digits is_background }
 collected false c digits is_background = ready_in c digits
@@ -96,16 +96,16 @@ abbrev pub left_queue : Channel → List ℕ → Channel
 left_queue c status = going_on (with_value c (codes "QUEUESTATUS") status)
 
 -- whether a channel goes on when its agent is done
-abbrev pub goes_on_behind : Phase → Bool
-goes_on_behind Ready = false
-goes_on_behind (Digits text is_background) = false
-goes_on_behind Pause = false
-goes_on_behind (Queued queue goes_on has_timer) = goes_on
-goes_on_behind (Talking queue agent goes_on) = goes_on
-goes_on_behind (Dialling goes_on has_timer) = false
-goes_on_behind Ended = false
+abbrev pub goes_on_after : Phase → Bool
+goes_on_after Ready = false
+goes_on_after (Digits text is_background) = false
+goes_on_after Pause = false
+goes_on_after (Queued queue goes_on has_timer) = goes_on
+goes_on_after (Talking queue agent goes_on) = goes_on
+goes_on_after (Dialling goes_on has_timer) = false
+goes_on_after Ended = false
 
--- the channel behind the end of its talk, by whether it goes on
+-- the channel after the end of its talk, by whether it goes on
 abbrev pub talked : PlanOf → Channel → Bool → Channel
 talked plan c true = left_queue c (codes "CONTINUE")
 talked plan c false = hung_up plan c
@@ -114,11 +114,11 @@ talked plan c false = hung_up plan c
 abbrev pub with_dial_status : Channel → List ℕ → Channel
 with_dial_status c status = with_value c (codes "DIALSTATUS") status
 
--- the channel behind the end of the time of its call to devices
+-- the channel after the end of the time of its call to devices
 abbrev pub unanswered : Channel → Channel
 unanswered c = going_on (with_dial_status c (codes "NOANSWER"))
 
--- the channel behind a hang-up while its call to devices lasts
+-- the channel after a hang-up while its call to devices lasts
 abbrev pub cancelled : PlanOf → Channel → Channel
 cancelled plan c = hung_up plan (with_dial_status c (codes "CANCEL"))
 
@@ -130,7 +130,7 @@ ends_call NoAnswer goes_on = false
 ends_call Congestion goes_on = false
 ends_call ChanUnavail goes_on = false
 
--- the channel behind its call to devices
+-- the channel after its call to devices
 abbrev pub dialled : PlanOf → Channel → DialStatus → Bool → Channel
 dialled plan c status goes_on =
     if ends_call status goes_on then hung_up plan (with_dial_status c (status_name status))
@@ -145,8 +145,8 @@ pub data Change : Type 0 where
   -- its talk ends
   TalkEnds : Change
 
--- the channel behind such a change
+-- the channel after such a change
 abbrev pub changed : PlanOf → Change → Channel → Channel
 changed plan Stays c = c
-changed plan (Talks queue agent) c = record c { phase = Talking queue agent (goes_on_behind c.phase) }
-changed plan TalkEnds c = talked plan c (goes_on_behind c.phase)
+changed plan (Talks queue agent) c = record c { phase = Talking queue agent (goes_on_after c.phase) }
+changed plan TalkEnds c = talked plan c (goes_on_after c.phase)

@@ -27,8 +27,8 @@ use Rattle.dp_machine.specs.declared.channel.Channel.{Channel}
 use Rattle.dp_machine.specs.declared.event.Event.{Event}
 use Rattle.dp_machine.specs.declared.event.Event.TheVariants.{Start, Step, Digit, Timeout, Poll, Hangup, DialResult, Offer, Answer, Decline, AgentDone, Reload}
 use Rattle.dp_machine.specs.declared.dial_status.DialStatus.{DialStatus}
-use Rattle.dp_machine.specs.declared.asked.Asked.{Asked}
-use Rattle.dp_machine.specs.declared.asked.Asked.TheVariants.{Step as asked_step, Digit as asked_digit, Timeout as asked_timeout, Poll as asked_poll, Hangup as asked_hangup, DialResult as asked_result}
+use Rattle.dp_machine.specs.declared.channel_event.ChannelEvent.{ChannelEvent}
+use Rattle.dp_machine.specs.declared.channel_event.ChannelEvent.TheVariants.{Step as asked_step, Digit as asked_digit, Timeout as asked_timeout, Poll as asked_poll, Hangup as asked_hangup, DialResult as asked_result}
 use Rattle.dp_machine.specs.declared.refusal.Refusal.{Refusal}
 use Rattle.dp_machine.specs.declared.refusal.Refusal.TheVariants.{NoChannel, NotReady, NotWaiting, NoTimer, NoQueue, NobodyWaiting, NoMember, NotRinging, NotTalking, Ended, NumbersSpent, BadDigit, BadPlan, NotDialling}
 use Rattle.dp_machine.specs.declared.reply.Reply.{Reply}
@@ -71,11 +71,11 @@ take_event shared c = record { channel = c; shared = shared; reply = Done }
 abbrev pub with_queues : Shared → QueuesOf → Shared
 with_queues shared queues = record { globals = shared.globals; queues = queues }
 
--- the shared part behind a channel that leaves its queue: the agents that rang for it are idle
+-- the shared part after a channel that leaves its queue: the agents that rang for it are idle
 abbrev pub without_caller : Shared → ℕ → Shared
 without_caller shared number = with_queues shared (leave_row shared.queues number).0
 
--- the shared part behind the end of a channel's talk
+-- the shared part after the end of a channel's talk
 abbrev pub without_talk : Shared → ℕ → Shared
 without_talk shared number = with_queues shared (end_talk_row shared.queues number).0
 
@@ -91,17 +91,17 @@ cell_of shared number c = record {
   queues = shared.queues;
 }
 
--- the channel and the shared part behind an application, and where it sends the channel
+-- the channel and the shared part after an application, and where it sends the channel
 abbrev pub applied : Channel → Cell × Option Move → Applied
-applied c behind = record {
-  channel = record c { caller = behind.0.caller; store = behind.0.store };
-  shared = record { globals = behind.0.globals; queues = behind.0.queues };
-  going = behind.1;
+applied c after = record {
+  channel = record c { caller = after.0.caller; store = after.0.store };
+  shared = record { globals = after.0.globals; queues = after.0.queues };
+  going = after.1;
 }
 
 -- the channel goes where its application sent it
 abbrev pub ran : PlanOf → EntryId → Applied → Own
-ran plan id behind = record { channel = went plan behind.channel behind.going; shared = behind.shared; reply = Ran id }
+ran plan id after = record { channel = went plan after.channel after.going; shared = after.shared; reply = Ran id }
 
 -- a step where no entry is found: to the extension `i` if the extension is not there, else a hang-up
 unfoldable pub unfound : PlanOf → Shared → Channel → Own
@@ -252,7 +252,7 @@ unfoldable pub dial_result_row : DialStatus → PlanOf → Shared → ℕ → Ch
 dial_result_row status plan shared number c = dial_result_in c.phase status plan shared number c
 
 -- an event of one channel, by what it asks
-abbrev pub own_row : Rows → Asked → PlanOf → Shared → ℕ → Channel → Own
+abbrev pub own_row : Rows → ChannelEvent → PlanOf → Shared → ℕ → Channel → Own
 own_row rows asked_step = step_row rows
 own_row rows (asked_digit digit) = digit_row digit
 own_row rows asked_timeout = timeout_row
@@ -320,11 +320,11 @@ parted shared (Some call) = record { shared = shared; who = call.channel; change
 unfoldable pub agent_done : Shared → List ℕ → Served
 agent_done shared agent = parted (with_queues shared (done_row shared.queues agent).0) (done_row shared.queues agent).1
 
--- the world behind a call that comes in, and the reply
+-- the world after a call that comes in, and the reply
 abbrev pub entered : World → Entered → World × Reply
 entered w e = (record w { channels = e.channels }, e.reply)
 
--- the world behind a channel's event, and the reply
+-- the world after a channel's event, and the reply
 abbrev pub owned : World → ℕ → Own → World × Reply
 owned w number own = (record w { channels = with_channel w.channels number own.channel; shared = own.shared }, own.reply)
 
@@ -333,11 +333,11 @@ abbrev pub own_event : World → ℕ → (PlanOf → Shared → ℕ → Channel 
 own_event w number row None = (w, Refused NoChannel)
 own_event w number row (Some c) = owned w number (row w.plan w.shared number c)
 
--- the world behind an event of the channel of a number, by what it asks, and the reply
-abbrev pub asked_event : Rows → World → ℕ → Asked → World × Reply
+-- the world after an event of the channel of a number, by what it asks, and the reply
+abbrev pub asked_event : Rows → World → ℕ → ChannelEvent → World × Reply
 asked_event rows w number asked = own_event w number (own_row rows asked) (channel_at w.channels number)
 
--- the channels behind an agent's event
+-- the channels after an agent's event
 abbrev pub served_channels : World → Served → Option Channel → List Channel
 served_channels w s None = w.channels
 served_channels w s (Some c) = with_channel w.channels s.who (changed w.plan s.change c)
@@ -346,7 +346,7 @@ served_channels w s (Some c) = with_channel w.channels s.who (changed w.plan s.c
 abbrev pub agent_event : World → Served → World × Reply
 agent_event w s = (record w { channels = served_channels w s (channel_at w.channels s.who); shared = s.shared }, s.reply)
 
--- the world behind an event, and the reply
+-- the world after an event, and the reply
 abbrev pub event_row : Rows → World → Event → World × Reply
 event_row rows w (Start context exten caller) = entered w (started w.channels context exten caller)
 event_row rows w (Step number) = own_event w number (step_row rows) (channel_at w.channels number)

@@ -12,8 +12,8 @@ use Rattle.dp_app.specs.declared.phase.Phase.{Phase}
 use Rattle.dp_app.specs.declared.phase.Phase.TheVariants.{Ready, Digits, Pause, Queued, Talking, Dialling, Ended}
 use Rattle.dp_machine.specs.Events.{Own, own_row, step_row}
 use Rattle.dp_machine.specs.World.{World, most_channels, channel_at}
-use Rattle.dp_machine.specs.declared.asked.Asked.{Asked}
-use Rattle.dp_machine.specs.declared.asked.Asked.TheVariants.{Step as asked_step, Digit as asked_digit, Timeout as asked_timeout, Poll as asked_poll, Hangup as asked_hangup, DialResult as asked_result}
+use Rattle.dp_machine.specs.declared.channel_event.ChannelEvent.{ChannelEvent}
+use Rattle.dp_machine.specs.declared.channel_event.ChannelEvent.TheVariants.{Step as asked_step, Digit as asked_digit, Timeout as asked_timeout, Poll as asked_poll, Hangup as asked_hangup, DialResult as asked_result}
 use Rattle.dp_machine.specs.declared.channel.Channel.{Channel}
 use Rattle.dp_machine.specs.declared.event.Event.{Event}
 use Rattle.dp_machine.specs.declared.event.Event.TheVariants.{Start, Step, Digit, Timeout, Poll, Hangup, DialResult, Offer, Answer, Decline, AgentDone, Reload}
@@ -54,7 +54,7 @@ abbrev pub IsSoundAt : Option Channel → Type 0
 IsSoundAt None = Unit {0}
 IsSoundAt (Some c) = IsSoundIn c.phase c
 
--- the channel behind an event of its own is sound
+-- the channel after an event of its own is sound
 abbrev pub IsSoundOwn : Own → Type 0
 IsSoundOwn own = IsSoundIn own.channel.phase own.channel
 
@@ -91,20 +91,20 @@ pub record IsGoodWorld (w : World) : Type 0 where
   pub queues : IsGood w.shared.queues
 
 -- where a step is asked, this channel is sound
-abbrev pub IsSoundBehind : Asked → Channel → Type 0
-IsSoundBehind asked_step c = IsSoundIn c.phase c
-IsSoundBehind (asked_digit digit) c = Unit {0}
-IsSoundBehind asked_timeout c = Unit {0}
-IsSoundBehind asked_poll c = Unit {0}
-IsSoundBehind asked_hangup c = Unit {0}
-IsSoundBehind (asked_result status) c = Unit {0}
+abbrev pub IsSoundAfter : ChannelEvent → Channel → Type 0
+IsSoundAfter asked_step c = IsSoundIn c.phase c
+IsSoundAfter (asked_digit digit) c = Unit {0}
+IsSoundAfter asked_timeout c = Unit {0}
+IsSoundAfter asked_poll c = Unit {0}
+IsSoundAfter asked_hangup c = Unit {0}
+IsSoundAfter (asked_result status) c = Unit {0}
 
--- where a step is asked, the channel of a number is sound behind it
-abbrev pub IsSoundAsked : Rows → World → ℕ → Asked → Type 0
+-- where a step is asked, the channel of a number is sound after it
+abbrev pub IsSoundAsked : Rows → World → ℕ → ChannelEvent → Type 0
 IsSoundAsked rows w number asked = (c : Channel) → channel_at w.channels number ≡ Some c
-    → IsSoundBehind asked (own_row rows asked w.plan w.shared number c).channel
+    → IsSoundAfter asked (own_row rows asked w.plan w.shared number c).channel
 
--- where the event is a step, the channel is sound behind it
+-- where the event is a step, the channel is sound after it
 abbrev pub StepsSoundly : Rows → World → Event → Type 0
 StepsSoundly rows w (Start context exten caller) = Unit {0}
 StepsSoundly rows w (Step number) = (c : Channel) → channel_at w.channels number ≡ Some c → IsSoundOwn (step_row rows w.plan w.shared number c)

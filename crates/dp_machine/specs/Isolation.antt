@@ -2,7 +2,7 @@
 use Rattle.std.specs.Prelude.{◌≡◌, ◌≢◌, ℕ, ◌==◌, Bool, true, false, not, List, ◌∷◌, ◌++◌, length, map, filter}
 use Rattle.std.specs.List.{zip}
 use Rattle.dp_app.specs.Rows.{Rows}
-use Rattle.dp_machine.specs.Replay.{world_behind, world_after}
+use Rattle.dp_machine.specs.Replay.{final_world, world_after}
 use Rattle.dp_machine.specs.World.{World, channel_at}
 use Rattle.dp_machine.specs.declared.event.Event.{Event}
 use Rattle.dp_machine.specs.declared.event.Event.TheVariants.{Start, Step, Digit, Timeout, Poll, Hangup, DialResult, Offer, Answer, Decline, AgentDone, Reload}
@@ -27,8 +27,8 @@ is_of number (Reload text) = false
 -- an event of a channel is private in a world if it leaves the dialplan and what all channels share as they are: the globals, the
 -- queues, the agents, and the count of finished calls
 pub record IsPrivate (rows : Rows) (w : World) (event : Event) : Type 0 where
-  pub plan : (world_behind rows w event).plan ≡ w.plan
-  pub shared : (world_behind rows w event).shared ≡ w.shared
+  pub plan : (final_world rows w event).plan ≡ w.plan
+  pub shared : (final_world rows w event).shared ≡ w.shared
 
 -- the channel of a number is unseen in the events: each of its own is private in the world that it meets
 abbrev pub IsUnseen : Rows → ℕ → World → List Event → Type 0

@@ -1,14 +1,12 @@
 pub mod Channels
 pub mod Codes
 pub mod Events
-pub mod Follows
 pub mod Found
 pub mod GoodWorld
 pub mod Isolation
 pub mod Reloading
 pub mod Replay
 pub mod Seen
-pub mod Tables
 pub mod Targets
-pub mod Templates
 pub mod World
+pub mod steps

@@ -25,7 +25,7 @@ shared_with shared variables = record {
   queues = shared.queues;
 }
 
--- the world behind a dialplan that is given, and the reply: the dialplan comes in force and its globals are set, and the channels
+-- the world after a dialplan that is given, and the reply: the dialplan comes in force and its globals are set, and the channels
 -- stay as they are; one with a fault is refused
 abbrev pub reloaded_by : World → Option PlanOf → World × Reply
 reloaded_by w None = (w, Refused BadPlan)

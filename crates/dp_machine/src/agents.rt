@@ -1,9 +1,9 @@
 //! The events of agents, after the Asterisk documentation's page on queues.
 ghost use Rattle.std.specs.Prelude.{◌≡◌, ℕ, OnOk, OnErr, List, Some};
 ghost use Rattle.dp_plan.specs.Plan.{PlanOf};
-ghost use Rattle.dp_machine.specs.Channels.{goes_on_behind, talked};
+ghost use Rattle.dp_machine.specs.Channels.{goes_on_after, talked};
 ghost use Rattle.dp_machine.specs.Events as spec;
-ghost use Rattle.dp_machine.specs.Follows.{Makes};
+ghost use Rattle.dp_machine.specs.steps.Follows.{Makes};
 ghost use Rattle.dp_machine.specs.GoodWorld.{IsSoundAt, IsSoundIn};
 ghost use Rattle.dp_machine.specs.World as worlds;
 ghost use Rattle.dp_machine.specs.declared.reply.Reply.TheVariants.{Done};
@@ -36,7 +36,8 @@ fn offer_refusal(fault: OfferFault) -> Refusal
 /// A call of the queue of this name is offered to agents.
 #[tactic(auto, unfolding(crate::specs::Events::offered))]
 pub(crate) fn offer(exchange: &mut Exchange, queue: &[u8]) -> Reply
-    ensures { (channels : List Channel) → spec.agent_event (worlds.world_in exchange.old channels) (spec.offered exchange.old.shared queue.now)
+    ensures { (channels : List Channel) → spec.agent_event (worlds.world_in exchange.old channels)
+        (spec.offered exchange.old.shared queue.now)
         ≡ (worlds.world_in exchange.new channels, result) }
 {
     match exchange.shared.queues.offer(queue) {
@@ -49,8 +50,8 @@ pub(crate) fn offer(exchange: &mut Exchange, queue: &[u8]) -> Reply
 }
 
 /// Whether the channel goes on when its agent is done.
-fn goes_on_behind(phase: &Phase) -> bool
-    ensures { result ≡ goes_on_behind phase.now }
+fn goes_on_after(phase: &Phase) -> bool
+    ensures { result ≡ goes_on_after phase.now }
 {
     match phase {
         Phase::Queued { goes_on, .. } | Phase::Talking { goes_on, .. } => *goes_on,
@@ -64,7 +65,8 @@ fn goes_on_behind(phase: &Phase) -> bool
 
 /// The channel of a call, if there is one, talks with the agent.
 fn talk(channels: &mut Vec<Channel>, call: Call)
-    ensures { (plan : PlanOf) (before after : Shared) → spec.agent_event (worlds.world_of plan channels.old.items before) (spec.met after (Some call))
+    ensures { (plan : PlanOf) (before after : Shared)
+        → spec.agent_event (worlds.world_of plan channels.old.items before) (spec.met after (Some call))
         ≡ (worlds.world_of plan channels.new.items after, Done) }
 {
     let Some(index) = index_of(call.channel, channels.len()) else {
@@ -74,14 +76,15 @@ fn talk(channels: &mut Vec<Channel>, call: Call)
     channel.phase = Phase::Talking {
         queue: call.queue,
         agent: call.agent,
-        goes_on: goes_on_behind(&channel.phase),
+        goes_on: goes_on_after(&channel.phase),
     };
 }
 
 /// The agent of this interface answers the call that it rings for.
 #[tactic(auto, unfolding(crate::specs::Events::answered))]
 pub(crate) fn answer(exchange: &mut Exchange, channels: &mut Vec<Channel>, agent: &[u8]) -> Reply
-    ensures { spec.agent_event (worlds.world_in exchange.old channels.old.items) (spec.answered exchange.old.shared agent.now)
+    ensures { spec.agent_event (worlds.world_in exchange.old channels.old.items)
+        (spec.answered exchange.old.shared agent.now)
         ≡ (worlds.world_in exchange.new channels.new.items, result) }
 {
     match exchange.shared.queues.answer(agent) {
@@ -96,7 +99,8 @@ pub(crate) fn answer(exchange: &mut Exchange, channels: &mut Vec<Channel>, agent
 /// The agent of this interface declines the call that it rings for.
 #[tactic(auto, unfolding(crate::specs::Events::declined))]
 pub(crate) fn decline(exchange: &mut Exchange, agent: &[u8]) -> Reply
-    ensures { (channels : List Channel) → spec.agent_event (worlds.world_in exchange.old channels) (spec.declined exchange.old.shared agent.now)
+    ensures { (channels : List Channel) → spec.agent_event (worlds.world_in exchange.old channels)
+        (spec.declined exchange.old.shared agent.now)
         ≡ (worlds.world_in exchange.new channels, result) }
 {
     if exchange.shared.queues.decline(agent) {
@@ -109,11 +113,11 @@ pub(crate) fn decline(exchange: &mut Exchange, agent: &[u8]) -> Reply
 /// The talk of the channel ends: it goes on, which it reads, or is hung up.
 fn end_talk(alloc: Global, plan: &mut Directory, channel: &mut Channel) -> Result<(), NoMemory>
     requires { IsSoundIn channel.old.phase channel.old }
-    ensures ok { OnOk result (channel.new ≡ talked plan.old channel.old (goes_on_behind channel.old.phase)) }
+    ensures ok { OnOk result (channel.new ≡ talked plan.old channel.old (goes_on_after channel.old.phase)) }
     ensures err { OnErr result (channel.new ≡ channel.old) }
     ensures same { plan.new ≡ plan.old }
 {
-    if goes_on_behind(&channel.phase) {
+    if goes_on_after(&channel.phase) {
         channel.store.set(alloc, b"QUEUESTATUS", b"CONTINUE")?;
         go_on(channel);
         return Ok(());
@@ -151,7 +155,8 @@ pub(crate) fn agent_done(
     agent: &[u8],
 ) -> Result<Reply, NoMemory>
     requires { (number : ℕ) → IsSoundAt (worlds.channel_at channels.old.items number) }
-    ensures { Makes (spec.agent_event (worlds.world_in exchange.old channels.old.items) (spec.agent_done exchange.old.shared agent.now))
+    ensures { Makes (spec.agent_event (worlds.world_in exchange.old channels.old.items)
+        (spec.agent_done exchange.old.shared agent.now))
         (worlds.world_in exchange.old channels.old.items) (worlds.world_in exchange.new channels.new.items) result }
 {
     let Some(call) = exchange.shared.queues.talk_of(agent) else {

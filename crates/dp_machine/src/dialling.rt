@@ -1,11 +1,11 @@
 //! The events of a channel that waits for what comes of its call to devices, after the Asterisk documentation's page on the
 //! application `Dial`.
 ghost use Rattle.std.specs.Prelude.{◌≡◌, ◌≤◌, OnErr, OnOk};
-ghost use Rattle.dp_app.specs.Laws.{most_priority};
+ghost use Rattle.dp_app.specs.Lawful.{most_priority};
 ghost use Rattle.dp_machine.specs.Channels as channels;
 ghost use Rattle.dp_machine.specs.Codes.{status_name};
 ghost use Rattle.dp_machine.specs.Events as spec;
-ghost use Rattle.dp_machine.specs.Follows.{Follows};
+ghost use Rattle.dp_machine.specs.steps.Follows.{Follows};
 ghost use Rattle.dp_machine.specs.GoodWorld.{MayAct};
 
 use crate::channel::Channel;

@@ -3,8 +3,8 @@ ghost use Rattle.std.specs.Prelude.{◌≡◌, IfOk, IfSome, IsSome, Some};
 ghost use Rattle.dp_lookup.specs.SearchOrder.{search_order};
 ghost use Rattle.dp_plan.specs.Lookup.{entry_at};
 ghost use Rattle.dp_machine.specs.Found as spec;
-ghost use Rattle.dp_machine.specs.Tables.{AreTables};
-ghost use Rattle.dp_machine.specs.Templates.{IsOf};
+ghost use Rattle.dp_machine.specs.steps.Tables.{AreTables};
+ghost use Rattle.dp_machine.specs.steps.Templates.{IsOf};
 
 use crate::orders::Orders;
 use crate::templates::{Template, Templates};
@@ -58,7 +58,7 @@ pub(crate) struct Directory {
 
 impl Model for Directory {
     ghost use Rattle.dp_plan.specs.Plan.{PlanOf};
-    ghost use Rattle.dp_machine.specs.Tables.{AreTables};
+    ghost use Rattle.dp_machine.specs.steps.Tables.{AreTables};
 
     ghost Value = { PlanOf };
 
@@ -100,7 +100,7 @@ impl Directory {
         ensures same { self.new ≡ self.old }
     {
         self.tables.turn_to(&self.plan, context);
-        let order = &self.tables.orders.first.order;
+        let order = self.tables.orders.first.order();
         self.tables.trie.find(order, exten, priority)
     }
 
@@ -120,7 +120,7 @@ impl Directory {
         ensures same { self.new ≡ self.old }
     {
         self.tables.turn_to(&self.plan, context);
-        let order = &self.tables.orders.first.order;
+        let order = self.tables.orders.first.order();
         self.tables.trie.more(order, digits)
     }
 
@@ -131,7 +131,7 @@ impl Directory {
         ensures same { self.new ≡ self.old }
     {
         self.tables.turn_to(&self.plan, context);
-        let order = &self.tables.orders.first.order;
+        let order = self.tables.orders.first.order();
         self.tables.trie.find_label(order, exten, label)
     }
 

@@ -2,7 +2,7 @@
 ghost use Rattle.std.specs.Prelude.{◌≡◌, [], IfOk, OnErr, OnOk};
 ghost use Rattle.dp_machine.specs.Reloading.{shared_with};
 ghost use Rattle.dp_machine.specs.Seen.{globals_of};
-ghost use Rattle.dp_machine.specs.Tables.{AreTables};
+ghost use Rattle.dp_machine.specs.steps.Tables.{AreTables};
 ghost use Rattle.dp_machine.specs.World as worlds;
 
 use crate::directory::{Directory, Tables};

@@ -13,7 +13,8 @@ use dp_app::AppTable;
 /// and over every table. It does nothing.
 pub fn isolation<T: AppTable>()
     ensures replies { (world : World) (events : List Event) (channel : ℕ) → IsUnseen T.rows channel world events
-        → replies_to T.rows world (without channel events) ≡ replies_without channel events (replies_to T.rows world events) }
+        → replies_to T.rows world (without channel events)
+        ≡ replies_without channel events (replies_to T.rows world events) }
     ensures world { (world : World) (events : List Event) (channel : ℕ) → IsUnseen T.rows channel world events
         → AreSameBut channel (world_after T.rows world (without channel events)) (world_after T.rows world events) }
 {}

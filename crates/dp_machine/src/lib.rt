@@ -3,8 +3,8 @@
 #![tactic(auto)]
 
 mod agents;
-mod asked;
 mod channel;
+mod channel_event;
 mod dial_status;
 mod dialling;
 mod directory;

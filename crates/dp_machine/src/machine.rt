@@ -3,14 +3,14 @@ ghost use Rattle.std.specs.Prelude.{◌≡◌, ◌≤◌, ◌++◌, IfOk, OnOk, 
 ghost use Rattle.std.specs.Option.{option_copied, option_map};
 ghost use Rattle.dp_queue.specs.Rest.{IsAtRest};
 ghost use Rattle.dp_machine.specs.Events as spec;
-ghost use Rattle.dp_machine.specs.Follows.{Follows, Makes};
+ghost use Rattle.dp_machine.specs.steps.Follows.{Follows, Makes};
 ghost use Rattle.dp_machine.specs.GoodWorld as good;
 ghost use Rattle.dp_machine.specs.Replay as replay;
 ghost use Rattle.dp_machine.specs.World as worlds;
 
 use crate::agents::{agent_done, answer, decline, offer};
-use crate::asked::Asked;
 use crate::channel::Channel;
+use crate::channel_event::ChannelEvent;
 use crate::dialling::take_result;
 use crate::directory::Directory;
 use crate::event::Event;
@@ -68,7 +68,8 @@ fn start(
     ensures ok { IfOk result (λ reply. spec.started channels.old.items context exten caller
         ≡ record { channels = channels.new.items; reply = reply }) }
     ensures err { OnErr result (channels.new.items ≡ channels.old.items) }
-    ensures memory { OnErr result (spec.is_refused_at_once (spec.started channels.old.items context exten caller).reply ≡ false) }
+    ensures memory { OnErr result (spec.is_refused_at_once
+        (spec.started channels.old.items context exten caller).reply ≡ false) }
 {
     let count = channels.len();
     if count >= MOST_CHANNELS {
@@ -101,7 +102,8 @@ fn start_kept(
     ensures ok { IfOk result (λ reply. spec.started channels.old.items context.now exten.now caller.now
         ≡ record { channels = channels.new.items; reply = reply }) }
     ensures err { OnErr result (channels.new.items ≡ channels.old.items) }
-    ensures memory { OnErr result (spec.is_refused_at_once (spec.started channels.old.items context.now exten.now caller.now).reply ≡ false) }
+    ensures memory { OnErr result (spec.is_refused_at_once
+        (spec.started channels.old.items context.now exten.now caller.now).reply ≡ false) }
 {
     if channels.len() >= MOST_CHANNELS {
         return Ok(Reply::Refused(Refusal::NumbersSpent));
@@ -118,20 +120,20 @@ fn answer_to<T: AppTable>(
     exchange: &mut Exchange,
     number: u32,
     channel: &mut Channel,
-    asked: Asked,
+    asked: ChannelEvent,
 ) -> Result<Reply, NoMemory>
     requires { good.MayAct exchange.old.shared number channel.old }
     ensures follows { Follows (spec.own_row T.rows asked exchange.old.plan exchange.old.shared number channel.old)
         exchange.old exchange.new channel.old channel.new result }
-    ensures sound { good.IsSoundBehind asked channel.new }
+    ensures sound { good.IsSoundAfter asked channel.new }
 {
     match asked {
-        Asked::Step => step_channel::<T>(alloc, exchange, number, channel),
-        Asked::Digit(digit) => dial(alloc, exchange, number, channel, digit),
-        Asked::Timeout => end_time(alloc, exchange, number, channel),
-        Asked::Poll => poll(alloc, exchange, number, channel),
-        Asked::Hangup => hang_up_channel(alloc, exchange, number, channel),
-        Asked::DialResult(status) => take_result(alloc, exchange, number, channel, status),
+        ChannelEvent::Step => step_channel::<T>(alloc, exchange, number, channel),
+        ChannelEvent::Digit(digit) => dial(alloc, exchange, number, channel, digit),
+        ChannelEvent::Timeout => end_time(alloc, exchange, number, channel),
+        ChannelEvent::Poll => poll(alloc, exchange, number, channel),
+        ChannelEvent::Hangup => hang_up_channel(alloc, exchange, number, channel),
+        ChannelEvent::DialResult(status) => take_result(alloc, exchange, number, channel, status),
     }
 }
 
@@ -141,12 +143,13 @@ fn ask<T: AppTable>(
     exchange: &mut Exchange,
     channels: &mut Vec<Channel>,
     number: u32,
-    asked: Asked,
+    asked: ChannelEvent,
 ) -> Result<Reply, NoMemory>
     requires { good.IsGoodWorld (worlds.world_in exchange.old channels.old.items) }
     ensures makes { Makes (spec.asked_event T.rows (worlds.world_in exchange.old channels.old.items) number asked)
         (worlds.world_in exchange.old channels.old.items) (worlds.world_in exchange.new channels.new.items) result }
-    ensures sound { OnOk result (good.IsSoundAsked T.rows (worlds.world_in exchange.old channels.old.items) number asked) }
+    ensures sound { OnOk result (good.IsSoundAsked T.rows
+        (worlds.world_in exchange.old channels.old.items) number asked) }
 {
     let Some(index) = index_of(number, channels.len()) else {
         return Ok(Reply::Refused(Refusal::NoChannel));
@@ -173,20 +176,50 @@ fn apply_kept_to<T: AppTable>(
             exten,
             caller,
         } => start_kept(alloc, channels, context, exten, caller),
-        Event::Step { channel } => ask::<T>(alloc, exchange, channels, *channel, Asked::Step),
+        Event::Step { channel } => ask::<T>(
+            alloc,
+            exchange,
+            channels,
+            *channel,
+            ChannelEvent::Step,
+        ),
         Event::Digit { channel, digit } => {
-            ask::<T>(alloc, exchange, channels, *channel, Asked::Digit(*digit))
+            ask::<T>(
+                alloc,
+                exchange,
+                channels,
+                *channel,
+                ChannelEvent::Digit(*digit),
+            )
         }
-        Event::Timeout { channel } => ask::<T>(alloc, exchange, channels, *channel, Asked::Timeout),
-        Event::Poll { channel } => ask::<T>(alloc, exchange, channels, *channel, Asked::Poll),
-        Event::Hangup { channel } => ask::<T>(alloc, exchange, channels, *channel, Asked::Hangup),
+        Event::Timeout { channel } => ask::<T>(
+            alloc,
+            exchange,
+            channels,
+            *channel,
+            ChannelEvent::Timeout,
+        ),
+        Event::Poll { channel } => ask::<T>(
+            alloc,
+            exchange,
+            channels,
+            *channel,
+            ChannelEvent::Poll,
+        ),
+        Event::Hangup { channel } => ask::<T>(
+            alloc,
+            exchange,
+            channels,
+            *channel,
+            ChannelEvent::Hangup,
+        ),
         Event::DialResult { channel, status } => {
             ask::<T>(
                 alloc,
                 exchange,
                 channels,
                 *channel,
-                Asked::DialResult(*status),
+                ChannelEvent::DialResult(*status),
             )
         }
         Event::Offer { queue } => Ok(offer(exchange, queue.bytes())),
@@ -266,7 +299,7 @@ impl<T: AppTable> Machine<T> {
         ensures { IfOk result (λ machine. machine ≡ worlds.opening plan queues) }
     {
         let exchange = Exchange::of(alloc, plan, queues)?;
-        exchange.shared.queues.are_good();
+        exchange.shared.queues.show_good();
         Ok(Machine {
             exchange,
             channels: Vec::new(alloc),
@@ -284,7 +317,7 @@ impl<T: AppTable> Machine<T> {
         ensures refused { OnErr result (spec.is_refused_at_once (spec.event_row T.rows self.old event).1 ≡ false) }
     {
         let reply = apply_to::<T>(alloc, &mut self.exchange, &mut self.channels, event);
-        self.exchange.shared.queues.are_good();
+        self.exchange.shared.queues.show_good();
         reply
     }
 
@@ -297,7 +330,7 @@ impl<T: AppTable> Machine<T> {
         ensures refused { OnErr result (spec.is_refused_at_once (spec.event_row T.rows self.old event.now).1 ≡ false) }
     {
         let reply = apply_kept_to::<T>(alloc, &mut self.exchange, &mut self.channels, event);
-        self.exchange.shared.queues.are_good();
+        self.exchange.shared.queues.show_good();
         reply
     }
 
@@ -309,7 +342,8 @@ impl<T: AppTable> Machine<T> {
         events: &[Event],
         replies: &mut Vec<Reply>,
     ) -> Result<(), NoMemory>
-        ensures replies { OnOk result (replies.new.items ≡ replies.old.items ++ replay.replies_to T.rows self.old events.now) }
+        ensures replies { OnOk result (replies.new.items
+            ≡ replies.old.items ++ replay.replies_to T.rows self.old events.now) }
         ensures world { OnOk result (self.new ≡ replay.world_after T.rows self.old events.now) }
         ensures first { replay.RanFirst T.rows self.old events.now replies.old.items replies.new.items self.new }
     {
@@ -323,7 +357,8 @@ impl<T: AppTable> Machine<T> {
 
     /// The phase of the channel of this number, or None where there is none.
     pub fn phase(&self, number: u32) -> Option<&Phase>
-        ensures { option_copied result ≡ option_map (λ channel. channel.phase) (worlds.channel_at self.now.channels number) }
+        ensures { option_copied result ≡ option_map (λ channel. channel.phase)
+            (worlds.channel_at self.now.channels number) }
     {
         let channel = channel_at(&self.channels, number)?;
         Some(&channel.phase)
@@ -331,7 +366,8 @@ impl<T: AppTable> Machine<T> {
 
     /// Where the channel of this number stands, or None where there is none.
     pub fn place(&self, number: u32) -> Option<&Place>
-        ensures { option_copied result ≡ option_map (λ channel. channel.place) (worlds.channel_at self.now.channels number) }
+        ensures { option_copied result ≡ option_map (λ channel. channel.place)
+            (worlds.channel_at self.now.channels number) }
     {
         let channel = channel_at(&self.channels, number)?;
         Some(&channel.place)
@@ -384,7 +420,7 @@ impl<T: AppTable> Machine<T> {
     }
 
     /// What is true at all times: channels, waiting lists and agents say the same of who waits and who talks. It does nothing.
-    pub fn is_good(&self)
+    pub fn show_good(&self)
         ensures { good.IsGoodWorld self.now }
     {
         let _exchange = &self.exchange;

@@ -1,73 +1,26 @@
 //! The search orders that look-ups remember.
-ghost use Rattle.std.specs.Prelude.{◌≡◌, ◌<◌, All, IfOk, IsTrue};
+ghost use Rattle.std.specs.Prelude.{◌≡◌, ◌<◌, All, IfOk};
+ghost use Rattle.dp_lookup.specs.ContextOrders.{IsOrder};
 ghost use Rattle.dp_lookup.specs.SearchOrder.{search_order};
-ghost use Rattle.dp_plan.specs.Lookup.{number_of};
 ghost use Rattle.dp_plan.specs.Plan.{PlanOf};
-ghost use Rattle.dp_machine.specs.Tables.{AreOrders, IsOrder};
+ghost use Rattle.dp_machine.specs.steps.Tables.{AreOrders};
 
-use dp_lookup::SearchOrder;
+use dp_lookup::ContextOrder;
 use dp_plan::{Dialplan, NoMemory, Text};
 use std::alloc::Global;
 use std::mem;
-
-/// A search order, and the context that it is of.
-#[derive(Drop)]
-pub(crate) struct Order {
-    pub(crate) order: SearchOrder,
-    // The number of the context; None where that is unknown, and before the first.
-    context: Option<usize>,
-}
-
-impl Order {
-    /// An order of no context, with room for that of any.
-    fn room(alloc: Global, plan: &Dialplan) -> Result<Self, NoMemory>
-        ensures { IfOk result (λ order. IsOrder plan.now order) }
-    {
-        let order = SearchOrder::room(alloc, plan)?;
-        Ok(Order {
-            order,
-            context: None,
-        })
-    }
-
-    /// Whether this is the order of the context of this name, which is known. No table of names is asked.
-    fn is_of(&self, plan: &Dialplan, context: &Text) -> bool
-        ensures { IsTrue result → self.now.context ≡ number_of plan.now context.now }
-    {
-        match self.context {
-            Some(number) => plan.has_number(context, number),
-            None => false,
-        }
-    }
-
-    /// Makes this the order of the context of this name. It is filled anew only where it was that of another.
-    fn turn_to(&mut self, plan: &Dialplan, context: &Text)
-        requires { IsOrder plan.now self.old }
-        ensures contexts { self.new.order.contexts ≡ search_order plan.now context.now }
-        ensures order { IsOrder plan.now self.new }
-    {
-        if self.is_of(plan, context) {
-            return;
-        }
-        let number = plan.number_of(context);
-        if self.context != number {
-            self.order.fill(plan, context);
-            self.context = number;
-        }
-    }
-}
 
 /// The search orders of the contexts that were asked last, so that channels that step in turn in a few contexts fill none anew.
 #[derive(Drop)]
 pub(crate) struct Orders {
     /// That of the context that was asked last.
-    pub(crate) first: Order,
-    others: [Order; 3],
+    pub(crate) first: ContextOrder,
+    others: [ContextOrder; 3],
     // Which of the others gives its place to an order that is not among them.
     turn: u8,
 }
 
-/// The number behind a number of one of the others, of which the first is behind the last.
+/// The number after a number of one of the others, of which the first is after the last.
 fn next_turn(turn: u8) -> u8
     ensures { result < 3 }
 {
@@ -79,7 +32,7 @@ fn next_turn(turn: u8) -> u8
 }
 
 /// Exchanges an order and the other at this place.
-fn exchange_order(first: &mut Order, others: &mut [Order; 3], place: usize)
+fn exchange_order(first: &mut ContextOrder, others: &mut [ContextOrder; 3], place: usize)
     requires { place < 3 }
     ensures { (plan : PlanOf) → IsOrder plan first.old × All (IsOrder plan) others.old
         → IsOrder plan first.new × All (IsOrder plan) others.new }
@@ -92,11 +45,11 @@ impl Orders {
     pub(crate) fn room(alloc: Global, plan: &Dialplan) -> Result<Self, NoMemory>
         ensures { IfOk result (λ orders. AreOrders plan.now orders) }
     {
-        let first = Order::room(alloc, plan)?;
+        let first = ContextOrder::room(alloc, plan)?;
         let others = [
-            Order::room(alloc, plan)?,
-            Order::room(alloc, plan)?,
-            Order::room(alloc, plan)?,
+            ContextOrder::room(alloc, plan)?,
+            ContextOrder::room(alloc, plan)?,
+            ContextOrder::room(alloc, plan)?,
         ];
         Ok(Orders {
             first,

@@ -1,7 +1,7 @@
 //! Another dialplan comes in force, after the Asterisk documentation's pages on reloading the dialplan.
 ghost use Rattle.std.specs.Prelude.{◌≡◌, IfOk, List};
 ghost use Rattle.dp_plan.specs.Loaded.{loaded};
-ghost use Rattle.dp_machine.specs.Follows.{Makes};
+ghost use Rattle.dp_machine.specs.steps.Follows.{Makes};
 ghost use Rattle.dp_machine.specs.Reloading as spec;
 ghost use Rattle.dp_machine.specs.World as worlds;
 ghost use Rattle.dp_machine.specs.declared.channel.Channel.{Channel};

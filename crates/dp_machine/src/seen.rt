@@ -15,7 +15,8 @@ use std::alloc::Global;
 
 /// What the texts of the channel of this number see.
 fn scope_of<'a>(shared: &'a Shared, number: u32, channel: &'a Channel) -> Scope<'a, Place, Queues>
-    ensures sight { sight_of (λ queues. waiting_count queues.queues) result ≡ spec.sight_in shared.now number channel.now }
+    ensures sight { sight_of (λ queues. waiting_count queues.queues) result
+        ≡ spec.sight_in shared.now number channel.now }
     ensures maps { maps_of result ≡ spec.maps_in shared.now number channel.now }
 {
     Scope {

@@ -1,15 +1,15 @@
 //! The step of a channel, after the Asterisk documentation's pages on dialplans and on their special extensions.
 ghost use Rattle.std.specs.Prelude.{◌≡◌, ◌+◌, ◌^◌, ◌<◌, ◌≤◌, OnErr, OnOk, Some};
-ghost use Rattle.dp_app.specs.Laws.{IsLawful, MayRun, most_priority};
+ghost use Rattle.dp_app.specs.Lawful.{IsLawful, MayRun, most_priority};
 ghost use Rattle.dp_app.specs.Rows.{dispatched};
 ghost use Rattle.dp_app.specs.declared.phase.Phase.TheVariants.{Ready};
 ghost use Rattle.dp_machine.specs.Channels as channels;
 ghost use Rattle.dp_machine.specs.Events as spec;
-ghost use Rattle.dp_machine.specs.Follows.{Follows, Runs};
+ghost use Rattle.dp_machine.specs.steps.Follows.{Follows, Runs};
 ghost use Rattle.dp_machine.specs.Found.{entry_found, id_at};
 ghost use Rattle.dp_machine.specs.GoodWorld.{IsSoundIn, MayAct};
 ghost use Rattle.dp_machine.specs.Seen.{arguments_seen};
-ghost use Rattle.dp_machine.specs.Templates.{IsOf};
+ghost use Rattle.dp_machine.specs.steps.Templates.{IsOf};
 
 use crate::channel::Channel;
 use crate::directory::Directory;
@@ -71,7 +71,7 @@ fn put_back(cell: Cell, channel: &mut Channel, shared: &mut Shared)
     shared.queues = queues;
 }
 
-/// Moves the channel, behind an application that a table may lack.
+/// Moves the channel, after an application that a table may lack.
 fn go(plan: &mut Directory, channel: &mut Channel, going: Option<Move>)
     requires { channel.old.place.priority ≤ most_priority }
     ensures channel { channel.new ≡ channels.went plan.old channel.old going }

@@ -60,7 +60,8 @@ fn exten_of<'a>(own: &'a Place, front: &'a [Text]) -> &'a [u8]
 #[tactic(auto, unfolding(crate::specs::Targets::parts_place))]
 fn parts_priority(plan: &mut Directory, own: &Place, parts: &TargetParts) -> Option<u32>
     ensures place { spec.parts_place plan.old own.now parts.now
-        ≡ option_map (spec.place_of (spec.parts_context own.now parts.now) (spec.parts_exten own.now parts.now)) result }
+        ≡ option_map (spec.place_of (spec.parts_context own.now parts.now)
+        (spec.parts_exten own.now parts.now)) result }
     ensures same { plan.new ≡ plan.old }
 {
     let (front, priority) = parts.split_last();
@@ -94,7 +95,8 @@ fn put_exten(own: &mut Exten, part: Option<Text>)
 /// Makes the channel ready at the place of these parts, of which the last asked for the priority.
 fn go_to_parts(channel: &mut Channel, parts: TargetParts, priority: u32)
     ensures { channel.new ≡ channels.ready_at channel.old
-        (spec.place_of (spec.parts_context channel.old.place parts) (spec.parts_exten channel.old.place parts) priority) }
+        (spec.place_of (spec.parts_context channel.old.place parts)
+        (spec.parts_exten channel.old.place parts) priority) }
 {
     let mut texts = parts.into_front();
     let exten = texts.pop();
@@ -107,7 +109,8 @@ fn go_to_parts(channel: &mut Channel, parts: TargetParts, priority: u32)
 
 /// Makes the channel ready at the place of a target, or hangs it up where the target has none.
 pub(crate) fn land(plan: &mut Directory, channel: &mut Channel, target: Target)
-    ensures channel { channel.new ≡ channels.landed plan.old channel.old (spec.target_place plan.old channel.old.place target) }
+    ensures channel { channel.new ≡ channels.landed plan.old channel.old
+        (spec.target_place plan.old channel.old.place target) }
     ensures same { plan.new ≡ plan.old }
 {
     match target {
@@ -122,7 +125,8 @@ pub(crate) fn land(plan: &mut Directory, channel: &mut Channel, target: Target)
 
 /// Makes the channel ready at the place that the parts name.
 fn land_at_parts(plan: &mut Directory, channel: &mut Channel, parts: TargetParts)
-    ensures channel { channel.new ≡ channels.landed plan.old channel.old (spec.parts_place plan.old channel.old.place parts) }
+    ensures channel { channel.new ≡ channels.landed plan.old channel.old
+        (spec.parts_place plan.old channel.old.place parts) }
     ensures same { plan.new ≡ plan.old }
 {
     match parts_priority(plan, &channel.place, &parts) {
@@ -146,7 +150,8 @@ fn land_at_existing(plan: &mut Directory, channel: &mut Channel, parts: TargetPa
 /// The priority that the parts ask for, if an entry is found there.
 fn existing_priority(plan: &mut Directory, own: &Place, parts: &TargetParts) -> Option<u32>
     ensures place { spec.if_found plan.old (spec.parts_place plan.old own.now parts.now)
-        ≡ option_map (spec.place_of (spec.parts_context own.now parts.now) (spec.parts_exten own.now parts.now)) result }
+        ≡ option_map (spec.place_of (spec.parts_context own.now parts.now)
+        (spec.parts_exten own.now parts.now)) result }
     ensures same { plan.new ≡ plan.old }
 {
     let priority = parts_priority(plan, own, parts)?;

@@ -1,7 +1,7 @@
 //! The arguments of a dialplan's entries, read once when the machine is made, after the Asterisk documentation's pages on variables.
 ghost use Rattle.std.specs.Prelude.{◌≡◌, IfOk};
 ghost use Rattle.std.specs.Option.{option_copied};
-ghost use Rattle.dp_machine.specs.Templates as spec;
+ghost use Rattle.dp_machine.specs.steps.Templates as spec;
 
 use dp_plan::{Context, Entry, EntryId, NoMemory};
 use dp_vars::{Pieces, has_opening};
@@ -52,10 +52,10 @@ impl ContextTemplates {
     {
         let mut held = Vec::with_capacity(alloc, entries.len())?;
         let mut left = entries;
-        while let Some((entry, behind)) = left.split_first() {
+        while let Some((entry, after)) = left.split_first() {
             let template = Template::read(alloc, entry.arguments.bytes())?;
             held.push(template)?;
-            left = behind;
+            left = after;
         }
         Ok(ContextTemplates { held })
     }
@@ -90,10 +90,10 @@ impl Templates {
     {
         let mut held = Vec::with_capacity(alloc, contexts.len())?;
         let mut left = contexts;
-        while let Some((context, behind)) = left.split_first() {
+        while let Some((context, after)) = left.split_first() {
             let templates = ContextTemplates::read(alloc, context.entries())?;
             held.push(templates)?;
-            left = behind;
+            left = after;
         }
         Ok(Templates { contexts: held })
     }

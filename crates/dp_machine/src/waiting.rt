@@ -1,11 +1,11 @@
 //! The events of a channel that waits: for digits, for a time, or in a queue. After the Asterisk documentation's pages on
 //! the applications `WaitExten`, `Background`, `Wait` and `Queue`.
 ghost use Rattle.std.specs.Prelude.{◌≡◌, ◌≤◌, ◌++◌, ◌∷◌, [], IfOk};
-ghost use Rattle.dp_app.specs.Laws.{most_priority};
+ghost use Rattle.dp_app.specs.Lawful.{most_priority};
 ghost use Rattle.dp_queue.specs.Joining.{should_leave};
 ghost use Rattle.dp_machine.specs.Channels as channels;
 ghost use Rattle.dp_machine.specs.Events as spec;
-ghost use Rattle.dp_machine.specs.Follows.{Follows};
+ghost use Rattle.dp_machine.specs.steps.Follows.{Follows};
 ghost use Rattle.dp_machine.specs.Found as found;
 ghost use Rattle.dp_machine.specs.GoodWorld.{MayAct};
 
@@ -48,7 +48,8 @@ fn is_over(phase: &Phase) -> bool
 
 /// The channel has dialled these digits: it waits for more where they may go on, else it goes where they lead.
 fn collect(plan: &mut Directory, channel: &mut Channel, text: Text, is_background: bool)
-    ensures channel { channel.new ≡ channels.collected (found.could_go_on plan.old channel.old.place.context text) channel.old text is_background }
+    ensures channel { channel.new ≡ channels.collected
+        (found.could_go_on plan.old channel.old.place.context text) channel.old text is_background }
     ensures same { plan.new ≡ plan.old }
 {
     if plan.could_go_on(&channel.place.context, text.bytes()) {
@@ -83,7 +84,8 @@ fn dial_in_queue(
     queue: usize,
     digit: u8,
 ) -> Result<Reply, NoMemory>
-    ensures { Follows (spec.way_out exchange.old.plan exchange.old.shared number channel.old digit (spec.way_out_of exchange.old.shared.queues queue))
+    ensures { Follows (spec.way_out exchange.old.plan exchange.old.shared number channel.old digit
+        (spec.way_out_of exchange.old.shared.queues queue))
         exchange.old exchange.new channel.old channel.new result }
 {
     let nowhere = Text::new(Vec::new(alloc));

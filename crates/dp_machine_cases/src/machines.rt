@@ -72,7 +72,7 @@ impl Checked for Read {
     }
 }
 
-/// Asserts that nothing is added behind the reply that is there where there is no event.
+/// Asserts that nothing is added after the reply that is there where there is no event.
 fn check_an_empty_run(
     alloc: Global,
     machine: &mut Exchange,
@@ -96,7 +96,7 @@ fn check_states(alloc: Global, machine: &Exchange, want: &str) -> Result<(), Fai
     check_same("the machine", &got, want)
 }
 
-/// The replies to the two runs, behind the one that is there before.
+/// The replies to the two runs, after the one that is there before.
 fn check_replies(replies: &[Reply]) -> Result<(), Fail> {
     let want = [
         Reply::NoEntry,
@@ -137,7 +137,7 @@ fn check_runs(alloc: Global, machine: &mut Exchange, replies: &mut Vec<Reply>) -
     check_states(alloc, machine, "ended out,t,1\nended out,t,1\nnone\n")
 }
 
-/// The replies stand behind those that are there already, and the machine is the one behind the last event.
+/// The replies stand after those that are there already, and the machine is the one after the last event.
 struct Runs;
 
 impl Checked for Runs {
@@ -157,14 +157,14 @@ fn give_again(
     let once = event.copy()?;
     let again = event.copy()?;
     if machine.apply(alloc, once).is_err() {
-        let behind = state_of(alloc, machine, 1)?;
-        check_same("a refused event", &behind, before)?;
+        let after = state_of(alloc, machine, 1)?;
+        check_same("a refused event", &after, before)?;
         machine.apply(alloc, again)?;
     }
     Ok(())
 }
 
-/// Gives an event so, and adds the state behind it.
+/// Gives an event so, and adds the state after it.
 fn push_given_again(
     out: &mut String,
     alloc: Global,

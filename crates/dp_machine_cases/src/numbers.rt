@@ -36,7 +36,7 @@ const HUNG_UP: Reply = Reply::Ran(EntryId {
     entry: 0,
 });
 
-/// The steps with their replies, each behind a call that is refused.
+/// The steps with their replies, each after a call that is refused.
 const STEPS: [(u32, Reply); 4] = [
     (65_535, HUNG_UP),
     (65_535, Reply::Refused(Refusal::Ended)),

@@ -1,14 +1,14 @@
 //! Scripts that machines are given: calls to devices, and dialplans that come in force, worked out by hand from the rules.
 use dp_commands::{ScriptLine, Turn, read_script};
 use dp_machine::NoMemory;
-use dp_machine_rows::{Asked, Exchange, answer_on, push_given, push_value};
+use dp_machine_rows::{Ask, Exchange, answer_on, push_given, push_value};
 use dp_rows::{Question, bytes_of, check_all, text_of};
 use std::alloc::Global;
 use std::str;
 use std::test::Fail;
 
 /// A case is a dialplan, the one that each line `reload` gives, and a script, parted by `¦`; then an arrow, and for each event the
-/// reply with the state of its channel behind it, and for each `show` the value. Calls to devices:
+/// reply with the state of its channel after it, and for each `show` the value. Calls to devices:
 const DIALLING: &str = r"
 # Whatever comes of it, the channel reads it; where the far side has answered and hung up it is hung up too.
 [main]\nexten => s,1,Dial(Line/5,20)\nexten => s,2,NoOp()\nexten => h,1,Dial(Line/6)¦¦start main s\nstep 1\nresult 1 BUSY\nshow 1 DIALSTATUS\nresult 1 BUSY→started 1 -> ready main,s,1 ; ran main,s,1 Dial -> dialling main,s,1 ; done -> ready main,s,2 ; DIALSTATUS=BUSY ; refused 53 NotDialling -> ready main,s,2
@@ -22,12 +22,12 @@ const DIALLING: &str = r"
 # The time is over, or there is none.
 [main]\nexten => s,1,Dial(Line/5,20)\nexten => s,2,NoOp()\nexten => h,1,Dial(Line/6)¦¦start main s\nstep 1\ntimeout 1\nshow 1 DIALSTATUS\ntimeout 1→started 1 -> ready main,s,1 ; ran main,s,1 Dial -> dialling main,s,1 ; done -> ready main,s,2 ; DIALSTATUS=NOANSWER ; refused 42 NotWaiting -> ready main,s,2
 [main]\nexten => s,1,Dial(Line/5)\nexten => s,2,NoOp()¦¦start main s\nstep 1\ntimeout 1\nshow 1 DIALSTATUS\nresult 1 BUSY→started 1 -> ready main,s,1 ; ran main,s,1 Dial -> dialling main,s,1 ; refused 43 NoTimer -> dialling main,s,1 ; DIALSTATUS= ; done -> ready main,s,2
-# With the option `g` the channel goes on behind each of them.
+# With the option `g` the channel goes on after each of them.
 [main]\nexten => s,1,Dial(Line/5,,g)\nexten => s,2,NoOp()\nexten => h,1,NoOp()¦¦start main s\nstep 1\nresult 1 ANSWER\nshow 1 DIALSTATUS→started 1 -> ready main,s,1 ; ran main,s,1 Dial -> dialling main,s,1 ; done -> ready main,s,2 ; DIALSTATUS=ANSWER
 [main]\nexten => s,1,Dial(Line/5,20,g)\nexten => s,2,NoOp()\nexten => h,1,NoOp()¦¦start main s\nstep 1\nresult 1 BUSY\nstart main s\nstep 2\ntimeout 2\nshow 2 DIALSTATUS→started 1 -> ready main,s,1 ; ran main,s,1 Dial -> dialling main,s,1 ; done -> ready main,s,2 ; started 2 -> ready main,s,1 ; ran main,s,1 Dial -> dialling main,s,1 ; done -> ready main,s,2 ; DIALSTATUS=NOANSWER
 # No device is called.
 [main]\nexten => s,1,Dial()\nexten => s,2,NoOp()¦¦start main s\nstep 1\nshow 1 DIALSTATUS\nresult 1 BUSY→started 1 -> ready main,s,1 ; ran main,s,1 Dial -> ready main,s,2 ; DIALSTATUS=CHANUNAVAIL ; refused 53 NotDialling -> ready main,s,2
-# Where the priority behind it has no entry, the channel goes there too.
+# Where the priority after it has no entry, the channel goes there too.
 [main]\nexten => s,1,Dial(Line/5)¦¦start main s\nstep 1\nresult 1 BUSY\nstep 1→started 1 -> ready main,s,1 ; ran main,s,1 Dial -> dialling main,s,1 ; done -> ready main,s,2 ; no entry -> ended main,s,2
 # A digit is not kept.
 [main]\nexten => s,1,Dial(Line/5,20)\nexten => s,2,WaitExten()\nexten => s,3,NoOp()\nexten => 5,1,NoOp()¦¦start main s\nstep 1\ndigit 1 5\nresult 1 BUSY\nstep 1\ntimeout 1→started 1 -> ready main,s,1 ; ran main,s,1 Dial -> dialling main,s,1 ; done -> dialling main,s,1 ; done -> ready main,s,2 ; ran main,s,2 WaitExten -> digits main,s,2 ; done -> ready main,s,3
@@ -42,7 +42,7 @@ const DIALLING: &str = r"
 [main]\nexten => s,1,Gosub(sub,s,1)\n[sub]\nexten => s,1,Set(LOCAL(DIALSTATUS)=mine)\nexten => s,2,Dial(Line/5,20)\nexten => s,3,Return()\nexten => h,1,NoOp()¦¦start main s\nstep 1 3\nhangup 1\nshow 1 DIALSTATUS→started 1 -> ready main,s,1 ; ran main,s,1 Gosub -> ready sub,s,1 ; ran sub,s,1 Set -> ready sub,s,2 ; ran sub,s,2 Dial -> dialling sub,s,2 ; done -> ready sub,h,1 ; DIALSTATUS=
 [main]\nexten => s,1,Gosub(sub,s,1)\n[sub]\nexten => s,1,Set(LOCAL(DIALSTATUS)=mine)\nexten => s,2,Dial(Line/5,20)\nexten => s,3,Return()\nexten => h,1,NoOp()¦¦start main s\nstep 1 3\nresult 1 ANSWER\nshow 1 DIALSTATUS→started 1 -> ready main,s,1 ; ran main,s,1 Gosub -> ready sub,s,1 ; ran sub,s,1 Set -> ready sub,s,2 ; ran sub,s,2 Dial -> dialling sub,s,2 ; done -> ready sub,h,1 ; DIALSTATUS=
 [main]\nexten => s,1,Gosub(sub,s,1)\n[sub]\nexten => s,1,Set(LOCAL(DIALSTATUS)=mine)\nexten => s,2,Dial(Line/5,20)\nexten => s,3,StackPop()¦¦start main s\nstep 1 3\ntimeout 1\nshow 1 DIALSTATUS\nstep 1\nshow 1 DIALSTATUS→started 1 -> ready main,s,1 ; ran main,s,1 Gosub -> ready sub,s,1 ; ran sub,s,1 Set -> ready sub,s,2 ; ran sub,s,2 Dial -> dialling sub,s,2 ; done -> ready sub,s,3 ; DIALSTATUS=NOANSWER ; ran sub,s,3 StackPop -> ready sub,s,4 ; DIALSTATUS=
-# Where no local has the name, it stays behind the frames.
+# Where no local has the name, it stays after the frames.
 [main]\nexten => s,1,Gosub(sub,s,1)\n[sub]\nexten => s,1,Dial(Line/5,20)\nexten => h,1,NoOp()¦¦start main s\nstep 1 2\nhangup 1\nshow 1 DIALSTATUS→started 1 -> ready main,s,1 ; ran main,s,1 Gosub -> ready sub,s,1 ; ran sub,s,1 Dial -> dialling sub,s,1 ; done -> ready sub,h,1 ; DIALSTATUS=CANCEL
 # One channel's result is not another's.
 [main]\nexten => s,1,Dial(Line/5,20)\nexten => s,2,NoOp()¦¦start main s\nstart main s\nstep 1\nstep 2\nresult 2 BUSY\nshow 1 DIALSTATUS\nshow 2 DIALSTATUS\nresult 1 NOANSWER→started 1 -> ready main,s,1 ; started 2 -> ready main,s,1 ; ran main,s,1 Dial -> dialling main,s,1 ; ran main,s,1 Dial -> dialling main,s,1 ; done -> ready main,s,2 ; DIALSTATUS= ; DIALSTATUS=BUSY ; done -> ready main,s,2
@@ -149,7 +149,7 @@ fn push_line(
     Ok(())
 }
 
-/// What a machine answers to the lines of a script, with ` ; ` behind each answer.
+/// What a machine answers to the lines of a script, with ` ; ` after each answer.
 fn answers_of(alloc: Global, machine: &mut Exchange, lines: &[ScriptLine]) -> Result<String, Fail> {
     let mut out = String::new(alloc);
     for line in lines {
@@ -171,9 +171,9 @@ fn answers_to(
 }
 
 /// The answers to a script with the dialplan before it that its lines `reload` give.
-struct Told;
+struct InScript;
 
-impl Asked for Told {
+impl Ask for InScript {
     fn answer(alloc: Global, machine: &mut Exchange, asked: &str) -> Result<String, Fail> {
         let (second, script) = asked.split_once('¦').ok_or("no script")?;
         let second = bytes_of(alloc, second)?;
@@ -189,7 +189,7 @@ impl Question for Happened {
     fn answer(alloc: Global, asked: &str) -> Result<String, Fail> {
         let (plan, rest) = asked.split_once('¦').ok_or("no other dialplan")?;
         let plan = bytes_of(alloc, plan)?;
-        answer_on::<Told>(alloc, &plan, rest)
+        answer_on::<InScript>(alloc, &plan, rest)
     }
 }
 

@@ -1,13 +1,13 @@
 //! Stories of machines: a dialplan, and what happens in it, worked out by hand from the rules.
 use dp_machine::NoMemory;
 use dp_machine_rows::{
-    Asked, Exchange, answer_on, call, notes_of, push_called, push_state, push_stepped, push_value,
+    Ask, Exchange, answer_on, call, notes_of, push_called, push_state, push_stepped, push_value,
 };
 use dp_rows::{bytes_of, check_heading, check_same};
 use std::alloc::Global;
 use std::test::Fail;
 
-/// A story begins with its dialplan, `plan TEXT→N notes`. Behind it, a line is a call, `CONTEXT:EXTEN→REPLY -> STATE`, a step of a
+/// A story begins with its dialplan, `plan TEXT→N notes`. After it, a line is a call, `CONTEXT:EXTEN→REPLY -> STATE`, a step of a
 /// channel, `CHANNEL→REPLY -> STATE`, or a question, `state CHANNEL→STATE` or `value CHANNEL NAME→VALUE`.
 const STORIES: &str = r"
 # A call from its start to its end.
@@ -91,7 +91,7 @@ main:1→started 1 -> ready main,1,1
 main:2→started 2 -> ready main,2,1
 2→no entry -> ended main,2,1
 2→refused 49 Ended -> ended main,2,1
-# Behind the greatest priority of an entry stands a place where no entry can be.
+# After the greatest priority of an entry stands a place where no entry can be.
 plan [main]\nexten => s,1,Goto(2147483647)\nexten => s,2147483647,NoOp()\nexten => t,1,Goto(s,2147483648)→0 notes
 main:s→started 1 -> ready main,s,1
 1→ran main,s,1 Goto -> ready main,s,2147483647
@@ -228,9 +228,9 @@ fn push_line(
 }
 
 /// A story as it is told with what the machine answers.
-struct Told;
+struct InStory;
 
-impl Asked for Told {
+impl Ask for InStory {
     fn answer(alloc: Global, machine: &mut Exchange, asked: &str) -> Result<String, Fail> {
         let mut out = String::new(alloc);
         for line in asked.lines() {
@@ -280,7 +280,7 @@ fn check_story(alloc: Global, story: &str) -> Result<(), Fail> {
     let (text, notes) = plan.split_once('→').ok_or("a dialplan without notes")?;
     let text = bytes_of(alloc, text)?;
     check_notes(alloc, &text, notes)?;
-    let told = answer_on::<Told>(alloc, &text, lines)?;
+    let told = answer_on::<InStory>(alloc, &text, lines)?;
     check_lines(&told, lines)
 }
 

@@ -16,7 +16,7 @@ use std::test::Fail;
 pub type Exchange = Machine<StandardApps>;
 
 /// What is asked of a machine.
-pub trait Asked {
+pub trait Ask {
     /// The answer of a machine to what is asked, as text.
     fn answer(alloc: Global, machine: &mut Exchange, asked: &str) -> Result<String, Fail>;
 }
@@ -35,7 +35,7 @@ fn machine_of(alloc: Global, text: &[u8]) -> Result<Exchange, Fail> {
 }
 
 /// What a new machine with the dialplan of a text answers.
-pub fn answer_on<A: Asked>(alloc: Global, text: &[u8], asked: &str) -> Result<String, Fail> {
+pub fn answer_on<A: Ask>(alloc: Global, text: &[u8], asked: &str) -> Result<String, Fail> {
     let mut machine = machine_of(alloc, text)?;
     A::answer(alloc, &mut machine, asked)
 }
@@ -143,7 +143,7 @@ pub fn state_of(alloc: Global, machine: &Exchange, channel: u32) -> Result<Strin
     Ok(out)
 }
 
-/// A reply, and the state of a channel behind it: `REPLY -> STATE`.
+/// A reply, and the state of a channel after it: `REPLY -> STATE`.
 fn push_answer(
     out: &mut String,
     alloc: Global,
@@ -156,7 +156,7 @@ fn push_answer(
     push_state(out, machine, channel)
 }
 
-/// The channel of which the state is shown behind a call: none is numbered 0.
+/// The channel of which the state is shown after a call: none is numbered 0.
 fn started(reply: Reply) -> u32 {
     match reply {
         Reply::Started(channel) => channel,
@@ -164,7 +164,7 @@ fn started(reply: Reply) -> u32 {
     }
 }
 
-/// Gives a call, and adds the reply and the state of the channel behind it.
+/// Gives a call, and adds the reply and the state of the channel after it.
 pub fn push_called(
     out: &mut String,
     alloc: Global,
@@ -175,7 +175,7 @@ pub fn push_called(
     push_answer(out, alloc, machine, reply, started(reply))
 }
 
-/// Gives a step, and adds the reply and the state of the channel behind it.
+/// Gives a step, and adds the reply and the state of the channel after it.
 pub fn push_stepped(
     out: &mut String,
     alloc: Global,
@@ -195,7 +195,7 @@ fn about(reply: Reply, named: u32) -> Option<u32> {
     }
 }
 
-/// Gives an event, and adds the reply and the state of its channel behind it, or the reply alone where it is about no channel.
+/// Gives an event, and adds the reply and the state of its channel after it, or the reply alone where it is about no channel.
 pub fn push_given(
     out: &mut String,
     alloc: Global,

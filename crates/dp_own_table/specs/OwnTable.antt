@@ -4,10 +4,10 @@ use Rattle.std.proofs.Common.{ap, subst}
 use Rattle.std.proofs.lemmas.Option.{none-some, same_Some}
 use Rattle.dp_conf.specs.Words.{same_text, same_word}
 use Rattle.dp_vars.specs.Stores.{set}
-use Rattle.dp_app.specs.Keeping.{cell_kept, going_lawful, store_kept}
-use Rattle.dp_app.specs.Laws.{IsBlind, ParksNowhere, IsLawful, IsLawfulRow, MayGo, waiting_after, waiting_lists}
+use Rattle.dp_app.specs.laws.Keeping.{cell_kept, going_lawful, store_kept}
+use Rattle.dp_app.specs.Lawful.{IsBlind, ParksNowhere, IsLawful, IsLawfulRow, MayGo, waiting_after, waiting_lists}
 use Rattle.dp_app.specs.Rows.{Row, Rows}
-use Rattle.dp_app.specs.StoreKept.{set_kept, with_store_kept}
+use Rattle.dp_app.specs.laws.StoreKept.{set_kept, with_store_kept}
 use Rattle.dp_app.specs.Tables.{no_rows, no_rows_blind, no_touch, with_row, with_row_blind, with_touch}
 use Rattle.dp_app.specs.declared.moves.Move.{Move}
 use Rattle.dp_app.specs.declared.moves.Move.TheVariants.{Next, Park, Hang}

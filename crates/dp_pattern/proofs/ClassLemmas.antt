@@ -11,8 +11,8 @@ pub filter_range-same : (p q : ℕ → Bool) (low n : ℕ) → ((b : ℕ) → lo
 filter_range-same p q low zero same = refl
 filter_range-same p q low (suc n) same =
     let here : p low ≡ q low = same low (omega arith) (omega arith) in
-    let behind = filter_range-same p q (low + 1) n (λ b from to. same b (omega arith) (omega arith)) in
-    λ i. cond (here i) (low ∷ behind i) (behind i)
+    let after = filter_range-same p q (low + 1) n (λ b from to. same b (omega arith) (omega arith)) in
+    λ i. cond (here i) (low ∷ after i) (after i)
 
 -- two tests that agree on each byte have one class
 pub class_by-same : (p q : ℕ → Bool) → ((b : ℕ) → b < 256 → p b ≡ q b) → class_by p ≡ class_by q
@@ -31,8 +31,8 @@ filter_range-one a low (suc n) from to = by_test (filter_range-one a (low + 1) n
     by_test : (low + 1 ≤ a → a < (low + 1) + n → filter (λ b. a == b) (range_with_len (low + 1) n) ≡ a ∷ []) → (t : Bool) → (a == low) ≡ t → filter (λ b. a == b) (range_with_len low (suc n)) ≡ a ∷ []
     by_test later true e =
         let here : low ≡ a = sym (eqb-true a low e) in
-        let behind = filter_range-same (λ b. a == b) (λ _. false) (low + 1) n (λ b above _. ne_eqb a b (λ same. absurd (omega arith))) ∙ filter_range-none (low + 1) n in
-        ap (λ t. cond t (low ∷ filter (λ b. a == b) (range_with_len (low + 1) n)) (filter (λ b. a == b) (range_with_len (low + 1) n))) e ∙ (λ i. here i ∷ behind i)
+        let after = filter_range-same (λ b. a == b) (λ _. false) (low + 1) n (λ b above _. ne_eqb a b (λ same. absurd (omega arith))) ∙ filter_range-none (low + 1) n in
+        ap (λ t. cond t (low ∷ filter (λ b. a == b) (range_with_len (low + 1) n)) (filter (λ b. a == b) (range_with_len (low + 1) n))) e ∙ (λ i. here i ∷ after i)
     by_test later false e =
         let other : a ≢ low = λ same. true≢false (sym (eq-eqb a low same) ∙ e) in
         ap (λ t. cond t (low ∷ filter (λ b. a == b) (range_with_len (low + 1) n)) (filter (λ b. a == b) (range_with_len (low + 1) n))) e ∙ later (omega arith) (omega arith)

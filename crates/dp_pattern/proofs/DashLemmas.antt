@@ -8,8 +8,8 @@ undashed-from_first [] = refl
 undashed-from_first (b ∷ text) = by_test (undashed-from_first text) (is_dash b) refl
   where
     by_test : undashed (from_first text) ≡ undashed text → (t : Bool) → is_dash b ≡ t → undashed (from_first (b ∷ text)) ≡ undashed (b ∷ text)
-    by_test behind true e = rw e behind
-    by_test behind false e = rw e (rw e refl)
+    by_test after true e = rw e after
+    by_test after false e = rw e (rw e refl)
 
 -- what does not begin with a dash
 pub from_first-begins : (text rest : List ℕ) (b : ℕ) → from_first text ≡ b ∷ rest → undashed text ≡ b ∷ undashed rest
@@ -17,8 +17,8 @@ from_first-begins [] rest b e = cc
 from_first-begins (a ∷ text) rest b e = by_test (from_first-begins text rest b) (is_dash a) refl
   where
     by_test : (from_first text ≡ b ∷ rest → undashed text ≡ b ∷ undashed rest) → (t : Bool) → is_dash a ≡ t → undashed (a ∷ text) ≡ b ∷ undashed rest
-    by_test behind true t = rw t (behind (rw t at e))
-    by_test behind false t = rw t (let same : a ∷ text ≡ b ∷ rest = rw t at e in cc)
+    by_test after true t = rw t (after (rw t at e))
+    by_test after false t = rw t (let same : a ∷ text ≡ b ∷ rest = rw t at e in cc)
 
 pub from_first-ends : (front text : List ℕ) → front ≡ from_first text → length front ≡ 0 → undashed text ≡ []
 from_first-ends [] text e none = sym (undashed-from_first text) ∙ ap undashed (sym e)
@@ -29,5 +29,5 @@ length-from_first [] = omega arith
 length-from_first (b ∷ text) = by_test (length-from_first text) (is_dash b) refl
   where
     by_test : length (from_first text) ≤ length text → (t : Bool) → is_dash b ≡ t → length (from_first (b ∷ text)) ≤ length (b ∷ text)
-    by_test behind true e = rw e (omega arith)
-    by_test behind false e = rw e (omega arith)
+    by_test after true e = rw e (omega arith)
+    by_test after false e = rw e (omega arith)

@@ -6,7 +6,7 @@ use Rattle.std.proofs.lemmas.Bool.Decides.{nat_tests}
 use Rattle.dp_pattern.specs.Dashes.{is_dash, undashed}
 use Rattle.dp_pattern.specs.Name.{Meaning, Plain, Pattern, is_one_of}
 use Rattle.dp_pattern.specs.GoesOn.{GoesOn, HasNoBang}
-use Rattle.dp_pattern.specs.Walk.{Walked, Refused, Short, Behind, walked, singles, classes_of, tail_of, is_match, goes_on}
+use Rattle.dp_pattern.specs.Walk.{Walked, Refused, Short, After, walked, singles, classes_of, tail_of, is_match, goes_on}
 use Rattle.dp_pattern.specs.declared.tail.Tail.{Tail}
 use Rattle.dp_pattern.specs.declared.tail.Tail.TheVariants.{End, Dot, Bang}
 use Rattle.dp_pattern.proofs.ClassLemmas.{is_one_of-class_by}
@@ -58,13 +58,13 @@ record Completes (classes : List (List ℕ)) (digits : List ℕ) : Type 0 where
   ending : List ℕ
   some : 0 < length ending
   bytes : AllByRecursion IsEndingByte ending
-  walk : walked classes (digits ++ ending) ≡ Behind []
+  walk : walked classes (digits ++ ending) ≡ After []
 
 record Fills (classes : List (List ℕ)) : Type 0 where
   ending : List ℕ
   long : length ending ≡ length classes
   bytes : AllByRecursion IsEndingByte ending
-  walk : walked classes ending ≡ Behind []
+  walk : walked classes ending ≡ After []
 
 fills : (classes : List (List ℕ)) → AllByRecursion HasMember classes → Fills classes
 fills [] each = record { ending = []; long = refl; bytes = tt; walk = refl }
@@ -92,12 +92,12 @@ completes (class ∷ classes) each (d ∷ digits) e = by_test (completes classes
 
 -- ---- a text that goes on
 
-walked-more : (classes : List (List ℕ)) (digits ending rest : List ℕ) → walked classes digits ≡ Behind rest → walked classes (digits ++ ending) ≡ Behind (rest ++ ending)
-walked-more [] digits ending rest e = let same : digits ≡ rest = cc in ap (λ ds. Behind (ds ++ ending)) same
+walked-more : (classes : List (List ℕ)) (digits ending rest : List ℕ) → walked classes digits ≡ After rest → walked classes (digits ++ ending) ≡ After (rest ++ ending)
+walked-more [] digits ending rest e = let same : digits ≡ rest = cc in ap (λ ds. After (ds ++ ending)) same
 walked-more (class ∷ classes) [] ending rest e = absurd cc
 walked-more (class ∷ classes) (d ∷ digits) ending rest e = by_test (walked-more classes digits ending rest) (is_one_of class d) refl e
   where
-    by_test : (walked classes digits ≡ Behind rest → walked classes (digits ++ ending) ≡ Behind (rest ++ ending)) → (t : Bool) → is_one_of class d ≡ t → cond t (walked classes digits) Refused ≡ Behind rest → cond (is_one_of class d) (walked classes (digits ++ ending)) Refused ≡ Behind (rest ++ ending)
+    by_test : (walked classes digits ≡ After rest → walked classes (digits ++ ending) ≡ After (rest ++ ending)) → (t : Bool) → is_one_of class d ≡ t → cond t (walked classes digits) Refused ≡ After rest → cond (is_one_of class d) (walked classes (digits ++ ending)) Refused ≡ After (rest ++ ending)
     by_test later true t e = ap (λ t. cond t (walked classes (digits ++ ending)) Refused) t ∙ later e
     by_test later false t e = absurd cc
 
@@ -129,7 +129,7 @@ ends classes each tail digits = by_walk tail (walked classes digits) refl
     by_walk End Short e h =
         let more = completes classes each digits e in
         record { ending = more.ending; some = more.some; bytes = more.bytes; taken = ap (is_match End) more.walk }
-    by_walk End (Behind rest) e h = absurd (true≢false (sym h))
+    by_walk End (After rest) e h = absurd (true≢false (sym h))
     by_walk Dot Refused e h = absurd (true≢false (sym h))
     by_walk Dot Short e h =
         let more = completes classes each digits e in
@@ -141,7 +141,7 @@ ends classes each tail digits = by_walk tail (walked classes digits) refl
               ap (λ ds. is_match Dot (walked classes ds)) (sym (append_assoc digits more.ending (48 ∷ [])))
               ∙ ap (is_match Dot) (walked-more classes (digits ++ more.ending) (48 ∷ []) [] more.walk);
         }
-    by_walk Dot (Behind rest) e h = record {
+    by_walk Dot (After rest) e h = record {
       ending = 48 ∷ [];
       some = omega arith;
       bytes = ((omega arith, refl), tt);
@@ -158,10 +158,10 @@ goes classes tail digits ending bounded some taken = by_walk tail bounded (walke
     by_walk Dot bounded Refused e h = absurd (true≢false (sym h ∙ ap (is_match Dot) (walked-refused classes digits ending e)))
     by_walk End bounded Short e h = refl
     by_walk Dot bounded Short e h = refl
-    by_walk End bounded (Behind rest) e h =
+    by_walk End bounded (After rest) e h =
         let empty = (tail_fits End (rest ++ ending)).0 (sym (ap (is_match End) (walked-more classes digits ending rest e)) ∙ h) in
         absurd (omega (arith, ap length empty, length-append rest ending))
-    by_walk Dot bounded (Behind rest) e h = refl
+    by_walk Dot bounded (After rest) e h = refl
 
 -- ---- names
 

@@ -18,8 +18,8 @@ has_digit-below mask b below =
 
 has_digit-from : (mask b : ℕ) → 48 ≤ b → has_digit mask b ≡ (bit_at mask (b - 48) == 1)
 has_digit-from mask b from =
-    let behind : nat_le 48 b ≡ true = grind (arith, nat_tests) in
-    ap (λ t. t && bit_at mask (b - 48) == 1) behind
+    let after : nat_le 48 b ≡ true = grind (arith, nat_tests) in
+    ap (λ t. t && bit_at mask (b - 48) == 1) after
 
 -- a mask of 16 bits has no byte from 64 on
 pub has_digit-above : (mask b : ℕ) → mask < 2 ^ 16 → 64 ≤ b → has_digit mask b ≡ false
@@ -41,10 +41,10 @@ pub members_in-digits : (mask : ℕ) → mask < 2 ^ 16 → members_in mask 48 �
 unfolding byte_count word_bytes
 members_in-digits mask fits =
     let here = filter_range-same (λ b. bit_at mask (b - 48) == 1) (has_digit mask) 48 64 (λ b from _. sym (has_digit-from mask b from)) in
-    let behind = filter_range-same (has_digit mask) (λ _. false) 112 144 (λ b from _. has_digit-above mask b fits (omega arith)) ∙ filter_range-none 112 144 in
+    let after = filter_range-same (has_digit mask) (λ _. false) 112 144 (λ b from _. has_digit-above mask b fits (omega arith)) ∙ filter_range-none 112 144 in
     here
     ∙ sym (append-nil (filter (has_digit mask) (range_with_len 48 64)))
-    ∙ ap (λ xs. filter (has_digit mask) (range_with_len 48 64) ++ xs) (sym behind)
+    ∙ ap (λ xs. filter (has_digit mask) (range_with_len 48 64) ++ xs) (sym after)
     ∙ sym (filter_range-append (has_digit mask) 48 64 112 144 (omega arith))
     ∙ members_from-first (has_digit mask) 48 (omega arith) (λ b below. has_digit-below mask b below)
 

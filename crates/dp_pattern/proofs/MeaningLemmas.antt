@@ -16,8 +16,8 @@ IsByte b = b < 256
 -- the text of a plain name
 pub record IsPlainText (text : List ℕ) : Type 0 where
   pub first : ℕ
-  pub behind : List ℕ
-  pub begins : text ≡ first ∷ behind
+  pub after : List ℕ
+  pub begins : text ≡ first ∷ after
   pub no_dash : is_dash first ≡ false
   pub no_pattern : (first == 95) ≡ false
   pub fine : list_any is_bad text ≡ false
@@ -32,17 +32,17 @@ IsMeaning (Pattern classes tail) = AllByRecursion IsClass classes × (pattern_of
 
 pub record IsFront (class : Result (List ℕ) NameFault) (parts : Result Parts NameFault) (whole : Parts) : Type 0 where
   pub first : List ℕ
-  pub behind : Parts
+  pub after : Parts
   pub read : class ≡ Ok first
-  pub later : parts ≡ Ok behind
-  pub both : first ∷ behind.0 ≡ whole.0
+  pub later : parts ≡ Ok after
+  pub both : first ∷ after.0 ≡ whole.0
 
 pub with_class-ok : (class : Result (List ℕ) NameFault) (parts : Result Parts NameFault) (whole : Parts) → with_class class parts ≡ Ok whole → IsFront class parts whole
 with_class-ok (Err fault) parts whole e = absurd cc
 with_class-ok (Ok c) (Err fault) whole e = absurd cc
 with_class-ok (Ok c) (Ok p) whole e =
     let same : (c ∷ p.0, p.1) ≡ whole = cc in
-    record { first = c; behind = p; read = refl; later = refl; both = ap (λ (parts : Parts). parts.0) same }
+    record { first = c; after = p; read = refl; later = refl; both = ap (λ (parts : Parts). parts.0) same }
 
 parts_of-classes : (pieces : List Piece) → AllByRecursion IsPiece pieces → (parts : Parts) → parts_of pieces ≡ Ok parts → AllByRecursion IsClass parts.0
 parts_of-classes [] each parts e =
@@ -55,10 +55,10 @@ parts_of-classes (Wild tail ∷ pieces) each parts e = by_test (list_all is_dash
     by_test false e = absurd cc
 parts_of-classes (Byte b ∷ pieces) each parts e =
     let front = with_class-ok (class_of b) (parts_of pieces) parts e in
-    subst (AllByRecursion IsClass) front.both (class_of-class b each.0.0 each.0.1 front.first front.read, parts_of-classes pieces each.1 front.behind front.later)
+    subst (AllByRecursion IsClass) front.both (class_of-class b each.0.0 each.0.1 front.first front.read, parts_of-classes pieces each.1 front.after front.later)
 parts_of-classes (Set bytes ∷ pieces) each parts e =
     let front = with_class-ok (class_of_set bytes) (parts_of pieces) parts e in
-    subst (AllByRecursion IsClass) front.both (class_of_set-class bytes each.0 front.first front.read, parts_of-classes pieces each.1 front.behind front.later)
+    subst (AllByRecursion IsClass) front.both (class_of_set-class bytes each.0 front.first front.read, parts_of-classes pieces each.1 front.after front.later)
 parts_of-classes (Unclosed ∷ pieces) each parts e = absurd cc
 
 -- ---- the name
@@ -112,7 +112,7 @@ plain_means b text bytes dash under name e = by_test (list_any is_bad (b ∷ tex
         let same : Plain (undashed (b ∷ text)) ≡ name = cc in
         subst IsMeaning same (record {
           first = b;
-          behind = undashed text;
+          after = undashed text;
           begins = ap (λ t. cond (not t) (b ∷ undashed text) (undashed text)) dash;
           no_dash = dash;
           no_pattern = under;

@@ -30,26 +30,26 @@ less_than_each : (b : ℕ) (xs : List ℕ) (q : ℕ → Bool) (low n : ℕ) → 
 less_than_each b xs q low zero above long = absurd (omega arith)
 less_than_each b xs q low (suc n) above long = by_test (less_than_each b xs q (low + 1) n (omega arith)) (q low) long
   where
-    behind : List ℕ
-    behind = filter q (range_with_len (low + 1) n)
+    after : List ℕ
+    after = filter q (range_with_len (low + 1) n)
 
-    by_test : (suc (length xs) ≡ length behind → slice_cmp nat_cmp (b ∷ xs) behind ≡ Less) → (t : Bool) → suc (length xs) ≡ length (cond t (low ∷ behind) behind) → slice_cmp nat_cmp (b ∷ xs) (cond t (low ∷ behind) behind) ≡ Less
+    by_test : (suc (length xs) ≡ length after → slice_cmp nat_cmp (b ∷ xs) after ≡ Less) → (t : Bool) → suc (length xs) ≡ length (cond t (low ∷ after) after) → slice_cmp nat_cmp (b ∷ xs) (cond t (low ∷ after) after) ≡ Less
     by_test later true long =
         let first : nat_cmp b low ≡ Less = grind (arith, nat_tests) in
-        ap (λ o. ordering_then o (slice_cmp nat_cmp xs behind)) first
+        ap (λ o. ordering_then o (slice_cmp nat_cmp xs after)) first
     by_test later false long = later long
 
 each_greater : (b : ℕ) (xs : List ℕ) (q : ℕ → Bool) (low n : ℕ) → b < low → suc (length xs) ≡ length (filter q (range_with_len low n)) → slice_cmp nat_cmp (filter q (range_with_len low n)) (b ∷ xs) ≡ Greater
 each_greater b xs q low zero above long = absurd (omega arith)
 each_greater b xs q low (suc n) above long = by_test (each_greater b xs q (low + 1) n (omega arith)) (q low) long
   where
-    behind : List ℕ
-    behind = filter q (range_with_len (low + 1) n)
+    after : List ℕ
+    after = filter q (range_with_len (low + 1) n)
 
-    by_test : (suc (length xs) ≡ length behind → slice_cmp nat_cmp behind (b ∷ xs) ≡ Greater) → (t : Bool) → suc (length xs) ≡ length (cond t (low ∷ behind) behind) → slice_cmp nat_cmp (cond t (low ∷ behind) behind) (b ∷ xs) ≡ Greater
+    by_test : (suc (length xs) ≡ length after → slice_cmp nat_cmp after (b ∷ xs) ≡ Greater) → (t : Bool) → suc (length xs) ≡ length (cond t (low ∷ after) after) → slice_cmp nat_cmp (cond t (low ∷ after) after) (b ∷ xs) ≡ Greater
     by_test later true long =
         let first : nat_cmp low b ≡ Greater = grind (arith, nat_tests) in
-        ap (λ o. ordering_then o (slice_cmp nat_cmp behind xs)) first
+        ap (λ o. ordering_then o (slice_cmp nat_cmp after xs)) first
     by_test later false long = later long
 
 -- the members from a byte on are all members where none stands before it

@@ -57,9 +57,9 @@ open_set : meaning_of (codes "_[12") ≡ Err OpenSet
 unfolding meaning_of
 open_set = refl
 
-behind : meaning_of (codes "_1.2") ≡ Err AfterWildcard
+after : meaning_of (codes "_1.2") ≡ Err AfterWildcard
 unfolding meaning_of
-behind = refl
+after = refl
 
 blank : meaning_of (codes "a b") ≡ Err BadByte
 unfolding meaning_of

@@ -88,8 +88,8 @@ bytes_equal (x ∷ xs) [] e = absurd cc
 bytes_equal (x ∷ xs) (y ∷ ys) e =
     let parts = then_is_Equal (nat_cmp x y) (slice_cmp nat_cmp xs ys) e in
     let here = nats_equal x y parts.0 in
-    let behind = bytes_equal xs ys parts.1 in
-    λ i. here i ∷ behind i
+    let after = bytes_equal xs ys parts.1 in
+    λ i. here i ∷ after i
 
 pub class_cmp_total : IsTotalOrder class_cmp
 class_cmp_total = then_total (on_total length nat_cmp_total) nat_list_cmp_total
@@ -125,8 +125,8 @@ patterns_equal (c ∷ cs) s [] t e = absurd (no_tie_back t e)
 patterns_equal (c ∷ cs) s (d ∷ ds) t e =
     let parts = then_is_Equal (class_cmp c d) (pattern_cmp cs s ds t) e in
     let here = classes_equal c d parts.0 in
-    let behind = patterns_equal cs s ds t parts.1 in
-    ((λ i. here i ∷ behind.0 i), behind.1)
+    let after = patterns_equal cs s ds t parts.1 in
+    ((λ i. here i ∷ after.0 i), after.1)
 
 names_equal : (m n : Meaning) → name_cmp m n ≡ Equal → m ≡ n
 unfolding name_cmp

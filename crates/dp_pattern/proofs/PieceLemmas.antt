@@ -48,13 +48,13 @@ list_all-pieces_of [] = refl
 list_all-pieces_of (b ∷ text) = by_test (list_all-pieces_of text) (b == 91) refl
   where
     by_test : list_all is_dash_piece (pieces_of text) ≡ list_all is_dash text → (t : Bool) → (b == 91) ≡ t → list_all is_dash_piece (pieces_of (b ∷ text)) ≡ list_all is_dash (b ∷ text)
-    by_test behind true e =
+    by_test after true e =
         let other : is_dash b ≡ false = grind (arith, nat_tests) in
         let dashless = set_is_no_dash (position is_end text) text in
         let set = ap (list_all is_dash_piece) (pieces_of-set b text e) in
         set ∙ ap (λ t. t && list_all is_dash_piece (pieces_after (set_size (position is_end text) text) text)) dashless ∙ sym (ap (λ t. t && list_all is_dash text) other)
-    by_test behind false e =
-        ap (list_all is_dash_piece) (pieces_of-byte b text e) ∙ ap (λ t. t && list_all is_dash_piece (pieces_of text)) (byte_is_dash b) ∙ ap (λ t. is_dash b && t) behind
+    by_test after false e =
+        ap (list_all is_dash_piece) (pieces_of-byte b text e) ∙ ap (λ t. t && list_all is_dash_piece (pieces_of text)) (byte_is_dash b) ∙ ap (λ t. is_dash b && t) after
 
 -- classes in front of what is read
 abbrev pub with_front : List (List ℕ) → Result Parts NameFault → Result Parts NameFault
@@ -69,22 +69,22 @@ pub with_front-more : (front : List (List ℕ)) (class : List ℕ) (parts : Resu
 with_front-more front class (Ok parts) = ap (λ classes. Ok (classes, parts.1)) (append_assoc front (class ∷ []) parts.0)
 with_front-more front class (Err fault) = refl
 
--- what stands behind a set of n bytes
-pub pieces_of-behind : (n : ℕ) (place : Option ℕ) (text : List ℕ) → set_size place text ≡ n → n ≤ length text → pieces_of (take (length text - n) (drop n text)) ≡ pieces_after (set_size place text) text
-pieces_of-behind n place text e within =
+-- what stands after a set of n bytes
+pub pieces_of-after : (n : ℕ) (place : Option ℕ) (text : List ℕ) → set_size place text ≡ n → n ≤ length text → pieces_of (take (length text - n) (drop n text)) ≡ pieces_after (set_size place text) text
+pieces_of-after n place text e within =
     let whole : take (length text - n) (drop n text) ≡ drop n text = grind (arith, common_steps) in
     ap pieces_of whole ∙ sym (pieces_after-drop n text) ∙ ap (λ m. pieces_after m text) (sym e)
 
--- a `.` or a `!` with only dashes behind it, and with anything else
-pub ends_wild : (front : List (List ℕ)) (pieces : List Piece) (tail : Tail) (behind : List ℕ) (whole : Result Parts NameFault) → with_front front (parts_of pieces) ≡ whole → pieces ≡ Wild tail ∷ pieces_of behind → list_all is_dash behind ≡ true → whole ≡ Ok (front, tail)
-ends_wild front pieces tail behind whole invariant e dashes =
+-- a `.` or a `!` with only dashes after it, and with anything else
+pub ends_wild : (front : List (List ℕ)) (pieces : List Piece) (tail : Tail) (after : List ℕ) (whole : Result Parts NameFault) → with_front front (parts_of pieces) ≡ whole → pieces ≡ Wild tail ∷ pieces_of after → list_all is_dash after ≡ true → whole ≡ Ok (front, tail)
+ends_wild front pieces tail after whole invariant e dashes =
     sym invariant
     ∙ ap (λ ps. with_front front (parts_of ps)) e
-    ∙ ap (λ t. with_front front (cond t (Ok ([], tail)) (Err AfterWildcard))) (list_all-pieces_of behind ∙ dashes)
+    ∙ ap (λ t. with_front front (cond t (Ok ([], tail)) (Err AfterWildcard))) (list_all-pieces_of after ∙ dashes)
     ∙ ap (λ classes. Ok (classes, tail)) (append-nil front)
 
-pub ends_wild-fault : (front : List (List ℕ)) (pieces : List Piece) (tail : Tail) (behind : List ℕ) (whole : Result Parts NameFault) → with_front front (parts_of pieces) ≡ whole → pieces ≡ Wild tail ∷ pieces_of behind → list_all is_dash behind ≡ false → whole ≡ Err AfterWildcard
-ends_wild-fault front pieces tail behind whole invariant e dashes =
+pub ends_wild-fault : (front : List (List ℕ)) (pieces : List Piece) (tail : Tail) (after : List ℕ) (whole : Result Parts NameFault) → with_front front (parts_of pieces) ≡ whole → pieces ≡ Wild tail ∷ pieces_of after → list_all is_dash after ≡ false → whole ≡ Err AfterWildcard
+ends_wild-fault front pieces tail after whole invariant e dashes =
     sym invariant
     ∙ ap (λ ps. with_front front (parts_of ps)) e
-    ∙ ap (λ t. with_front front (cond t (Ok ([], tail)) (Err AfterWildcard))) (list_all-pieces_of behind ∙ dashes)
+    ∙ ap (λ t. with_front front (cond t (Ok ([], tail)) (Err AfterWildcard))) (list_all-pieces_of after ∙ dashes)

@@ -30,8 +30,8 @@ items_of-each (a ∷ b ∷ []) each = (each.0, (each.1.0, tt))
 items_of-each (a ∷ b ∷ c ∷ bytes) each = by_test (items_of-each bytes each.1.1.1) (items_of-each (b ∷ c ∷ bytes) each.1) (is_dash b) refl
   where
     by_test : AllByRecursion IsItem (items_of bytes) → AllByRecursion IsItem (items_of (b ∷ c ∷ bytes)) → (t : Bool) → is_dash b ≡ t → AllByRecursion IsItem (items_of (a ∷ b ∷ c ∷ bytes))
-    by_test behind next true e = subst (AllByRecursion IsItem) (sym (items_of-range a b c bytes e)) (each.0, behind)
-    by_test behind next false e = subst (AllByRecursion IsItem) (sym (items_of-one a b c bytes e)) (each.0, next)
+    by_test after next true e = subst (AllByRecursion IsItem) (sym (items_of-range a b c bytes e)) (each.0, after)
+    by_test after next false e = subst (AllByRecursion IsItem) (sym (items_of-one a b c bytes e)) (each.0, next)
 
 items_of-some : (b : ℕ) (bytes : List ℕ) → 0 < length (items_of (b ∷ bytes))
 items_of-some a [] = omega arith

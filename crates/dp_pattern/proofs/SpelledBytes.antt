@@ -145,10 +145,10 @@ module _ (b : ℕ) (foreign : is_own b ≡ false) where
   ones_in (a ∷ c ∷ d ∷ bytes) e = by_test (ones_in bytes) (ones_in (c ∷ d ∷ bytes)) (is_dash c) refl
     where
       by_test : (has_one (items_of bytes) ≡ true → is_one_of bytes b ≡ true) → (has_one (items_of (c ∷ d ∷ bytes)) ≡ true → is_one_of (c ∷ d ∷ bytes) b ≡ true) → (t : Bool) → is_dash c ≡ t → is_one_of (a ∷ c ∷ d ∷ bytes) b ≡ true
-      by_test behind next true t =
+      by_test after next true t =
           let found : has_one (items_of bytes) ≡ true = sym (ap has_one (items_of-range a c d bytes t)) ∙ e in
-          or_right (b == a) (is_one_of (c ∷ d ∷ bytes) b) (or_right (b == c) (is_one_of (d ∷ bytes) b) (or_right (b == d) (is_one_of bytes b) (behind found)))
-      by_test behind next false t =
+          or_right (b == a) (is_one_of (c ∷ d ∷ bytes) b) (or_right (b == c) (is_one_of (d ∷ bytes) b) (or_right (b == d) (is_one_of bytes b) (after found)))
+      by_test after next false t =
           let found : ((b == a) || has_one (items_of (c ∷ d ∷ bytes))) ≡ true = sym (ap has_one (items_of-one a c d bytes t)) ∙ e in
           either (b == a) (has_one (items_of (c ∷ d ∷ bytes))) found (or_left (b == a) (is_one_of (c ∷ d ∷ bytes) b)) (λ h. or_right (b == a) (is_one_of (c ∷ d ∷ bytes) b) (next h))
 
@@ -195,12 +195,12 @@ module _ (b : ℕ) (foreign : is_own b ≡ false) where
       by_test false e = absurd cc
   parts_have (Byte a ∷ pieces) parts e h =
       let front = with_class-ok (class_of a) (parts_of pieces) parts e in
-      let there : any_class (front.first ∷ front.behind.0) ≡ true = ap any_class front.both ∙ h in
-      either (is_one_of front.first b) (any_class front.behind.0) there (λ t. or_left (b == a) (list_any piece_has pieces) (byte_has a front.first front.read t)) (λ t. or_right (b == a) (list_any piece_has pieces) (parts_have pieces front.behind front.later t))
+      let there : any_class (front.first ∷ front.after.0) ≡ true = ap any_class front.both ∙ h in
+      either (is_one_of front.first b) (any_class front.after.0) there (λ t. or_left (b == a) (list_any piece_has pieces) (byte_has a front.first front.read t)) (λ t. or_right (b == a) (list_any piece_has pieces) (parts_have pieces front.after front.later t))
   parts_have (Set bytes ∷ pieces) parts e h =
       let front = with_class-ok (class_of_set bytes) (parts_of pieces) parts e in
-      let there : any_class (front.first ∷ front.behind.0) ≡ true = ap any_class front.both ∙ h in
-      either (is_one_of front.first b) (any_class front.behind.0) there (λ t. or_left (is_one_of bytes b) (list_any piece_has pieces) (set_has bytes front.first front.read t)) (λ t. or_right (is_one_of bytes b) (list_any piece_has pieces) (parts_have pieces front.behind front.later t))
+      let there : any_class (front.first ∷ front.after.0) ≡ true = ap any_class front.both ∙ h in
+      either (is_one_of front.first b) (any_class front.after.0) there (λ t. or_left (is_one_of bytes b) (list_any piece_has pieces) (set_has bytes front.first front.read t)) (λ t. or_right (is_one_of bytes b) (list_any piece_has pieces) (parts_have pieces front.after front.later t))
   parts_have (Unclosed ∷ pieces) parts e h = absurd cc
 
   in_front : (n : ℕ) (text : List ℕ) → is_one_of (take n text) b ≡ true → is_one_of text b ≡ true

@@ -24,8 +24,8 @@ each_in_range P p low zero each = tt
 each_in_range P p low (suc n) each = by_test (each_in_range P p (low + 1) n (λ b below. each b (omega arith))) (p low) refl
   where
     by_test : AllByRecursion P (filter p (range_with_len (low + 1) n)) → (t : Bool) → p low ≡ t → AllByRecursion P (cond t (low ∷ filter p (range_with_len (low + 1) n)) (filter p (range_with_len (low + 1) n)))
-    by_test behind true e = (each low (omega arith) e, behind)
-    by_test behind false e = behind
+    by_test after true e = (each low (omega arith) e, after)
+    by_test after false e = after
 
 pub each_member : (P : ℕ → Type 0) (p : ℕ → Bool) → ((b : ℕ) → b < 256 → p b ≡ true → P b) → AllByRecursion P (class_by p)
 unfolding byte_count
@@ -120,7 +120,7 @@ alone_pieces b more member alone =
     let piece : piece_of b ≡ Byte b = rw (member.0, no_dot, no_bang) refl in
     ap parts_of (pieces_of-byte b more no_set ∙ ap (λ p. p ∷ pieces_of more) piece) ∙ ap (λ c. with_class c (parts_of (pieces_of more))) itself
 
--- the text reads as the class, and more behind it
+-- the text reads as the class, and more after it
 abbrev ReadsAs : List ℕ → List ℕ → List ℕ → Type 0
 ReadsAs class more text = parts_of (pieces_of (text ++ more)) ≡ with_class (Ok class) (parts_of (pieces_of more))
 
@@ -178,8 +178,8 @@ means_again : (name : Meaning) → IsMeaning name → meaning_of (spelling name)
 unfolding meaning_of spelling
 means_again (Plain text) k =
     ap (λ t. meaning_of t) k.begins
-    ∙ ap reading_of (from_first-itself k.first k.behind k.no_dash)
-    ∙ ap (λ t. cond t (pattern_reading k.behind) (plain_of (k.first ∷ k.behind))) k.no_pattern
+    ∙ ap reading_of (from_first-itself k.first k.after k.no_dash)
+    ∙ ap (λ t. cond t (pattern_reading k.after) (plain_of (k.first ∷ k.after))) k.no_pattern
     ∙ ap plain_of (sym k.begins)
     ∙ ap (λ t. cond t (Err BadByte) (Ok (Plain (undashed text)))) k.fine
     ∙ ap (λ t. Ok (Plain t)) k.dashless

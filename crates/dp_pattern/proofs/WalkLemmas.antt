@@ -7,7 +7,7 @@ use Rattle.std.proofs.lemmas.Map.Views.{list_any-from_Contains, Contains-from_an
 use Rattle.dp_pattern.specs.Dashes.{undashed}
 use Rattle.dp_pattern.specs.Name.{Meaning, Plain, Pattern, is_one_of}
 use Rattle.dp_pattern.specs.Matches.{Matches, MatchesPattern, FitsTail}
-use Rattle.dp_pattern.specs.Walk.{Walked, Refused, Short, Behind, walked, singles, classes_of, tail_of, tail_allows, is_match}
+use Rattle.dp_pattern.specs.Walk.{Walked, Refused, Short, After, walked, singles, classes_of, tail_of, tail_allows, is_match}
 use Rattle.dp_pattern.specs.declared.tail.Tail.{Tail}
 use Rattle.dp_pattern.specs.declared.tail.Tail.TheVariants.{End, Dot, Bang}
 
@@ -33,18 +33,18 @@ pub record Takes (classes : List (List ℕ)) (digits rest : List ℕ) : Type 0 w
   pub whole : digits ≡ begin ++ rest
   pub members : AllZip Contains classes begin
 
-pub takes : (classes : List (List ℕ)) (digits rest : List ℕ) → walked classes digits ≡ Behind rest → Takes classes digits rest
+pub takes : (classes : List (List ℕ)) (digits rest : List ℕ) → walked classes digits ≡ After rest → Takes classes digits rest
 takes [] digits rest e = record { begin = []; whole = cc; members = tt }
 takes (class ∷ classes) [] rest e = absurd cc
 takes (class ∷ classes) (d ∷ digits) rest e = by_test (takes classes digits rest) (is_one_of class d) refl
   where
-    by_test : (walked classes digits ≡ Behind rest → Takes classes digits rest) → (t : Bool) → is_one_of class d ≡ t → Takes (class ∷ classes) (d ∷ digits) rest
+    by_test : (walked classes digits ≡ After rest → Takes classes digits rest) → (t : Bool) → is_one_of class d ≡ t → Takes (class ∷ classes) (d ∷ digits) rest
     by_test later true t =
         let more = later (rw t at e) in
         record { begin = d ∷ more.begin; whole = ap (λ ds. d ∷ ds) more.whole; members = ((member class d).0 t, more.members) }
-    by_test later false t = let stuck : Refused ≡ Behind rest = rw t at e in absurd cc
+    by_test later false t = let stuck : Refused ≡ After rest = rw t at e in absurd cc
 
-pub walked-takes : (classes : List (List ℕ)) (begin rest : List ℕ) → AllZip Contains classes begin → walked classes (begin ++ rest) ≡ Behind rest
+pub walked-takes : (classes : List (List ℕ)) (begin rest : List ℕ) → AllZip Contains classes begin → walked classes (begin ++ rest) ≡ After rest
 walked-takes [] [] rest members = refl
 walked-takes [] (d ∷ begin) rest members = absurd members
 walked-takes (class ∷ classes) [] rest members = absurd members
@@ -56,7 +56,7 @@ matched_pattern classes tail digits = (by_walk (walked classes digits) refl, bac
     by_walk : (walk : Walked) → walked classes digits ≡ walk → is_match tail walk ≡ true → MatchesPattern classes tail digits
     by_walk Refused e h = absurd (true≢false (sym h))
     by_walk Short e h = absurd (true≢false (sym h))
-    by_walk (Behind rest) e h =
+    by_walk (After rest) e h =
         let way = takes classes digits rest e in
         record { begin = way.begin; rest = rest; whole = way.whole; members = way.members; ending = (tail_fits tail rest).0 h }
 

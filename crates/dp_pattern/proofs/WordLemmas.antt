@@ -13,7 +13,7 @@ use Rattle.dp_pattern.proofs.MemberLemmas.{members_from}
 
 -- ---- a class by its words
 
--- a range is its front and what stands behind it
+-- a range is its front and what stands after it
 pub filter_range-append : (p : ℕ → Bool) (low n next m : ℕ) → low + n ≡ next → filter p (range_with_len low (n + m)) ≡ filter p (range_with_len low n) ++ filter p (range_with_len next m)
 filter_range-append p low zero next m there =
     let here : low ≡ next = omega arith in
@@ -29,10 +29,10 @@ filter_range-append p low (suc n) next m there =
     front : List ℕ
     front = filter p (range_with_len (low + 1) n)
 
-    behind : List ℕ
-    behind = filter p (range_with_len next m)
+    after : List ℕ
+    after = filter p (range_with_len next m)
 
-    by_test : whole ≡ front ++ behind → (t : Bool) → cond t (low ∷ whole) whole ≡ cond t (low ∷ front) front ++ behind
+    by_test : whole ≡ front ++ after → (t : Bool) → cond t (low ∷ whole) whole ≡ cond t (low ∷ front) front ++ after
     by_test later true = ap (λ xs. low ∷ xs) later
     by_test later false = later
 
@@ -67,10 +67,10 @@ filter_range-first : (p q : ℕ → Bool) (a low n : ℕ) → low ≤ a → a < 
 filter_range-first p q a low zero from to here gone before others = absurd (omega arith)
 filter_range-first p q a low (suc n) from to here gone before others = elim (cases_eq low a) [
   | inl same ↦
-      let behind = filter_range-same p q (low + 1) n (λ b above below. sym (others b (omega arith) (omega arith) (λ e. absurd (omega arith)))) in
+      let after = filter_range-same p q (low + 1) n (λ b above below. sym (others b (omega arith) (omega arith) (λ e. absurd (omega arith)))) in
       let passes : p low ≡ true = ap p same ∙ here in
       let fails : q low ≡ false = ap q same ∙ gone in
-      rw (passes, fails) (λ i. same i ∷ behind i)
+      rw (passes, fails) (λ i. same i ∷ after i)
   | inr other ↦
       let later = filter_range-first p q a (low + 1) n (omega arith) (omega arith) here gone (λ b below above. before b below (omega arith)) (λ b above below apart. others b (omega arith) (omega arith) apart) in
       let fails : p low ≡ false = before low (omega arith) (omega arith) in
@@ -121,7 +121,7 @@ module _ (word : ℕ) (some : 0 < word) (fits : word < 2 ^ 64) where
 
 -- ---- how many members
 
--- among the first n bytes of a word that has no bit behind them are as many members as bits that are set
+-- among the first n bytes of a word that has no bit after them are as many members as bits that are set
 count_bits : (word first n : ℕ) → word < 2 ^ n → length (filter (λ b. bit_at word (b - first) == 1) (range_with_len first n)) ≡ count_ones word
 count_bits word first zero fits = omega (arith, ones_le_self word)
 count_bits word first (suc n) fits =
@@ -130,15 +130,15 @@ count_bits word first (suc n) fits =
     none : first - first ≡ 0
     none = omega arith
 
-    behind : List ℕ
-    behind = filter (λ b. bit_at word (b - first) == 1) (range_with_len (first + 1) n)
+    after : List ℕ
+    after = filter (λ b. bit_at word (b - first) == 1) (range_with_len (first + 1) n)
 
-    halved : behind ≡ filter (λ b. bit_at (word / 2) (b - (first + 1)) == 1) (range_with_len (first + 1) n)
+    halved : after ≡ filter (λ b. bit_at (word / 2) (b - (first + 1)) == 1) (range_with_len (first + 1) n)
     halved = filter_range-same _ _ (first + 1) n (λ b from to.
         let place : b - first ≡ suc (b - (first + 1)) = omega arith in
         ap (λ x. x == 1) (ap (bit_at word) place ∙ bit_at-suc word (b - (first + 1))))
 
-    by_digit : length behind ≡ count_ones (word / 2) → (d : ℕ) → d ≡ word % 2 → length (cond (d == 1) (first ∷ behind) behind) ≡ count_ones word
+    by_digit : length after ≡ count_ones (word / 2) → (d : ℕ) → d ≡ word % 2 → length (cond (d == 1) (first ∷ after) after) ≡ count_ones word
     by_digit later zero low = omega (arith, ones_step word)
     by_digit later (suc zero) low = omega (arith, ones_step word)
     by_digit later (suc (suc d)) low = absurd (omega arith)

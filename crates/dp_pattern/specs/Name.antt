@@ -13,7 +13,7 @@ use Rattle.dp_pattern.specs.declared.fault.NameFault.TheVariants.{EmptyName, Emp
 use Rattle.dp_pattern.specs.declared.fault.PatternFault.{PatternFault}
 use Rattle.dp_pattern.specs.declared.fault.PatternFault.TheVariants.{Name, NoMemory}
 
--- what a name means: a text, or the classes of a pattern and the tail behind them
+-- what a name means: a text, or the classes of a pattern and the tail after them
 pub data Meaning : Type 0 where
   Plain : List ℕ → Meaning
   Pattern : List (List ℕ) → Tail → Meaning
@@ -107,12 +107,12 @@ piece_of b =
 abbrev pub is_end : ℕ → Bool
 is_end b = b == byte "]"
 
--- the set of the text behind a `[`, by the place of the next `]`
+-- the set of the text after a `[`, by the place of the next `]`
 abbrev pub set_piece : Option ℕ → List ℕ → Piece
 set_piece None text = Unclosed
 set_piece (Some n) text = Set (take n text)
 
--- how many bytes behind the `[` belong to the set, with its `]`
+-- how many bytes after the `[` belong to the set, with its `]`
 abbrev pub set_size : Option ℕ → List ℕ → ℕ
 set_size None text = length text
 set_size (Some n) text = n + 1
@@ -142,7 +142,7 @@ Parts = List (List ℕ) × Tail
 abbrev pub with_class : Result (List ℕ) NameFault → Result Parts NameFault → Result Parts NameFault
 with_class class parts = class >>= (λ c. parts >>= (λ p. Ok (c ∷ p.0, p.1)))
 
--- the classes and the tail, or the first fault from the left; of two faults at one byte, that something stands behind a
+-- the classes and the tail, or the first fault from the left; of two faults at one byte, that something stands after a
 -- wildcard comes first, then that a set is not closed, then what is in the set, where a range stands at its first byte
 abbrev pub parts_of : List Piece → Result Parts NameFault
 parts_of [] = Ok ([], End)
@@ -166,11 +166,11 @@ pattern_of parts = elim parts.1 [ End ↦ ended parts.0 | Dot ↦ Ok (Pattern pa
 abbrev pub plain_of : List ℕ → Result Meaning NameFault
 plain_of text = if list_any is_bad text then Err BadByte else Ok (Plain (undashed text))
 
--- what stands behind the `_` of a pattern
+-- what stands after the `_` of a pattern
 abbrev pub pattern_reading : List ℕ → Result Meaning NameFault
 pattern_reading text = parts_of (pieces_of text) >>= pattern_of
 
--- a text that begins with no dash: behind a `_` stands a pattern
+-- a text that begins with no dash: after a `_` stands a pattern
 abbrev pub reading_of : List ℕ → Result Meaning NameFault
 reading_of [] = Err EmptyName
 reading_of (b ∷ text) = if b == byte "_" then pattern_reading text else plain_of (b ∷ text)

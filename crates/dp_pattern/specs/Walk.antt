@@ -11,10 +11,10 @@ use Rattle.dp_pattern.specs.declared.walk.Walk.TheVariants as kept
 pub data Walked : Type 0 where
   Refused : Walked
   Short : Walked
-  Behind : List ℕ → Walked
+  After : List ℕ → Walked
 
 abbrev pub walked : List (List ℕ) → List ℕ → Walked
-walked [] digits = Behind digits
+walked [] digits = After digits
 walked (class ∷ classes) [] = Short
 walked (class ∷ classes) (d ∷ digits) = if is_one_of class d then walked classes digits else Refused
 
@@ -35,9 +35,9 @@ tail_of (Pattern classes tail) = tail
 abbrev pub walk_of : walk.Walk → Walked
 walk_of kept.Refused = Refused
 walk_of kept.Short = Short
-walk_of (kept.Behind rest) = Behind (undashed rest.now)
+walk_of (kept.After rest) = After (undashed rest.now)
 
--- whether what is left may stand behind the classes
+-- whether what is left may stand after the classes
 abbrev pub tail_allows : Tail → List ℕ → Bool
 tail_allows End [] = true
 tail_allows End (d ∷ digits) = false
@@ -49,13 +49,13 @@ tail_allows Bang digits = true
 abbrev pub is_match : Tail → Walked → Bool
 is_match tail Refused = false
 is_match tail Short = false
-is_match tail (Behind digits) = tail_allows tail digits
+is_match tail (After digits) = tail_allows tail digits
 
 abbrev pub goes_on : Tail → Walked → Bool
 goes_on End Refused = false
 goes_on End Short = true
-goes_on End (Behind digits) = false
+goes_on End (After digits) = false
 goes_on Dot Refused = false
 goes_on Dot Short = true
-goes_on Dot (Behind digits) = true
+goes_on Dot (After digits) = true
 goes_on Bang walk = false

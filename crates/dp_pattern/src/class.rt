@@ -117,16 +117,16 @@ fn add_item(words: &mut [u64; 4], item: Item)
     }
 }
 
-// The first item that the bytes of a set list, and the bytes behind it.
+// The first item that the bytes of a set list, and the bytes after it.
 fn first_item(bytes: &[u8]) -> Option<(Item, &[u8])>
     ensures { MatchOption result (bytes.now ≡ [])
         (λ x. (items_of bytes.now ≡ x.0 ∷ items_of x.1.now) × (length x.1.now < length bytes.now)) }
 {
-    let (byte, behind) = bytes.split_first()?;
-    if behind.len() >= 2 && behind[0] == b'-' {
-        Some((Item::Range(*byte, behind[1]), &behind[2..]))
+    let (byte, after) = bytes.split_first()?;
+    if after.len() >= 2 && after[0] == b'-' {
+        Some((Item::Range(*byte, after[1]), &after[2..]))
     } else {
-        Some((Item::One(*byte), behind))
+        Some((Item::One(*byte), after))
     }
 }
 
@@ -140,12 +140,12 @@ fn words_of_set(bytes: &[u8]) -> Result<[u64; 4], NameFault>
     }
     let mut words = [0; 4];
     let mut rest = bytes;
-    while let Some((item, behind)) = first_item(rest) {
+    while let Some((item, after)) = first_item(rest) {
         if let Some(fault) = fault_of(item) {
             return Err(fault);
         }
         add_item(&mut words, item);
-        rest = behind;
+        rest = after;
     }
     Ok(words)
 }

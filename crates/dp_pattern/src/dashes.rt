@@ -7,19 +7,19 @@ pub(crate) fn from_first(text: &[u8]) -> &[u8]
     ensures { result.now ≡ from_first text.now }
 {
     let mut rest = text;
-    while let Some((b'-', behind)) = rest.split_first() {
-        rest = behind;
+    while let Some((b'-', after)) = rest.split_first() {
+        rest = after;
     }
     rest
 }
 
-/// The first byte other than a dash, and the text behind it.
+/// The first byte other than a dash, and the text after it.
 pub(crate) fn next_digit(text: &[u8]) -> Option<(u8, &[u8])>
     ensures { MatchOption result (undashed text.now ≡ [])
         (λ x. (undashed text.now ≡ x.0 ∷ undashed x.1.now) × (length x.1.now < length text.now)) }
 {
     match from_first(text).split_first() {
         None => None,
-        Some((digit, behind)) => Some((*digit, behind)),
+        Some((digit, after)) => Some((*digit, after)),
     }
 }

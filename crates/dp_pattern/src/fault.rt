@@ -18,9 +18,9 @@ pub enum NameFault {
     /// A range whose ends are not two digits, two capitals or two small letters in rising or
     /// equal order, or a `-` in a set that is the sign of no range.
     BadRange,
-    /// A `[` with no `]` behind it.
+    /// A `[` with no `]` after it.
     OpenSet,
-    /// Anything but `-` behind a `.` or a `!`.
+    /// Anything but `-` after a `.` or a `!`.
     AfterWildcard,
     /// A byte of 32 or less, 127 or `\`.
     BadByte,

@@ -28,7 +28,7 @@ fn is_match(walk: Walk<'_>, tail: Tail) -> bool
 {
     match walk {
         Walk::Refused | Walk::Short => false,
-        Walk::Behind(rest) => allows(tail, rest),
+        Walk::After(rest) => allows(tail, rest),
     }
 }
 
@@ -39,7 +39,7 @@ fn goes_on(walk: Walk<'_>, tail: Tail) -> bool
     match (walk, tail) {
         (Walk::Refused, _) | (_, Tail::Bang) => false,
         (Walk::Short, _) => true,
-        (Walk::Behind(_), _) => tail == Tail::Dot,
+        (Walk::After(_), _) => tail == Tail::Dot,
     }
 }
 

@@ -15,7 +15,7 @@ use std::cmp::Ordering;
 pub(crate) enum Members {
     /// One byte.
     Byte(u8),
-    /// Bit k stands for the byte `0` + k, a digit or one of the six bytes behind the digits.
+    /// Bit k stands for the byte `0` + k, a digit or one of the six bytes after the digits.
     Digits(u16),
     /// Bit k of word w stands for the byte 64 * w + k.
     Words(Box<[u64; 4]>),

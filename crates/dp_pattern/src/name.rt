@@ -51,7 +51,7 @@ impl Model for Name {
 pub enum Parts<'a> {
     /// A plain name: its text without dashes.
     Plain(&'a [u8]),
-    /// A pattern: its classes in turn, and the tail behind them.
+    /// A pattern: its classes in turn, and the tail after them.
     Pattern(&'a [Class], Tail),
 }
 

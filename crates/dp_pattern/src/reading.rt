@@ -30,10 +30,10 @@ fn place_of_end(text: &[u8]) -> Option<usize>
     text.iter().position(|b| *b == b']')
 }
 
-// The set of the text behind a `[`, and what stands behind the set.
+// The set of the text after a `[`, and what stands after the set.
 fn set_at(text: &[u8]) -> (Piece<'_>, &[u8])
     ensures piece { cut_piece result.0 ≡ set_piece (position is_end text.now) text.now }
-    ensures behind { pieces_of result.1.now
+    ensures after { pieces_of result.1.now
         ≡ pieces_after (set_size (position is_end text.now) text.now) text.now }
     ensures shorter { length result.1.now ≤ length text.now }
 {
@@ -43,21 +43,21 @@ fn set_at(text: &[u8]) -> (Piece<'_>, &[u8])
     }
 }
 
-// The first piece of the text, and what stands behind it.
+// The first piece of the text, and what stands after it.
 fn first_piece(text: &[u8]) -> Option<(Piece<'_>, &[u8])>
     ensures { MatchOption result (text.now ≡ [])
         (λ x. (pieces_of text.now ≡ cut_piece x.0 ∷ pieces_of x.1.now)
         × (length x.1.now < length text.now)) }
 {
-    let (byte, behind) = text.split_first()?;
+    let (byte, after) = text.split_first()?;
     let piece = match *byte {
-        b'[' => return Some(set_at(behind)),
+        b'[' => return Some(set_at(after)),
         b'-' => Piece::Dash,
         b'.' => Piece::Wild(Tail::Dot),
         b'!' => Piece::Wild(Tail::Bang),
         byte => Piece::Byte(byte),
     };
-    Some((piece, behind))
+    Some((piece, after))
 }
 
 // Whether only dashes are left.
@@ -83,11 +83,11 @@ fn class_count(text: &[u8]) -> usize
 {
     let mut count = 0;
     let mut rest = text;
-    while let Some((piece, behind)) = first_piece(rest) {
+    while let Some((piece, after)) = first_piece(rest) {
         if is_class(piece) {
             count += 1;
         }
-        rest = behind;
+        rest = after;
     }
     count
 }
@@ -99,16 +99,16 @@ fn read_parts(alloc: Global, text: &[u8]) -> Result<(Vec<Class>, Tail), PatternF
 {
     let mut classes = Vec::with_capacity(alloc, class_count(text))?;
     let mut rest = text;
-    while let Some((piece, behind)) = first_piece(rest) {
+    while let Some((piece, after)) = first_piece(rest) {
         match piece {
             Piece::Dash => {}
-            Piece::Wild(tail) if only_dashes(behind) => return Ok((classes, tail)),
+            Piece::Wild(tail) if only_dashes(after) => return Ok((classes, tail)),
             Piece::Wild(_) => return Err(PatternFault::Name(NameFault::AfterWildcard)),
             Piece::Byte(byte) => classes.push(class_of(byte)?)?,
             Piece::Set(bytes) => classes.push(class_of_set(alloc, bytes)?)?,
             Piece::Unclosed => return Err(PatternFault::Name(NameFault::OpenSet)),
         }
-        rest = behind;
+        rest = after;
     }
     Ok((classes, Tail::End))
 }
@@ -182,7 +182,7 @@ pub(crate) fn read_kind(alloc: Global, text: &[u8]) -> Result<Kind, PatternFault
     let named = from_first(text);
     match named.split_first() {
         None => Err(PatternFault::Name(NameFault::EmptyName)),
-        Some((b'_', behind)) => read_pattern(alloc, behind),
+        Some((b'_', after)) => read_pattern(alloc, after),
         Some(_) => read_plain(alloc, named),
     }
 }

@@ -17,7 +17,7 @@ pub(crate) enum Walk<'a> {
     /// The text ends before the classes do.
     Short,
     /// Each class has its member, and this is left of the text.
-    Behind(&'a [u8]),
+    After(&'a [u8]),
 }
 
 /// Takes a member of each class in turn.
@@ -26,15 +26,15 @@ pub(crate) fn walk_classes<'a>(classes: &[Class], text: &'a [u8]) -> Walk<'a>
 {
     let mut rest = text;
     for class in classes {
-        let Some((digit, behind)) = next_digit(rest) else {
+        let Some((digit, after)) = next_digit(rest) else {
             return Walk::Short;
         };
         if !class.has(digit) {
             return Walk::Refused;
         }
-        rest = behind;
+        rest = after;
     }
-    Walk::Behind(rest)
+    Walk::After(rest)
 }
 
 /// Takes each byte of a plain name in turn.
@@ -43,18 +43,18 @@ pub(crate) fn walk_plain<'a>(plain: &[u8], text: &'a [u8]) -> Walk<'a>
 {
     let mut rest = text;
     for byte in plain {
-        let Some((digit, behind)) = next_digit(rest) else {
+        let Some((digit, after)) = next_digit(rest) else {
             return Walk::Short;
         };
         if digit != *byte {
             return Walk::Refused;
         }
-        rest = behind;
+        rest = after;
     }
-    Walk::Behind(rest)
+    Walk::After(rest)
 }
 
-/// How far the name takes the text, and the tail behind that.
+/// How far the name takes the text, and the tail after that.
 pub(crate) fn walk_name<'a>(name: &Name, text: &'a [u8]) -> (Walk<'a>, Tail)
     ensures walk { walk_of result.0 ≡ walked (classes_of name.now) (undashed text.now) }
     ensures tail { result.1 ≡ tail_of name.now }

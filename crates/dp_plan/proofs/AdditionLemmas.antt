@@ -4,7 +4,8 @@ use Rattle.std.specs.List.{position_or_len}
 use Rattle.std.specs.Option.{option_to_list}
 use Rattle.dp_conf.specs.Words.{same_text}
 use Rattle.dp_plan.specs.Contexts.{with_entry}
-use Rattle.dp_plan.specs.Draft.{Drafted, slot_of, label_of, is_slot_taken, is_marked, doubled, claimed, changed_at, changed_context, with_note, with_addition}
+use Rattle.dp_conf.specs.Changes.{changed_at}
+use Rattle.dp_plan.specs.steps.Draft.{Drafted, slot_of, label_of, is_slot_taken, is_marked, doubled, claimed, changed_context, with_note, with_addition}
 use Rattle.dp_plan.specs.declared.entry.Entry.{Entry}
 use Rattle.dp_plan.specs.declared.note.NoteKind.{NoteKind}
 use Rattle.dp_plan.specs.declared.note.NoteKind.TheVariants.{DoublePriority, DoubleLabel}

@@ -1,45 +1,30 @@
 -- The entries that are kept stand at different places, and so do those of each context.
-use Rattle.std.proofs.Common.{◌≡◌, ℕ, Bool, true, false, cond, ◌&&◌, ◌==◌, List, [], ◌∷◌, ◌++◌, Option, Some, None, map, refl, ap, subst, ◌∙◌, sym}
+use Rattle.std.proofs.Common.{◌≡◌, ℕ, Bool, true, false, cond, ◌&&◌, ◌==◌, List, [], ◌∷◌, ◌++◌, map, refl, ap, subst, ◌∙◌, sym}
 use Rattle.std.specs.List.{All, AllByRecursion, IsDistinct, filter}
 use Rattle.std.specs.Cmp.{IsEquivalence, nat_eq_equiv}
 use Rattle.std.specs.Cmp.Lexicographic.{nat_list_eq_equiv}
-use Rattle.std.proofs.lemmas.List.{append-nil}
+use Rattle.std.proofs.lemmas.Cmp.{on_equiv}
 use Rattle.std.proofs.lemmas.List.Elements.{All-from_recursion}
-use Rattle.std.proofs.lemmas.Map.Keys.{IsDistinct-push}
 use Rattle.dp_conf.specs.Words.{same_text}
 use Rattle.dp_conf.proofs.AnswersLemmas.{snoc_from}
 use Rattle.dp_plan.specs.Contexts.{PlanContext}
-use Rattle.dp_plan.specs.Extensions.{same_name, extension_of, same_extension}
+use Rattle.dp_plan.specs.Extensions.{same_name, extension_of}
 use Rattle.dp_plan.specs.Plan.{Addition, Inclusion, same_place, is_place_taken, is_label_taken, is_taken, added_in, kept_in, context_of}
 use Rattle.dp_plan.specs.Ranking.{shares_place, AreApart}
 use Rattle.dp_plan.specs.declared.entry.Entry.{Entry}
 use Rattle.dp_plan.specs.declared.item.Item.{Item}
-use Rattle.dp_plan.proofs.DraftLemmas.{more_by, kept_by-filter_map}
-use Rattle.dp_plan.proofs.HistoryLemmas.{and_both, and_left, and_right, same_extension_equiv}
+use Rattle.dp_plan.proofs.DraftLemmas.{kept_by-filter_map, distinct-more}
+use Rattle.dp_plan.proofs.HistoryLemmas.{both_equiv, same_extension_equiv}
 use Rattle.dp_plan.proofs.PositionLemmas.{or_false}
 
 -- to stand at the same place is an equivalence
 same_place_equiv : IsEquivalence same_place
-same_place_equiv = record {
-  refl = λ a. and_both _ _ true true (same_extension_equiv.refl (extension_of a.context a.entry.name)) (nat_eq_equiv.refl a.entry.priority);
-  symm = λ a b. and_both _ _ _ _
-      (same_extension_equiv.symm (extension_of a.context a.entry.name) (extension_of b.context b.entry.name))
-      (nat_eq_equiv.symm a.entry.priority b.entry.priority);
-  congr = λ a b c e. and_both _ _ _ _
-      (same_extension_equiv.congr (extension_of a.context a.entry.name) (extension_of b.context b.entry.name) (extension_of c.context c.entry.name) (and_left (same_extension (extension_of a.context a.entry.name) (extension_of b.context b.entry.name)) (a.entry.priority == b.entry.priority) e))
-      (nat_eq_equiv.congr a.entry.priority b.entry.priority c.entry.priority (and_right (same_extension (extension_of a.context a.entry.name) (extension_of b.context b.entry.name)) (a.entry.priority == b.entry.priority) e));
-}
-
--- what is kept with one more addition stands at different places
-more-apart : (kept : List Addition) (o : Option Addition) → IsDistinct same_place kept → IsDistinct same_place (more_by is_taken kept o)
-more-apart kept None apart = apart
-more-apart kept (Some a) apart = by (is_taken kept a) refl where
-  by : (t : Bool) → is_taken kept a ≡ t → IsDistinct same_place (kept ++ cond t [] (a ∷ []))
-  by true e = subst (IsDistinct same_place) (sym (append-nil kept)) apart
-  by false e = IsDistinct-push same_place_equiv kept a apart (or_false (is_place_taken kept a) (is_label_taken kept a) e).0
+same_place_equiv =
+    both_equiv (on_equiv (λ (a : Addition). extension_of a.context a.entry.name) same_extension_equiv) (on_equiv (λ (a : Addition). a.entry.priority) nat_eq_equiv)
 
 kept_in-push : (items : List Item) (x : Item) → IsDistinct same_place (kept_in items) → IsDistinct same_place (kept_in (items ++ x ∷ []))
-kept_in-push items x apart = subst (IsDistinct same_place) (sym (kept_by-filter_map is_taken added_in items x)) (more-apart (kept_in items) (added_in x) apart)
+kept_in-push items x apart = subst (IsDistinct same_place) (sym (kept_by-filter_map is_taken added_in items x))
+    (distinct-more same_place_equiv is_taken (λ kept a free. (or_false (is_place_taken kept a) (is_label_taken kept a) free).0) (kept_in items) (added_in x) apart)
 
 -- the entries that are kept stand at different places
 pub kept-apart : (items : List Item) → IsDistinct same_place (kept_in items)

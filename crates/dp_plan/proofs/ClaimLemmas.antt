@@ -1,8 +1,8 @@
 -- What an entry takes where it has no label.
 use Rattle.std.proofs.Common.{◌≡◌, List, None, ap, sym}
 use Rattle.std.proofs.lemmas.List.{append-nil}
-use Rattle.dp_plan.specs.Draft.{Drafted, with_label}
-use Rattle.dp_plan.specs.declared.draft.Label.{Label}
+use Rattle.dp_plan.specs.steps.Draft.{Drafted, with_label}
+use Rattle.dp_plan.specs.declared.label.Label.{Label}
 
 -- where there is no label, none is taken
 pub unlabelled : (d : Drafted) → d ≡ with_label d None

@@ -4,14 +4,15 @@ use Rattle.std.specs.Option.{option_or, unwrap_or, option_flatten}
 use Rattle.std.specs.Map.{lookup}
 use Rattle.std.specs.Cmp.{IsEquivalence}
 use Rattle.std.specs.Cmp.Lexicographic.{nat_list_eq_equiv}
+use Rattle.std.proofs.lemmas.Cmp.{on_equiv}
 use Rattle.std.proofs.lemmas.List.Sums.{fold-append}
 use Rattle.indexmap.specs.IndexMap.{insert_entry}
-use Rattle.dp_conf.specs.Words.{same_text}
 use Rattle.dp_conf.proofs.AnswersLemmas.{snoc_from}
 use Rattle.dp_pattern.specs.Name.{Meaning}
 use Rattle.dp_plan.specs.Extensions.{extension_of, same_extension}
 use Rattle.dp_plan.specs.History.{History, latest, section_in, name_in, priority_in, history_of}
-use Rattle.dp_plan.specs.Reader.{Reading, unread, behind, last_priority, history_in}
+use Rattle.dp_plan.specs.steps.Reader.{Reading, unread, after, last_priority, history_in}
+use Rattle.dp_plan.specs.declared.extension.Extension.{Extension}
 use Rattle.dp_plan.specs.declared.section.Section.TheVariants.{General}
 use Rattle.dp_plan.specs.declared.item.Item.{Item}
 use Rattle.dp_plan.specs.declared.item.Item.TheVariants.{Begins, Sets, Adds, Includes, Unknown}
@@ -33,26 +34,26 @@ latest-push f (y ∷ ys) x = ap (λ (o : Option _). option_or o (f y)) (latest-p
 
 -- ---- keys that are equal
 
-pub and_both : (a b c d : Bool) → a ≡ c → b ≡ d → (a && b) ≡ (c && d)
-and_both a b c d e f = λ i. e i && f i
-
-pub and_left : (a b : Bool) → (a && b) ≡ true → a ≡ true
+and_left : (a b : Bool) → (a && b) ≡ true → a ≡ true
 and_left true b e = refl
 and_left false b e = absurd cc
 
-pub and_right : (a b : Bool) → (a && b) ≡ true → b ≡ true
+and_right : (a b : Bool) → (a && b) ≡ true → b ≡ true
 and_right true b e = e
 and_right false b e = absurd cc
 
+-- what is the same in two ways at once is an equivalence where each is
+pub both_equiv : {X : Type 0} {E F : X → X → Bool} → IsEquivalence E → IsEquivalence F → IsEquivalence (λ x y. E x y && F x y)
+both_equiv {X} {E} {F} first second = record {
+  refl = λ x i. first.refl x i && second.refl x i;
+  symm = λ x y i. first.symm x y i && second.symm x y i;
+  congr = λ x y z e i. first.congr x y z (and_left (E x y) (F x y) e) i && second.congr x y z (and_right (E x y) (F x y) e) i;
+}
+
 -- to be the same extension is an equivalence
 pub same_extension_equiv : IsEquivalence same_extension
-same_extension_equiv = record {
-  refl = λ x. and_both _ _ true true (nat_list_eq_equiv.refl x.context) (nat_list_eq_equiv.refl x.spelling);
-  symm = λ x y. and_both _ _ _ _ (nat_list_eq_equiv.symm x.context y.context) (nat_list_eq_equiv.symm x.spelling y.spelling);
-  congr = λ x y z e. and_both _ _ _ _
-      (nat_list_eq_equiv.congr x.context y.context z.context (and_left (same_text x.context y.context) (same_text x.spelling y.spelling) e))
-      (nat_list_eq_equiv.congr x.spelling y.spelling z.spelling (and_right (same_text x.context y.context) (same_text x.spelling y.spelling) e));
-}
+same_extension_equiv =
+    both_equiv (on_equiv (λ (e : Extension). e.context) nat_list_eq_equiv) (on_equiv (λ (e : Extension). e.spelling) nat_list_eq_equiv)
 
 -- ---- a map of which one entry was written
 
@@ -100,27 +101,27 @@ or_if : {X : Type 0} (t : Bool) (x : X) (o : Option X) → cond t (Some x) o ≡
 or_if true x o = refl
 or_if false x o = refl
 
--- the reading behind one more item stands for the history with it
-history_in-behind : (reading : Reading) (items : List Item) (x : Item) → history_in reading ≡ history_of items → history_in (behind reading x) ≡ history_and items x
-history_in-behind reading items (Begins section) same = λ i. record { section = section; name = None; priority = (same i).priority }
-history_in-behind reading items (Sets global) same = same
-history_in-behind reading items (Adds line context entry) same =
-    let written : (c : List ℕ) (name : Meaning) → last_priority (behind reading (Adds line context entry)) c name ≡ option_or (priority_in c name (Adds line context entry)) (last_priority reading c name) = λ c name.
+-- the reading after one more item stands for the history with it
+history_in-after : (reading : Reading) (items : List Item) (x : Item) → history_in reading ≡ history_of items → history_in (after reading x) ≡ history_and items x
+history_in-after reading items (Begins section) same = λ i. record { section = section; name = None; priority = (same i).priority }
+history_in-after reading items (Sets global) same = same
+history_in-after reading items (Adds line context entry) same =
+    let written : (c : List ℕ) (name : Meaning) → last_priority (after reading (Adds line context entry)) c name ≡ option_or (priority_in c name (Adds line context entry)) (last_priority reading c name) = λ c name.
     lookup-insert_entry same_extension same_extension_equiv reading.extensions.priorities (extension_of context entry.name) entry.priority (extension_of c name)
     ∙ or_if (same_extension (extension_of c name) (extension_of context entry.name)) entry.priority (last_priority reading c name) in
     (λ i. record { section = reading.section; name = Some entry.name; priority = λ c name. written c name i })
     ∙ (λ i. record { section = (same i).section; name = Some entry.name; priority = λ c name. option_or (priority_in c name (Adds line context entry)) ((same i).priority c name) })
-history_in-behind reading items (Includes line context name) same = same
-history_in-behind reading items (Unknown line) same = same
+history_in-after reading items (Includes line context name) same = same
+history_in-after reading items (Unknown line) same = same
 
 -- the reading of some items
 abbrev pub reading_of : List Item → Reading
-reading_of items = fold behind unread items
+reading_of items = fold after unread items
 
 history_kept-push : (items : List Item) (x : Item) → history_in (reading_of items) ≡ history_of items → history_in (reading_of (items ++ x ∷ [])) ≡ history_of (items ++ x ∷ [])
 history_kept-push items x same =
-    ap history_in (fold-append behind unread items (x ∷ []))
-    ∙ (history_in-behind (reading_of items) items x same ∙ sym (history_of-push items x))
+    ap history_in (fold-append after unread items (x ∷ []))
+    ∙ (history_in-after (reading_of items) items x same ∙ sym (history_of-push items x))
 
 -- the reading of some items stands for their history
 pub history_kept : (items : List Item) → history_in (reading_of items) ≡ history_of items

@@ -1,11 +1,11 @@
 -- What is known of each item of lines that are read.
-use Rattle.std.proofs.Common.{◌≡◌, ℕ, Bool, true, false, cond, ◌==◌, List, [], ◌∷◌, ◌++◌, Option, Some, None, Result, Ok, Err, codes, refl, ◌∙◌, subst}
+use Rattle.std.proofs.Common.{◌≡◌, ℕ, Bool, true, false, cond, ◌==◌, List, [], ◌∷◌, ◌++◌, Option, Some, None, Result, Ok, Err, codes, refl}
 use Rattle.std.specs.List.{AllByRecursion, list_any}
-use Rattle.std.specs.Option.{option_or, unwrap_or, option_flatten}
-use Rattle.dp_conf.specs.Answers.{◌>>=◌, with_front}
+use Rattle.std.specs.Option.{option_or, unwrap_or, option_flatten, IfSome}
+use Rattle.std.specs.Result.{IfOk}
+use Rattle.dp_conf.specs.Lines.{LineOf, Header, Pair}
+use Rattle.dp_conf.specs.Shallow.{is_too_deep}
 use Rattle.dp_conf.specs.Words.{same_word}
-use Rattle.dp_conf.specs.declared.lines.ConfLine.{ConfLine}
-use Rattle.dp_conf.specs.declared.lines.ConfLine.TheVariants.{Header, Pair}
 use Rattle.dp_conf.proofs.LinesKnown.{IsHeader, IsPair, IsKnownLine}
 use Rattle.dp_conf.proofs.TextLemmas.{each-append, none-any}
 use Rattle.dp_pattern.specs.Name.{Meaning}
@@ -20,11 +20,10 @@ use Rattle.dp_plan.specs.declared.fault.LoadFault.{LoadFault}
 use Rattle.dp_plan.specs.declared.fault.LoadFault.TheVariants.{Plan}
 use Rattle.dp_plan.specs.declared.item.Item.{Item}
 use Rattle.dp_plan.specs.declared.item.Item.TheVariants.{Begins, Sets, Adds, Includes, Unknown}
-use Rattle.dp_plan.specs.declared.plan.GlobalVariable.{GlobalVariable}
 use Rattle.dp_plan.specs.declared.section.Section.{Section}
 use Rattle.dp_plan.specs.declared.section.Section.TheVariants.{General, Globals, Context}
-use Rattle.dp_plan.proofs.Canonical.{IsValue, IsHeaderName, IsContextName, IsGlobal, IsEntry, IsIncluded}
-use Rattle.dp_plan.proofs.EntryKnown.{one_line, shallow-known, IsLastName, exten_entry-known, same_entry-known}
+use Rattle.dp_plan.proofs.PartsKnown.{IsValue, IsHeaderName, IsContextName, IsGlobal, IsEntry, IsIncluded}
+use Rattle.dp_plan.proofs.EntryKnown.{then-known, one_line, shallow-known, IsLastName, exten_entry-known, same_entry-known}
 
 abbrev pub IsFineSection : Section → Type 0
 IsFineSection General = Unit {0}
@@ -63,125 +62,125 @@ section-known name h = by (same_word name (codes "general")) refl (same_word nam
 value-known : (key value : List ℕ) → IsPair key value → IsValue value
 value-known key value pair = record { trimmed = pair.value_trimmed; one_line = one_line value pair.value_bytes }
 
-global_item-known : (line : ℕ) (key value : List ℕ) (x : Item) → IsPair key value → global_item line key value ≡ Ok x → IsFine x
-global_item-known line [] value x pair e = let same : Unknown line ≡ x = cc in subst IsFine same tt
-global_item-known line (k ∷ key) value x pair e = by (shallow_at line value) refl e
+global_item-known : (line : ℕ) (key value : List ℕ) → IsPair key value → IfOk (global_item line key value) IsFine
+global_item-known line [] value pair = tt
+global_item-known line (k ∷ key) value pair =
+    then-known (λ (v : List ℕ). IsValue v × (is_too_deep v ≡ false)) IsFine (shallow_at line value) _
+    (shallow-known IsValue line value (value-known (k ∷ key) value pair)) (λ shallow given. record {
+      name = record {
+        first = k;
+        rest = key;
+        is = refl;
+        no_header = pair.begins.0;
+        no_directive = pair.begins.1;
+        trimmed = pair.key_trimmed;
+        no_sign = pair.no_sign;
+        one_line = one_line (k ∷ key) pair.key_bytes;
+      };
+      value = given.0;
+      accepted = given.1;
+    })
+
+include_item-known : (line : ℕ) (context key value : List ℕ) → IsContextName context → IsPair key value → IfOk (include_item line context value) IsFine
+include_item-known line context key value fine pair = by (list_any (λ b. b == 44) value) refl
   where
-    by : (r : Result (List ℕ) LoadFault) → shallow_at line value ≡ r → (r >>= λ shallow. Ok (Sets (record { name = k ∷ key; value = shallow }))) ≡ Ok x → IsFine x
-    by (Err fault) r e = absurd cc
-    by (Ok shallow) r e =
-        let given = shallow-known line value shallow r in
-        let same : (let made : GlobalVariable = record { name = k ∷ key; value = shallow } in Sets made ≡ x) = cc in
-        subst IsFine same (record {
-          name = record {
-            first = k;
-            rest = key;
-            is = refl;
-            no_header = pair.begins.0;
-            no_directive = pair.begins.1;
-            trimmed = pair.key_trimmed;
-            no_sign = pair.no_sign;
-            one_line = one_line (k ∷ key) pair.key_bytes;
-          };
-          value = subst IsValue given.0 (value-known (k ∷ key) value pair);
-          accepted = given.1;
-        })
+    by : (t : Bool) → list_any (λ b. b == 44) value ≡ t
+        → IfOk (cond {A = Result Item LoadFault} t (Err (Plan line (LeftOut IncludeTimes))) (Ok (Includes line context value))) IsFine
+    by true comma = tt
+    by false comma = (fine, record { value = value-known key value pair; no_comma = none-any (λ b. b == 44) value comma })
 
-include_item-known : (line : ℕ) (context key value : List ℕ) (x : Item) → IsContextName context → IsPair key value → include_item line context value ≡ Ok x → IsFine x
-include_item-known line context key value x fine pair e = by (list_any (λ b. b == 44) value) refl e
-  where
-    by : (t : Bool) → list_any (λ b. b == 44) value ≡ t → cond {A = Result Item LoadFault} t (Err (Plan line (LeftOut IncludeTimes))) (Ok (Includes line context value)) ≡ Ok x → IsFine x
-    by true comma e = absurd cc
-    by false comma e =
-        let same : Includes line context value ≡ x = cc in
-        subst IsFine same (fine, record { value = value-known key value pair; no_comma = none-any (λ b. b == 44) value comma })
+other_item-known : (line : ℕ) (kind : Option PlanKind) → IfOk (other_item line kind) IsFine
+other_item-known line None = tt
+other_item-known line (Some kind) = tt
 
-other_item-known : (line : ℕ) (kind : Option PlanKind) (x : Item) → other_item line kind ≡ Ok x → IsFine x
-other_item-known line None x e = let same : Unknown line ≡ x = cc in subst IsFine same tt
-other_item-known line (Some kind) x e = absurd cc
+entry_item-known : (context : List ℕ) (line : ℕ) (read : Result Entry LoadFault) → IsContextName context → IfOk read IsEntry
+    → IfOk (entry_item context line read) IsFine
+entry_item-known context line (Err fault) fine entry = tt
+entry_item-known context line (Ok made) fine entry = (fine, entry)
 
-entry_item-known : (context : List ℕ) (line : ℕ) (read : Result Entry LoadFault) (x : Item) → IsContextName context → ((entry : Entry) → read ≡ Ok entry → IsEntry entry) → entry_item context line read ≡ Ok x → IsFine x
-entry_item-known context line (Err fault) x fine entries e = absurd cc
-entry_item-known context line (Ok entry) x fine entries e =
-    let same : Adds line context entry ≡ x = cc in subst IsFine same (fine, entries entry refl)
-
-context_item-known : (history : History) (context : List ℕ) (line : ℕ) (key value : List ℕ) (x : Item) → IsContextName context → IsLastName history.name → IsPair key value → context_item history context line key value ≡ Ok x → IsFine x
+context_item-known : (history : History) (context : List ℕ) (line : ℕ) (key value : List ℕ) → IsContextName context → IsLastName history.name
+    → IsPair key value → IfOk (context_item history context line key value) IsFine
 unfolding context_item
-context_item-known history context line key value x fine last pair e = by (same_word key (codes "exten")) (same_word key (codes "same")) (same_word key (codes "include")) e
+context_item-known history context line key value fine last pair =
+    by (same_word key (codes "exten")) (same_word key (codes "same")) (same_word key (codes "include"))
   where
-    by : (s t u : Bool) → cond {A = Result Item LoadFault} s (entry_item context line (exten_entry history line context value)) (cond t (entry_item context line (same_entry history line context value)) (cond u (include_item line context value) (other_item line (refused_key key)))) ≡ Ok x → IsFine x
-    by true t u e = entry_item-known context line (exten_entry history line context value) x fine (λ entry read. exten_entry-known history line context value entry pair.value_bytes read) e
-    by false true u e = entry_item-known context line (same_entry history line context value) x fine (λ entry read. same_entry-known history line context value entry last pair.value_bytes read) e
-    by false false true e = include_item-known line context key value x fine pair e
-    by false false false e = other_item-known line (refused_key key) x e
+    extens : Result Entry LoadFault
+    extens = exten_entry history line context value
 
-just-known : (read : Result Item LoadFault) (xs : List Item) → ((x : Item) → read ≡ Ok x → IsFine x) → just read ≡ Ok xs → AreFine xs
-just-known (Err fault) xs fine e = absurd cc
-just-known (Ok x) xs fine e = let same : x ∷ [] ≡ xs = cc in subst AreFine same (fine x refl, tt)
+    sames : Result Entry LoadFault
+    sames = same_entry history line context value
 
-pair_item-known : (history : History) (section : Section) (line : ℕ) (key value : List ℕ) (xs : List Item) → IsFineSection section → IsLastName history.name → IsPair key value → pair_item history section line key value ≡ Ok xs → AreFine xs
-pair_item-known history General line key value xs fine last pair e = let same : [] ≡ xs = cc in subst AreFine same tt
-pair_item-known history Globals line key value xs fine last pair e = just-known (global_item line key value) xs (λ x read. global_item-known line key value x pair read) e
-pair_item-known history (Context name) line key value xs fine last pair e = just-known (context_item history name line key value) xs (λ x read. context_item-known history name line key value x fine last pair read) e
+    by : (s t u : Bool)
+        → IfOk (cond {A = Result Item LoadFault} s (entry_item context line extens) (cond t (entry_item context line sames) (cond u (include_item line context value) (other_item line (refused_key key))))) IsFine
+    by true t u = entry_item-known context line extens fine (exten_entry-known history line context value pair.value_bytes)
+    by false true u = entry_item-known context line sames fine (same_entry-known history line context value last pair.value_bytes)
+    by false false true = include_item-known line context key value fine pair
+    by false false false = other_item-known line (refused_key key)
 
-line_item-known : (history : History) (line : ConfLine) (xs : List Item) → IsFineSection history.section → IsLastName history.name → IsKnownLine line → line_item history line ≡ Ok xs → AreFine xs
-line_item-known history (Header line name) xs fine last known e =
-    let same : Begins (section_named name) ∷ [] ≡ xs = cc in subst AreFine same (section-known name known, tt)
-line_item-known history (Pair line key value) xs fine last known e = pair_item-known history history.section line key value xs fine last known e
+just-known : (read : Result Item LoadFault) → IfOk read IsFine → IfOk (just read) AreFine
+just-known (Err fault) fine = tt
+just-known (Ok x) fine = (fine, tt)
+
+pair_item-known : (history : History) (section : Section) (line : ℕ) (key value : List ℕ) → IsFineSection section → IsLastName history.name
+    → IsPair key value → IfOk (pair_item history section line key value) AreFine
+pair_item-known history General line key value fine last pair = tt
+pair_item-known history Globals line key value fine last pair = just-known (global_item line key value) (global_item-known line key value pair)
+pair_item-known history (Context name) line key value fine last pair =
+    just-known (context_item history name line key value) (context_item-known history name line key value fine last pair)
+
+line_item-known : (history : History) (line : LineOf) → IsFineSection history.section → IsLastName history.name → IsKnownLine line
+    → IfOk (line_item history line) AreFine
+line_item-known history (Header line name) fine last known = (section-known name known, tt)
+line_item-known history (Pair line key value) fine last known = pair_item-known history history.section line key value fine last known
 
 -- ---- what stands before a line
 
-latest-known : {Y : Type 0} (P : Y → Type 0) (f : Item → Option Y) → ((x : Item) (y : Y) → IsFine x → f x ≡ Some y → P y) → (xs : List Item) (y : Y) → AreFine xs → latest f xs ≡ Some y → P y
-latest-known P f each [] y fine e = absurd cc
-latest-known {Y} P f each (x ∷ xs) y fine e = by (λ r. latest-known P f each xs y fine.1 r) (latest f xs) refl e
+latest-known : {Y : Type 0} (P : Y → Type 0) (f : Item → Option Y) → ((x : Item) → IsFine x → IfSome (f x) P) → (xs : List Item) → AreFine xs
+    → IfSome (latest f xs) P
+latest-known P f each [] fine = tt
+latest-known {Y} P f each (x ∷ xs) fine = by (latest f xs) (f x) (latest-known P f each xs fine.1) (each x fine.0)
   where
-    by : (latest f xs ≡ Some y → P y) → (o : Option Y) → latest f xs ≡ o → option_or o (f x) ≡ Some y → P y
-    by later None r e = each x y fine.0 e
-    by later (Some z) r e = later (r ∙ e)
+    by : (o p : Option Y) → IfSome o P → IfSome p P → IfSome (option_or o p) P
+    by None p later here = here
+    by (Some y) p later here = later
 
-section_in-known : (x : Item) (section : Section) → IsFine x → section_in x ≡ Some section → IsFineSection section
-section_in-known (Begins next) section fine e = let same : next ≡ section = cc in subst IsFineSection same fine
-section_in-known (Sets global) section fine e = absurd cc
-section_in-known (Adds line context entry) section fine e = absurd cc
-section_in-known (Includes line context name) section fine e = absurd cc
-section_in-known (Unknown line) section fine e = absurd cc
+section_in-known : (x : Item) → IsFine x → IfSome (section_in x) IsFineSection
+section_in-known (Begins section) fine = fine
+section_in-known (Sets global) fine = tt
+section_in-known (Adds line context entry) fine = tt
+section_in-known (Includes line context name) fine = tt
+section_in-known (Unknown line) fine = tt
 
-name_in-known : (x : Item) (name : Option Meaning) → IsFine x → name_in x ≡ Some name → IsLastName name
-name_in-known (Begins next) name fine e =
-    let same : None ≡ name = cc in subst IsLastName same tt
-name_in-known (Sets global) name fine e = absurd cc
-name_in-known (Adds line context entry) name fine e =
-    let same : Some entry.name ≡ name = cc in subst IsLastName same fine.1.name
-name_in-known (Includes line context name) other fine e = absurd cc
-name_in-known (Unknown line) name fine e = absurd cc
+name_in-known : (x : Item) → IsFine x → IfSome (name_in x) IsLastName
+name_in-known (Begins section) fine = tt
+name_in-known (Sets global) fine = tt
+name_in-known (Adds line context entry) fine = fine.1.name
+name_in-known (Includes line context name) fine = tt
+name_in-known (Unknown line) fine = tt
 
 section-before : (before : List Item) → AreFine before → IsFineSection (history_of before).section
-section-before before fine = by (latest section_in before) refl
+section-before before fine = by (latest section_in before) (latest-known IsFineSection section_in section_in-known before fine)
   where
-    by : (o : Option Section) → latest section_in before ≡ o → IsFineSection (unwrap_or o General)
-    by None r = tt
-    by (Some section) r = latest-known IsFineSection section_in section_in-known before section fine r
+    by : (o : Option Section) → IfSome o IsFineSection → IsFineSection (unwrap_or o General)
+    by None known = tt
+    by (Some section) known = known
 
 name-before : (before : List Item) → AreFine before → IsLastName (history_of before).name
-name-before before fine = by (latest name_in before) refl
+name-before before fine = by (latest name_in before) (latest-known IsLastName name_in name_in-known before fine)
   where
-    by : (o : Option (Option Meaning)) → latest name_in before ≡ o → IsLastName (option_flatten o)
-    by None r = tt
-    by (Some None) r = tt
-    by (Some (Some name)) r = latest-known IsLastName name_in name_in-known before (Some name) fine r
+    by : (o : Option (Option Meaning)) → IfSome o IsLastName → IsLastName (option_flatten o)
+    by None known = tt
+    by (Some None) known = tt
+    by (Some (Some name)) known = known
 
 -- ---- all items
 
 -- each item of lines that are read
-pub items_after-known : (before : List Item) (lines : List ConfLine) (items : List Item) → AreFine before → AllByRecursion IsKnownLine lines → items_after before lines ≡ Ok items → AllByRecursion IsFine items
-items_after-known before [] items fine known e = let same : [] ≡ items = cc in subst AreFine same tt
-items_after-known before (line ∷ lines) items fine known e =
-    by (λ xs ys x r. items_after-known (before ++ xs) lines ys (each-append IsFine before xs fine x) known.1 r) (line_item (history_of before) line) refl e
-  where
-    second : ((xs ys : List Item) → AreFine xs → items_after (before ++ xs) lines ≡ Ok ys → AreFine ys) → (xs : List Item) → AreFine xs → (rest : Result (List Item) LoadFault) → items_after (before ++ xs) lines ≡ rest → with_front xs rest ≡ Ok items → AreFine items
-    second later xs x (Err fault) r e = absurd cc
-    second later xs x (Ok ys) r e = let same : xs ++ ys ≡ items = cc in subst AreFine same (each-append IsFine xs ys x (later xs ys x r))
-
-    by : ((xs ys : List Item) → AreFine xs → items_after (before ++ xs) lines ≡ Ok ys → AreFine ys) → (read : Result (List Item) LoadFault) → line_item (history_of before) line ≡ read → (read >>= λ item. with_front item (items_after (before ++ item) lines)) ≡ Ok items → AreFine items
-    by later (Err fault) read e = absurd cc
-    by later (Ok xs) read e = second later xs (line_item-known (history_of before) line xs (section-before before fine) (name-before before fine) known.0 read) (items_after (before ++ xs) lines) refl e
+pub items_after-known : (before : List Item) (lines : List LineOf) → AreFine before → AllByRecursion IsKnownLine lines
+    → IfOk (items_after before lines) AreFine
+items_after-known before [] fine known = tt
+items_after-known before (line ∷ lines) fine known =
+    then-known AreFine AreFine (line_item (history_of before) line) _
+    (line_item-known (history_of before) line (section-before before fine) (name-before before fine) known.0) (λ xs x.
+    then-known AreFine AreFine (items_after (before ++ xs) lines) (λ ys. Ok (xs ++ ys))
+    (items_after-known (before ++ xs) lines (each-append IsFine before xs fine x) known.1) (λ ys y. each-append IsFine xs ys x y))

@@ -1,22 +1,18 @@
 mod AdditionLemmas
 mod ApartLemmas
-pub mod Canonical
-mod ChangedLemmas
 mod ClaimLemmas
-mod DraftLemmas
-pub mod EntryAgain
+pub mod DraftLemmas
 mod EntryKnown
-mod EntryLemmas
-mod HistoryLemmas
-mod ItemsAgain
-mod ItemsKnown
-mod LoadedLemmas
+pub mod EntryLemmas
+pub mod HistoryLemmas
+pub mod ItemWords
+pub mod ItemsKnown
+pub mod LoadedLemmas
 mod LoadingLemmas
-mod NamedLemmas
+pub mod NamedLemmas
+pub mod PartsKnown
 mod PlaceLemmas
-pub mod PlanAgain
-pub mod PlanKnown
 mod PositionLemmas
 pub mod RankingLemmas
-mod Rows
 mod TableLemmas
+mod cases

@@ -1,8 +1,7 @@
 -- What loading comes to, stage by stage.
 use Rattle.std.proofs.Common.{List, [], Result, Ok}
 use Rattle.dp_conf.specs.Answers.{◌>>=◌}
-use Rattle.dp_conf.specs.Lines.{LineFault}
-use Rattle.dp_conf.specs.declared.lines.ConfLine.{ConfLine}
+use Rattle.dp_conf.specs.Lines.{LineOf, LineFault}
 use Rattle.dp_plan.specs.Faults.{text_fault}
 use Rattle.dp_plan.specs.Items.{items_after}
 use Rattle.dp_plan.specs.Plan.{PlanOf, plan_of, notes_of}
@@ -15,5 +14,5 @@ abbrev pub of_items : Result (List Item) LoadFault → Result (PlanOf × List No
 of_items read = read >>= λ items. Ok (plan_of items, notes_of items)
 
 -- the dialplan of lines that were read
-abbrev pub of_lines : Result (List ConfLine) LineFault → Result (PlanOf × List Note) LoadFault
+abbrev pub of_lines : Result (List LineOf) LineFault → Result (PlanOf × List Note) LoadFault
 of_lines lines = text_fault lines >>= λ ls. of_items (items_after [] ls)

@@ -3,25 +3,20 @@ use Rattle.std.proofs.Common.{◌≡◌, ℕ, zero, suc, ◌+◌, ◌<◌, ◌�
 use Rattle.std.specs.List.{IsDistinct, list_any}
 use Rattle.std.specs.Cmp.{IsEquivalence, nat_eq_equiv}
 use Rattle.std.proofs.lemmas.Bool.{eqb-true}
+use Rattle.std.proofs.lemmas.Cmp.{on_equiv}
 use Rattle.std.proofs.lemmas.List.{take_more}
 use Rattle.std.proofs.lemmas.Map.Keys.{IsDistinct-push}
 use Rattle.std.proofs.lemmas.Option.{slice_get-get_or}
 use Rattle.indexmap.specs.IndexSet.{insert_key}
-use Rattle.dp_plan.specs.Places.{same_slot, slots_in, AreBounded}
+use Rattle.dp_plan.specs.steps.Places.{same_slot, slots_in, AreBounded}
 use Rattle.dp_plan.specs.declared.places.Kept.{Kept}
 use Rattle.dp_plan.specs.declared.places.Slot.{Slot}
-use Rattle.dp_plan.proofs.HistoryLemmas.{and_both, and_left, and_right}
+use Rattle.dp_plan.proofs.HistoryLemmas.{both_equiv}
 use Rattle.dp_plan.proofs.PositionLemmas.{later_apart}
 
 -- to be the same place is an equivalence
 pub same_slot_equiv : IsEquivalence same_slot
-same_slot_equiv = record {
-  refl = λ a. and_both _ _ true true (nat_eq_equiv.refl a.extension) (nat_eq_equiv.refl a.priority);
-  symm = λ a b. and_both _ _ _ _ (nat_eq_equiv.symm a.extension b.extension) (nat_eq_equiv.symm a.priority b.priority);
-  congr = λ a b c e. and_both _ _ _ _
-      (nat_eq_equiv.congr a.extension b.extension c.extension (and_left (a.extension == b.extension) (a.priority == b.priority) e))
-      (nat_eq_equiv.congr a.priority b.priority c.priority (and_right (a.extension == b.extension) (a.priority == b.priority) e));
-}
+same_slot_equiv = both_equiv (on_equiv (λ (slot : Slot). slot.extension) nat_eq_equiv) (on_equiv (λ (slot : Slot). slot.priority) nat_eq_equiv)
 
 -- ---- bounds
 

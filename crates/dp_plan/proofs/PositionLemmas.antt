@@ -23,7 +23,7 @@ pub or_right : (a b : Bool) → b ≡ true → (a || b) ≡ true
 or_right true b e = refl
 or_right false b e = e
 
--- an element is another than each that stands behind it
+-- an element is another than each that stands after it
 pub later_apart : {K : Type 0} (eq : K → K → Bool) (x k : K) (xs : List K) (i : ℕ) → AllByRecursion (λ y. eq x y ≡ false) xs → slice_get xs i ≡ Some k → eq x k ≡ false
 later_apart eq x k [] i apart here = absurd cc
 later_apart {K} eq x k (y ∷ xs) zero apart here =
@@ -57,7 +57,7 @@ list_any-at {K} test (x ∷ xs) zero k here passes =
     ap (λ t. t || list_any test xs) (subst (λ (z : K). test z ≡ true) (sym first) passes)
 list_any-at test (x ∷ xs) (suc i) k here passes = or_right (test x) (list_any test xs) (list_any-at test xs i k here passes)
 
--- what stands behind a list that has an element leaves the element's place
+-- what stands after a list that has an element leaves the element's place
 pub position-more : {K : Type 0} (test : K → Bool) (ks more : List K) → list_any test ks ≡ true → position_or_len test (ks ++ more) ≡ position_or_len test ks
 position-more test [] more there = absurd cc
 position-more {K} test (k ∷ ks) more there = by (position-more test ks more) (test k) there where

@@ -1,13 +1,14 @@
 -- The table of extensions, where the last line's extension is compared first.
-use Rattle.std.proofs.Common.{◌≡◌, ℕ, zero, suc, Bool, true, false, cond, ◌||◌, ◌==◌, List, [], ◌∷◌, ◌++◌, Option, Some, None, slice_get, refl, ap, subst, ◌∙◌, sym}
+use Rattle.std.proofs.Common.{◌≡◌, ℕ, zero, suc, Bool, true, false, cond, ◌==◌, List, [], ◌∷◌, ◌++◌, Option, Some, None, slice_get, refl, ap, subst, ◌∙◌, sym}
 use Rattle.std.specs.List.{IsDistinct, list_any, position_or_len}
 use Rattle.std.specs.Option.{option_map, option_map_or}
 use Rattle.std.specs.Map.{lookup, keys_of}
 use Rattle.std.specs.Cmp.{IsEquivalence}
 use Rattle.std.proofs.lemmas.List.Folds.{list_any-append}
 use Rattle.indexmap.specs.IndexMap.{insert_entry, set_value_at}
+use Rattle.indexmap.proofs.SetLemmas.{keys_insert_entry}
 use Rattle.dp_plan.specs.Extensions.{same_extension}
-use Rattle.dp_plan.specs.Table.{Table, is_last, number_in, written}
+use Rattle.dp_plan.specs.steps.Table.{Table, is_last, number_in, written}
 use Rattle.dp_plan.specs.declared.extension.Extension.{Extension}
 use Rattle.dp_plan.proofs.HistoryLemmas.{same_extension_equiv}
 use Rattle.dp_plan.proofs.PositionLemmas.{later_apart, or_right, or_true, position-more, position-new, position_or_len-distinct, same_position}
@@ -62,25 +63,13 @@ written_last table asked priority distinct same = by (slice_get table.priorities
 abbrev pub is_known : List (Extension × ℕ) → Extension → Bool
 is_known priorities extension = list_any (same_extension extension) (keys_of priorities)
 
--- the keys once a key was written
-keys-insert_entry : {K V : Type 0} (eq : K → K → Bool) (es : List (K × V)) (q : K) (v : V) → keys_of (insert_entry eq es q v) ≡ cond (list_any (eq q) (keys_of es)) (keys_of es) (keys_of es ++ q ∷ [])
-keys-insert_entry eq [] q v = refl
-keys-insert_entry {K} {V} eq (e ∷ es) q v = by (keys-insert_entry eq es q v) (eq q e.0) where
-  front : (t : Bool) → e.0 ∷ cond t (keys_of es) (keys_of es ++ q ∷ []) ≡ cond t (e.0 ∷ keys_of es) (e.0 ∷ (keys_of es ++ q ∷ []))
-  front true = refl
-  front false = refl
-
-  by : keys_of (insert_entry eq es q v) ≡ cond (list_any (eq q) (keys_of es)) (keys_of es) (keys_of es ++ q ∷ []) → (t : Bool) → keys_of (cond t ((e.0, v) ∷ es) (e ∷ insert_entry eq es q v)) ≡ cond (t || list_any (eq q) (keys_of es)) (e.0 ∷ keys_of es) (e.0 ∷ (keys_of es ++ q ∷ []))
-  by later true = refl
-  by later false = ap (λ (ks : List K). e.0 ∷ ks) later ∙ front (list_any (eq q) (keys_of es))
-
 module _ (es : List (Extension × ℕ)) (e : Extension) (v : ℕ) where
-  -- the keys behind a line of the extension
+  -- the keys after a line of the extension
   abbrev keys_by : Bool → List Extension
   keys_by t = cond t (keys_of es) (keys_of es ++ e ∷ [])
 
   keys_after : keys_of (insert_entry same_extension es e v) ≡ keys_by (is_known es e)
-  keys_after = keys-insert_entry same_extension es e v
+  keys_after = keys_insert_entry same_extension es e v
 
   -- what is known stays known
   pub known-kept : (q : Extension) → is_known es q ≡ true → is_known (insert_entry same_extension es e v) q ≡ true

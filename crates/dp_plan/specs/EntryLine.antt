@@ -28,7 +28,7 @@ use Rattle.dp_plan.specs.declared.fault.LoadFault.TheVariants.{Plan}
 use Rattle.dp_plan.specs.declared.numbering.Written.{Written}
 use Rattle.dp_plan.specs.declared.numbering.Written.TheVariants.{Number, TooGreat, Next}
 use Rattle.dp_plan.specs.declared.numbering.Numbering.{Numbering}
-use Rattle.dp_plan.specs.declared.application.Called.{Called}
+use Rattle.dp_plan.specs.declared.application.ApplicationCall.{ApplicationCall}
 use Rattle.dp_plan.specs.declared.entry.Entry.{Entry}
 
 -- a `${` stands in the text
@@ -149,7 +149,7 @@ unfoldable pub application_of : List ℕ → Result (List ℕ × List ℕ) PlanK
 application_of text = application_by (application_parts text (cut_once (byte "(") text))
 
 -- an application that was read, as its texts
-abbrev pub called_now : Result Called PlanKind → Result (List ℕ × List ℕ) PlanKind
+abbrev pub called_now : Result ApplicationCall PlanKind → Result (List ℕ × List ℕ) PlanKind
 called_now (Ok called) = Ok (called.name.now, called.arguments.now)
 called_now (Err kind) = Err kind
 

@@ -28,7 +28,7 @@ section_in (Adds line context entry) = None
 section_in (Includes line context name) = None
 section_in (Unknown line) = None
 
--- the name that an item leaves for the lines behind it: an entry its own, and a header none
+-- the name that an item leaves for the lines after it: an entry its own, and a header none
 abbrev pub name_in : Item → Option (Option Meaning)
 name_in (Begins section) = Some None
 name_in (Sets global) = None

@@ -3,9 +3,8 @@ use Rattle.std.specs.Prelude.{ℕ, ◌||◌, ◌==◌, List, [], ◌∷◌, ◌+
 use Rattle.std.specs.List.{list_any}
 use Rattle.std.specs.Str.{byte}
 use Rattle.dp_conf.specs.Answers.{◌>>=◌, with_front}
+use Rattle.dp_conf.specs.Lines.{LineOf, Header, Pair}
 use Rattle.dp_conf.specs.Words.{same_word}
-use Rattle.dp_conf.specs.declared.lines.ConfLine.{ConfLine}
-use Rattle.dp_conf.specs.declared.lines.ConfLine.TheVariants.{Header, Pair}
 use Rattle.dp_plan.specs.EntryLine.{shallow_at, exten_entry, same_entry}
 use Rattle.dp_plan.specs.History.{History, history_of}
 use Rattle.dp_plan.specs.declared.entry.Entry.{Entry}
@@ -73,12 +72,12 @@ pair_item history Globals line key value = just (global_item line key value)
 pair_item history (Context name) line key value = just (context_item history name line key value)
 
 -- the item of a line, or the line's fault, by what the lines before it say
-abbrev pub line_item : History → ConfLine → Result (List Item) LoadFault
+abbrev pub line_item : History → LineOf → Result (List Item) LoadFault
 line_item history (Header line name) = Ok (Begins (section_named name) ∷ [])
 line_item history (Pair line key value) = pair_item history history.section line key value
 
 -- the items of lines, each line read by the items of those before it, or the fault of the first line that has one
-abbrev pub items_after : List Item → List ConfLine → Result (List Item) LoadFault
+abbrev pub items_after : List Item → List LineOf → Result (List Item) LoadFault
 items_after before [] = Ok []
 items_after before (line ∷ lines) =
     line_item (history_of before) line >>= λ item. with_front item (items_after (before ++ item) lines)

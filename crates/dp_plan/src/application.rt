@@ -12,7 +12,7 @@ use std::alloc::Global;
 
 /// An application as it is called: its name and its arguments.
 #[derive(Clone, Copy)]
-pub(crate) struct Called<'a> {
+pub(crate) struct ApplicationCall<'a> {
     pub(crate) name: &'a [u8],
     pub(crate) arguments: &'a [u8],
 }
@@ -36,13 +36,13 @@ fn application_parts(text: &[u8]) -> (&[u8], Option<&[u8]>)
 {
     match cut_once(text, b'(') {
         None => (text, Some(&text[..0])),
-        Some((before, behind)) => (before, before_closing(behind)),
+        Some((before, after)) => (before, before_closing(after)),
     }
 }
 
 /// The application of a line, `name` or `name(arguments)`.
 #[tactic(auto, unfolding(crate::specs::EntryLine::application_of))]
-pub(crate) fn read_application(text: &[u8]) -> Result<Called<'_>, PlanKind>
+pub(crate) fn read_application(text: &[u8]) -> Result<ApplicationCall<'_>, PlanKind>
     ensures { spec.application_of text.now ≡ spec.called_now result }
 {
     let (name, arguments) = application_parts(text);
@@ -54,7 +54,7 @@ pub(crate) fn read_application(text: &[u8]) -> Result<Called<'_>, PlanKind>
         return Err(PlanKind::BadApplication);
     }
     match arguments {
-        Some(arguments) => Ok(Called { name, arguments }),
+        Some(arguments) => Ok(ApplicationCall { name, arguments }),
         None => Err(PlanKind::BadApplication),
     }
 }

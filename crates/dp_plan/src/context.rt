@@ -71,7 +71,7 @@ impl Context {
         let _entries = &self.entries;
     }
 
-    /// Adds an entry behind the others.
+    /// Adds an entry after the others.
     pub(crate) fn push(&mut self, entry: Entry) -> Result<(), NoMemory>
         ensures { OnOk result (self.new ≡ with_entry entry self.old) }
     {
@@ -81,7 +81,7 @@ impl Context {
         Ok(())
     }
 
-    /// Adds an include behind the others.
+    /// Adds an include after the others.
     pub(crate) fn push_include(&mut self, name: Text) -> Result<(), NoMemory>
         ensures { OnOk result (self.new ≡ with_include name self.old) }
     {

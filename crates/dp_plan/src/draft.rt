@@ -3,7 +3,8 @@ ghost use Rattle.std.specs.Prelude.{◌≡◌, ◌++◌, ◌<◌, [], ◌∷◌,
 ghost use Rattle.std.specs.List.{All, flat_map, position_or_len};
 ghost use Rattle.std.specs.Option.{option_to_list};
 ghost use Rattle.dp_plan.specs.Contexts.{with_entry, with_include};
-ghost use Rattle.dp_plan.specs.Draft as spec;
+ghost use Rattle.dp_plan.specs.steps.Draft as spec;
+ghost use Rattle.dp_conf.specs.Changes.{changed_at};
 ghost use Rattle.dp_conf.specs.Words.{same_text};
 ghost use Rattle.dp_plan.specs.Loaded.{IsLoaded};
 ghost use Rattle.dp_plan.specs.Plan.{is_named};
@@ -12,6 +13,7 @@ ghost use Rattle.dp_plan.specs.Ranking.{AreApart};
 use crate::context::Context;
 use crate::entry::Entry;
 use crate::item::Item;
+use crate::label::{Label, label_of};
 use crate::note::{Note, NoteKind};
 use crate::places::{Places, Slot};
 use crate::plan::{Dialplan, GlobalVariable, Parts};
@@ -24,13 +26,6 @@ use dp_conf::{NoMemory, Text};
 use indexmap::IndexSet;
 use std::alloc::Global;
 use std::marker::Model;
-
-/// A label of the extension of a number, which at most one entry has.
-#[derive(PartialEq, Eq, Hash, Drop)]
-pub(crate) struct Label {
-    extension: u32,
-    label: SharedText,
-}
 
 /// What the items so far make: the parts of a dialplan, the places and labels that are taken, and the notes.
 #[derive(Drop)]
@@ -47,7 +42,7 @@ pub(crate) struct Draft {
 
 impl Model for Draft {
     ghost use Rattle.std.specs.Prelude.{◌≡◌, length};
-    ghost use Rattle.dp_plan.specs.Draft.{Drafted};
+    ghost use Rattle.dp_plan.specs.steps.Draft.{Drafted};
 
     ghost Value = { Drafted };
 
@@ -71,17 +66,6 @@ fn slot_of(number: u32, entry: &Entry) -> Slot
         extension: number,
         priority: entry.priority.get(),
     }
-}
-
-/// A label, by the number of its extension.
-fn label_of(number: u32, label: &SharedText) -> Result<Label, NoMemory>
-    ensures { IfOk result (λ marked. marked ≡ spec.label_in number label.now) }
-{
-    let label = label.clone()?;
-    Ok(Label {
-        extension: number,
-        label,
-    })
 }
 
 /// The context of this name, with nothing in it.
@@ -251,7 +235,7 @@ impl Draft {
     fn push_entry(&mut self, place: usize, entry: Entry) -> Result<(), NoMemory>
         requires { place < length self.old.contexts }
         ensures { OnOk result (self.new ≡ record self.old {
-          contexts = spec.changed_at (with_entry entry) place self.old.contexts;
+          contexts = changed_at (with_entry entry) place self.old.contexts;
         }) }
     {
         let context = &mut self.contexts[place];
@@ -263,7 +247,7 @@ impl Draft {
     fn push_include(&mut self, place: usize, name: Text) -> Result<(), NoMemory>
         requires { place < length self.old.contexts }
         ensures { OnOk result (self.new ≡ record self.old {
-          contexts = spec.changed_at (with_include name) place self.old.contexts;
+          contexts = changed_at (with_include name) place self.old.contexts;
         }) }
     {
         let context = &mut self.contexts[place];

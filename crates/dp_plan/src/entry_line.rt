@@ -4,7 +4,7 @@ ghost use Rattle.std.specs.Option.{option_map, option_copied};
 ghost use Rattle.dp_conf.specs.Answers.{Answers};
 ghost use Rattle.dp_plan.specs.EntryLine as spec;
 ghost use Rattle.dp_plan.specs.Faults.{reason_of, at_line};
-ghost use Rattle.dp_plan.specs.Reader.{history_in, last_priority};
+ghost use Rattle.dp_plan.specs.steps.Reader.{history_in, last_priority};
 
 use crate::application::{read_application, read_shallow};
 use crate::entry::Entry;

@@ -2,7 +2,7 @@
 ghost use Rattle.std.specs.Prelude.{◌≡◌, IfOk, IfSome, OnOk, IsTrue, IsFalse, Some, is_some};
 ghost use Rattle.std.specs.Map.{lookup};
 ghost use Rattle.dp_plan.specs.Extensions.{extension_of, same_extension};
-ghost use Rattle.dp_plan.specs.Table as spec;
+ghost use Rattle.dp_plan.specs.steps.Table as spec;
 
 use crate::extension::Extension;
 use crate::priority::Priority;
@@ -22,7 +22,7 @@ pub(crate) struct Extensions {
 }
 
 impl Model for Extensions {
-    ghost use Rattle.dp_plan.specs.Table.{Table};
+    ghost use Rattle.dp_plan.specs.steps.Table.{Table};
 
     ghost Value = { Table };
 

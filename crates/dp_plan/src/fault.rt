@@ -14,9 +14,9 @@ pub enum Word {
     Switch,
     /// A key `ignorepat`.
     IgnorePat,
-    /// A name with a `/`, behind which a caller's number would stand.
+    /// A name with a `/`, after which a caller's number would stand.
     CallerId,
-    /// An include with a comma, behind which times would stand.
+    /// An include with a comma, after which times would stand.
     IncludeTimes,
     /// A name with a `${`.
     Variable,

@@ -6,7 +6,7 @@ ghost use Rattle.dp_conf.specs.Borrowed.{line_now};
 ghost use Rattle.dp_plan.specs.EntryLine.{exten_entry, same_entry};
 ghost use Rattle.dp_plan.specs.Faults.{reason_of};
 ghost use Rattle.dp_plan.specs.Items as spec;
-ghost use Rattle.dp_plan.specs.Reader.{history_in};
+ghost use Rattle.dp_plan.specs.steps.Reader.{history_in};
 
 use crate::application::read_shallow;
 use crate::entry::Entry;

@@ -1,6 +1,6 @@
 //! The names of applications that lines have written, each held once.
 ghost use Rattle.std.specs.Prelude.{◌≡◌, [], IfOk, IfSome, OnOk};
-ghost use Rattle.dp_plan.specs.KnownApplications.{is_known, kept};
+ghost use Rattle.dp_plan.specs.steps.KnownApplications.{is_known, kept};
 
 use crate::shared_text::SharedText;
 use dp_conf::NoMemory;

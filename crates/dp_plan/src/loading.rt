@@ -1,17 +1,16 @@
 //! The lines of a dialplan's text, taken one at a time.
-ghost use Rattle.std.specs.Prelude.{◌≡◌, ◌+◌, ◌∷◌, [], Ok, OnOk, fold};
+ghost use Rattle.std.specs.Prelude.{◌≡◌, Ok, OnOk, fold};
 ghost use Rattle.std.specs.Option.{option_to_list};
 ghost use Rattle.dp_conf.specs.Answers.{Answers};
 ghost use Rattle.dp_conf.specs.Borrowed.{line_now};
-ghost use Rattle.dp_conf.specs.Lines.{item_of, at_line, lines_of};
 ghost use Rattle.dp_plan.specs.Faults.{reason_of};
-ghost use Rattle.dp_plan.specs.Loading as spec;
+ghost use Rattle.dp_plan.specs.steps.Loading as spec;
 
 use crate::draft::Draft;
 use crate::fault::LoadFault;
 use crate::item::{Item, read_item};
 use crate::reader::Reader;
-use dp_conf::{Line, NoMemory, first_part, has_begun, read_content, read_line, without_mark};
+use dp_conf::{Line, NoMemory, TakeLine, take_lines};
 use std::alloc::Global;
 use std::marker::Model;
 
@@ -23,7 +22,7 @@ pub(crate) struct Made {
 }
 
 impl Model for Made {
-    ghost use Rattle.dp_plan.specs.Loading.{MadeOf};
+    ghost use Rattle.dp_plan.specs.steps.Loading.{MadeOf};
 
     ghost Value = { MadeOf };
 
@@ -41,17 +40,17 @@ impl Made {
         }
     }
 
-    /// Goes behind an item, where there is one.
+    /// Goes after an item, where there is one.
     fn take_item(&mut self, alloc: Global, item: Option<Item>) -> Result<(), NoMemory>
-        ensures { OnOk result (self.new ≡ fold spec.behind_item self.old (option_to_list item)) }
+        ensures { OnOk result (self.new ≡ fold spec.after_item self.old (option_to_list item)) }
     {
         self.reader.remember(item.as_ref())?;
         self.draft.add_item(alloc, self.reader.extension(), item)
     }
 
-    /// Goes behind a line.
+    /// Goes after a line.
     fn take(&mut self, alloc: Global, line: Line<'_>) -> Result<(), LoadFault>
-        ensures { Answers (λ done. self.new) reason_of result (spec.behind_line self.old (line_now line.entry)) }
+        ensures { Answers (λ done. self.new) reason_of result (spec.after_line self.old (line_now line.entry)) }
     {
         let item = read_item(alloc, &self.reader, line)?;
         self.take_item(alloc, item)?;
@@ -77,7 +76,7 @@ struct Loading {
 
 impl Model for Loading {
     ghost use Rattle.std.specs.Prelude.{Result};
-    ghost use Rattle.dp_plan.specs.Loading.{MadeOf, outcome};
+    ghost use Rattle.dp_plan.specs.steps.Loading.{MadeOf, outcome};
     ghost use Rattle.dp_plan.specs.declared.fault.LoadFault.{LoadFault};
 
     ghost Value = { Result MadeOf LoadFault };
@@ -96,60 +95,6 @@ impl Loading {
         }
     }
 
-    /// Goes behind a line, where no line before it has a fault.
-    fn take(&mut self, alloc: Global, line: Line<'_>) -> Result<(), NoMemory>
-        ensures { OnOk result (self.new ≡ spec.behind_all self.old (line_now line.entry ∷ [])) }
-    {
-        if self.fault.is_some() {
-            return Ok(());
-        }
-        match self.made.take(alloc, line) {
-            Ok(()) => Ok(()),
-            Err(LoadFault::NoMemory) => Err(NoMemory),
-            Err(fault) => {
-                self.fault = Some(fault);
-                Ok(())
-            }
-        }
-    }
-
-    /// Goes behind the line of a content, and gives whether a section has begun behind it.
-    fn take_content(
-        &mut self,
-        alloc: Global,
-        line: usize,
-        in_section: bool,
-        content: &[u8],
-    ) -> Result<bool, LoadFault>
-        ensures { Answers (λ begun. (begun, self.new)) reason_of result
-            (spec.part_read in_section self.old (at_line line (item_of in_section line content.now))) }
-    {
-        let item = read_line(line, in_section, content)?;
-        if let Some(item) = item {
-            self.take(alloc, item)?;
-        }
-        Ok(has_begun(in_section, item))
-    }
-
-    /// Goes behind a part of the text, and gives whether a section has begun behind it.
-    fn take_part(
-        &mut self,
-        alloc: Global,
-        line: usize,
-        in_section: bool,
-        part: &[u8],
-    ) -> Result<bool, LoadFault>
-        ensures { Answers (λ begun. (begun, self.new)) reason_of result
-            (spec.part_behind in_section line self.old part.now) }
-    {
-        // An empty part says nothing.
-        if part.is_empty() {
-            return Ok(in_section);
-        }
-        let content = read_content(alloc, line, part)?;
-        self.take_content(alloc, line, in_section, content.bytes())
-    }
-
     /// The draft of what the lines have made, or the fault that was kept aside.
     fn into_draft(self) -> Result<Draft, LoadFault>
         ensures { Answers (λ draft. draft) reason_of result (spec.finished self) }
@@ -162,32 +107,32 @@ impl Loading {
     }
 }
 
-/// Goes behind the lines of a text.
-///
-/// A fault of the text ends it. A fault of another kind is kept aside until the text ends, and the lines behind it are
-/// read as lines alone.
-fn take_text(alloc: Global, loading: &mut Loading, text: &[u8]) -> Result<(), LoadFault>
-    ensures { Answers (λ done. loading.new) reason_of result (spec.text_behind loading.old (lines_of text.now)) }
-{
-    let mut line: usize = 0;
-    let mut in_section = false;
-    let mut rest = Some(without_mark(text));
-    while let Some(left) = rest {
-        let (part, behind) = first_part(left);
-        line += 1;
-        in_section = loading.take_part(alloc, line, in_section, part)?;
-        rest = behind;
+impl TakeLine for Loading {
+    ghost use Rattle.dp_plan.specs.steps.Loading.{after_one};
+
+    ghost after_line = { after_one };
+
+    // The lines after one with a fault are read as lines alone, for a fault of the text.
+    fn take(&mut self, alloc: Global, line: Line<'_>) -> Result<(), NoMemory> {
+        if self.fault.is_some() {
+            return Ok(());
+        }
+        match self.made.take(alloc, line) {
+            Ok(()) => Ok(()),
+            Err(LoadFault::NoMemory) => Err(NoMemory),
+            Err(fault) => {
+                self.fault = Some(fault);
+                Ok(())
+            }
+        }
     }
-    Ok(())
 }
 
-/// What the lines of a text make.
+/// What the lines of a text make: a fault of the text comes before those of a context.
 pub(crate) fn read_draft(alloc: Global, text: &[u8]) -> Result<Draft, LoadFault>
     ensures { Answers (λ draft. draft) reason_of result (spec.drafted_of text.now) }
 {
     let mut loading = Loading::new(alloc);
-    match take_text(alloc, &mut loading, text) {
-        Ok(()) => loading.into_draft(),
-        Err(fault) => Err(fault),
-    }
+    take_lines(alloc, text, &mut loading)?;
+    loading.into_draft()
 }

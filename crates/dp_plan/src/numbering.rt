@@ -20,7 +20,7 @@ pub(crate) enum Written {
     Next,
 }
 
-/// A priority as it is written, with the label behind it, where it has one.
+/// A priority as it is written, with the label after it, where it has one.
 #[derive(Clone, Copy)]
 pub(crate) struct Numbering<'a> {
     pub(crate) written: Written,
@@ -86,11 +86,11 @@ fn has_parenthesis(text: &[u8]) -> bool
     text.iter().any(|byte| *byte == b'(' || *byte == b')')
 }
 
-/// The label of what stands behind the first `(` of a priority.
-fn read_label(behind: &[u8]) -> Result<&[u8], PlanKind>
-    ensures { Answers (λ label. label.now) (λ kind. Some kind) result (spec.label_within (spec.without_last 41 behind.now)) }
+/// The label of what stands after the first `(` of a priority.
+fn read_label(after: &[u8]) -> Result<&[u8], PlanKind>
+    ensures { Answers (λ label. label.now) (λ kind. Some kind) result (spec.label_within (spec.without_last 41 after.now)) }
 {
-    let Some(text) = before_closing(behind) else {
+    let Some(text) = before_closing(after) else {
         return Err(PlanKind::BadLabel);
     };
     let label = trim(text);
@@ -113,9 +113,9 @@ pub(crate) fn read_numbering(text: &[u8]) -> Result<Numbering<'_>, PlanKind>
                 label: None,
             })
         }
-        Some((before, behind)) => {
+        Some((before, after)) => {
             let written = read_written(trim(before))?;
-            let label = read_label(behind)?;
+            let label = read_label(after)?;
             Ok(Numbering {
                 written,
                 label: Some(label),

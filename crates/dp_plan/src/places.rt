@@ -1,7 +1,7 @@
 //! The places that entries have taken.
 ghost use Rattle.std.specs.Prelude.{◌≡◌, ℕ, ◌≤◌, ◌++◌, [], ◌∷◌, IfOk, OnOk, OnErr, IsTrue, false, get_or, length};
 ghost use Rattle.std.specs.List.{list_any, IsDistinct};
-ghost use Rattle.dp_plan.specs.Places as spec;
+ghost use Rattle.dp_plan.specs.steps.Places as spec;
 
 use dp_conf::NoMemory;
 use indexmap::IndexSet;
@@ -34,7 +34,7 @@ pub(crate) struct Places {
 impl Model for Places {
     ghost use Rattle.std.specs.Prelude.{List};
     ghost use Rattle.std.specs.List.{IsDistinct};
-    ghost use Rattle.dp_plan.specs.Places.{slots_in, same_slot, AreBounded};
+    ghost use Rattle.dp_plan.specs.steps.Places.{slots_in, same_slot, AreBounded};
     ghost use Rattle.dp_plan.specs.declared.places.Slot.{Slot};
 
     ghost Value = { List Slot };

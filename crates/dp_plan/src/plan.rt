@@ -104,7 +104,7 @@ impl Dialplan {
     }
 
     /// That some text loads as the dialplan, as is so of every dialplan. It does nothing.
-    pub fn is_loaded(&self)
+    pub fn show_loaded(&self)
         ensures { IsLoaded self.now }
     {
         let _contexts = &self.contexts;
@@ -112,7 +112,7 @@ impl Dialplan {
 
     /// What is known of the entries of every dialplan: the name of each is one that some text means, and no two of a
     /// context have the same name and priority. It does nothing.
-    pub fn entries_are_known(&self)
+    pub fn show_entries_known(&self)
         ensures named { All (λ context. AreNamed context.entries) self.now.contexts }
         ensures apart { All (λ context. AreApart context.entries) self.now.contexts }
     {
@@ -203,7 +203,7 @@ impl Dialplan {
 
 /// What is known of the entries of every dialplan that a text loads as: the name of each is one that some text means,
 /// and no two of a context have the same name and priority.
-pub fn loaded_entries_are_known()
+pub fn show_loaded_entries_known()
     ensures named { (text : List ℕ) (plan : PlanOf) (notes : List Note) → EachIndex text (λ k. slice_index text k < 256)
         → loaded text ≡ Ok (plan, notes) → All (λ context. AreNamed context.entries) plan.contexts }
     ensures apart { (text : List ℕ) (plan : PlanOf) (notes : List Note) → loaded text ≡ Ok (plan, notes)

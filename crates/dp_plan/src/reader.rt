@@ -1,7 +1,7 @@
 //! What the lines so far leave for the next one.
 ghost use Rattle.std.specs.Prelude.{◌≡◌, IfOk, OnOk, fold};
 ghost use Rattle.std.specs.Option.{option_copied, option_to_list};
-ghost use Rattle.dp_plan.specs.Reader as spec;
+ghost use Rattle.dp_plan.specs.steps.Reader as spec;
 
 use crate::entry::Entry;
 use crate::extensions::Extensions;
@@ -27,7 +27,7 @@ pub(crate) struct Reader {
 }
 
 impl Model for Reader {
-    ghost use Rattle.dp_plan.specs.Reader.{Reading};
+    ghost use Rattle.dp_plan.specs.steps.Reader.{Reading};
 
     ghost Value = { Reading };
 
@@ -90,23 +90,18 @@ impl Reader {
         self.applications.shared(alloc, name)
     }
 
-    /// Goes behind a header.
+    /// Goes after a header.
     fn begin(&mut self, section: &Section) -> Result<(), NoMemory>
-        ensures { OnOk result (self.new ≡ spec.behind self.old (Item.Begins section.now)) }
+        ensures { OnOk result (self.new ≡ spec.after self.old (Item.Begins section.now)) }
     {
         self.section = section.clone()?;
         self.name = None;
         Ok(())
     }
 
-    /// Goes behind the line of an entry.
-    fn go_behind(
-        &mut self,
-        line: usize,
-        context: &SharedText,
-        entry: &Entry,
-    ) -> Result<(), NoMemory>
-        ensures { OnOk result (self.new ≡ spec.behind self.old (Item.Adds line context.now entry.now)) }
+    /// Goes after the line of an entry.
+    fn go_after(&mut self, line: usize, context: &SharedText, entry: &Entry) -> Result<(), NoMemory>
+        ensures { OnOk result (self.new ≡ spec.after self.old (Item.Adds line context.now entry.now)) }
     {
         let name = entry.name.clone()?;
         self.extensions.write(context, &entry.name, entry.priority)?;
@@ -115,9 +110,9 @@ impl Reader {
         Ok(())
     }
 
-    /// Goes behind a line, by its item where it has one.
+    /// Goes after a line, by its item where it has one.
     pub(crate) fn remember(&mut self, item: Option<&Item>) -> Result<(), NoMemory>
-        ensures { OnOk result (self.new ≡ fold spec.behind self.old (option_to_list (option_copied item.entry))) }
+        ensures { OnOk result (self.new ≡ fold spec.after self.old (option_to_list (option_copied item.entry))) }
     {
         match item {
             Some(Item::Begins(section)) => self.begin(section),
@@ -127,7 +122,7 @@ impl Reader {
                     context,
                     entry,
                 },
-            ) => self.go_behind(*line, context, entry),
+            ) => self.go_after(*line, context, entry),
             Some(Item::Sets(_) | Item::Includes { .. } | Item::Unknown(_)) | None => Ok(()),
         }
     }

@@ -2,7 +2,7 @@
 ghost use Rattle.std.specs.Prelude.{◌≡◌, ◌++◌, OnOk, IfOk};
 ghost use Rattle.std.specs.List.{flat_map};
 ghost use Rattle.std.specs.Option.{option_to_list};
-ghost use Rattle.dp_plan.specs.Draft as spec;
+ghost use Rattle.dp_plan.specs.steps.Draft as spec;
 
 use crate::note::{Note, NoteKind};
 use dp_conf::{NoMemory, Text};

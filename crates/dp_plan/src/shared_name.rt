@@ -7,7 +7,7 @@ ghost use Rattle.std.specs.Cmp.Rules.{hashing};
 ghost use Rattle.std.proofs.Common.{rules};
 ghost use Rattle.dp_pattern.specs.Name.{Meaning, IsName};
 ghost use Rattle.dp_pattern.specs.Spelling.{spelling};
-ghost use Rattle.dp_plan.specs.SharedName.{spelled_by};
+ghost use Rattle.dp_plan.specs.steps.SharedName.{spelled_by};
 
 use dp_conf::NoMemory;
 use dp_pattern::{Name, Parts};
@@ -35,7 +35,7 @@ impl Model for SharedName {
     ghost use Rattle.std.specs.Arc.{arc_value};
     ghost use Rattle.dp_pattern.specs.Name.{Meaning};
     ghost use Rattle.dp_pattern.specs.Spelling.{spelling};
-    ghost use Rattle.dp_plan.specs.SharedName.{spelled_by};
+    ghost use Rattle.dp_plan.specs.steps.SharedName.{spelled_by};
 
     ghost Value = { Meaning };
 

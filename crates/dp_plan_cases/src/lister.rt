@@ -51,7 +51,7 @@ const LISTINGS: &str = r"
 # Entries, then includes, each in the order of the file.
 [m]\ninclude => b\nexten => s,2,B\ninclude => a\nexten => s,1,A(x,y)\n→[m]\nexten => s,2,B()\nexten => s,1,A(x,y)\ninclude => b\ninclude => a\n
 [m]\ninclude =>\n→[m]\ninclude => \n
-# Priorities are numbers, labels stand behind them, and names have their one spelling.
+# Priorities are numbers, labels stand after them, and names have their one spelling.
 [m]\nexten => 1-00,1,A\nsame => n(x),B\n→[m]\nexten => 100,1,A()\nexten => 100,2(x),B()\n
 [m]\nexten => _[0-9]x[0-9].,1,A\nsame => n,B\nexten => 1-0,1,C\nsame => n,D\n→[m]\nexten => _XXX.,1,A()\nexten => _XXX.,2,B()\nexten => 10,1,C()\nexten => 10,2,D()\n
 [m]\nexten => _[2-9][5],1,A\nexten => _[.]x!,1,B\n→[m]\nexten => _N5,1,A()\nexten => _[.]X!,1,B()\n

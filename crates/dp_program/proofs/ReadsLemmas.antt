@@ -71,7 +71,7 @@ pub by_reason : {X : Type 0} (P : PbxFault → Result X PbxFault → Type 0)
 by_reason P coded lacks (Coded code line) text refused = subst (P (Coded code line)) (sym refused) (coded code line)
 by_reason P coded lacks NoMemory text refused = lacks text
 
--- what was refused is refused with what comes behind it
+-- what was refused is refused with what comes after it
 Refuses-next : {X Y : Type 0} (fault : PbxFault) (text : Result X PbxFault) (next : X → Result Y PbxFault) → Refuses (reason_of fault) text → Refuses (reason_of fault) (text >>= next)
 Refuses-next (Coded code line) text next refused = ap (λ read. read >>= next) refused
 Refuses-next NoMemory text next refused = tt
@@ -84,7 +84,7 @@ texts_refused_plan sources fault reads =
     (λ texts. Refuses (reason_of fault) texts) (λ p q r s refused x y z. Refuses-next fault p _ refused)
     reads (ReadsSome-any sources.queues _ (λ text. tt)) (ReadsSome-any sources.second_plan _ (λ text. tt)) (Reads-any sources.script _ (λ text. tt))
 
--- that of the queues behind it
+-- that of the queues after it
 pub texts_refused_queues : (sources : OfRun Source) (fault : PbxFault) (read : List ℕ)
     → Reads sources.plan (λ text. text ≡ Ok read) → ReadsSome sources.queues (λ text. Refuses (reason_of fault) text)
     → ReadsTexts sources (λ texts. Refuses (reason_of fault) texts)
@@ -94,7 +94,7 @@ texts_refused_queues sources fault read is reads =
     (λ p q r s p_is refused y z. subst (λ p. Refuses (reason_of fault) (all_texts p q r s)) (sym p_is) (Refuses-next fault q _ refused))
     is reads (ReadsSome-any sources.second_plan _ (λ text. tt)) (Reads-any sources.script _ (λ text. tt))
 
--- that of the second dialplan behind both
+-- that of the second dialplan after both
 pub texts_refused_second : (sources : OfRun Source) (fault : PbxFault) (read : List ℕ) (held : Option (List ℕ))
     → Reads sources.plan (λ text. text ≡ Ok read) → ReadsSome sources.queues (λ text. text ≡ Ok held) → ReadsSome sources.second_plan (λ text. Refuses (reason_of fault) text)
     → ReadsTexts sources (λ texts. Refuses (reason_of fault) texts)
@@ -105,7 +105,7 @@ texts_refused_second sources fault read held is are reads =
     (subst (λ q. Refuses (reason_of fault) (all_texts (Ok read) q r s)) (sym q_is) (Refuses-next fault r _ refused)))
     is are reads (Reads-any sources.script _ (λ text. tt))
 
--- and that of the script behind all three
+-- and that of the script after all three
 pub texts_refused_script : (sources : OfRun Source) (fault : PbxFault) (read : List ℕ) (held other : Option (List ℕ))
     → Reads sources.plan (λ text. text ≡ Ok read) → ReadsSome sources.queues (λ text. text ≡ Ok held) → ReadsSome sources.second_plan (λ text. text ≡ Ok other)
     → Reads sources.script (λ text. Refuses (reason_of fault) text)

@@ -10,14 +10,14 @@ use Rattle.dp_queue.specs.File.{loaded as queues_loaded}
 use Rattle.dp_queue.specs.declared.fault.QueueFault.{QueueFault}
 use Rattle.dp_queue.specs.declared.fault.QueueFault.TheVariants.{Conf as queue_conf, Queue, NoMemory as queue_no_memory}
 use Rattle.dp_machine.specs.World.{opening}
-use Rattle.dp_commands.specs.Run.{Files, Run, Told, Writes, files_of, plan_fault, queue_fault, queues_of, run_of, run_on, told_of}
+use Rattle.dp_commands.specs.Run.{Files, Run, RunTexts, Writes, files_of, plan_fault, queue_fault, queues_of, run_of, run_on, all_texts_of}
 use Rattle.dp_commands.specs.Script.{line_of, numbered, reading_of, script_of, turns_of, words_of}
 use Rattle.dp_commands.specs.declared.fault.PbxFault.{PbxFault}
 use Rattle.dp_commands.specs.declared.fault.PbxFault.TheVariants.{Coded, NoMemory}
 use Rattle.dp_commands.specs.declared.script.ScriptLine.{ScriptLine}
 use Rattle.dp_program.specs.Files.{has_read_failed, is_failed_read}
 
--- what comes behind what did not fail to be read
+-- what comes after what did not fail to be read
 next_reads : {X Y : Type 0} (read : Result X PbxFault) (next : X → Result Y PbxFault) → has_read_failed read ≡ false
     → ((x : X) → has_read_failed (next x) ≡ false) → has_read_failed (read >>= next) ≡ false
 next_reads (Ok x) next quiet all = all x
@@ -64,18 +64,18 @@ files_read plan queues =
     next_reads {Y = Files} (plan_fault (loaded plan)) (λ read. queues_of queues >>= λ held. Ok (record { plan = read.0; queues = held })) (plan_reads (loaded plan))
     (λ read. next_reads {Y = Files} (queues_of queues) (λ held. Ok (record { plan = read.0; queues = held })) (queues_read queues) (λ held. refl))
 
-told_reads : (plan : List ℕ) (queues second_plan : Option (List ℕ)) (script : List ℕ) → has_read_failed (told_of plan queues second_plan script) ≡ false
+told_reads : (plan : List ℕ) (queues second_plan : Option (List ℕ)) (script : List ℕ) → has_read_failed (all_texts_of plan queues second_plan script) ≡ false
 told_reads plan queues second_plan script =
-    next_reads {Y = Told} (files_of plan queues)
+    next_reads {Y = RunTexts} (files_of plan queues)
     (λ files. script_of second_plan script >>= λ lines. Ok (record { plan = files.plan; queues = files.queues; lines = lines })) (files_read plan queues)
-    (λ files. next_reads {Y = Told} (script_of second_plan script) (λ lines. Ok (record { plan = files.plan; queues = files.queues; lines = lines }))
+    (λ files. next_reads {Y = RunTexts} (script_of second_plan script) (λ lines. Ok (record { plan = files.plan; queues = files.queues; lines = lines }))
     (script_reads second_plan script) (λ lines. refl))
 
 -- a run is none whose files were not read
 pub run_of_reads : (plan : List ℕ) (queues second_plan : Option (List ℕ)) (script : List ℕ) → has_read_failed (run_of plan queues second_plan script) ≡ false
 unfolding run_of
 run_of_reads plan queues second_plan script =
-    next_reads (told_of plan queues second_plan script) (λ told. Ok (run_on (opening told.plan told.queues) (turns_of told.lines)))
+    next_reads (all_texts_of plan queues second_plan script) (λ told. Ok (run_on (opening told.plan told.queues) (turns_of told.lines)))
     (told_reads plan queues second_plan script) (λ told. refl)
 
 -- nor does it answer so

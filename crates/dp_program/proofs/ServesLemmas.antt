@@ -11,7 +11,7 @@ use Rattle.dp_commands.specs.declared.fault.PbxFault.{PbxFault}
 use Rattle.dp_commands.specs.declared.fault.PbxFault.TheVariants.{NoMemory}
 use Rattle.dp_program.specs.Faulted.{StandsIn, line_in_file, line_in_files, line_of_report, line_of_run, nowhere, unplaced}
 use Rattle.dp_program.specs.Files.{Source, Reads}
-use Rattle.dp_program.specs.Requests.{Asked, joined, check, listing, auditing, matching, explaining, run, debug}
+use Rattle.dp_program.specs.Requests.{RequestOf, joined, check, listing, auditing, matching, explaining, run, debug}
 use Rattle.dp_program.specs.Serves.{AuditsFile, DebugsFiles, ReportsOn, Runs, RunsFiles, Serves, SharesSome, debug_of_texts, run_of_texts}
 use Rattle.dp_program.specs.Texts.{OfRun, ReadsTexts, sources_of}
 use Rattle.dp_program.specs.declared.faulted.Faulted.{Faulted}
@@ -160,7 +160,7 @@ debug_run_read paths sources held old new read result answered reads same debugs
     (subst (λ result. WritesDebug old new (debug_of_texts held read) result) (sym same) debugs, stands)) reads
 
 -- a request may find no memory before it does anything
-pub Serves-lacks : (files : List ℕ → Source) (input : Source) (want : Asked) (explains : Bool) (old : Option (List ℕ)) → Serves files input want explains old old (Err (nowhere NoMemory))
+pub Serves-lacks : (files : List ℕ → Source) (input : Source) (want : RequestOf) (explains : Bool) (old : Option (List ℕ)) → Serves files input want explains old old (Err (nowhere NoMemory))
 Serves-lacks files input joined explains old = (Reads-any input _ (λ text. writes_lacks old _), refl)
 Serves-lacks files input (check file) explains old = Reads-any (files file) _ (λ text. (reports_lacks old _, lacks_report_line file text))
 Serves-lacks files input (listing file) explains old = Reads-any (files file) _ (λ text. (reports_lacks old _, lacks_report_line file text))

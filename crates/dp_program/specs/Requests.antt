@@ -16,18 +16,18 @@ abbrev pub lookup_of : Lookup → LookupOf
 lookup_of lookup = record { file = lookup.file.now; context = lookup.context.now; text = lookup.text.now; priority = lookup.priority }
 
 -- what the program is asked for, with its texts
-pub data Asked : Type 0 where
-  joined : Asked
-  check : List ℕ → Asked
-  listing : List ℕ → Asked
-  auditing : List ℕ → Asked
-  matching : LookupOf → Bool → Asked
-  explaining : ℕ → Asked
-  run : OfRun (List ℕ) → Option ℕ → Asked
-  debug : OfRun (List ℕ) → List ℕ → Asked
+pub data RequestOf : Type 0 where
+  joined : RequestOf
+  check : List ℕ → RequestOf
+  listing : List ℕ → RequestOf
+  auditing : List ℕ → RequestOf
+  matching : LookupOf → Bool → RequestOf
+  explaining : ℕ → RequestOf
+  run : OfRun (List ℕ) → Option ℕ → RequestOf
+  debug : OfRun (List ℕ) → List ℕ → RequestOf
 
 -- what a request asks for
-abbrev pub asked : Request → Asked
+abbrev pub asked : Request → RequestOf
 asked Joined = joined
 asked (Check file) = check file.now
 asked (Listing file) = listing file.now

@@ -13,7 +13,7 @@ use Rattle.dp_commands.specs.declared.fault.PbxFault.{PbxFault}
 use Rattle.dp_program.specs.Entries.{entry_of}
 use Rattle.dp_program.specs.Faulted.{StandsIn, line_of_report, line_of_run, unplaced}
 use Rattle.dp_program.specs.Files.{Source, Reads, has_read_failed}
-use Rattle.dp_program.specs.Requests.{Asked, LookupOf, joined, check, listing, auditing, matching, explaining, run, debug}
+use Rattle.dp_program.specs.Requests.{RequestOf, LookupOf, joined, check, listing, auditing, matching, explaining, run, debug}
 use Rattle.dp_program.specs.Texts.{OfRun, ReadsTexts, sources_of}
 use Rattle.dp_program.specs.declared.faulted.Faulted.{Faulted}
 
@@ -78,7 +78,7 @@ DebugsFiles paths sources held old new answered =
     ReadsTexts sources (λ texts. WritesDebug old new (texts >>= debug_of_texts held) (unplaced answered) × StandsIn (line_of_run paths texts) answered)
 
 -- what a request writes and answers, by the files of its paths and the input, and by whether it explains what it prints
-abbrev pub Serves : (List ℕ → Source) → Source → Asked → Bool → Option (List ℕ) → Option (List ℕ) → Result ℕ Faulted → Type 0
+abbrev pub Serves : (List ℕ → Source) → Source → RequestOf → Bool → Option (List ℕ) → Option (List ℕ) → Result ℕ Faulted → Type 0
 Serves files input joined explains old new answered = RunsJoined input old new answered
 Serves files input (check file) explains old new answered = ReportsOn file (files file) (check_by explains file) old new answered
 Serves files input (listing file) explains old new answered = ReportsOn file (files file) list_of old new answered
@@ -90,7 +90,7 @@ Serves files input (run paths threads) explains old new answered = RunsFiles pat
 Serves files input (debug paths held) explains old new answered = DebugsFiles paths (sources_of files paths) held old new answered
 
 -- whether a read of the input failed, by what was answered: only a request without a command reads it
-abbrev pub fails_on_input : Asked → Result ℕ PbxFault → Bool
+abbrev pub fails_on_input : RequestOf → Result ℕ PbxFault → Bool
 fails_on_input joined result = has_read_failed result
 fails_on_input (check file) result = false
 fails_on_input (listing file) result = false

@@ -28,7 +28,7 @@ example: `a = 1` at the top
         3,
         "\
 3 BadHeader
-a header with no `]`, with an empty name, or with text behind the `]`
+a header with no `]`, with an empty name, or with text after the `]`
 example: `[main`
 ",
     ),
@@ -52,7 +52,7 @@ example: `#include \"x\"`
         6,
         "\
 6 Template
-a `(` behind a header
+a `(` after a header
 example: `[main](!)`
 ",
     ),
@@ -84,7 +84,7 @@ example: a closed pipe
         10,
         "\
 10 EmptyName
-a name of nothing or of dashes alone, or a pattern of nothing behind its `_`
+a name of nothing or of dashes alone, or a pattern of nothing after its `_`
 example: `exten => _,1,NoOp()`
 ",
     ),
@@ -108,7 +108,7 @@ example: `exten => _[9-0],1,NoOp()`
         13,
         "\
 13 OpenSet
-a `[` in a pattern and no `]` behind it
+a `[` in a pattern and no `]` after it
 example: `exten => _[12,1,NoOp()`
 ",
     ),
@@ -116,7 +116,7 @@ example: `exten => _[12,1,NoOp()`
         14,
         "\
 14 AfterWildcard
-anything but dashes behind a `.` or a `!` of a pattern
+anything but dashes after a `.` or a `!` of a pattern
 example: `exten => _1.2,1,NoOp()`
 ",
     ),
@@ -148,7 +148,7 @@ example: `exten => s,n,NoOp()` as the first line
         22,
         "\
 22 BadLabel
-a label that is empty, of digits alone or has a parenthesis in it, or a `(` behind a priority and no `)` at the end
+a label that is empty, of digits alone or has a parenthesis in it, or a `(` after a priority and no `)` at the end
 example: `exten => s,1(),NoOp()`
 ",
     ),
@@ -300,7 +300,8 @@ example: `--break main,s`, `--break main,s,0`, `--break main,s,+1`
 
 /// The entry of a number, where one of them has it.
 fn entry_in<'a>(entries: &[(u32, &'a str)], number: u32) -> Option<&'a str>
-    ensures { option_map (λ entry. entry.now) result ≡ spec.entry_in (map (λ entry. (entry.0, entry.1.now)) entries.now) number }
+    ensures { option_map (λ entry. entry.now) result
+        ≡ spec.entry_in (map (λ entry. (entry.0, entry.1.now)) entries.now) number }
 {
     for (of, entry) in entries {
         if *of == number {

@@ -1,4 +1,4 @@
-//! What is printed of a fault, and the status behind it.
+//! What is printed of a fault, and the status after it.
 ghost use Rattle.std.specs.Prelude.{◌≡◌, ◌||◌, ◌++◌, OnOk, decimal, codes, false, true};
 ghost use Rattle.std.specs.Option.{option_copied};
 ghost use Rattle.std.specs.Result.{is_err};
@@ -36,7 +36,8 @@ fn print_code<E: WriteTold>(errors: &mut E, code: Code) -> Result<(), WriteFaile
 
 /// Prints a code with its line.
 fn print_code_at<E: WriteTold>(errors: &mut E, code: Code, line: usize) -> Result<(), WriteFailed>
-    ensures ok { OnOk result (Appends (E.contents errors.old) (E.contents errors.new) (code_text code ++ codes " line " ++ decimal line)) }
+    ensures ok { OnOk result (Appends (E.contents errors.old) (E.contents errors.new)
+        (code_text code ++ codes " line " ++ decimal line)) }
     ensures told { E.has_failed errors.new ≡ (E.has_failed errors.old || is_err result) }
 {
     print_code(errors, code)?;
@@ -98,7 +99,8 @@ fn print_line<E: WriteTold>(errors: &mut E, line: &FileLine<'_>) -> Result<(), W
 
 /// Prints the line where a fault stands, if it stands in one.
 fn print_place<E: WriteTold>(errors: &mut E, line: Option<&FileLine<'_>>) -> Result<(), WriteFailed>
-    ensures ok { OnOk result (Appends (E.contents errors.old) (E.contents errors.new) (spec.place_text (option_copied line.entry))) }
+    ensures ok { OnOk result (Appends (E.contents errors.old) (E.contents errors.new)
+        (spec.place_text (option_copied line.entry))) }
     ensures told { E.has_failed errors.new ≡ (E.has_failed errors.old || is_err result) }
 {
     match line {
@@ -109,7 +111,8 @@ fn print_place<E: WriteTold>(errors: &mut E, line: Option<&FileLine<'_>>) -> Res
 
 /// Prints the manual's sentence on a fault.
 fn print_sentence<E: WriteTold>(errors: &mut E, code: Code) -> Result<(), WriteFailed>
-    ensures ok { OnOk result (Appends (E.contents errors.old) (E.contents errors.new) (sentence_text (sentence_of (code_number code)))) }
+    ensures ok { OnOk result (Appends (E.contents errors.old) (E.contents errors.new)
+        (sentence_text (sentence_of (code_number code)))) }
     ensures told { E.has_failed errors.new ≡ (E.has_failed errors.old || is_err result) }
 {
     errors.write_told(b"  ")?;
@@ -138,7 +141,8 @@ fn print_faulted<E: WriteTold>(
     explains: bool,
     faulted: &Faulted<'_>,
 ) -> Result<(), WriteFailed>
-    ensures ok { OnOk result (Appends (E.contents errors.old) (E.contents errors.new) (spec.fault_text explains faulted.now)) }
+    ensures ok { OnOk result (Appends (E.contents errors.old) (E.contents errors.new)
+        (spec.fault_text explains faulted.now)) }
     ensures told { E.has_failed errors.new ≡ (E.has_failed errors.old || is_err result) }
 {
     if !explains {
@@ -151,7 +155,8 @@ fn print_faulted<E: WriteTold>(
 /// The status of what was answered, where a fault is printed, with its explanation where that is asked for. No memory is asked for.
 pub fn finish<E: WriteTold>(errors: &mut E, explains: bool, answered: Result<u8, Faulted<'_>>) -> u8
     ensures status { result ≡ spec.status_after answered.entry }
-    ensures prints { E.has_failed errors.new ≡ false → spec.Prints (E.contents errors.old) (E.contents errors.new) explains answered.entry }
+    ensures prints { E.has_failed errors.new ≡ false
+        → spec.Prints (E.contents errors.old) (E.contents errors.new) explains answered.entry }
 {
     match answered {
         Ok(status) => status,

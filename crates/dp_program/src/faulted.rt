@@ -67,7 +67,8 @@ fn line_in_named<'a>(
     text: Option<&[u8]>,
     fault: PbxFault,
 ) -> Option<FileLine<'a>>
-    ensures { result ≡ spec.line_in (spec.named_file (option_map (λ path. path.now) path.entry) (option_map (λ text. text.now) text.entry)) fault }
+    ensures { result ≡ spec.line_in (spec.named_file (option_map (λ path. path.now) path.entry)
+        (option_map (λ text. text.now) text.entry)) fault }
 {
     match (path, text) {
         (Some(path), Some(text)) => line_in_file(path, text, fault),

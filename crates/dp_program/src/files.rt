@@ -18,7 +18,8 @@ pub trait ReadFiles {
 
     /// All bytes of a file.
     fn read_file(&self, alloc: Global, path: &str) -> Result<Vec<u8>, PbxFault>
-        ensures read { Reads (source_at self.now path.now) (λ text. Answers (λ read. read.items) reason_of result text) }
+        ensures read { Reads (source_at self.now path.now)
+            (λ text. Answers (λ read. read.items) reason_of result text) }
         ensures fault { IfErr result (λ fault. is_read_fault fault ≡ true) };
 }
 

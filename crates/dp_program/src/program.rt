@@ -31,10 +31,12 @@ pub fn serve<'a, F: ReadFiles, I: ReadTold, W: WriteTold, R: Threads + Wait + Sy
     input: &mut I,
     output: &mut W,
 ) -> Result<u8, Faulted<'a>>
-    ensures serves { spec.Serves (F.source_at files.now) (source (I.remaining input.old) (I.has_failed input.new)) (asked request.now) explains
+    ensures serves { spec.Serves (F.source_at files.now) (source (I.remaining input.old) (I.has_failed input.new))
+        (asked request.now) explains
         (W.contents output.old) (W.contents output.new) result }
     ensures told { W.has_failed output.new ≡ (W.has_failed output.old || is_write_failed (unplaced result)) }
-    ensures heard { I.has_failed input.new ≡ (I.has_failed input.old || spec.fails_on_input (asked request.now) (unplaced result)) }
+    ensures heard { I.has_failed input.new ≡ (I.has_failed input.old || spec.fails_on_input (asked request.now)
+        (unplaced result)) }
     ensures unread { asked request.now ≢ joined → input.new ≡ input.old }
 {
     match request {

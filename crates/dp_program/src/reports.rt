@@ -23,7 +23,8 @@ fn check_by<W: WriteTold>(
     explains: bool,
     output: &mut W,
 ) -> Result<u8, PbxFault>
-    ensures reports { Reports (W.contents output.old) (W.contents output.new) (spec.check_by explains path.now plan.now) result }
+    ensures reports { Reports (W.contents output.old) (W.contents output.new)
+        (spec.check_by explains path.now plan.now) result }
     ensures told { W.has_failed output.new ≡ (W.has_failed output.old || is_write_failed result) }
 {
     if explains {
@@ -56,7 +57,8 @@ pub(crate) fn serve_audit<'a, F: ReadFiles, W: WriteTold>(
     file: &'a str,
     output: &mut W,
 ) -> Result<u8, Faulted<'a>>
-    ensures serves { spec.AuditsFile file.now (F.source_at files.now file.now) (W.contents output.old) (W.contents output.new) result }
+    ensures serves { spec.AuditsFile file.now (F.source_at files.now file.now) (W.contents output.old)
+        (W.contents output.new) result }
     ensures told { W.has_failed output.new ≡ (W.has_failed output.old || is_write_failed (unplaced result)) }
 {
     let plan = files.read_file(alloc, file)?;
@@ -70,7 +72,8 @@ pub(crate) fn serve_list<'a, F: ReadFiles, W: WriteTold>(
     file: &'a str,
     output: &mut W,
 ) -> Result<u8, Faulted<'a>>
-    ensures serves { spec.ReportsOn file.now (F.source_at files.now file.now) list_of (W.contents output.old) (W.contents output.new) result }
+    ensures serves { spec.ReportsOn file.now (F.source_at files.now file.now) list_of (W.contents output.old)
+        (W.contents output.new) result }
     ensures told { W.has_failed output.new ≡ (W.has_failed output.old || is_write_failed (unplaced result)) }
 {
     let plan = files.read_file(alloc, file)?;
@@ -84,7 +87,8 @@ fn find_one<W: WriteTold>(
     lookup: &Lookup<'_>,
     output: &mut W,
 ) -> Result<u8, PbxFault>
-    ensures reports { Reports (W.contents output.old) (W.contents output.new) (spec.look_up (lookup_of lookup.now) false plan.now) result }
+    ensures reports { Reports (W.contents output.old) (W.contents output.new)
+        (spec.look_up (lookup_of lookup.now) false plan.now) result }
     ensures told { W.has_failed output.new ≡ (W.has_failed output.old || is_write_failed result) }
 {
     match_one(
@@ -104,7 +108,8 @@ pub(crate) fn serve_match<'a, F: ReadFiles, W: WriteTold>(
     lookup: &Lookup<'a>,
     output: &mut W,
 ) -> Result<u8, Faulted<'a>>
-    ensures serves { spec.ReportsOn lookup.now.file.now (F.source_at files.now lookup.now.file.now) (spec.look_up (lookup_of lookup.now) false)
+    ensures serves { spec.ReportsOn lookup.now.file.now (F.source_at files.now lookup.now.file.now)
+        (spec.look_up (lookup_of lookup.now) false)
         (W.contents output.old) (W.contents output.new) result }
     ensures told { W.has_failed output.new ≡ (W.has_failed output.old || is_write_failed (unplaced result)) }
 {
@@ -119,7 +124,8 @@ fn find_all<W: WriteTold>(
     lookup: &Lookup<'_>,
     output: &mut W,
 ) -> Result<u8, PbxFault>
-    ensures reports { Reports (W.contents output.old) (W.contents output.new) (spec.look_up (lookup_of lookup.now) true plan.now) result }
+    ensures reports { Reports (W.contents output.old) (W.contents output.new)
+        (spec.look_up (lookup_of lookup.now) true plan.now) result }
     ensures told { W.has_failed output.new ≡ (W.has_failed output.old || is_write_failed result) }
 {
     match_all(
@@ -139,7 +145,8 @@ pub(crate) fn serve_match_all<'a, F: ReadFiles, W: WriteTold>(
     lookup: &Lookup<'a>,
     output: &mut W,
 ) -> Result<u8, Faulted<'a>>
-    ensures serves { spec.ReportsOn lookup.now.file.now (F.source_at files.now lookup.now.file.now) (spec.look_up (lookup_of lookup.now) true)
+    ensures serves { spec.ReportsOn lookup.now.file.now (F.source_at files.now lookup.now.file.now)
+        (spec.look_up (lookup_of lookup.now) true)
         (W.contents output.old) (W.contents output.new) result }
     ensures told { W.has_failed output.new ≡ (W.has_failed output.old || is_write_failed (unplaced result)) }
 {

@@ -36,7 +36,8 @@ fn run_input<I: ReadTold, W: WriteTold>(
     input: &mut I,
     output: &mut W,
 ) -> Result<u8, PbxFault>
-    ensures runs { spec.RunsInput (source (I.remaining input.old) (I.has_failed input.new)) (W.contents output.old) (W.contents output.new) result }
+    ensures runs { spec.RunsInput (source (I.remaining input.old) (I.has_failed input.new)) (W.contents output.old)
+        (W.contents output.new) result }
     ensures told { W.has_failed output.new ≡ (W.has_failed output.old || is_write_failed result) }
     ensures heard { I.has_failed input.new ≡ (I.has_failed input.old || has_read_failed result) }
 {
@@ -50,7 +51,8 @@ pub(crate) fn serve_joined<'a, I: ReadTold, W: WriteTold>(
     input: &mut I,
     output: &mut W,
 ) -> Result<u8, Faulted<'a>>
-    ensures serves { spec.RunsJoined (source (I.remaining input.old) (I.has_failed input.new)) (W.contents output.old) (W.contents output.new) result }
+    ensures serves { spec.RunsJoined (source (I.remaining input.old) (I.has_failed input.new))
+        (W.contents output.old) (W.contents output.new) result }
     ensures told { W.has_failed output.new ≡ (W.has_failed output.old || is_write_failed (unplaced result)) }
     ensures heard { I.has_failed input.new ≡ (I.has_failed input.old || has_read_failed (unplaced result)) }
 {
@@ -77,7 +79,8 @@ fn run_in_threads<W: WriteTold, R: Threads + Wait + Sync>(
     output: &mut W,
 ) -> Result<u8, PbxFault>
     ensures shares { spec.SharesSome (max 1 threads) (W.contents output.old) (W.contents output.new)
-        (run_of plan.now (option_map (λ text. text.now) queues.entry) (option_map (λ text. text.now) second_plan.entry) script.now) result }
+        (run_of plan.now (option_map (λ text. text.now) queues.entry)
+        (option_map (λ text. text.now) second_plan.entry) script.now) result }
     ensures told { W.has_failed output.new ≡ (W.has_failed output.old || is_write_failed result) }
 {
     let ran = run_threads(
@@ -96,7 +99,8 @@ fn run_in_threads<W: WriteTold, R: Threads + Wait + Sync>(
 
 /// Runs the script of a run on its dialplan, one turn after another.
 fn run_in_order<W: WriteTold>(alloc: Global, texts: &Texts, output: &mut W) -> Result<u8, PbxFault>
-    ensures writes { Writes (W.contents output.old) (W.contents output.new) (spec.run_of_texts (texts_of texts.now)) result }
+    ensures writes { Writes (W.contents output.old) (W.contents output.new)
+        (spec.run_of_texts (texts_of texts.now)) result }
     ensures told { W.has_failed output.new ≡ (W.has_failed output.old || is_write_failed result) }
 {
     run_script(
@@ -117,7 +121,8 @@ fn run_texts<W: WriteTold, R: Threads + Wait + Sync>(
     threads: Option<u32>,
     output: &mut W,
 ) -> Result<u8, PbxFault>
-    ensures runs { spec.Runs threads (W.contents output.old) (W.contents output.new) (spec.run_of_texts (texts_of texts.now)) result }
+    ensures runs { spec.Runs threads (W.contents output.old) (W.contents output.new)
+        (spec.run_of_texts (texts_of texts.now)) result }
     ensures told { W.has_failed output.new ≡ (W.has_failed output.old || is_write_failed result) }
 {
     match threads {
@@ -145,7 +150,9 @@ pub(crate) fn serve_run<'a, F: ReadFiles, W: WriteTold, R: Threads + Wait + Sync
     threads: Option<u32>,
     output: &mut W,
 ) -> Result<u8, Faulted<'a>>
-    ensures serves { spec.RunsFiles (paths_of run.now) (sources_of (F.source_at files.now) (paths_of run.now)) threads (W.contents output.old) (W.contents output.new) result }
+    ensures serves { spec.RunsFiles (paths_of run.now)
+        (sources_of (F.source_at files.now) (paths_of run.now)) threads (W.contents output.old)
+        (W.contents output.new) result }
     ensures told { W.has_failed output.new ≡ (W.has_failed output.old || is_write_failed (unplaced result)) }
 {
     let texts = read_texts(files, alloc, run)?;
@@ -160,7 +167,8 @@ fn debug_texts<W: WriteTold>(
     held: &str,
     output: &mut W,
 ) -> Result<u8, PbxFault>
-    ensures debugs { WritesDebug (W.contents output.old) (W.contents output.new) (spec.debug_of_texts held.now (texts_of texts.now)) result }
+    ensures debugs { WritesDebug (W.contents output.old) (W.contents output.new)
+        (spec.debug_of_texts held.now (texts_of texts.now)) result }
     ensures told { W.has_failed output.new ≡ (W.has_failed output.old || is_write_failed result) }
 {
     debug_script(
@@ -183,7 +191,9 @@ pub(crate) fn serve_debug<'a, F: ReadFiles, W: WriteTold>(
     held: &str,
     output: &mut W,
 ) -> Result<u8, Faulted<'a>>
-    ensures serves { spec.DebugsFiles (paths_of run.now) (sources_of (F.source_at files.now) (paths_of run.now)) held.now (W.contents output.old) (W.contents output.new) result }
+    ensures serves { spec.DebugsFiles (paths_of run.now)
+        (sources_of (F.source_at files.now) (paths_of run.now)) held.now (W.contents output.old)
+        (W.contents output.new) result }
     ensures told { W.has_failed output.new ≡ (W.has_failed output.old || is_write_failed (unplaced result)) }
 {
     let texts = read_texts(files, alloc, run)?;

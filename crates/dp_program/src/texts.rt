@@ -44,7 +44,8 @@ pub(crate) fn read_texts<F: ReadFiles>(
     alloc: Global,
     run: &RunFiles<'_>,
 ) -> Result<Texts, PbxFault>
-    ensures read { spec.ReadsTexts (spec.sources_of (F.source_at files.now) (spec.paths_of run.now)) (λ texts. Answers spec.texts_of reason_of result texts) }
+    ensures read { spec.ReadsTexts (spec.sources_of (F.source_at files.now) (spec.paths_of run.now))
+        (λ texts. Answers spec.texts_of reason_of result texts) }
     ensures fault { IfErr result (λ fault. is_read_fault fault ≡ true) }
 {
     let plan = files.read_file(alloc, run.plan)?;

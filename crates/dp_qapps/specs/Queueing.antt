@@ -22,7 +22,7 @@ queued is_closing cell queues number goes_on has_timer =
     if is_closing then record { cell = cell; next = Hang }
     else record { cell = record cell { queues = queues }; next = Park (Queued number goes_on has_timer) }
 
--- what comes of a call that asks to join, by what it is told and by the queues behind that
+-- what comes of a call that asks to join, by what it is told and by the queues after that
 abbrev pub asked : Cell → Bool → Bool → QueuesOf → Join → Outcome
 asked cell goes_on has_timer queues Unknown = refused cell (codes "UNKNOWN")
 asked cell goes_on has_timer queues Empty = refused cell (codes "JOINEMPTY")

@@ -30,7 +30,8 @@ fn add(
     penalty: u32,
     cell: &mut Cell,
 ) -> Result<Move, NoMemory>
-    ensures ok { IfOk result (λ going. spec.reported_added cell.old (add_row cell.old.queues queue.now interface.now penalty)
+    ensures ok { IfOk result (λ going. spec.reported_added cell.old
+        (add_row cell.old.queues queue.now interface.now penalty)
         ≡ record { cell = cell.new; next = going }) }
     ensures err { OnErr result (cell.new ≡ cell.old) }
 {
@@ -71,7 +72,8 @@ fn removed_status(removed: Removed) -> &'static [u8]
 
 /// Removes a member and reports it. After a refused growth the cell is as before.
 fn remove(alloc: Global, queue: &[u8], interface: &[u8], cell: &mut Cell) -> Result<Move, NoMemory>
-    ensures ok { IfOk result (λ going. spec.reported_removed cell.old (remove_row cell.old.queues queue.now interface.now)
+    ensures ok { IfOk result (λ going. spec.reported_removed cell.old
+        (remove_row cell.old.queues queue.now interface.now)
         ≡ record { cell = cell.new; next = going }) }
     ensures err { OnErr result (cell.new ≡ cell.old) }
 {
@@ -99,7 +101,7 @@ pub struct AddQueueMember;
 
 impl Application for AddQueueMember {
     ghost use Rattle.std.specs.Prelude.{codes};
-    ghost use Rattle.dp_qapps.specs.Lawful.{add_member_lawful};
+    ghost use Rattle.dp_qapps.specs.laws.Lawful.{add_member_lawful};
     ghost use Rattle.dp_qapps.specs.Membership.{add_member_row};
     ghost use Rattle.dp_qapps.specs.Touches.{variables_and_members};
 
@@ -135,7 +137,7 @@ pub struct RemoveQueueMember;
 
 impl Application for RemoveQueueMember {
     ghost use Rattle.std.specs.Prelude.{codes};
-    ghost use Rattle.dp_qapps.specs.Lawful.{remove_member_lawful};
+    ghost use Rattle.dp_qapps.specs.laws.Lawful.{remove_member_lawful};
     ghost use Rattle.dp_qapps.specs.Membership.{remove_member_row};
     ghost use Rattle.dp_qapps.specs.Touches.{variables_and_members};
 

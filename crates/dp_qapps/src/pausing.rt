@@ -21,7 +21,8 @@ fn queue_asked(text: &[u8]) -> Option<&[u8]>
 
 /// Whether there is such a member; none is of the empty interface.
 fn is_there(queues: &Queues, queue: Option<&[u8]>, interface: &[u8]) -> bool
-    ensures { (is_paused : Bool) → result ≡ (spec.paused queues.now (option_copied queue.entry) interface.now is_paused).1 }
+    ensures { (is_paused : Bool) → result ≡ (spec.paused queues.now
+        (option_copied queue.entry) interface.now is_paused).1 }
 {
     if interface.is_empty() {
         return false;
@@ -95,7 +96,8 @@ fn pause_by_text(
     is_paused: bool,
     cell: &mut Cell,
 ) -> Result<Move, NoMemory>
-    ensures ok { IfOk result (λ going. spec.pausing_row is_paused arguments.now cell.old ≡ record { cell = cell.new; next = going }) }
+    ensures ok { IfOk result (λ going. spec.pausing_row is_paused arguments.now cell.old
+        ≡ record { cell = cell.new; next = going }) }
     ensures err { OnErr result (cell.new ≡ cell.old) }
 {
     let parts = split_args(alloc, arguments)?;
@@ -111,7 +113,7 @@ pub struct PauseQueueMember;
 
 impl Application for PauseQueueMember {
     ghost use Rattle.std.specs.Prelude.{codes};
-    ghost use Rattle.dp_qapps.specs.Lawful.{pause_member_lawful};
+    ghost use Rattle.dp_qapps.specs.laws.Lawful.{pause_member_lawful};
     ghost use Rattle.dp_qapps.specs.Pausing.{pause_member_row};
     ghost use Rattle.dp_qapps.specs.Touches.{variables_and_members};
 
@@ -145,7 +147,7 @@ pub struct UnpauseQueueMember;
 
 impl Application for UnpauseQueueMember {
     ghost use Rattle.std.specs.Prelude.{codes};
-    ghost use Rattle.dp_qapps.specs.Lawful.{unpause_member_lawful};
+    ghost use Rattle.dp_qapps.specs.laws.Lawful.{unpause_member_lawful};
     ghost use Rattle.dp_qapps.specs.Pausing.{unpause_member_row};
     ghost use Rattle.dp_qapps.specs.Touches.{variables_and_members};
 

@@ -1,6 +1,6 @@
 //! The application that lets a call wait for an agent, after the Asterisk documentation's page on `Queue`.
 ghost use Rattle.std.specs.Prelude.{◌≡◌, IfOk, None, OnErr, false, map};
-ghost use Rattle.dp_app.specs.Laws.{MayRun};
+ghost use Rattle.dp_app.specs.Lawful.{MayRun};
 ghost use Rattle.dp_queue.specs.Agents.{is_talking};
 ghost use Rattle.dp_queue.specs.Joining.{join_row, waits_in};
 ghost use Rattle.dp_qapps.specs.Queueing as spec;
@@ -92,7 +92,7 @@ pub struct Queue;
 
 impl Application for Queue {
     ghost use Rattle.std.specs.Prelude.{codes};
-    ghost use Rattle.dp_qapps.specs.Lawful.{queue_lawful};
+    ghost use Rattle.dp_qapps.specs.laws.Lawful.{queue_lawful};
     ghost use Rattle.dp_qapps.specs.Queueing.{queue_row};
     ghost use Rattle.dp_qapps.specs.Touches.{variables_and_waiting};
 

@@ -1,8 +1,8 @@
--- The agents behind a change of states.
+-- The agents after a change of states.
 use Rattle.std.proofs.Common.{◌≡◌, ℕ, zero, suc, ◌+◌, ◌<◌, ◌==◌, Bool, true, false, not, ◌||◌, if◌then◌else◌, List, [], ◌∷◌, Option, refl, sym, length, ap, ◌∙◌, arith}
 use Rattle.std.specs.Option.{option_map, unwrap_or}
 use Rattle.dp_queue.specs.Agents.{state_at, rings_for, is_idle, is_rung, with_state, with_state_at, freed, freed_state, all_freed}
-use Rattle.dp_queue.specs.Seats.{rung_count}
+use Rattle.dp_queue.specs.steps.Seats.{rung_count}
 use Rattle.dp_queue.specs.declared.agent.Agent.{Agent}
 use Rattle.dp_queue.specs.declared.agent.AgentState.{AgentState}
 use Rattle.dp_queue.specs.declared.agent.AgentState.TheVariants.{Idle, Talking}
@@ -19,7 +19,7 @@ pub state_at-other : (n : ℕ) (s : AgentState) (agents : List Agent) (k : ℕ) 
     → state_at (with_state_at n s agents) k ≡ state_at agents k
 state_at-other n s agents k other = ap (λ (o : Option Agent). unwrap_or (option_map (λ agent. agent.state) o) Idle) (slice_get-changed_other (with_state s) n k agents other)
 
--- each agent's state behind the end of a channel's waiting
+-- each agent's state after the end of a channel's waiting
 pub state_at-freed : (c : ℕ) (agents : List Agent) (k : ℕ) → state_at (all_freed c agents) k ≡ freed_state c (state_at agents k)
 state_at-freed c [] k = refl
 state_at-freed c (a ∷ as') zero = refl

@@ -5,24 +5,17 @@ use Rattle.std.specs.List.{All, position_or_len, position, remove}
 use Rattle.std.proofs.lemmas.Option.{cond_some, same_Some}
 use borrow.Author.Tests.{ltb-true, ltb-false}
 use Rattle.std.specs.Option.{option_map}
-use Rattle.dp_queue.specs.Changes.{changed_at, without}
+use Rattle.dp_conf.specs.Changes.{changed_at}
+use Rattle.dp_queue.specs.Changes.{without}
 
 module _ {X : Type 0} where
-  -- a write at a place changes the element there
-  pub changed_at-set : (change : X → X) (place : ℕ) (xs : List X) (x y : X) → place < length xs → x ≡ get_or xs place x → y ≡ change x
-      → set xs place y ≡ changed_at change place xs
-  changed_at-set change place [] x y within here new = absurd (omega (arith, within))
-  changed_at-set change zero (z ∷ xs) x y within here new = ap (λ (t : _). t ∷ xs) (new ∙ ap change here)
-  changed_at-set change (suc place) (z ∷ xs) x y within here new =
-      ap (λ (t : List _). z ∷ t) (changed_at-set change place xs x y (omega (arith, within)) here new)
-
   -- a change keeps the length
   pub length-changed_at : (change : X → X) (place : ℕ) (xs : List X) → length (changed_at change place xs) ≡ length xs
   length-changed_at change place [] = refl
   length-changed_at change zero (x ∷ xs) = refl
   length-changed_at change (suc place) (x ∷ xs) = ap suc (length-changed_at change place xs)
 
-  -- what stands at the place behind a change
+  -- what stands at the place after a change
   pub slice_get-changed_same : (change : X → X) (place : ℕ) (xs : List X)
       → slice_get (changed_at change place xs) place ≡ option_map change (slice_get xs place)
   slice_get-changed_same change place [] = refl
@@ -46,7 +39,7 @@ module _ {X : Type 0} where
       let is : y ≡ x = same_Some y x here in ap (λ (t : X). t ∷ xs) (ap f is ∙ same ∙ sym (ap g is))
   changed_at-same f g (suc place) (y ∷ xs) x here same = ap (λ (t : List X). y ∷ t) (changed_at-same f g place xs x here same)
 
-  -- what holds of each element holds of each behind a change of one that keeps it
+  -- what holds of each element holds of each after a change of one that keeps it
   pub all-changed_at : (P : X → Type 0) (change : X → X) (place : ℕ) (xs : List X)
       → ((x : X) → slice_get xs place ≡ Some x → P x → P (change x)) → All P xs → All P (changed_at change place xs)
   all-changed_at P change place [] keeps each = each
@@ -60,12 +53,6 @@ module _ {X : Type 0} where
   all-at P [] place x here each = absurd (cc)
   all-at P (y ∷ ys) zero x here each = subst P (same_Some y x here) (All-head P y ys each)
   all-at P (y ∷ ys) (suc place) x here each = all-at P ys place x here (All-tail P y ys each)
-
-  -- a change past the end changes nothing
-  pub changed_at-past : (change : X → X) (place : ℕ) (xs : List X) → length xs ≤ place → changed_at change place xs ≡ xs
-  changed_at-past change place [] past = refl
-  changed_at-past change zero (x ∷ xs) past = absurd (omega (arith, past))
-  changed_at-past change (suc place) (x ∷ xs) past = ap (λ (t : List _). x ∷ t) (changed_at-past change place xs (omega (arith, past)))
 
   -- the element at its first place is the one that is left out
   pub remove-first : (p : X → Bool) (xs : List X) → position_or_len p xs < length xs → remove xs (position_or_len p xs) ≡ without p xs

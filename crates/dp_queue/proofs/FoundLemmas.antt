@@ -3,7 +3,7 @@ use Rattle.std.proofs.Common.{◌≡◌, ℕ, zero, suc, ◌==◌, Bool, true, f
 use Rattle.std.specs.List.{position}
 use Rattle.std.specs.Option.{option_map}
 use Rattle.dp_queue.specs.Agents.{state_at, talks_with, with_state_at}
-use Rattle.dp_queue.specs.Seats.{SeatsOf, talk_at, AreFound, ReplacesTalk}
+use Rattle.dp_queue.specs.steps.Seats.{SeatsOf, talk_at, AreFound, ReplacesTalk}
 use Rattle.dp_queue.specs.declared.agent.Agent.{Agent}
 use Rattle.dp_queue.specs.declared.agent.AgentState.{AgentState}
 use Rattle.dp_queue.proofs.GoodLemmas.{by_test}

@@ -1,12 +1,12 @@
--- Waiting lists and agents stay linked behind each change.
+-- Waiting lists and agents stay linked after each change.
 use Rattle.std.proofs.Common.{◌≡◌, ℕ, zero, suc, ◌+◌, ◌<◌, ◌≤◌, ◌==◌, Bool, true, false, ◌||◌, List, [], ◌∷◌, Option, Some, None, refl, sym, length, ap, ◌∙◌, arith, if◌then◌else◌, subst}
 use Rattle.std.proofs.lemmas.Option.{none-some}
 use Rattle.dp_queue.specs.Agents.{state_at, is_idle, is_talking, rings_for, talks_with, with_state_at, freed_state, all_freed}
-use Rattle.dp_queue.specs.Changes.{changed_at}
+use Rattle.dp_conf.specs.Changes.{changed_at}
 use Rattle.dp_queue.specs.Good.{IsRight, AreMembers, AreLinked}
 use Rattle.dp_queue.specs.Joining.{waits_in, times_waiting, with_caller, without_caller}
 use Rattle.dp_queue.specs.Queues.{QueueOf}
-use Rattle.dp_queue.specs.Seats.{rung_count}
+use Rattle.dp_queue.specs.steps.Seats.{rung_count}
 use Rattle.dp_queue.specs.declared.agent.Agent.{Agent}
 use Rattle.dp_queue.specs.declared.agent.AgentState.{AgentState}
 use Rattle.dp_queue.specs.declared.agent.AgentState.TheVariants.{Idle, Ringing, Talking}

@@ -9,9 +9,10 @@ use Rattle.std.specs.HashMap.{get}
 use Rattle.std.specs.List.{All, find, list_any, position}
 use Rattle.std.specs.Option.{is_some, option_map}
 use Rattle.dp_queue.specs.Calls.{finished_member}
-use Rattle.dp_queue.specs.Changes.{changed_at, without, one_more}
+use Rattle.dp_conf.specs.Changes.{changed_at}
+use Rattle.dp_queue.specs.Changes.{without, one_more}
 use Rattle.dp_queue.specs.Good.{StandOnce}
-use Rattle.dp_queue.specs.Held.{HintsOf, AreHeld, is_agent_at}
+use Rattle.dp_queue.specs.steps.Held.{HintsOf, AreHeld, is_agent_at}
 use Rattle.dp_queue.specs.Members.{is_agent, paused_member}
 use Rattle.dp_queue.specs.declared.member.Member.{Member}
 use Rattle.dp_queue.proofs.MemberLemmas.{agents-apart, pairs-head, pairs-tail, pairs-without}

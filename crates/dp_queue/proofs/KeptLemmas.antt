@@ -1,15 +1,15 @@
--- Waiting lists, agents and seats stay those of one another, behind each change.
+-- Waiting lists, agents and seats stay those of one another, after each change.
 use Rattle.std.proofs.Common.{◌≡◌, ℕ, zero, suc, ◌+◌, ◌<◌, ◌==◌, Bool, true, false, List, [], ◌∷◌, ◌++◌, Option, Some, None, refl, sym, length, ap, ◌∙◌, arith, if◌then◌else◌, subst, nat_lt, IsSome}
 use Rattle.std.proofs.lemmas.List.{length-map}
 use Rattle.std.proofs.lemmas.Option.{same_Some, none-some}
 use Rattle.std.specs.Option.{option_map, unwrap_or}
 use Rattle.dp_queue.specs.Agents.{agent_number, state_at, is_talking, rings_for, talks_with, with_state_at, freed_state, all_freed}
-use Rattle.dp_queue.specs.Changes.{changed_at}
+use Rattle.dp_conf.specs.Changes.{changed_at}
 use Rattle.dp_queue.specs.Good.{IsRight, AreMembers, AreLinked}
 use Rattle.dp_queue.specs.Joining.{waits_in, with_caller, without_caller}
 use Rattle.dp_queue.specs.Members.{is_member_at, new_member, with_member, with_agent}
 use Rattle.dp_queue.specs.Queues.{QueueOf}
-use Rattle.dp_queue.specs.Seats.{SeatsOf, rung_at, rung_count, seat_at, seat_in, AreSeated, AreFound, ReplacesSeat, ReplacesTalk}
+use Rattle.dp_queue.specs.steps.Seats.{SeatsOf, rung_at, rung_count, seat_at, seat_in, AreSeated, AreFound, ReplacesSeat, ReplacesTalk}
 use Rattle.dp_queue.specs.declared.agent.Agent.{Agent}
 use Rattle.dp_queue.specs.declared.agent.AgentState.{AgentState}
 use Rattle.dp_queue.specs.declared.agent.AgentState.TheVariants.{Idle, Ringing, Talking}

@@ -4,7 +4,9 @@ pub mod FoundLemmas
 pub mod GoodLemmas
 pub mod HeldLemmas
 pub mod KeptLemmas
+mod LoadingLemmas
 pub mod MemberLemmas
+pub mod NameLemmas
 pub mod OfferLemmas
 pub mod PlacesLemmas
 pub mod RefusedLemmas

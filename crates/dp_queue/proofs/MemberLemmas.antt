@@ -10,7 +10,8 @@ use Rattle.std.specs.Option.{option_map, unwrap_or}
 use Rattle.dp_conf.specs.Words.{same_text}
 use Rattle.dp_queue.specs.Agents.{agent_number, is_named, with_state_at, freed, all_freed}
 use Rattle.dp_queue.specs.Calls.{finished_member, finished_queue}
-use Rattle.dp_queue.specs.Changes.{changed_at, without, one_more}
+use Rattle.dp_conf.specs.Changes.{changed_at}
+use Rattle.dp_queue.specs.Changes.{without, one_more}
 use Rattle.dp_queue.specs.Good.{AreKnown, StandOnce, AreMembers}
 use Rattle.dp_queue.specs.Members.{is_agent, has_member, is_member_at, new_member, with_member, with_agent, without_member, paused_member, paused_queue}
 use Rattle.dp_queue.specs.Queues.{QueueOf}
@@ -102,7 +103,7 @@ keeps-without a = record {
   once = λ q once. pairs-without (λ (member : Member) (other : Member). member.agent ≢ other.agent) (is_agent a) q.members once;
 }
 
--- the members of the queues behind such a change of one queue
+-- the members of the queues after such a change of one queue
 pub members-changed : (change : QueueOf → QueueOf) (k : ℕ) (qs ps : List QueueOf) (as' : List Agent) → KeepsMembers change
     → ps ≡ changed_at change k qs → AreMembers qs as' → AreMembers ps as'
 members-changed change k qs ps as' keeps is members =
@@ -267,7 +268,7 @@ queues-back a zero m (q ∷ qs) is none =
     ap (λ (ms : List Member). record q { members = ms } ∷ qs) (without-push a q.members m is none)
 queues-back a (suc number) m (q ∷ qs) is none = ap (λ (t : List QueueOf). q ∷ t) (queues-back a number m qs is none)
 
--- a queue of no members comes behind the others
+-- a queue of no members comes after the others
 pub members-queue : (qs ps : List QueueOf) (q : QueueOf) (as' : List Agent) → q.members ≡ [] → ps ≡ qs ++ q ∷ [] → AreMembers qs as' → AreMembers ps as'
 members-queue qs ps q as' none is members =
     let P : List QueueOf → Type 0 = λ x. AreMembers x as' in

@@ -8,18 +8,18 @@ use Rattle.std.specs.List.{All, filter, find, list_any, position}
 use Rattle.dp_queue.specs.Agents.{state_at, is_idle, is_rung, rings_for, talks_with, with_state_at}
 use Rattle.dp_queue.specs.Choices.{is_idle_at, is_candidate, least_penalty, lesser, rank, turned_at, turned, picked, chosen}
 use Rattle.dp_queue.specs.Good.{AreKnown, StandOnce, AreLinked}
-use Rattle.dp_queue.specs.Changes.{changed_at}
+use Rattle.dp_conf.specs.Changes.{changed_at}
 use Rattle.dp_queue.specs.Joining.{has_caller, waits_in}
 use Rattle.dp_queue.specs.Members.{is_agent}
 use Rattle.dp_queue.specs.Offers.{all_ringing, chosen_in, chosen_of, with_choice, asked_at, asked_in, asked_by, asked_for}
 use Rattle.dp_queue.specs.Queues.{QueueOf}
-use Rattle.dp_queue.specs.Seats.{SeatsOf, AreSeated, ReplacesSeat, ReplacesTalk, rung_count, seat_in, is_unrung, is_unrung_in}
+use Rattle.dp_queue.specs.steps.Seats.{SeatsOf, AreSeated, ReplacesSeat, ReplacesTalk, rung_count, seat_in, is_unrung, is_unrung_in}
 use Rattle.dp_queue.specs.declared.agent.Agent.{Agent}
 use Rattle.dp_queue.specs.declared.agent.AgentState.{AgentState}
 use Rattle.dp_queue.specs.declared.agent.AgentState.TheVariants.{Idle, Ringing, Talking}
 use Rattle.dp_queue.specs.declared.choice.Key.TheVariants.{Last, Calls}
 use Rattle.dp_queue.specs.declared.member.Member.{Member}
-use Rattle.dp_queue.specs.declared.offer.Asked.{Asked}
+use Rattle.dp_queue.specs.declared.offer.OfferRequest.{OfferRequest}
 use Rattle.dp_queue.specs.declared.settings.Strategy.{Strategy}
 use Rattle.dp_queue.specs.declared.settings.Strategy.TheVariants.{RingAll, Linear, LeastRecent, FewestCalls, RrMemory}
 use Rattle.dp_queue.proofs.AgentLemmas.{state_at-other, rung-same, rung-more, rung-none}
@@ -48,7 +48,7 @@ candidate_parts false b e h = absurd (cc)
 pub candidate-idle : (as' : List Agent) (penalty : ℕ) (m : Member) → is_candidate as' penalty m ≡ true → is_idle (state_at as' m.agent) ≡ true
 candidate-idle as' penalty m may = (candidate_parts (not m.is_paused) (is_idle_at as' m.agent) (m.penalty == penalty) may).1
 
--- the candidates among other members are the same behind the ringing of one agent
+-- the candidates among other members are the same after the ringing of one agent
 filter-set : (a : ℕ) (s : AgentState) (as' : List Agent) (penalty : ℕ) (ms : List Member) → All (λ (m : Member). a ≢ m.agent) ms
     → filter (is_candidate (with_state_at a s as') penalty) ms ≡ filter (is_candidate as' penalty) ms
 filter-set a s as' penalty [] others = refl
@@ -60,7 +60,7 @@ filter-set a s as' penalty (m ∷ ms) others =
     filter-set a s as' penalty ms (All-tail (λ (m : Member). a ≢ m.agent) m ms others) in
     (λ i. if same i then m ∷ rest i else rest i)
 
--- the agents behind the first of some members
+-- the agents after the first of some members
 abbrev pub first_rung : ℕ → ℕ → ℕ → List Agent → Member → List Agent
 first_rung queue channel penalty as' m =
     if is_candidate as' penalty m then with_state_at m.agent (Ringing queue channel) as' else as'
@@ -134,7 +134,7 @@ find-facts p (x ∷ xs) c e = by (p x) refl (find-facts p xs c) e
     by false here rest e = let facts : (p c ≡ true) × (list_any (λ e. e == c) xs ≡ true) = rest e in (facts.0, later (x == c) _ facts.1)
 
 -- what an offer asks for: the channel stands in the list of the queue, and is not rung
-pub record IsAsked (qs : List QueueOf) (as' : List Agent) (asked : Asked) : Type 0 where
+pub record IsAsked (qs : List QueueOf) (as' : List Agent) (asked : OfferRequest) : Type 0 where
   pub queue : QueueOf
   pub at : slice_get qs asked.queue ≡ Some queue
   pub stands : has_caller asked.channel queue ≡ true
@@ -144,7 +144,7 @@ not_true : (b : Bool) → not b ≡ true → b ≡ false
 not_true true e = absurd (cc)
 not_true false e = refl
 
-pub asked-facts : (qs : List QueueOf) (as' : List Agent) (o : Option ℕ) (asked : Asked) → asked_at qs as' o ≡ Ok asked → IsAsked qs as' asked
+pub asked-facts : (qs : List QueueOf) (as' : List Agent) (o : Option ℕ) (asked : OfferRequest) → asked_at qs as' o ≡ Ok asked → IsAsked qs as' asked
 asked-facts qs as' None asked e = absurd (cc)
 asked-facts qs as' (Some k) asked e = by_queue (slice_get qs k) refl e
   where
@@ -153,10 +153,10 @@ asked-facts qs as' (Some k) asked e = by_queue (slice_get qs k) refl e
     by_penalty q c None here stands unrung e = absurd (cc)
     by_penalty q c (Some p) here stands unrung e =
         let same : record { queue = k; channel = c; penalty = p } ≡ asked = same_ok e in
-        let P : Asked → Type 0 = λ x. IsAsked qs as' x in
+        let P : OfferRequest → Type 0 = λ x. IsAsked qs as' x in
         subst P same (record { queue = q; at = here; stands = stands; unrung = unrung })
       where
-        same_ok : {E : Type 0} {x y : Asked} → ◌≡◌ {A = Result Asked E} (Ok x) (Ok y) → x ≡ y
+        same_ok : {E : Type 0} {x y : OfferRequest} → ◌≡◌ {A = Result OfferRequest E} (Ok x) (Ok y) → x ≡ y
         same_ok e = cc
 
     by_channel : (q : QueueOf) (o : Option ℕ) → slice_get qs k ≡ Some q → find (λ c. not (is_rung as' c)) q.waiting ≡ o
@@ -171,7 +171,7 @@ asked-facts qs as' (Some k) asked e = by_queue (slice_get qs k) refl e
     by_queue (Some q) here e = by_channel q (find (λ c. not (is_rung as' c)) q.waiting) here refl e
 
 -- so the channel waits in that queue
-pub asked-waits : (qs : List QueueOf) (as' bs : List Agent) (asked : Asked) → AreLinked qs bs → IsAsked qs as' asked
+pub asked-waits : (qs : List QueueOf) (as' bs : List Agent) (asked : OfferRequest) → AreLinked qs bs → IsAsked qs as' asked
     → waits_in qs asked.channel ≡ Some asked.queue
 asked-waits qs as' bs asked good is_asked =
     waits_in-at qs asked.channel asked.queue is_asked.queue (good.waits_once asked.channel) is_asked.at is_asked.stands
@@ -261,7 +261,7 @@ idle-others a s as' (m ∷ ms) others idle =
     ∙ All-head (λ (x : Member). is_idle (state_at as' x.agent) ≡ true) m ms idle)
     (idle-others a s as' ms (All-tail (λ (x : Member). a ≢ x.agent) m ms others) (All-tail (λ (x : Member). is_idle (state_at as' x.agent) ≡ true) m ms idle))
 
--- agents behind the ringing of so many for a channel
+-- agents after the ringing of so many for a channel
 pub record Rings (qs : List QueueOf) (c : ℕ) (before after : List Agent) (count : ℕ) : Type 0 where
   pub linked : AreLinked qs after
   pub counted : rung_count after c ≡ rung_count before c + count
@@ -303,7 +303,7 @@ rings-all qs k c (m ∷ ms) as' waits linked known idle once =
     (pairs-tail (λ (member : Member) (other : Member). member.agent ≢ other.agent) m ms once))
 
 -- an offer is made
-pub kept-offered : (seats new : SeatsOf) (qs ps : List QueueOf) (as' bs : List Agent) (asked : Asked) (count : ℕ)
+pub kept-offered : (seats new : SeatsOf) (qs ps : List QueueOf) (as' bs : List Agent) (asked : OfferRequest) (count : ℕ)
     → AreKept seats qs as' → IsAsked qs as' asked
     → bs ≡ all_ringing asked.queue asked.channel (chosen_in as' asked.penalty (slice_get qs asked.queue)) as'
     → count ≡ length (chosen_in as' asked.penalty (slice_get qs asked.queue))

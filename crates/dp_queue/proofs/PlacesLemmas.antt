@@ -1,21 +1,17 @@
--- The places of hashes behind one more element, and the walk along the places of one hash.
-use Rattle.std.proofs.Common.{◌≡◌, ◌≢◌, ◌&&◌, get_or, nat_lt, not, ℕ, zero, suc, ◌+◌, ◌<◌, ◌≤◌, ◌==◌, Bool, true, false, List, [], ◌∷◌, ◌++◌, map, take, Option, Some, None, refl, sym, length, ap, ◌∙◌, arith, if◌then◌else◌, slice_get, ⊎_elim, subst, nat_eq}
+-- The places of hashes after one more element, and the walk along the places of one hash.
+use Rattle.std.proofs.Common.{◌≡◌, ◌&&◌, nat_lt, not, ℕ, zero, suc, ◌+◌, ◌<◌, ◌≤◌, ◌==◌, Bool, true, false, List, [], ◌∷◌, ◌++◌, map, take, Option, Some, None, refl, sym, length, ap, ◌∙◌, arith, if◌then◌else◌, slice_get, ⊎_elim, nat_eq}
 use Rattle.std.proofs.lemmas.Bool.{cases_lt}
-use Rattle.std.proofs.lemmas.List.{get_or-map, length-map, length-take, length_push, map-append, take-append-le, take-map}
-use Rattle.std.proofs.lemmas.List.Elements.{All-head, All-map, All-tail}
-use Rattle.std.proofs.lemmas.List.Quantifiers.{all_pairs_push}
+use Rattle.std.proofs.lemmas.List.{length-map, length-take, length_push, map-append, take-append-le, take-map}
+use Rattle.std.proofs.lemmas.List.Elements.{All-head, All-tail}
 use Rattle.std.proofs.lemmas.Option.{same_Some, none-some, slice_get_within, slice_get-get_or, slice_get-map}
 use Rattle.std.specs.List.{All, AllPairs, position, position_or_len}
-use Rattle.std.specs.Option.{option_map, unwrap_or}
+use Rattle.std.specs.Option.{option_map}
 use borrow.Author.Tests.{eqb-true, eq-eqb, ltb-true, ltb-false}
 use Rattle.std.specs.HashMap.{get}
 use Rattle.dp_conf.specs.Words.{same_text}
-use Rattle.dp_queue.specs.Agents.{agent_number, is_named, with_state_at, all_freed}
-use Rattle.dp_queue.specs.Places.{text_hash, later, last_position, last_place, place_before, is_named_at, names_of, AreNamed, LastsOf, hashes_of, AreLasts, AreChained}
-use Rattle.dp_queue.specs.declared.agent.Agent.{Agent}
-use Rattle.dp_queue.specs.declared.agent.AgentState.{AgentState}
+use Rattle.dp_queue.specs.Places.{later, last_position, last_place, place_before, LastsOf, hashes_of, AreLasts, AreChained}
 use Rattle.dp_queue.specs.declared.places.Link.{Link}
-use Rattle.dp_queue.proofs.MemberLemmas.{pairs-head, pairs-tail, names-apart}
+use Rattle.dp_queue.proofs.MemberLemmas.{pairs-head, pairs-tail}
 
 module _ {X : Type 0} where
   -- an element in front of others
@@ -24,7 +20,7 @@ module _ {X : Type 0} where
   slice_get-front (x ∷ xs) ys zero within = refl
   slice_get-front (x ∷ xs) ys (suc k) within = slice_get-front xs ys k (omega (arith, within))
 
-  -- and the one behind them
+  -- and the one after them
   pub slice_get-last : (xs : List X) (x : X) → slice_get (xs ++ x ∷ []) (length xs) ≡ Some x
   slice_get-last [] x = refl
   slice_get-last (y ∷ xs) x = slice_get-last xs x
@@ -46,7 +42,7 @@ lasts-push lasts new hashes hash place here are put other =
     ∙ (λ i. if hash == other then Some (here i) else are other i)
     ∙ sym (last_position-push (λ (h : ℕ). h == other) hashes hash)
 
--- one more link behind the others
+-- one more link after the others
 pub chained-push : (links : List Link) (new : Link) → AreChained links → new.before ≡ last_place (hashes_of links) new.hash
     → AreChained (links ++ new ∷ [])
 chained-push links new chained before k link here = ⊎_elim old last (cases_lt k (length links))
@@ -226,7 +222,7 @@ module _ {X : Type 0} (p : X → Bool) (f : X → ℕ) (hash : ℕ) (same : (x :
   walked-found xs k x walked here passes =
       sym walked.rest ∙ last_position-at p xs k x here ∙ ap (λ (b : Bool). if b then Some k else last_position p (take k xs)) passes
 
--- the first place that passes, by what comes behind the first element
+-- the first place that passes, by what comes after the first element
 pub position-cons : {X : Type 0} (p : X → Bool) (x : X) (xs : List X) → position p (x ∷ xs) ≡ (if p x then Some 0 else option_map suc (position p xs))
 position-cons p x xs = by (p x) (position_or_len p xs) (length xs)
   where
@@ -277,88 +273,6 @@ text-same (x ∷ xs) (y ∷ ys) same =
     both : (a b : Bool) → (a && b) ≡ true → (a ≡ true) × (b ≡ true)
     both true b e = (refl, e)
     both false b e = absurd (cc)
-
--- the name of an agent has the hash that is looked for
-pub agent_hashed : (name : List ℕ) (agent : Agent) → is_named name agent ≡ true → text_hash agent.name ≡ text_hash name
-agent_hashed name agent named = ap text_hash (text-same agent.name name named)
-
--- the hashes of the names of agents
-hashes-named : (agents : List Agent) → map text_hash (names_of agents) ≡ map (λ agent. text_hash agent.name) agents
-hashes-named [] = refl
-hashes-named (agent ∷ agents) = ap (λ (t : List ℕ). text_hash agent.name ∷ t) (hashes-named agents)
-
--- agents whose names differ do not both have one name
-named-once : (name : List ℕ) (agents : List Agent) → AllPairs (λ a b. a ≢ b) (names_of agents)
-    → AllPairs (λ agent other. is_named name agent ≡ true → is_named name other ≡ false) agents
-named-once name agents differ j k d before within first = by (is_named name (get_or agents k d)) refl
-  where
-    name_at : (i : ℕ) → i < length agents → get_or (names_of agents) i d.name ≡ (get_or agents i d).name
-    name_at i inside = get_or-map (λ (agent : Agent). agent.name) agents i d d.name inside
-
-    by : (b : Bool) → is_named name (get_or agents k d) ≡ b → b ≡ false
-    by true second =
-        absurd (differ j k d.name before (omega (arith, within, length-map agents (λ (agent : Agent). agent.name)))
-        (name_at j (omega (arith, before, within)) ∙ text-same (get_or agents j d).name name first
-        ∙ sym (text-same (get_or agents k d).name name second) ∙ sym (name_at k within)))
-    by false second = refl
-
--- agents that keep their names
-pub named-kept : (hashes : List ℕ) (agents bs : List Agent) → names_of bs ≡ names_of agents → AreNamed hashes agents → AreNamed hashes bs
-named-kept hashes agents bs same named =
-    let P : List (List ℕ) → Type 0 = λ names. (hashes ≡ map text_hash names) × AllPairs (λ (a : List ℕ) (b : List ℕ). a ≢ b) names in
-    subst P (sym same) named
-
-pub names-set : (number : ℕ) (state : AgentState) (agents : List Agent) → names_of (with_state_at number state agents) ≡ names_of agents
-names-set number state [] = refl
-names-set zero state (agent ∷ agents) = refl
-names-set (suc number) state (agent ∷ agents) = ap (λ (t : List (List ℕ)). agent.name ∷ t) (names-set number state agents)
-
-pub names-freed : (c : ℕ) (agents : List Agent) → names_of (all_freed c agents) ≡ names_of agents
-names-freed c [] = refl
-names-freed c (agent ∷ agents) = ap (λ (t : List (List ℕ)). agent.name ∷ t) (names-freed c agents)
-
--- one more agent, of a name that no other one has
-pub named-push : (hashes new name : List ℕ) (agents bs : List Agent) (state : AgentState) → nat_lt (agent_number agents name) (length agents) ≡ false
-    → new ≡ hashes ++ text_hash name ∷ [] → bs ≡ agents ++ record { name = name; state = state } ∷ [] → AreNamed hashes agents → AreNamed new bs
-named-push hashes new name agents bs state absent more known named =
-    let names : names_of bs ≡ names_of agents ++ name ∷ [] = ap names_of known ∙ map-append (λ (agent : Agent). agent.name) agents (record { name = name; state = state } ∷ []) in
-    let P : List (List ℕ) → Type 0 = λ ns. (new ≡ map text_hash ns) × AllPairs (λ (a : List ℕ) (b : List ℕ). a ≢ b) ns in
-    subst P (sym names) (
-      more ∙ ap (λ (hs : List ℕ). hs ++ text_hash name ∷ []) named.0 ∙ sym (map-append text_hash (names_of agents) (name ∷ [])),
-      all_pairs_push (λ (a : List ℕ) (b : List ℕ). a ≢ b) (names_of agents) name named.1
-          (All-map (λ (a : List ℕ). a ≢ name) (λ (agent : Agent). agent.name) agents (names-apart name agents absent)),
-    )
-
--- the walk to the agent of a name
-abbrev pub IsWalkedTo : List ℕ → List Agent → Option ℕ → Type 0
-IsWalkedTo name agents at = IsWalked (is_named name) (λ agent. text_hash agent.name) (text_hash name) agents at
-
-pub agent-first : (name hashes : List ℕ) (agents : List Agent) (at : Option ℕ) → AreNamed hashes agents → at ≡ last_place hashes (text_hash name)
-    → IsWalkedTo name agents at
-agent-first name hashes agents at named is =
-    walked-first (is_named name) (λ (agent : Agent). text_hash agent.name) (text_hash name) (agent_hashed name) agents at
-    (is ∙ ap (λ hs. last_place hs (text_hash name)) (named.0 ∙ hashes-named agents))
-
-pub agent-next : (name hashes : List ℕ) (agents : List Agent) (k : ℕ) (at : Option ℕ) → AreNamed hashes agents → IsWalkedTo name agents (Some k)
-    → is_named_at name agents k ≡ false → at ≡ place_before hashes k (slice_get hashes k) → IsWalkedTo name agents at
-agent-next name hashes agents k at named walked fails is =
-    let there : (x : Agent) × (slice_get agents k ≡ Some x) =
-    walked-there (is_named name) (λ (agent : Agent). text_hash agent.name) (text_hash name) (agent_hashed name) agents k walked in
-    walked-next (is_named name) (λ (agent : Agent). text_hash agent.name) (text_hash name) (agent_hashed name) agents k there.0 at walked there.1
-    (ap (λ o. unwrap_or (option_map (is_named name) o) false) (sym there.1) ∙ fails)
-    (is ∙ ap (λ hs. place_before hs k (slice_get hs k)) (named.0 ∙ hashes-named agents))
-
-pub agent-found : (name hashes : List ℕ) (agents : List Agent) (k : ℕ) → AreNamed hashes agents → IsWalkedTo name agents (Some k)
-    → is_named_at name agents k ≡ true → Some k ≡ position (is_named name) agents
-agent-found name hashes agents k named walked passes =
-    let there : (x : Agent) × (slice_get agents k ≡ Some x) =
-    walked-there (is_named name) (λ (agent : Agent). text_hash agent.name) (text_hash name) (agent_hashed name) agents k walked in
-    sym (walked-found (is_named name) (λ (agent : Agent). text_hash agent.name) (text_hash name) (agent_hashed name) agents k there.0 walked there.1
-    (ap (λ o. unwrap_or (option_map (is_named name) o) false) (sym there.1) ∙ passes))
-    ∙ last_position-only (is_named name) agents (named-once name agents named.1)
-
-pub agent-none : (name hashes : List ℕ) (agents : List Agent) → AreNamed hashes agents → IsWalkedTo name agents None → None ≡ position (is_named name) agents
-agent-none name hashes agents named walked = walked.rest ∙ last_position-only (is_named name) agents (named-once name agents named.1)
 
 -- the walk goes on to places before
 pub before-less : (hashes : List ℕ) (k : ℕ) (at : Option ℕ) → at ≡ place_before hashes k (slice_get hashes k) → cut at < suc k

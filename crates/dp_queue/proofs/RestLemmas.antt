@@ -7,19 +7,18 @@ use Rattle.std.specs.Map.{lookup}
 use Rattle.std.specs.Option.{option_map}
 use Rattle.dp_conf.specs.Answers.{◌>>=◌}
 use Rattle.dp_conf.specs.Levels.{arguments_of}
+use Rattle.dp_conf.specs.Lines.{LineOf, Header, Pair}
 use Rattle.dp_conf.specs.Words.{same_word}
-use Rattle.dp_conf.specs.declared.lines.ConfLine.{ConfLine}
-use Rattle.dp_conf.specs.declared.lines.ConfLine.TheVariants.{Header, Pair}
 use Rattle.dp_queue.specs.Agents.{agent_number, state_at, talks_with}
 use Rattle.dp_queue.specs.Faults.{at_line}
-use Rattle.dp_queue.specs.File.{FileOf, unread, begun_by, begun, penalty_in, argument_at, is_passed_over, with_named, membered, with_queue_setting, set, paired, behind_pair, behind_line, behind_lines}
+use Rattle.dp_queue.specs.File.{FileOf, unread, begun_by, begun, penalty_in, argument_at, is_passed_over, with_named, membered, with_queue_setting, set, paired, after_pair, after_line, after_lines}
 use Rattle.dp_queue.specs.Good.{IsRight, AreMembers, AreLinked}
 use Rattle.dp_queue.specs.Joining.{waits_in, times_waiting}
 use Rattle.dp_queue.specs.Keys.{setting_of}
 use Rattle.dp_queue.specs.Members.{with_agent, with_member_at}
 use Rattle.dp_queue.specs.Queues.{QueueOf, QueuesOf, queue_number}
 use Rattle.dp_queue.specs.Rest.{IsAtRest}
-use Rattle.dp_queue.specs.Seats.{SeatsOf, AreFound, AreSeated, seat_of}
+use Rattle.dp_queue.specs.steps.Seats.{SeatsOf, AreFound, AreSeated, seat_of}
 use Rattle.dp_queue.specs.declared.agent.Agent.{Agent}
 use Rattle.dp_queue.specs.declared.agent.AgentState.{AgentState}
 use Rattle.dp_queue.specs.declared.agent.AgentState.TheVariants.{Idle}
@@ -128,23 +127,23 @@ paired-at_rest q number key value rest = by (same_word key (codes "member"))
       all_idle = rest.all_idle;
     })
 
-pair-at_rest : (file : FileOf) (section : Option ℕ) (key value : List ℕ) → IsAtRest file.made → IfOk (behind_pair file section key value) is_at_rest
+pair-at_rest : (file : FileOf) (section : Option ℕ) (key value : List ℕ) → IsAtRest file.made → IfOk (after_pair file section key value) is_at_rest
 pair-at_rest file None key value rest = rest
 pair-at_rest file (Some number) key value rest =
     if_ok-then IsAtRest is_at_rest (paired file.made number key value) _ (λ q kept. kept) (paired-at_rest file.made number key value rest)
 
-line-at_rest : (file : FileOf) (line : ConfLine) → IsAtRest file.made → IfOk (behind_line file line) is_at_rest
+line-at_rest : (file : FileOf) (line : LineOf) → IsAtRest file.made → IfOk (after_line file line) is_at_rest
 line-at_rest file (Header line name) rest = if_ok-at_line is_at_rest line (begun file name) (begun-at_rest file name rest)
 line-at_rest file (Pair line key value) rest =
-    if_ok-at_line is_at_rest line (behind_pair file file.section key value) (pair-at_rest file file.section key value rest)
+    if_ok-at_line is_at_rest line (after_pair file file.section key value) (pair-at_rest file file.section key value rest)
 
-lines-at_rest : (file : FileOf) (lines : List ConfLine) → IsAtRest file.made → IfOk (behind_lines file lines) is_at_rest
+lines-at_rest : (file : FileOf) (lines : List LineOf) → IsAtRest file.made → IfOk (after_lines file lines) is_at_rest
 lines-at_rest file [] rest = rest
 lines-at_rest file (line ∷ lines) rest =
-    if_ok-then is_at_rest is_at_rest (behind_line file line) _ (λ next kept. lines-at_rest next lines kept) (line-at_rest file line rest)
+    if_ok-then is_at_rest is_at_rest (after_line file line) _ (λ next kept. lines-at_rest next lines kept) (line-at_rest file line rest)
 
 -- so do all lines of a file
-pub made-at_rest : (lines : List ConfLine) (file : FileOf) → behind_lines unread lines ≡ Ok file → IsAtRest file.made
+pub made-at_rest : (lines : List LineOf) (file : FileOf) → after_lines unread lines ≡ Ok file → IsAtRest file.made
 made-at_rest lines file e =
     let P : Result FileOf QueueFault → Type 0 = λ r. IfOk r is_at_rest in
     subst P e (lines-at_rest unread lines (record { nobody_waits = λ k d within. absurd (omega (arith, within)); all_idle = λ k d within. absurd (omega (arith, within)) }))

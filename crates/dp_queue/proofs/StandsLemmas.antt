@@ -5,7 +5,7 @@ use Rattle.std.specs.List.{position}
 use Rattle.std.specs.Option.{option_map}
 use Rattle.dp_queue.specs.Joining.{times_in, times_waiting}
 use Rattle.dp_queue.specs.Queues.{QueueOf}
-use Rattle.dp_queue.specs.Seats.{stands_at}
+use Rattle.dp_queue.specs.steps.Seats.{stands_at}
 use Rattle.dp_queue.proofs.PlacesLemmas.{position-cons}
 
 -- a channel stands in the list of one queue no more often than in all

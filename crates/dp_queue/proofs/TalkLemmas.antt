@@ -3,7 +3,7 @@ use Rattle.std.proofs.Common.{◌≡◌, ℕ, zero, suc, ◌==◌, true, false, 
 use Rattle.std.proofs.lemmas.List.Elements.{All-head, All-nil, All-tail, All-weaker}
 use Rattle.std.specs.List.{All}
 use Rattle.dp_queue.specs.Agents.{is_idle, state_at, with_state_at}
-use Rattle.dp_queue.specs.Changes.{changed_at}
+use Rattle.dp_conf.specs.Changes.{changed_at}
 use Rattle.dp_queue.specs.Choices.{is_candidate}
 use Rattle.dp_queue.specs.Joining.{waits_in}
 use Rattle.dp_queue.specs.Offers.{all_ringing, asked_at, chosen_in, offer_row, offer_row_at, with_choice}
@@ -13,7 +13,7 @@ use Rattle.dp_queue.specs.declared.agent.AgentState.{AgentState}
 use Rattle.dp_queue.specs.declared.agent.AgentState.TheVariants.{Ringing, Talking}
 use Rattle.dp_queue.specs.declared.fault.OfferFault.{OfferFault}
 use Rattle.dp_queue.specs.declared.member.Member.{Member}
-use Rattle.dp_queue.specs.declared.offer.Asked.{Asked}
+use Rattle.dp_queue.specs.declared.offer.OfferRequest.{OfferRequest}
 use Rattle.dp_queue.proofs.AgentLemmas.{state_at-other}
 use Rattle.dp_queue.proofs.GoodLemmas.{by_test}
 use Rattle.dp_queue.proofs.OfferLemmas.{candidate-idle, passes-chosen}
@@ -39,7 +39,7 @@ idle-silent s idle queue channel is = let busy : is_idle s ≡ false = ap is_idl
 ringing-silent : (queue channel : ℕ) → IsSilent (Ringing queue channel)
 ringing-silent queue channel other d is = absurd (cc)
 
--- it talks with nobody behind the ringing of an agent
+-- it talks with nobody after the ringing of an agent
 silent-set : (k c a b : ℕ) (as' : List Agent) → IsSilent (state_at as' b) → IsSilent (state_at (with_state_at a (Ringing k c) as') b)
 silent-set k c a b [] silent = silent
 silent-set k c zero zero (x ∷ xs) silent = ringing-silent k c
@@ -65,8 +65,8 @@ talks-set k c a as' silent = record {
     differ b there same = let here : (b == a) ≡ true = eq-eqb b a same in absurd (cc)
 
 -- one after another
-talks-behind : (before between after : List Agent) → KeepsTalks before between → KeepsTalks between after → KeepsTalks before after
-talks-behind before between after first second = record {
+talks-after : (before between after : List Agent) → KeepsTalks before between → KeepsTalks between after → KeepsTalks before after
+talks-after before between after first second = record {
   talking = λ agent queue channel is. first.talking agent queue channel (second.talking agent queue channel is);
   talks = λ agent queue channel is. second.talks agent queue channel (first.talks agent queue channel is);
 }
@@ -75,7 +75,7 @@ talks-all : (k c : ℕ) (ms : List Member) (as' : List Agent) → All (λ (m : M
 talks-all k c [] as' silent = talks-self as'
 talks-all k c (m ∷ ms) as' silent =
     let next : List Agent = with_state_at m.agent (Ringing k c) as' in
-    talks-behind as' next (all_ringing k c ms next) (talks-set k c m.agent as' (All-head (λ (member : Member). IsSilent (state_at as' member.agent)) m ms silent))
+    talks-after as' next (all_ringing k c ms next) (talks-set k c m.agent as' (All-head (λ (member : Member). IsSilent (state_at as' member.agent)) m ms silent))
     (talks-all k c ms next
     (All-weaker (λ (member : Member). IsSilent (state_at as' member.agent)) (λ (member : Member). IsSilent (state_at next member.agent))
     (λ member quiet. silent-set k c m.agent member.agent as' quiet) ms (All-tail (λ (member : Member). IsSilent (state_at as' member.agent)) m ms silent)))
@@ -88,7 +88,7 @@ silent-chosen as' penalty (Some queue) =
     (λ m may. idle-silent (state_at as' m.agent) (candidate-idle as' penalty m may)) (chosen_in as' penalty (Some queue))
     (passes-chosen queue.settings.strategy queue.last (is_candidate as' penalty) queue.members)
 
-talks-offered_at : (q : QueuesOf) (asked : Result Asked OfferFault) → KeepsTalks q.agents (offer_row_at q asked).0.agents
+talks-offered_at : (q : QueuesOf) (asked : Result OfferRequest OfferFault) → KeepsTalks q.agents (offer_row_at q asked).0.agents
 talks-offered_at q (Err fault) = talks-self q.agents
 talks-offered_at q (Ok asked) =
     talks-all asked.queue asked.channel (chosen_in q.agents asked.penalty (slice_get q.queues asked.queue)) q.agents
@@ -99,7 +99,7 @@ pub talks-offered : (q : QueuesOf) (name : List ℕ) → KeepsTalks q.agents (of
 talks-offered q name = talks-offered_at q (asked_at q.queues q.agents (queue_number q.queues name))
 
 -- and who waits
-waits-offered_at : (q : QueuesOf) (asked : Result Asked OfferFault) (channel : ℕ) → waits_in (offer_row_at q asked).0.queues channel ≡ waits_in q.queues channel
+waits-offered_at : (q : QueuesOf) (asked : Result OfferRequest OfferFault) (channel : ℕ) → waits_in (offer_row_at q asked).0.queues channel ≡ waits_in q.queues channel
 waits-offered_at q (Err fault) channel = refl
 waits-offered_at q (Ok asked) channel =
     waits_in-same (changed_at (with_choice q.agents asked.penalty) asked.queue q.queues) q.queues channel

@@ -1,9 +1,10 @@
--- In which queue a channel waits, behind a change of the queues.
+-- In which queue a channel waits, after a change of the queues.
 use Rattle.std.proofs.Common.{◌≡◌, ℕ, zero, suc, ◌+◌, ◌<◌, ◌≤◌, ◌==◌, Bool, true, false, ◌||◌, List, [], ◌∷◌, ◌++◌, map, Option, Some, None, refl, sym, length, ap, ◌∙◌, arith, if◌then◌else◌, slice_get}
 use Rattle.std.proofs.lemmas.Option.{same_Some}
 use Rattle.std.specs.Option.{option_map}
 use Rattle.std.specs.List.{list_any}
-use Rattle.dp_queue.specs.Changes.{changed_at, without}
+use Rattle.dp_conf.specs.Changes.{changed_at}
+use Rattle.dp_queue.specs.Changes.{without}
 use Rattle.dp_queue.specs.Joining.{has_caller, waits_in, times_in, times_waiting, with_caller, without_caller}
 use Rattle.dp_queue.specs.Queues.{QueueOf}
 use borrow.Author.Tests.{eqb-true}

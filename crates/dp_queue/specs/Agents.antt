@@ -1,12 +1,16 @@
 -- The agents of all queues, and what each of them does.
-use Rattle.std.specs.Prelude.{ℕ, Bool, true, false, ◌==◌, List, length, map, slice_get, if◌then◌else◌}
-use Rattle.std.specs.List.{list_any, position}
+use Rattle.std.specs.Prelude.{◌≡◌, ◌≢◌, ℕ, Bool, true, false, ◌==◌, List, Option, length, map, slice_get, if◌then◌else◌}
+use Rattle.std.specs.BTreeMap.{BTreeMap, get_by}
+use Rattle.std.specs.Cmp.Lexicographic.{slice_cmp}
+use Rattle.std.specs.Global.{Vec}
+use Rattle.std.specs.List.{AllPairs, list_any, position}
 use Rattle.std.specs.Option.{option_map, unwrap_or}
+use Rattle.std.specs.Ordering.{nat_cmp}
 use Rattle.dp_conf.specs.Words.{same_text}
 use Rattle.dp_queue.specs.declared.agent.Agent.{Agent}
 use Rattle.dp_queue.specs.declared.agent.AgentState.{AgentState}
 use Rattle.dp_queue.specs.declared.agent.AgentState.TheVariants.{Idle, Ringing, Talking}
-use Rattle.dp_queue.specs.Changes.{changed_at}
+use Rattle.dp_conf.specs.Changes.{changed_at}
 
 -- the agent is of this name
 abbrev pub is_named : List ℕ → Agent → Bool
@@ -15,6 +19,19 @@ is_named name agent = same_text agent.name name
 -- the number of the agent of a name, and the next number where there is none
 abbrev pub agent_number : List Agent → List ℕ → ℕ
 agent_number agents name = unwrap_or (position (is_named name) agents) (length agents)
+
+-- the names of the agents
+abbrev pub names_of : List Agent → List (List ℕ)
+names_of agents = map (λ agent. agent.name) agents
+
+-- the number that a map has at a name
+abbrev pub number_at : BTreeMap (Vec ℕ) ℕ → List ℕ → Option ℕ
+number_at numbers name = get_by (λ key. slice_cmp nat_cmp name key.items) numbers
+
+-- the map has at each name the number of the agent of that name, and no two agents have one name
+abbrev pub AreNumbered : BTreeMap (Vec ℕ) ℕ → List Agent → Type 0
+AreNumbered numbers agents =
+    ((name : List ℕ) → number_at numbers name ≡ position (is_named name) agents) × AllPairs (λ name other. name ≢ other) (names_of agents)
 
 -- the state of the agent of a number; one that is not known is idle
 abbrev pub state_at : List Agent → ℕ → AgentState
@@ -58,7 +75,7 @@ with_state state agent = record agent { state = state }
 abbrev pub with_state_at : ℕ → AgentState → List Agent → List Agent
 with_state_at number state agents = changed_at (with_state state) number agents
 
--- the state of an agent behind the end of the channel's waiting
+-- the state of an agent after the end of the channel's waiting
 abbrev pub freed_state : ℕ → AgentState → AgentState
 freed_state c state = if rings_for c state then Idle else state
 

@@ -1,7 +1,8 @@
 -- What agents do with the calls that are offered to them.
 use Rattle.std.specs.Prelude.{ℕ, Bool, true, false, List, map, Option, Some, None, if◌then◌else◌}
 use Rattle.dp_queue.specs.Agents.{agent_number, talker, state_at, with_state_at}
-use Rattle.dp_queue.specs.Changes.{changed_at, one_more}
+use Rattle.dp_conf.specs.Changes.{changed_at}
+use Rattle.dp_queue.specs.Changes.{one_more}
 use Rattle.dp_queue.specs.Joining.{left}
 use Rattle.dp_queue.specs.Members.{is_agent}
 use Rattle.dp_queue.specs.Queues.{QueueOf, QueuesOf}
@@ -46,7 +47,7 @@ decline_row q name = decline_row_at q (agent_number q.agents name) (state_at q.a
 abbrev pub finished_member : ℕ → ℕ → Member → Member
 finished_member a count member = if is_agent a member then record member { calls = one_more member.calls; last = count } else member
 
--- the queue behind the end of an agent's call: its member record, if it is still there, has one more
+-- the queue after the end of an agent's call: its member record, if it is still there, has one more
 abbrev pub finished_queue : ℕ → ℕ → QueueOf → QueueOf
 finished_queue a count queue = record queue { members = map (finished_member a count) queue.members }
 

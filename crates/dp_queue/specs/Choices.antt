@@ -38,12 +38,12 @@ abbrev pub least_penalty : List Agent → List Member → Option ℕ
 least_penalty agents members =
     option_map (λ member. member.penalty) (first_least (λ member. member.penalty) (filter (is_eligible agents) members))
 
--- the members turned round to begin behind the one at a place
+-- the members turned round to begin after the one at a place
 abbrev pub turned_at : Option ℕ → List Member → List Member
 turned_at None members = members
 turned_at (Some place) members = drop (place + 1) members ++ take (place + 1) members
 
--- the members turned round to begin behind the one chosen last; as they are where none was, or where it is no member
+-- the members turned round to begin after the one chosen last; as they are where none was, or where it is no member
 abbrev pub turned : Option ℕ → List Member → List Member
 turned None members = members
 turned (Some last) members = turned_at (position (is_agent last) members) members
@@ -76,12 +76,12 @@ remembered last None = last
 remembered last (Some member) = Some member.agent
 
 -- the agent that is remembered as the one chosen last
-abbrev pub last_behind : Strategy → Option ℕ → (Member → Bool) → List Member → Option ℕ
-last_behind RingAll last test members = last
-last_behind Linear last test members = last
-last_behind LeastRecent last test members = last
-last_behind FewestCalls last test members = last
-last_behind RrMemory last test members = remembered last (picked RrMemory last test members)
+abbrev pub last_after : Strategy → Option ℕ → (Member → Bool) → List Member → Option ℕ
+last_after RingAll last test members = last
+last_after Linear last test members = last
+last_after LeastRecent last test members = last
+last_after FewestCalls last test members = last
+last_after RrMemory last test members = remembered last (picked RrMemory last test members)
 
 -- the queue that remembers the agent that was chosen
 abbrev pub with_last : Option ℕ → QueueOf → QueueOf

@@ -3,12 +3,10 @@ use Rattle.std.specs.Prelude.{ℕ, Bool, false, ◌||◌, ◌==◌, List, [], �
 use Rattle.std.specs.Option.{unwrap_or}
 use Rattle.dp_conf.specs.Answers.{◌>>=◌}
 use Rattle.dp_conf.specs.Levels.{arguments_of}
-use Rattle.dp_conf.specs.Lines.{lines_of}
+use Rattle.dp_conf.specs.Lines.{LineOf, Header, Pair, lines_of}
 use Rattle.dp_conf.specs.Words.{same_word}
-use Rattle.dp_conf.specs.declared.lines.ConfLine.{ConfLine}
-use Rattle.dp_conf.specs.declared.lines.ConfLine.TheVariants.{Header, Pair}
 use Rattle.dp_queue.specs.Agents.{agent_number}
-use Rattle.dp_queue.specs.Changes.{changed_at}
+use Rattle.dp_conf.specs.Changes.{changed_at}
 use Rattle.dp_queue.specs.Faults.{text_fault, at_line}
 use Rattle.dp_queue.specs.Keys.{number_in, setting_of, usual, with_setting}
 use Rattle.dp_queue.specs.Members.{is_member_at, with_member_at}
@@ -43,7 +41,7 @@ abbrev pub begun_by : FileOf → List ℕ → Option ℕ → Result FileOf Queue
 begun_by file name None = Ok (with_queue file name)
 begun_by file name (Some number) = Err DoubleQueue
 
--- behind a header; `[general]` in any case is no queue
+-- after a header; `[general]` in any case is no queue
 abbrev pub begun : FileOf → List ℕ → Result FileOf QueueKind
 begun file name =
     if same_word name (codes "general") then Ok (record file { section = None })
@@ -71,7 +69,7 @@ abbrev pub with_named : QueuesOf → ℕ → List ℕ → ℕ → QueuesOf
 with_named q number name penalty =
     if is_passed_over q number name then q else with_member_at q number name penalty false
 
--- the queues behind a member's line, by its arguments: the name, and the penalty
+-- the queues after a member's line, by its arguments: the name, and the penalty
 abbrev pub membered : QueuesOf → ℕ → List (List ℕ) → Result QueuesOf QueueKind
 membered q number arguments =
     penalty_of arguments >>= λ penalty. Ok (with_named q number (argument_at arguments 0) penalty)
@@ -84,11 +82,11 @@ with_queue_setting setting queue = record queue { settings = with_setting settin
 abbrev pub with_setting_at : QueuesOf → ℕ → Setting → QueuesOf
 with_setting_at q number setting = record q { queues = changed_at (with_queue_setting setting) number q.queues }
 
--- the queues behind a line of another key
+-- the queues after a line of another key
 abbrev pub set : QueuesOf → ℕ → List ℕ → List ℕ → Result QueuesOf QueueKind
 set q number key value = setting_of key value >>= λ setting. Ok (with_setting_at q number setting)
 
--- the queues behind a pair in the section of the queue of a number
+-- the queues after a pair in the section of the queue of a number
 abbrev pub paired : QueuesOf → ℕ → List ℕ → List ℕ → Result QueuesOf QueueKind
 paired q number key value =
     if same_word key (codes "member") then membered q number (arguments_of value) else set q number key value
@@ -100,21 +98,21 @@ with_made file made = record file { made = made }
 abbrev pub made_in : FileOf → Result QueuesOf QueueKind → Result FileOf QueueKind
 made_in file made = made >>= λ q. Ok (with_made file q)
 
--- behind a pair, by its section; what stands in `[general]` is not read
-abbrev pub behind_pair : FileOf → Option ℕ → List ℕ → List ℕ → Result FileOf QueueKind
-behind_pair file None key value = Ok file
-behind_pair file (Some number) key value = made_in file (paired file.made number key value)
+-- after a pair, by its section; what stands in `[general]` is not read
+abbrev pub after_pair : FileOf → Option ℕ → List ℕ → List ℕ → Result FileOf QueueKind
+after_pair file None key value = Ok file
+after_pair file (Some number) key value = made_in file (paired file.made number key value)
 
--- behind one more line, or the line's fault
-abbrev pub behind_line : FileOf → ConfLine → Result FileOf QueueFault
-behind_line file (Header line name) = at_line line (begun file name)
-behind_line file (Pair line key value) = at_line line (behind_pair file file.section key value)
+-- after one more line, or the line's fault
+abbrev pub after_line : FileOf → LineOf → Result FileOf QueueFault
+after_line file (Header line name) = at_line line (begun file name)
+after_line file (Pair line key value) = at_line line (after_pair file file.section key value)
 
--- behind some lines, or the fault of the first that has one
-abbrev pub behind_lines : FileOf → List ConfLine → Result FileOf QueueFault
-behind_lines file [] = Ok file
-behind_lines file (line ∷ lines) = behind_line file line >>= λ next. behind_lines next lines
+-- after some lines, or the fault of the first that has one
+abbrev pub after_lines : FileOf → List LineOf → Result FileOf QueueFault
+after_lines file [] = Ok file
+after_lines file (line ∷ lines) = after_line file line >>= λ next. after_lines next lines
 
 -- the queues of a file: the faults of its text come before those of queues
 unfoldable pub loaded : List ℕ → Result QueuesOf QueueFault
-loaded text = text_fault (lines_of text) >>= λ lines. behind_lines unread lines >>= λ file. Ok file.made
+loaded text = text_fault (lines_of text) >>= λ lines. after_lines unread lines >>= λ file. Ok file.made

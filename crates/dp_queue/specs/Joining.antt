@@ -3,7 +3,8 @@ use Rattle.std.specs.Prelude.{ℕ, suc, ◌+◌, ◌<◌, Bool, true, false, not
 use Rattle.std.specs.List.{list_any}
 use Rattle.std.specs.Option.{option_map, unwrap_or}
 use Rattle.dp_queue.specs.Agents.{all_freed}
-use Rattle.dp_queue.specs.Changes.{changed_at, without}
+use Rattle.dp_conf.specs.Changes.{changed_at}
+use Rattle.dp_queue.specs.Changes.{without}
 use Rattle.dp_queue.specs.Members.{has_active}
 use Rattle.dp_queue.specs.Queues.{QueueOf, QueuesOf, queue_number}
 use Rattle.dp_queue.specs.declared.join.Join.{Join}
@@ -61,7 +62,7 @@ with_caller c queue = record queue { waiting = queue.waiting ++ c ∷ [] }
 abbrev pub without_caller : ℕ → QueueOf → QueueOf
 without_caller c queue = record queue { waiting = without (λ d. d == c) queue.waiting }
 
--- the queues behind what a call that asks to join is told
+-- the queues after what a call that asks to join is told
 abbrev pub joined : QueuesOf → ℕ → Join → QueuesOf
 joined q c Unknown = q
 joined q c Empty = q

@@ -5,7 +5,6 @@ pub mod Codes
 pub mod Faults
 pub mod File
 pub mod Good
-pub mod Held
 pub mod Joining
 pub mod Keys
 pub mod Members
@@ -14,4 +13,4 @@ pub mod Offers
 pub mod Places
 pub mod Queues
 pub mod Rest
-pub mod Seats
+pub mod steps

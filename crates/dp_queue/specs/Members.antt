@@ -3,7 +3,8 @@ use Rattle.std.specs.Prelude.{ℕ, Bool, true, false, not, ◌==◌, List, [], �
 use Rattle.std.specs.List.{list_any, find}
 use Rattle.std.specs.Option.{option_map, unwrap_or}
 use Rattle.dp_queue.specs.Agents.{agent_number}
-use Rattle.dp_queue.specs.Changes.{changed_at, without}
+use Rattle.dp_conf.specs.Changes.{changed_at}
+use Rattle.dp_queue.specs.Changes.{without}
 use Rattle.dp_queue.specs.Queues.{QueueOf, QueuesOf, queue_number}
 use Rattle.dp_queue.specs.declared.agent.Agent.{Agent}
 use Rattle.dp_queue.specs.declared.agent.AgentState.TheVariants.{Idle}
@@ -34,7 +35,7 @@ new_member a penalty is_dynamic =
 abbrev pub with_member : Member → QueueOf → QueueOf
 with_member member queue = record queue { members = queue.members ++ member ∷ [] }
 
--- the agents with that of the name among them, behind the others and idle if it is new
+-- the agents with that of the name among them, after the others and idle if it is new
 abbrev pub with_agent : List Agent → List ℕ → List Agent
 with_agent agents name =
     if nat_lt (agent_number agents name) (length agents) then agents else agents ++ (record { name = name; state = Idle }) ∷ []

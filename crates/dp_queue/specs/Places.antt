@@ -1,5 +1,5 @@
 -- Where the elements of a list stand by the hashes of their names.
-use Rattle.std.specs.Prelude.{◌≡◌, ◌≢◌, ℕ, suc, Bool, false, ◌==◌, nat_eq, List, [], ◌∷◌, map, take, fold, Option, Some, None, slice_get, if◌then◌else◌}
+use Rattle.std.specs.Prelude.{◌≡◌, ℕ, suc, Bool, false, ◌==◌, nat_eq, List, [], ◌∷◌, map, take, fold, Option, Some, None, slice_get, if◌then◌else◌}
 use Rattle.std.specs.Char.{to_ascii_lowercase}
 use Rattle.std.specs.Hash.FoldHasher as folding
 use Rattle.std.specs.HashMap.{HashMap, get}
@@ -8,16 +8,10 @@ use Rattle.std.specs.Option.{option_map, unwrap_or}
 use Rattle.std.specs.declared.hash.BuildHasherDefault.{BuildHasherDefault}
 use Rattle.std.specs.declared.hash.FoldHasher.{FoldHasher}
 use Rattle.dp_conf.specs.Words.{same_word}
-use Rattle.dp_queue.specs.Agents.{is_named}
 use Rattle.dp_queue.specs.Queues.{QueueOf}
-use Rattle.dp_queue.specs.declared.agent.Agent.{Agent}
 use Rattle.dp_queue.specs.declared.places.Link.{Link}
 
--- the hash of a text
-unfoldable pub text_hash : List ℕ → ℕ
-text_hash text = folding.finish (folding.write folding.initial text)
-
--- a hasher behind one more letter of a word
+-- a hasher after one more letter of a word
 abbrev pub with_letter : FoldHasher → ℕ → FoldHasher
 with_letter hasher letter = folding.write hasher (to_ascii_lowercase letter ∷ [])
 
@@ -25,7 +19,7 @@ with_letter hasher letter = folding.write hasher (to_ascii_lowercase letter ∷ 
 unfoldable pub word_hash : List ℕ → ℕ
 word_hash word = folding.finish (fold with_letter folding.initial word)
 
--- a place by the one behind the first element, and by whether the first is asked for
+-- a place by the one after the first element, and by whether the first is asked for
 abbrev pub later : Bool → Option ℕ → Option ℕ
 later is_first None = if is_first then Some 0 else None
 later is_first (Some place) = Some (suc place)
@@ -59,18 +53,6 @@ AreLasts lasts hashes = (hash : ℕ) → get nat_eq lasts hash ≡ last_place ha
 -- each link names the last place before it of its hash
 abbrev pub AreChained : List Link → Type 0
 AreChained links = (k : ℕ) (link : Link) → slice_get links k ≡ Some link → link.before ≡ last_place (take k (hashes_of links)) link.hash
-
--- the agent of a number is of this name
-abbrev pub is_named_at : List ℕ → List Agent → ℕ → Bool
-is_named_at name agents number = unwrap_or (option_map (is_named name) (slice_get agents number)) false
-
--- the names of the agents
-abbrev pub names_of : List Agent → List (List ℕ)
-names_of agents = map (λ agent. agent.name) agents
-
--- the hashes are those of the names of the agents, of which no two have one name
-abbrev pub AreNamed : List ℕ → List Agent → Type 0
-AreNamed hashes agents = (hashes ≡ map text_hash (names_of agents)) × AllPairs (λ name other. name ≢ other) (names_of agents)
 
 -- the names of the queues
 abbrev pub words_of : List QueueOf → List (List ℕ)

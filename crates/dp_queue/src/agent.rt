@@ -66,7 +66,7 @@ pub(crate) fn set_state(agents: &mut Vec<Agent>, number: usize, state: AgentStat
     }
 }
 
-/// The state of an agent behind the end of a channel's waiting.
+/// The state of an agent after the end of a channel's waiting.
 fn freed(state: AgentState, channel: u32) -> AgentState
     ensures { result ≡ spec.freed_state channel state }
 {

@@ -1,59 +1,33 @@
 //! The agents of an exchange, by their numbers and by their names.
 ghost use Rattle.std.specs.Prelude.{◌≡◌, [], OnOk, OnErr, false, length, nat_lt};
-ghost use Rattle.std.specs.List.{position};
 ghost use Rattle.dp_queue.specs.Agents as spec;
 ghost use Rattle.dp_queue.specs.Members.{with_agent};
-ghost use Rattle.dp_queue.specs.Places.{AreNamed, is_named_at};
 
 use crate::agent::{Agent, AgentState, free_all, set_state};
-use crate::places::{Places, text_hash};
 use dp_conf::{NoMemory, Text};
 use std::alloc::Global;
+use std::collections::BTreeMap;
 use std::marker::Model;
 
 /// The agents in the order in which they were first named. They are never dropped, and no two have one name.
 #[derive(Debug, Drop)]
 pub(crate) struct Agents {
     list: Vec<Agent>,
-    // Where the agents stand by the hashes of their names, so that none is looked for by a walk over them all.
-    places: Places,
+    // The number of each agent by its name, in the order of the names: names may come from callers, and no choice of them makes
+    // a look-up dear.
+    numbers: BTreeMap<Vec<u8>, usize>,
 }
 
 impl Model for Agents {
     ghost use Rattle.std.specs.Prelude.{List};
-    ghost use Rattle.dp_queue.specs.Places.{AreNamed};
+    ghost use Rattle.dp_queue.specs.Agents.{AreNumbered};
     ghost use Rattle.dp_queue.specs.declared.agent.Agent.{Agent};
 
     ghost Value = { List Agent };
 
     ghost view = { λ agents. agents.list.items };
 
-    ghost invariant = { λ agents. AreNamed agents.places agents.list.items };
-}
-
-/// Whether the agent of a number is of this name.
-fn is_named(agents: &[Agent], number: usize, name: &[u8]) -> bool
-    ensures { result ≡ is_named_at name.now agents.now number }
-{
-    match agents.get(number) {
-        Some(agent) => agent.name.bytes() == name,
-        None => false,
-    }
-}
-
-/// The number of the agent of this name.
-fn find_agent(agents: &[Agent], places: &Places, name: &[u8]) -> Option<usize>
-    requires { AreNamed places.now agents.now }
-    ensures { result ≡ position (spec.is_named name.now) agents.now }
-{
-    let mut at = places.last(text_hash(name));
-    while let Some(number) = at {
-        if is_named(agents, number, name) {
-            return Some(number);
-        }
-        at = places.before(number);
-    }
-    None
+    ghost invariant = { λ agents. AreNumbered agents.numbers agents.list.items };
 }
 
 impl Agents {
@@ -63,7 +37,7 @@ impl Agents {
     {
         Agents {
             list: Vec::new(alloc),
-            places: Places::new(alloc),
+            numbers: BTreeMap::new(alloc),
         }
     }
 
@@ -78,7 +52,7 @@ impl Agents {
     pub(crate) fn number_of(&self, name: &[u8]) -> usize
         ensures { result ≡ spec.agent_number self.now name.now }
     {
-        find_agent(&self.list, &self.places, name).unwrap_or(self.list.len())
+        self.numbers.get(name).copied().unwrap_or(self.list.len())
     }
 
     /// Puts the agent of a number into a state. One that is not known stays idle.
@@ -103,7 +77,9 @@ impl Agents {
     {
         self.list.reserve(1)?;
         let text = Text::copy_of(alloc, name)?;
-        self.places.push(text_hash(name))?;
+        let key = Vec::from_slice(alloc, name)?;
+        let number = self.list.len();
+        self.numbers.insert(key, number)?;
         self.list
             .push(Agent {
                 name: text,

@@ -2,7 +2,7 @@
 ghost use Rattle.std.specs.Prelude.{◌≡◌};
 ghost use Rattle.dp_queue.specs.Agents.{state_at, talker};
 ghost use Rattle.dp_queue.specs.Calls as spec;
-ghost use Rattle.dp_queue.specs.Seats.{AreFound};
+ghost use Rattle.dp_queue.specs.steps.Seats.{AreFound};
 
 use crate::agent::{Agent, AgentState, state_at, talks_with};
 use crate::call::Call;

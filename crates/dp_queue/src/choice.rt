@@ -123,8 +123,8 @@ fn first<'a>(agents: &[Agent], penalty: u32, members: &'a [Member]) -> Option<&'
         .find(|member| is_candidate(agents, penalty, member))
 }
 
-/// The first of the candidates behind a place, going round.
-fn next_behind<'a>(
+/// The first of the candidates after a place, going round.
+fn next_after<'a>(
     agents: &[Agent],
     penalty: u32,
     members: &'a [Member],
@@ -140,7 +140,7 @@ fn next_behind<'a>(
     }
 }
 
-/// The first of the candidates behind the one that was chosen last, going round.
+/// The first of the candidates after the one that was chosen last, going round.
 fn next_in_turn<'a>(
     agents: &[Agent],
     penalty: u32,
@@ -153,7 +153,7 @@ fn next_in_turn<'a>(
         None => first(agents, penalty, members),
         Some(agent) => match place_of(members, agent) {
             None => first(agents, penalty, members),
-            Some(place) => next_behind(agents, penalty, members, place),
+            Some(place) => next_after(agents, penalty, members, place),
         },
     }
 }

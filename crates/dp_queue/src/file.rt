@@ -1,6 +1,7 @@
-//! How a file of queues is read, after the Asterisk documentation's page on that file.
+//! What each line of a file of queues makes, after the Asterisk documentation's page on that file.
 ghost use Rattle.std.specs.Prelude.{◌≡◌, ◌<◌, ◌++◌, ◌∷◌, [], None, Ok, IfOk, length, map};
 ghost use Rattle.dp_conf.specs.Answers.{Answers};
+ghost use Rattle.dp_conf.specs.Borrowed.{line_now};
 ghost use Rattle.dp_conf.specs.Levels.{arguments_of};
 ghost use Rattle.dp_queue.specs.Queues.{queue_number};
 ghost use Rattle.dp_queue.specs.Faults.{at_line, reason_of};
@@ -15,13 +16,13 @@ use crate::queue_list::QueueList;
 use crate::queues::Queues;
 use crate::seat::Seats;
 use crate::setting::{Setting, at_line, read_limited, read_setting};
-use dp_conf::{ConfLine, NoMemory, read_lines, same_word, split_args};
+use dp_conf::{Line, NoMemory, same_word, split_args};
 use std::alloc::Global;
 use std::marker::Model;
 
 /// What some lines made, and the number of the queue whose section they end in, where that is one.
 #[derive(Drop)]
-struct File {
+pub(crate) struct File {
     section: Option<usize>,
     queues: QueueList,
     agents: Agents,
@@ -78,7 +79,7 @@ fn is_passed_over(queues: &[Queue], agents: &Agents, number: usize, name: &[u8])
 
 impl File {
     /// Before the first line.
-    fn new(alloc: Global) -> Self
+    pub(crate) fn new(alloc: Global) -> Self
         ensures { result ≡ spec.unread }
     {
         File {
@@ -99,7 +100,7 @@ impl File {
         Ok(())
     }
 
-    /// Goes behind a header.
+    /// Goes after a header.
     fn begin(&mut self, alloc: Global, line: usize, name: &[u8]) -> Result<(), QueueFault>
         ensures { Answers (λ done. self.new) reason_of result (at_line line (spec.begun self.old name.now)) }
     {
@@ -143,7 +144,7 @@ impl File {
         Ok(())
     }
 
-    /// Goes behind a member's line in the section of the queue of a number, by its arguments.
+    /// Goes after a member's line in the section of the queue of a number, by its arguments.
     fn take_arguments(
         &mut self,
         alloc: Global,
@@ -160,7 +161,7 @@ impl File {
         Ok(())
     }
 
-    /// Goes behind a member's line in the section of the queue of a number.
+    /// Goes after a member's line in the section of the queue of a number.
     fn take_member(
         &mut self,
         alloc: Global,
@@ -176,7 +177,7 @@ impl File {
         self.take_arguments(alloc, line, number, &arguments)
     }
 
-    /// Goes behind another pair in the section of the queue of a number.
+    /// Goes after another pair in the section of the queue of a number.
     fn take_setting(
         &mut self,
         alloc: Global,
@@ -194,7 +195,7 @@ impl File {
         Ok(())
     }
 
-    /// Goes behind a pair.
+    /// Goes after a pair.
     fn take_pair(
         &mut self,
         alloc: Global,
@@ -203,7 +204,7 @@ impl File {
         value: &[u8],
     ) -> Result<(), QueueFault>
         ensures { Answers (λ done. self.new) reason_of result
-            (at_line line (spec.behind_pair self.old self.old.section key.now value.now)) }
+            (at_line line (spec.after_pair self.old self.old.section key.now value.now)) }
     {
         match self.section {
             None => Ok(()),
@@ -216,20 +217,18 @@ impl File {
         }
     }
 
-    /// Goes behind a line.
-    fn take(&mut self, alloc: Global, line: &ConfLine) -> Result<(), QueueFault>
-        ensures { Answers (λ done. self.new) reason_of result (spec.behind_line self.old line.now) }
+    /// Goes after a line.
+    pub(crate) fn take(&mut self, alloc: Global, line: Line<'_>) -> Result<(), QueueFault>
+        ensures { Answers (λ done. self.new) reason_of result (spec.after_line self.old (line_now line.entry)) }
     {
         match line {
-            ConfLine::Header { line, name } => self.begin(alloc, *line, name.bytes()),
-            ConfLine::Pair { line, key, value } => {
-                self.take_pair(alloc, *line, key.bytes(), value.bytes())
-            }
+            Line::Header { line, name } => self.begin(alloc, line, name),
+            Line::Pair { line, key, value } => self.take_pair(alloc, line, key, value),
         }
     }
 
     /// The queues that the lines made.
-    fn into_queues(self, alloc: Global) -> Queues
+    pub(crate) fn into_queues(self, alloc: Global) -> Queues
         requires { IsAtRest self.made }
         ensures { result ≡ self.made }
     {
@@ -244,36 +243,5 @@ impl File {
             seats: Seats::new(alloc),
             finished: 0,
         }
-    }
-}
-
-/// What some lines make.
-fn read_file(alloc: Global, lines: &[ConfLine]) -> Result<File, QueueFault>
-    ensures { Answers (λ file. file) reason_of result (spec.behind_lines spec.unread lines.now) }
-{
-    let mut file = File::new(alloc);
-    let mut left = lines;
-    while let Some((line, rest)) = left.split_first() {
-        file.take(alloc, line)?;
-        left = rest;
-    }
-    Ok(file)
-}
-
-impl Queues {
-    /// Loads the queues of a file.
-    ///
-    /// A section is a queue, and `[general]` in any ASCII case is ignored. A repeated key takes its last value, but each
-    /// `member` adds a member, unless it is one already. A fault of the text is answered first, as `QueueFault::Conf`;
-    /// then the fault of the first faulty line of a queue, as `QueueFault::Queue`: see [`QueueKind`]. Nobody waits in the
-    /// queues, and their agents are idle.
-    #[tactic(auto, unfolding(crate::specs::File::loaded))]
-    pub fn load(alloc: Global, text: &[u8]) -> Result<Self, QueueFault>
-        ensures loaded { Answers (λ queues. queues) reason_of result (spec.loaded text.now) }
-        ensures rest { IfOk result IsAtRest }
-    {
-        let lines = read_lines(alloc, text)?;
-        let file = read_file(alloc, &lines)?;
-        Ok(file.into_queues(alloc))
     }
 }

@@ -2,7 +2,7 @@
 //! members of its queue and not among all agents.
 ghost use Rattle.std.specs.Prelude.{◌≡◌};
 ghost use Rattle.dp_queue.specs.Agents.{all_freed};
-ghost use Rattle.dp_queue.specs.Seats.{rung_count};
+ghost use Rattle.dp_queue.specs.steps.Seats.{rung_count};
 
 use crate::agent::{AgentState, rings_for, state_at};
 use crate::agents::Agents;

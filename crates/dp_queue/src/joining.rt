@@ -1,9 +1,9 @@
 //! How calls join queues and leave them, after the Asterisk documentation's page on the application `Queue`.
 ghost use Rattle.std.specs.Prelude.{◌≡◌, ◌<◌, ◌≤◌, ℕ, IfOk, OnOk, OnErr, None, Some, false, length};
 ghost use Rattle.dp_queue.specs.Agents.{all_freed, is_talking};
-ghost use Rattle.dp_queue.specs.Changes.{changed_at};
+ghost use Rattle.dp_conf.specs.Changes.{changed_at};
 ghost use Rattle.dp_queue.specs.Joining as spec;
-ghost use Rattle.dp_queue.specs.Seats.{seat_at, rung_count, talk_at, ReplacesSeat, ReplacesTalk};
+ghost use Rattle.dp_queue.specs.steps.Seats.{seat_at, rung_count, talk_at, ReplacesSeat, ReplacesTalk};
 
 use crate::agents::Agents;
 use crate::freeing::free_rung;
@@ -27,7 +27,7 @@ fn join_answer(queues: &QueueList, name: &[u8]) -> Join
     }
 }
 
-/// Puts a channel behind those that wait in a queue.
+/// Puts a channel after those that wait in a queue.
 fn sit(
     queues: &mut QueueList,
     seats: &mut Seats,

@@ -13,6 +13,7 @@ mod file;
 mod freeing;
 mod join;
 mod joining;
+mod loading;
 mod member;
 mod members;
 mod membership;

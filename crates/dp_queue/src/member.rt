@@ -70,7 +70,7 @@ pub(crate) fn one_more(count: u64) -> u64
     count.saturating_add(1)
 }
 
-/// The member behind the end of a call of the agent.
+/// The member after the end of a call of the agent.
 pub(crate) fn finished_member(member: Member, agent: usize, count: u64) -> Member
     ensures { result ≡ calls.finished_member agent count member }
 {

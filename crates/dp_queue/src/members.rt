@@ -3,9 +3,10 @@ ghost use Rattle.std.specs.Prelude.{◌≡◌, ◌<◌, ◌++◌, ◌∷◌, [],
 ghost use Rattle.std.specs.List.{find, list_any, position};
 ghost use Rattle.std.specs.Option.{option_copied};
 ghost use Rattle.dp_queue.specs.Calls.{finished_member};
-ghost use Rattle.dp_queue.specs.Changes.{changed_at, without};
+ghost use Rattle.dp_conf.specs.Changes.{changed_at};
+ghost use Rattle.dp_queue.specs.Changes.{without};
 ghost use Rattle.dp_queue.specs.Good.{StandOnce};
-ghost use Rattle.dp_queue.specs.Held.{is_agent_at};
+ghost use Rattle.dp_queue.specs.steps.Held.{is_agent_at};
 ghost use Rattle.dp_queue.specs.Members as spec;
 
 use crate::member::{Member, finished_member, paused_member, place_of};
@@ -25,7 +26,7 @@ pub(crate) struct Members {
 
 impl Model for Members {
     ghost use Rattle.std.specs.Prelude.{List};
-    ghost use Rattle.dp_queue.specs.Held.{AreHeld};
+    ghost use Rattle.dp_queue.specs.steps.Held.{AreHeld};
     ghost use Rattle.dp_queue.specs.declared.member.Member.{Member};
 
     ghost Value = { List Member };
@@ -53,7 +54,7 @@ fn rank_of(ranks: &HashMap<usize, usize>, agent: usize) -> usize {
     }
 }
 
-/// The rank of the next arrival behind some members.
+/// The rank of the next arrival after some members.
 fn next_rank(members: &[Member], ranks: &HashMap<usize, usize>) -> usize {
     match members.last() {
         Some(member) => rank_of(ranks, member.agent).saturating_add(1),
@@ -155,7 +156,7 @@ impl Members {
         }
     }
 
-    /// Adds a member behind the others, whose agent is none. After a refused growth all is as before.
+    /// Adds a member after the others, whose agent is none. After a refused growth all is as before.
     pub(crate) fn push(&mut self, member: Member) -> Result<(), NoMemory>
         requires { list_any (spec.is_agent member.agent) self.old ≡ false }
         ensures ok { OnOk result (self.new ≡ self.old ++ member ∷ []) }

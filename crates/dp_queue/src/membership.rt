@@ -3,7 +3,7 @@ ghost use Rattle.std.specs.Prelude.{◌≡◌, ◌<◌, IfOk, false, OnOk, OnErr
 ghost use Rattle.std.specs.List.{list_any};
 ghost use Rattle.std.specs.Option.{option_copied};
 ghost use Rattle.dp_queue.specs.Agents.{agent_number};
-ghost use Rattle.dp_queue.specs.Changes.{changed_at};
+ghost use Rattle.dp_conf.specs.Changes.{changed_at};
 ghost use Rattle.dp_queue.specs.Members as spec;
 
 use crate::agents::Agents;

@@ -3,12 +3,12 @@ ghost use Rattle.std.specs.Prelude.{◌≡◌, ◌+◌, ◌<◌, ◌^◌, not, l
 ghost use Rattle.std.specs.List.{All, filter, find};
 ghost use Rattle.std.specs.Option.{option_copied, option_to_list};
 ghost use Rattle.dp_queue.specs.Agents.{is_rung, with_state_at};
-ghost use Rattle.dp_queue.specs.Changes.{changed_at};
+ghost use Rattle.dp_conf.specs.Changes.{changed_at};
 ghost use Rattle.dp_queue.specs.Choices as choices;
 ghost use Rattle.dp_queue.specs.Good.{StandOnce};
 ghost use Rattle.dp_queue.specs.Offers as spec;
 ghost use Rattle.dp_queue.specs.Queues.{queue_number};
-ghost use Rattle.dp_queue.specs.Seats.{AreSeated, is_unrung};
+ghost use Rattle.dp_queue.specs.steps.Seats.{AreSeated, is_unrung};
 
 use crate::agent::{Agent, AgentState};
 use crate::agents::Agents;
@@ -31,7 +31,7 @@ pub struct Offered {
 
 /// What an offer asks for: agents of a queue for a channel, by members of this penalty.
 #[derive(Clone, Copy, Debug, PartialEq, Eq)]
-pub(crate) struct Asked {
+pub(crate) struct OfferRequest {
     queue: usize,
     channel: u32,
     penalty: u32,
@@ -60,7 +60,7 @@ fn ask_in(
     agents: &[Agent],
     seats: &Seats,
     number: usize,
-) -> Result<Asked, OfferFault>
+) -> Result<OfferRequest, OfferFault>
     requires { find (is_unrung seats.now) queue.now.waiting ≡ find (λ channel. not (is_rung agents.now channel)) queue.now.waiting }
     ensures { result ≡ spec.asked_in agents.now number (Some queue.now) }
 {
@@ -69,7 +69,7 @@ fn ask_in(
     };
     match least_penalty(agents, queue.members()) {
         None => Err(OfferFault::NoMember),
-        Some(penalty) => Ok(Asked {
+        Some(penalty) => Ok(OfferRequest {
             queue: number,
             channel: *channel,
             penalty,
@@ -83,7 +83,7 @@ fn ask(
     agents: &[Agent],
     seats: &Seats,
     name: &[u8],
-) -> Result<Asked, OfferFault>
+) -> Result<OfferRequest, OfferFault>
     requires { AreSeated seats.now queues.now agents.now }
     ensures { result ≡ spec.asked_at queues.now agents.now (queue_number queues.now name.now) }
 {
@@ -94,7 +94,7 @@ fn ask(
 }
 
 /// Makes the agent of a number ring.
-fn ring_one(agents: &mut Agents, asked: Asked, number: usize)
+fn ring_one(agents: &mut Agents, asked: OfferRequest, number: usize)
     ensures { agents.new ≡ with_state_at number (AgentState.Ringing asked.queue asked.channel) agents.old }
 {
     agents.set_state(
@@ -107,7 +107,7 @@ fn ring_one(agents: &mut Agents, asked: Asked, number: usize)
 }
 
 /// Makes the agent of a member ring, if an offer may ring the member and it has the penalty: how many ring then.
-fn ring_candidate(agents: &mut Agents, asked: Asked, member: &Member, count: usize) -> usize
+fn ring_candidate(agents: &mut Agents, asked: OfferRequest, member: &Member, count: usize) -> usize
     requires { count + 1 < 2 ^ 64 }
     ensures agents { agents.new ≡ (if choices.is_candidate agents.old asked.penalty member.now
         then with_state_at member.now.agent (AgentState.Ringing asked.queue asked.channel) agents.old else agents.old) }
@@ -121,7 +121,7 @@ fn ring_candidate(agents: &mut Agents, asked: Asked, member: &Member, count: usi
 }
 
 /// Makes the agents of all candidates ring: how many do.
-fn ring_candidates(agents: &mut Agents, asked: Asked, members: &[Member]) -> usize
+fn ring_candidates(agents: &mut Agents, asked: OfferRequest, members: &[Member]) -> usize
     requires { StandOnce members.now }
     ensures agents { agents.new ≡ spec.all_ringing asked.queue asked.channel
         (filter (choices.is_candidate agents.old asked.penalty) members.now) agents.old }
@@ -137,7 +137,7 @@ fn ring_candidates(agents: &mut Agents, asked: Asked, members: &[Member]) -> usi
 }
 
 /// Makes the agent of the member ring, where there is one: how many do.
-fn ring_picked(agents: &mut Agents, asked: Asked, picked: Option<&Member>) -> usize
+fn ring_picked(agents: &mut Agents, asked: OfferRequest, picked: Option<&Member>) -> usize
     ensures agents { agents.new ≡ spec.all_ringing asked.queue asked.channel (option_to_list (option_copied picked.entry)) agents.old }
     ensures count { result ≡ length (option_to_list (option_copied picked.entry)) }
 {
@@ -150,7 +150,7 @@ fn ring_picked(agents: &mut Agents, asked: Asked, picked: Option<&Member>) -> us
     }
 }
 
-/// The agent that is remembered behind a choice.
+/// The agent that is remembered after a choice.
 fn remembered(last: Option<usize>, picked: Option<&Member>) -> Option<usize>
     ensures { result ≡ choices.remembered last (option_copied picked.entry) }
 {
@@ -175,12 +175,12 @@ fn picked_in<'a>(agents: &[Agent], penalty: u32, queue: &'a Queue) -> Option<&'a
 
 /// Makes the agents ring that the strategy of the queue chooses: how many do, and the agent that the queue remembers, which
 /// changes under `rrmemory` alone.
-fn ring(agents: &mut Agents, asked: Asked, queue: &Queue) -> (usize, Option<usize>)
+fn ring(agents: &mut Agents, asked: OfferRequest, queue: &Queue) -> (usize, Option<usize>)
     requires { StandOnce queue.now.members }
     ensures agents { agents.new ≡ spec.all_ringing asked.queue asked.channel
         (spec.chosen_of agents.old asked.penalty queue.now) agents.old }
     ensures count { result.0 ≡ length (spec.chosen_of agents.old asked.penalty queue.now) }
-    ensures last { result.1 ≡ choices.last_behind queue.now.settings.strategy queue.now.last
+    ensures last { result.1 ≡ choices.last_after queue.now.settings.strategy queue.now.last
         (choices.is_candidate agents.old asked.penalty) queue.now.members }
 {
     match queue.settings().strategy {
@@ -203,7 +203,7 @@ fn ring(agents: &mut Agents, asked: Asked, queue: &Queue) -> (usize, Option<usiz
 }
 
 /// Makes the agents ring that the queue chooses, and lets it remember its choice: how many ring.
-fn ring_at(queues: &mut QueueList, agents: &mut Agents, asked: Asked) -> usize
+fn ring_at(queues: &mut QueueList, agents: &mut Agents, asked: OfferRequest) -> usize
     requires queue { asked.queue < length queues.old }
     requires once { All (λ queue. StandOnce queue.members) queues.old }
     ensures queues { queues.new ≡ changed_at (spec.with_choice agents.old asked.penalty) asked.queue queues.old }

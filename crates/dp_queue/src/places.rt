@@ -35,16 +35,6 @@ impl Model for Places {
     ghost invariant = { λ places. AreLasts places.lasts (hashes_of places.links.items) × AreChained places.links.items };
 }
 
-/// The hash of a text.
-#[tactic(auto, unfolding(crate::specs::Places::text_hash))]
-pub(crate) fn text_hash(text: &[u8]) -> u64
-    ensures { result ≡ spec.text_hash text.now }
-{
-    let mut hasher = FoldHasher::default();
-    hasher.write(text);
-    hasher.finish()
-}
-
 /// The hash of a word, the same in each ASCII case.
 #[tactic(auto, unfolding(crate::specs::Places::word_hash))]
 pub(crate) fn word_hash(word: &[u8]) -> u64
@@ -85,7 +75,7 @@ impl Places {
         }
     }
 
-    /// One more element, behind the others. After a refused growth all is as before.
+    /// One more element, after the others. After a refused growth all is as before.
     pub(crate) fn push(&mut self, hash: u64) -> Result<(), NoMemory>
         ensures ok { OnOk result (self.new ≡ self.old ++ hash ∷ []) }
         ensures err { OnErr result (self.new ≡ self.old) }

@@ -7,7 +7,7 @@ ghost use Rattle.dp_queue.specs.Calls as calls;
 ghost use Rattle.dp_queue.specs.File as file;
 ghost use Rattle.dp_queue.specs.Joining as joining;
 ghost use Rattle.dp_queue.specs.Members as members;
-ghost use Rattle.dp_queue.specs.Seats.{stands_at};
+ghost use Rattle.dp_queue.specs.steps.Seats.{stands_at};
 
 use crate::join::Join;
 use crate::member::{Member, has_active};
@@ -176,7 +176,7 @@ impl Queue {
         refuses_stay(self.settings.leavewhenempty, self.members.list())
     }
 
-    /// Adds a call behind the others.
+    /// Adds a call after the others.
     pub(crate) fn push_caller(&mut self, channel: u32) -> Result<(), NoMemory>
         ensures ok { OnOk result (self.new ≡ joining.with_caller channel self.old) }
         ensures err { OnErr result (self.new ≡ self.old) }
@@ -228,7 +228,7 @@ impl Queue {
         self.members.find(agent)
     }
 
-    /// Adds a member behind the others, whose agent is none.
+    /// Adds a member after the others, whose agent is none.
     pub(crate) fn push_member(&mut self, member: Member) -> Result<(), NoMemory>
         requires { members.has_member member.agent self.old ≡ false }
         ensures ok { OnOk result (self.new ≡ members.with_member member self.old) }

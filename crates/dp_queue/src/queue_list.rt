@@ -2,7 +2,7 @@
 ghost use Rattle.std.specs.Prelude.{◌≡◌, ◌<◌, ◌≤◌, ◌++◌, ◌∷◌, [], false, None, IfSome, OnOk, OnErr, Option, ℕ, length, map, vec_len};
 ghost use Rattle.std.specs.List.{position};
 ghost use Rattle.dp_queue.specs.Calls.{finished_queue};
-ghost use Rattle.dp_queue.specs.Changes.{changed_at};
+ghost use Rattle.dp_conf.specs.Changes.{changed_at};
 ghost use Rattle.dp_queue.specs.Choices.{with_last};
 ghost use Rattle.dp_queue.specs.File.{queue_named, with_queue_setting};
 ghost use Rattle.dp_queue.specs.Joining.{times_waiting, with_caller, without_caller};
@@ -72,7 +72,7 @@ fn set_at(queues: &mut Vec<Queue>, number: usize, setting: Setting)
     queue.set(setting);
 }
 
-/// Adds a call behind those that wait in the queue of a number.
+/// Adds a call after those that wait in the queue of a number.
 fn push_caller_at(queues: &mut Vec<Queue>, number: usize, channel: u32) -> Result<(), NoMemory>
     requires { number < vec_len queues.old }
     ensures ok { OnOk result (queues.new.items ≡ changed_at (with_caller channel) number queues.old.items) }
@@ -202,7 +202,7 @@ impl QueueList {
         set_at(&mut self.list, number, setting);
     }
 
-    /// Adds a call behind those that wait in the queue of a number.
+    /// Adds a call after those that wait in the queue of a number.
     pub(crate) fn push_caller(&mut self, number: usize, channel: u32) -> Result<(), NoMemory>
         requires { number < length self.old }
         ensures ok { OnOk result (self.new ≡ changed_at (with_caller channel) number self.old) }

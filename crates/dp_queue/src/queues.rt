@@ -3,7 +3,7 @@ ghost use Rattle.std.specs.Prelude.{◌≡◌, ◌<◌, ℕ, List, length, IfSom
 ghost use Rattle.dp_queue.specs.Good.{IsGood};
 ghost use Rattle.dp_queue.specs.Joining.{waits_in, waiting_count};
 ghost use Rattle.dp_queue.specs.Queues as spec;
-ghost use Rattle.dp_queue.specs.Seats.{seat_at};
+ghost use Rattle.dp_queue.specs.steps.Seats.{seat_at};
 
 use crate::agent::Agent;
 use crate::agents::Agents;
@@ -29,7 +29,7 @@ pub struct Queues {
 impl Model for Queues {
     ghost use Rattle.dp_queue.specs.Good.{AreLinked};
     ghost use Rattle.dp_queue.specs.Queues.{QueuesOf};
-    ghost use Rattle.dp_queue.specs.Seats.{AreFound, AreSeated};
+    ghost use Rattle.dp_queue.specs.steps.Seats.{AreFound, AreSeated};
 
     ghost Value = { QueuesOf };
 
@@ -82,7 +82,7 @@ impl Queues {
     /// that the agent names; one that an agent talks with waits nowhere, and the queue that the agent names is one of the
     /// queues; no two agents talk with one channel; each member of a queue is one of the agents; no agent is a member of
     /// one queue twice; and no two agents have one name. It does nothing.
-    pub fn are_good(&self)
+    pub fn show_good(&self)
         ensures { IsGood self.now }
     {
         let _queues = &self.queues;

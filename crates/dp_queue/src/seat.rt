@@ -2,7 +2,7 @@
 //! The seats take room by how many channels wait or talk, and not by their numbers.
 ghost use Rattle.std.specs.HashMap.{spare};
 ghost use Rattle.std.specs.Prelude.{◌≡◌, ◌<◌, ℕ, OnOk, None, Some, IsSome};
-ghost use Rattle.dp_queue.specs.Seats as spec;
+ghost use Rattle.dp_queue.specs.steps.Seats as spec;
 
 use crate::member::one_more;
 use dp_conf::NoMemory;
@@ -67,7 +67,7 @@ pub(crate) fn talk_at(seats: &Seats, channel: u32) -> Option<usize>
     }
 }
 
-/// The rank of the next arrival behind those who wait.
+/// The rank of the next arrival after those who wait.
 pub(crate) fn next_arrival(seats: &Seats, waiting: &VecDeque<u32>) -> u64 {
     match waiting.back() {
         Some(last) => one_more(arrival_of(seats, *last)),

@@ -12,7 +12,7 @@ pub enum Strategy {
     LeastRecent,
     /// The one with the fewest finished calls of the queue.
     FewestCalls,
-    /// The first behind the one that was chosen last, going round.
+    /// The first after the one that was chosen last, going round.
     RrMemory,
 }
 

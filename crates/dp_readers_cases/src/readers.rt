@@ -138,7 +138,7 @@ fn push_read(
     Ok(())
 }
 
-/// What a reader of the dialplan says: the reader's name, and behind a blank what it is asked.
+/// What a reader of the dialplan says: the reader's name, and after a blank what it is asked.
 fn read(alloc: Global, plan: &Dialplan, asked: &str) -> Result<String, Fail> {
     let (reader, words) = asked.split_once(' ').ok_or("no reader")?;
     let mut out = String::new(alloc);

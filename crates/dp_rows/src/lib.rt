@@ -124,7 +124,7 @@ fn digit(byte: u8) -> u8 {
     }
 }
 
-/// The byte that stands behind a backslash.
+/// The byte that stands after a backslash.
 fn escaped(byte: u8) -> u8 {
     match byte {
         b'n' => b'\n',

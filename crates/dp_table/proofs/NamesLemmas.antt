@@ -22,7 +22,7 @@ more : (b : Bool) (row : Row) (rows : Option Row) (rest : Bool) → is_some rows
 more true row rows rest same = refl
 more false row rows rest same = same
 
--- a group of names, and others behind it
+-- a group of names, and others after it
 four : (a b c d rest : Bool) → (a || (b || (c || (d || rest)))) ≡ ((((a || b) || c) || d) || rest)
 four true b c d rest = refl
 four false true c d rest = refl

@@ -1,17 +1,17 @@
 -- The table of the applications that this program has.
 use Rattle.std.specs.Prelude.{ℕ, List, codes}
-use Rattle.dp_app.specs.Laws.{IsBlind, IsLawful, IsLawfulRow}
+use Rattle.dp_app.specs.Lawful.{IsBlind, IsLawful, IsLawfulRow}
 use Rattle.dp_app.specs.Rows.{Row, Rows}
 use Rattle.dp_app.specs.Tables.{no_rows, no_rows_blind, no_rows_lawful, no_touch, with_row, with_row_blind, with_row_lawful, with_touch}
 use Rattle.dp_app.specs.declared.touch.Touch.{Touch}
 use Rattle.dp_flow.specs.Dialling.{dial_row}
 use Rattle.dp_flow.specs.Jumps.{goto_row, goto_if_row, gosub_row, gosub_if_row, return_row, stack_pop_row}
-use Rattle.dp_flow.specs.Lawful.{dial_lawful, goto_lawful, goto_if_lawful, gosub_lawful, gosub_if_lawful, hangup_lawful, next_lawful, return_lawful, set_lawful, stack_pop_lawful, wait_lawful, wait_exten_lawful, background_lawful}
+use Rattle.dp_flow.specs.laws.Lawful.{dial_lawful, goto_lawful, goto_if_lawful, gosub_lawful, gosub_if_lawful, hangup_lawful, next_lawful, return_lawful, set_lawful, stack_pop_lawful, wait_lawful, wait_exten_lawful, background_lawful}
 use Rattle.dp_flow.specs.Plain.{hangup_row, next_row}
 use Rattle.dp_flow.specs.Settings.{set_row}
 use Rattle.dp_flow.specs.Touches.{nothing, settable, the_frames, the_variables, variables_and_frames}
 use Rattle.dp_flow.specs.Waiting.{background_row, wait_row, wait_exten_row}
-use Rattle.dp_qapps.specs.Lawful.{add_member_lawful, pause_member_lawful, queue_lawful, remove_member_lawful, unpause_member_lawful}
+use Rattle.dp_qapps.specs.laws.Lawful.{add_member_lawful, pause_member_lawful, queue_lawful, remove_member_lawful, unpause_member_lawful}
 use Rattle.dp_qapps.specs.Membership.{add_member_row, remove_member_row}
 use Rattle.dp_qapps.specs.Pausing.{pause_member_row, unpause_member_row}
 use Rattle.dp_qapps.specs.Queueing.{queue_row}

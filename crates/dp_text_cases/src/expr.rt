@@ -1,6 +1,6 @@
 //! Worked rows. Each value is worked out by hand from the rules of expressions.
 //!
-//! A row is a text and, behind an arrow, its value, which is empty for a fault, both with the escapes of `bytes_of`.
+//! A row is a text and, after an arrow, its value, which is empty for a fault, both with the escapes of `bytes_of`.
 
 use dp_expr::{evaluate, one_tree, one_value};
 use dp_rows::{bytes_of, is_heading};
@@ -477,7 +477,7 @@ fn expressions_have_these_values(rt: HostRuntime) -> Result<(), Fail> {
     check_tables(&rt, rt.alloc())
 }
 
-/// That many copies of the piece behind the text.
+/// That many copies of the piece after the text.
 fn push_copies(text: &mut Vec<u8>, piece: &[u8], count: usize) -> Result<(), AllocError> {
     for _ in 0..count {
         text.extend_from_slice(piece)?;
@@ -485,7 +485,7 @@ fn push_copies(text: &mut Vec<u8>, piece: &[u8], count: usize) -> Result<(), All
     Ok(())
 }
 
-/// What stands behind a `{`: the copies of a piece up to the `}`, and the rest as it is.
+/// What stands after a `{`: the copies of a piece up to the `}`, and the rest as it is.
 fn push_part(text: &mut Vec<u8>, copies: &str, rest: &str) -> Result<(), Fail> {
     let (count, piece) = copies.split_once(' ').ok_or("no count")?;
     let count: usize = count.parse().ok().ok_or("no number")?;

@@ -17,7 +17,7 @@ use std::test::Fail;
 /// A question of names: a word, a blank, and one or two cells with a `|` between them.
 ///
 /// `read NAME` is the name's spelling or `fault CODE`; `matches NAME|TEXT` and `goes_on NAME|TEXT` are `yes` or `no`;
-/// `order NAME|NAME` is `before`, `behind` or `same`, and `copy NAME` that of a name and its clone; `parts NAME` is what
+/// `order NAME|NAME` is `before`, `after` or `same`, and `copy NAME` that of a name and its clone; `parts NAME` is what
 /// the name is made of, and `classes NAME` how its first class stands to its second, and this to its clone.
 struct Names;
 
@@ -94,7 +94,7 @@ fn push_parts(out: &mut String, name: &Name) -> Result<(), NoMemory> {
 fn order_of_classes(left: &Class, right: &Class) -> &'static str {
     match (compare_classes(left, right), compare_classes(right, left)) {
         (Ordering::Less, Ordering::Greater) => "before",
-        (Ordering::Greater, Ordering::Less) => "behind",
+        (Ordering::Greater, Ordering::Less) => "after",
         (Ordering::Equal, Ordering::Equal) => "same",
         _ => "two answers that do not agree",
     }
@@ -150,7 +150,7 @@ fn order_of(left: &Name, right: &Name) -> &'static str {
         same(left, right),
     ) {
         (Ordering::Less, Ordering::Greater, false) => "before",
-        (Ordering::Greater, Ordering::Less, false) => "behind",
+        (Ordering::Greater, Ordering::Less, false) => "after",
         (Ordering::Equal, Ordering::Equal, true) => "same",
         _ => "three answers that do not agree",
     }

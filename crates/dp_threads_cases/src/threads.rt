@@ -22,7 +22,7 @@ impl Gate for Open {
 }
 
 /// Worked cases. A case is how many threads there are, a dialplan that begins in `[main]` and a script, parted by `¦`; then an
-/// arrow, and what is printed with the status behind it.
+/// arrow, and what is printed with the status after it.
 const ROWS: &str = r"
 # threads-run
 2¦exten => s,1,NoOp()¦start main s\nstart main s\nstep 1\nstep 2→settled 2 seats 2 calls\nstatus 0
@@ -30,7 +30,7 @@ const ROWS: &str = r"
 1¦exten => s,1,NoOp()¦start main s\nstart main s\nstep 1\nstep 2→settled 1 seats 2 calls\nstatus 0
 64¦exten => s,1,NoOp()¦start main s\nstep 1→settled 64 seats 1 calls\nstatus 0
 0¦exten => s,1,NoOp()¦start main s\nstep 1→settled 1 seats 1 calls\nstatus 0
-# No event behind the calls that come in first, and none at all.
+# No event after the calls that come in first, and none at all.
 3¦exten => s,1,NoOp()¦start main s→settled 3 seats 0 calls\nstatus 0
 3¦¦→settled 3 seats 0 calls\nstatus 0
 # A `show` is passed over, and a call that comes in later is an event of a seat.
@@ -62,7 +62,7 @@ fn push_ending(out: &mut String, ended: Result<u8, PbxFault>) -> Result<(), NoMe
     }
 }
 
-/// All that was written, and behind it what the run ended with.
+/// All that was written, and after it what the run ended with.
 fn outcome(alloc: Global, ended: Result<u8, PbxFault>, written: &[u8]) -> Result<String, Fail> {
     let mut out = String::from_str(alloc, str::from_utf8(written)?)?;
     push_ending(&mut out, ended)?;
@@ -138,9 +138,9 @@ fn scripts_run_in_threads_so(rt: HostRuntime) -> Result<(), Fail> {
 /// The dialplan of all cases of gates.
 const GATED_PLAN: &[u8] = b"[main]\nexten => s,1,NoOp()\n";
 
-/// Cases of the gate of a run, behind two calls to `s`, which has one priority. A case is how many threads there are, the channel that is
-/// held until the other has had its turns, or 0, and the events behind the calls, parted by `¦`; then an arrow, what is printed with the
-/// status behind it, and of channel 1 and of channel 2 the turn and the reply of each of its events, parted by `¦` too.
+/// Cases of the gate of a run, after two calls to `s`, which has one priority. A case is how many threads there are, the channel that is
+/// held until the other has had its turns, or 0, and the events after the calls, parted by `¦`; then an arrow, what is printed with the
+/// status after it, and of channel 1 and of channel 2 the turn and the reply of each of its events, parted by `¦` too.
 const GATED: &str = r"
 # One seat has all turns.
 1¦0¦step 1\nstep 2\nstep 1\nstep 2→settled 1 seats 4 calls\nstatus 0¦0 ran 2 none¦1 ran 3 none

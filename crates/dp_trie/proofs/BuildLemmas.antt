@@ -10,7 +10,7 @@ use Rattle.dp_pattern.specs.Name.{Meaning, Plain, Pattern}
 use Rattle.dp_pattern.specs.declared.tail.Tail.{Tail}
 use Rattle.dp_trie.specs.Known.{Known, most_added}
 use Rattle.dp_trie.specs.Names.{own_plain, known_plain, ArePlainRanges}
-use Rattle.dp_trie.specs.Ranked.{known_now, hold_of, AreNamed, IsGroup, IsPlain, IsPattern, ArePlainFirst}
+use Rattle.dp_trie.specs.steps.Ranked.{known_now, hold_of, AreNamed, IsGroup, IsPlain, IsPattern, ArePlainFirst}
 use Rattle.dp_trie.specs.Tree.{known_held, own, path_after, path_end, known_from, depth_below, IsRooted, IsRange, AreRanges, Reaches, Pushes}
 use Rattle.dp_trie.specs.declared.node.Held.{Held}
 use Rattle.dp_trie.specs.declared.node.Leaf as leaf
@@ -344,9 +344,9 @@ pub by_places : {X : Type 0} (P : X → Type 0) (xs : List X) → ((k : ℕ) (x 
 by_places P [] each = tt
 by_places P (x ∷ xs) each = (each 0 x refl, by_places P xs (λ k y here. each (suc k) y here))
 
--- behind the first pattern all are patterns
-pub patterns-behind : (ranked : List Ranked) (count : ℕ) (one : Ranked) → ArePlainFirst (map known_now ranked) → slice_get ranked count ≡ Some one → IsPattern (known_now one).name → AllByRecursion (λ (r : Ranked). IsPattern (known_now r).name) (drop count ranked)
-patterns-behind ranked count one first here pattern =
+-- after the first pattern all are patterns
+pub patterns-after : (ranked : List Ranked) (count : ℕ) (one : Ranked) → ArePlainFirst (map known_now ranked) → slice_get ranked count ≡ Some one → IsPattern (known_now one).name → AllByRecursion (λ (r : Ranked). IsPattern (known_now r).name) (drop count ranked)
+patterns-after ranked count one first here pattern =
     subst (AllByRecursion (λ (r : Ranked). IsPattern (known_now r).name)) (sym (drop-get ranked count one here)) (pattern, rest)
   where
     rest : AllByRecursion (λ (r : Ranked). IsPattern (known_now r).name) (drop (count + 1) ranked)

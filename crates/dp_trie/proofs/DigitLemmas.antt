@@ -6,7 +6,7 @@ use Rattle.std.proofs.lemmas.Bool.{cases_order, ltb-true, ltb-false, lt-ltb, le-
 use Rattle.std.proofs.lemmas.List.{length-set, length-take}
 use Rattle.std.proofs.lemmas.Option.{slice_get_past, slice_get_within, slice_get_cases, same_Some}
 use Rattle.dp_pattern.specs.Dashes.{is_dash, undashed}
-use Rattle.dp_trie.specs.Digits.{Stands, IsClear, AreNear}
+use Rattle.dp_trie.specs.steps.Digits.{Stands, IsClear, AreNear}
 use Rattle.dp_trie.specs.declared.digits.Cursor.{Cursor}
 
 pub length-undashed : (text : List ℕ) → length (undashed text) ≤ length text
@@ -187,7 +187,7 @@ kept-digit text near p n b here is low are = record {
         let digit : b ≡ d = same_Some b d (sym (ap (slice_get (undashed text)) (same ∙ are.before) ∙ digit-at text p b here is) ∙ there) in
         ap (slice_get (set near n b)) same ∙ (get-set near n b (omega (arith, size, low)) ∙ ap Some digit)
     | inr (inl before) ↦ get-set_before near n k b before ∙ are.kept k d before there
-    | inr (inr behind) ↦ absurd (omega (arith, behind, less))
+    | inr (inr after) ↦ absurd (omega (arith, after, less))
   ];
 }
 

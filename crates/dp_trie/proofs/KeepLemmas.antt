@@ -20,7 +20,7 @@ use Rattle.dp_plan.specs.declared.entry.EntryId.{EntryId}
 use Rattle.dp_lookup.specs.FoundEntry.{passes, found_by, priority_at}
 use Rattle.dp_lookup.proofs.RankedLemmas.{first_is_least}
 use Rattle.dp_trie.specs.Known.{Known, KeptContext, known_of, known_at, KeepsEntries, Keeps, class_count, kept_at, found_first, FindsPattern}
-use Rattle.dp_trie.specs.Ranked.{IsPattern, ArePlainFirst, AreInOrder, known_cmp}
+use Rattle.dp_trie.specs.steps.Ranked.{IsPattern, ArePlainFirst, AreInOrder, known_cmp}
 use Rattle.dp_trie.proofs.BuildLemmas.{take-get}
 use Rattle.dp_trie.proofs.RisingLemmas.{sorted-places}
 use Rattle.dp_trie.proofs.TreeLemmas.{drop-get}
@@ -110,11 +110,11 @@ map_at f (y ∷ xs) zero x here = ap (option_map f) here
 map_at f (y ∷ xs) (suc i) x here = map_at f xs i x here
 
 -- a pattern is less than no plain name
-behind_pattern : (m n : Meaning) (i j : ℕ) → ordering_then (name_cmp m n) (nat_cmp i j) ≡ Less → IsPattern m → IsPattern n
+after_pattern : (m n : Meaning) (i j : ℕ) → ordering_then (name_cmp m n) (nat_cmp i j) ≡ Less → IsPattern m → IsPattern n
 unfolding name_cmp
-behind_pattern (Plain x) n i j less pattern = absurd pattern
-behind_pattern (Pattern c s) (Pattern d t) i j less pattern = tt
-behind_pattern (Pattern c s) (Plain y) i j less pattern = absurd (let wrong : Greater ≡ Less = less in cc)
+after_pattern (Plain x) n i j less pattern = absurd pattern
+after_pattern (Pattern c s) (Pattern d t) i j less pattern = tt
+after_pattern (Pattern c s) (Plain y) i j less pattern = absurd (let wrong : Greater ≡ Less = less in cc)
 
 all_here : (number : ℕ) (context : PlanContext) (ids : List EntryId) → IsRanking number context.entries ids → AllByRecursion (λ (id : EntryId). id.context ≡ number) ids
 all_here number context ids ranking =
@@ -154,7 +154,7 @@ in_order plan number known keeps = sorted-places known_cmp known (less_at plan n
 
 pub plain_first : (plan : PlanOf) (number : ℕ) (known : List Known) → KeepsEntries plan number known → ArePlainFirst known
 plain_first plan number known keeps i j a b before at_i at_j pattern =
-    behind_pattern a.name b.name a.priority b.priority (less_at plan number known keeps i j a b before at_i at_j) pattern
+    after_pattern a.name b.name a.priority b.priority (less_at plan number known keeps i j a b before at_i at_j) pattern
 
 -- ---- what is found
 

@@ -20,9 +20,9 @@ use Rattle.dp_pattern.specs.Order.{name_cmp}
 use Rattle.dp_plan.specs.Plan.{shares_label}
 use Rattle.dp_trie.specs.Asked.{asked, has_label}
 use Rattle.dp_trie.specs.Known.{Known}
-use Rattle.dp_trie.specs.Labels.{row_of, rows_of, named, is_before, row_cmp, is_matched, name_rank, AreSorted, AreRising, AreLabels}
+use Rattle.dp_trie.specs.steps.Labels.{row_of, rows_of, named, is_before, row_cmp, is_matched, name_rank, AreSorted, AreRising, AreLabels}
 use Rattle.dp_trie.specs.Names.{side_of}
-use Rattle.dp_trie.specs.Ranked.{AreInOrder, known_cmp, known_now}
+use Rattle.dp_trie.specs.steps.Ranked.{AreInOrder, known_cmp, known_now}
 use Rattle.dp_trie.specs.declared.labels.Labelled.{Labelled}
 use Rattle.dp_trie.specs.declared.ranked.Ranked.{Ranked}
 use Rattle.dp_trie.proofs.BuildLemmas.{take-get}
@@ -185,10 +185,10 @@ not-named-before Less low = refl
 not-named-before Equal low = absurd cc
 not-named-before Greater low = refl
 
-not-named-behind : (o : Ordering) → is_le o ≡ false → is_eq o ≡ false
-not-named-behind Less high = refl
-not-named-behind Equal high = absurd cc
-not-named-behind Greater high = refl
+not-named-after : (o : Ordering) → is_le o ≡ false → is_eq o ≡ false
+not-named-after Less high = refl
+not-named-after Equal high = absurd cc
+not-named-after Greater high = refl
 
 named-between : (o : Ordering) → is_lt o ≡ false → is_le o ≡ true → is_eq o ≡ true
 named-between Less low high = absurd cc
@@ -200,7 +200,7 @@ pub named-part : (rows : List Labelled) (label : List ℕ) (n k : ℕ) → IsBef
 named-part rows label n k before upto =
     sym (filter-all (is_named label) (take k (drop n rows)) between)
     ∙ (sym (append-nil (named label (take k (drop n rows))))
-    ∙ (ap (λ l. named label (take k (drop n rows)) ++ l) (sym (filter-none (is_named label) (drop k (drop n rows)) behind))
+    ∙ (ap (λ l. named label (take k (drop n rows)) ++ l) (sym (filter-none (is_named label) (drop k (drop n rows)) after))
     ∙ (sym (filter-append (is_named label) (take k (drop n rows)) (drop k (drop n rows)))
     ∙ (ap (named label) (take-append-drop k (drop n rows))
     ∙ (ap (λ l. l ++ named label (drop n rows)) (sym (filter-none (is_named label) (take n rows) first))
@@ -214,10 +214,10 @@ named-part rows label n k before upto =
     first = all-first (λ row. is_named label row ≡ false) rows n (λ i row few here.
         tested row false (not-named-before (label_cmp label row) (ap (λ (r : Labelled). is_lt (label_cmp label r)) (sym (get_here rows i row here)) ∙ before.0 i row (omega arith) few)))
 
-    behind : AllByRecursion (λ row. is_named label row ≡ false) (drop k (drop n rows))
-    behind = all-last (λ row. is_named label row ≡ false) (drop n rows) k (λ i row few here.
+    after : AllByRecursion (λ row. is_named label row ≡ false) (drop k (drop n rows))
+    after = all-last (λ row. is_named label row ≡ false) (drop n rows) k (λ i row few here.
         let inside = slice_get_within (drop n rows) i row here in
-        tested row false (not-named-behind (label_cmp label row) (ap (λ (r : Labelled). is_le (label_cmp label r)) (sym (get_here (drop n rows) i row here)) ∙ upto.1 i row few inside)))
+        tested row false (not-named-after (label_cmp label row) (ap (λ (r : Labelled). is_le (label_cmp label r)) (sym (get_here (drop n rows) i row here)) ∙ upto.1 i row few inside)))
 
     not_before : AllByRecursion (λ row. is_lt (label_cmp label row) ≡ false) (drop n rows)
     not_before = all-last (λ row. is_lt (label_cmp label row) ≡ false) rows n (λ i row few here.
@@ -235,7 +235,7 @@ named-part rows label n k before upto =
 
 -- ---- the names of one label
 
--- a name that is not behind another stands no higher
+-- a name that is not after another stands no higher
 rank-rises : (digits : List ℕ) (m n : Meaning) → (name_cmp m n ≡ Greater → ⊥) → name_rank digits m ≤ name_rank digits n
 unfolding name_cmp
 rank-rises digits (Plain a) (Plain b) low = sides-rise a b digits low
@@ -268,7 +268,7 @@ module _ (digits : List ℕ) (rows : List Labelled) (p : ℕ) (below : AllByRecu
       let low = at-first (λ (r : Labelled). name_rank digits r.name < 1) rows p k row below few here in
       plain-matched digits row.name (omega (arith, low)) ∙ ne_eqb (name_rank digits row.name) 1 (λ same. omega (arith, low, same)))
 
-  -- where the first behind them is not matched, no plain name is
+  -- where the first after them is not matched, no plain name is
   pub none-plain : AreRising rows → AllByRecursion (λ (row : Labelled). 1 ≤ name_rank digits row.name) (drop p rows) → (q : ℕ) → AllByRecursion (λ (row : Labelled). name_rank digits row.name < 4) (take q rows) → ((row : Labelled) → slice_get rows p ≡ Some row → is_matched digits row.name ≡ false) → AllByRecursion (λ (row : Labelled). is_matched digits row.name ≡ false) (take q rows)
   none-plain rise above q plain other = all-first (λ (row : Labelled). is_matched digits row.name ≡ false) rows q (λ k row few here.
       let low = at-first (λ (r : Labelled). name_rank digits r.name < 4) rows q k row plain few here in
@@ -278,11 +278,11 @@ module _ (digits : List ℕ) (rows : List Labelled) (p : ℕ) (below : AllByRecu
       apart k row here is = elim (cases_order k p) [
         | inl same ↦ matched row (ap (slice_get rows) (sym same) ∙ here) is
         | inr (inl before) ↦ (let low = at-first (λ (r : Labelled). name_rank digits r.name < 1) rows p k row below before here in omega (arith, low, is))
-        | inr (inr behind) ↦
+        | inr (inr after) ↦
             let inside = slice_get_within rows k row here in
-            let first = slice_get-get_or rows p row (omega (arith, behind, inside)) in
+            let first = slice_get-get_or rows p row (omega (arith, after, inside)) in
             let least = at-last (λ (r : Labelled). 1 ≤ name_rank digits r.name) rows p p (get_or rows p row) above (omega arith) first in
-            let less = rank-at digits rows rise p k (get_or rows p row) row behind first here in
+            let less = rank-at digits rows rise p k (get_or rows p row) row after first here in
             matched (get_or rows p row) first (omega (arith, least, less, is))
       ]
         where

@@ -6,7 +6,7 @@ use Rattle.std.proofs.lemmas.Bool.{cases_eq}
 use Rattle.std.proofs.lemmas.Option.{slice_get-get_or, slice_get_within, same_Some}
 use Rattle.dp_pattern.specs.Name.{is_one_of}
 use Rattle.dp_trie.specs.Asked.{Wanted}
-use Rattle.dp_trie.specs.Leaps.{IsOutside, IsPassed, Passes, IsLeap, AreLeaps, Leads}
+use Rattle.dp_trie.specs.steps.Leaps.{IsOutside, IsPassed, Passes, IsLeap, AreLeaps, Leads}
 use Rattle.dp_trie.specs.Tree.{AreLinked, step_visit}
 use Rattle.dp_trie.specs.declared.leap.Leap.{Leap}
 use Rattle.dp_trie.specs.declared.node.Held.{Held}
@@ -125,7 +125,7 @@ module _ (held : List Held) (more : Bool) (wanted : Wanted) (digits : List ℕ) 
       after-passes marks byte first unmarked passed (slice_index ends place) until count passes.1
       (after-fail held more wanted digits nodes place count at node passes.0.here (slice_index ends place) (linked.each place node passes.0.here) fails)
 
-  -- what is found behind a leap is what is found before it
+  -- what is found after a leap is what is found before it
   pub after-leap : (leaps : List Leap) (place until count : ℕ) (digit : Option ℕ) → AreLeaps nodes ends leaps → digit ≡ slice_get digits 0
       → Leads leaps place digit until
       → IsAt held more wanted digits nodes place count → IsAt held more wanted digits nodes until count

@@ -27,7 +27,7 @@ skip-higher depth node nodes above = ap (λ b. cond b (skipped depth nodes) (nod
 -- a jump over a deeper node passes over no more
 pub end-jump : (nodes : List Node) (depth place end : ℕ) (node : Node) → slice_get nodes end ≡ Some node → depth < node.depth → IsEnd nodes end node.depth place → skipped depth (drop place nodes) ≡ skipped depth (drop end nodes)
 end-jump nodes depth place end node here below is_end =
-    ap (skipped depth) is_end.behind
+    ap (skipped depth) is_end.after
     ∙ (skip-skipped depth node.depth (drop (end + 1) nodes) (omega (arith, below))
     ∙ (sym (skip-deeper depth node (drop (end + 1) nodes) below)
     ∙ ap (skipped depth) (sym (drop-get nodes end node here))))
@@ -37,7 +37,7 @@ pub end-found : (nodes : List Node) (depth place end : ℕ) (node : Node) → pl
 end-found nodes depth place end node later here above same = record {
   later = later;
   within = (let inside = slice_get_within nodes end node here in omega (arith, inside));
-  behind = drop-get nodes end node here ∙ (sym (skip-higher depth node (drop (end + 1) nodes) above) ∙ (ap (skipped depth) (sym (drop-get nodes end node here)) ∙ same));
+  after = drop-get nodes end node here ∙ (sym (skip-higher depth node (drop (end + 1) nodes) above) ∙ (ap (skipped depth) (sym (drop-get nodes end node here)) ∙ same));
 }
 
 -- and so is the end of all nodes
@@ -45,7 +45,7 @@ pub end-last : (nodes : List Node) (depth place end : ℕ) → place < end → e
 end-last nodes depth place end later within none same = record {
   later = later;
   within = within;
-  behind = drop-end nodes end none ∙ (ap (skipped depth) (sym (drop-end nodes end none)) ∙ same);
+  after = drop-end nodes end none ∙ (ap (skipped depth) (sym (drop-end nodes end none)) ∙ same);
 }
 
 -- an end is that of the node's depth
@@ -76,6 +76,6 @@ linked-start nodes ends count = record {
 pub linked-end : (nodes : List Node) (ends : List ℕ) (place : ℕ) → place ≤ 0 → AreLinkedFrom place nodes ends → AreLinked nodes ends
 linked-end nodes ends place none linked = record { count = linked.count; each = λ k. linked.each k (omega (arith, none)) }
 
--- the last of the first so many and those behind it
+-- the last of the first so many and those after it
 pub linked-before : (nodes : List Node) (ends : List ℕ) (place : ℕ) → 0 < place → AreLinkedFrom place nodes ends → AreLinkedFrom (place - 1 + 1) nodes ends
 linked-before nodes ends place some linked = subst (λ p. AreLinkedFrom p nodes ends) (let e : place ≡ place - 1 + 1 = omega (arith, some) in e) linked

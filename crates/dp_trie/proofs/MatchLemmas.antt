@@ -5,11 +5,11 @@ use Rattle.std.proofs.lemmas.List.{length-take}
 use Rattle.std.proofs.lemmas.Option.{slice_get_within}
 use Rattle.dp_pattern.specs.Name.{Meaning, Plain, Pattern}
 use Rattle.dp_pattern.specs.declared.tail.Tail.{Tail}
-use Rattle.dp_trie.specs.Labels.{is_matched}
+use Rattle.dp_trie.specs.steps.Labels.{is_matched}
 use Rattle.dp_trie.specs.Names.{rank, side_of}
 use Rattle.dp_trie.specs.Tree.{alive, takes, allows}
 use Rattle.dp_trie.specs.declared.plain.Side.{Side}
-use Rattle.dp_trie.specs.declared.plain.Side.TheVariants.{Before, Same, Longer, Behind}
+use Rattle.dp_trie.specs.declared.plain.Side.TheVariants.{Before, Same, Longer, After}
 use Rattle.dp_trie.proofs.BuildLemmas.{take-get}
 use Rattle.dp_trie.proofs.PlainLemmas.{fits-side}
 use Rattle.dp_trie.proofs.WalkLemmas.{alive-push, alive-take, fits-allows}
@@ -37,7 +37,7 @@ pub other-side : (s : Side) → (s ≡ Same → ⊥) → (rank s == 1) ≡ false
 other-side Before other = refl
 other-side Same other = absurd (other refl)
 other-side Longer other = refl
-other-side Behind other = refl
+other-side After other = refl
 
 -- a pattern is matched where its classes take the digits and its tail allows what is left
 pub pattern-taken : (digits : List ℕ) (classes : List (List ℕ)) (tail : Tail) (m : Meaning) → Pattern classes tail ≡ m → alive false classes digits ≡ true → is_matched digits m ≡ allows false tail (length classes) (length digits)

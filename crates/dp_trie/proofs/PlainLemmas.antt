@@ -5,7 +5,7 @@ use Rattle.std.specs.List.{AllByRecursion, starts_with}
 use Rattle.std.specs.List.Sorted.{IsPartitionedBy}
 use Rattle.std.specs.Option.{option_map, option_or}
 use Rattle.std.specs.Ordering.{is_lt, ordering_then}
-use Rattle.std.specs.Cmp.Lexicographic.{slice_cmp}
+use Rattle.std.specs.Cmp.Lexicographic.{pointwise, slice_cmp}
 use Rattle.std.proofs.lemmas.Bool.{eq-eqb, ne_eqb, eqb-true, eqb-false, cases_order}
 use Rattle.std.proofs.lemmas.Cmp.{ranked}
 use Rattle.std.proofs.lemmas.List.{length-take, length-drop, take-append-drop}
@@ -18,14 +18,14 @@ use Rattle.dp_pattern.specs.declared.tail.Tail.TheVariants.{End}
 use Rattle.dp_trie.specs.Asked.{Wanted, fits, is_wanted, asked, holds, hit_held, hit_of}
 use Rattle.dp_trie.specs.Known.{Known, class_count}
 use Rattle.dp_trie.specs.Names.{own_plain, known_plain, side_of, rank, rank_of, fitting, ArePlainRanges, RiseEach, NamesRise}
-use Rattle.dp_trie.specs.Ranked.{known_cmp, AreInOrder}
+use Rattle.dp_trie.specs.steps.Ranked.{known_cmp, AreInOrder}
 use Rattle.dp_trie.specs.Tree.{known_held, known_from}
 use Rattle.dp_plan.specs.declared.entry.EntryId.{EntryId}
 use Rattle.dp_trie.specs.declared.node.Held.{Held}
 use Rattle.dp_trie.specs.declared.node.Node.{Node}
 use Rattle.dp_trie.specs.declared.plain.PlainName.{PlainName}
 use Rattle.dp_trie.specs.declared.plain.Side.{Side}
-use Rattle.dp_trie.specs.declared.plain.Side.TheVariants.{Before, Same, Longer, Behind}
+use Rattle.dp_trie.specs.declared.plain.Side.TheVariants.{Before, Same, Longer, After}
 use Rattle.dp_trie.proofs.BuildLemmas.{all-at, map-get}
 use Rattle.dp_trie.proofs.PointLemmas.{rising-parted, all-last}
 use Rattle.dp_trie.proofs.RisingLemmas.{all-left, all-right, sorted-left, sorted-right, sorted-across, held-rise}
@@ -34,7 +34,7 @@ use Rattle.dp_trie.proofs.TreeLemmas.{find_images, drop-get, drop-end}
 -- ---- where a name stands
 
 abbrev step_side : Ordering → Side → Side
-step_side o rest = elim o [ Less ↦ Before | Equal ↦ rest | Greater ↦ Behind ]
+step_side o rest = elim o [ Less ↦ Before | Equal ↦ rest | Greater ↦ After ]
 
 -- where names stand by what stands from a place on
 pub side-at : (name digits : List ℕ) (n b d : ℕ) (o : Ordering) → slice_get name n ≡ Some b → slice_get digits n ≡ Some d → nat_cmp b d ≡ o → side_of (drop n name) (drop n digits) ≡ step_side o (side_of (drop (n + 1) name) (drop (n + 1) digits))
@@ -72,7 +72,7 @@ side-same name digits n few many = ap (λ l. side_of l (drop n digits)) (ended n
 abbrev pub side_by : Ordering → Bool → Side
 side_by Less begins = Before
 side_by Equal begins = Same
-side_by Greater begins = cond begins Longer Behind
+side_by Greater begins = cond begins Longer After
 
 pub side-compared : (name digits : List ℕ) → side_of name digits ≡ side_by (slice_cmp nat_cmp name digits) (starts_with nat_eq name digits)
 side-compared [] [] = refl
@@ -95,13 +95,25 @@ before-compared name digits = by (slice_cmp nat_cmp name digits) (starts_with na
     by Greater true = refl
     by Greater false = refl
 
+-- a name is the digits exactly where it stands where they do
+pub same-compared : (name digits : List ℕ) → pointwise nat_eq name digits ≡ (rank (side_of name digits) == 1)
+same-compared [] [] = refl
+same-compared [] (d ∷ digits) = refl
+same-compared (b ∷ name) [] = refl
+same-compared (b ∷ name) (d ∷ digits) = by (nat_cmp b d) refl (same-compared name digits)
+  where
+    by : (o : Ordering) → o ≡ nat_cmp b d → pointwise nat_eq name digits ≡ (rank (side_of name digits) == 1) → (nat_eq b d && pointwise nat_eq name digits) ≡ (rank (step_side o (side_of name digits)) == 1)
+    by Less e rest = let u = ranked b d Less e in ap (λ t. t && pointwise nat_eq name digits) (ne_eqb b d (λ same. omega (arith, u, same)))
+    by Equal e rest = let u = ranked b d Equal e in ap (λ t. t && pointwise nat_eq name digits) (eq-eqb b d u) ∙ rest
+    by Greater e rest = let u = ranked b d Greater e in ap (λ t. t && pointwise nat_eq name digits) (ne_eqb b d (λ same. omega (arith, u, same)))
+
 pub rank-most : (s : Side) → rank s ≤ 3
 rank-most Before = omega arith
 rank-most Same = omega arith
 rank-most Longer = omega arith
-rank-most Behind = omega arith
+rank-most After = omega arith
 
--- a name that is not behind another stands no higher
+-- a name that is not after another stands no higher
 pub sides-rise : (a b digits : List ℕ) → (slice_cmp nat_cmp a b ≡ Greater → ⊥) → rank (side_of a digits) ≤ rank (side_of b digits)
 sides-rise [] [] digits low = omega arith
 sides-rise [] (y ∷ b) [] low = omega arith
@@ -163,6 +175,12 @@ names-at (n ∷ names) digits rise (suc i) (suc j) p q before at_i at_j = names-
 pub ranks-parted : (names : List PlainName) (digits : List ℕ) (limit : ℕ) → NamesRise names → IsPartitionedBy (λ (p : PlainName). nat_lt (rank_of digits p) limit) names
 ranks-parted names digits limit rise = rising-parted (rank_of digits) names limit (names-at names digits rise)
 
+-- a list of one name
+pub only-name : (names : List PlainName) (plain : PlainName) → length names ≤ 1 → slice_get names 0 ≡ Some plain → names ≡ plain ∷ []
+only-name [] plain few here = absurd cc
+only-name (n ∷ []) plain few here = ap (λ (k : PlainName). k ∷ []) (same_Some n plain here)
+only-name (n ∷ m ∷ names) plain few here = absurd (omega (arith, few))
+
 pub rise-drop : (names : List PlainName) (n : ℕ) → NamesRise names → NamesRise (drop n names)
 rise-drop [] zero rise = rise
 rise-drop (p ∷ names) zero rise = rise
@@ -181,9 +199,9 @@ all-weaker P Q weaker (p ∷ names) each = (weaker p each.0, all-weaker P Q weak
 
 -- ---- the order of the entries is one of the names
 
-not_behind : (a b : List ℕ) (i j : ℕ) → ordering_then (name_cmp (Plain a) (Plain b)) (nat_cmp i j) ≡ Less → slice_cmp nat_cmp a b ≡ Greater → ⊥
+not_after : (a b : List ℕ) (i j : ℕ) → ordering_then (name_cmp (Plain a) (Plain b)) (nat_cmp i j) ≡ Less → slice_cmp nat_cmp a b ≡ Greater → ⊥
 unfolding name_cmp
-not_behind a b i j less greater = (let wrong : Greater ≡ Less = sym (ap (λ o. ordering_then o (nat_cmp i j)) greater) ∙ less in absurd cc)
+not_after a b i j less greater = (let wrong : Greater ≡ Less = sym (ap (λ o. ordering_then o (nat_cmp i j)) greater) ∙ less in absurd cc)
 
 module _ (held : List Held) where
   -- a name has an entry
@@ -210,7 +228,7 @@ module _ (held : List Held) where
       let first = first_own p ranges.0.0 ranges.0.1 in
       let across = sorted-across known_cmp (own_plain held p) (known_plain held names) 0 (known_held (Plain p.name) first.0) sorted first.1 in (
         all-weaker (λ (q : PlainName). (h : Held) × (known_cmp (known_held (Plain p.name) first.0) (known_held (Plain q.name) h) ≡ Less)) (λ (q : PlainName). slice_cmp nat_cmp p.name q.name ≡ Greater → ⊥)
-            (λ q some. not_behind p.name q.name first.0.priority some.0.priority some.1)
+            (λ q some. not_after p.name q.name first.0.priority some.0.priority some.1)
             names (each_name (λ y. known_cmp (known_held (Plain p.name) first.0) y ≡ Less) names ranges.1 across),
         names-rise names ranges.1 (sorted-right known_cmp (own_plain held p) (known_plain held names) sorted),
       )
@@ -267,6 +285,14 @@ module _ (held : List Held) (test : Known → Bool) where
       by : (o : Option Known) → find test (own_plain held plain) ≡ o → option_or o (found_in names) ≡ Some one → (found_in names ≡ Some one → class_count one.name ≡ 0) → class_count one.name ≡ 0
       by None f e rest = rest e
       by (Some k) f e rest = images_plain plain (slice_range held plain.from plain.until) one (f ∙ e)
+
+  -- one name has what it has alone
+  pub found-only : (plain : PlainName) → find test (own_plain held plain) ≡ found_in (plain ∷ [])
+  found-only plain = or-none (find test (own_plain held plain)) ∙ sym (find-append test (own_plain held plain) [])
+    where
+      or-none : (o : Option Known) → o ≡ option_or o None
+      or-none None = refl
+      or-none (Some x) = refl
 
   pub found-both : (names others : List PlainName) → found_in (names ++ others) ≡ option_or (found_in names) (found_in others)
   found-both [] others = refl
@@ -325,7 +351,7 @@ module _ (held : List Held) (wanted : Wanted) where
           | inr (inl before) ↦
               let less = names-at names digits rise k j plain p before here there in
               apart (omega (arith, low, less, same))
-          | inr (inr behind) ↦ omega (arith, from, behind)
+          | inr (inr after) ↦ omega (arith, from, after)
         ]))
 
 -- ---- plain names and then patterns

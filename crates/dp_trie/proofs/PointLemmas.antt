@@ -1,4 +1,4 @@
--- Lists along which a number does not fall: what stands before and behind the place that a search by halves gives.
+-- Lists along which a number does not fall: what stands before and after the place that a search by halves gives.
 use Rattle.std.proofs.Common.{◌≡◌, ℕ, zero, suc, ◌+◌, ◌<◌, ◌≤◌, Bool, true, false, cond, List, [], ◌∷◌, take, drop, get_or, Some, inl, inr, arith, refl, sym, ap, subst, ◌∙◌}
 use Rattle.std.specs.Prelude.{slice_get, nat_lt}
 use Rattle.std.specs.List.{AllByRecursion, find}
@@ -67,7 +67,7 @@ module _ {X : Type 0} (f : X → ℕ) (xs : List X) (limit : ℕ) where
         let less = rise i j (get_or xs i d) (get_or xs j d) before at_i at_j in
         let under = ltb-true (f (get_or xs j d)) limit below in
         lt-ltb (f (get_or xs i d)) limit (omega (arith, less, under))
-    | inr (inr behind) ↦ absurd (omega (arith, few, behind))
+    | inr (inr after) ↦ absurd (omega (arith, few, after))
   ]
 
 -- ---- what is found
@@ -79,7 +79,7 @@ find-past test (x ∷ xs) zero each = refl
 find-past test [] (suc n) each = refl
 find-past test (x ∷ xs) (suc n) each = ap (λ b. cond b (Some x) (find test xs)) each.0 ∙ find-past test xs n each.1
 
--- the first that passes behind some that fail
+-- the first that passes after some that fail
 pub find-here : {X : Type 0} (test : X → Bool) (xs : List X) (n : ℕ) (x : X) → AllByRecursion (λ x. test x ≡ false) (take n xs) → slice_get xs n ≡ Some x → test x ≡ true → find test xs ≡ Some x
 find-here test xs n x each here pass =
     find-past test xs n each ∙ (ap (find test) (drop-get xs n x here) ∙ ap (λ b. cond b (Some x) (find test (drop (n + 1) xs))) pass)

@@ -11,7 +11,7 @@ use Rattle.dp_pattern.specs.Name.{Meaning, Pattern}
 use Rattle.dp_pattern.specs.Order.{name_cmp}
 use Rattle.dp_pattern.proofs.OrderLemmas.{name_cmp_total}
 use Rattle.dp_trie.specs.Asked.{Rise}
-use Rattle.dp_trie.specs.Ranked.{known_cmp, AreInOrder}
+use Rattle.dp_trie.specs.steps.Ranked.{known_cmp, AreInOrder}
 use Rattle.dp_trie.specs.Tree.{known_held, own, path_after, known_from, Rises}
 use Rattle.dp_trie.specs.declared.node.Held.{Held}
 use Rattle.dp_trie.specs.declared.node.Node.{Node}
@@ -122,11 +122,11 @@ found-none held i t rise point other = find-nothing (λ (h : Held). h.priority =
           let below = point.0 k one (omega arith) before in
           let less = ltb-true one.priority t (ap (λ (h : Held). nat_lt h.priority t) (sym (get k one here)) ∙ below) in
           omega (arith, less, is)
-      | inr (inr behind) ↦
+      | inr (inr after) ↦
           let inside = slice_get_within held k one here in
-          let first = slice_get-get_or held i one (omega (arith, behind, inside)) in
-          let least = ltb-false (get_or held i one).priority t (point.1 i one (omega arith) (omega (arith, behind, inside))) in
-          let less = rise-at held rise i k (get_or held i one) one behind first here in
+          let first = slice_get-get_or held i one (omega (arith, after, inside)) in
+          let least = ltb-false (get_or held i one).priority t (point.1 i one (omega arith) (omega (arith, after, inside))) in
+          let less = rise-at held rise i k (get_or held i one) one after first here in
           omega (arith, least, less, is)
     ]
 
@@ -140,7 +140,7 @@ priorities-parted held t rise i j d few within below = elim (cases_order i j) [
       let less = rise-at held rise i j (get_or held i d) (get_or held j d) before at_i at_j in
       let under = ltb-true (get_or held j d).priority t below in
       lt-ltb (get_or held i d).priority t (omega (arith, less, under))
-  | inr (inr behind) ↦ absurd (omega (arith, few, behind))
+  | inr (inr after) ↦ absurd (omega (arith, few, after))
 ]
 
 -- ---- the leaves of a tree

@@ -71,7 +71,7 @@ module _ (held : List Held) (more : Bool) (wanted : Wanted) (digits : List ℕ) 
   abbrev pub found_from : List (List ℕ) → List Node → Option Known
   found_from path nodes = find (asked more wanted digits) (known_from held path nodes)
 
-  -- what is found at a step below a path and in the nodes behind it
+  -- what is found at a step below a path and in the nodes after it
   abbrev found_step : List (List ℕ) → Step → List Node → Option Known
   found_step path step nodes = find (asked more wanted digits) (own held path step ++ known_from held (path_below path step) nodes)
 
@@ -121,7 +121,7 @@ module _ (held : List Held) (more : Bool) (wanted : Wanted) (digits : List ℕ) 
 
   -- ---- a step of the walk
 
-  -- a node that is entered without a hit has nothing that is asked for, and the path behind it takes the digits
+  -- a node that is entered without a hit has nothing that is asked for, and the path after it takes the digits
   pub entered : (step : Step) (path : List (List ℕ)) (depth : ℕ) (nodes : List Node) → length path ≡ depth → alive more path digits ≡ true → step_visit held more wanted digits depth step ≡ Enters → (alive more (path_below path step) digits ≡ true) × (found_step path step nodes ≡ found_from (path_below path step) nodes)
   entered (Class class) path depth nodes size on e =
       (alive-push more path class digits on ∙ (ap (takes more digits class) size ∙ taken (takes more digits class depth) e), refl)
@@ -281,9 +281,9 @@ module _ (held : List Held) (more : Bool) (wanted : Wanted) (digits : List ℕ) 
           path = above;
           on = taken;
           same =
-              ap (found_from held more wanted digits above) is_end.behind
+              ap (found_from held more wanted digits above) is_end.after
               ∙ (sym (failed held more wanted digits node.step above node.depth rest size taken e) ∙ whole);
-          rooted = subst (λ n. IsRooted n (drop end nodes)) (sym size) (subst (IsRooted node.depth) (sym is_end.behind) (rooted-skipped node.depth (depth_below node.depth node.step) rest form.1));
+          rooted = subst (λ n. IsRooted n (drop end nodes)) (sym size) (subst (IsRooted node.depth) (sym is_end.after) (rooted-skipped node.depth (depth_below node.depth node.step) rest form.1));
           deep = (let deep = at.deep in let s = size in omega (arith, deep, s, few));
           few = (let few = at.few in let later = is_end.later in omega (arith, few, later));
           within = is_end.within;

@@ -3,7 +3,7 @@ use Rattle.std.proofs.Common.{◌≡◌, ℕ, zero, suc, Bool, true, false, not,
 use Rattle.std.specs.Prelude.{nat_lt}
 use Rattle.std.proofs.lemmas.Bool.{ltb-true, ltb-false, lt-ltb, le-ltb}
 use Rattle.dp_pattern.specs.Name.{is_one_of}
-use Rattle.dp_pattern.specs.Walk.{Walked, Refused, Short, Behind, walked}
+use Rattle.dp_pattern.specs.Walk.{Walked, Refused, Short, After, walked}
 use Rattle.dp_pattern.specs.declared.tail.Tail.{Tail}
 use Rattle.dp_pattern.specs.declared.tail.Tail.TheVariants.{End, Dot, Bang}
 use Rattle.dp_trie.specs.Asked.{fits}
@@ -14,7 +14,7 @@ pub alive-push : (more : Bool) (path : List (List ℕ)) (class digits : List ℕ
 alive-push more [] class [] on = refl
 alive-push more [] class (d ∷ digits) on = by (is_one_of class d)
   where
-    by : (b : Bool) → is_alive more (cond b (Behind digits) Refused) ≡ b
+    by : (b : Bool) → is_alive more (cond b (After digits) Refused) ≡ b
     by true = refl
     by false = refl
 alive-push more (c ∷ path) class [] on = refl
@@ -43,7 +43,7 @@ dead_fits true Bang Refused dead = refl
 dead_fits false tail Refused dead = refl
 dead_fits true tail Short dead = absurd (true≢false dead)
 dead_fits false tail Short dead = refl
-dead_fits more tail (Behind digits) dead = absurd (true≢false dead)
+dead_fits more tail (After digits) dead = absurd (true≢false dead)
 
 -- a path that begins with one that does not take the digits fits under no tail
 pub dead-fits : (more : Bool) (tail : Tail) (n : ℕ) (path : List (List ℕ)) (digits : List ℕ) → alive more (take n path) digits ≡ false → fits more tail (walked path digits) ≡ false
@@ -62,7 +62,7 @@ lt_suc m n = by (nat_lt m n) refl
     by true e = let below = ltb-true m n e in sym (lt-ltb (suc m) (suc n) (omega (arith, below)))
     by false e = let above = ltb-false m n e in sym (le-ltb (suc m) (suc n) (omega (arith, above)))
 
--- behind a path that takes the digits a tail fits exactly where the counts say so
+-- after a path that takes the digits a tail fits exactly where the counts say so
 pub fits-allows : (more : Bool) (tail : Tail) (path : List (List ℕ)) (digits : List ℕ) → alive more path digits ≡ true → fits more tail (walked path digits) ≡ allows more tail (length path) (length digits)
 fits-allows false End [] [] on = refl
 fits-allows false End [] (d ∷ digits) on = ap not (sym (lt-ltb 0 (suc (length digits)) (omega arith)))

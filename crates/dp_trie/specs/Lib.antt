@@ -1,8 +1,5 @@
 pub mod Asked
-pub mod Digits
 pub mod Known
-pub mod Labels
-pub mod Leaps
 pub mod Names
-pub mod Ranked
 pub mod Tree
+pub mod steps

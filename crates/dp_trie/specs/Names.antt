@@ -11,7 +11,7 @@ use Rattle.dp_trie.specs.Tree.{known_held}
 use Rattle.dp_trie.specs.declared.node.Held.{Held}
 use Rattle.dp_trie.specs.declared.plain.PlainName.{PlainName}
 use Rattle.dp_trie.specs.declared.plain.Side.{Side}
-use Rattle.dp_trie.specs.declared.plain.Side.TheVariants.{Before, Same, Longer, Behind}
+use Rattle.dp_trie.specs.declared.plain.Side.TheVariants.{Before, Same, Longer, After}
 
 -- the entries of a plain name
 abbrev pub own_plain : List Held → PlainName → List Known
@@ -30,7 +30,7 @@ ArePlainRanges count names = AllByRecursion (λ plain. (plain.from < plain.until
 abbrev pub RiseEach : List Held → List PlainName → Type 0
 RiseEach held names = AllByRecursion (λ plain. Rise (slice_range held plain.from plain.until)) names
 
--- no name is behind a later one
+-- no name is after a later one
 abbrev pub NamesRise : List PlainName → Type 0
 NamesRise [] = Unit {0}
 NamesRise (plain ∷ names) =
@@ -41,14 +41,14 @@ abbrev pub side_of : List ℕ → List ℕ → Side
 side_of [] [] = Same
 side_of [] (d ∷ digits) = Before
 side_of (b ∷ name) [] = Longer
-side_of (b ∷ name) (d ∷ digits) = elim (nat_cmp b d) [ Less ↦ Before | Equal ↦ side_of name digits | Greater ↦ Behind ]
+side_of (b ∷ name) (d ∷ digits) = elim (nat_cmp b d) [ Less ↦ Before | Equal ↦ side_of name digits | Greater ↦ After ]
 
 -- the sides in the order in which names stand there
 abbrev pub rank : Side → ℕ
 rank Before = 0
 rank Same = 1
 rank Longer = 2
-rank Behind = 3
+rank After = 3
 
 -- the side of the names that are asked for: those that go on, or else the one that matches
 abbrev pub fitting : Bool → Side

@@ -3,7 +3,7 @@ use Rattle.std.specs.Prelude.{◌≡◌, ℕ, suc, ◌+◌, ◌<◌, ◌≤◌, 
 use Rattle.std.specs.List.{find}
 use Rattle.std.specs.Option.{option_map_or}
 use Rattle.dp_pattern.specs.Name.{Meaning, Pattern, is_one_of}
-use Rattle.dp_pattern.specs.Walk.{Walked, Refused, Short, Behind, walked}
+use Rattle.dp_pattern.specs.Walk.{Walked, Refused, Short, After, walked}
 use Rattle.dp_pattern.specs.declared.tail.Tail.{Tail}
 use Rattle.dp_pattern.specs.declared.tail.Tail.TheVariants.{End, Dot, Bang}
 use Rattle.dp_trie.specs.Asked.{Wanted, Rise, holds, hit_held}
@@ -25,21 +25,21 @@ abbrev pub own : List Held → List (List ℕ) → Step → List Known
 own held path (Class class) = []
 own held path (Leaf leaf) = map (known_held (Pattern path leaf.tail)) (slice_range held leaf.from leaf.until)
 
--- the classes behind a node that stands below these classes
+-- the classes after a node that stands below these classes
 abbrev pub path_below : List (List ℕ) → Step → List (List ℕ)
 path_below path (Class class) = path ++ class ∷ []
 path_below path (Leaf leaf) = path
 
--- the classes behind a node, of which those above it are the first
+-- the classes after a node, of which those above it are the first
 abbrev pub path_after : List (List ℕ) → Node → List (List ℕ)
 path_after path node = path_below (take node.depth path) node.step
 
--- the entries of the nodes from some place on, where these classes stand behind the node before
+-- the entries of the nodes from some place on, where these classes stand after the node before
 abbrev pub known_from : List Held → List (List ℕ) → List Node → List Known
 known_from held path [] = []
 known_from held path (node ∷ nodes) = own held (take node.depth path) node.step ++ known_from held (path_after path node) nodes
 
--- the classes behind the last of the nodes
+-- the classes after the last of the nodes
 abbrev pub path_end : List (List ℕ) → List Node → List (List ℕ)
 path_end path [] = path
 path_end path (node ∷ nodes) = path_end (path_after path node) nodes
@@ -51,21 +51,21 @@ abbrev pub skipped : ℕ → List Node → List Node
 skipped depth [] = []
 skipped depth (node ∷ nodes) = if nat_lt depth node.depth then skipped depth nodes else node ∷ nodes
 
--- how many classes stand behind a node of some depth
+-- how many classes stand after a node of some depth
 abbrev pub depth_below : ℕ → Step → ℕ
 depth_below depth (Class class) = suc depth
 depth_below depth (Leaf leaf) = depth
 
--- each node is at most as deep as there are classes behind the node before
+-- each node is at most as deep as there are classes after the node before
 abbrev pub IsRooted : ℕ → List Node → Type 0
 IsRooted depth [] = Unit {0}
 IsRooted depth (node ∷ nodes) = (node.depth ≤ depth) × IsRooted (depth_below node.depth node.step) nodes
 
--- the place behind all that stands below a node of some depth
+-- the place after all that stands below a node of some depth
 pub record IsEnd (nodes : List Node) (place depth end : ℕ) : Type 0 where
   pub later : place < end
   pub within : end ≤ length nodes
-  pub behind : drop end nodes ≡ skipped depth (drop (place + 1) nodes)
+  pub after : drop end nodes ≡ skipped depth (drop (place + 1) nodes)
 
 -- the end of the node at a place
 abbrev pub IsEndOf : List Node → ℕ → ℕ → Type 0
@@ -104,7 +104,7 @@ pub record IsTree (held : List Held) (nodes : List Node) (ends : List ℕ) : Typ
 
 -- ---- the nodes of one pattern more
 
--- the nodes of classes stand behind others, from a place of the pattern up to a depth
+-- the nodes of classes stand after others, from a place of the pattern up to a depth
 pub record Reaches (old new : List Node) (classes : List (List ℕ)) (from depth : ℕ) : Type 0 where
   pub known : (held : List Held) → known_from held [] new ≡ known_from held [] old
   pub path : take depth (path_end [] new) ≡ take depth classes
@@ -113,7 +113,7 @@ pub record Reaches (old new : List Node) (classes : List (List ℕ)) (from depth
   pub ranges : (count : ℕ) → AreRanges count old → AreRanges count new
   pub size : length new + from ≡ length old + depth
 
--- the nodes of a pattern and its leaf stand behind others
+-- the nodes of a pattern and its leaf stand after others
 pub record Pushes (old new : List Node) (classes : List (List ℕ)) (leaf : leaves.Leaf) : Type 0 where
   pub known : (held : List Held) → known_from held [] new ≡ known_from held [] old ++ own held classes (Leaf leaf)
   pub path : path_end [] new ≡ classes
@@ -131,13 +131,13 @@ takes more digits class number = option_map_or (is_one_of class) (slice_get digi
 abbrev pub is_alive : Bool → Walked → Bool
 is_alive more Refused = false
 is_alive more Short = more
-is_alive more (Behind digits) = true
+is_alive more (After digits) = true
 
 -- whether the classes of a path take the digits, up to their end where names that go on are asked for
 abbrev pub alive : Bool → List (List ℕ) → List ℕ → Bool
 alive more path digits = is_alive more (walked path digits)
 
--- whether the tail allows what is left behind so many of so many digits, for a match or for going on
+-- whether the tail allows what is left after so many of so many digits, for a match or for going on
 abbrev pub allows : Bool → Tail → ℕ → ℕ → Bool
 allows false End number count = not (nat_lt number count)
 allows false Dot number count = nat_lt number count

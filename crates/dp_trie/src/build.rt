@@ -2,7 +2,7 @@
 ghost use Rattle.std.specs.Prelude.{◌≡◌, ◌↔◌, ◌+◌, ◌≤◌, [], ◌∷◌, ◌++◌, length, map, take, IfOk, OnOk, IsTrue, sum_by};
 ghost use Rattle.std.specs.List.{AllByRecursion};
 ghost use Rattle.dp_trie.specs.Known.{most_added};
-ghost use Rattle.dp_trie.specs.Ranked.{known_now, hold_of, IsPattern};
+ghost use Rattle.dp_trie.specs.steps.Ranked.{known_now, hold_of, IsPattern};
 ghost use Rattle.dp_trie.specs.Tree.{known_from, path_end, AreRanges, IsRooted, Pushes, Reaches};
 
 use crate::node::{Leaf, Node, Step};
@@ -35,7 +35,8 @@ fn shared(left: &[Class], right: &[Class]) -> usize
 
 /// Adds the node of a class.
 fn push_class(nodes: &mut Vec<Node>, depth: usize, class: &Class) -> Result<(), NoMemory>
-    ensures { OnOk result (nodes.new.items ≡ nodes.old.items ++ (record { depth = depth; step = Step.Class class.now }) ∷ []) }
+    ensures { OnOk result (nodes.new.items ≡ nodes.old.items ++
+        (record { depth = depth; step = Step.Class class.now }) ∷ []) }
 {
     let class = class.clone()?;
     nodes.push(Node {
@@ -80,10 +81,12 @@ fn push_pattern(
 /// The nodes of the patterns of these entries.
 pub(crate) fn build_nodes(alloc: Global, ranked: &[Ranked<'_>]) -> Result<Vec<Node>, NoMemory>
     requires { AllByRecursion (λ one. IsPattern (known_now one).name) ranked.now }
-    ensures known { IfOk result (λ nodes. known_from (map hold_of (map known_now ranked.now)) [] nodes.items ≡ map known_now ranked.now) }
+    ensures known { IfOk result (λ nodes. known_from (map hold_of (map known_now ranked.now)) [] nodes.items
+        ≡ map known_now ranked.now) }
     ensures rooted { IfOk result (λ nodes. IsRooted 0 nodes.items) }
     ensures ranges { IfOk result (λ nodes. AreRanges (length ranked.now) nodes.items) }
-    ensures size { IfOk result (λ nodes. length nodes.items ≤ sum_by (λ known. most_added known.name) (map known_now ranked.now)) }
+    ensures size { IfOk result (λ nodes. length nodes.items ≤ sum_by (λ known. most_added known.name)
+        (map known_now ranked.now)) }
 {
     let mut nodes = Vec::new(alloc);
     let mut above: &[Class] = &[];

@@ -2,7 +2,7 @@
 ghost use Rattle.std.specs.Prelude.{◌≡◌, ◌<◌, ◌≤◌, length, nat_lt, slice_get};
 ghost use Rattle.std.specs.Option.{ForSome};
 ghost use Rattle.dp_pattern.specs.Dashes.{undashed};
-ghost use Rattle.dp_trie.specs.Digits.{Stands, IsClear, AreNear};
+ghost use Rattle.dp_trie.specs.steps.Digits.{Stands, IsClear, AreNear};
 
 /// A place in a text, and how many of its digits stand before it.
 #[derive(Clone, Copy)]
@@ -168,8 +168,8 @@ impl<'a> Digits<'a> {
         self.text.get(cursor.place).copied()
     }
 
-    /// The digit of this number, counted from 0, or None where there are no more. Behind the bytes that are known to be no
-    /// dashes, and behind the digits that stand beside the text, the cursor goes there, from the digit that was asked for
+    /// The digit of this number, counted from 0, or None where there are no more. After the bytes that are known to be no
+    /// dashes, and after the digits that stand beside the text, the cursor goes there, from the digit that was asked for
     /// before.
     pub(crate) fn at(&self, number: usize, cursor: &mut Cursor) -> Option<u8>
         requires { Stands self.now.text.now cursor.old }

@@ -3,8 +3,8 @@ ghost use Rattle.std.specs.Prelude.{◌≡◌, ◌<◌, ◌≤◌, [], ◌∷◌
 ghost use Rattle.std.specs.List.{AllByRecursion};
 ghost use Rattle.std.specs.Option.{option_map};
 ghost use Rattle.dp_pattern.specs.Dashes.{undashed};
-ghost use Rattle.dp_trie.specs.Labels.{rows_of, named, is_matched, name_rank, AreSorted, AreRising, AreLabels};
-ghost use Rattle.dp_trie.specs.Ranked.{known_now, AreInOrder};
+ghost use Rattle.dp_trie.specs.steps.Labels.{rows_of, named, is_matched, name_rank, AreSorted, AreRising, AreLabels};
+ghost use Rattle.dp_trie.specs.steps.Ranked.{known_now, AreInOrder};
 
 use crate::digits::Digits;
 use crate::matching::matches;
@@ -23,7 +23,7 @@ pub(crate) struct Labelled {
     pub(crate) priority: u32,
 }
 
-/// Where the patterns stand among the names of a label, behind all plain names.
+/// Where the patterns stand among the names of a label, after all plain names.
 const PATTERN: u8 = 4;
 
 /// How many of the entries have labels.
@@ -103,15 +103,18 @@ fn name_rank(name: &Name, digits: &Digits<'_>) -> u8
 fn count_below(rows: &[Labelled], digits: &Digits<'_>, limit: u8) -> usize
     requires { AreRising rows.now }
     ensures within { result ≤ length rows.now }
-    ensures below { AllByRecursion (λ row. name_rank (undashed digits.now.text.now) row.name < limit) (take result rows.now) }
-    ensures above { AllByRecursion (λ row. limit ≤ name_rank (undashed digits.now.text.now) row.name) (drop result rows.now) }
+    ensures below { AllByRecursion (λ row. name_rank (undashed digits.now.text.now) row.name < limit)
+        (take result rows.now) }
+    ensures above { AllByRecursion (λ row. limit ≤ name_rank (undashed digits.now.text.now) row.name)
+        (drop result rows.now) }
 {
     rows.partition_point(|row| name_rank(row.name.name(), digits) < limit)
 }
 
 /// The priority of the first row whose name the digits match, each asked in turn.
 fn first_matched(rows: &[Labelled], digits: &Digits<'_>) -> Option<u32>
-    ensures { result ≡ option_map (λ row. row.priority) (find (λ row. is_matched (undashed digits.now.text.now) row.name) rows.now) }
+    ensures { result ≡ option_map (λ row. row.priority)
+        (find (λ row. is_matched (undashed digits.now.text.now) row.name) rows.now) }
 {
     for row in rows {
         if matches(row.name.name(), digits) {
@@ -121,11 +124,12 @@ fn first_matched(rows: &[Labelled], digits: &Digits<'_>) -> Option<u32>
     None
 }
 
-/// The priority of the first row of a label whose name the digits match. A plain name is found by halves, and behind
+/// The priority of the first row of a label whose name the digits match. A plain name is found by halves, and after
 /// the plain names each pattern is asked in turn.
 fn find_among(rows: &[Labelled], digits: &Digits<'_>) -> Option<u32>
     requires { AreRising rows.now }
-    ensures { result ≡ option_map (λ row. row.priority) (find (λ row. is_matched (undashed digits.now.text.now) row.name) rows.now) }
+    ensures { result ≡ option_map (λ row. row.priority)
+        (find (λ row. is_matched (undashed digits.now.text.now) row.name) rows.now) }
 {
     match rows.get(count_below(rows, digits, 1)) {
         Some(row) if matches(row.name.name(), digits) => Some(row.priority),

@@ -1,6 +1,6 @@
 //! Leaps over the roots of a tree: over many classes at once, where none of them has the first digit.
 ghost use Rattle.std.specs.Prelude.{◌≡◌, ℕ, ◌≤◌, false, slice_get, Some, IfOk, IfSome};
-ghost use Rattle.dp_trie.specs.Leaps.{IsOutside, IsLeap, AreLeaps, Leads};
+ghost use Rattle.dp_trie.specs.steps.Leaps.{IsOutside, IsLeap, AreLeaps, Leads};
 ghost use Rattle.dp_trie.specs.Tree.{AreLinked};
 
 use crate::node::{Node, Step};
@@ -11,7 +11,7 @@ use std::alloc::Global;
 /// How many classes a leap passes at most.
 const MOST_PASSED: usize = 64;
 
-/// Classes that stand at the root of a tree one behind another, from one place up to another, and for each byte whether one
+/// Classes that stand at the root of a tree one after another, from one place up to another, and for each byte whether one
 /// of them has it.
 #[derive(Debug, Drop)]
 pub(crate) struct Leap {
@@ -33,7 +33,8 @@ fn mark(class: &Class, marks: &mut [bool; 256])
 
 /// The class that stands at the root at this place, if one does.
 fn root_class(nodes: &[Node], place: usize) -> Option<&Class>
-    ensures { IfSome result (λ class. slice_get nodes.now place ≡ Some (record { depth = 0; step = Step.Class class.now })) }
+    ensures { IfSome result (λ class. slice_get nodes.now place
+        ≡ Some (record { depth = 0; step = Step.Class class.now })) }
 {
     let node = nodes.get(place)?;
     match &node.step {
@@ -77,7 +78,7 @@ pub(crate) fn leaps_of(alloc: Global, nodes: &[Node], ends: &[usize]) -> Result<
     Ok(leaps)
 }
 
-/// Where a leap from the place leads for the first digit, if one does. Those that begin before the place are left behind.
+/// Where a leap from the place leads for the first digit, if one does. Those that begin before the place are left after.
 pub(crate) fn leap_over(
     leaps: &[Leap],
     next: &mut usize,

@@ -1,4 +1,4 @@
-//! The ends of nodes: beside each node of a tree the place behind all that stands below it.
+//! The ends of nodes: beside each node of a tree the place after all that stands below it.
 ghost use Rattle.std.specs.Prelude.{◌≡◌, ◌+◌, ◌<◌, length, replicate, IfOk};
 ghost use Rattle.dp_trie.specs.Tree.{AreLinked, AreLinkedFrom, IsEndOf};
 
@@ -17,7 +17,7 @@ fn zeros(alloc: Global, count: usize) -> Result<Vec<usize>, NoMemory>
     Ok(zeros)
 }
 
-/// The place behind all that stands below a node, by the ends of the nodes behind it.
+/// The place after all that stands below a node, by the ends of the nodes after it.
 fn end_of(nodes: &[Node], ends: &[usize], place: usize) -> usize
     requires within { place < length nodes.now }
     requires linked { AreLinkedFrom (place + 1) nodes.now ends.now }

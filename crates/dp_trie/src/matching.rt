@@ -1,7 +1,7 @@
 //! Matching of the digits of a dialled text against a name.
 ghost use Rattle.std.specs.Prelude.{◌≡◌, false};
 ghost use Rattle.dp_pattern.specs.Dashes.{undashed};
-ghost use Rattle.dp_trie.specs.Labels.{is_matched};
+ghost use Rattle.dp_trie.specs.steps.Labels.{is_matched};
 ghost use Rattle.dp_trie.specs.Tree.{alive};
 
 use crate::digits::Digits;

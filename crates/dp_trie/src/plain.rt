@@ -5,7 +5,7 @@ ghost use Rattle.std.specs.Option.{option_map};
 ghost use Rattle.dp_pattern.specs.Dashes.{undashed};
 ghost use Rattle.dp_trie.specs.Asked.{is_more, wants, is_wanted, asked, hit_of, Rise};
 ghost use Rattle.dp_trie.specs.Names.{own_plain, known_plain, side_of, rank, rank_of, fitting, ArePlainRanges, RiseEach, NamesRise};
-ghost use Rattle.dp_trie.specs.Ranked.{known_now, hold_of, IsPlain, AreInOrder};
+ghost use Rattle.dp_trie.specs.steps.Ranked.{known_now, hold_of, IsPlain, AreInOrder};
 
 use crate::digits::Digits;
 use crate::node::Held;
@@ -32,8 +32,8 @@ pub(crate) enum Side {
     Same,
     /// It goes on from them.
     Longer,
-    /// Behind them and all that goes on from them.
-    Behind,
+    /// After them and all that goes on from them.
+    After,
 }
 
 /// Where the name stands to a text that has no dash.
@@ -47,7 +47,7 @@ fn side_of_text(name: &[u8], text: &[u8]) -> Side
             if name.starts_with(text) {
                 Side::Longer
             } else {
-                Side::Behind
+                Side::After
             }
         }
     }
@@ -63,7 +63,7 @@ fn side_in_turn(name: &[u8], digits: &Digits<'_>) -> Side
             Some(digit) => match name[number].cmp(&digit) {
                 Ordering::Less => return Side::Before,
                 Ordering::Equal => {}
-                Ordering::Greater => return Side::Behind,
+                Ordering::Greater => return Side::After,
             },
             None => return Side::Longer,
         }
@@ -93,7 +93,7 @@ pub(crate) fn rank(side: Side) -> u8
         Side::Before => 0,
         Side::Same => 1,
         Side::Longer => 2,
-        Side::Behind => 3,
+        Side::After => 3,
     }
 }
 
@@ -121,17 +121,23 @@ fn is_below(name: &[u8], digits: &Digits<'_>, limit: u8) -> bool
 fn count_below(names: &[PlainName], digits: &Digits<'_>, limit: u8) -> usize
     requires { NamesRise names.now }
     ensures within { result ≤ length names.now }
-    ensures below { AllByRecursion (λ plain. rank_of (undashed digits.now.text.now) plain < limit) (take result names.now) }
-    ensures above { AllByRecursion (λ plain. limit ≤ rank_of (undashed digits.now.text.now) plain) (drop result names.now) }
+    ensures below { AllByRecursion (λ plain. rank_of (undashed digits.now.text.now) plain < limit)
+        (take result names.now) }
+    ensures above { AllByRecursion (λ plain. limit ≤ rank_of (undashed digits.now.text.now) plain)
+        (drop result names.now) }
 {
     names.partition_point(|plain| is_below(plain.name.bytes(), digits, limit))
 }
 
-/// Whether the name is one of those that the question asks for.
+/// Whether the name is one of those that the question asks for. A name that matches is the digits themselves.
 fn fits(plain: &PlainName, question: Question, digits: &Digits<'_>) -> bool
     ensures { result ≡ (rank_of (undashed digits.now.text.now) plain.now == rank (fitting (is_more question))) }
 {
-    rank(side_of(plain.name.bytes(), digits)) == rank(fitting(is_more(question)))
+    let more = is_more(question);
+    match digits.plain() {
+        Some(text) if !more => plain.name.bytes() == text,
+        _ => rank(side_of(plain.name.bytes(), digits)) == rank(fitting(more)),
+    }
 }
 
 /// The first entry of one plain name that the question asks for beside its name.
@@ -155,9 +161,11 @@ fn find_in_front(
     requires ranges { ArePlainRanges (length held.now) names.now }
     requires rise { RiseEach held.now names.now }
     requires order { NamesRise names.now }
-    requires least { AllByRecursion (λ plain. rank (fitting (is_more question)) ≤ rank_of (undashed digits.now.text.now) plain) names.now }
+    requires least { AllByRecursion (λ plain. rank (fitting (is_more question))
+        ≤ rank_of (undashed digits.now.text.now) plain) names.now }
     ensures { result ≡ option_map hit_of
-        (find (asked (is_more question) (wants question) (undashed digits.now.text.now)) (known_plain held.now names.now)) }
+        (find (asked (is_more question) (wants question) (undashed digits.now.text.now))
+        (known_plain held.now names.now)) }
 {
     for plain in names {
         if !fits(plain, question, digits) {
@@ -171,7 +179,28 @@ fn find_in_front(
     None
 }
 
-/// The first entry of the plain names that the question asks for. The first name that fits is found by halves.
+/// The first entry of one plain name that the question asks for.
+fn find_only(
+    plain: &PlainName,
+    held: &[Held],
+    question: Question,
+    digits: &Digits<'_>,
+) -> Option<EntryId>
+    requires from { plain.now.from ≤ plain.now.until }
+    requires until { plain.now.until ≤ length held.now }
+    requires rise { Rise (slice_range held.now plain.now.from plain.now.until) }
+    ensures { result ≡ option_map hit_of
+        (find (asked (is_more question) (wants question) (undashed digits.now.text.now))
+        (own_plain held.now plain.now)) }
+{
+    if fits(plain, question, digits) {
+        find_own(plain, held, question)
+    } else {
+        None
+    }
+}
+
+/// The first entry of the plain names that the question asks for. The first of several names that fits is found by halves.
 pub(crate) fn find_plain(
     names: &[PlainName],
     held: &[Held],
@@ -181,8 +210,12 @@ pub(crate) fn find_plain(
     requires ranges { ArePlainRanges (length held.now) names.now }
     requires order { AreInOrder (known_plain held.now names.now) }
     ensures { result ≡ option_map hit_of
-        (find (asked (is_more question) (wants question) (undashed digits.now.text.now)) (known_plain held.now names.now)) }
+        (find (asked (is_more question) (wants question) (undashed digits.now.text.now))
+        (known_plain held.now names.now)) }
 {
+    if let [only] = names {
+        return find_only(only, held, question, digits);
+    }
     let limit = rank(fitting(is_more(question)));
     let (_, rest) = names.split_at(count_below(names, digits, limit));
     find_in_front(rest, held, question, digits)
@@ -191,7 +224,8 @@ pub(crate) fn find_plain(
 /// The plain names of these entries.
 pub(crate) fn plain_names(alloc: Global, ranked: &[Ranked<'_>]) -> Result<Vec<PlainName>, NoMemory>
     requires { AllByRecursion (λ one. IsPlain (known_now one).name) ranked.now }
-    ensures known { IfOk result (λ names. known_plain (map hold_of (map known_now ranked.now)) names.items ≡ map known_now ranked.now) }
+    ensures known { IfOk result (λ names. known_plain (map hold_of (map known_now ranked.now)) names.items
+        ≡ map known_now ranked.now) }
     ensures ranges { IfOk result (λ names. ArePlainRanges (length ranked.now) names.items) }
 {
     let mut names = Vec::new(alloc);

@@ -3,7 +3,7 @@ ghost use Rattle.std.specs.Prelude.{◌≡◌, ◌<◌, [], ◌∷◌, ◌++◌,
 ghost use Rattle.dp_trie.specs.declared.ranked.Ranked.{Ranked};
 ghost use Rattle.dp_pattern.specs.Name.{Plain, Pattern};
 ghost use Rattle.dp_trie.specs.Known.{known_at, KeepsEntries};
-ghost use Rattle.dp_trie.specs.Ranked.{known_now, hold_of, IsPattern, IsPlain, IsGroup, ArePlainFirst, AreInOrder};
+ghost use Rattle.dp_trie.specs.steps.Ranked.{known_now, hold_of, IsPattern, IsPlain, IsGroup, ArePlainFirst, AreInOrder};
 
 use crate::node::Held;
 use dp_lookup::{Dialplan, EntryId, NoMemory};
@@ -53,7 +53,8 @@ fn push_entry<'a>(
     id: EntryId,
     ranked: &mut Vec<Ranked<'a>>,
 ) -> Result<(), NoMemory>
-    ensures { OnOk result (map known_now ranked.new.items ≡ map known_now ranked.old.items ++ filter_map (known_at plan.now) (id ∷ [])) }
+    ensures { OnOk result (map known_now ranked.new.items
+        ≡ map known_now ranked.old.items ++ filter_map (known_at plan.now) (id ∷ [])) }
 {
     match plan.entry(id) {
         Some(entry) => {
@@ -82,7 +83,7 @@ pub(crate) fn rank(
     Ok(ranked)
 }
 
-/// The place behind the entries that have the name of the one at a place.
+/// The place after the entries that have the name of the one at a place.
 pub(crate) fn group_end(ranked: &[Ranked<'_>], from: usize, name: &Name) -> usize
     requires within { from < length ranked.now }
     requires first { (one : Ranked) → slice_get ranked.now from ≡ Some one → (known_now one).name ≡ name.now }

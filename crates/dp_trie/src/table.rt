@@ -5,10 +5,10 @@ ghost use Rattle.std.specs.Option.{option_map};
 ghost use Rattle.dp_pattern.specs.Dashes.{undashed};
 ghost use Rattle.dp_trie.specs.Asked.{is_more, wants, asked, has_label, hit_of};
 ghost use Rattle.dp_trie.specs.Known.{KeepsEntries, class_count, most_nodes};
-ghost use Rattle.dp_trie.specs.Labels.{AreLabels};
-ghost use Rattle.dp_trie.specs.Leaps.{AreLeaps};
+ghost use Rattle.dp_trie.specs.steps.Labels.{AreLabels};
+ghost use Rattle.dp_trie.specs.steps.Leaps.{AreLeaps};
 ghost use Rattle.dp_trie.specs.Names.{known_plain, ArePlainRanges};
-ghost use Rattle.dp_trie.specs.Ranked.{known_now, IsPattern, IsPlain, ArePlainFirst, AreInOrder};
+ghost use Rattle.dp_trie.specs.steps.Ranked.{known_now, IsPattern, IsPlain, ArePlainFirst, AreInOrder};
 ghost use Rattle.dp_trie.specs.Tree.{known_from, IsTree};
 
 use crate::build::build_nodes;
@@ -42,10 +42,10 @@ pub(crate) struct Table {
 impl Model for Table {
     ghost use Rattle.std.specs.Prelude.{◌≤◌, [], ◌++◌, length};
     ghost use Rattle.dp_trie.specs.Known.{KeptContext, most_nodes};
-    ghost use Rattle.dp_trie.specs.Labels.{AreLabels};
-    ghost use Rattle.dp_trie.specs.Leaps.{AreLeaps};
+    ghost use Rattle.dp_trie.specs.steps.Labels.{AreLabels};
+    ghost use Rattle.dp_trie.specs.steps.Leaps.{AreLeaps};
     ghost use Rattle.dp_trie.specs.Names.{known_plain, ArePlainRanges};
-    ghost use Rattle.dp_trie.specs.Ranked.{AreInOrder};
+    ghost use Rattle.dp_trie.specs.steps.Ranked.{AreInOrder};
     ghost use Rattle.dp_trie.specs.Tree.{known_from, IsTree};
 
     ghost Value = { KeptContext };

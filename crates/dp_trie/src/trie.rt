@@ -156,7 +156,8 @@ impl Trie {
         text: &[u8],
         priority: u32,
     ) -> (Option<EntryId>, usize)
-        ensures found { (plan : PlanOf) → Keeps plan self.now → result.0 ≡ found_entry plan order.now.contexts text.now priority }
+        ensures found { (plan : PlanOf) → Keeps plan self.now
+            → result.0 ≡ found_entry plan order.now.contexts text.now priority }
         ensures most { result.1 ≤ sum_by (nodes_at self.now) order.now.contexts }
         ensures least { (plan : PlanOf) → Keeps plan self.now → FindsPattern plan result.0 result.1 }
     {
@@ -167,7 +168,8 @@ impl Trie {
     /// The entry of the order's contexts that matches the dialled text and has the priority, as `dp_lookup::find` gives
     /// it. It takes no memory.
     pub fn find(&self, order: &SearchOrder, text: &[u8], priority: u32) -> Option<EntryId>
-        ensures { (plan : PlanOf) → Keeps plan self.now → result ≡ found_entry plan order.now.contexts text.now priority }
+        ensures { (plan : PlanOf) → Keeps plan self.now
+            → result ≡ found_entry plan order.now.contexts text.now priority }
     {
         let (found, _count) = self.find_counted(order, text, priority);
         found
@@ -176,7 +178,8 @@ impl Trie {
     /// The priority of the entry of the order's contexts that matches the dialled text and has the label, as
     /// `dp_lookup::find_label` gives it. It takes no memory.
     pub fn find_label(&self, order: &SearchOrder, text: &[u8], label: &[u8]) -> Option<u32>
-        ensures { (plan : PlanOf) → Keeps plan self.now → result ≡ found_label plan order.now.contexts text.now label.now }
+        ensures { (plan : PlanOf) → Keeps plan self.now
+            → result ≡ found_label plan order.now.contexts text.now label.now }
     {
         look_up_label(&self.tables, order, label, text)
     }

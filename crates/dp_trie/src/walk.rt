@@ -4,9 +4,9 @@ ghost use Rattle.std.specs.Option.{option_map};
 ghost use Rattle.dp_pattern.specs.Walk.{classes_of};
 ghost use Rattle.dp_trie.specs.Asked.{is_more, wants, asked, hit_of};
 ghost use Rattle.dp_pattern.specs.Dashes.{undashed};
-ghost use Rattle.dp_trie.specs.Digits.{Stands};
+ghost use Rattle.dp_trie.specs.steps.Digits.{Stands};
 ghost use Rattle.dp_trie.specs.declared.walk.Visit.TheVariants.{Enters, Fails};
-ghost use Rattle.dp_trie.specs.Leaps.{AreLeaps};
+ghost use Rattle.dp_trie.specs.steps.Leaps.{AreLeaps};
 ghost use Rattle.dp_trie.specs.Tree.{takes, allows, step_visit, known_from, IsRange, IsTree, Rises};
 
 use crate::digits::{Cursor, Digits};
@@ -19,9 +19,9 @@ use dp_pattern::{Class, Tail};
 /// What a walk does at a node.
 #[derive(Clone, Copy)]
 pub(crate) enum Visit {
-    /// It enters the node and goes on behind it.
+    /// It enters the node and goes on after it.
     Enters,
-    /// It goes on behind all that stands below the node.
+    /// It goes on after all that stands below the node.
     Fails,
     /// It enters the node, which holds what was asked for.
     Holds(EntryId),
@@ -53,7 +53,7 @@ pub(crate) fn takes(
     }
 }
 
-/// Whether the tail allows what is left behind so many of the digits.
+/// Whether the tail allows what is left after so many of the digits.
 pub(crate) fn allows(
     tail: Tail,
     number: usize,
@@ -107,7 +107,8 @@ fn visit_leaf(
     requires rises { Rises held.now (Step.Leaf leaf) }
     requires stands { Stands digits.now.text.now cursor.old }
     ensures stands { Stands digits.now.text.now cursor.new }
-    ensures visit { result ≡ step_visit held.now (is_more question) (wants question) (undashed digits.now.text.now) depth
+    ensures visit { result ≡ step_visit held.now (is_more question) (wants question)
+        (undashed digits.now.text.now) depth
         (Step.Leaf leaf) }
 {
     if !allows(leaf.tail, depth, digits, cursor, is_more(question)) {
@@ -153,10 +154,12 @@ pub(crate) fn find_in_tree(
     requires tree { IsTree held.now nodes.now ends.now }
     requires leaps { AreLeaps nodes.now ends.now leaps.now }
     ensures hit { result.hit ≡ option_map hit_of
-        (find (asked (is_more question) (wants question) (undashed digits.now.text.now)) (known_from held.now [] nodes.now)) }
+        (find (asked (is_more question) (wants question) (undashed digits.now.text.now))
+        (known_from held.now [] nodes.now)) }
     ensures most { result.count ≤ length nodes.now }
     ensures least { MatchOption
-        (find (asked (is_more question) (wants question) (undashed digits.now.text.now)) (known_from held.now [] nodes.now))
+        (find (asked (is_more question) (wants question) (undashed digits.now.text.now))
+        (known_from held.now [] nodes.now))
         (Unit {0}) (λ known. length (classes_of known.name) ≤ result.count) }
 {
     let mut cursor = digits.first();

@@ -254,7 +254,7 @@ module _ {B : Type 0} where
           by (inl p) = inl (subst (IsAmong i) (last outer) (subst (IsHeld (outer ++ h ∷ []) i) p.1 held.0))
           by (inr p) = inr ((omega (arith, p.1, falls.0, length-append outer (h ∷ []))), falls.1)
 
-  -- a number that is written behind those of the last frame is noted
+  -- a number that is written after those of the last frame is noted
   pub noted-set : (n m : ℕ) (hs : List (Held B)) (h : Held B) → suc m ≡ length hs → h ≡ get_or hs m h
       → set_item hs m (record { back = h.back; numbers = h.numbers ++ n ∷ [] }) ≡ noted n hs
   noted-set n m [] h many is = absurd (omega arith)

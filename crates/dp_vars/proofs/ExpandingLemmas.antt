@@ -38,7 +38,7 @@ module _ (sight : Sight) where
   put-brackets start old cut new value body put kept is from =
       put ∙ (λ i. kept i ++ (is ∙ ap expression_value from) i)
 
-  -- the expansion of the whole, by what is written, the openings that wait in it, and the levels behind
+  -- the expansion of the whole, by what is written, the openings that wait in it, and the levels after
   abbrev pub come : List Waiting → List ℕ → Levels → List ℕ
   come waiting bytes (Last rest) = bytes ++ expanded sight rest
   come [] bytes (Within rest outer) = come [] (bytes ++ expanded sight rest) outer
@@ -72,20 +72,20 @@ module _ (sight : Sight) where
       ap (λ bs. come waiting (with_value sight w (bs ++ expanded sight rest)) outer) (value_at_end bytes (expanded sight inside) kind)
       ∙ ap (λ bs. come waiting (with_value sight w bs) outer) (append_assoc bytes (group_value sight kind (expanded sight inside)) (expanded sight rest))
 
-  come-end : (waiting : List Waiting) (bytes : List ℕ) (behind : List GroupKind → ℕ → Levels)
-      → come (closed sight waiting bytes).waiting (closed sight waiting bytes).bytes (behind (kinds_of (closed sight waiting bytes).waiting) 0)
-      ≡ come waiting bytes (Within Over (behind (outer_of (kinds_of waiting)) 0))
+  come-end : (waiting : List Waiting) (bytes : List ℕ) (beyond : List GroupKind → ℕ → Levels)
+      → come (closed sight waiting bytes).waiting (closed sight waiting bytes).bytes (beyond (kinds_of (closed sight waiting bytes).waiting) 0)
+      ≡ come waiting bytes (Within Over (beyond (outer_of (kinds_of waiting)) 0))
   unfolding expanded
-  come-end [] bytes behind = ap (λ bs. come [] bs (behind [] 0)) (sym (append-nil bytes))
-  come-end (w ∷ waiting) bytes behind = ap (λ bs. come waiting (with_value sight w bs) (behind (kinds_of waiting) 0)) (sym (append-nil bytes))
+  come-end [] bytes beyond = ap (λ bs. come [] bs (beyond [] 0)) (sym (append-nil bytes))
+  come-end (w ∷ waiting) bytes beyond = ap (λ bs. come waiting (with_value sight w bs) (beyond (kinds_of waiting) 0)) (sym (append-nil bytes))
 
   -- a mark changes nothing of what all comes to
-  pub come-mark : (m : Mark) (written : Written) (behind : List GroupKind → ℕ → Levels)
-      → come (after sight m written).waiting (after sight m written).bytes (behind (kinds_of (after sight m written).waiting) 0)
-      ≡ come written.waiting written.bytes (with_mark m behind 0 (kinds_of written.waiting))
-  come-mark End written behind = come-end written.waiting written.bytes behind
-  come-mark (Opening kind) written behind = come-with_opening written.waiting written.bytes kind (behind (kind ∷ kinds_of written.waiting) 0)
-  come-mark (Byte byte) written behind = come-with_byte written.waiting written.bytes byte (behind (kinds_of written.waiting) 0)
+  pub come-mark : (m : Mark) (written : Written) (beyond : List GroupKind → ℕ → Levels)
+      → come (after sight m written).waiting (after sight m written).bytes (beyond (kinds_of (after sight m written).waiting) 0)
+      ≡ come written.waiting written.bytes (with_mark m beyond 0 (kinds_of written.waiting))
+  come-mark End written beyond = come-end written.waiting written.bytes beyond
+  come-mark (Opening kind) written beyond = come-with_opening written.waiting written.bytes kind (beyond (kind ∷ kinds_of written.waiting) 0)
+  come-mark (Byte byte) written beyond = come-with_byte written.waiting written.bytes byte (beyond (kinds_of written.waiting) 0)
 
   -- nothing is left
   pub come-over : (waiting : List Waiting) (bytes : List ℕ) → come waiting bytes (levels [] (kinds_of waiting) 0) ≡ bytes

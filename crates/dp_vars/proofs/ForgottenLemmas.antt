@@ -38,7 +38,7 @@ module _ (q : List ℕ) where
       by true m within rest = refl
       by false m within rest = rest (omega arith)
 
-  -- a name that is unknown stays so behind another one
+  -- a name that is unknown stays so after another one
   unknown-push : (ns : List (List ℕ)) (name : List ℕ) → pointwise nat_eq q name ≡ false → position_or_len (pointwise nat_eq q) ns ≡ length ns
       → position_or_len (pointwise nat_eq q) (ns ++ name ∷ []) ≡ length (ns ++ name ∷ [])
   unknown-push [] name differ is = ap (λ b. cond (not b) 1 0) differ

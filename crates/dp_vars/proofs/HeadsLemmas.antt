@@ -9,11 +9,11 @@ use Rattle.std.proofs.lemmas.List.{drop-drop, drop-take, drop_all, take_min, dro
 use Rattle.dp_conf.specs.Cut.{before_last, cut_once}
 use Rattle.dp_conf.specs.Levels.{cut_after, cut_outside, stands_outside}
 use Rattle.dp_conf.specs.declared.groups.GroupKind.TheVariants.{Braces}
-use Rattle.dp_vars.specs.Far.{asked_at_most}
+use Rattle.dp_vars.specs.steps.Far.{asked_at_most}
 use Rattle.dp_vars.specs.Heads.{head_seen, part_seen}
 use Rattle.dp_vars.specs.Parts.{asked_of, part}
 use Rattle.dp_vars.specs.Sights.{Sight}
-use Rattle.dp_vars.specs.Spans.{spanned, front_of, behind_of}
+use Rattle.dp_vars.specs.Spans.{spanned, front_of, after_of}
 use Rattle.dp_vars.specs.Values.{called, head_by, head_value, body_by, group_value, function_of, function_value}
 use Rattle.dp_vars.specs.declared.head.Cut.{Cut}
 use Rattle.dp_vars.specs.declared.head.Head.{Head}
@@ -37,7 +37,7 @@ spanned-front text span size =
     let sizes : min span.to (span.from + size) - span.from ≡ min size (span.to - span.from) = omega arith in
     ap (λ n. take n (drop span.from text)) sizes ∙ sym (take-take_min size (span.to - span.from) (drop span.from text))
 
-spanned-within : (text : List ℕ) (span : Span) (size : ℕ) → span.from + size ≤ span.to → spanned text (behind_of span size) ≡ drop size (spanned text span)
+spanned-within : (text : List ℕ) (span : Span) (size : ℕ) → span.from + size ≤ span.to → spanned text (after_of span size) ≡ drop size (spanned text span)
 spanned-within text span size within =
     let place : min span.to (span.from + size) ≡ span.from + size = omega arith in
     let sizes : span.to - span.from ≡ size + (span.to - (span.from + size)) = omega arith in
@@ -46,14 +46,14 @@ spanned-within text span size within =
     ∙ sym (drop-take size (span.to - (span.from + size)) (drop span.from text))
     ∙ ap (λ n. drop size (take n (drop span.from text))) (sym sizes)
 
-spanned-past : (text : List ℕ) (span : Span) (size : ℕ) → span.to < span.from + size → spanned text (behind_of span size) ≡ drop size (spanned text span)
+spanned-past : (text : List ℕ) (span : Span) (size : ℕ) → span.to < span.from + size → spanned text (after_of span size) ≡ drop size (spanned text span)
 spanned-past text span size past =
     let none : span.to - min span.to (span.from + size) ≡ 0 = omega arith in
     ap (λ n. take n (drop (min span.to (span.from + size)) text)) none
     ∙ sym (drop_all size (spanned text span) (omega (arith, length-take (span.to - span.from) (drop span.from text))))
 
-pub spanned-behind : (text : List ℕ) (span : Span) (size : ℕ) → spanned text (behind_of span size) ≡ drop size (spanned text span)
-spanned-behind text span size =
+pub spanned-after : (text : List ℕ) (span : Span) (size : ℕ) → spanned text (after_of span size) ≡ drop size (spanned text span)
+spanned-after text span size =
     ⊎_elim (λ t. spanned-within text span size t.1) (λ t. spanned-past text span size t.1) (leb_tells (span.from + size) span.to)
 
 -- ---- what a text is cut into stands at its front and at its end
@@ -72,9 +72,9 @@ back_kept text tail n is =
     let place : length text - length tail ≡ min n (length text) = omega arith in
     ap (λ k. drop k text) place ∙ drop_min n text ∙ is
 
-same_cut : (before behind head tail : List ℕ) → (let cut : Option (List ℕ × List ℕ) = Some (before, behind) in cut ≡ Some (head, tail)) → (before ≡ head) × (behind ≡ tail)
-same_cut before behind head tail e =
-    let pair : (let p : List ℕ × List ℕ = (before, behind) in p ≡ (head, tail)) = cc in
+same_cut : (before after head tail : List ℕ) → (let cut : Option (List ℕ × List ℕ) = Some (before, after) in cut ≡ Some (head, tail)) → (before ≡ head) × (after ≡ tail)
+same_cut before after head tail e =
+    let pair : (let p : List ℕ × List ℕ = (before, after) in p ≡ (head, tail)) = cc in
     (ap (λ (p : List ℕ × List ℕ). p.0) pair, ap (λ (p : List ℕ × List ℕ). p.1) pair)
 
 pub cut_once-parts : (byte : ℕ) (text head tail : List ℕ) → cut_once byte text ≡ Some (head, tail) → IsCutOf text head tail
@@ -97,11 +97,11 @@ cut_after-parts cuts before (x ∷ xs) head tail is = by (cuts before x) (cut_af
   where
     by : (t : Bool) → (cut_after cuts (before ++ x ∷ []) xs ≡ Some (head, tail) → IsCutOf ((before ++ x ∷ []) ++ xs) head tail)
         → cond t (Some (before, xs)) (cut_after cuts (before ++ x ∷ []) xs) ≡ Some (head, tail) → IsCutOf (before ++ x ∷ xs) head tail
-    by true behind e = let same = same_cut before xs head tail e in record {
+    by true after e = let same = same_cut before xs head tail e in record {
       front = front_kept (before ++ x ∷ xs) head (length before) (take-append_seam before (x ∷ xs) ∙ same.0);
       back = back_kept (before ++ x ∷ xs) tail (length before + 1) (drop-append-add before (x ∷ xs) 1 ∙ same.1);
     }
-    by false behind e = subst (λ text. IsCutOf text head tail) (append_assoc before (x ∷ []) xs) (behind e)
+    by false after e = subst (λ text. IsCutOf text head tail) (append_assoc before (x ∷ []) xs) (after e)
 
 pub cut_outside-parts : (byte : ℕ) (text head tail : List ℕ) → cut_outside byte text ≡ Some (head, tail) → IsCutOf text head tail
 unfolding cut_outside
@@ -117,21 +117,21 @@ before_last-front byte (b ∷ bs) front is = by (before_last byte bs) (before_la
 
     by : (o : Option (List ℕ)) → ((f : List ℕ) → o ≡ Some f → take (length f) bs ≡ f)
         → option_map_or (λ f. Some (b ∷ f)) o (cond (b == byte) (Some []) None) ≡ Some front → take (length front) (b ∷ bs) ≡ front
-    by None behind e = here (b == byte) e
-    by (Some f) behind e =
+    by None after e = here (b == byte) e
+    by (Some f) after e =
         let same : b ∷ f ≡ front = cc in
-        front_kept (b ∷ bs) front (suc (length f)) (ap (λ bytes. b ∷ bytes) (behind f refl) ∙ same)
+        front_kept (b ∷ bs) front (suc (length f)) (ap (λ bytes. b ∷ bytes) (after f refl) ∙ same)
 
 -- ---- heads
 
 module _ (sight : Sight) (text : List ℕ) where
-  -- a function, by its name and by what stands behind the `(`
-  pub call-seen : (function : Function) (name argument : List ℕ) (behind : Span) → Some function ≡ function_of name
-      → Some argument ≡ before_last 41 (spanned text behind)
-      → head_seen sight text (Call function (front_of behind (length argument))) ≡ called sight name (before_last 41 (spanned text behind))
-  call-seen function name argument behind function_is argument_is =
+  -- a function, by its name and by what stands after the `(`
+  pub call-seen : (function : Function) (name argument : List ℕ) (after : Span) → Some function ≡ function_of name
+      → Some argument ≡ before_last 41 (spanned text after)
+      → head_seen sight text (Call function (front_of after (length argument))) ≡ called sight name (before_last 41 (spanned text after))
+  call-seen function name argument after function_is argument_is =
       ap (function_value sight (Some function))
-      (spanned-front text behind (length argument) ∙ before_last-front 41 (spanned text behind) argument (sym argument_is))
+      (spanned-front text after (length argument) ∙ before_last-front 41 (spanned text after) argument (sym argument_is))
       ∙ ap (λ f. function_value sight f argument) function_is
       ∙ ap (called sight name) argument_is
 
@@ -139,13 +139,13 @@ module _ (sight : Sight) (text : List ℕ) where
   unfolding head_value
   name-seen place none = ap (head_by sight (spanned text place)) (sym none)
 
-  pub head-seen : (place : Span) (name behind : List ℕ) (head : Head) → cut_once 40 (spanned text place) ≡ Some (name, behind)
-      → head_seen sight text head ≡ called sight name (before_last 41 (spanned text (behind_of place (length (spanned text place) - length behind))))
+  pub head-seen : (place : Span) (name after : List ℕ) (head : Head) → cut_once 40 (spanned text place) ≡ Some (name, after)
+      → head_seen sight text head ≡ called sight name (before_last 41 (spanned text (after_of place (length (spanned text place) - length after))))
       → head_seen sight text head ≡ head_value sight (spanned text place)
   unfolding head_value
-  head-seen place name behind head cut is =
+  head-seen place name after head cut is =
       is ∙ ap (λ bytes. called sight name (before_last 41 bytes))
-      (spanned-behind text place (length (spanned text place) - length behind) ∙ (cut_once-parts 40 (spanned text place) name behind cut).back)
+      (spanned-after text place (length (spanned text place) - length after) ∙ (cut_once-parts 40 (spanned text place) name after cut).back)
       ∙ ap (head_by sight (spanned text place)) (sym cut)
 
 -- ---- parts
@@ -178,13 +178,13 @@ module _ (sight : Sight) (text : List ℕ) where
   -- a body that asks for a part
   pub part-seen : (place : Span) (head tail : List ℕ) (cut : Cut) → cut_outside 58 (spanned text place) ≡ Some (head, tail)
       → head_seen sight text cut.head ≡ head_value sight (spanned text (front_of place (length head)))
-      → cut.tail ≡ behind_of place (length (spanned text place) - length tail)
+      → cut.tail ≡ after_of place (length (spanned text place) - length tail)
       → cut.asked ≡ asked_at_most (asked_of (Some tail))
       → part_seen text cut (head_seen sight text cut.head) ≡ group_value sight Braces (spanned text place)
   unfolding group_value
   part-seen place head tail cut cut_is head_is tail_is asked_is =
       let parts = cut_outside-parts 58 (spanned text place) head tail cut_is in
       part_seen-asked text cut tail (head_seen sight text cut.head)
-      (ap (spanned text) tail_is ∙ spanned-behind text place (length (spanned text place) - length tail) ∙ parts.back) asked_is
+      (ap (spanned text) tail_is ∙ spanned-after text place (length (spanned text place) - length tail) ∙ parts.back) asked_is
       ∙ ap (part (asked_of (Some tail))) (head_is ∙ ap (head_value sight) (spanned-front text place (length head) ∙ parts.front))
       ∙ ap (body_by sight (spanned text place)) (sym cut_is)

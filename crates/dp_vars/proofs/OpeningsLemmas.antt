@@ -17,8 +17,8 @@ plain (b ∷ bs) = Plain b (plain bs)
 levels-byte : (b : ℕ) (bs : List ℕ) (o : Option GroupKind) → is_some o || has_opening bs ≡ false
     → (has_opening bs ≡ false → levels bs [] 0 ≡ Last (plain bs)) → with_mark (mark_of o b) (levels bs) 1 [] ≡ Last (plain (b ∷ bs))
 unfolding plain
-levels-byte b bs None none behind = ap (with_byte b) (behind none)
-levels-byte b bs (Some kind) none behind = absurd cc
+levels-byte b bs None none after = ap (with_byte b) (after none)
+levels-byte b bs (Some kind) none after = absurd cc
 
 -- the levels of a text in which nothing opens a group
 levels-plain : (text : List ℕ) → has_opening text ≡ false → levels text [] 0 ≡ Last (plain text)

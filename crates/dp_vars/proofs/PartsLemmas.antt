@@ -3,9 +3,9 @@ use Rattle.std.proofs.Common.{◌≡◌, ◌<◌, ◌^◌, ℕ, List, Option, So
 use Rattle.std.specs.Option.{option_map}
 use Rattle.dp_vars.specs.declared.part.Reach.{Reach}
 use Rattle.dp_vars.specs.declared.part.Reach.TheVariants.{Ahead, Back}
-use Rattle.dp_vars.specs.declared.part.Asked.{Asked}
-use Rattle.dp_vars.specs.declared.part.Asked.TheVariants.{Whole, Part, Nothing}
-use Rattle.dp_vars.specs.Far.{at_most, asked_at_most}
+use Rattle.dp_vars.specs.declared.part.Selection.{Selection}
+use Rattle.dp_vars.specs.declared.part.Selection.TheVariants.{Whole, Part, Nothing}
+use Rattle.dp_vars.specs.steps.Far.{at_most, asked_at_most}
 use Rattle.dp_vars.specs.Parts.{part_from, start_of, end_of, part}
 
 pub part_from-at_most : (offset : Option Reach) (size : Option (Option Reach))
@@ -23,7 +23,7 @@ end_of-at_most None start size small = refl
 end_of-at_most (Some (Ahead n)) start size small = omega arith
 end_of-at_most (Some (Back n)) start size small = omega arith
 
-pub part-at_most : (asked : Asked) (value : List ℕ) → length value < 2 ^ 64 → part (asked_at_most asked) value ≡ part asked value
+pub part-at_most : (asked : Selection) (value : List ℕ) → length value < 2 ^ 64 → part (asked_at_most asked) value ≡ part asked value
 part-at_most Whole value small = refl
 part-at_most Nothing value small = refl
 part-at_most (Part offset size) value small =

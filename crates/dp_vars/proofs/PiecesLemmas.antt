@@ -10,7 +10,7 @@ use Rattle.dp_conf.specs.Groups.{opener, closer, printed, Over}
 use Rattle.dp_conf.specs.GroupsRead.{Levels, Last, Within, with_byte, with_opening, with_mark, levels, outer_of, reading_of}
 use Rattle.dp_vars.specs.Expanding.{Written, kinds_of, AreWritten, closed, after}
 use Rattle.dp_vars.specs.Heads.{head_seen, part_seen}
-use Rattle.dp_vars.specs.Pieces.{with_bytes, past, blank, past_all, ReadSoFar, past_last, written_in, waiting_after, StandsBehind, GoesBehind, with_run}
+use Rattle.dp_vars.specs.Pieces.{with_bytes, past, blank, past_all, ReadSoFar, past_last, written_in, waiting_after, StandsAfter, GoesAfter, with_run}
 use Rattle.dp_vars.specs.Sights.{Sight}
 use Rattle.dp_vars.specs.Spans.{span_at, spanned}
 use Rattle.dp_vars.specs.Values.{expansion, function_value, group_value}
@@ -45,22 +45,22 @@ opening-printed (k ∷ kinds) kind (Within inside (Within rest outer)) =
     ap (λ bytes. 36 ∷ opener kind ∷ bytes) (append_assoc (printed inside) (closer kind ∷ printed rest) (closer k ∷ printed_levels kinds outer))
 
 -- outside of groups nothing ends
-no_end : (rest behind : List ℕ) → levels rest [] 0 ≡ with_mark End (levels behind) 0 [] → ⊥
-no_end rest behind is = let both : Last (reading_of rest) ≡ Within Over (levels behind [] 0) = sym (levels-last rest) ∙ is in cc
+no_end : (rest beyond : List ℕ) → levels rest [] 0 ≡ with_mark End (levels beyond) 0 [] → ⊥
+no_end rest beyond is = let both : Last (reading_of rest) ≡ Within Over (levels beyond [] 0) = sym (levels-last rest) ∙ is in cc
 
 -- a text begins with the bytes of its first mark
-pub text-mark : (m : Mark) (kinds : List GroupKind) (rest behind : List ℕ) → levels rest kinds 0 ≡ with_mark m (levels behind) 0 kinds
-    → rest ≡ mark_bytes m kinds ++ behind
+pub text-mark : (m : Mark) (kinds : List GroupKind) (rest beyond : List ℕ) → levels rest kinds 0 ≡ with_mark m (levels beyond) 0 kinds
+    → rest ≡ mark_bytes m kinds ++ beyond
 unfolding printed
-text-mark (Byte byte) kinds rest behind is =
-    sym (levels-printed rest kinds 0) ∙ ap (printed_levels kinds) is ∙ byte-printed kinds byte (levels behind kinds 0)
-    ∙ ap (λ bytes. byte ∷ bytes) (levels-printed behind kinds 0)
-text-mark (Opening kind) kinds rest behind is =
-    sym (levels-printed rest kinds 0) ∙ ap (printed_levels kinds) is ∙ opening-printed kinds kind (levels behind (kind ∷ kinds) 0)
-    ∙ ap (λ bytes. 36 ∷ opener kind ∷ bytes) (levels-printed behind (kind ∷ kinds) 0)
-text-mark End [] rest behind is = absurd (no_end rest behind is)
-text-mark End (kind ∷ kinds) rest behind is =
-    sym (levels-printed rest (kind ∷ kinds) 0) ∙ ap (printed_levels (kind ∷ kinds)) is ∙ ap (λ bytes. closer kind ∷ bytes) (levels-printed behind kinds 0)
+text-mark (Byte byte) kinds rest beyond is =
+    sym (levels-printed rest kinds 0) ∙ ap (printed_levels kinds) is ∙ byte-printed kinds byte (levels beyond kinds 0)
+    ∙ ap (λ bytes. byte ∷ bytes) (levels-printed beyond kinds 0)
+text-mark (Opening kind) kinds rest beyond is =
+    sym (levels-printed rest kinds 0) ∙ ap (printed_levels kinds) is ∙ opening-printed kinds kind (levels beyond (kind ∷ kinds) 0)
+    ∙ ap (λ bytes. 36 ∷ opener kind ∷ bytes) (levels-printed beyond (kind ∷ kinds) 0)
+text-mark End [] rest beyond is = absurd (no_end rest beyond is)
+text-mark End (kind ∷ kinds) rest beyond is =
+    sym (levels-printed rest (kind ∷ kinds) 0) ∙ ap (printed_levels (kind ∷ kinds)) is ∙ ap (λ bytes. closer kind ∷ bytes) (levels-printed beyond kinds 0)
 
 -- ---- plain bytes
 
@@ -69,19 +69,19 @@ take-next zero xs b ys is = ap (take 1) is
 take-next (suc n) [] b ys is = cc
 take-next (suc n) (x ∷ xs) b ys is = ap (λ bytes. x ∷ bytes) (take-next n xs b ys is)
 
--- a byte behind plain bytes is one of them
-spanned-next : (text : List ℕ) (run : Span) (b : ℕ) (behind : List ℕ) → run.from ≤ run.to → drop run.to text ≡ b ∷ behind
+-- a byte after plain bytes is one of them
+spanned-next : (text : List ℕ) (run : Span) (b : ℕ) (beyond : List ℕ) → run.from ≤ run.to → drop run.to text ≡ b ∷ beyond
     → spanned text (record { from = run.from; to = run.to + 1 }) ≡ spanned text run ++ b ∷ []
-spanned-next text run b behind ordered is =
+spanned-next text run b beyond ordered is =
     let size : run.to + 1 - run.from ≡ suc (run.to - run.from) = omega arith in
     let end : run.from + (run.to - run.from) ≡ run.to = omega arith in
     ap (λ n. take n (drop run.from text)) size
-    ∙ take-next (run.to - run.from) (drop run.from text) b behind (drop-drop (run.to - run.from) run.from text ∙ ap (λ n. drop n text) end ∙ is)
+    ∙ take-next (run.to - run.from) (drop run.from text) b beyond (drop-drop (run.to - run.from) run.from text ∙ ap (λ n. drop n text) end ∙ is)
 
 spanned-at : (text : List ℕ) (place : ℕ) → spanned text (span_at place) ≡ []
 spanned-at text place = let none : place - place ≡ 0 = omega arith in ap (λ n. take n (drop place text)) none
 
--- ---- what is written behind a mark
+-- ---- what is written after a mark
 
 with_none : (written : Written) (bytes : List ℕ) → bytes ≡ [] → with_bytes written bytes ≡ written
 with_none written bytes is = ap (with_bytes written) is ∙ ap (λ bs. record written { bytes = bs }) (append-nil written.bytes)
@@ -103,7 +103,7 @@ module _ (sight : Sight) (text : List ℕ) where
       by true is = refl
       by false is = sym (with_none (past_last sight text pieces) (spanned text run) (spanned-none text run (ltb-false run.from run.to is)))
 
-  -- behind a group that holds no group, in place of its opening
+  -- after a group that holds no group, in place of its opening
   past-leaf : (run : Span) (place : ℕ) (kind : GroupKind) (written : Written)
       → with_bytes (with_bytes written (group_value sight kind (spanned text run))) (spanned text (span_at place))
       ≡ after sight End (with_bytes (after sight (Opening kind) written) (spanned text run))
@@ -154,11 +154,11 @@ module _ (sight : Sight) (text : List ℕ) where
   pub writing-first : (whole : List Piece) → IsWriting blank whole whole
   writing-first whole = record { stands = tt; comes = refl }
 
-  pub writing-next : (written new : Written) (piece : Piece) (left behind whole : List Piece) → left ≡ piece ∷ behind → new ≡ past sight text written piece
-      → IsWriting written left whole → IsWriting new behind whole
-  writing-next written new piece left behind whole left_is new_is writing = record {
+  pub writing-next : (written new : Written) (piece : Piece) (left beyond whole : List Piece) → left ≡ piece ∷ beyond → new ≡ past sight text written piece
+      → IsWriting written left whole → IsWriting new beyond whole
+  writing-next written new piece left beyond whole left_is new_is writing = record {
     stands = subst AreWritten (sym new_is) (AreWritten-past piece written writing.stands);
-    comes = ap (λ w. fold (past sight text) w behind) new_is ∙ ap (fold (past sight text) written) (sym left_is) ∙ writing.comes;
+    comes = ap (λ w. fold (past sight text) w beyond) new_is ∙ ap (fold (past sight text) written) (sym left_is) ∙ writing.comes;
   }
 
 -- ---- a text on the way to its pieces
@@ -196,13 +196,13 @@ on_way-over text so_far rest on_way none sight =
         let end : length text - so_far.run.from ≡ so_far.run.to - so_far.run.from = let s = on_way.size in let e = ap length none in omega arith in
         sym (take_rest text so_far.run.from) ∙ ap (λ n. take n (drop so_far.run.from text)) end
 
--- a plain byte stands behind those before it
-stands-mark : (m : Mark) (kinds : List GroupKind) (text rest behind : List ℕ) (run : Span) (place : ℕ) → run.from ≤ run.to → drop run.to text ≡ rest
-    → rest ≡ mark_bytes m kinds ++ behind → place ≡ run.to + length (mark_bytes m kinds) → StandsBehind text run m place
-stands-mark End kinds text rest behind run place ordered is_rest is place_is = tt
-stands-mark (Opening kind) kinds text rest behind run place ordered is_rest is place_is = tt
-stands-mark (Byte byte) kinds text rest behind run place ordered is_rest is place_is =
-    ap (λ p. spanned text (record { from = run.from; to = p })) place_is ∙ spanned-next text run byte behind ordered (is_rest ∙ is)
+-- a plain byte stands after those before it
+stands-mark : (m : Mark) (kinds : List GroupKind) (text rest beyond : List ℕ) (run : Span) (place : ℕ) → run.from ≤ run.to → drop run.to text ≡ rest
+    → rest ≡ mark_bytes m kinds ++ beyond → place ≡ run.to + length (mark_bytes m kinds) → StandsAfter text run m place
+stands-mark End kinds text rest beyond run place ordered is_rest is place_is = tt
+stands-mark (Opening kind) kinds text rest beyond run place ordered is_rest is place_is = tt
+stands-mark (Byte byte) kinds text rest beyond run place ordered is_rest is place_is =
+    ap (λ p. spanned text (record { from = run.from; to = p })) place_is ∙ spanned-next text run byte beyond ordered (is_rest ∙ is)
 
 kinds_of-after : (sight : Sight) (m : Mark) (written : Written) → kinds_of (after sight m written).waiting ≡ waiting_after m (kinds_of written.waiting)
 kinds_of-after sight (Opening kind) written = refl
@@ -213,39 +213,39 @@ kinds_of-after sight End written = by written.waiting
     by [] = refl
     by (w ∷ ws) = refl
 
-module _ (text : List ℕ) (so_far : ReadSoFar) (rest : List ℕ) (m : Mark) (behind : List ℕ) (on_way : IsOnWay text so_far rest)
-    (marked : levels rest so_far.waiting 0 ≡ with_mark m (levels behind) 0 so_far.waiting) where
-  -- what stands behind the mark, by the size of the mark
-  sizes : length rest ≡ length (mark_bytes m so_far.waiting) + length behind
-  sizes = ap length (text-mark m so_far.waiting rest behind marked) ∙ length-append (mark_bytes m so_far.waiting) behind
+module _ (text : List ℕ) (so_far : ReadSoFar) (rest : List ℕ) (m : Mark) (beyond : List ℕ) (on_way : IsOnWay text so_far rest)
+    (marked : levels rest so_far.waiting 0 ≡ with_mark m (levels beyond) 0 so_far.waiting) where
+  -- what stands after the mark, by the size of the mark
+  sizes : length rest ≡ length (mark_bytes m so_far.waiting) + length beyond
+  sizes = ap length (text-mark m so_far.waiting rest beyond marked) ∙ length-append (mark_bytes m so_far.waiting) beyond
 
-  pub place_is : length text - length behind ≡ so_far.run.to + length (mark_bytes m so_far.waiting)
+  pub place_is : length text - length beyond ≡ so_far.run.to + length (mark_bytes m so_far.waiting)
   place_is = let e = sizes in let s = on_way.size in omega arith
 
-  pub stands : StandsBehind text so_far.run m (length text - length behind)
-  stands = stands-mark m so_far.waiting text rest behind so_far.run (length text - length behind) on_way.begins on_way.is_rest
-      (text-mark m so_far.waiting rest behind marked) place_is
+  pub stands : StandsAfter text so_far.run m (length text - length beyond)
+  stands = stands-mark m so_far.waiting text rest beyond so_far.run (length text - length beyond) on_way.begins on_way.is_rest
+      (text-mark m so_far.waiting rest beyond marked) place_is
 
-  behind_is : drop (length text - length behind) text ≡ behind
-  behind_is =
+  after_is : drop (length text - length beyond) text ≡ beyond
+  after_is =
       ap (λ n. drop n text) place_is
       ∙ sym (drop-drop (length (mark_bytes m so_far.waiting)) so_far.run.to text)
-      ∙ ap (drop (length (mark_bytes m so_far.waiting))) (on_way.is_rest ∙ text-mark m so_far.waiting rest behind marked)
-      ∙ drop_at (mark_bytes m so_far.waiting) behind (length (mark_bytes m so_far.waiting)) refl
+      ∙ ap (drop (length (mark_bytes m so_far.waiting))) (on_way.is_rest ∙ text-mark m so_far.waiting rest beyond marked)
+      ∙ drop_at (mark_bytes m so_far.waiting) beyond (length (mark_bytes m so_far.waiting)) refl
 
-  -- a mark is gone behind
-  pub on_way-after : (new : ReadSoFar) → GoesBehind text m (length text - length behind) so_far new → IsOnWay text new behind
+  -- a mark is gone after
+  pub on_way-after : (new : ReadSoFar) → GoesAfter text m (length text - length beyond) so_far new → IsOnWay text new beyond
   on_way-after new goes = record {
     kinds = kinds_new;
-    comes = λ sight. ap (λ ks. come sight (written_in sight text new).waiting (written_in sight text new).bytes (levels behind ks 0)) (sym (kinds_new sight))
-        ∙ ap (λ w. come sight w.waiting w.bytes (levels behind (kinds_of w.waiting) 0)) (goes.written sight)
-        ∙ come-mark sight m (written_in sight text so_far) (levels behind)
+    comes = λ sight. ap (λ ks. come sight (written_in sight text new).waiting (written_in sight text new).bytes (levels beyond ks 0)) (sym (kinds_new sight))
+        ∙ ap (λ w. come sight w.waiting w.bytes (levels beyond (kinds_of w.waiting) 0)) (goes.written sight)
+        ∙ come-mark sight m (written_in sight text so_far) (levels beyond)
         ∙ ap (come sight (written_in sight text so_far).waiting (written_in sight text so_far).bytes)
-        (ap (with_mark m (levels behind) 0) (on_way.kinds sight) ∙ sym marked)
+        (ap (with_mark m (levels beyond) 0) (on_way.kinds sight) ∙ sym marked)
         ∙ on_way.comes sight;
     begins = let e = goes.ends in let b = goes.begins in omega arith;
     size = let e = goes.ends in let p = place_is in let s = sizes in let t = on_way.size in omega arith;
-    is_rest = ap (λ n. drop n text) goes.ends ∙ behind_is;
+    is_rest = ap (λ n. drop n text) goes.ends ∙ after_is;
   }
     where
       kinds_new : (sight : Sight) → kinds_of (written_in sight text new).waiting ≡ new.waiting

@@ -48,9 +48,9 @@ unfolding sight reading_of levels expanded group_value head_value cut_outside di
 row-length = refl
 
 -- what stands between the last `)` and the cut has no effect
-row-behind : expansion sight (codes "${LEN(a)b:1}|${LEN(a)b}") ≡ codes "|1"
+row-after : expansion sight (codes "${LEN(a)b:1}|${LEN(a)b}") ≡ codes "|1"
 unfolding sight reading_of levels expanded group_value head_value cut_outside digits
-row-behind = refl
+row-after = refl
 
 -- a value is not expanded again
 row-once : expansion sight (codes "${A}${LEN(${A})}") ≡ codes "${X}4"

@@ -1,19 +1,20 @@
 -- Names with their bindings.
-use Rattle.std.proofs.Common.{◌≡◌, ◌<◌, ◌≤◌, ◌+◌, ℕ, zero, suc, Bool, true, false, cond, eqb, List, [], ◌∷◌, Option, Some, None, refl, sym, ap, ◌∙◌, nat_eq, nat_lt, not, length, map, take, slice_get, unwrap_or, position, arith, Result, Ok, Err}
+use Rattle.std.proofs.Common.{◌≡◌, ◌<◌, ◌≤◌, ◌+◌, ℕ, zero, suc, Bool, true, false, cond, eqb, List, [], ◌∷◌, Option, Some, None, refl, sym, ap, ◌∙◌, nat_eq, not, length, get_or, set, subst, ◌++◌, unwrap_or, arith, Result, Ok, Err}
 use Rattle.std.specs.List.{position_or_len}
 use Rattle.std.specs.Result.{OnErr}
 use Rattle.std.specs.Ordering.{nat_cmp}
-use Rattle.std.specs.Cmp.Lexicographic.{slice_cmp, pointwise, texts_ties, nat_list_eq_equiv, nat_list_cmp_total, bytes_decides}
+use Rattle.std.specs.Cmp.Lexicographic.{slice_cmp, pointwise, texts_ties, nat_list_cmp_total, bytes_decides}
 use Rattle.std.specs.FinMap.{get, get-empty, get-insert, get-remove, same_map, nat_cmp-IsAntisymmetric, slice_cmp-IsAntisymmetric}
-use Rattle.std.specs.Map.{lookup, keys_of, values_of}
-use Rattle.indexmap.specs.IndexMap.{insert_entry, set_value_at}
-use Rattle.dp_vars.proofs.VariablesLemmas.{apart, shadowed, swapped}
+use Rattle.std.specs.BTreeMap.{insert_entry}
+use Rattle.std.specs.Map.{lookup, remove_entry}
+use Rattle.std.specs.Option.{option_map}
+use Rattle.dp_vars.proofs.VariablesLemmas.{apart, has_bytes, lookup-by_bytes, lookup-inserted, lookup-removed, shadowed, swapped}
 use Rattle.dp_vars.specs.Bindings.{find, unbound}
 use Rattle.dp_vars.specs.Stores.{slot, with_name}
-use Rattle.dp_vars.specs.Tables.{Entries, map_at, names_of, put_value, stack_of, unbound_at, with_stack}
-use Rattle.dp_vars.specs.Variables.{Named, by_bytes}
+use Rattle.dp_vars.specs.Tables.{AreNumbered, Entries, map_at, names_of, put_value, stack_of, unbound_at, with_stack}
+use Rattle.dp_vars.specs.Variables.{Named, by_bytes, in_order}
 use Rattle.dp_vars.specs.declared.stack.Binding.{Binding}
-use Rattle.dp_vars.proofs.NamesLemmas.{position_some, position_none}
+use Rattle.dp_vars.proofs.NamesLemmas.{distinct-but_last, distinct-none, distinct-push, last-new, length-names, new_of, position_none, position_some, slot-cons, slot-push}
 
 -- maps with the same values are the same
 pub same_named : (m n : Named) → ((q : List ℕ) → get m q ≡ get n q) → m ≡ n
@@ -56,7 +57,7 @@ stack_of-with_stack q (e ∷ es) name bs = by (pointwise nat_eq name e.0) refl (
         ap (cond (pointwise nat_eq q e.0) e.1) rest
         ∙ swapped (pointwise nat_eq q name) (pointwise nat_eq q e.0) bs e.1 (stack_of es q) (apart q name e.0 other)
 
--- a new name is added behind the others
+-- a new name is added after the others
 pub names-with_stack : (entries : Entries) (name : List ℕ) (bs : List Binding) → names_of (with_stack entries name bs) ≡ with_name (names_of entries) name
 names-with_stack [] name bs = refl
 names-with_stack (e ∷ es) name bs = by (pointwise nat_eq name e.0) (names-with_stack es name bs)
@@ -101,127 +102,67 @@ map_at-with_stack entries name bs depth o finds e = same_named _ _ (λ q.
     by q true same = finds e ∙ ap (λ n. cond (eqb depth e) o (find e (stack_of entries n))) (sym ((bytes_decides q name).0 same))
     by q false other = cond_same (eqb depth e) (find e (stack_of entries q))
 
--- entries by the bytes of their keys
-module _ {K : Type 0} (bytes : K → List ℕ) (name : List ℕ) where
-  pub number-by_bytes : {X : Type 0} (entries : List (K × X))
-      → position_or_len (λ key. pointwise nat_eq name (bytes key)) (keys_of entries) ≡ position_or_len (pointwise nat_eq name) (map (λ e. e.0) (by_bytes bytes entries))
-  number-by_bytes [] = refl
-  number-by_bytes (e ∷ es) = ap (λ n. cond (not (pointwise nat_eq name (bytes e.0))) (1 + n) 0) (number-by_bytes es)
-
-  pub length-by_bytes : {X : Type 0} (entries : List (K × X)) → length (keys_of entries) ≡ length (map (λ e. e.0) (by_bytes bytes entries))
-  length-by_bytes [] = refl
-  length-by_bytes (e ∷ es) = ap suc (length-by_bytes es)
-
-  -- a name has the same number
-  pub slot-by_bytes : {X : Type 0} (entries : List (K × X))
-      → position (λ key. pointwise nat_eq name (bytes key)) (keys_of entries) ≡ slot (map (λ e. e.0) (by_bytes bytes entries)) name
-  slot-by_bytes entries = λ i. cond (nat_lt (number-by_bytes entries i) (length-by_bytes entries i)) (Some (number-by_bytes entries i)) None
-
-  one_more : (n : ℕ) → 1 + n ≡ suc n
-  one_more n = omega arith
-
-  -- what is written at the number of the name is written for the name
-  pub set_at-by_bytes : (entries : List (K × List Binding)) (bs : List Binding)
-      → position_or_len (λ key. pointwise nat_eq name (bytes key)) (keys_of entries) < length (keys_of entries)
-      → by_bytes bytes (set_value_at entries (position_or_len (λ key. pointwise nat_eq name (bytes key)) (keys_of entries)) bs)
-      ≡ with_stack (by_bytes bytes entries) name bs
-  set_at-by_bytes [] bs within = absurd (omega arith)
-  set_at-by_bytes (e ∷ es) bs within =
-      by (pointwise nat_eq name (bytes e.0)) (position_or_len (λ key. pointwise nat_eq name (bytes key)) (keys_of es)) within (set_at-by_bytes es bs)
-    where
-      by : (b : Bool) (n : ℕ) → cond (not b) (1 + n) 0 < suc (length (keys_of es))
-          → (n < length (keys_of es) → by_bytes bytes (set_value_at es n bs) ≡ with_stack (by_bytes bytes es) name bs)
-          → by_bytes bytes (set_value_at (e ∷ es) (cond (not b) (1 + n) 0) bs)
-          ≡ cond b ((bytes e.0, bs) ∷ by_bytes bytes es) ((bytes e.0, e.1) ∷ with_stack (by_bytes bytes es) name bs)
-      by true n within rest = refl
-      by false n within rest =
-          ap (λ m. by_bytes bytes (set_value_at (e ∷ es) m bs)) (one_more n) ∙ ap (λ more. (bytes e.0, e.1) ∷ more) (rest (omega arith))
-
-  -- what stands at the number of the name are its bindings
-  pub get_at-by_bytes : (entries : List (K × List Binding)) (bs : List Binding)
-      → position_or_len (λ key. pointwise nat_eq name (bytes key)) (keys_of entries) < length (keys_of entries)
-      → slice_get (values_of entries) (position_or_len (λ key. pointwise nat_eq name (bytes key)) (keys_of entries)) ≡ Some bs
-      → stack_of (by_bytes bytes entries) name ≡ bs
-  get_at-by_bytes [] bs within is = absurd (omega arith)
-  get_at-by_bytes (e ∷ es) bs within is =
-      by (pointwise nat_eq name (bytes e.0)) (position_or_len (λ key. pointwise nat_eq name (bytes key)) (keys_of es)) within is (get_at-by_bytes es bs)
-    where
-      by : (b : Bool) (n : ℕ) → cond (not b) (1 + n) 0 < suc (length (keys_of es))
-          → slice_get (values_of (e ∷ es)) (cond (not b) (1 + n) 0) ≡ Some bs
-          → (n < length (keys_of es) → slice_get (values_of es) n ≡ Some bs → stack_of (by_bytes bytes es) name ≡ bs)
-          → cond b e.1 (stack_of (by_bytes bytes es) name) ≡ bs
-      by true n within is rest = (cc)
-      by false n within is rest = rest (omega arith) (ap (slice_get (values_of (e ∷ es))) (sym (one_more n)) ∙ is)
-
-  -- a look-up by the bytes
-  pub lookup-by_bytes : {X : Type 0} (entries : List (K × X)) → lookup (λ key. pointwise nat_eq name (bytes key)) entries ≡ lookup (pointwise nat_eq name) (by_bytes bytes entries)
-  lookup-by_bytes [] = refl
-  lookup-by_bytes (e ∷ es) = ap (cond (pointwise nat_eq name (bytes e.0)) (Some e.1)) (lookup-by_bytes es)
-
--- an inserted key has its bindings
-pub insert-by_bytes : {K : Type 0} (bytes : K → List ℕ) (key : K) (entries : List (K × List Binding)) (bs : List Binding)
-    → by_bytes bytes (insert_entry (λ a b. pointwise nat_eq (bytes a) (bytes b)) entries key bs) ≡ with_stack (by_bytes bytes entries) (bytes key) bs
-insert-by_bytes bytes key [] bs = refl
-insert-by_bytes bytes key (e ∷ es) bs = by (pointwise nat_eq (bytes key) (bytes e.0)) (insert-by_bytes bytes key es bs)
+-- what is so where a name stands, and as well with one more entry before it, is so of a name and its number
+at_number : (name : List ℕ) (P : Entries → ℕ → Type 0)
+    → ((x : List ℕ × List Binding) (es : Entries) → pointwise nat_eq name x.0 ≡ true → P (x ∷ es) 0)
+    → ((x : List ℕ × List Binding) (es : Entries) (number : ℕ) → pointwise nat_eq name x.0 ≡ false → P es number → P (x ∷ es) (suc number))
+    → (es : Entries) (number : ℕ) → slot (names_of es) name ≡ Some number → P es number
+at_number name P here further [] number is = (cc)
+at_number name P here further (x ∷ es) number is =
+    by (pointwise nat_eq name x.0) (slot (names_of es) name) refl number (sym (slot-cons x.0 (names_of es) name) ∙ is)
+    (at_number name P here further es)
   where
-    by : (b : Bool) → by_bytes bytes (insert_entry (λ a b. pointwise nat_eq (bytes a) (bytes b)) es key bs) ≡ with_stack (by_bytes bytes es) (bytes key) bs
-        → by_bytes bytes (cond b ((e.0, bs) ∷ es) (e ∷ insert_entry (λ a b. pointwise nat_eq (bytes a) (bytes b)) es key bs))
-        ≡ cond b ((bytes e.0, bs) ∷ by_bytes bytes es) ((bytes e.0, e.1) ∷ with_stack (by_bytes bytes es) (bytes key) bs)
-    by true rest = refl
-    by false rest = ap (λ more. (bytes e.0, e.1) ∷ more) rest
+    first : (number : ℕ) → Some 0 ≡ Some number → 0 ≡ number
+    first number is = (cc)
 
--- the first so many of them
-pub take-by_bytes : {K X : Type 0} (bytes : K → List ℕ) (n : ℕ) (entries : List (K × X)) → by_bytes bytes (take n entries) ≡ take n (by_bytes bytes entries)
-take-by_bytes bytes zero entries = refl
-take-by_bytes bytes (suc n) [] = refl
-take-by_bytes bytes (suc n) (e ∷ es) = ap (λ more. (bytes e.0, e.1) ∷ more) (take-by_bytes bytes n es)
+    next : (m number : ℕ) → Some (suc m) ≡ Some number → suc m ≡ number
+    next m number is = (cc)
 
--- what is written at the number of a name, and what stood there
-module _ {K : Type 0} (bytes : K → List ℕ) (name : List ℕ) (es : List (K × List Binding)) where
-  pub written : (number : ℕ) (bs : List Binding) → slot (map (λ e. e.0) (by_bytes bytes es)) name ≡ Some number
-      → by_bytes bytes (set_value_at es number bs) ≡ with_stack (by_bytes bytes es) name bs
-  written number bs is =
-      let p = position_some (pointwise nat_eq name) (map (λ e. e.0) (by_bytes bytes es)) number is in
-      let same = number-by_bytes bytes name es in
-      let many = length-by_bytes bytes name es in
-      ap (λ n. by_bytes bytes (set_value_at es n bs)) (sym p.1 ∙ sym same) ∙ set_at-by_bytes bytes name es bs (omega (arith, p.0, same, many))
+    by : (b : Bool) (o : Option ℕ) → pointwise nat_eq name x.0 ≡ b → (number : ℕ)
+        → cond b (Some 0) (option_map (λ m. suc m) o) ≡ Some number
+        → ((m : ℕ) → o ≡ Some m → P es m) → P (x ∷ es) number
+    by true o tied number is rest = subst (P (x ∷ es)) (first number is) (here x es tied)
+    by false None other number is rest = (cc)
+    by false (Some m) other number is rest = subst (P (x ∷ es)) (next m number is) (further x es m other (rest m refl))
 
-  pub stood : (number : ℕ) (bs : List Binding) → slot (map (λ e. e.0) (by_bytes bytes es)) name ≡ Some number
-      → slice_get (values_of es) number ≡ Some bs → stack_of (by_bytes bytes es) name ≡ bs
-  stood number bs is at =
-      let p = position_some (pointwise nat_eq name) (map (λ e. e.0) (by_bytes bytes es)) number is in
-      let same = number-by_bytes bytes name es in
-      let many = length-by_bytes bytes name es in
-      get_at-by_bytes bytes name es bs (omega (arith, p.0, same, many)) (ap (slice_get (values_of es)) (same ∙ p.1) ∙ at)
+-- what is written at the number of a name is written for the name
+pub written : (es : Entries) (name : List ℕ) (number : ℕ) (e : List ℕ × List Binding) (bs : List Binding)
+    → slot (names_of es) name ≡ Some number → e ≡ get_or es number e → set es number (e.0, bs) ≡ with_stack es name bs
+written es name number e bs is =
+    at_number name (λ es number. e ≡ get_or es number e → set es number (e.0, bs) ≡ with_stack es name bs)
+    (λ x es tied at. ap (λ y. (y.0, bs) ∷ es) at ∙ ap (λ b. cond b ((x.0, bs) ∷ es) (x ∷ with_stack es name bs)) (sym tied))
+    (λ x es number other rest at.
+    ap (λ more. x ∷ more) (rest at) ∙ ap (λ b. cond b ((x.0, bs) ∷ es) (x ∷ with_stack es name bs)) (sym other))
+    es number is
 
--- bindings that are written back change nothing
-pub written_back : {K : Type 0} (es : List (K × List Binding)) (number : ℕ) (bs : List Binding) → slice_get (values_of es) number ≡ Some bs → set_value_at es number bs ≡ es
-written_back [] number bs at = refl
-written_back (e ∷ es) zero bs at = ap (λ b. (e.0, b) ∷ es) (some_same at)
-  where
-    some_same : Some e.1 ≡ Some bs → bs ≡ e.1
-    some_same same = (cc)
-written_back (e ∷ es) (suc number) bs at = ap (λ more. e ∷ more) (written_back es number bs at)
+-- what stands at the number of a name is what a look-up of the name finds
+pub found : (es : Entries) (name : List ℕ) (number : ℕ) (e : List ℕ × List Binding) → slot (names_of es) name ≡ Some number
+    → e ≡ get_or es number e → lookup (pointwise nat_eq name) es ≡ Some e.1
+found es name number e is =
+    at_number name (λ es number. e ≡ get_or es number e → lookup (pointwise nat_eq name) es ≡ Some e.1)
+    (λ x es tied at. ap (λ b. cond b (Some x.1) (lookup (pointwise nat_eq name) es)) tied ∙ ap (λ y. Some y.1) (sym at))
+    (λ x es number other rest at. ap (λ b. cond b (Some x.1) (lookup (pointwise nat_eq name) es)) other ∙ rest at)
+    es number is
 
--- what is unbound at a number
-pub unbound_at-by_bytes : {K : Type 0} (bytes : K → List ℕ) (depth : ℕ) (es : List (K × List Binding)) (number : ℕ) (bs : List Binding) → slice_get (values_of es) number ≡ Some bs
-    → by_bytes bytes (set_value_at es number (unbound depth bs)) ≡ unbound_at depth (by_bytes bytes es) number
-unbound_at-by_bytes bytes depth [] number bs at = refl
-unbound_at-by_bytes bytes depth (e ∷ es) zero bs at = ap (λ b. (bytes e.0, unbound depth b) ∷ by_bytes bytes es) (some_same at)
-  where
-    some_same : Some e.1 ≡ Some bs → bs ≡ e.1
-    some_same same = (cc)
-unbound_at-by_bytes bytes depth (e ∷ es) (suc number) bs at = ap (λ more. (bytes e.0, e.1) ∷ more) (unbound_at-by_bytes bytes depth es number bs at)
+-- a name that has no number is not found
+pub not_found : (es : Entries) (name : List ℕ) → slot (names_of es) name ≡ None → lookup (pointwise nat_eq name) es ≡ None
+not_found [] name is = refl
+not_found (x ∷ es) name is =
+    let new = new_of x.0 (names_of es) name is in
+    ap (λ b. cond b (Some x.1) (lookup (pointwise nat_eq name) es)) new.0 ∙ not_found es name new.1
 
--- at a number that no name has nothing is
-pub unbound_at-beyond : (depth : ℕ) (entries : Entries) (number : ℕ) → length entries ≤ number → unbound_at depth entries number ≡ entries
-unbound_at-beyond depth [] number beyond = refl
-unbound_at-beyond depth (e ∷ es) zero beyond = absurd (omega arith)
-unbound_at-beyond depth (e ∷ es) (suc number) beyond = ap (λ more. e ∷ more) (unbound_at-beyond depth es number (omega arith))
+-- a number that a name has is below how many there are
+pub number_within : (es : Entries) (name : List ℕ) (number : ℕ) → slot (names_of es) name ≡ Some number → number < length es
+number_within es name number is =
+    let p = position_some (pointwise nat_eq name) (names_of es) number is in
+    omega (arith, p.0, p.1, length-names (λ (e : List ℕ × List Binding). e.0) es)
 
--- a name that is not known has no bindings
-pub stack_of-unknown : (entries : Entries) (name : List ℕ) → slot (names_of entries) name ≡ None → stack_of entries name ≡ []
-stack_of-unknown entries name is = stack_of-new entries name (position_none (pointwise nat_eq name) (names_of entries) is)
+-- other bindings at a number leave the names
+pub names-set : (es : Entries) (number : ℕ) (e : List ℕ × List Binding) (bs : List Binding) → e ≡ get_or es number e
+    → names_of (set es number (e.0, bs)) ≡ names_of es
+names-set [] number e bs at = refl
+names-set (x ∷ es) zero e bs at = ap (λ y. y.0 ∷ names_of es) at
+names-set (x ∷ es) (suc number) e bs at = ap (λ ns. x.0 ∷ ns) (names-set es number e bs at)
 
 found_stack : (entries : Entries) (name : List ℕ) → stack_of entries name ≡ unwrap_or (lookup (pointwise nat_eq name) entries) []
 found_stack [] name = refl
@@ -236,10 +177,129 @@ found_stack (e ∷ es) name = by (pointwise nat_eq name e.0) (found_stack es nam
 pub stack_of-lookup : (entries : Entries) (name : List ℕ) (o : Option (List Binding)) → o ≡ lookup (pointwise nat_eq name) entries → stack_of entries name ≡ unwrap_or o []
 stack_of-lookup entries name o is = found_stack entries name ∙ ap (λ r. unwrap_or r []) (sym is)
 
--- and how many there are
-pub length-entries : {K X : Type 0} (bytes : K → List ℕ) (es : List (K × X)) → length (by_bytes bytes es) ≡ length es
-length-entries bytes [] = refl
-length-entries bytes (e ∷ es) = ap suc (length-entries bytes es)
+-- what stands at a number, seen as its name and its bindings
+pub stands : (es : Entries) (number : ℕ) (x : List ℕ × List Binding) (own : List ℕ) (old : List Binding)
+    → (own, old) ≡ x → x ≡ get_or es number x → (own, old) ≡ get_or es number (own, old)
+stands es number x own old same at = subst (λ y. y ≡ get_or es number y) (sym same) at
+
+module _ (es : Entries) (number : ℕ) (own : List ℕ) (old : List Binding) (here : (own, old) ≡ get_or es number (own, old)) where
+  -- a look-up of its name finds these bindings
+  pub found-at : (name : List ℕ) → slot (names_of es) name ≡ Some number → lookup (pointwise nat_eq name) es ≡ Some old
+  found-at name is = found es name number (own, old) is here
+
+  -- its name has these bindings
+  pub stack_of-at : (name : List ℕ) → slot (names_of es) name ≡ Some number → stack_of es name ≡ old
+  stack_of-at name is = stack_of-lookup es name (Some old) (sym (found-at name is))
+
+  -- other bindings at the number are other bindings for the name
+  pub written-at : (name : List ℕ) (bs : List Binding) → slot (names_of es) name ≡ Some number
+      → set es number (own, bs) ≡ with_stack es name bs
+  written-at name bs is = written es name number (own, old) bs is here
+
+  -- and the names have their numbers as before
+  pub numbered-at : (numbers : List (List ℕ × ℕ)) (bs : List Binding) → AreNumbered numbers (names_of es)
+      → AreNumbered numbers (names_of (set es number (own, bs)))
+  numbered-at numbers bs are = subst (AreNumbered numbers) (sym (names-set es number (own, old) bs here)) are
+
+-- a new name goes after the others
+pub with_stack-new : (es : Entries) (name : List ℕ) (bs : List Binding) → slot (names_of es) name ≡ None
+    → with_stack es name bs ≡ es ++ (name, bs) ∷ []
+with_stack-new [] name bs is = refl
+with_stack-new (x ∷ es) name bs is =
+    let new = new_of x.0 (names_of es) name is in
+    ap (λ b. cond b ((x.0, bs) ∷ es) (x ∷ with_stack es name bs)) new.0 ∙ ap (λ more. x ∷ more) (with_stack-new es name bs new.1)
+
+-- what is unbound at a number
+pub unbound_at-set : (depth : ℕ) (es : Entries) (number : ℕ) (e : List ℕ × List Binding) → e ≡ get_or es number e
+    → set es number (e.0, unbound depth e.1) ≡ unbound_at depth es number
+unbound_at-set depth [] number e at = refl
+unbound_at-set depth (x ∷ es) zero e at = ap (λ y. (y.0, unbound depth y.1) ∷ es) at
+unbound_at-set depth (x ∷ es) (suc number) e at = ap (λ more. x ∷ more) (unbound_at-set depth es number e at)
+
+-- numbers of no names
+pub numbered-none : AreNumbered [] []
+numbered-none = record { slots = λ name. refl; distinct = distinct-none }
+
+module _ {K : Type 0} (bytes : K → List ℕ) where
+  -- a new name after the others, and its number
+  pub numbered-push : (numbers : List (K × ℕ)) (names : List (List ℕ)) (key : K) → AreNumbered (by_bytes bytes numbers) names
+      → slot names (bytes key) ≡ None
+      → AreNumbered (by_bytes bytes (insert_entry (in_order bytes) numbers key (length names))) (names ++ bytes key ∷ [])
+  numbered-push numbers names key are new = record {
+    slots = λ q.
+        lookup-inserted bytes q numbers key (length names)
+        ∙ ap (cond (pointwise nat_eq q (bytes key)) (Some (length names))) (are.slots q)
+        ∙ sym (slot-push names (bytes key) q new);
+    distinct = distinct-push names (bytes key) new are.distinct;
+  }
+
+  -- a name that has its number, and is given it once more
+  pub numbered-kept : (numbers : List (K × ℕ)) (names : List (List ℕ)) (key : K) (number : ℕ) → AreNumbered (by_bytes bytes numbers) names
+      → slot names (bytes key) ≡ Some number → AreNumbered (by_bytes bytes (insert_entry (in_order bytes) numbers key number)) names
+  numbered-kept numbers names key number are known = record {
+    slots = λ q.
+        lookup-inserted bytes q numbers key number
+        ∙ ap (cond (pointwise nat_eq q (bytes key)) (Some number)) (are.slots q)
+        ∙ by q (pointwise nat_eq q (bytes key)) refl;
+    distinct = are.distinct;
+  }
+    where
+      by : (q : List ℕ) (b : Bool) → pointwise nat_eq q (bytes key) ≡ b → cond b (Some number) (slot names q) ≡ slot names q
+      by q true tied = sym (ap (slot names) ((bytes_decides q (bytes key)).0 tied) ∙ known)
+      by q false other = refl
+
+  -- the names without the last, and the numbers without its own
+  pub numbered-pop : (numbers : List (K × ℕ)) (names : List (List ℕ)) (name : List ℕ)
+      → AreNumbered (by_bytes bytes numbers) (names ++ name ∷ [])
+      → lookup (has_bytes bytes name) (remove_entry (has_bytes bytes name) numbers) ≡ None
+      → AreNumbered (by_bytes bytes (remove_entry (has_bytes bytes name) numbers)) names
+  numbered-pop numbers names name are gone = record {
+    slots = λ q.
+        lookup-removed bytes q name numbers gone
+        ∙ ap (cond (pointwise nat_eq q name) None) (are.slots q ∙ slot-push names name q new)
+        ∙ by q (pointwise nat_eq q name) refl;
+    distinct = distinct-but_last names name are.distinct;
+  }
+    where
+      new : slot names name ≡ None
+      new = last-new names name are.distinct
+
+      by : (q : List ℕ) (b : Bool) → pointwise nat_eq q name ≡ b → cond b None (cond b (Some (length names)) (slot names q)) ≡ slot names q
+      by q true tied = sym (ap (slot names) ((bytes_decides q name).0 tied) ∙ new)
+      by q false other = refl
+
+-- a number that a look-up of a name gives, or the next one
+module _ {K : Type 0} (bytes : K → List ℕ) (numbers : List (K × ℕ)) (es : Entries) (name : List ℕ) (number next : ℕ)
+    (are : AreNumbered (by_bytes bytes numbers) (names_of es)) (many : next ≡ length es)
+    (is : number ≡ unwrap_or (lookup (has_bytes bytes name) numbers) next) where
+  slot_is : number ≡ unwrap_or (slot (names_of es) name) next
+  slot_is = is ∙ ap (λ o. unwrap_or o next) (lookup-by_bytes bytes name numbers ∙ are.slots name)
+
+  -- one below how many there are is the name's
+  pub number-known : number < next → slot (names_of es) name ≡ Some number
+  number-known within = by (slot (names_of es) name) slot_is
+    where
+      by : (o : Option ℕ) → number ≡ unwrap_or o next → o ≡ Some number
+      by None is = absurd (omega (arith, is, within))
+      by (Some m) is = ap (λ n. Some n) (sym is)
+
+  -- and with any other the name is new
+  pub number-new : next ≤ number → (slot (names_of es) name ≡ None) × (number ≡ length (names_of es))
+  number-new beyond = by (slot (names_of es) name) refl slot_is
+    where
+      by : (o : Option ℕ) → slot (names_of es) name ≡ o → number ≡ unwrap_or o next → (o ≡ None) × (number ≡ length (names_of es))
+      by None at is = (refl, omega (arith, is, many, length-names (λ (e : List ℕ × List Binding). e.0) es))
+      by (Some m) at is = absurd (omega (arith, is, beyond, many, number_within es name m at))
+
+-- at a number that no name has nothing is
+pub unbound_at-beyond : (depth : ℕ) (entries : Entries) (number : ℕ) → length entries ≤ number → unbound_at depth entries number ≡ entries
+unbound_at-beyond depth [] number beyond = refl
+unbound_at-beyond depth (e ∷ es) zero beyond = absurd (omega arith)
+unbound_at-beyond depth (e ∷ es) (suc number) beyond = ap (λ more. e ∷ more) (unbound_at-beyond depth es number (omega arith))
+
+-- a name that is not known has no bindings
+pub stack_of-unknown : (entries : Entries) (name : List ℕ) → slot (names_of entries) name ≡ None → stack_of entries name ≡ []
+stack_of-unknown entries name is = stack_of-new entries name (position_none (pointwise nat_eq name) (names_of entries) is)
 
 -- what follows whatever the outcome
 pub on_err : {T E P : Type 0} (r : Result T E) → P → OnErr r P

@@ -8,7 +8,7 @@ use Rattle.dp_vars.specs.Sights.{ChannelView, given_by, given_names, given_value
 use Rattle.dp_vars.specs.declared.value.Given.{Given}
 use Rattle.dp_vars.specs.Variables.{Named, first_value, value_or_empty}
 use Rattle.dp_vars.proofs.StoresLemmas.{first_value-append}
-use Rattle.dp_vars.proofs.VariablesLemmas.{get-by_bytes}
+use Rattle.dp_vars.proofs.VariablesLemmas.{get-texts}
 
 -- a look-up among values that are computed from what is found
 lookup-map : {X Y : Type 0} (value : X → Y) (test : List ℕ → Bool) (entries : List (List ℕ × X))
@@ -24,7 +24,7 @@ lookup-map value test (e ∷ es) = by (test e.0) (lookup-map value test es)
 -- what the channel gives a name
 get-channel_map : (channel : Option ChannelView) (name : List ℕ)
     → get (channel_map channel) name ≡ option_map (given_value channel) (lookup (same_text name) given_names)
-get-channel_map channel name = get-by_bytes (λ key. key) name (given_by channel) ∙ lookup-map (given_value channel) (same_text name) given_names
+get-channel_map channel name = get-texts name (given_by channel) ∙ lookup-map (given_value channel) (same_text name) given_names
 
 module _ (channel : Option ChannelView) (stored : List Named) (globals : Named) (name : List ℕ) where
   -- a name that the channel gives

@@ -30,12 +30,12 @@ AreWritten written = StandIn written.waiting (length written.bytes)
 abbrev pub with_value : Sight → Waiting → List ℕ → List ℕ
 with_value sight w bytes = take w.start bytes ++ group_value sight w.kind (drop (w.start + 2) bytes)
 
--- behind the end of the innermost group
+-- after the end of the innermost group
 abbrev pub closed : Sight → List Waiting → List ℕ → Written
 closed sight [] bytes = record { bytes = bytes; waiting = [] }
 closed sight (w ∷ waiting) bytes = record { bytes = with_value sight w bytes; waiting = waiting }
 
--- behind a mark
+-- after a mark
 abbrev pub after : Sight → Mark → Written → Written
 after sight End written = closed sight written.waiting written.bytes
 after sight (Opening kind) written = record {

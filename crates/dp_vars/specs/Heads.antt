@@ -14,7 +14,7 @@ head_seen sight text (Name name) = sight.variable (spanned text name)
 head_seen sight text (Call function argument) = function_value sight (Some function) (spanned text argument)
 head_seen sight text Empty = []
 
--- the part that is asked for of a value of which 64 bits hold the length; of any other, that which the text behind the cut
+-- the part that is asked for of a value of which 64 bits hold the length; of any other, that which the text after the cut
 -- asks for
 abbrev pub part_seen : List ℕ → Cut → List ℕ → List ℕ
 part_seen text cut value =

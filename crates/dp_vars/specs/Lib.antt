@@ -1,15 +1,14 @@
 pub mod Bindings
 pub mod Expanding
-pub mod Far
 pub mod Heads
 pub mod Openings
 pub mod Parts
 pub mod Pieces
 pub mod Replaced
-pub mod Shown
 pub mod Sights
 pub mod Spans
 pub mod Stores
 pub mod Tables
 pub mod Values
 pub mod Variables
+pub mod steps

@@ -6,4 +6,4 @@ use Rattle.dp_conf.specs.Groups.{opening}
 -- whether `${` or `$[` stands in the text
 unfoldable pub has_opening : List ℕ → Bool
 has_opening [] = false
-has_opening (byte ∷ behind) = is_some (opening byte behind) || has_opening behind
+has_opening (byte ∷ after) = is_some (opening byte after) || has_opening after

@@ -1,12 +1,12 @@
--- A part of a value, as `:offset` or `:offset:length` behind a name asks for it.
+-- A part of a value, as `:offset` or `:offset:length` after a name asks for it.
 use Rattle.std.specs.Prelude.{ℕ, zero, suc, ◌+◌, ◌-◌, ◌==◌, List, [], ◌∷◌, Option, Some, None, length, max, min, slice_range, if◌then◌else◌}
 use Rattle.std.specs.Option.{option_map}
 use Rattle.dp_conf.specs.Cut.{cut_once}
 use Rattle.dp_conf.specs.Numbers.{number_of}
 use Rattle.dp_vars.specs.declared.part.Reach.{Reach}
 use Rattle.dp_vars.specs.declared.part.Reach.TheVariants.{Ahead, Back}
-use Rattle.dp_vars.specs.declared.part.Asked.{Asked}
-use Rattle.dp_vars.specs.declared.part.Asked.TheVariants.{Whole, Part, Nothing}
+use Rattle.dp_vars.specs.declared.part.Selection.{Selection}
+use Rattle.dp_vars.specs.declared.part.Selection.TheVariants.{Whole, Part, Nothing}
 
 -- a number with a minus sign; none back is none ahead
 abbrev pub back : ℕ → Reach
@@ -29,18 +29,18 @@ length_of [] = Some None
 length_of (b ∷ bs) = option_map (λ reach. Some reach) (reach_of (b ∷ bs))
 
 -- the part of an offset and a length, where both are what they should be
-abbrev pub part_from : Option Reach → Option (Option Reach) → Asked
+abbrev pub part_from : Option Reach → Option (Option Reach) → Selection
 part_from None size = Nothing
 part_from (Some offset) None = Nothing
 part_from (Some offset) (Some size) = Part offset size
 
 -- an offset alone, or an offset and a length
-abbrev pub part_of_cut : List ℕ → Option (List ℕ × List ℕ) → Asked
+abbrev pub part_of_cut : List ℕ → Option (List ℕ × List ℕ) → Selection
 part_of_cut tail None = part_from (offset_of tail) (Some None)
 part_of_cut tail (Some cut) = part_from (offset_of cut.0) (length_of cut.1)
 
--- what is asked for by what stands behind the first `:`, where there is one
-abbrev pub asked_of : Option (List ℕ) → Asked
+-- what is asked for by what stands after the first `:`, where there is one
+abbrev pub asked_of : Option (List ℕ) → Selection
 asked_of None = Whole
 asked_of (Some tail) = part_of_cut tail (cut_once 58 tail)
 
@@ -56,7 +56,7 @@ end_of (Some (Ahead n)) start size = min size (start + n)
 end_of (Some (Back n)) start size = max start (size - n)
 
 -- the part of a value that is asked for
-abbrev pub part : Asked → List ℕ → List ℕ
+abbrev pub part : Selection → List ℕ → List ℕ
 part Whole value = value
 part (Part offset size) value =
     slice_range value (start_of offset (length value)) (end_of size (start_of offset (length value)) (length value))

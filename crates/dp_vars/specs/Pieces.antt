@@ -1,4 +1,4 @@
--- The pieces of a template, and what is written behind them.
+-- The pieces of a template, and what is written after them.
 use Rattle.std.specs.Prelude.{◌≡◌, ℕ, ◌≤◌, List, [], ◌∷◌, ◌++◌, Option, Some, None, drop, fold, if◌then◌else◌, nat_lt}
 use Rattle.dp_conf.specs.GroupsRead.{outer_of}
 use Rattle.dp_conf.specs.declared.groups.GroupKind.{GroupKind}
@@ -17,7 +17,7 @@ use Rattle.dp_vars.specs.declared.span.Span.{Span}
 abbrev pub with_bytes : Written → List ℕ → Written
 with_bytes written bytes = record written { bytes = written.bytes ++ bytes }
 
--- behind a piece
+-- after a piece
 abbrev pub past : Sight → List ℕ → Written → Piece → Written
 past sight text written (Run span) = with_bytes written (spanned text span)
 past sight text written (Name name) = with_bytes written (sight.variable (spanned text name))
@@ -37,55 +37,55 @@ IsGroup text kind body piece =
 abbrev pub blank : Written
 blank = record { bytes = []; waiting = [] }
 
--- behind pieces
+-- after pieces
 abbrev pub past_all : Sight → List ℕ → List Piece → Written
 past_all sight text pieces = fold (past sight text) blank pieces
 
--- pieces, and the place behind them, from which all bytes are plain
+-- pieces, and the place after them, from which all bytes are plain
 pub record PiecesOf : Type 0 where
   pub pieces : List Piece
   pub tail : ℕ
 
--- behind all pieces, and behind the plain bytes that follow them, the expansion of the text is written, whatever is seen
+-- after all pieces, and after the plain bytes that follow them, the expansion of the text is written, whatever is seen
 abbrev pub AreOf : List ℕ → PiecesOf → Type 0
 AreOf text known = (sight : Sight) → (past_all sight text known.pieces).bytes ++ drop known.tail text ≡ expansion sight text
 
 -- a text on the way to its pieces: those so far, the last one first, the kinds of the openings that wait, the innermost
--- first, and the plain bytes behind the last piece
+-- first, and the plain bytes after the last piece
 pub record ReadSoFar : Type 0 where
   pub pieces : List Piece
   pub waiting : List GroupKind
   pub run : Span
 
--- behind pieces of which the last stands first
+-- after pieces of which the last stands first
 abbrev pub past_last : Sight → List ℕ → List Piece → Written
 past_last sight text [] = blank
 past_last sight text (piece ∷ pieces) = past sight text (past_last sight text pieces) piece
 
--- behind all that is read so far
+-- after all that is read so far
 abbrev pub written_in : Sight → List ℕ → ReadSoFar → Written
 written_in sight text so_far = with_bytes (past_last sight text so_far.pieces) (spanned text so_far.run)
 
--- the openings that wait behind a mark
+-- the openings that wait after a mark
 abbrev pub waiting_after : Mark → List GroupKind → List GroupKind
 waiting_after End waiting = outer_of waiting
 waiting_after (Opening kind) waiting = kind ∷ waiting
 waiting_after (Byte byte) waiting = waiting
 
--- a mark that is a plain byte stands behind these bytes, and ends at this place
-abbrev pub StandsBehind : List ℕ → Span → Mark → ℕ → Type 0
-StandsBehind text run End place = Unit {0}
-StandsBehind text run (Opening kind) place = Unit {0}
-StandsBehind text run (Byte byte) place = spanned text (record { from = run.from; to = place }) ≡ spanned text run ++ byte ∷ []
+-- a mark that is a plain byte stands after these bytes, and ends at this place
+abbrev pub StandsAfter : List ℕ → Span → Mark → ℕ → Type 0
+StandsAfter text run End place = Unit {0}
+StandsAfter text run (Opening kind) place = Unit {0}
+StandsAfter text run (Byte byte) place = spanned text (record { from = run.from; to = place }) ≡ spanned text run ++ byte ∷ []
 
--- what is read goes behind a mark that ends at this place, whatever is seen
-pub record GoesBehind (text : List ℕ) (mark : Mark) (place : ℕ) (old new : ReadSoFar) : Type 0 where
+-- what is read goes after a mark that ends at this place, whatever is seen
+pub record GoesAfter (text : List ℕ) (mark : Mark) (place : ℕ) (old new : ReadSoFar) : Type 0 where
   pub written : (sight : Sight) → written_in sight text new ≡ after sight mark (written_in sight text old)
   pub waiting : new.waiting ≡ waiting_after mark old.waiting
   pub ends : new.run.to ≡ place
   pub begins : new.run.from ≤ place
 
--- the pieces with plain bytes behind them, where there are any
+-- the pieces with plain bytes after them, where there are any
 abbrev pub with_run : Span → List Piece → List Piece
 with_run run pieces = if nat_lt run.from run.to then Run run ∷ pieces else pieces
 

@@ -68,9 +68,9 @@ channel_map channel = from_entries {R = slice_cmp nat_cmp} (given_by channel)
 abbrev pub caller_of : Option ChannelView → List ℕ
 caller_of channel = option_map_or (λ seen. seen.caller) channel []
 
--- the value behind a reference, where there is one
-abbrev pub behind : {X : Type 0} → Option (Bor X) → Option X
-behind reference = option_map (λ r. r.now) reference
+-- the value after a reference, where there is one
+abbrev pub after : {X : Type 0} → Option (Bor X) → Option X
+after reference = option_map (λ r. r.now) reference
 
 module _ {B : Type 0} where
   -- the maps of a store, where there is one: the locals from the innermost frame outwards, and the channel's variables
@@ -100,9 +100,9 @@ module _ {B : Type 0} where
 module _ {B C : Type 0} where
   -- the maps in which a scope searches a name
   abbrev pub maps_of : Scope B C → List Named
-  maps_of scope = maps_by (option_map view_of scope.channel) (behind scope.store) scope.globals.now
+  maps_of scope = maps_by (option_map view_of scope.channel) (after scope.store) scope.globals.now
 
   -- what a scope lets see, where `count` says how many wait in a queue
   abbrev pub sight_of : (C → List ℕ → ℕ) → Scope B C → Sight
   sight_of count scope =
-      sight_by (count scope.counts.now) (option_map view_of scope.channel) (behind scope.store) scope.globals.now
+      sight_by (count scope.counts.now) (option_map view_of scope.channel) (after scope.store) scope.globals.now

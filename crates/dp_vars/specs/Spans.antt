@@ -14,6 +14,6 @@ spanned text span = take (span.to - span.from) (drop span.from text)
 abbrev pub front_of : Span → ℕ → Span
 front_of span size = record { from = span.from; to = min span.to (span.from + size) }
 
--- what stands behind those
-abbrev pub behind_of : Span → ℕ → Span
-behind_of span size = record { from = min span.to (span.from + size); to = span.to }
+-- what stands after those
+abbrev pub after_of : Span → ℕ → Span
+after_of span size = record { from = min span.to (span.from + size); to = span.to }

@@ -21,7 +21,7 @@ pub record StoreOf (B : Type 0) : Type 0 where
 abbrev pub slot : List (List ℕ) → List ℕ → Option ℕ
 slot names name = position (pointwise nat_eq name) names
 
--- the names with one more behind them, where it is new
+-- the names with one more after them, where it is new
 abbrev pub with_name : List (List ℕ) → List ℕ → List (List ℕ)
 with_name [] name = name ∷ []
 with_name (n ∷ names) name = if pointwise nat_eq name n then n ∷ names else n ∷ with_name names name

@@ -1,6 +1,8 @@
 -- Names with their bindings, in the order of their numbers, and what a store with frames above them is.
 use Rattle.std.specs.Prelude.{ℕ, zero, suc, ◌≡◌, ◌⊎◌, List, [], ◌∷◌, ◌++◌, Option, Some, None, length, map, nat_eq, if◌then◌else◌}
 use Rattle.std.specs.Cmp.Lexicographic.{pointwise}
+use Rattle.std.specs.List.{IsDistinct}
+use Rattle.std.specs.Map.{lookup}
 use Rattle.std.specs.FinMap.{empty, get, insert, remove}
 use Rattle.dp_vars.specs.Bindings.{Falls, find, unbound}
 use Rattle.dp_vars.specs.Replaced.{local_at}
@@ -17,12 +19,17 @@ Entries = List (List ℕ × List Binding)
 abbrev pub names_of : Entries → List (List ℕ)
 names_of entries = map (λ e. e.0) entries
 
+-- each of the names has its number among these, and none stands twice
+pub record AreNumbered (numbers : List (List ℕ × ℕ)) (names : List (List ℕ)) : Type 0 where
+  pub slots : (name : List ℕ) → lookup (pointwise nat_eq name) numbers ≡ slot names name
+  pub distinct : IsDistinct (pointwise nat_eq) names
+
 -- the bindings of a name
 abbrev pub stack_of : Entries → List ℕ → List Binding
 stack_of [] name = []
 stack_of (e ∷ es) name = if pointwise nat_eq name e.0 then e.1 else stack_of es name
 
--- the entries with other bindings for a name, which goes behind the others where it is new
+-- the entries with other bindings for a name, which goes after the others where it is new
 abbrev pub with_stack : Entries → List ℕ → List Binding → Entries
 with_stack [] name bs = (name, bs) ∷ []
 with_stack (e ∷ es) name bs = if pointwise nat_eq name e.0 then (e.0, bs) ∷ es else e ∷ with_stack es name bs

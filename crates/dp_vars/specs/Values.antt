@@ -36,7 +36,7 @@ function_value sight (Some Len) argument = decimal (length argument)
 function_value sight (Some CallerId) argument = caller_value sight.caller argument
 function_value sight (Some QueueWaitingCount) argument = decimal (sight.waiting argument)
 
--- a function has its argument between its first `(` and the last `)` behind it; with no such `)` it is empty
+-- a function has its argument between its first `(` and the last `)` after it; with no such `)` it is empty
 abbrev pub called : Sight → List ℕ → Option (List ℕ) → List ℕ
 called sight name None = []
 called sight name (Some argument) = function_value sight (function_of name) argument
@@ -56,7 +56,7 @@ body_by sight body None = head_value sight body
 body_by sight body (Some cut) = part (asked_of (Some cut.1)) (head_value sight cut.0)
 
 -- the value of the expanded body of a group: in braces what stands before the first `:` outside parentheses is a
--- variable or a function, and what stands behind it asks for a part of the value; in brackets the body is an expression
+-- variable or a function, and what stands after it asks for a part of the value; in brackets the body is an expression
 unfoldable pub group_value : Sight → GroupKind → List ℕ → List ℕ
 group_value sight Braces body = body_by sight body (cut_outside 58 body)
 group_value sight Brackets body = expression_value body

@@ -2,6 +2,7 @@
 use Rattle.std.specs.Prelude.{ℕ, List, [], ◌∷◌, Option, None, map, fold, unwrap_or}
 use Rattle.std.specs.Option.{option_or}
 use Rattle.std.specs.Ordering.{nat_cmp}
+use Rattle.std.specs.declared.cmp.Ordering.{Ordering}
 use Rattle.std.specs.Cmp.Lexicographic.{slice_cmp}
 use Rattle.std.specs.Coded.{Coded, coded_ℕ, coded_list}
 use Rattle.std.specs.FinMap.{FinMap, code, empty, get, insert}
@@ -35,3 +36,7 @@ map_of variables = fold with_variable empty variables
 -- entries whose keys are read by their bytes
 abbrev pub by_bytes : {K X : Type 0} → (K → List ℕ) → List (K × X) → List (List ℕ × X)
 by_bytes bytes entries = map (λ e. (bytes e.0, e.1)) entries
+
+-- the order of keys by their bytes
+abbrev pub in_order : {K : Type 0} → (K → List ℕ) → K → K → Ordering
+in_order bytes a b = slice_cmp nat_cmp (bytes a) (bytes b)

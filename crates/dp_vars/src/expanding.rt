@@ -89,7 +89,7 @@ fn put_value<B, C: Counts>(
     }
 }
 
-/// The byte behind the `$` of an opening.
+/// The byte after the `$` of an opening.
 fn opener(kind: GroupKind) -> u8
     ensures { result ≡ groups.opener kind }
 {
@@ -150,7 +150,7 @@ impl Expanding {
         }
     }
 
-    /// Goes behind a mark.
+    /// Goes after a mark.
     pub(crate) fn take<B, C: Counts>(
         &mut self,
         alloc: Global,
@@ -170,7 +170,7 @@ impl Expanding {
         }
     }
 
-    /// Goes behind a piece of this text.
+    /// Goes after a piece of this text.
     fn write<B, C: Counts>(
         &mut self,
         alloc: Global,
@@ -217,9 +217,9 @@ pub(crate) fn write_pieces<B, C: Counts>(
 {
     let mut expanding = Expanding::with_room(alloc, text.len())?;
     let mut left = pieces;
-    while let Some((piece, behind)) = left.split_first() {
+    while let Some((piece, after)) = left.split_first() {
         expanding.write(alloc, scope, text, piece)?;
-        left = behind;
+        left = after;
     }
     Ok(expanding.finish())
 }

@@ -30,7 +30,7 @@ impl Numbers {
         }
     }
 
-    /// Adds a number behind the others. After a refused growth all is as before.
+    /// Adds a number after the others. After a refused growth all is as before.
     pub(crate) fn add(&mut self, number: usize) -> Result<(), NoMemory>
         ensures ok { OnOk result (self.new ≡ self.old ++ number ∷ []) }
         ensures err { OnErr result (self.new ≡ self.old) }

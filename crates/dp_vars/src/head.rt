@@ -2,12 +2,12 @@
 ghost use Rattle.std.specs.Prelude.{◌≡◌, ◌++◌, OnOk};
 ghost use Rattle.dp_conf.specs.Cut.{before_last};
 ghost use Rattle.dp_vars.specs.Heads as spec;
-ghost use Rattle.dp_vars.specs.Shown.{shown};
+ghost use Rattle.dp_vars.specs.steps.Shown.{shown};
 ghost use Rattle.dp_vars.specs.Sights.{Sight, sight_of};
 ghost use Rattle.dp_vars.specs.Spans.{spanned};
 ghost use Rattle.dp_vars.specs.Values as values;
 
-use crate::part::Asked;
+use crate::part::Selection;
 use crate::reference::{Reference, push_reference};
 use crate::scope::{Counts, Scope};
 use crate::span::Span;
@@ -26,21 +26,21 @@ pub(crate) enum Head {
     Empty,
 }
 
-/// A part of the value of a head, with what stands behind the cut.
+/// A part of the value of a head, with what stands after the cut.
 #[derive(Clone, Copy)]
 pub(crate) struct Cut {
     pub(crate) head: Head,
     pub(crate) tail: Span,
-    pub(crate) asked: Asked,
+    pub(crate) asked: Selection,
 }
 
-/// The function of this name, with its argument in what stands behind the `(`.
-fn read_call(text: &[u8], name: &[u8], behind: Span) -> Head
+/// The function of this name, with its argument in what stands after the `(`.
+fn read_call(text: &[u8], name: &[u8], after: Span) -> Head
     ensures { (sight : Sight) → spec.head_seen sight text.now result
-        ≡ values.called sight name.now (before_last 41 (spanned text.now behind)) }
+        ≡ values.called sight name.now (before_last 41 (spanned text.now after)) }
 {
-    match (function_of(name), before_last(behind.of(text), b')')) {
-        (Some(function), Some(argument)) => Head::Call(function, behind.front(argument.len())),
+    match (function_of(name), before_last(after.of(text), b')')) {
+        (Some(function), Some(argument)) => Head::Call(function, after.front(argument.len())),
         _ => Head::Empty,
     }
 }
@@ -52,7 +52,7 @@ pub(crate) fn read_head(text: &[u8], place: Span) -> Head
     let head = place.of(text);
     match cut_once(head, b'(') {
         None => Head::Name(place),
-        Some((name, behind)) => { read_call(text, name, place.behind(head.len() - behind.len())) }
+        Some((name, after)) => { read_call(text, name, place.after(head.len() - after.len())) }
     }
 }
 
@@ -95,7 +95,7 @@ pub(crate) fn push_full<B, C: Counts>(
     ensures { OnOk result (out.new.items ≡ out.old.items ++ spec.head_seen (sight_of C.count scope.now) text.now head) }
 {
     let value = head_now(scope, text, head);
-    let asked = Asked::Whole;
+    let asked = Selection::Whole;
     push_reference(alloc, out, Reference { value, asked })?;
     Ok(())
 }

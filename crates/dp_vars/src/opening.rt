@@ -6,11 +6,11 @@ ghost use Rattle.dp_vars.specs.Openings as openings;
 ghost use Rattle.dp_vars.specs.Sights.{Sight};
 ghost use Rattle.dp_vars.specs.Values.{expansion};
 
-/// Whether a byte opens a group, by the bytes behind it.
-fn opens(byte: u8, behind: &[u8]) -> bool
-    ensures { result ≡ is_some (opening byte behind.now) }
+/// Whether a byte opens a group, by the bytes after it.
+fn opens(byte: u8, after: &[u8]) -> bool
+    ensures { result ≡ is_some (opening byte after.now) }
 {
-    match behind.first() {
+    match after.first() {
         Some(next) if byte == b'$' => *next == b'{' || *next == b'[',
         _ => false,
     }
@@ -22,11 +22,11 @@ fn holds_opening(text: &[u8]) -> bool
     ensures { result ≡ openings.has_opening text.now }
 {
     let mut left = text;
-    while let Some((first, behind)) = left.split_first() {
-        if opens(*first, behind) {
+    while let Some((first, after)) = left.split_first() {
+        if opens(*first, after) {
             return true;
         }
-        left = behind;
+        left = after;
     }
     false
 }

@@ -13,7 +13,7 @@ use dp_conf::{GroupKind, Mark, NoMemory, next_mark};
 use std::alloc::Global;
 use std::marker::Model;
 
-/// The pieces so far, the openings that wait for their ends, and the plain bytes behind the last piece.
+/// The pieces so far, the openings that wait for their ends, and the plain bytes after the last piece.
 #[derive(Drop)]
 pub(crate) struct Parsing {
     pieces: Vec<Piece>,
@@ -76,7 +76,7 @@ impl Parsing {
         Ok(())
     }
 
-    /// Goes behind an opening, which waits from now on.
+    /// Goes after an opening, which waits from now on.
     fn begin(&mut self, kind: GroupKind, place: usize) -> Result<(), NoMemory>
         ensures { OnOk result (self.new ≡ record {
           pieces = Piece.Begins kind ∷ spec.with_run self.old.run self.old.pieces;
@@ -109,7 +109,7 @@ impl Parsing {
         Ok(())
     }
 
-    /// The innermost opening no longer waits, and no plain bytes stand behind its group yet.
+    /// The innermost opening no longer waits, and no plain bytes stand after its group yet.
     fn go_out(&mut self, place: usize)
         ensures { self.new ≡ record self.old { waiting = outer_of self.old.waiting; run = span_at place } }
     {
@@ -117,9 +117,9 @@ impl Parsing {
         self.run = Span::at(place);
     }
 
-    /// Goes behind the end of the innermost group.
+    /// Goes after the end of the innermost group.
     fn end(&mut self, alloc: Global, text: &[u8], place: usize) -> Result<(), NoMemory>
-        ensures { OnOk result (spec.GoesBehind text.now Mark.End place self.old self.new) }
+        ensures { OnOk result (spec.GoesAfter text.now Mark.End place self.old self.new) }
     {
         match self.last_opening() {
             Some(kind) => {
@@ -132,11 +132,11 @@ impl Parsing {
         Ok(())
     }
 
-    /// Goes behind a mark that ends at this place.
+    /// Goes after a mark that ends at this place.
     fn take(&mut self, alloc: Global, text: &[u8], mark: Mark, place: usize) -> Result<(), NoMemory>
-        requires stands { spec.StandsBehind text.now self.old.run mark place }
+        requires stands { spec.StandsAfter text.now self.old.run mark place }
         requires begins { self.old.run.from ≤ place }
-        ensures { OnOk result (spec.GoesBehind text.now mark place self.old self.new) }
+        ensures { OnOk result (spec.GoesAfter text.now mark place self.old self.new) }
     {
         match mark {
             Mark::End => self.end(alloc, text, place)?,
@@ -146,7 +146,7 @@ impl Parsing {
         Ok(())
     }
 
-    /// The pieces, and the place behind them, from which all bytes are plain.
+    /// The pieces, and the place after them, from which all bytes are plain.
     pub(crate) fn finish(self) -> (Vec<Piece>, usize)
         ensures pieces { reverse result.0.items ≡ self.pieces }
         ensures tail { result.1 ≡ self.run.from }
@@ -168,9 +168,9 @@ pub(crate) fn parse(alloc: Global, text: &[u8]) -> Result<Parsing, NoMemory>
 {
     let mut parsing = Parsing::new(alloc);
     let mut rest = text;
-    while let Some((mark, behind)) = next_mark(rest, parsing.innermost()) {
-        parsing.take(alloc, text, mark, text.len() - behind.len())?;
-        rest = behind;
+    while let Some((mark, after)) = next_mark(rest, parsing.innermost()) {
+        parsing.take(alloc, text, mark, text.len() - after.len())?;
+        rest = after;
     }
     Ok(parsing)
 }

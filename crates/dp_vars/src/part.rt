@@ -1,12 +1,12 @@
 //! Parts of values, after the Asterisk documentation's page on variables.
 //!
-//! Behind a value stands nothing, `:offset` or `:offset:length`. A negative offset counts from the end, and a negative
+//! After a value stands nothing, `:offset` or `:offset:length`. A negative offset counts from the end, and a negative
 //! length leaves so many bytes out at the end. An empty offset is 0 and an empty length is none. Anything else gives the
 //! empty text (a choice of this program).
 ghost use Rattle.std.specs.Prelude.{◌≡◌, ◌≤◌, Some};
 ghost use Rattle.std.specs.Option.{option_map};
 ghost use Rattle.dp_vars.specs.Parts as parts;
-ghost use Rattle.dp_vars.specs.Far as far;
+ghost use Rattle.dp_vars.specs.steps.Far as far;
 
 use dp_conf::{cut_once, read_number};
 
@@ -19,7 +19,7 @@ pub(crate) enum Reach {
 
 /// What is asked for of a value.
 #[derive(Clone, Copy)]
-pub(crate) enum Asked {
+pub(crate) enum Selection {
     Whole,
     Part(Reach, Option<Reach>),
     Nothing,
@@ -85,17 +85,17 @@ fn read_length(text: &[u8]) -> Option<Option<Reach>>
 }
 
 /// An offset and a length as what they ask for.
-fn part_from(offset: Option<Reach>, length: Option<Option<Reach>>) -> Asked
+fn part_from(offset: Option<Reach>, length: Option<Option<Reach>>) -> Selection
     ensures { result ≡ parts.part_from offset length }
 {
     match (offset, length) {
-        (Some(offset), Some(length)) => Asked::Part(offset, length),
-        _ => Asked::Nothing,
+        (Some(offset), Some(length)) => Selection::Part(offset, length),
+        _ => Selection::Nothing,
     }
 }
 
-/// What is asked for by what stands behind the first `:`.
-pub(crate) fn read_asked(tail: &[u8]) -> Asked
+/// What is asked for by what stands after the first `:`.
+pub(crate) fn read_asked(tail: &[u8]) -> Selection
     ensures { result ≡ far.asked_at_most (parts.asked_of (Some tail.now)) }
 {
     match cut_once(tail, b':') {
@@ -119,7 +119,7 @@ fn start_of(offset: Reach, size: usize) -> usize
 fn end_of(length: Option<Reach>, start: usize, size: usize) -> usize
     requires { start ≤ size }
     ensures end { result ≡ parts.end_of length start size }
-    ensures behind { start ≤ result }
+    ensures after { start ≤ result }
     ensures within { result ≤ size }
 {
     match length {
@@ -130,16 +130,16 @@ fn end_of(length: Option<Reach>, start: usize, size: usize) -> usize
 }
 
 /// The part of a value that is asked for.
-pub(crate) fn part(value: &[u8], asked: Asked) -> &[u8]
+pub(crate) fn part(value: &[u8], asked: Selection) -> &[u8]
     ensures { result.now ≡ parts.part asked value.now }
 {
     match asked {
-        Asked::Whole => value,
-        Asked::Part(offset, length) => {
+        Selection::Whole => value,
+        Selection::Part(offset, length) => {
             let start = start_of(offset, value.len());
             let end = end_of(length, start, value.len());
             &value[start..end]
         }
-        Asked::Nothing => b"",
+        Selection::Nothing => b"",
     }
 }

@@ -61,7 +61,7 @@ fn read_braces(alloc: Global, text: &[u8], place: Span) -> Result<Piece, NoMemor
         Some((head, tail)) => {
             let cut = Cut {
                 head: read_head(text, place.front(head.len())),
-                tail: place.behind(body.len() - tail.len()),
+                tail: place.after(body.len() - tail.len()),
                 asked: read_asked(tail),
             };
             let cut = Box::new(alloc, cut)?;

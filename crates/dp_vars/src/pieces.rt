@@ -12,7 +12,7 @@ use dp_conf::NoMemory;
 use std::alloc::Global;
 use std::marker::Model;
 
-/// The pieces of a text that stands elsewhere, as in a dialplan, and the place behind them, from which all bytes are plain.
+/// The pieces of a text that stands elsewhere, as in a dialplan, and the place after them, from which all bytes are plain.
 ///
 /// A contract says of which text they are; they are expanded with that text.
 #[derive(Drop)]

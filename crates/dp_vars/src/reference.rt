@@ -4,12 +4,12 @@ ghost use Rattle.std.specs.String.{string_bytes};
 ghost use Rattle.std.specs.Fmt.{decimal};
 ghost use Rattle.dp_conf.specs.Levels.{cut_outside};
 ghost use Rattle.dp_vars.specs.Parts.{part};
-ghost use Rattle.dp_vars.specs.Shown.{shown};
+ghost use Rattle.dp_vars.specs.steps.Shown.{shown};
 ghost use Rattle.dp_vars.specs.Sights as sights;
 ghost use Rattle.dp_vars.specs.Values as values;
 ghost use Rattle.dp_vars.specs.Variables.{value_or_empty};
 
-use crate::part::{Asked, part, read_asked};
+use crate::part::{Selection, part, read_asked};
 use crate::scope::{Counts, Scope};
 use crate::value::{Value, head_value, variable};
 use dp_conf::{NoMemory, cut_outside};
@@ -19,7 +19,7 @@ use std::alloc::Global;
 #[derive(Clone, Copy)]
 pub(crate) struct Reference<'a> {
     pub(crate) value: Value<'a>,
-    pub(crate) asked: Asked,
+    pub(crate) asked: Selection,
 }
 
 /// What a body in braces refers to.
@@ -33,7 +33,7 @@ pub(crate) fn read_reference<'a, B, C: Counts>(
     match cut_outside(body, b':') {
         None => Reference {
             value: head_value(scope, body),
-            asked: Asked::Whole,
+            asked: Selection::Whole,
         },
         Some((head, tail)) => Reference {
             value: head_value(scope, head),
@@ -43,7 +43,7 @@ pub(crate) fn read_reference<'a, B, C: Counts>(
 }
 
 /// Adds the part that is asked for of some bytes.
-fn push_part(out: &mut Vec<u8>, value: &[u8], asked: Asked) -> Result<(), NoMemory>
+fn push_part(out: &mut Vec<u8>, value: &[u8], asked: Selection) -> Result<(), NoMemory>
     ensures ok { OnOk result (out.new.items ≡ out.old.items ++ part asked value.now) }
     ensures small { length value.now < 2 ^ 64 }
 {
@@ -86,7 +86,7 @@ pub fn value_of<B, C>(
     let mut out = Vec::new(alloc);
     let reference = Reference {
         value: variable(scope, name),
-        asked: Asked::Whole,
+        asked: Selection::Whole,
     };
     push_reference(alloc, &mut out, reference)?;
     Ok(out)

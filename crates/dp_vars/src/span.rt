@@ -1,6 +1,6 @@
 //! Places in a text.
 ghost use Rattle.std.specs.Prelude.{◌≡◌, ◌-◌, drop, min, take};
-ghost use Rattle.dp_vars.specs.Spans.{behind_of, front_of, spanned};
+ghost use Rattle.dp_vars.specs.Spans.{after_of, front_of, spanned};
 
 /// What stands in a text from a place up to another.
 #[derive(Clone, Copy)]
@@ -16,8 +16,8 @@ fn front(text: &[u8], size: usize) -> &[u8]
     text.split_at(size.min(text.len())).0
 }
 
-/// What stands behind so many bytes.
-fn behind(text: &[u8], size: usize) -> &[u8]
+/// What stands after so many bytes.
+fn after(text: &[u8], size: usize) -> &[u8]
     ensures { result.now ≡ drop size text.now }
 {
     text.split_at(size.min(text.len())).1
@@ -44,9 +44,9 @@ impl Span {
         }
     }
 
-    /// What stands behind those.
-    pub(crate) fn behind(self, size: usize) -> Self
-        ensures { result ≡ behind_of self size }
+    /// What stands after those.
+    pub(crate) fn after(self, size: usize) -> Self
+        ensures { result ≡ after_of self size }
     {
         Span {
             from: self.to.min(self.from.saturating_add(size)),
@@ -58,6 +58,6 @@ impl Span {
     pub(crate) fn of(self, text: &[u8]) -> &[u8]
         ensures { result.now ≡ spanned text.now self }
     {
-        front(behind(text, self.from), self.to.saturating_sub(self.from))
+        front(after(text, self.from), self.to.saturating_sub(self.from))
     }
 }

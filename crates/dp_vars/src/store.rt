@@ -139,7 +139,7 @@ impl<B> Store<B> {
         Ok(true)
     }
 
-    /// Forgets the names behind the first ones, where no map has one of them.
+    /// Forgets the names after the first ones, where no map has one of them.
     fn forget(&mut self, known: usize)
         ensures { (before : StoreOf B) → HasNamed before → self.old ≡ record before { names = self.old.names }
             → take known self.old.names ≡ before.names → self.new ≡ before }

@@ -1,32 +1,71 @@
 //! The names of a store by their numbers, each with its values.
-ghost use Rattle.std.specs.Prelude.{◌≡◌, [], length, nat_eq, fold, is_some, take, if◌then◌else◌, OnErr, OnOk};
+ghost use Rattle.std.specs.Prelude.{◌≡◌, [], length, nat_eq, fold, is_some, take, if◌then◌else◌, ◌-◌, unwrap_or, IfOk, OnErr, OnOk};
+ghost use Rattle.std.specs.BTreeMap.{get, insert_entry};
 ghost use Rattle.std.specs.Cmp.Lexicographic.{pointwise};
 ghost use Rattle.std.specs.Map.{lookup};
 ghost use Rattle.std.specs.Option.{option_map};
 ghost use Rattle.dp_vars.specs.Bindings.{bound, bound_below, rebound, restored};
 ghost use Rattle.dp_vars.specs.Stores.{slot as slot_of};
 ghost use Rattle.dp_vars.specs.Tables.{names_of, stack_of, unbound_at, with_stack};
+ghost use Rattle.dp_vars.specs.Variables.{in_order};
 
 use crate::frame::Numbers;
 use crate::stack::Stack;
 use dp_conf::{NoMemory, Text};
-use indexmap::IndexMap;
 use std::alloc::Global;
+use std::collections::BTreeMap;
 use std::marker::Model;
 
+/// A name with its bindings.
+#[derive(Drop)]
+struct Entry {
+    name: Text,
+    stack: Stack,
+}
+
+impl Model for Entry {
+    ghost use Rattle.std.specs.Prelude.{ℕ, List};
+    ghost use Rattle.dp_vars.specs.declared.stack.Binding.{Binding};
+
+    ghost Value = { List ℕ × List Binding };
+
+    ghost view = { λ entry. (entry.name, entry.stack) };
+}
+
 /// Names with their bindings. The number of a name is its place here.
+///
+/// A map has the number of each name. It is ordered, so that a look-up costs the logarithm of how many names there are,
+/// whatever names a dialplan chooses.
 #[derive(Drop)]
 pub(crate) struct Table {
-    held: IndexMap<Vec<u8>, Stack>,
+    entries: Vec<Entry>,
+    numbers: BTreeMap<Vec<u8>, usize>,
 }
 
 impl Model for Table {
-    ghost use Rattle.dp_vars.specs.Tables.{Entries};
+    ghost use Rattle.dp_vars.specs.Tables.{AreNumbered, Entries, names_of};
     ghost use Rattle.dp_vars.specs.Variables.{by_bytes};
 
     ghost Value = { Entries };
 
-    ghost view = { λ table. by_bytes (λ name. name.items) table.held.entries };
+    ghost view = { λ table. table.entries.items };
+
+    ghost invariant = { λ table. AreNumbered (by_bytes (λ name. name.items) table.numbers.entries) (names_of table.entries.items) };
+}
+
+/// The number of a name, which is the next one where it had none. After a refused growth all is as before.
+fn number_of(
+    numbers: &mut BTreeMap<Vec<u8>, usize>,
+    name: Vec<u8>,
+    next: usize,
+) -> Result<usize, NoMemory>
+    ensures number { IfOk result (λ number. number ≡ unwrap_or (get (in_order (λ key. key.items)) numbers.old name) next) }
+    ensures entries { IfOk result (λ number. numbers.new.entries
+        ≡ insert_entry (in_order (λ key. key.items)) numbers.old.entries name number) }
+    ensures err { OnErr result (numbers.new.entries ≡ numbers.old.entries) }
+{
+    let number = numbers.entry(name)?.or_insert(next);
+    Ok(*number)
 }
 
 impl Table {
@@ -35,7 +74,8 @@ impl Table {
         ensures { result ≡ [] }
     {
         Table {
-            held: IndexMap::new(alloc),
+            entries: Vec::new(alloc),
+            numbers: BTreeMap::new(alloc),
         }
     }
 
@@ -43,31 +83,46 @@ impl Table {
     pub(crate) fn len(&self) -> usize
         ensures { result ≡ length self.now }
     {
-        self.held.len()
+        self.entries.len()
     }
 
     /// The number of a name.
     pub(crate) fn slot(&self, name: &[u8]) -> Option<usize>
         ensures { result ≡ slot_of (names_of self.now) name.now }
     {
-        self.held.get_index_of(name)
+        match self.numbers.get(name) {
+            Some(number) => Some(*number),
+            None => None,
+        }
     }
 
     /// The bindings of a name.
     pub(crate) fn stack(&self, name: &[u8]) -> Option<&Stack>
         ensures { option_map (λ stack. stack.now) result ≡ lookup (pointwise nat_eq name.now) self.now }
     {
-        self.held.get(name)
+        let Some(number) = self.slot(name) else {
+            return None;
+        };
+        let entry = &self.entries[number];
+        Some(&entry.stack)
     }
 
-    /// Puts a name behind the others, with a value at a depth. After a refused growth all is as before.
+    /// Gives a name a value at a depth alone. A new name goes after the others. After a refused growth all is as before.
     fn add(&mut self, alloc: Global, name: &[u8], depth: usize, value: Text) -> Result<(), NoMemory>
         ensures ok { OnOk result (self.new ≡ with_stack self.old name.now (bound depth value [])) }
         ensures err { OnErr result (self.new ≡ self.old) }
     {
         let key = Vec::from_slice(alloc, name)?;
+        let name = Text::copy_of(alloc, name)?;
         let stack = Stack::of(alloc, depth, value)?;
-        self.held.insert(key, stack)?;
+        self.entries.reserve(1)?;
+        let number = number_of(&mut self.numbers, key, self.entries.len())?;
+        if number < self.entries.len() {
+            let entry = &mut self.entries[number];
+            entry.stack = stack;
+        } else {
+            self.entries.push_reserved(Entry { name, stack });
+        }
         Ok(())
     }
 
@@ -90,8 +145,8 @@ impl Table {
             self.add(alloc, name, depth, value)?;
             return Ok(());
         };
-        let stack = &mut self.held[number];
-        stack.bind(depth, value)?;
+        let entry = &mut self.entries[number];
+        entry.stack.bind(depth, value)?;
         Ok(())
     }
 
@@ -107,13 +162,13 @@ impl Table {
         ensures err { OnErr result (self.new ≡ self.old) }
     {
         let value = Text::copy_of(alloc, value)?;
-        let Some(number) = self.held.get_index_of(name) else {
+        let Some(number) = self.slot(name) else {
             self.add(alloc, name, 0, value)?;
             return Ok(());
         };
-        let stack = &mut self.held[number];
-        let depth = stack.depth();
-        stack.bind(depth, value)?;
+        let entry = &mut self.entries[number];
+        let depth = entry.stack.depth();
+        entry.stack.bind(depth, value)?;
         Ok(())
     }
 
@@ -129,12 +184,12 @@ impl Table {
         ensures err { OnErr result (self.new ≡ self.old) }
     {
         let value = Text::copy_of(alloc, value)?;
-        let Some(number) = self.held.get_index_of(name) else {
+        let Some(number) = self.slot(name) else {
             self.add(alloc, name, 0, value)?;
             return Ok(());
         };
-        let stack = &mut self.held[number];
-        stack.bind_below(depth, value)?;
+        let entry = &mut self.entries[number];
+        entry.stack.bind_below(depth, value)?;
         Ok(())
     }
 
@@ -143,9 +198,9 @@ impl Table {
         ensures { self.new ≡ (if is_some (slot_of (names_of self.old) name.now)
             then with_stack self.old name.now (restored value (stack_of self.old name.now)) else self.old) }
     {
-        if let Some(number) = self.held.get_index_of(name) {
-            let stack = &mut self.held[number];
-            stack.restore(value);
+        if let Some(number) = self.slot(name) {
+            let entry = &mut self.entries[number];
+            entry.stack.restore(value);
         }
     }
 
@@ -153,9 +208,9 @@ impl Table {
     fn unbind(&mut self, depth: usize, number: usize)
         ensures { self.new ≡ unbound_at depth self.old number }
     {
-        if number < self.held.len() {
-            let stack = &mut self.held[number];
-            stack.unbind(depth);
+        if number < self.entries.len() {
+            let entry = &mut self.entries[number];
+            entry.stack.unbind(depth);
         }
     }
 
@@ -168,10 +223,21 @@ impl Table {
         }
     }
 
-    /// Keeps the first names alone, so many of them.
+    /// Takes the last name away.
+    fn pop(&mut self)
+        ensures { self.new ≡ take (length self.old - 1) self.old }
+    {
+        if let Some(entry) = self.entries.pop() {
+            let _number = self.numbers.remove(entry.name.bytes());
+        }
+    }
+
+    /// Keeps the first names alone, so many of them. It costs what it takes away.
     pub(crate) fn truncate(&mut self, len: usize)
         ensures { self.new ≡ take len self.old }
     {
-        self.held.truncate(len);
+        while self.entries.len() > len {
+            self.pop();
+        }
     }
 }

@@ -80,9 +80,9 @@ pub fn expand_text<B, C: Counts>(
 {
     let mut expanding = Expanding::with_room(alloc, text.len())?;
     let mut rest = text;
-    while let Some((mark, behind)) = next_mark(rest, expanding.innermost()) {
+    while let Some((mark, after)) = next_mark(rest, expanding.innermost()) {
         expanding.take(alloc, scope, mark)?;
-        rest = behind;
+        rest = after;
     }
     Ok(expanding.finish())
 }

@@ -4,7 +4,7 @@ ghost use Rattle.std.specs.Option.{option_map, option_map_or};
 ghost use Rattle.std.specs.Map.{lookup};
 ghost use Rattle.dp_conf.specs.Cut as cuts;
 ghost use Rattle.dp_conf.specs.Words.{same_text};
-ghost use Rattle.dp_vars.specs.Shown.{shown};
+ghost use Rattle.dp_vars.specs.steps.Shown.{shown};
 ghost use Rattle.dp_vars.specs.Sights as sights;
 ghost use Rattle.dp_vars.specs.Stores as stores;
 ghost use Rattle.dp_vars.specs.Values as values;
@@ -77,7 +77,7 @@ fn given_value<'a>(channel: Option<ChannelSeen<'a>>, given: Given) -> Value<'a>
 /// The value that a store has for a name, where there is a store.
 fn stored<'a, B>(store: Option<&'a Store<B>>, name: &[u8]) -> Option<&'a [u8]>
     ensures { option_map (λ value. value.now) result
-        ≡ first_value (sights.stored_maps (sights.behind store.entry)) name.now }
+        ≡ first_value (sights.stored_maps (sights.after store.entry)) name.now }
 {
     match store {
         None => None,
@@ -100,7 +100,7 @@ pub(crate) fn variable<'a, B, C>(scope: &Scope<'a, B, C>, name: &[u8]) -> Value<
 
 /// The value of a local of the innermost frame alone, and the empty text where there is none.
 fn local<'a, B>(store: Option<&'a Store<B>>, name: &[u8]) -> &'a [u8]
-    ensures { result.now ≡ sights.local_seen (sights.behind store.entry) name.now }
+    ensures { result.now ≡ sights.local_seen (sights.after store.entry) name.now }
 {
     match store {
         None => b"",
@@ -160,11 +160,11 @@ pub(crate) fn function_value<'a, B, C: Counts>(
     }
 }
 
-/// The value of a function by its name and by what stands behind the `(`.
-fn called<'a, B, C: Counts>(scope: &Scope<'a, B, C>, name: &[u8], behind: &[u8]) -> Value<'a>
-    ensures { shown result ≡ values.called (sights.sight_of C.count scope.now) name.now (cuts.before_last 41 behind.now) }
+/// The value of a function by its name and by what stands after the `(`.
+fn called<'a, B, C: Counts>(scope: &Scope<'a, B, C>, name: &[u8], after: &[u8]) -> Value<'a>
+    ensures { shown result ≡ values.called (sights.sight_of C.count scope.now) name.now (cuts.before_last 41 after.now) }
 {
-    match (function_of(name), before_last(behind, b')')) {
+    match (function_of(name), before_last(after, b')')) {
         (Some(function), Some(argument)) => function_value(scope, function, argument),
         _ => Value::Bytes(b""),
     }
@@ -177,6 +177,6 @@ pub(crate) fn head_value<'a, B, C: Counts>(scope: &Scope<'a, B, C>, head: &[u8])
 {
     match cut_once(head, b'(') {
         None => variable(scope, head),
-        Some((name, behind)) => called(scope, name, behind),
+        Some((name, after)) => called(scope, name, after),
     }
 }

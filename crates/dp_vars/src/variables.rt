@@ -4,8 +4,8 @@ ghost use Rattle.std.specs.FinMap as finite;
 ghost use Rattle.std.specs.Option.{option_map};
 
 use dp_conf::{NoMemory, Text};
-use indexmap::IndexMap;
 use std::alloc::Global;
+use std::collections::BTreeMap;
 use std::marker::Model;
 
 /// A variable's name and its value.
@@ -15,10 +15,11 @@ pub struct Variable {
     pub value: Text,
 }
 
-/// Variables with their values. Names are told apart by their bytes.
+/// Variables with their values. Names are told apart by their bytes, and a look-up costs the logarithm of their number,
+/// whatever names a dialplan chooses.
 #[derive(Drop)]
 pub(crate) struct Variables {
-    held: IndexMap<Vec<u8>, Text>,
+    held: BTreeMap<Vec<u8>, Text>,
 }
 
 impl Model for Variables {
@@ -41,7 +42,7 @@ impl Variables {
         ensures { result ≡ finite.empty }
     {
         Variables {
-            held: IndexMap::new(alloc),
+            held: BTreeMap::new(alloc),
         }
     }
 
@@ -65,8 +66,12 @@ impl Variables {
         ensures ok { OnOk result (self.new ≡ finite.insert self.old name.now value.now) }
         ensures err { OnErr result (self.new ≡ self.old) }
     {
-        let key = Vec::from_slice(alloc, name)?;
         let value = Text::copy_of(alloc, value)?;
+        if let Some(held) = self.held.get_mut(name) {
+            *held = value;
+            return Ok(());
+        }
+        let key = Vec::from_slice(alloc, name)?;
         self.held.insert(key, value)?;
         Ok(())
     }

@@ -170,7 +170,7 @@ fn take(alloc: Global, world: &mut World, step: &str) -> Result<(), NoMemory> {
     Ok(())
 }
 
-/// The expansion in a world of what stands behind the last ` ; `, after the steps between those before it.
+/// The expansion in a world of what stands after the last ` ; `, after the steps between those before it.
 fn expanded_in(alloc: Global, world: &mut World, asked: &str) -> Result<String, Fail> {
     let (steps, text) = asked.rsplit_once(" ; ").unwrap_or(("", asked));
     for step in steps.split(" ; ") {
@@ -181,7 +181,7 @@ fn expanded_in(alloc: Global, world: &mut World, asked: &str) -> Result<String, 
     Ok(out)
 }
 
-/// The expansion of what stands behind the last ` ; `, after the steps between those before it.
+/// The expansion of what stands after the last ` ; `, after the steps between those before it.
 ///
 /// `set NAME=VALUE` sets a variable, `local` a local of the innermost frame, `push` adds a frame with one local, `frame NAME ..`
 /// one with several, `pop` drops the innermost, `return NAME=VALUE` drops it and then sets a variable, `drop` drops all

@@ -11,7 +11,7 @@ use Rattle.dp_commands.specs.declared.fault.PbxFault.{PbxFault}
 use Rattle.dp_commands.specs.declared.fault.PbxFault.TheVariants.{NoMemory}
 use Rattle.dp_program.specs.Faulted.{nowhere}
 use Rattle.dp_program.specs.Files.{Source}
-use Rattle.dp_program.specs.Requests.{Asked}
+use Rattle.dp_program.specs.Requests.{RequestOf}
 use Rattle.dp_program.specs.Serves.{Serves}
 use Rattle.dp_program.specs.Status.{Prints, status_after}
 use Rattle.dp_program.proofs.ServesLemmas.{Serves-lacks}
@@ -51,7 +51,7 @@ prints_lacks true old new printed = printed
 prints_lacks false old new printed = printed
 
 -- a request that found no memory is one that was served so
-pub fulfils_lacks : (files : List ℕ → Source) (input : Source) (want : Asked) (explains : Bool) (output output_after errors errors_after : Sink) (kind : ErrorKind) (status : ℕ)
+pub fulfils_lacks : (files : List ℕ → Source) (input : Source) (want : RequestOf) (explains : Bool) (output output_after errors errors_after : Sink) (kind : ErrorKind) (status : ℕ)
     → kind ≡ OutOfMemory → output_after ≡ output → RefusesAs kind errors errors_after status → Fulfils files input want explains output output_after errors errors_after status
 fulfils_lacks files input want explains output output_after errors errors_after kind status memory same refused =
     let is : refused.answered ≡ Err NoMemory = lacks kind refused.answered memory refused.explains in

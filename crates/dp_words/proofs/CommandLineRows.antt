@@ -40,9 +40,9 @@ matched_all : asked_of (codes "pbx" ∷ codes "match" ∷ codes "--all" ∷ code
 unfolding clap_on_literals asked_of
 matched_all = refl
 
-matched_all_behind : asked_of (codes "pbx" ∷ codes "match" ∷ codes "a.conf" ∷ codes "main" ∷ codes "5" ∷ codes "--all" ∷ []) ≡ Some (matching (record { file = codes "a.conf"; context = codes "main"; text = codes "5"; priority = 1 }) true)
+matched_all_after : asked_of (codes "pbx" ∷ codes "match" ∷ codes "a.conf" ∷ codes "main" ∷ codes "5" ∷ codes "--all" ∷ []) ≡ Some (matching (record { file = codes "a.conf"; context = codes "main"; text = codes "5"; priority = 1 }) true)
 unfolding clap_on_literals asked_of
-matched_all_behind = refl
+matched_all_after = refl
 
 audited : asked_of (codes "pbx" ∷ codes "audit" ∷ codes "a.conf" ∷ []) ≡ Some (auditing (codes "a.conf"))
 unfolding clap_on_literals asked_of found_entry

@@ -6,7 +6,7 @@ use Rattle.clap.specs.Walk.{Row, first_of}
 use Rattle.clap.specs.declared.error.kind.ErrorKind.{ErrorKind}
 use Rattle.clap.specs.declared.error.kind.ErrorKind.TheVariants.{OutOfMemory}
 use Rattle.dp_conf.specs.Words.{same_text}
-use Rattle.dp_program.specs.Requests.{Asked, explaining}
+use Rattle.dp_program.specs.Requests.{RequestOf, explaining}
 use Rattle.dp_words.specs.CommandLine.{asked_by, audit_asked, check_asked, command_asked, debug_asked, explain_asked, fault_in, list_asked, match_asked, match_at, priority_in, run_asked, run_by, run_in, threads_in}
 use Rattle.dp_words.specs.Refusals.{command_kinds, kinds_by, number_kinds, unless_number}
 
@@ -40,7 +40,7 @@ run_numbers words None is = refl
 run_numbers words (Some word) is = unless_asked (threads_in word) (λ threads. run_in words (Some threads)) is
 
 -- of a choice
-either : (b : Bool) (first later : Option Asked) (kinds others : Kinds) → (is_some first ≡ true → kinds ≡ []) → (is_some later ≡ true → others ≡ [])
+either : (b : Bool) (first later : Option RequestOf) (kinds others : Kinds) → (is_some first ≡ true → kinds ≡ []) → (is_some later ≡ true → others ≡ [])
     → is_some (cond b first later) ≡ true → cond b kinds others ≡ []
 either true first later kinds others is are some = is some
 either false first later kinds others is are some = are some

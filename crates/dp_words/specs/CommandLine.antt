@@ -10,7 +10,7 @@ use Rattle.dp_conf.specs.Words.{same_text}
 use Rattle.dp_commands.specs.Script.{number_within}
 use Rattle.dp_plan.specs.Priority.{most_priority}
 use Rattle.dp_program.specs.Entries.{has_entry}
-use Rattle.dp_program.specs.Requests.{Asked, joined, check, listing, auditing, matching, explaining, run, debug}
+use Rattle.dp_program.specs.Requests.{RequestOf, joined, check, listing, auditing, matching, explaining, run, debug}
 use Rattle.dp_program.specs.Texts.{OfRun}
 
 -- a word that has to be given
@@ -21,15 +21,15 @@ required_word name = record (new_rule name) { required = true }
 abbrev pub word_or : List ℕ → List ℕ → Rule
 word_or name default = record (new_rule name) { defaults = default ∷ [] }
 
--- a word that may be given behind `--` and a name
+-- a word that may be given after `--` and a name
 abbrev pub named_word : List ℕ → List ℕ → Rule
 named_word name long = record (new_rule name) { long = Some long }
 
--- a word that has to be given behind `--` and a name
+-- a word that has to be given after `--` and a name
 abbrev pub required_named_word : List ℕ → List ℕ → Rule
 required_named_word name long = record (named_word name long) { required = true }
 
--- a flag that may be given behind `--`
+-- a flag that may be given after `--`
 abbrev pub flag : List ℕ → List ℕ → Rule
 flag name long = record (named_word name long) { action = Some SetTrue }
 
@@ -123,31 +123,31 @@ abbrev pub is_set : List ℕ → List Row → Bool
 is_set name words = option_map_or (λ value. same_text value (codes "true")) (first_of name words) false
 
 -- what `check` asks for, by its words
-abbrev pub check_asked : List Row → Option Asked
+abbrev pub check_asked : List Row → Option RequestOf
 check_asked words = option_map check (first_of (codes "FILE") words)
 
 -- what `list` asks for, by its words
-abbrev pub list_asked : List Row → Option Asked
+abbrev pub list_asked : List Row → Option RequestOf
 list_asked words = option_map listing (first_of (codes "FILE") words)
 
 -- what `match` asks for at a priority, by its other words
-abbrev pub match_at : List Row → ℕ → Option Asked
+abbrev pub match_at : List Row → ℕ → Option RequestOf
 match_at words priority =
     option_and_then (λ file. option_and_then (λ context. option_map
     (λ text. matching (record { file = file; context = context; text = text; priority = priority }) (is_set (codes "all") words))
     (first_of (codes "TEXT") words)) (first_of (codes "CONTEXT") words)) (first_of (codes "FILE") words)
 
 -- what `match` asks for, by its words
-abbrev pub match_asked : List Row → Option Asked
+abbrev pub match_asked : List Row → Option RequestOf
 match_asked words =
     option_and_then (λ word. option_and_then (match_at words) (priority_in word)) (first_of (codes "PRIORITY") words)
 
 -- what `audit` asks for, by its words
-abbrev pub audit_asked : List Row → Option Asked
+abbrev pub audit_asked : List Row → Option RequestOf
 audit_asked words = option_map auditing (first_of (codes "FILE") words)
 
 -- what `explain` asks for, by its words
-abbrev pub explain_asked : List Row → Option Asked
+abbrev pub explain_asked : List Row → Option RequestOf
 explain_asked words = option_and_then (λ word. option_map explaining (fault_in word)) (first_of (codes "CODE") words)
 
 -- the files of a run, by its words
@@ -158,25 +158,25 @@ run_paths words =
     (first_of (codes "SCRIPT") words)) (first_of (codes "FILE") words)
 
 -- what `run` asks for in so many threads, where their number is given, by its other words
-abbrev pub run_in : List Row → Option ℕ → Option Asked
+abbrev pub run_in : List Row → Option ℕ → Option RequestOf
 run_in words threads = option_map (λ paths. run paths threads) (run_paths words)
 
--- what `run` asks for, by its words and the one behind `--threads`
-abbrev pub run_by : List Row → Option (List ℕ) → Option Asked
+-- what `run` asks for, by its words and the one after `--threads`
+abbrev pub run_by : List Row → Option (List ℕ) → Option RequestOf
 run_by words None = run_in words None
 run_by words (Some word) = option_and_then (λ threads. run_in words (Some threads)) (threads_in word)
 
 -- what `run` asks for, by its words
-abbrev pub run_asked : List Row → Option Asked
+abbrev pub run_asked : List Row → Option RequestOf
 run_asked words = run_by words (first_of (codes "N") words)
 
 -- what `debug` asks for, by its words
-abbrev pub debug_asked : List Row → Option Asked
+abbrev pub debug_asked : List Row → Option RequestOf
 debug_asked words =
     option_and_then (λ paths. option_map (debug paths) (first_of (codes "CONTEXT,EXTEN,PRIORITY") words)) (run_paths words)
 
 -- what a command of a name asks for, by its words
-abbrev pub command_asked : List ℕ → List Row → Option Asked
+abbrev pub command_asked : List ℕ → List Row → Option RequestOf
 command_asked name words =
     if same_text name (codes "check") then check_asked words
     else if same_text name (codes "list") then list_asked words
@@ -188,7 +188,7 @@ command_asked name words =
     else None
 
 -- the same, where there is no command too
-abbrev pub asked_by : Option (List ℕ × List Row) → Option Asked
+abbrev pub asked_by : Option (List ℕ × List Row) → Option RequestOf
 asked_by None = Some joined
 asked_by (Some command) = command_asked command.0 command.1
 
@@ -197,7 +197,7 @@ abbrev pub texts : List (String Global) → List (List ℕ)
 texts words = map string_bytes words
 
 -- what a command line asks for, by all its words, the first of which is the program's own name
-unfoldable pub asked_of : List (List ℕ) → Option Asked
+unfoldable pub asked_of : List (List ℕ) → Option RequestOf
 asked_of words = asked_by (subcommand_of pbx_app words)
 
 -- whether each fault is to be explained, by the words of a command; where there is none it is not

@@ -1,4 +1,4 @@
 pub mod CommandLine
-pub mod Made
 pub mod Refusals
 pub mod Status
+pub mod steps

@@ -1,4 +1,4 @@
--- The kinds with which words are refused. Those of words that are no command line of the program's are clap's; behind them
+-- The kinds with which words are refused. Those of words that are no command line of the program's are clap's; after them
 -- stand those of words that are one, but for a number.
 use Rattle.std.specs.Prelude.{ℕ, List, [], ◌∷◌, Option, Some, None, codes, if◌then◌else◌}
 use Rattle.clap.specs.Faults.{fault_of}
@@ -7,7 +7,7 @@ use Rattle.clap.specs.Simple.{subcommand_of}
 use Rattle.clap.specs.Walk.{Row, first_of}
 use Rattle.clap.specs.declared.error.kind.ErrorKind.TheVariants.{MissingRequiredArgument, ValueValidation}
 use Rattle.dp_conf.specs.Words.{same_text}
-use Rattle.dp_program.specs.Requests.{Asked}
+use Rattle.dp_program.specs.Requests.{RequestOf}
 use Rattle.dp_words.specs.CommandLine.{pbx_app, asked_by, fault_in, priority_in, threads_in}
 
 -- the kind of an invalid value where there is no number
@@ -38,7 +38,7 @@ kinds_by None = []
 kinds_by (Some command) = command_kinds command.0 command.1
 
 -- the kind of words that ask for nothing, since one that is required is missing
-abbrev pub missing_kinds : Option Asked → Kinds
+abbrev pub missing_kinds : Option RequestOf → Kinds
 missing_kinds None = MissingRequiredArgument ∷ []
 missing_kinds (Some asked) = []
 

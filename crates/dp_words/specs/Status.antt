@@ -11,7 +11,7 @@ use Rattle.dp_commands.specs.declared.fault.PbxFault.{PbxFault}
 use Rattle.dp_commands.specs.declared.fault.PbxFault.TheVariants.{Coded, NoMemory}
 use Rattle.dp_program.specs.Faulted.{unplaced}
 use Rattle.dp_program.specs.Files.{Source}
-use Rattle.dp_program.specs.Requests.{Asked}
+use Rattle.dp_program.specs.Requests.{RequestOf}
 use Rattle.dp_program.specs.Serves.{Serves}
 use Rattle.dp_program.specs.Status.{Prints, status_after}
 use Rattle.dp_program.specs.declared.faulted.Faulted.{Faulted}
@@ -32,7 +32,7 @@ sink contents failed = record { contents = contents; failed = failed }
 
 -- what the program writes and answers where its words ask for something: what the request does, with its status, and with the
 -- text of its fault on the errors; `explains` says whether the fault and the notes of `check` are explained
-pub record Fulfils (files : List ℕ → Source) (input : Source) (want : Asked) (explains : Bool)
+pub record Fulfils (files : List ℕ → Source) (input : Source) (want : RequestOf) (explains : Bool)
     (output output_after errors errors_after : Sink) (status : ℕ) : Type 0 where
   pub answered : Result ℕ Faulted
   pub serves : Serves files input want explains output.contents output_after.contents answered

@@ -163,8 +163,10 @@ fn audit_request<'a>(given: &ArgMatches<'a>) -> Option<Request<'a>>
 
 /// What the words of `match` ask for, or its refusal where they name no priority.
 fn match_request<'a>(alloc: Global, given: &ArgMatches<'a>) -> Result<Option<Request<'a>>, Error>
-    ensures asked { IfOk result (λ request. option_map asked request ≡ spec.match_asked (rows_of (found_of given.now))) }
-    ensures kinds { FailsBy (refusals.number_kinds spec.priority_in (first_of (codes "PRIORITY") (rows_of (found_of given.now)))) result }
+    ensures asked { IfOk result (λ request. option_map asked request
+        ≡ spec.match_asked (rows_of (found_of given.now))) }
+    ensures kinds { FailsBy (refusals.number_kinds spec.priority_in
+        (first_of (codes "PRIORITY") (rows_of (found_of given.now)))) result }
 {
     let Some(word) = word_of(given, "PRIORITY") else {
         return Ok(None);
@@ -191,8 +193,10 @@ fn match_at<'a>(given: &ArgMatches<'a>, priority: Priority) -> Option<Request<'a
 
 /// What the words of `explain` ask for, or its refusal where they name no fault.
 fn explain_request<'a>(alloc: Global, given: &ArgMatches<'a>) -> Result<Option<Request<'a>>, Error>
-    ensures asked { IfOk result (λ request. option_map asked request ≡ spec.explain_asked (rows_of (found_of given.now))) }
-    ensures kinds { FailsBy (refusals.number_kinds spec.fault_in (first_of (codes "CODE") (rows_of (found_of given.now)))) result }
+    ensures asked { IfOk result (λ request. option_map asked request
+        ≡ spec.explain_asked (rows_of (found_of given.now))) }
+    ensures kinds { FailsBy (refusals.number_kinds spec.fault_in
+        (first_of (codes "CODE") (rows_of (found_of given.now)))) result }
 {
     let Some(word) = word_of(given, "CODE") else {
         return Ok(None);
@@ -218,7 +222,8 @@ fn run_files<'a>(given: &ArgMatches<'a>) -> Option<RunFiles<'a>>
 /// What the words of `run` ask for, or its refusal where they name threads but no number of them.
 fn run_request<'a>(alloc: Global, given: &ArgMatches<'a>) -> Result<Option<Request<'a>>, Error>
     ensures asked { IfOk result (λ request. option_map asked request ≡ spec.run_asked (rows_of (found_of given.now))) }
-    ensures kinds { FailsBy (refusals.number_kinds spec.threads_in (first_of (codes "N") (rows_of (found_of given.now)))) result }
+    ensures kinds { FailsBy (refusals.number_kinds spec.threads_in
+        (first_of (codes "N") (rows_of (found_of given.now)))) result }
 {
     let Some(word) = word_of(given, "N") else {
         return Ok(run_in(given, None));
@@ -306,8 +311,10 @@ fn refuse_missing(alloc: Global) -> Result<Error, NoMemory>
 
 /// What `clap` makes of the words.
 fn read_matches<'a>(alloc: Global, words: &'a [String]) -> Result<ArgMatches<'a>, Error>
-    ensures command { IfOk result (λ matches. subcommand_rows_of matches ≡ subcommand_of spec.pbx_app (spec.texts words.now)) }
-    ensures refused { IfErr result (λ error. takes spec.pbx_app (spec.texts words.now) ≡ true → kind_of error ≡ OutOfMemory) }
+    ensures command { IfOk result (λ matches. subcommand_rows_of matches
+        ≡ subcommand_of spec.pbx_app (spec.texts words.now)) }
+    ensures refused { IfErr result (λ error. takes spec.pbx_app (spec.texts words.now) ≡ true
+        → kind_of error ≡ OutOfMemory) }
     ensures faults { FailsBy (fault_of spec.pbx_app (spec.texts words.now)) result }
 {
     let commands = pbx_command(alloc)?;

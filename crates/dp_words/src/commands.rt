@@ -5,7 +5,7 @@ ghost use Rattle.clap.specs.Simple.{App, app_of, new_app, with_rule, with_subcom
 ghost use Rattle.clap.specs.Walk.{rule_of};
 ghost use Rattle.clap.specs.declared.builder.command.Command.TheViews.{out-Command as fields_of};
 ghost use Rattle.dp_words.specs.CommandLine as spec;
-ghost use Rattle.dp_words.specs.Made.{Makes};
+ghost use Rattle.dp_words.specs.steps.Made.{Makes};
 
 use crate::help::{
     AUDIT_NOTES, CHECK_NOTES, DEBUG_NOTES, EXPLAIN_NOTES, LIST_NOTES, MATCH_NOTES, PBX_NOTES,
@@ -55,7 +55,7 @@ fn optional_word<'a>(alloc: Global, name: &'a str, help: &'a str, default: &'a s
     Arg::new(alloc, name).help(help).default_value(default)
 }
 
-/// A word that may be given behind `--` and a name.
+/// A word that may be given after `--` and a name.
 fn named_word<'a>(alloc: Global, name: &'a str, long: &'a str, help: &'a str) -> Arg<'a>
     ensures rule { rule_of result ≡ spec.named_word name.now long.now }
     ensures local { result.global ≡ false }
@@ -63,7 +63,7 @@ fn named_word<'a>(alloc: Global, name: &'a str, long: &'a str, help: &'a str) ->
     Arg::new(alloc, name).long(long).help(help)
 }
 
-/// A word that has to be given behind `--` and a name.
+/// A word that has to be given after `--` and a name.
 fn required_named_word<'a>(alloc: Global, name: &'a str, long: &'a str, help: &'a str) -> Arg<'a>
     ensures rule { rule_of result ≡ spec.required_named_word name.now long.now }
     ensures local { result.global ≡ false }
@@ -71,7 +71,7 @@ fn required_named_word<'a>(alloc: Global, name: &'a str, long: &'a str, help: &'
     Arg::new(alloc, name).long(long).required(true).help(help)
 }
 
-/// A flag that may be given behind `--`.
+/// A flag that may be given after `--`.
 fn flag<'a>(alloc: Global, name: &'a str, long: &'a str, help: &'a str) -> Arg<'a>
     ensures rule { rule_of result ≡ spec.flag name.now long.now }
     ensures local { result.global ≡ false }

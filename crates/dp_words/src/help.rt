@@ -42,7 +42,7 @@ Example:
 /// What the help of `match` says below its words.
 pub(crate) const MATCH_NOTES: &str = "\
 Prints `CONTEXT,NAME,PRIORITY APPLICATION` of the entry that answers, or `none`. The context is searched first, and then
-what it includes. A word that begins with `-` may stand behind `--`.
+what it includes. A word that begins with `-` may stand after `--`.
 
 With --all a line follows for each extension that matches, in the order in which a look-up asks: `answers`, `less specific`,
 `later context` or `no such priority`.
@@ -53,7 +53,7 @@ Example:
 
 /// What the help of `audit` says below its words.
 pub(crate) const AUDIT_NOTES: &str = "\
-Prints `KIND CONTEXT,NAME,PRIORITY` for each finding, with what it is about behind it, and then how many there are:
+Prints `KIND CONTEXT,NAME,PRIORITY` for each finding, with what it is about after it, and then how many there are:
   Cycle          a context includes itself
   NoApplication  there is no such application
   NoTarget       a target leads to no entry

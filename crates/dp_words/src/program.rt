@@ -3,7 +3,7 @@ ghost use Rattle.std.specs.Prelude.{◌≡◌, ◌≢◌, ◌||◌, [], All, IfE
 ghost use Rattle.clap.specs.Values.{kind_of};
 ghost use Rattle.dp_commands.specs.Faults.{is_write_failed};
 ghost use Rattle.dp_program.specs.Files.{source};
-ghost use Rattle.dp_program.specs.Requests.{Asked, asked};
+ghost use Rattle.dp_program.specs.Requests.{RequestOf, asked};
 ghost use Rattle.dp_words.specs.CommandLine.{asked_of, explains_of, texts};
 ghost use Rattle.dp_words.specs.Refusals.{refusals_of};
 ghost use Rattle.dp_words.specs.Status.{Explains, Fulfils, Refuses, RefusesAs, explained_status, sink};
@@ -69,10 +69,13 @@ fn fulfil<F: ReadFiles, I: ReadTold, W: WriteTold, E: WriteTold, R: Threads + Wa
     output: &mut W,
     errors: &mut E,
 ) -> u8
-    ensures { Fulfils (F.source_at files.now) (source (I.remaining input.old) (I.has_failed input.new)) (asked invocation.now.request)
+    ensures { Fulfils (F.source_at files.now) (source (I.remaining input.old) (I.has_failed input.new))
+        (asked invocation.now.request)
         invocation.now.explains
-        (sink (W.contents output.old) (W.has_failed output.old)) (sink (W.contents output.new) (W.has_failed output.new))
-        (sink (E.contents errors.old) (E.has_failed errors.old)) (sink (E.contents errors.new) (E.has_failed errors.new)) result }
+        (sink (W.contents output.old) (W.has_failed output.old))
+        (sink (W.contents output.new) (W.has_failed output.new))
+        (sink (E.contents errors.old) (E.has_failed errors.old))
+        (sink (E.contents errors.new) (E.has_failed errors.new)) result }
 {
     let answered = serve(
         rt,
@@ -102,14 +105,18 @@ pub fn answer<F: ReadFiles, I: ReadTold, W: WriteTold, E: WriteTold, R: Threads 
     output: &mut W,
     errors: &mut E,
 ) -> u8
-    ensures fulfils { (want : Asked) → refusals_of (texts words.now) ≡ [] → asked_of (texts words.now) ≡ Some want
+    ensures fulfils { (want : RequestOf) → refusals_of (texts words.now) ≡ [] → asked_of (texts words.now) ≡ Some want
         → Fulfils (F.source_at files.now) (source (I.remaining input.old) (I.has_failed input.new)) want
         (explains_of (texts words.now))
-        (sink (W.contents output.old) (W.has_failed output.old)) (sink (W.contents output.new) (W.has_failed output.new))
-        (sink (E.contents errors.old) (E.has_failed errors.old)) (sink (E.contents errors.new) (E.has_failed errors.new)) result }
+        (sink (W.contents output.old) (W.has_failed output.old))
+        (sink (W.contents output.new) (W.has_failed output.new))
+        (sink (E.contents errors.old) (E.has_failed errors.old))
+        (sink (E.contents errors.new) (E.has_failed errors.new)) result }
     ensures refuses { refusals_of (texts words.now) ≢ [] → Refuses (refusals_of (texts words.now))
-        (sink (E.contents errors.old) (E.has_failed errors.old)) (sink (E.contents errors.new) (E.has_failed errors.new)) result }
-    ensures silent { refusals_of (texts words.now) ≢ [] → All (λ kind. explained_status kind ≡ 2) (refusals_of (texts words.now))
+        (sink (E.contents errors.old) (E.has_failed errors.old))
+        (sink (E.contents errors.new) (E.has_failed errors.new)) result }
+    ensures silent { refusals_of (texts words.now) ≢ []
+        → All (λ kind. explained_status kind ≡ 2) (refusals_of (texts words.now))
         → output.new ≡ output.old }
     ensures unread { refusals_of (texts words.now) ≢ [] → input.new ≡ input.old }
 {

@@ -5,7 +5,7 @@ use dp_rows::{Question, bytes_of, check};
 use std::alloc::Global;
 use std::test::Fail;
 
-/// Dialplans, and what is found in them. Those of the first groups stand behind a header `[c]`.
+/// Dialplans, and what is found in them. Those of the first groups stand after a header `[c]`.
 const IN_CONTEXT: &str = r"
 →ok 0 findings\nstatus 0
 
@@ -67,7 +67,7 @@ const ROWS: &str = r"
 # contexts that include themselves
 [a]\ninclude => a\n[b]\ninclude => c\ninclude => none\n[c]\ninclude => b\nexten => s,1,No()\n[d]\ninclude => b\n→Cycle a\nCycle b\nCycle c\nNoApplication c,s,1 No\nok 4 findings\nstatus 1
 
-# an included context is searched for targets, for what comes behind a gap and for a beginning
+# an included context is searched for targets, for what comes after a gap and for a beginning
 [a]\nexten => s,1,Goto(t,1)\nexten => s,3,NoOp()\nexten => u,2,NoOp()\nexten => _X,2,NoOp()\ninclude => b\n[b]\nexten => t,1,NoOp()\nexten => s,2,NoOp()\nexten => u,1,NoOp()\nexten => _X,1,NoOp()\n→NoFirst b,s,2\nok 1 findings\nstatus 1
 
 # an entry is hidden by one of the same name and priority in a context before its own, and not by another priority or name
@@ -84,7 +84,7 @@ const ROWS: &str = r"
 [a]\nexten => s,1,NoOp()\ninclude => b\n[b]\nexten => s,1,NoOp()\ninclude => a\n→Cycle a\nHidden a,s,1 b\nCycle b\nHidden b,s,1 a\nok 4 findings\nstatus 1
 [a]\nexten => s,1,NoOp()\ninclude => a\ninclude => a\n→Cycle a\nok 1 findings\nstatus 1
 
-# it stands behind what is found of the priorities, and before what is found of the texts
+# it stands after what is found of the priorities, and before what is found of the texts
 [a]\nexten => s,2,NoOp()\ninclude => b\n[b]\nexten => s,2(x),NoOp(${X})\n→NoFirst a,s,2\nNoFirst b,s,2\nHidden b,s,2 a\nUnset b,s,2 X\nUnused b,s,2 x\nok 5 findings\nstatus 1
 
 # a label is named wherever the target leads

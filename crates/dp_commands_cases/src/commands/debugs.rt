@@ -7,7 +7,7 @@ use std::alloc::Global;
 use std::test::Fail;
 
 /// Worked cases. A case is a break, a dialplan that begins in `[main]`, a file of queues and a script, parted by `¦`, and a second
-/// dialplan behind a further `¦`, where there is one; then an arrow, and the trace with the status behind it.
+/// dialplan after a further `¦`, where there is one; then an arrow, and the trace with the status after it.
 const ROWS: &str = r"
 # first-run
 main,200,1¦exten => 100,1,NoOp(hello)\nexten => 100,2,Goto(200,1)\nexten => 200,1,Hangup()¦¦start main 100\nstep 1 3→started 1\nran 1 main,100,1 NoOp -> ready main,100,2\nran 1 main,100,2 Goto -> ready main,200,1\nbreak 3\nran 1 main,200,1 Hangup -> ended\nend 4\nstatus 0
@@ -62,7 +62,7 @@ main,s,1¦exten => s,1,Queue(q,,,,30)¦[q]¦start main s\nstep 1 2\ntimeout 1→
 main,s,2¦exten => s,1,Queue(q,c)\nexten => s,2,NoOp()¦[q]\nmember => Line/1\nmember => Line/2¦start main s\nstep 1\noffer q\nanswer Line/1\nanswer Line/2\ndone Line/1\nstep 1→started 1\nran 1 main,s,1 Queue -> queued q\noffered 1 2\nok\nrefused 47 NotRinging\nok\nbreak 6\nran 1 main,s,2 NoOp -> ready main,s,3\nend 7\nstatus 1
 ";
 
-/// Texts that are no break, and faults of the other texts behind them.
+/// Texts that are no break, and faults of the other texts after them.
 const FAULTS: &str = r"
 # breaks-by-application
 main,s¦exten => s,1,NoOp()¦¦start main s→fault 71 BadBreak
@@ -92,7 +92,7 @@ main,s,1¦¦¦reload→fault 70 BadScript line 1
 main,s,1¦¦¦¦[main→end 0\nstatus 0
 ";
 
-/// All that a debugged run of these texts writes, and what it ends with behind it.
+/// All that a debugged run of these texts writes, and what it ends with after it.
 fn answer_to(alloc: Global, held: &str, texts: &Texts) -> Result<String, NoMemory> {
     let mut writer = make_sink(alloc, 4096, None);
     let ended = debug_script(

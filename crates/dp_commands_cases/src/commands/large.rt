@@ -31,7 +31,7 @@ fn with_status(alloc: Global, trace: &str) -> Result<String, NoMemory> {
     format!(in alloc; "{trace}status 0")
 }
 
-/// Adds what is asked behind these calls, and what is wanted of it.
+/// Adds what is asked after these calls, and what is wanted of it.
 fn push_refused(text: &mut String, want: &mut String) -> Result<(), NoMemory> {
     text.push_str("start main s\nstep 65536\nstep 65535\nstart main s")?;
     want.push_str("refused 50 NumbersSpent\nrefused 40 NoChannel\n")?;
@@ -60,14 +60,14 @@ fn check_numbers(alloc: Global) -> Result<(), Fail> {
 /// A text of which the trace has a line for a call, and so many lines of 38 bytes.
 const LOOP: &[u8] = b"[main]\nexten => s,1,Goto(1)\n;; script\nstart main s\nstep 1 100000\n";
 
-/// The front of its trace with so many steps, and what is wanted behind it.
-fn loop_trace(alloc: Global, steps: u32, behind: &str) -> Result<String, NoMemory> {
+/// The front of its trace with so many steps, and what is wanted after it.
+fn loop_trace(alloc: Global, steps: u32, after: &str) -> Result<String, NoMemory> {
     let mut want = String::new(alloc);
     want.push_str("started 1\n")?;
     for _step in 0..steps {
         want.push_str("ran 1 main,s,1 Goto -> ready main,s,1\n")?;
     }
-    want.push_str(behind)?;
+    want.push_str(after)?;
     Ok(want)
 }
 
@@ -83,8 +83,8 @@ fn check_whole(alloc: Global) -> Result<(), Fail> {
     check_text::<Run>(alloc, LOOP, want.as_bytes())
 }
 
-/// The greatest count is taken as it stands. The lines go out in blocks: the first is full behind 1,617 steps, and each
-/// further one behind 1,617 more.
+/// The greatest count is taken as it stands. The lines go out in blocks: the first is full after 1,617 steps, and each
+/// further one after 1,617 more.
 fn check_steps(alloc: Global) -> Result<(), Fail> {
     check_whole(alloc)?;
     check_block(alloc, 1, 1_617)?;

@@ -35,10 +35,10 @@ const CHECKED: &[u8] = b"note 3 UnknownContext\nok 1 contexts 1 entries\n";
 /// The entry that answers `23`.
 const MATCHED: &[u8] = b"main,_NX,1 NoOp\n";
 
-/// Some bytes, and others behind them.
-fn with_behind(alloc: Global, bytes: &[u8], behind: &[u8]) -> Result<Vec<u8>, NoMemory> {
+/// Some bytes, and others after them.
+fn with_after(alloc: Global, bytes: &[u8], after: &[u8]) -> Result<Vec<u8>, NoMemory> {
     let mut all = Vec::from_slice(alloc, bytes)?;
-    all.extend_from_slice(behind)?;
+    all.extend_from_slice(after)?;
     Ok(all)
 }
 
@@ -50,7 +50,7 @@ fn check_failing<C: Command>(
     written: &[u8],
 ) -> Result<(), Fail> {
     let (step, k) = sink;
-    let want = with_behind(alloc, written, b"fault 9 WriteFailed, told")?;
+    let want = with_after(alloc, written, b"fault 9 WriteFailed, told")?;
     check_into::<C>(alloc, text, make_sink(alloc, step, Some(k)), &want)
 }
 
@@ -59,7 +59,7 @@ fn check_each<C: Command>(alloc: Global, text: &[u8], whole: &[u8]) -> Result<()
     for k in 0..whole.len() {
         check_failing::<C>(alloc, text, (1, k), &whole[..k])?;
     }
-    let want = with_behind(alloc, whole, b"status 0")?;
+    let want = with_after(alloc, whole, b"status 0")?;
     let writer = make_sink(alloc, 1, Some(whole.len()));
     check_into::<C>(alloc, text, writer, &want)
 }

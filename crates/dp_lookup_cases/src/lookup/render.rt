@@ -129,7 +129,7 @@ fn check_rows(
     Ok(())
 }
 
-/// The rows that stand behind the name of a context.
+/// The rows that stand after the name of a context.
 fn check_context(alloc: Global, plan: &Dialplan, of: &str, asked: &str) -> Result<(), Fail> {
     let (name, rows) = asked.split_once('\n').ok_or("no rows")?;
     let name = Text::copy_of(alloc, name.as_bytes())?;
@@ -164,7 +164,7 @@ fn check_block(alloc: Global, block: &str) -> Result<(), Fail> {
 /// Holds the answers to the questions of a table against those that are wanted.
 ///
 /// A table has blocks with an empty line between them. A block is a heading, a line with the dialplan, and for each
-/// context that is asked a line `from CONTEXT` with its rows behind it. A row is a question, an arrow and the answer:
+/// context that is asked a line `from CONTEXT` with its rows after it. A row is a question, an arrow and the answer:
 /// `find TEXT,PRIORITY` is `CONTEXT APPLICATION` or `none`, `label TEXT,LABEL` the priority or `none`, `more TEXT` is
 /// `more` or `no more`, and `order` the names of the contexts in the order of the search, each before a blank.
 pub(super) fn check(alloc: Global, table: &str) -> Result<(), Fail> {

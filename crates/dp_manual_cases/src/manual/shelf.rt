@@ -24,10 +24,10 @@ struct Shelf<'a> {
 /// What the file of a name holds.
 fn file_in<'a>(alloc: Global, text: &'a str, name: &str) -> Result<Option<&'a str>, NoMemory> {
     let head = format!(in alloc; "\n@ {name}\n")?;
-    let Some((_, behind)) = text.split_once(head.as_str()) else {
+    let Some((_, after)) = text.split_once(head.as_str()) else {
         return Ok(None);
     };
-    match behind.split_once("@\n") {
+    match after.split_once("@\n") {
         Some((file, _)) => Ok(Some(file)),
         None => Ok(None),
     }
@@ -94,7 +94,7 @@ fn printed<R: Threads + Wait + Sync + AllocGlobal>(
     Ok(all)
 }
 
-/// All that a command line prints over the files of a text. Behind ` < ` stands the file that is its input.
+/// All that a command line prints over the files of a text. After ` < ` stands the file that is its input.
 fn answered<R: Threads + Wait + Sync + AllocGlobal>(
     rt: &R,
     files: &str,
@@ -106,25 +106,25 @@ fn answered<R: Threads + Wait + Sync + AllocGlobal>(
     printed(rt, files, &words, input)
 }
 
-/// Asserts that what stands behind a command line is all that it prints.
+/// Asserts that what stands after a command line is all that it prints.
 fn check_command<R: Threads + Wait + Sync + Abort + AllocGlobal>(
     rt: &R,
     files: &str,
-    behind: &str,
+    after: &str,
 ) -> Result<(), Fail> {
-    let (line, want) = behind.split_once('\n').unwrap_or((behind, ""));
+    let (line, want) = after.split_once('\n').unwrap_or((after, ""));
     let got = answered(rt, files, line)?;
     assert!(rt; want.starts_with(got.as_str()), "{line} prints {got}");
     Ok(())
 }
 
-/// Asserts that each command line of a text prints what stands behind it.
+/// Asserts that each command line of a text prints what stands after it.
 fn check_commands<R: Threads + Wait + Sync + Abort + AllocGlobal>(
     rt: &R,
     files: &str,
 ) -> Result<(), Fail> {
-    for behind in files.split("\n$ ").skip(1) {
-        check_command(rt, files, behind)?;
+    for after in files.split("\n$ ").skip(1) {
+        check_command(rt, files, after)?;
     }
     Ok(())
 }

@@ -28,7 +28,7 @@ pub(crate) const OF_A_LINE: &str = r"
 [m]\nexten => s,x(,A\n→fault 20 line 2
 [m]\nexten => s,(12),A\n→fault 20 line 2
 [m]\nexten => s,N(),A\n→fault 20 line 2
-# Then the label, before an `n` behind no line, and before the limit.
+# Then the label, before an `n` after no line, and before the limit.
 [m]\nexten => s,n(),A\n→fault 22 line 2
 [m]\nexten => s,n(a)+1,A\n→fault 22 line 2
 [m]\nexten => s,2147483648(),A\n→fault 22 line 2

@@ -2,7 +2,7 @@
 
 /// Includes that load.
 pub(crate) const INCLUDES: &str = r"
-# Contexts that are there, before the line or behind it.
+# Contexts that are there, before the line or after it.
 [a]\n[b]\ninclude => a\n→[a][b]{+a}
 [a]\ninclude => b\n[b]\n→[a]{+b}[b]
 [a]\ninclude => b\n[b]\ninclude => a\n→[a]{+b}[b]{+a}
@@ -12,7 +12,7 @@ pub(crate) const INCLUDES: &str = r"
 [a]\ninclude =>\t two words \t\n[two words]\n→[a]{+two words}[two words]
 [a]\ninclude => x\\;y\n[x\\;y]\n→[a]{+x;y}[x;y]
 [a]\ninclude => \xC3\xA9\n[\xC3\xA9]\n→[a]{+é}[é]
-# Those of several sections of a context, behind its entries.
+# Those of several sections of a context, after its entries.
 [a]\ninclude => b\n[b]\n[a]\ninclude => a\n→[a]{+b}{+a}[b]
 [a]\ninclude => b\nexten => s,1,A\n[b]\n[a]\nexten => s,n,B\ninclude => b\n→[a]<s,1,A()><s,2,B()>{+b}{+b}[b]
 # A context that is not there is kept and noted.

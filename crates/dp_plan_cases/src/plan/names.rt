@@ -23,7 +23,7 @@ pub(crate) const PLAIN: &str = r#"
 [m]\nexten => ~,1,A\nexten => \\;,1,B\n→[m]<~,1,A()><;,1,B()>
 [m]\nexten => \xC3\xA9-\xC3\xA8,1,A\n→[m]<éè,1,A()>
 [m]\nexten =>\t s \t,1,A\n→[m]<s,1,A()>
-# A `$` is no variable without a `{` directly behind it.
+# A `$` is no variable without a `{` directly after it.
 [m]\nexten => $,1,A\nexten => {$,1,B\nexten => $},1,C\n→[m]<$,1,A()><{$,1,B()><$},1,C()>
 [m]\nexten => $[x],1,A\nexten => $[{],1,B\n→[m]<$[x],1,A()><$[{],1,B()>
 # A plain name is never the name of a pattern.
@@ -113,7 +113,7 @@ pub(crate) const NO_NAMES: &str = r"
 [m]\nexten => _[9-0,1,A\n→fault 13 line 2
 [m]\nexten => _[ 1,1,A\n→fault 13 line 2
 [m]\nexten => _[1,2],1,A\n→fault 13 line 2
-# What stands behind a wildcard.
+# What stands after a wildcard.
 [m]\nexten => _1.2,1,A\n→fault 14 line 2
 [m]\nexten => _.X,1,A\n→fault 14 line 2
 [m]\nexten => _!.,1,A\n→fault 14 line 2

@@ -38,7 +38,7 @@ pub(crate) const NEXT: &str = r"
 [m]\nexten => s,1,A\n[M]\nexten => s,n,B\n→fault 21 line 4
 [general]\nexten => s,1,A\n[m]\nexten => s,n,B\n→fault 21 line 4
 [m]\nexten => s,n,A\n[m]\nexten => s,1,B\n→fault 21 line 2
-# Behind the greatest priority it is refused.
+# After the greatest priority it is refused.
 [m]\nexten => s,2147483646,A\nexten => s,n,B\n→[m]<s,2147483646,A()><s,2147483647,B()>
 [m]\nexten => s,2147483647,A\nexten => s,n,B\n→fault 27 line 3
 # That is so as well where the line with the greatest priority was dropped, and only where it is the last one.
@@ -46,7 +46,7 @@ pub(crate) const NEXT: &str = r"
 [m]\nexten => s,2147483647,A\nexten => s,1,B\nexten => s,n,C\n→[m]<s,2147483647,A()><s,1,B()><s,2,C()>
 ";
 
-/// `same` takes the name of the last line `exten` behind the header of its section.
+/// `same` takes the name of the last line `exten` after the header of its section.
 pub(crate) const SAME: &str = r"
 [m]\nexten => s,1,A\nsame => n,B\n same => n,C(x,y)\n→[m]<s,1,A()><s,2,B()><s,3,C(x,y)>
 [m]\nexten => s,1,A\nSAME => n,B\nSame = n,C\n→[m]<s,1,A()><s,2,B()><s,3,C()>

@@ -18,6 +18,6 @@ pub(crate) const TAKEN: &str = r"
 # A line that is dropped takes no place, and counts for the next `n`.
 [m]\nexten => s,1,A\nexten => s,4,B\nexten => s,1,C\nexten => s,n,D\nexten => t,1,E\nexten => s,n,F\nexten => s,n,G\nexten => s,n,H\n→[m]<s,1,A()><s,4,B()><s,2,D()><t,1,E()><s,3,F()><s,5,H()> note 4 DoublePriority note 8 DoublePriority
 [m]\nexten => s,1(a),A\nexten => s,7(a),B\nexten => s,7,C\nexten => s,4,D\nexten => s,7,E\n→[m]<s,1(a),A()><s,7,C()><s,4,D()> note 3 DoubleLabel note 6 DoublePriority
-# Labels behind priorities that do not rise.
+# Labels after priorities that do not rise.
 [m]\nexten => s,2,A\nexten => s,1(a),B\nexten => s,3(a),C\nexten => t,1(a),D\nexten => s,3,E\nexten => s,2(b),F\nexten => s,4(b),G\n→[m]<s,2,A()><s,1(a),B()><t,1(a),D()><s,3,E()><s,4(b),G()> note 4 DoubleLabel note 7 DoublePriority
 ";

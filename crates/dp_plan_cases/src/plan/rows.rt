@@ -16,7 +16,7 @@ pub(super) const RANKED: &str = r"
 [general]\nstatic=yes\nwriteprotect=no\n\n[globals]\nTRUNK=Line/9\n\n[main]\nexten => _NXXXXXX,1,Answer()\n same => n,Playback(hello-world)\n same => n(q),Queue(support,c)\n same => n,Hangup()\ninclude => out\n→<_NXXXXXX,1><_NXXXXXX,2><_NXXXXXX,3><_NXXXXXX,4>
 ";
 
-/// Each line stands behind `[main]`, but for the one that stands before any section.
+/// Each line stands after `[main]`, but for the one that stands before any section.
 pub(crate) const FAULT_LINES: &str = r#"
 [main]\nexten => _,1,A\n→fault 10 line 2
 [main]\nexten => _[],1,A\n→fault 11 line 2

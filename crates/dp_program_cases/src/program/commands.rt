@@ -131,7 +131,7 @@ debug --explain --break main,s,1 @first @faulty.script→1→→fault 70 BadScri
 # Bytes that are not printed, a line of more than 200 bytes, and a mark at the front of the first.
 check --explain @odd→1→→fault 4 NoEquals line 2¶  @odd:2¶  a\\x09b\\x7f\\xc3\\xa9 c\\x0d¶  a line of a section with no `=`¶
 check --explain @wide→1→→fault 4 NoEquals line 2¶  @wide:2¶  xxxxxxxxxxxxxxxxxxxxxxxxxxxxxxxxxxxxxxxxxxxxxxxxxxxxxxxxxxxxxxxxxxxxxxxxxxxxxxxxxxxxxxxxxxxxxxxxxxxxxxxxxxxxxxxxxxxxxxxxxxxxxxxxxxxxxxxxxxxxxxxxxxxxxxxxxxxxxxxxxxxxxxxxxxxxxxxxxxxxxxxxxxxxxxxxxxxxxxxx¶  a line of a section with no `=`¶
-check --explain @marked→1→→fault 3 BadHeader line 1¶  @marked:1¶  \\xef\\xbb\\xbf[main¶  a header with no `]`, with an empty name, or with text behind the `]`¶
+check --explain @marked→1→→fault 3 BadHeader line 1¶  @marked:1¶  \\xef\\xbb\\xbf[main¶  a header with no `]`, with an empty name, or with text after the `]`¶
 # Faults that stand in no line.
 check --explain @missing→1→→fault 7 ReadFailed¶  a file could not be opened or read¶
 check --explain @long→1→→fault 8 TooLong¶  a file has more than 16,777,216 bytes¶
@@ -159,7 +159,7 @@ run @empty @empty→0→→
 run @notes @empty→0→→
 # A refused event.
 run @first @refused.script→1→refused 40 NoChannel¶started 1¶ran 1 main,100,1 NoOp -> ready main,100,2¶→
-# A faulty script, which stands behind a faulty dialplan.
+# A faulty script, which stands after a faulty dialplan.
 run @first @faulty.script→1→→fault 70 BadScript line 2¶
 run @faulty @faulty.script→1→→fault 4 NoEquals line 2¶
 # Both files are read before their texts.
@@ -252,7 +252,7 @@ debug --break main,100,2 @changing @changing.script→1→→fault 70 BadScript 
 debug --reload @unclosed --break main,s @changing @changing.script→1→→fault 71 BadBreak¶
 debug --reload @missing --break main,s @first @first.script→1→→fault 7 ReadFailed¶
 debug --reload @long --break main,s @first @missing→1→→fault 8 TooLong¶
-# A break that is none, behind the reading of all files and before their texts.
+# A break that is none, after the reading of all files and before their texts.
 debug --break main,s @first @first.script→1→→fault 71 BadBreak¶
 debug --break main,s @faulty @faulty.script→1→→fault 71 BadBreak¶
 debug --queues @faulty --break main,s,+1 @faulty @faulty.script→1→→fault 71 BadBreak¶
@@ -262,7 +262,7 @@ debug --queues @missing --break main,s @first @first.script→1→→fault 7 Rea
 debug --queues @long --break main,s @first @missing→1→→fault 8 TooLong¶
 debug --queues @missing --break main,s,1 @long @first.script→1→→fault 8 TooLong¶
 debug --queues @missing --break main,s,1 @first @long→1→→fault 7 ReadFailed¶
-# The texts behind it.
+# The texts after it.
 debug --break main,s,1 @faulty @faulty.script→1→→fault 4 NoEquals line 2¶
 debug --break main,s,1 @first @faulty.script→1→→fault 70 BadScript line 2¶
 debug --queues @faulty --break main,s,1 @first @faulty.script→1→→fault 4 NoEquals line 2¶

@@ -140,7 +140,7 @@ fn with_names(alloc: Global, folder: &str, text: &str) -> Result<String, NoMemor
     Ok(out)
 }
 
-/// Asserts the status of a command line and all that it prints, in one line, with `@NAME` for the path of a file. Behind a `←` stands the standard input.
+/// Asserts the status of a command line and all that it prints, in one line, with `@NAME` for the path of a file. After a `←` stands the standard input.
 pub(super) fn check_line<R: Files + Threads + Wait + Sync + Abort + AllocGlobal>(
     rt: &R,
     folder: &str,

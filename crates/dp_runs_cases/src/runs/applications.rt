@@ -6,15 +6,15 @@ use dp_rows::{check_answer, check_heading};
 use std::alloc::Global;
 use std::test::Fail;
 
-/// The dialplan of all cases behind `[main]`, up to the application at `main`, `s`, 1.
+/// The dialplan of all cases after `[main]`, up to the application at `main`, `s`, 1.
 const FRONT: &str =
     r"exten => s,3(here),NoOp()\nexten => 200,1(there),NoOp()\nexten => 200,3(here),NoOp()\n[out]\nexten => s,1,NoOp()\nexten => 200,5(off),NoOp()\n[sub]\nexten => s,1,NoOp()\nexten => s,2(two),Return(v)\n[globals]\nTWO=200,1\nOPEN=(\nCLOSE=)\nASK=1?200,1\nSIDES=3:200,1\nPAIR=X=7\nMEMBER=q,Line/7,5\nTIMED=q,c,,,30\n[main]\nexten => s,1,";
 
 /// The queues of all cases.
 const QUEUED: &str = r"[q]\nmember => Line/1\n[none]\njoinempty=no\n[Sales]\ncontext=out\n";
 
-/// A case is the application at `main`, `s`, 1, with lines behind it; then `¦` and the script behind a call of 555 to it and a
-/// step; then an arrow, and the trace behind `ran 1 main,s,1 `.
+/// A case is the application at `main`, `s`, 1, with lines after it; then `¦` and the script after a call of 555 to it and a
+/// step; then an arrow, and the trace after `ran 1 main,s,1 `.
 const JUMPS: &str = r#"
 # Labels of a target.
 Goto(here)¦→Goto -> ready main,s,3
@@ -164,7 +164,7 @@ GosubIf(1?a,b,c,d)¦→GosubIf -> ended
 GosubIf(1?sub,s,1(a)¦→GosubIf -> ended
 GosubIf(${ASK})¦→GosubIf -> ready main,200,1
 GosubIf(0?${SIDES})¦→GosubIf -> ready main,200,1
-# Ways back: the place behind the call, and the whole argument as it stands.
+# Ways back: the place after the call, and the whole argument as it stands.
 Gosub(sub,s,2)¦step 1\nshow 1 GOSUB_RETVAL→Gosub -> ready sub,s,2\nran 1 sub,s,2 Return -> ready main,s,2\nGOSUB_RETVAL=v
 GosubIf(1?sub,s,2)¦step 1\nshow 1 GOSUB_RETVAL→GosubIf -> ready sub,s,2\nran 1 sub,s,2 Return -> ready main,s,2\nGOSUB_RETVAL=v
 Gosub(r,s,1)\n[r]\nexten => s,1,Return( a , b )¦step 1\nshow 1 GOSUB_RETVAL→Gosub -> ready r,s,1\nran 1 r,s,1 Return -> ready main,s,2\nGOSUB_RETVAL= a , b 
@@ -186,7 +186,7 @@ Gosub(r,s,1(a))\n[r]\nexten => s,1,Gosub(2(b))\nexten => s,2,StackPop()\nexten =
 ";
 
 const SETTINGS: &str = r"
-# The name without its blanks, and the value as it stands behind the first sign.
+# The name without its blanks, and the value as it stands after the first sign.
 Set(A=1)¦show 1 A→Set -> ready main,s,2\nA=1
 Set( A =1)¦show 1 A→Set -> ready main,s,2\nA=1
 Set(A= 1 )¦show 1 A→Set -> ready main,s,2\nA= 1 
@@ -315,7 +315,7 @@ Dial(x,,,5)¦timeout 1→Dial -> dialling\nrefused 43 NoTimer
 Dial(x,0)¦timeout 1\nshow 1 DIALSTATUS→Dial -> dialling\nok 1 -> ready main,s,2\nDIALSTATUS=NOANSWER
 Dial(x,x)¦timeout 1→Dial -> dialling\nok 1 -> ready main,s,2
 Dial(${TIMED})¦timeout 1→Dial -> dialling\nok 1 -> ready main,s,2
-# An option `g` outside parentheses goes on behind the far side.
+# An option `g` outside parentheses goes on after the far side.
 Dial(x,,g)¦result 1 ANSWER→Dial -> dialling\nok 1 -> ready main,s,2
 Dial(x,,tg)¦result 1 ANSWER→Dial -> dialling\nok 1 -> ready main,s,2
 Dial(x,,U(a,b)g)¦result 1 ANSWER→Dial -> dialling\nok 1 -> ready main,s,2
@@ -461,7 +461,7 @@ fn status_of(trace: &str) -> u8 {
     }
 }
 
-/// The answer that is wanted to a case with this trace: the trace behind the call and its step, and the status.
+/// The answer that is wanted to a case with this trace: the trace after the call and its step, and the status.
 fn wanted(alloc: Global, trace: &str) -> Result<String, NoMemory> {
     format!(in alloc;
         "started 1\\nran 1 main,s,1 {trace}\\nstatus {}",
@@ -470,15 +470,15 @@ fn wanted(alloc: Global, trace: &str) -> Result<String, NoMemory> {
 }
 
 /// What the run of a case writes and ends with.
-fn run_of(alloc: Global, lines: &str, behind: &str) -> Result<String, NoMemory> {
+fn run_of(alloc: Global, lines: &str, after: &str) -> Result<String, NoMemory> {
     let plan = format!(in alloc; "{FRONT}{lines}")?;
-    let script = format!(in alloc; "start main s 555\\nstep 1\\n{behind}")?;
+    let script = format!(in alloc; "start main s 555\\nstep 1\\n{after}")?;
     answer_of(alloc, &plan, QUEUED, &script)
 }
 
 fn check_row(alloc: Global, asked: &str, trace: &str) -> Result<(), Fail> {
-    let (lines, behind) = asked.split_once('¦').ok_or("no script")?;
-    let got = run_of(alloc, lines, behind)?;
+    let (lines, after) = asked.split_once('¦').ok_or("no script")?;
+    let got = run_of(alloc, lines, after)?;
     let want = wanted(alloc, trace)?;
     check_answer(alloc, asked, &got, &want)
 }

@@ -8,7 +8,7 @@ use std::alloc::Global;
 use std::test::Fail;
 
 /// Worked cases. A case is a dialplan that begins in `[main]`, a file of queues and a script, parted by `¦`, and a second dialplan
-/// behind a further `¦`, where there is one; then an arrow, and the trace with the status behind it.
+/// after a further `¦`, where there is one; then an arrow, and the trace with the status after it.
 const ROWS: &str = r"
 # wildcards
 exten => s,1,WaitExten(5)\nexten => _1!,1,NoOp()\nexten => _1.,1,NoOp()¦¦start main s\nstep 1\ndigit 1 1\ntimeout 1→started 1\nran 1 main,s,1 WaitExten -> digits\nok 1 -> digits\nok 1 -> ready main,1,1\nstatus 0
@@ -104,7 +104,7 @@ exten => h,1,NoOp()¦¦start main s\nstep 1→started 1\nno entry 1 -> ready mai
 exten => h,1,Goto(s,1)\nexten => s,1,NoOp()\nexten => s,2,Background(x)¦¦start main 5\nhangup 1\nstep 1 3→started 1\nok 1 -> ready main,h,1\nran 1 main,h,1 Goto -> ready main,s,1\nran 1 main,s,1 NoOp -> ready main,s,2\nran 1 main,s,2 Background -> ended\nstatus 0
 exten => h,1,Queue(q)¦[q]¦start main s\nhangup 1\nstep 1\nshow 1 QUEUESTATUS→started 1\nok 1 -> ready main,h,1\nran 1 main,h,1 Queue -> ended\nQUEUESTATUS=\nstatus 0
 exten => h,1,Queue(none)\nexten => h,2,Queue(q)\nexten => h,3,NoOp()¦[q]\njoinempty=no¦start main s\nhangup 1\nstep 1\nshow 1 QUEUESTATUS\nstep 1\nshow 1 QUEUESTATUS→started 1\nok 1 -> ready main,h,1\nran 1 main,h,1 Queue -> ready main,h,2\nQUEUESTATUS=UNKNOWN\nran 1 main,h,2 Queue -> ready main,h,3\nQUEUESTATUS=JOINEMPTY\nstatus 0
-# The frames are gone behind a hang-up, and with them their locals; variables stay.
+# The frames are gone after a hang-up, and with them their locals; variables stay.
 exten => s,1,Gosub(f,s,1(x))\nexten => s,2,NoOp()\n[f]\nexten => s,1,Set(V=1)\nexten => s,2,NoOp()\nexten => h,1,Return()¦¦start main s\nstep 1 2\nshow 1 ARG1\nhangup 1\nshow 1 ARG1\nshow 1 V\nstep 1→started 1\nran 1 main,s,1 Gosub -> ready f,s,1\nran 1 f,s,1 Set -> ready f,s,2\nARG1=x\nok 1 -> ready f,h,1\nARG1=\nV=1\nran 1 f,h,1 Return -> ended\nstatus 0
 # In each phase.
 exten => s,1,Wait(1)¦¦start main s\nstep 1\nhangup 1→started 1\nran 1 main,s,1 Wait -> pause\nok 1 -> ended\nstatus 0
@@ -118,7 +118,7 @@ const QUEUES: &str = r"
 exten => s,1,Queue(q)¦[q]\nmember => A¦start main s\nstart main s\nstep 1\nstep 2\noffer q\noffer q\nhangup 1\nanswer A\noffer q\nanswer A→started 1\nstarted 2\nran 1 main,s,1 Queue -> queued q\nran 2 main,s,1 Queue -> queued q\noffered 1 1\nrefused 46 NoMember\nok 1 -> ended\nrefused 47 NotRinging\noffered 2 1\nok\nstatus 1
 # An agent that declines is idle, and is rung again.
 exten => s,1,Queue(q)¦[q]\nmember => A¦start main s\nstep 1\noffer q\ndecline A\ndecline A\noffer q\nanswer A\ndecline A→started 1\nran 1 main,s,1 Queue -> queued q\noffered 1 1\nok\nrefused 47 NotRinging\noffered 1 1\nok\nrefused 47 NotRinging\nstatus 1
-# Behind its agent a call ends, or goes on with the option `c`.
+# After its agent a call ends, or goes on with the option `c`.
 exten => s,1,Queue(q)\nexten => h,1,NoOp()¦[q]\nmember => A¦start main s\nstep 1\noffer q\nanswer A\nstep 1\ntimeout 1\npoll 1\ndigit 1 5\ndone A\ndone A\nstep 1→started 1\nran 1 main,s,1 Queue -> queued q\noffered 1 1\nok\nrefused 41 NotReady\nrefused 42 NotWaiting\nrefused 42 NotWaiting\nrefused 42 NotWaiting\nok\nrefused 48 NotTalking\nran 1 main,h,1 NoOp -> ready main,h,2\nstatus 1
 exten => s,1,Queue(q,tc)\nexten => s,2,NoOp()¦[q]\nmember => A¦start main s\nstep 1\noffer q\nanswer A\ndone A\nstep 1→started 1\nran 1 main,s,1 Queue -> queued q\noffered 1 1\nok\nok\nran 1 main,s,2 NoOp -> ready main,s,3\nstatus 0
 exten => s,1,Queue(q,C)\nexten => s,2,NoOp()¦[q]\nmember => A¦start main s\nstep 1\noffer q\nanswer A\ndone A\nstep 1→started 1\nran 1 main,s,1 Queue -> queued q\noffered 1 1\nok\nok\nrefused 49 Ended\nstatus 1
@@ -190,7 +190,7 @@ exten => s,1,A¦¦Done A→fault 70 BadScript line 1
 
 const TABLES: &[&str] = &[ROWS, DIALOGUES, ENDS, QUEUES, RELOADS, FAULTS, PAGES];
 
-/// All that a run of these texts writes, and what it ends with behind it.
+/// All that a run of these texts writes, and what it ends with after it.
 fn answer_to(alloc: Global, texts: &Texts) -> Result<String, NoMemory> {
     let mut writer = make_sink(alloc, 4096, None);
     let ended = run_script(

@@ -23,7 +23,7 @@ const SHOWS: &str = r"
 # A channel that is not there counts for the status, and the script goes on.
 ;; script\nshow 1 M\n→refused 40 NoChannel\nstatus 1
 ;; script\nshow 0 M\nstart main s\nshow 1 M\nshow 2 M\n→refused 40 NoChannel\nstarted 1\nM=\nrefused 40 NoChannel\nstatus 1
-# What the channel gives, also behind its end. It changes nothing.
+# What the channel gives, also after its end. It changes nothing.
 [main]\nexten => s,1,Hangup()\n;; script\nstart main s\nshow 1 CONTEXT\nshow 1 EXTEN\nshow 1 PRIORITY\nshow 1 CHANNEL\nstep 1\nshow 1 PRIORITY\n→started 1\nCONTEXT=main\nEXTEN=s\nPRIORITY=1\nCHANNEL=Channel/1\nran 1 main,s,1 Hangup -> ended\nPRIORITY=1\nstatus 0
 [main]\nexten => s,1,NoOp()\nexten => s,2,NoOp()\n;; script\nstart main s\nstart main 2-00\nstep 1\nshow 1 PRIORITY\nshow 2 EXTEN\nstep 1\n→started 1\nstarted 2\nran 1 main,s,1 NoOp -> ready main,s,2\nPRIORITY=2\nEXTEN=2-00\nran 1 main,s,2 NoOp -> ready main,s,3\nstatus 0
 # Global variables, of which the last value stands; names have their case, and may be those of functions.
@@ -123,7 +123,7 @@ const RELOADS: &str = r"
 const CALLS: &str = r"
 # Two calls that take turns.
 [main]\nexten => 1,1,NoOp()\nexten => 1,2,Hangup()\nexten => 2,1,Goto(1,2)\n;; script\nstart main 1\nstart main 2\nstep 2\nstep 1\nstep 2\nstep 1\n→started 1\nstarted 2\nran 2 main,2,1 Goto -> ready main,1,2\nran 1 main,1,1 NoOp -> ready main,1,2\nran 2 main,1,2 Hangup -> ended\nran 1 main,1,2 Hangup -> ended\nstatus 0
-# A call that begins behind the steps of another.
+# A call that begins after the steps of another.
 [main]\nexten => s,1,Goto(1)\n;; script\nstart main s\nstep 1 2\nstart main s\nstep 2\nstep 1\n→started 1\nran 1 main,s,1 Goto -> ready main,s,1\nran 1 main,s,1 Goto -> ready main,s,1\nstarted 2\nran 2 main,s,1 Goto -> ready main,s,1\nran 1 main,s,1 Goto -> ready main,s,1\nstatus 0
 # Places that are not there.
 [main]\nexten => s,1,Goto(9,1)\n;; script\nstart main s\nstep 1 2\n→started 1\nran 1 main,s,1 Goto -> ready main,9,1\nno entry 1 -> ended\nstatus 0
@@ -153,7 +153,7 @@ const CALLS: &str = r"
 /// How the events are written.
 const WORDS: &str = r"
 [main]\nexten => s,1,NoOp()\n;; script\nstart main s 5551234\nstep 1\n→started 1\nran 1 main,s,1 NoOp -> ready main,s,2\nstatus 0
-# A `;` behind words is a word: here the caller.
+# A `;` after words is a word: here the caller.
 [main]\nexten => s,1,NoOp()\n;; script\nstart main s ;\nstep 1\n→started 1\nran 1 main,s,1 NoOp -> ready main,s,2\nstatus 0
 [main]\nexten => s,1,NoOp()\n;; script\n\n  \n;\n;step 1\n \t; jump\nstart main s\nstep 1\n→started 1\nran 1 main,s,1 NoOp -> ready main,s,2\nstatus 0
 [main]\nexten => s,1,NoOp()\n;; script\n\tstart\t main  s \nstep\x001\x1F\n→started 1\nran 1 main,s,1 NoOp -> ready main,s,2\nstatus 0
@@ -265,7 +265,7 @@ const FAULTY_SCRIPTS: &str = r"
 ;; script\nstep 4294967296\n→fault 70 BadScript line 1
 ;; script\nstep 1 1 1\n→fault 70 BadScript line 1
 ;; script\nstart a b c d\n→fault 70 BadScript line 1
-# The line is counted in the script, from the line behind the separator.
+# The line is counted in the script, from the line after the separator.
 [main]\nexten => s,1,NoOp()\n;; script\nstart main s\n\n; x\njump 1\n→fault 70 BadScript line 4
 [main]\r\n\r\n;; script\r\nstart main s\r\nstep 1\r\nstep 1 2 3→fault 70 BadScript line 3
 # The first faulty line, and no event before it.

@@ -1,7 +1,8 @@
 //! Configuration texts with their items or their fault, worked out by hand from the rules.
-use dp_conf::{ConfFault, ConfLine, NoMemory, read_lines};
+use dp_conf::{ConfFault, Line, NoMemory, TakeLine, Text, take_lines};
 use dp_rows::{Question, bytes_of, check, check_all, text_of};
 use std::alloc::Global;
+use std::marker::Model;
 use std::test::Fail;
 
 /// Items as `1[name]` and `2{key}{value}`, one after another, or `fault CODE line L`.
@@ -76,26 +77,52 @@ abc→fault 2 line 1
 [m]\nabc\n;-- x\n[→fault 4 line 2
 "#;
 
-fn push_item(out: &mut String, item: &ConfLine) -> Result<(), NoMemory> {
-    match item {
-        ConfLine::Header { line, name } => write!(out, "{line}[{name}]"),
-        ConfLine::Pair { line, key, value } => write!(out, "{line}{{{key}}}{{{value}}}"),
+/// The items of a text as the rows show them, one after another. A contract sees nothing of them: the rows say all.
+#[derive(Drop)]
+struct Shown {
+    out: String,
+}
+
+impl Model for Shown {
+    ghost Value = { Unit {0} };
+
+    ghost view = { λ _. tt };
+}
+
+impl TakeLine for Shown {
+    ghost after_line = { λ shown _. shown };
+
+    fn take(&mut self, alloc: Global, line: Line<'_>) -> Result<(), NoMemory> {
+        match line {
+            Line::Header { line, name } => {
+                let name = Text::copy_of(alloc, name)?;
+                write!(self.out, "{line}[{name}]")
+            }
+            Line::Pair { line, key, value } => {
+                let key = Text::copy_of(alloc, key)?;
+                let value = Text::copy_of(alloc, value)?;
+                write!(self.out, "{line}{{{key}}}{{{value}}}")
+            }
+        }
     }
 }
 
-fn shown(alloc: Global, read: &Result<Vec<ConfLine>, ConfFault>) -> Result<String, NoMemory> {
+fn items_of(alloc: Global, text: &[u8]) -> Result<String, ConfFault> {
+    let out = String::new(alloc);
+    let mut shown = Shown { out };
+    take_lines(alloc, text, &mut shown)?;
+    let Shown { out } = shown;
+    Ok(out)
+}
+
+fn fault_text(alloc: Global, fault: &ConfFault) -> Result<String, NoMemory> {
     let mut out = String::new(alloc);
-    match read {
-        Ok(items) => {
-            for item in items {
-                push_item(&mut out, item)?;
-            }
-        }
-        Err(ConfFault::At { line, kind }) => {
+    match fault {
+        ConfFault::At { line, kind } => {
             let code = kind.code();
             write!(out, "fault {code} line {line}")?;
         }
-        Err(ConfFault::NoMemory) => out.push_str("out of memory")?,
+        ConfFault::NoMemory => out.push_str("out of memory")?,
     }
     Ok(out)
 }
@@ -106,13 +133,17 @@ struct Items;
 impl Question for Items {
     fn answer(alloc: Global, asked: &str) -> Result<String, Fail> {
         let text = bytes_of(alloc, asked)?;
-        let read = read_lines(alloc, &text);
-        let got = shown(alloc, &read)?;
-        Ok(got)
+        match items_of(alloc, &text) {
+            Ok(items) => Ok(items),
+            Err(fault) => {
+                let got = fault_text(alloc, &fault)?;
+                Ok(got)
+            }
+        }
     }
 }
 
-/// Each line stands behind `[main]`.
+/// Each line stands after `[main]`.
 const FAULT_LINES: &str = r#"
 [main]\nabc→fault 4 line 2
 [main]\n#include "x"→fault 5 line 2
@@ -129,8 +160,8 @@ const ESCAPED_SEMICOLONS: &str = r"
 ";
 
 fn have_same_items(alloc: Global, left: &[u8], right: &[u8]) -> Result<bool, Fail> {
-    let left = read_lines(alloc, left)?;
-    let right = read_lines(alloc, right)?;
+    let left = items_of(alloc, left)?;
+    let right = items_of(alloc, right)?;
     Ok(left == right)
 }
 

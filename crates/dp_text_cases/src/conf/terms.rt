@@ -70,16 +70,16 @@ pub(super) const NUMBERS: &str = r"
 
 fn push_cut(out: &mut String, cut: Option<(&[u8], &[u8])>) -> Result<(), NoMemory> {
     match cut {
-        Some((before, behind)) => {
+        Some((before, after)) => {
             push_bytes(out, before)?;
             out.push('|')?;
-            push_bytes(out, behind)
+            push_bytes(out, after)
         }
         None => out.push_str("none"),
     }
 }
 
-/// What stands before and behind the first comma.
+/// What stands before and after the first comma.
 pub(super) struct Cut;
 
 impl Question for Cut {

@@ -24,7 +24,7 @@ fn push_text(out: &mut String, alloc: Global, text: &Text, other: &[u8]) -> Resu
     push_same(out, text, &copy)
 }
 
-/// The text before the bar, whether its clone is the same, and whether a copy of what stands behind the bar is.
+/// The text before the bar, whether its clone is the same, and whether a copy of what stands after the bar is.
 pub(super) struct Same;
 
 impl Question for Same {

@@ -60,9 +60,9 @@ order -_X|_x→same
 order _1.-|_1.→same
 order X|_X→before
 order _[X]|_X→before
-order _[x]|_[X]→behind
+order _[x]|_[X]→after
 order _1.|_1!→before
-order _a|_A→behind
+order _a|_A→after
 ";
 
 /// The more specific name stands first.

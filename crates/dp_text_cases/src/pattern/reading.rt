@@ -63,7 +63,7 @@ parts 1-00→100
 parts _N[0-4]a.→[23456789][01234][a] dot
 parts _!→ bang
 parts _1-2→[1][2] end
-classes _N[0-4]a.→behind same
+classes _N[0-4]a.→after same
 ";
 
 const NAME_FAULTS: [NameFault; 6] = [

@@ -24,7 +24,7 @@ ${CALLERID(NUM)}→
 ${F(x)}→
 ${(x)}→
 ${(x):1}→
-# With no `)` behind the first `(` the value is empty, whatever stands behind the cut.
+# With no `)` after the first `(` the value is empty, whatever stands after the cut.
 ${F(}→
 ${LEN(abc}→
 ${LEN(abc:1}→

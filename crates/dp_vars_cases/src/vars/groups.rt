@@ -23,7 +23,7 @@ set A=${B} ; set B=v ; $[${A}]→${B}
 set A=$[1 + 1] ; ${A}→$[1 + 1]
 set A=$ ; set B=v ; ${A}{B}→${B}
 set A=} ; ${${A}→${}
-# An opening without its end is plain, and reading goes on behind it.
+# An opening without its end is plain, and reading goes on after it.
 ${→${
 $[→$[
 $[1→$[1

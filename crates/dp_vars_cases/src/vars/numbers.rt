@@ -5,7 +5,7 @@ use dp_rows::{Question, check_all};
 use std::alloc::Global;
 use std::test::Fail;
 
-/// The number of each name behind the last ` ; `, after the steps before it.
+/// The number of each name after the last ` ; `, after the steps before it.
 const NUMBERS: &str = r"
 # A name gets its number when it is first given, and keeps it when its frame goes.
 set A=1 ; push B=2 ; pop ; set C=3 ; set A=4 ; A B C D→0 1 2 -
@@ -51,7 +51,7 @@ fn numbers_of(alloc: Global, world: &World, names: &str) -> Result<String, NoMem
     Ok(out)
 }
 
-/// The numbers in a world of the names behind the last ` ; `, after the steps between those before it.
+/// The numbers in a world of the names after the last ` ; `, after the steps between those before it.
 fn numbers_in(alloc: Global, world: &mut World, asked: &str) -> Result<String, Fail> {
     let (steps, names) = asked.rsplit_once(" ; ").unwrap_or(("", asked));
     for step in steps.split(" ; ") {

@@ -21,7 +21,7 @@ returns-clause-exact c =
     let all : c.in_ok-list.list.items ≡ all_matching plan order text c.args.priority =
     c.in_ok-list.ensures ∙ ap (λ numbers. all_matching plan numbers text c.args.priority) c.contexts.ensures in
     let answer : c.answer_of.result ≡ found_entry plan order text c.args.priority =
-    c.answer_of.ensures ∙ (ap answer_of (c.deref.ensures.value ∙ all) ∙ answer-found plan c.entries_are_known.ensures.named c.entries_are_known.ensures.apart order text c.args.priority) in
+    c.answer_of.ensures ∙ (ap answer_of (c.deref.ensures.value ∙ all) ∙ answer-found plan c.show_entries_known.ensures.named c.show_entries_known.ensures.apart order text c.args.priority) in
     rw (← answer, ← all, ← c.deref-2.ensures.value) c.judged.ensures
 
 pub returns-clause-answer : goal.returns-clause-answer
@@ -33,7 +33,7 @@ returns-clause-answer c =
     let found = found_entry plan order text c.args.priority in
     weaker c.judged.result _ _
     (λ list same. ap (λ (l : List Candidate). option_map (λ (k : Candidate). k.id) (find answers l)) same
-    ∙ answer-judged found (all_matching plan order text c.args.priority) (answer-found plan c.entries_are_known.ensures.named c.entries_are_known.ensures.apart order text c.args.priority))
+    ∙ answer-judged found (all_matching plan order text c.args.priority) (answer-found plan c.show_entries_known.ensures.named c.show_entries_known.ensures.apart order text c.args.priority))
     (returns-clause-exact c)
 
 pub returns-clause-only : goal.returns-clause-only

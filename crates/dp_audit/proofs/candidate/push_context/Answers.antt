@@ -8,5 +8,5 @@ use Rattle.dp_audit.proofs.candidate.push_context.Goals as goal
 pub returns : goal.returns
 returns c =
     subst (λ (ids : List EntryId). OnOk c.push_matching.result (c.push_matching.new.list.items ≡ c.args.list.now.items ++ matching_in c.args.plan.now c.args.text.now c.args.priority ids))
-    (ranked_only c.args.plan.now c.entries_are_known.ensures.apart c.args.number c.ranked_at.result.now c.ranked_at.ensures)
+    (ranked_only c.args.plan.now c.show_entries_known.ensures.apart c.args.number c.ranked_at.result.now c.ranked_at.ensures)
     c.push_matching.ensures

@@ -1,8 +1,8 @@
 use Rattle.std.proofs.Common.{◌∙◌, ℕ, Bool, List, [], sym, subst}
 use Rattle.dp_lookup.specs.FoundEntry.{entries_at}
 use Rattle.dp_audit.specs.Findings.{has_greater, has_lower, some_first}
-use Rattle.dp_audit.specs.Firsts.{Adds}
-use Rattle.dp_audit.specs.Neighbours.{AreMarks}
+use Rattle.dp_audit.specs.steps.Firsts.{Adds}
+use Rattle.dp_audit.specs.steps.Neighbours.{AreMarks}
 use Rattle.dp_audit.proofs.findings.push_by_order.Goals as goal
 
 pub push_of_entries-requires-clause-scene : goal.push_of_entries-requires-clause-scene

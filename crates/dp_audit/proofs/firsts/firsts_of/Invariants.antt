@@ -1,6 +1,6 @@
 use Rattle.std.proofs.Common.{[], take}
 use Rattle.dp_audit.specs.Findings.{some_first}
-use Rattle.dp_audit.specs.Firsts.{Adds}
+use Rattle.dp_audit.specs.steps.Firsts.{Adds}
 use Rattle.dp_audit.proofs.firsts.firsts_of.Given as goal
 
 abbrev pub invariant-loop-number : goal.invariant-loop-number

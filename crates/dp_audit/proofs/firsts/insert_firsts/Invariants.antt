@@ -1,7 +1,7 @@
 use Rattle.std.proofs.Common.{take}
 use Rattle.std.specs.List.{list_any}
 use Rattle.dp_audit.specs.Findings.{is_first}
-use Rattle.dp_audit.specs.Firsts.{Adds}
+use Rattle.dp_audit.specs.steps.Firsts.{Adds}
 use Rattle.dp_audit.proofs.firsts.insert_firsts.Given as goal
 
 abbrev pub invariant-loop-entry : goal.invariant-loop-entry

@@ -1,5 +1,5 @@
-use Rattle.dp_audit.specs.Neighbours.{AreBehind}
+use Rattle.dp_audit.specs.steps.Neighbours.{AreAfter}
 use Rattle.dp_audit.proofs.neighbours.mark_all.Given as goal
 
 abbrev pub invariant-loop-place : goal.invariant-loop-place
-invariant-loop-place l = AreBehind l.entries l.ids l.shift l.place l.marks
+invariant-loop-place l = AreAfter l.entries l.ids l.shift l.place l.marks

@@ -1,6 +1,6 @@
 use Rattle.std.proofs.Common.{ap, ◌||◌, ◌∙◌}
 use Rattle.std.specs.List.{list_any}
-use Rattle.dp_audit.specs.Hiding.{same_place}
+use Rattle.dp_audit.specs.steps.Hiding.{same_place}
 use Rattle.dp_audit.proofs.HidingLemmas.{place_added}
 use Rattle.dp_audit.proofs.place.add_place.Goals as goal
 

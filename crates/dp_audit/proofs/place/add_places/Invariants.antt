@@ -1,6 +1,6 @@
 use Rattle.std.proofs.Common.{take}
 use Rattle.std.specs.List.{list_any}
-use Rattle.dp_audit.specs.Hiding.{Adds, is_at}
+use Rattle.dp_audit.specs.steps.Hiding.{Adds, is_at}
 use Rattle.dp_audit.proofs.place.add_places.Given as goal
 
 abbrev pub invariant-loop-entry : goal.invariant-loop-entry

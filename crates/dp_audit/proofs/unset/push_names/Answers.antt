@@ -15,10 +15,10 @@ pub loop-byte-preserved : goal.loop-byte-preserved
 loop-byte-preserved c =
     let items = c.loop-byte.findings.items in
     let noted = c.args.noted.now in
-    let behind = c.in-Some.behind.now in
-    ap (λ items. items ++ map (Unset c.args.id) (filter (lacks noted) (names_read behind)))
-    (c.in_ok-push_name.ensures ∙ ap (λ name. items ++ map (Unset c.args.id) (filter (lacks noted) (option_to_list name))) c.name_behind.ensures)
-    ∙ names_next noted (Unset c.args.id) items c.in-Some.byte.now behind
+    let after = c.in-Some.after.now in
+    ap (λ items. items ++ map (Unset c.args.id) (filter (lacks noted) (names_read after)))
+    (c.in_ok-push_name.ensures ∙ ap (λ name. items ++ map (Unset c.args.id) (filter (lacks noted) (option_to_list name))) c.name_after.ensures)
+    ∙ names_next noted (Unset c.args.id) items c.in-Some.byte.now after
     ∙ ap (λ text. items ++ map (Unset c.args.id) (filter (lacks noted) (names_read text))) (sym c.in-Some.ensures.cases.0)
     ∙ c.loop-byte.invariant
 

@@ -1,5 +1,5 @@
 use Rattle.std.specs.Prelude.{◌≡◌, ℕ, ◌<◌, true, take}
-use Rattle.dp_board.specs.Presence.{is_marked, unmarked_in}
+use Rattle.dp_board.specs.steps.Presence.{is_marked, unmarked_in}
 use Rattle.dp_board.proofs.presence.least_unmarked.Given as goal
 
 abbrev pub invariant-loop-number : goal.invariant-loop-number

@@ -1,6 +1,6 @@
 use Rattle.std.proofs.Common.{rules, ◌≡◌, ◌+◌, ◌<◌, ◌∷◌, ◌++◌, [], List, length, take, get_or, set, true, refl, sym, ap, subst, ◌∙◌, arith}
 use Rattle.std.proofs.lemmas.List.{take_more, length-set}
-use Rattle.dp_board.specs.Presence.{MarksSeats}
+use Rattle.dp_board.specs.steps.Presence.{MarksSeats}
 use Rattle.dp_board.specs.Sittings.{Sitting}
 use Rattle.dp_board.proofs.PresenceLemmas.{MarksSeats-more, unmarked-set}
 use Rattle.dp_board.proofs.presence.mark_seats.Goals as goal

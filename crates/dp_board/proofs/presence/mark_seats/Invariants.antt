@@ -1,5 +1,5 @@
 use Rattle.std.specs.Prelude.{◌≡◌, ◌+◌, ◌≤◌, length, take}
-use Rattle.dp_board.specs.Presence.{MarksSeats, unmarked_in}
+use Rattle.dp_board.specs.steps.Presence.{MarksSeats, unmarked_in}
 use Rattle.dp_board.proofs.presence.mark_seats.Given as goal
 
 abbrev pub invariant-loop-i : goal.invariant-loop-i

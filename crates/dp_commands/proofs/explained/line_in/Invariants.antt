@@ -1,7 +1,7 @@
 use Rattle.std.proofs.Common.{◌≡◌, [], slice_get, unwrap_or}
 use Rattle.dp_conf.specs.Lines.{parts_of}
 use Rattle.dp_commands.specs.Explained.{line_among}
-use Rattle.dp_commands.proofs.ScriptLemmas.{parts_left, left_len}
+use Rattle.dp_conf.proofs.LinesLemmas.{parts_left, left_len}
 use Rattle.dp_commands.proofs.explained.line_in.Given as goal
 
 abbrev pub invariant-loop-rest : goal.invariant-loop-rest

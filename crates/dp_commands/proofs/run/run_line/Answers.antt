@@ -7,7 +7,7 @@ use Rattle.dp_commands.specs.declared.script.Turn.{Turn}
 use Rattle.dp_commands.proofs.StreamsLemmas.{Streams-goes_on, Streams-stops, Streams-more}
 use Rattle.dp_commands.proofs.run.run_line.Goals as goal
 
--- a turn stopped behind the others
+-- a turn stopped after the others
 pub returns-in_err-refused-clause-streams : goal.returns-in_err-refused-clause-streams
 returns-in_err-refused-clause-streams g c =
     let step = g.T.Taker.step in
@@ -28,7 +28,7 @@ returns-in_err-refused-clause-streams g c =
     let p = err_from_is_err_and c.from_residual.result c.from_residual.ensures.1 in
     rw (p.1, p.2) (subst P whole (Streams-more step (c.args.taker.now, c.args.machine.now) (replicate i x ++ x ∷ []) (replicate left x) old new waited waits (c.run_turn.new.taker, c.run_turn.new.machine) fault stopped))
 
--- a turn goes on behind the others
+-- a turn goes on after the others
 pub loop-turn-preserved : goal.loop-turn-preserved
 loop-turn-preserved g c =
     let step = g.T.Taker.step in

@@ -14,7 +14,7 @@ use Rattle.dp_commands.proofs.run.run_lines.Goals as goal
 turns_of-push : (lines : List ScriptLine) (line : ScriptLine) → turns_of (lines ++ line ∷ []) ≡ turns_of lines ++ line_turns line
 turns_of-push lines line = flat_map-append line_turns lines (line ∷ []) ∙ ap (λ (ts : List Turn). turns_of lines ++ ts) (append-nil (line_turns line))
 
--- a line stopped behind the others
+-- a line stopped after the others
 pub returns-in_err-refused-clause-streams : goal.returns-in_err-refused-clause-streams
 returns-in_err-refused-clause-streams g c =
     let step = g.T.Taker.step in
@@ -36,7 +36,7 @@ returns-in_err-refused-clause-streams g c =
     let p = err_from_is_err_and c.from_residual.result c.from_residual.ensures.1 in
     rw (p.1, p.2) (subst P whole (Streams-more step (c.args.taker.now, c.args.machine.now) (turns_of (take i lines) ++ line_turns line) (turns_of (drop (i + 1) lines)) old new waited waits (c.run_line.new.taker, c.run_line.new.machine) fault stopped))
 
--- a line goes on behind the others
+-- a line goes on after the others
 pub loop-line-preserved : goal.loop-line-preserved
 loop-line-preserved g c =
     let step = g.T.Taker.step in

@@ -2,7 +2,8 @@ use Rattle.std.proofs.Common.{◌≡◌, ◌+◌, ◌≤◌, length}
 use Rattle.std.specs.Option.{option_map}
 use Rattle.dp_conf.specs.Answers.{with_front, all_of}
 use Rattle.dp_commands.specs.Script.{script_of}
-use Rattle.dp_commands.proofs.ScriptLemmas.{readings_from, parts_left, left_len}
+use Rattle.dp_conf.proofs.LinesLemmas.{parts_left, left_len}
+use Rattle.dp_commands.proofs.ScriptLemmas.{readings_from}
 use Rattle.dp_commands.proofs.script.read_lines.Given as goal
 
 abbrev pub invariant-loop-rest : goal.invariant-loop-rest

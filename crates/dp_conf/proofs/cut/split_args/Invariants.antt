@@ -1,7 +1,8 @@
 use Rattle.std.proofs.Common.{◌≡◌, ◌++◌, map}
 use Rattle.dp_conf.specs.Blanks.{trim}
 use Rattle.dp_conf.specs.Levels.{parts_of}
-use Rattle.dp_conf.proofs.LevelLemmas.{parts_left, left_len}
+use Rattle.dp_conf.proofs.LevelLemmas.{parts_left}
+use Rattle.dp_conf.proofs.LinesLemmas.{left_len}
 use Rattle.dp_conf.proofs.cut.split_args.Given as goal
 
 abbrev pub invariant-loop-rest : goal.invariant-loop-rest

@@ -2,7 +2,7 @@ use Rattle.std.proofs.Common.{◌≡◌, false, eqb, ap, ◌∙◌, sym, arith, 
 use Rattle.std.specs.List.{list_any}
 use Rattle.dp_conf.specs.Groups.{depth_of}
 use Rattle.dp_conf.specs.GroupsRead.{levels, nesting_of}
-use Rattle.dp_conf.specs.Nest.{kinds_of}
+use Rattle.dp_conf.specs.steps.Nest.{kinds_of}
 use Rattle.dp_conf.proofs.GroupsLemmas.{one_reading}
 use Rattle.dp_conf.proofs.NestLemmas.{come, come-mark, come-over, come-text, come-above, nesting_of-length}
 use Rattle.dp_conf.proofs.PlainNest.{nesting_of-plain}
@@ -34,8 +34,8 @@ take-requires c =
 
 pub loop-mark-preserved : goal.loop-mark-preserved
 loop-mark-preserved c =
-    ap (λ nest. come nest.waiting nest.deepest (levels c.in-Some.behind.now (kinds_of nest.waiting) 0)) c.in_ok-take.ensures
-    ∙ come-mark c.in-Some.mark c.loop-mark.nest (levels c.in-Some.behind.now)
+    ap (λ nest. come nest.waiting nest.deepest (levels c.in-Some.after.now (kinds_of nest.waiting) 0)) c.in_ok-take.ensures
+    ∙ come-mark c.in-Some.mark c.loop-mark.nest (levels c.in-Some.after.now)
     ∙ ap (come c.loop-mark.nest.waiting c.loop-mark.nest.deepest)
     (sym (c.in-Some.ensures.marked (kinds_of c.loop-mark.nest.waiting) (sym c.innermost.ensures)))
     ∙ c.loop-mark.invariant

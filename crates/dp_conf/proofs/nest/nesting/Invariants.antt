@@ -1,6 +1,6 @@
 use Rattle.std.proofs.Common.{◌≡◌, length}
 use Rattle.dp_conf.specs.GroupsRead.{levels, nesting_of}
-use Rattle.dp_conf.specs.Nest.{kinds_of}
+use Rattle.dp_conf.specs.steps.Nest.{kinds_of}
 use Rattle.dp_conf.proofs.NestLemmas.{come}
 use Rattle.dp_conf.proofs.nest.nesting.Given as goal
 

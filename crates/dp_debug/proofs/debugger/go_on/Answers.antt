@@ -3,7 +3,7 @@ use Rattle.std.specs.List.{slice_range}
 use Rattle.std.proofs.lemmas.Bool.{cases_lt}
 use Rattle.std.proofs.lemmas.List.{append_assoc}
 use Rattle.dp_machine.specs.Events.{event_row}
-use Rattle.dp_machine.specs.Replay.{replies_to, world_after, world_behind}
+use Rattle.dp_machine.specs.Replay.{replies_to, world_after, final_world}
 use Rattle.dp_machine.specs.World.{World}
 use Rattle.dp_machine.proofs.ReplayLemmas.{replies_to-push, world_after-push}
 use Rattle.dp_debug.specs.Cut.{IsWhy, first_at}
@@ -39,7 +39,7 @@ loop-taken-preserved g c =
     record {
       world =
           c.in_default.ensures.world
-          ∙ (ap (λ (now : World). world_behind rows now event) met
+          ∙ (ap (λ (now : World). final_world rows now event) met
           ∙ (sym (world_after-push rows w so_far event) ∙ ap (world_after rows w) (sym more)));
       replies =
           c.in_default.ensures.trace

@@ -1,5 +1,5 @@
 use Rattle.std.proofs.Common.{◌≡◌, IfOk, sym, ap, subst, ◌∙◌, List, ℕ}
-use Rattle.dp_expr.specs.Texts.{value_seen}
+use Rattle.dp_expr.specs.steps.Texts.{value_seen}
 use Rattle.dp_expr.specs.Values.{answer}
 use Rattle.dp_expr.specs.Expression.{expression_value}
 use Rattle.dp_expr.proofs.Readings.{expression_value-reading, expression_value-none}

@@ -1,6 +1,6 @@
 use Rattle.std.proofs.Common.{ap, sym, subst, ◌∙◌, ◌∷◌, List, ℕ, arith}
 use Rattle.dp_expr.specs.Tokens.{tokens_of}
-use Rattle.dp_expr.specs.Seen.{token_seen, cut_seen, IsStart}
+use Rattle.dp_expr.specs.steps.Seen.{token_seen, cut_seen, IsStart}
 use Rattle.dp_expr.proofs.TokensLemmas.{tokens_of-cut, tokens_of-empty}
 use Rattle.dp_expr.proofs.token.next_token.Goals as goal
 

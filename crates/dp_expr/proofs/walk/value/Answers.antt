@@ -1,8 +1,8 @@
 use Rattle.std.proofs.Common.{None, unwrap_or, sym, ap, ◌∙◌}
 use Rattle.dp_expr.specs.Tokens.{tokens_of}
 use Rattle.dp_expr.specs.Walk.{walk, values}
-use Rattle.dp_expr.specs.Frames.{frames_seen}
-use Rattle.dp_expr.specs.Places.{place_seen}
+use Rattle.dp_expr.specs.steps.Frames.{frames_seen}
+use Rattle.dp_expr.specs.steps.Places.{place_seen}
 use Rattle.dp_expr.proofs.walk.value.Goals as goal
 
 pub loop-token-preserved : goal.loop-token-preserved

@@ -10,4 +10,4 @@ returns-clause-value c = rw (← c.contexts.ensures) (c.is_some.ensures ∙ ap i
 
 pub returns-clause-found : goal.returns-clause-found
 returns-clause-found c =
-    rw (returns-clause-value c) (goes_on_more-some c.args.plan.now c.args.order.now.contexts c.args.text.now c.entries_are_known.ensures.named)
+    rw (returns-clause-value c) (goes_on_more-some c.args.plan.now c.args.order.now.contexts c.args.text.now c.show_entries_known.ensures.named)

@@ -10,4 +10,4 @@ pub returns-clause-found : goal.returns-clause-found
 returns-clause-found c = rw (returns-clause-value c) (found_entry-least c.args.plan.now c.args.order.now.contexts c.args.text.now c.args.priority)
 
 pub returns-clause-once : goal.returns-clause-once
-returns-clause-once c = found_once c.args.plan.now c.args.order.now.contexts c.args.text.now c.args.priority c.entries_are_known.ensures.apart
+returns-clause-once c = found_once c.args.plan.now c.args.order.now.contexts c.args.text.now c.args.priority c.show_entries_known.ensures.apart

@@ -1,6 +1,6 @@
 use Rattle.std.proofs.Common.{◌≡◌, drop}
 use Rattle.dp_lookup.specs.FoundEntry.{found_by}
-use Rattle.dp_lookup.specs.Questions.{asks}
+use Rattle.dp_lookup.specs.steps.Questions.{asks}
 use Rattle.dp_lookup.proofs.look_up.find_first.Given as goal
 
 abbrev pub invariant-loop-number : goal.invariant-loop-number

@@ -1,5 +1,5 @@
 use Rattle.std.proofs.Common.{◌∙◌}
-use Rattle.dp_lookup.specs.Questions.{asks}
+use Rattle.dp_lookup.specs.steps.Questions.{asks}
 use Rattle.dp_lookup.proofs.RankedLemmas.{first_is_least}
 use Rattle.dp_lookup.proofs.look_up.find_in.Goals as goal
 

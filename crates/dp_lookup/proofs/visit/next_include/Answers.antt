@@ -2,7 +2,7 @@ use Rattle.std.proofs.Common.{◌∷◌, ◌∙◌, refl, sym, ap, arith}
 use Rattle.std.specs.Prelude.{slice_get}
 use Rattle.std.proofs.lemmas.Option.{slice_get_read, slice_get_past}
 use Rattle.dp_lookup.specs.SearchOrder.{link_of}
-use Rattle.dp_lookup.specs.Filling.{pending}
+use Rattle.dp_lookup.specs.steps.Filling.{pending}
 use Rattle.dp_lookup.proofs.FillingLemmas.{next_some, next_none}
 use Rattle.dp_lookup.proofs.visit.next_include.Goals as goal
 

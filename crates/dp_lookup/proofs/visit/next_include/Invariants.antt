@@ -1,5 +1,5 @@
 use Rattle.std.proofs.Common.{◌≡◌, ◌≤◌, vec_len, vec_capacity}
-use Rattle.dp_lookup.specs.Filling.{pending}
+use Rattle.dp_lookup.specs.steps.Filling.{pending}
 use Rattle.dp_lookup.proofs.visit.next_include.Given as goal
 
 abbrev pub invariant-loop-frame : goal.invariant-loop-frame

@@ -1,6 +1,6 @@
 use Rattle.std.proofs.Common.{◌≡◌, [], fold, vec_capacity}
 use Rattle.dp_lookup.specs.SearchOrder.{visit}
-use Rattle.dp_lookup.specs.Filling.{pending, work, IsFilling}
+use Rattle.dp_lookup.specs.steps.Filling.{pending, work, IsFilling}
 use Rattle.dp_lookup.proofs.visit.visit_all.Given as goal
 
 abbrev pub invariant-loop-name : goal.invariant-loop-name

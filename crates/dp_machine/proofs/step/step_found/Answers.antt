@@ -1,9 +1,9 @@
 use Rattle.std.proofs.Common.{◌≤◌, IfSome, ap, refl, subst, sym}
-use Rattle.dp_app.specs.Laws.{most_priority}
+use Rattle.dp_app.specs.Lawful.{most_priority}
 use Rattle.dp_app.specs.declared.place.Place.{Place}
 use Rattle.dp_machine.specs.Events.{Applied}
 use Rattle.dp_machine.specs.Seen.{arguments_seen}
-use Rattle.dp_machine.specs.Templates.{IsOf}
+use Rattle.dp_machine.specs.steps.Templates.{IsOf}
 use Rattle.dp_machine.proofs.LookupLemmas.{found_there, stands_there, within_most}
 use Rattle.dp_machine.proofs.StepLemmas.{follows-found, ready_may_run, went_sound}
 use Rattle.dp_machine.proofs.step.step_found.Goals as goal

@@ -7,6 +7,6 @@ returns-in-None c = from_first-ends c.from_first.result.now c.args.text.now c.fr
 
 pub returns-in-Some : goal.returns-in-Some
 returns-in-Some c = (
-  from_first-begins c.args.text.now c.in-Some.behind.now c.in-Some.digit.now (sym c.from_first.ensures ∙ c.in-Some.ensures.cases.0),
+  from_first-begins c.args.text.now c.in-Some.after.now c.in-Some.digit.now (sym c.from_first.ensures ∙ c.in-Some.ensures.cases.0),
   omega (arith, length-from_first c.args.text.now, ap length c.from_first.ensures, c.in-Some.ensures.cases.1),
 )

@@ -7,12 +7,12 @@ use Rattle.dp_pattern.proofs.reading.read_parts.Goals as goal
 
 pub returns-in-Wild : goal.returns-in-Wild
 returns-in-Wild c =
-    let cut : pieces_of c.loop-piece.rest.now ≡ Wild c.in-Wild.tail ∷ pieces_of c.in-Some.behind.now = search rules in
-    let dashes : list_all is_dash c.in-Some.behind.now ≡ true = search rules in
-    ends_wild _ _ _ c.in-Some.behind.now _ c.loop-piece.invariant cut dashes
+    let cut : pieces_of c.loop-piece.rest.now ≡ Wild c.in-Wild.tail ∷ pieces_of c.in-Some.after.now = search rules in
+    let dashes : list_all is_dash c.in-Some.after.now ≡ true = search rules in
+    ends_wild _ _ _ c.in-Some.after.now _ c.loop-piece.invariant cut dashes
 
 pub returns-in-Wild-2 : goal.returns-in-Wild-2
 returns-in-Wild-2 c =
-    let cut : pieces_of c.loop-piece.rest.now ≡ Wild c.in-Wild-2.field-0 ∷ pieces_of c.in-Some.behind.now = search rules in
-    let dashes : list_all is_dash c.in-Some.behind.now ≡ false = search rules in
-    ends_wild-fault _ _ _ c.in-Some.behind.now _ c.loop-piece.invariant cut dashes
+    let cut : pieces_of c.loop-piece.rest.now ≡ Wild c.in-Wild-2.field-0 ∷ pieces_of c.in-Some.after.now = search rules in
+    let dashes : list_all is_dash c.in-Some.after.now ≡ false = search rules in
+    ends_wild-fault _ _ _ c.in-Some.after.now _ c.loop-piece.invariant cut dashes

@@ -10,10 +10,10 @@ loop-place-preserved c =
     let place = c.loop-place.place in
     let front = c.loop-place.bytes.items in
     let here = members_in (slice_index words place) (64 * place) in
-    let behind = members_from (has_bit words) (64 * (place + 1)) in
+    let after = members_from (has_bit words) (64 * (place + 1)) in
     let pushed : c.push_word.new.bytes.items ≡ front ++ here = search rules in
-    ap (λ xs. xs ++ behind) pushed
-    ∙ append_assoc front here behind
+    ap (λ xs. xs ++ after) pushed
+    ∙ append_assoc front here after
     ∙ ap (λ xs. front ++ xs) (sym (members_from-word words place (omega arith)))
     ∙ c.loop-place.invariant
 

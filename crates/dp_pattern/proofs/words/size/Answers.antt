@@ -10,8 +10,8 @@ loop-word-preserved c =
     let words = c.args.words.now in
     let place = c.loop-word.word-index in
     let here = members_in (slice_index words place) (64 * place) in
-    let behind = members_from (has_bit words) (64 * (place + 1)) in
-    let sizes = ap length (members_from-word words place (omega arith)) ∙ length-append here behind in
+    let after = members_from (has_bit words) (64 * (place + 1)) in
+    let sizes = ap length (members_from-word words place (omega arith)) ∙ length-append here after in
     let ones = length-members_in (slice_index words place) (64 * place) (search rules) in
     record {
       bound = omega (arith, ones-le 64 (slice_index words place) (search rules));

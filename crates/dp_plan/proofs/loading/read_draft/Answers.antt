@@ -1,19 +1,11 @@
-use Rattle.dp_conf.specs.Lines.{lines_of}
-use Rattle.dp_conf.proofs.AnswersLemmas.{Refuses-passed_on}
-use Rattle.dp_plan.specs.Faults.{reason_of}
-use Rattle.dp_plan.specs.Loading.{text_behind, drafted_of}
-use Rattle.dp_plan.proofs.LoadingLemmas.{drafted_of-reached, drafted_of-refused}
+use Rattle.std.proofs.lemmas.Result.{err_from_is_err_and}
+use Rattle.dp_plan.proofs.LoadingLemmas.{drafted_of-taken, Refuses-text}
 use Rattle.dp_plan.proofs.loading.read_draft.Goals as goal
 
-pub returns-in-Ok : goal.returns-in-Ok
-returns-in-Ok c =
-    let drafted = drafted_of-reached c.args.text.now c.new-loading.result c.take_text.new.loading c.new-loading.ensures c.in-Ok.ensures in
-    rw drafted c.into_draft.ensures
+pub returns : goal.returns
+returns c = rw (drafted_of-taken c.args.text.now c.new-loading.result c.take_lines.new.taker c.new-loading.ensures c.in_ok-take_lines.ensures) c.into_draft.ensures
 
-pub returns-in-Err : goal.returns-in-Err
-returns-in-Err c =
-    let text = c.args.text.now in
-    let before = c.new-loading.result in
-    Refuses-passed_on (reason_of c.in-Err.fault) (text_behind before (lines_of text)) (drafted_of text)
-    (λ fault e. drafted_of-refused text before fault c.new-loading.ensures e)
-    c.in-Err.ensures
+pub returns-in_err-take_lines : goal.returns-in_err-take_lines
+returns-in_err-take_lines c =
+    let p = err_from_is_err_and c.from_residual.result c.from_residual.ensures.1 in
+    rw (p.1, p.2) (Refuses-text c.args.text.now c.new-loading.result c.in_err-take_lines.field-0.0 c.in_err-take_lines.ensures)

@@ -1,5 +1,5 @@
 use Rattle.std.proofs.Common.{◌∙◌, ap}
-use Rattle.dp_plan.specs.Places.{slots_in}
+use Rattle.dp_plan.specs.steps.Places.{slots_in}
 use Rattle.dp_plan.proofs.PlaceLemmas.{inserted_free}
 use Rattle.dp_plan.proofs.places.keep.Goals as goal
 

@@ -1,6 +1,6 @@
 use Rattle.std.proofs.Common.{◌≡◌, take}
 use Rattle.std.specs.List.{flat_map}
-use Rattle.dp_plan.specs.Draft.{settled}
+use Rattle.dp_plan.specs.steps.Draft.{settled}
 use Rattle.dp_plan.proofs.remark.settle.Given as goal
 
 abbrev pub invariant-loop-remark : goal.invariant-loop-remark

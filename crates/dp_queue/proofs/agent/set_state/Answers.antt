@@ -1,7 +1,7 @@
 use Rattle.std.proofs.Common.{◌≡◌, ◌<◌, ◌≤◌, false, true, length, refl, sym, ⊎_elim, arith}
 use Rattle.std.proofs.lemmas.Bool.{cases_lt}
 use Rattle.dp_queue.specs.Agents.{with_state}
-use Rattle.dp_queue.proofs.ChangeLemmas.{changed_at-set, changed_at-past}
+use Rattle.dp_conf.proofs.ChangesLemmas.{changed_at-set, changed_at-past}
 use Rattle.dp_queue.proofs.agent.set_state.Goals as goal
 
 pub returns-in-Some : goal.returns-in-Some

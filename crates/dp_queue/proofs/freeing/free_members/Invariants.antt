@@ -1,6 +1,6 @@
 use Rattle.std.proofs.Common.{◌≡◌}
 use Rattle.dp_queue.specs.Agents.{all_freed}
-use Rattle.dp_queue.specs.Seats.{rung_count}
+use Rattle.dp_queue.specs.steps.Seats.{rung_count}
 use Rattle.dp_queue.proofs.freeing.free_members.Given as goal
 
 abbrev pub invariant-loop-member : goal.invariant-loop-member

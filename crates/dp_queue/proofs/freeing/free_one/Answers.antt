@@ -1,6 +1,6 @@
 use Rattle.std.proofs.Common.{◌≡◌, suc, true, refl, sym, ap, ◌∙◌, arith}
 use Rattle.dp_queue.specs.Agents.{all_freed, rings_for, state_at}
-use Rattle.dp_queue.specs.Seats.{rung_count}
+use Rattle.dp_queue.specs.steps.Seats.{rung_count}
 use Rattle.dp_queue.specs.declared.agent.AgentState.TheVariants.{Idle}
 use Rattle.dp_queue.proofs.AgentLemmas.{all_freed-idle, rung-less}
 use Rattle.dp_queue.proofs.freeing.free_one.Goals as goal

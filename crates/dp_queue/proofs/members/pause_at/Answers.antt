@@ -1,6 +1,6 @@
 use Rattle.std.proofs.Common.{◌<◌, length, arith}
 use Rattle.dp_queue.specs.Members.{paused_member}
-use Rattle.dp_queue.proofs.ChangeLemmas.{changed_at-set}
+use Rattle.dp_conf.proofs.ChangesLemmas.{changed_at-set}
 use Rattle.dp_queue.proofs.members.pause_at.Goals as goal
 
 pub returns : goal.returns

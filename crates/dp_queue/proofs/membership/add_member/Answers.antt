@@ -1,5 +1,5 @@
 use Rattle.std.proofs.Common.{◌≡◌, true, length, ap, ◌∙◌, arith}
-use Rattle.dp_queue.specs.Changes.{changed_at}
+use Rattle.dp_conf.specs.Changes.{changed_at}
 use Rattle.dp_queue.specs.Members.{is_agent, is_member_at, with_member, without_member}
 use Rattle.dp_queue.specs.declared.member.Member.{Member}
 use Rattle.dp_queue.proofs.ChangeLemmas.{length-changed_at}

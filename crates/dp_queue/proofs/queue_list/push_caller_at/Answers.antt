@@ -1,6 +1,7 @@
 use Rattle.std.proofs.Common.{◌<◌, length, arith}
 use Rattle.dp_queue.specs.Joining.{with_caller}
-use Rattle.dp_queue.proofs.ChangeLemmas.{changed_at-set, on_ok}
+use Rattle.dp_conf.proofs.ChangesLemmas.{changed_at-set}
+use Rattle.dp_queue.proofs.ChangeLemmas.{on_ok}
 use Rattle.dp_queue.proofs.queue_list.push_caller_at.Goals as goal
 
 pub returns-clause-ok : goal.returns-clause-ok

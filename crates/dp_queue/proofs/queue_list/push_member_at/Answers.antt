@@ -2,7 +2,8 @@ use Rattle.std.proofs.Common.{◌≡◌, ◌<◌, Some, false, refl, sym, ap, �
 use Rattle.std.proofs.lemmas.Option.{slice_get_read}
 use Rattle.std.specs.Option.{option_map, unwrap_or}
 use Rattle.dp_queue.specs.Members.{has_member, with_member}
-use Rattle.dp_queue.proofs.ChangeLemmas.{changed_at-set, on_ok}
+use Rattle.dp_conf.proofs.ChangesLemmas.{changed_at-set}
+use Rattle.dp_queue.proofs.ChangeLemmas.{on_ok}
 use Rattle.dp_queue.proofs.queue_list.push_member_at.Goals as goal
 
 pub push_member-requires : goal.push_member-requires

@@ -1,7 +1,7 @@
 use Rattle.std.proofs.Common.{◌≡◌, ◌<◌, Some, refl, length, slice_get, arith}
 use Rattle.std.proofs.lemmas.Option.{slice_get_read}
 use Rattle.dp_queue.specs.Joining.{without_caller}
-use Rattle.dp_queue.proofs.ChangeLemmas.{changed_at-set}
+use Rattle.dp_conf.proofs.ChangesLemmas.{changed_at-set}
 use Rattle.dp_queue.proofs.StandsLemmas.{times-of}
 use Rattle.dp_queue.proofs.queue_list.remove_caller_at.Goals as goal
 

@@ -1,6 +1,6 @@
 use Rattle.std.proofs.Common.{◌<◌, length, arith}
 use Rattle.dp_queue.specs.Choices.{with_last}
-use Rattle.dp_queue.proofs.ChangeLemmas.{changed_at-set}
+use Rattle.dp_conf.proofs.ChangesLemmas.{changed_at-set}
 use Rattle.dp_queue.proofs.queue_list.set_last_at.Goals as goal
 
 pub returns : goal.returns

@@ -1,6 +1,6 @@
 use Rattle.std.proofs.Common.{sym, subst, map}
 use Rattle.dp_pattern.specs.Name.{Meaning}
-use Rattle.dp_trie.specs.Ranked.{known_now, IsGroup}
+use Rattle.dp_trie.specs.steps.Ranked.{known_now, IsGroup}
 use Rattle.dp_trie.proofs.BuildLemmas.{built-push}
 use Rattle.dp_trie.proofs.build.build_nodes.Goals as goal
 

@@ -1,4 +1,4 @@
-use Rattle.dp_trie.specs.Digits.{Stands}
+use Rattle.dp_trie.specs.steps.Digits.{Stands}
 use Rattle.dp_trie.proofs.digits.go_back.Given as goal
 
 abbrev pub invariant-loop-cursor : goal.invariant-loop-cursor

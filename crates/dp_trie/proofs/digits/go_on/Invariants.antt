@@ -1,5 +1,5 @@
 use Rattle.std.proofs.Common.{◌≤◌, ◌-◌, length}
-use Rattle.dp_trie.specs.Digits.{Stands}
+use Rattle.dp_trie.specs.steps.Digits.{Stands}
 use Rattle.dp_trie.proofs.digits.go_on.Given as goal
 
 abbrev pub invariant-loop-byte : goal.invariant-loop-byte

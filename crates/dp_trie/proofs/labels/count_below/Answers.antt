@@ -2,7 +2,7 @@ use Rattle.std.proofs.Common.{rules}
 use Rattle.std.specs.Prelude.{nat_lt}
 use Rattle.std.proofs.lemmas.List.Sorted.{IsPartitionPoint-from_clause}
 use Rattle.dp_pattern.specs.Dashes.{undashed}
-use Rattle.dp_trie.specs.Labels.{name_rank}
+use Rattle.dp_trie.specs.steps.Labels.{name_rank}
 use Rattle.dp_trie.specs.declared.labels.Labelled.{Labelled}
 use Rattle.dp_trie.proofs.LabelLemmas.{labels-parted}
 use Rattle.dp_trie.proofs.PointLemmas.{below-point, above-point}

@@ -3,7 +3,7 @@ use Rattle.std.specs.Prelude.{slice_get, find}
 use Rattle.std.specs.Option.{option_map}
 use Rattle.std.proofs.lemmas.Option.{slice_get_read, slice_get_past, same_Some}
 use Rattle.dp_pattern.specs.Dashes.{undashed}
-use Rattle.dp_trie.specs.Labels.{is_matched}
+use Rattle.dp_trie.specs.steps.Labels.{is_matched}
 use Rattle.dp_trie.specs.declared.labels.Labelled.{Labelled}
 use Rattle.dp_trie.proofs.LabelLemmas.{none-below, none-plain}
 use Rattle.dp_trie.proofs.PointLemmas.{find-here, find-past}

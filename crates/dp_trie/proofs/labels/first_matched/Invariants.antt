@@ -1,7 +1,7 @@
 use Rattle.std.proofs.Common.{◌≡◌, drop}
 use Rattle.std.specs.List.{find}
 use Rattle.dp_pattern.specs.Dashes.{undashed}
-use Rattle.dp_trie.specs.Labels.{is_matched}
+use Rattle.dp_trie.specs.steps.Labels.{is_matched}
 use Rattle.dp_trie.specs.declared.labels.Labelled.{Labelled}
 use Rattle.dp_trie.proofs.labels.first_matched.Given as goal
 

@@ -1,5 +1,5 @@
 use Rattle.std.proofs.Common.{map, rules}
-use Rattle.dp_trie.specs.Ranked.{known_now}
+use Rattle.dp_trie.specs.steps.Ranked.{known_now}
 use Rattle.dp_trie.proofs.LabelLemmas.{labels-sorted}
 use Rattle.dp_trie.proofs.labels.label_rows.Goals as goal
 

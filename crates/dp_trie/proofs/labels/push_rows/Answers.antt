@@ -1,7 +1,7 @@
 use Rattle.std.proofs.Common.{◌∙◌, ◌++◌, ◌∷◌, [], sym, refl, arith, ap}
 use Rattle.std.proofs.lemmas.Option.{slice_get_read}
-use Rattle.dp_trie.specs.Labels.{rows_of}
-use Rattle.dp_trie.specs.Ranked.{known_now}
+use Rattle.dp_trie.specs.steps.Labels.{rows_of}
+use Rattle.dp_trie.specs.steps.Ranked.{known_now}
 use Rattle.dp_trie.proofs.LabelLemmas.{rows-more}
 use Rattle.dp_trie.proofs.labels.push_rows.Goals as goal
 

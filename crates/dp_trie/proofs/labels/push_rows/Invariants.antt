@@ -1,6 +1,6 @@
 use Rattle.std.proofs.Common.{◌≡◌, map, take}
-use Rattle.dp_trie.specs.Labels.{rows_of}
-use Rattle.dp_trie.specs.Ranked.{known_now}
+use Rattle.dp_trie.specs.steps.Labels.{rows_of}
+use Rattle.dp_trie.specs.steps.Ranked.{known_now}
 use Rattle.dp_trie.proofs.labels.push_rows.Given as goal
 
 abbrev pub invariant-loop-one : goal.invariant-loop-one

@@ -1,5 +1,5 @@
 use Rattle.std.proofs.Common.{◌≤◌, ◌-◌}
-use Rattle.dp_trie.specs.Leaps.{Passes}
+use Rattle.dp_trie.specs.steps.Leaps.{Passes}
 use Rattle.dp_trie.proofs.leap.leap_from.Given as goal
 
 abbrev pub invariant-loop-class : goal.invariant-loop-class

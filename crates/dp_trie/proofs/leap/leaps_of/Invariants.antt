@@ -1,5 +1,5 @@
 use Rattle.std.proofs.Common.{◌-◌, length}
-use Rattle.dp_trie.specs.Leaps.{AreLeaps}
+use Rattle.dp_trie.specs.steps.Leaps.{AreLeaps}
 use Rattle.dp_trie.proofs.leap.leaps_of.Given as goal
 
 abbrev pub invariant-loop-place : goal.invariant-loop-place

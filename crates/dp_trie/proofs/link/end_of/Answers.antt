@@ -21,9 +21,9 @@ loop-node-preserved c =
     let first : Node = get_or c.args.nodes.now c.args.place c.index-nodes-place.result in
     let later = c.loop-node.invariant.later in
     let is_end = c.requires.linked.each c.loop-node.end (omega (arith, later)) c.in-Some.node.now here in
-    let behind = is_end.later in
+    let after = is_end.later in
     record {
-      later = omega (arith, later, behind);
+      later = omega (arith, later, after);
       within = is_end.within;
       same = end-jump c.args.nodes.now first.depth (slice_index c.args.ends.now c.loop-node.end) c.loop-node.end c.in-Some.node.now here c.if-node-depth.false is_end ∙ c.loop-node.invariant.same;
     }
@@ -35,8 +35,8 @@ loop-node-smaller c =
     let later = c.loop-node.invariant.later in
     let inside = found.0 in
     let is_end = c.requires.linked.each c.loop-node.end (omega (arith, later)) c.in-Some.node.now here in
-    let behind = is_end.later in
-    let less : length c.args.nodes.now - slice_index c.args.ends.now c.loop-node.end < length c.args.nodes.now - c.loop-node.end = omega (arith, behind, inside) in
+    let after = is_end.later in
+    let less : length c.args.nodes.now - slice_index c.args.ends.now c.loop-node.end < length c.args.nodes.now - c.loop-node.end = omega (arith, after, inside) in
     less
 
 pub returns : goal.returns

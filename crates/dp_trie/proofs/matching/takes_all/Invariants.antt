@@ -1,6 +1,6 @@
 use Rattle.std.proofs.Common.{◌≡◌, true, false, take}
 use Rattle.dp_pattern.specs.Dashes.{undashed}
-use Rattle.dp_trie.specs.Digits.{Stands}
+use Rattle.dp_trie.specs.steps.Digits.{Stands}
 use Rattle.dp_trie.specs.Tree.{alive}
 use Rattle.dp_trie.proofs.matching.takes_all.Given as goal
 

@@ -1,4 +1,4 @@
-use Rattle.std.proofs.Common.{◌<◌, ◌≤◌, ◌∙◌, sym, ap, subst, take, drop}
+use Rattle.std.proofs.Common.{◌<◌, ◌≤◌, ◌∙◌, arith, refl, sym, ap, subst, take, drop}
 use Rattle.std.specs.Prelude.{slice_range}
 use Rattle.std.specs.List.{AllByRecursion, find}
 use Rattle.std.specs.Option.{option_map}
@@ -6,8 +6,26 @@ use Rattle.dp_pattern.specs.Dashes.{undashed}
 use Rattle.dp_trie.specs.Asked.{is_more, wants, asked, hit_of, Rise}
 use Rattle.dp_trie.specs.Names.{known_plain, rank, rank_of, fitting, NamesRise, RiseEach}
 use Rattle.dp_trie.specs.declared.plain.PlainName.{PlainName}
-use Rattle.dp_trie.proofs.PlainLemmas.{names-rise, rise-each, rise-drop, all-dropped, found-rest}
+use Rattle.std.proofs.lemmas.Option.{slice_get_read}
+use Rattle.dp_trie.proofs.BuildLemmas.{all-at}
+use Rattle.dp_trie.proofs.PlainLemmas.{names-rise, only-name, rise-each, rise-drop, all-dropped, found-only, found-rest}
 use Rattle.dp_trie.proofs.plain.find_plain.Goals as goal
+
+pub find_only-requires-clause-rise : goal.find_only-requires-clause-rise
+find_only-requires-clause-rise c =
+    let here = slice_get_read c.args.names.now _ 0 c.only-item.result refl (omega arith) c.only-item.is in
+    all-at (λ (p : PlainName). Rise (slice_range c.args.held.now p.from p.until)) c.args.names.now 0 c.only-item.result
+    (rise-each c.args.held.now c.args.names.now c.requires.order) here
+
+pub returns-in-len1 : goal.returns-in-len1
+returns-in-len1 c =
+    let digits = undashed c.args.digits.now.text.now in
+    let more = is_more c.args.question in
+    let here = slice_get_read c.args.names.now _ 0 c.only-item.result refl (omega arith) c.only-item.is in
+    c.find_only.ensures
+    ∙ ap (option_map hit_of)
+    (found-only c.args.held.now (asked more (wants c.args.question) digits) c.only-item.result
+    ∙ ap (λ names. find (asked more (wants c.args.question) digits) (known_plain c.args.held.now names)) (sym (only-name c.args.names.now c.only-item.result (omega arith) here)))
 
 pub count_below-requires : goal.count_below-requires
 count_below-requires c = names-rise c.args.held.now c.args.names.now c.requires.ranges c.requires.order

@@ -1,6 +1,6 @@
 use Rattle.std.proofs.Common.{sym, subst, ap, ◌∙◌, map}
 use Rattle.dp_pattern.specs.Name.{Meaning, Plain}
-use Rattle.dp_trie.specs.Ranked.{known_now, IsGroup}
+use Rattle.dp_trie.specs.steps.Ranked.{known_now, IsGroup}
 use Rattle.dp_trie.proofs.BuildLemmas.{names-push}
 use Rattle.dp_trie.proofs.plain.plain_names.Goals as goal
 

@@ -1,6 +1,6 @@
 use Rattle.std.proofs.Common.{◌≡◌, drop}
 use Rattle.dp_pattern.specs.Dashes.{undashed}
-use Rattle.dp_trie.specs.Digits.{Stands}
+use Rattle.dp_trie.specs.steps.Digits.{Stands}
 use Rattle.dp_trie.specs.Names.{side_of}
 use Rattle.dp_trie.proofs.plain.side_in_turn.Given as goal
 

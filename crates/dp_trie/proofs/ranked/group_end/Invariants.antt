@@ -1,5 +1,5 @@
 use Rattle.std.proofs.Common.{◌-◌, length, map}
-use Rattle.dp_trie.specs.Ranked.{known_now, IsGroup}
+use Rattle.dp_trie.specs.steps.Ranked.{known_now, IsGroup}
 use Rattle.dp_trie.proofs.ranked.group_end.Given as goal
 
 abbrev pub invariant-loop-next : goal.invariant-loop-next

@@ -1,5 +1,5 @@
 use Rattle.std.proofs.Common.{◌≡◌, map, take}
-use Rattle.dp_trie.specs.Ranked.{known_now, hold_of}
+use Rattle.dp_trie.specs.steps.Ranked.{known_now, hold_of}
 use Rattle.dp_trie.proofs.ranked.hold_all.Given as goal
 
 abbrev pub invariant-loop-one : goal.invariant-loop-one

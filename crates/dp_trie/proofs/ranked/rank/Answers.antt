@@ -4,7 +4,7 @@ use Rattle.std.proofs.lemmas.List.{take_all}
 use Rattle.std.proofs.lemmas.Option.{slice_get-get_or}
 use Rattle.dp_plan.specs.declared.entry.EntryId.{EntryId}
 use Rattle.dp_trie.specs.Known.{Known, known_at, KeepsEntries}
-use Rattle.dp_trie.specs.Ranked.{known_now}
+use Rattle.dp_trie.specs.steps.Ranked.{known_now}
 use Rattle.dp_trie.proofs.BuildLemmas.{filter_map-more}
 use Rattle.dp_trie.proofs.KeepLemmas.{keeps-ranked, plain_first, in_order}
 use Rattle.dp_trie.proofs.ranked.rank.Goals as goal

@@ -1,7 +1,7 @@
 use Rattle.std.proofs.Common.{◌≡◌, map, take}
 use Rattle.std.specs.Prelude.{filter_map}
 use Rattle.dp_trie.specs.Known.{known_at}
-use Rattle.dp_trie.specs.Ranked.{known_now}
+use Rattle.dp_trie.specs.steps.Ranked.{known_now}
 use Rattle.dp_trie.proofs.ranked.rank.Given as goal
 
 abbrev pub invariant-loop-id : goal.invariant-loop-id

@@ -1,8 +1,8 @@
 use Rattle.std.proofs.Common.{subst, sym, ap, ◌∙◌, ◌++◌, [], map}
-use Rattle.dp_trie.specs.Labels.{AreLabels}
-use Rattle.dp_trie.specs.Leaps.{AreLeaps}
+use Rattle.dp_trie.specs.steps.Labels.{AreLabels}
+use Rattle.dp_trie.specs.steps.Leaps.{AreLeaps}
 use Rattle.dp_trie.specs.Names.{known_plain}
-use Rattle.dp_trie.specs.Ranked.{known_now}
+use Rattle.dp_trie.specs.steps.Ranked.{known_now}
 use Rattle.dp_trie.specs.Tree.{AreLinked, known_from}
 use Rattle.dp_trie.proofs.TableLemmas.{order-parts, whole-known, names-known, tree-known, names-order, names-ranges, is-tree, tree-size}
 use Rattle.dp_trie.proofs.table.build_table.Goals as goal

@@ -1,6 +1,6 @@
 use Rattle.std.proofs.Common.{◌≤◌, ◌-◌, length, take}
 use Rattle.std.specs.List.{AllByRecursion}
-use Rattle.dp_trie.specs.Ranked.{known_now, IsPlain}
+use Rattle.dp_trie.specs.steps.Ranked.{known_now, IsPlain}
 use Rattle.dp_trie.specs.declared.ranked.Ranked.{Ranked}
 use Rattle.dp_trie.proofs.table.count_plain.Given as goal
 

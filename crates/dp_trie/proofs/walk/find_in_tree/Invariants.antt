@@ -1,7 +1,7 @@
 use Rattle.std.proofs.Common.{◌-◌, length}
 use Rattle.dp_pattern.specs.Dashes.{undashed}
 use Rattle.dp_trie.specs.Asked.{is_more, wants}
-use Rattle.dp_trie.specs.Digits.{Stands}
+use Rattle.dp_trie.specs.steps.Digits.{Stands}
 use Rattle.dp_trie.proofs.TreeLemmas.{IsAt}
 use Rattle.dp_trie.proofs.walk.find_in_tree.Given as goal
 

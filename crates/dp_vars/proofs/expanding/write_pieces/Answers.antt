@@ -11,4 +11,4 @@ loop-piece-init g c =
 pub loop-piece-preserved : goal.loop-piece-preserved
 loop-piece-preserved g c =
     writing-next (sight_of g.C.Counts.count c.args.scope.now) c.args.text.now c.loop-piece.expanding c.write.new.self c.in-Some.piece.now
-    c.loop-piece.left.now c.in-Some.behind.now c.args.pieces.now c.in-Some.ensures.cases.0 c.in_ok-write.ensures c.loop-piece.invariant
+    c.loop-piece.left.now c.in-Some.after.now c.args.pieces.now c.in-Some.ensures.cases.0 c.in_ok-write.ensures c.loop-piece.invariant

@@ -8,5 +8,5 @@ use Rattle.dp_vars.proofs.head.read_call.Goals as goal
 pub returns-in-Some-Some : goal.returns-in-Some-Some
 returns-in-Some-Some c sight =
     ap (λ span. function_value sight (Some c.in-Some-Some.function) (spanned c.args.text.now span)) c.front.ensures
-    ∙ call-seen sight c.args.text.now c.in-Some-Some.function c.args.name.now c.in-Some-Some.argument.now c.args.behind
+    ∙ call-seen sight c.args.text.now c.in-Some-Some.function c.args.name.now c.in-Some-Some.argument.now c.args.after
     c.in-Some-Some.ensures (c.in-Some-Some.ensures' ∙ ap (before_last 41) c.of.ensures)

@@ -7,12 +7,12 @@ loop-mark-init c = subst (λ so_far. IsOnWay c.args.text.now so_far c.args.text.
 
 pub take-requires-clause-stands : goal.take-requires-clause-stands
 take-requires-clause-stands c =
-    stands c.args.text.now c.loop-mark.parsing c.loop-mark.rest.now c.in-Some.mark c.in-Some.behind.now c.loop-mark.invariant
+    stands c.args.text.now c.loop-mark.parsing c.loop-mark.rest.now c.in-Some.mark c.in-Some.after.now c.loop-mark.invariant
     (c.in-Some.ensures.marked c.loop-mark.parsing.waiting (sym c.innermost.ensures))
 
 pub loop-mark-preserved : goal.loop-mark-preserved
 loop-mark-preserved c =
-    on_way-after c.args.text.now c.loop-mark.parsing c.loop-mark.rest.now c.in-Some.mark c.in-Some.behind.now c.loop-mark.invariant
+    on_way-after c.args.text.now c.loop-mark.parsing c.loop-mark.rest.now c.in-Some.mark c.in-Some.after.now c.loop-mark.invariant
     (c.in-Some.ensures.marked c.loop-mark.parsing.waiting (sym c.innermost.ensures)) c.take.new.self c.in_ok-take.ensures
 
 pub returns : goal.returns

@@ -2,7 +2,7 @@ use Rattle.std.proofs.Common.{sym, ap, ◌∙◌, ◌-◌, length}
 use Rattle.dp_conf.specs.Levels.{cut_outside}
 use Rattle.dp_vars.specs.Heads.{head_seen}
 use Rattle.dp_vars.specs.Pieces.{with_bytes}
-use Rattle.dp_vars.specs.Spans.{spanned, behind_of}
+use Rattle.dp_vars.specs.Spans.{spanned, after_of}
 use Rattle.dp_vars.specs.Values.{head_value}
 use Rattle.dp_vars.proofs.HeadsLemmas.{full-seen, part-seen}
 use Rattle.dp_vars.proofs.piece.read_braces.Goals as goal
@@ -19,5 +19,5 @@ returns-in_ok-cut-in-Some c sight written = ap (with_bytes written) (
     (ap (λ cut. head_seen sight c.args.text.now cut.head) c.in_ok-cut-in-Some.ensures.ok
     ∙ c.read_head-in-Some.ensures sight ∙ ap (λ span. head_value sight (spanned c.args.text.now span)) c.front.ensures)
     (ap (λ cut. cut.tail) c.in_ok-cut-in-Some.ensures.ok
-    ∙ c.behind.ensures ∙ ap (λ bytes. behind_of c.args.place (length bytes - length c.in-Some.tail.now)) c.of-body.ensures)
+    ∙ c.after.ensures ∙ ap (λ bytes. after_of c.args.place (length bytes - length c.in-Some.tail.now)) c.of-body.ensures)
     (ap (λ cut. cut.asked) c.in_ok-cut-in-Some.ensures.ok ∙ c.read_asked.ensures))

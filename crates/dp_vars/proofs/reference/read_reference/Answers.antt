@@ -1,7 +1,7 @@
 -- The value of the head is parted as the tail asks.
 use Rattle.std.proofs.Common.{ap, ◌∙◌, sym, Some}
 use Rattle.dp_vars.specs.Parts.{part, asked_of}
-use Rattle.dp_vars.specs.Shown.{shown}
+use Rattle.dp_vars.specs.steps.Shown.{shown}
 use Rattle.dp_vars.specs.Sights.{sight_of}
 use Rattle.dp_vars.specs.Values.{body_by}
 use Rattle.dp_vars.proofs.PartsLemmas.{part-at_most}

@@ -16,8 +16,8 @@ pub loop-mark-preserved : goal.loop-mark-preserved
 loop-mark-preserved g c = (
   subst AreWritten (sym c.in_ok-take.ensures)
       (AreWritten-after (sight_of g.C.Counts.count c.args.scope.now) c.in-Some.mark c.loop-mark.expanding c.loop-mark.invariant.0),
-  ap (λ w. come (sight_of g.C.Counts.count c.args.scope.now) w.waiting w.bytes (levels c.in-Some.behind.now (kinds_of w.waiting) 0)) c.in_ok-take.ensures
-      ∙ come-mark (sight_of g.C.Counts.count c.args.scope.now) c.in-Some.mark c.loop-mark.expanding (levels c.in-Some.behind.now)
+  ap (λ w. come (sight_of g.C.Counts.count c.args.scope.now) w.waiting w.bytes (levels c.in-Some.after.now (kinds_of w.waiting) 0)) c.in_ok-take.ensures
+      ∙ come-mark (sight_of g.C.Counts.count c.args.scope.now) c.in-Some.mark c.loop-mark.expanding (levels c.in-Some.after.now)
       ∙ ap (come (sight_of g.C.Counts.count c.args.scope.now) c.loop-mark.expanding.waiting c.loop-mark.expanding.bytes)
       (sym (c.in-Some.ensures.marked (kinds_of c.loop-mark.expanding.waiting) (sym c.innermost.ensures)))
       ∙ c.loop-mark.invariant.1,

@@ -1,5 +1,5 @@
 use Rattle.std.proofs.Common.{[], ◌+◌, List, ℕ, subst, ◌∙◌}
-use Rattle.dp_audit.specs.Hiding.{Grows, all_hidden, asked}
+use Rattle.dp_audit.specs.steps.Hiding.{Grows, all_hidden, asked}
 use Rattle.dp_audit.specs.Orders.{order_at}
 use Rattle.dp_audit.proofs.HidingLemmas.{all_hidden_more, grows_both}
 use Rattle.dp_audit.proofs.hidden.Hidings.ask_all.Goals as goal

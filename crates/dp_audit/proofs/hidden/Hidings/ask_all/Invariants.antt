@@ -1,5 +1,5 @@
 use Rattle.std.proofs.Common.{◌≡◌}
-use Rattle.dp_audit.specs.Hiding.{Grows, all_hidden}
+use Rattle.dp_audit.specs.steps.Hiding.{Grows, all_hidden}
 use Rattle.dp_audit.proofs.hidden.Hidings.ask_all.Given as goal
 
 abbrev pub invariant-loop-number : goal.invariant-loop-number

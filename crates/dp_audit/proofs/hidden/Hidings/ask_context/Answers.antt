@@ -1,6 +1,6 @@
 use Rattle.std.proofs.Common.{length, slice_get, refl, sym, ap, ◌∙◌, ◌+◌, arith}
 use Rattle.std.proofs.lemmas.Option.{slice_get_read}
-use Rattle.dp_audit.specs.Hiding.{for_each, for_one, is_among}
+use Rattle.dp_audit.specs.steps.Hiding.{for_each, for_one, is_among}
 use Rattle.dp_audit.proofs.HidingLemmas.{all_below, below, grows_as, grows_both, one_more}
 use Rattle.dp_audit.proofs.hidden.Hidings.ask_context.Goals as goal
 

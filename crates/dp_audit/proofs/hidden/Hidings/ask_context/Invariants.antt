@@ -1,4 +1,4 @@
-use Rattle.dp_audit.specs.Hiding.{Grows, for_each, is_among}
+use Rattle.dp_audit.specs.steps.Hiding.{Grows, for_each, is_among}
 use Rattle.dp_audit.proofs.HidingLemmas.{below}
 use Rattle.dp_audit.proofs.hidden.Hidings.ask_context.Given as goal
 

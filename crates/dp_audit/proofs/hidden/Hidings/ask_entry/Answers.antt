@@ -1,5 +1,5 @@
 use Rattle.std.proofs.Common.{subst, sym, ◌∙◌}
-use Rattle.dp_audit.specs.Hiding.{Grows, Notes, for_one}
+use Rattle.dp_audit.specs.steps.Hiding.{Grows, Notes, for_one}
 use Rattle.dp_audit.proofs.HidingLemmas.{grows_one}
 use Rattle.dp_audit.proofs.hidden.Hidings.ask_entry.Goals as goal
 

@@ -1,5 +1,5 @@
 use Rattle.std.proofs.Common.{◌≡◌, take}
-use Rattle.dp_audit.specs.Hiding.{no_notes}
+use Rattle.dp_audit.specs.steps.Hiding.{no_notes}
 use Rattle.dp_audit.proofs.hidden.Hidings.none.Given as goal
 
 abbrev pub invariant-loop-context : goal.invariant-loop-context

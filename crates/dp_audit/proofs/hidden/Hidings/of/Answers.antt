@@ -1,6 +1,6 @@
 use Rattle.std.proofs.Common.{ap, subst, ◌∙◌}
 use Rattle.dp_lookup.specs.SearchOrder.{context_count}
-use Rattle.dp_audit.specs.Hiding.{Grows, Notes, all_hidden, no_notes}
+use Rattle.dp_audit.specs.steps.Hiding.{Grows, Notes, all_hidden, no_notes}
 use Rattle.dp_audit.proofs.HidingLemmas.{all_noted}
 use Rattle.dp_audit.proofs.hidden.Hidings.of.Goals as goal
 

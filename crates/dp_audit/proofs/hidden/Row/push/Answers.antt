@@ -1,6 +1,7 @@
 use Rattle.std.proofs.Common.{length, sym, ap, ◌∙◌, arith}
-use Rattle.dp_audit.specs.Hiding.{changed_at, with_number}
-use Rattle.dp_audit.proofs.HidingLemmas.{changed_at-set, changed_at-past}
+use Rattle.dp_conf.specs.Changes.{changed_at}
+use Rattle.dp_audit.specs.steps.Hiding.{with_number}
+use Rattle.dp_conf.proofs.ChangesLemmas.{changed_at-set, changed_at-past}
 use Rattle.dp_audit.proofs.hidden.Row.push.Goals as goal
 
 pub returns-in_ok-push : goal.returns-in_ok-push

@@ -1,6 +1,6 @@
 use Rattle.std.proofs.Common.{◌+◌, subst, arith}
-use Rattle.dp_board.specs.Steps.{IsEnd, added}
-use Rattle.dp_board.proofs.StepsLemmas.{AddsSteps-more, GoesOnBehind-more, GoesOnToLast-all, GoesOnToLast-more, IsReason-end, count-more, last-more}
+use Rattle.dp_board.specs.Attending.{IsEnd, added}
+use Rattle.dp_board.proofs.StepsLemmas.{AddsSteps-more, GoesOnAfter-more, GoesOnToLast-all, GoesOnToLast-more, IsReason-end, count-more, last-more}
 use Rattle.dp_board.proofs.board.Board.attend.Goals as goal
 
 pub returns-in-Some-clause-why : goal.returns-in-Some-clause-why
@@ -29,6 +29,6 @@ loop-turn-preserved g c =
     record {
       steps = AddsSteps-more c.args.channel c.args.seat.now c.loop-turn.seat c.turn.new.seat place reply c.loop-turn.invariant.steps one;
       count = omega (arith, c.loop-turn.invariant.count, count-more c.args.channel c.loop-turn.seat c.turn.new.seat place reply one);
-      on = GoesOnBehind-more c.args.channel c.args.seat.now c.loop-turn.seat c.turn.new.seat place reply c.loop-turn.invariant.steps one c.loop-turn.invariant.on
+      on = GoesOnAfter-more c.args.channel c.args.seat.now c.loop-turn.seat c.turn.new.seat place reply c.loop-turn.invariant.steps one c.loop-turn.invariant.on
           (subst (IsEnd reply) c.in_default.is c.in_ok-_place.ensures.end);
     }

@@ -1,5 +1,5 @@
 use Rattle.std.proofs.Common.{◌≡◌, reverse, vec_len}
-use Rattle.dp_conf.specs.Nest.{deepest_in}
+use Rattle.dp_conf.specs.steps.Nest.{deepest_in}
 use Rattle.dp_conf.proofs.nest.Nest.finish.Given as goal
 
 abbrev pub invariant-loop-last : goal.invariant-loop-last

@@ -1,6 +1,6 @@
 use Rattle.std.proofs.Common.{sym, ap, ◌∙◌, arith}
 use Rattle.dp_expr.specs.Walk.{nesting}
-use Rattle.dp_expr.specs.Frames.{frames_seen}
+use Rattle.dp_expr.specs.steps.Frames.{frames_seen}
 use Rattle.dp_expr.proofs.FramesLemmas.{frames_seen-nil, nesting-nil}
 use Rattle.dp_expr.proofs.stack.Stack.new.Goals as goal
 

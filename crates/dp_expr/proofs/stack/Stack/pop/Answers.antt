@@ -1,6 +1,6 @@
 use Rattle.std.proofs.Common.{ap, ◌∙◌, arith}
 use Rattle.dp_expr.specs.Walk.{nesting}
-use Rattle.dp_expr.specs.Frames.{frames_seen}
+use Rattle.dp_expr.specs.steps.Frames.{frames_seen}
 use Rattle.dp_expr.proofs.FramesLemmas.{frames_seen-empty, frames_seen-push, nesting-push}
 use Rattle.dp_expr.proofs.stack.Stack.pop.Goals as goal
 

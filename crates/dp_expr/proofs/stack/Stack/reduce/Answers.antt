@@ -1,7 +1,7 @@
 use Rattle.std.proofs.Common.{sym, ap, ◌∙◌}
-use Rattle.dp_expr.specs.Texts.{value_seen}
+use Rattle.dp_expr.specs.steps.Texts.{value_seen}
 use Rattle.dp_expr.specs.Walk.{reduction, values}
-use Rattle.dp_expr.specs.Frames.{frame_seen, frames_seen}
+use Rattle.dp_expr.specs.steps.Frames.{frame_seen, frames_seen}
 use Rattle.dp_expr.proofs.FramesLemmas.{reduction-top, reduction-settled}
 use Rattle.dp_expr.proofs.stack.Stack.reduce.Goals as goal
 

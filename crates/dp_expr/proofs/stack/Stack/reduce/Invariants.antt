@@ -1,7 +1,7 @@
 use Rattle.std.proofs.Common.{◌≡◌, length}
-use Rattle.dp_expr.specs.Texts.{value_seen}
+use Rattle.dp_expr.specs.steps.Texts.{value_seen}
 use Rattle.dp_expr.specs.Walk.{reduction, values}
-use Rattle.dp_expr.specs.Frames.{frames_seen}
+use Rattle.dp_expr.specs.steps.Frames.{frames_seen}
 use Rattle.dp_expr.proofs.stack.Stack.reduce.Given as goal
 
 abbrev pub invariant-loop-frame : goal.invariant-loop-frame

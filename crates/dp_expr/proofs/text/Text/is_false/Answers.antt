@@ -2,7 +2,7 @@ use Rattle.std.proofs.Common.{Some, sym, ap, ◌∙◌, rules, w64}
 use Rattle.std.specs.Prelude.{FitsSigned}
 use Rattle.std.proofs.lemmas.Int.{to_z-of_z}
 use Rattle.dp_expr.specs.Values.{is_zero, is_false}
-use Rattle.dp_expr.specs.Texts.{text_seen}
+use Rattle.dp_expr.specs.steps.Texts.{text_seen}
 use Rattle.dp_expr.proofs.TextsLemmas.{is_false-decimal_text}
 use Rattle.dp_expr.proofs.text.Text.is_false.Goals as goal
 

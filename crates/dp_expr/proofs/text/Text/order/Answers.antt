@@ -1,7 +1,7 @@
 use Rattle.std.proofs.Common.{sym, ◌∙◌, rules, w64, int_cmp}
 use Rattle.std.proofs.lemmas.Int.{to_z-of_z}
 use Rattle.std.specs.Prelude.{FitsSigned}
-use Rattle.dp_expr.specs.Texts.{text_seen}
+use Rattle.dp_expr.specs.steps.Texts.{text_seen}
 use Rattle.dp_expr.proofs.TextsLemmas.{order_of-numbers, order_of-first, order_of-second}
 use Rattle.dp_expr.proofs.text.Text.order.Goals as goal
 

@@ -1,7 +1,7 @@
 use Rattle.std.proofs.Common.{◌∙◌, IsSome, ap, sym, subst}
 use Rattle.std.specs.Option.{IfSome, option_copied}
 use Rattle.dp_plan.specs.Lookup.{entry_at}
-use Rattle.dp_machine.specs.Templates.{IsOf}
+use Rattle.dp_machine.specs.steps.Templates.{IsOf}
 use Rattle.dp_machine.proofs.TemplatesLemmas.{fits_there, lacks_none}
 use Rattle.dp_machine.proofs.directory.Directory.template.Goals as goal
 

@@ -1,4 +1,4 @@
-use Rattle.dp_machine.specs.Templates.{IsOf}
+use Rattle.dp_machine.specs.steps.Templates.{IsOf}
 use Rattle.dp_machine.proofs.TemplatesLemmas.{goes-last}
 use Rattle.dp_machine.proofs.templates.ContextTemplates.read.Goals as goal
 

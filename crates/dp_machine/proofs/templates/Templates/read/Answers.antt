@@ -1,4 +1,4 @@
-use Rattle.dp_machine.specs.Templates.{AreOf}
+use Rattle.dp_machine.specs.steps.Templates.{AreOf}
 use Rattle.dp_machine.proofs.TemplatesLemmas.{goes-last}
 use Rattle.dp_machine.proofs.templates.Templates.read.Goals as goal
 

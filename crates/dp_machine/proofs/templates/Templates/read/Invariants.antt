@@ -1,5 +1,5 @@
 use Rattle.std.proofs.Common.{length}
-use Rattle.dp_machine.specs.Templates.{AreOf}
+use Rattle.dp_machine.specs.steps.Templates.{AreOf}
 use Rattle.dp_machine.proofs.TemplatesLemmas.{Goes}
 use Rattle.dp_machine.proofs.templates.Templates.read.Given as goal
 

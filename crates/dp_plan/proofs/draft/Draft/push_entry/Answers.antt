@@ -1,7 +1,7 @@
 use Rattle.std.proofs.Common.{List, ap, ◌<◌, length, arith}
 use Rattle.dp_plan.specs.Contexts.{PlanContext, with_entry}
-use Rattle.dp_plan.specs.Draft.{Drafted}
-use Rattle.dp_plan.proofs.ChangedLemmas.{changed_at-set}
+use Rattle.dp_plan.specs.steps.Draft.{Drafted}
+use Rattle.dp_conf.proofs.ChangesLemmas.{changed_at-set}
 use Rattle.dp_plan.proofs.draft.Draft.push_entry.Goals as goal
 
 pub returns : goal.returns

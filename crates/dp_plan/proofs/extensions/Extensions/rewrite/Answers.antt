@@ -1,6 +1,6 @@
 use Rattle.std.proofs.Common.{◌≡◌, true, sym, ap, ◌∙◌}
 use Rattle.dp_plan.specs.Extensions.{extension_of}
-use Rattle.dp_plan.specs.Table.{Table, is_last, written}
+use Rattle.dp_plan.specs.steps.Table.{Table, is_last, written}
 use Rattle.dp_plan.proofs.TableLemmas.{written_last}
 use Rattle.dp_plan.proofs.extensions.Extensions.rewrite.Goals as goal
 

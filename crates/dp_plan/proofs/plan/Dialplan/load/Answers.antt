@@ -3,7 +3,7 @@ use Rattle.std.proofs.lemmas.Result.{err_from_is_err_and}
 use Rattle.dp_conf.proofs.AnswersLemmas.{Refuses-passed_on}
 use Rattle.dp_plan.specs.Faults.{reason_of}
 use Rattle.dp_plan.specs.Loaded.{loaded}
-use Rattle.dp_plan.specs.Loading.{drafted_of}
+use Rattle.dp_plan.specs.steps.Loading.{drafted_of}
 use Rattle.dp_plan.proofs.LoadingLemmas.{plan_of_draft, plan_in, loaded-drafted, drafted-fit}
 use Rattle.dp_plan.proofs.plan.Dialplan.load.Goals as goal
 

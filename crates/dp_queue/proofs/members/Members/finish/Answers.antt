@@ -6,7 +6,7 @@ use Rattle.dp_queue.specs.declared.member.Member.{Member}
 use Rattle.dp_queue.proofs.HeldLemmas.{any-nowhere, held-mapped, map-none, map-only, finished-others, finished-agent}
 use Rattle.dp_queue.proofs.members.Members.finish.Goals as goal
 
--- the members behind the change of one of them
+-- the members after the change of one of them
 changed : (c : goal.After-finish_at) → c.finish_at.new.members.items ≡ map (finished_member c.args.agent c.args.count) c.self.inside.list.items
 changed c =
     let items = c.self.inside.list.items in

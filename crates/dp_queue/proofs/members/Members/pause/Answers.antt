@@ -6,7 +6,7 @@ use Rattle.dp_queue.specs.declared.member.Member.{Member}
 use Rattle.dp_queue.proofs.HeldLemmas.{any-nowhere, held-mapped, map-none, map-only, paused-others}
 use Rattle.dp_queue.proofs.members.Members.pause.Goals as goal
 
--- the members behind the change of one of them
+-- the members after the change of one of them
 changed : (c : goal.After-pause_at) → c.pause_at.new.members.items ≡ map (paused_member c.args.agent c.args.is_paused) c.self.inside.list.items
 changed c =
     let items = c.self.inside.list.items in

@@ -3,7 +3,7 @@ use Rattle.dp_queue.specs.Agents.{all_freed, state_at, with_state_at}
 use Rattle.dp_queue.specs.Calls.{answer_row, answer_row_at, call_of}
 use Rattle.dp_queue.specs.Joining.{waits_in}
 use Rattle.dp_queue.specs.Queues.{QueuesOf}
-use Rattle.dp_queue.specs.Seats.{rung_count}
+use Rattle.dp_queue.specs.steps.Seats.{rung_count}
 use Rattle.dp_queue.specs.declared.agent.AgentState.TheVariants.{Ringing, Talking}
 use Rattle.dp_queue.proofs.AgentLemmas.{all_freed-talking}
 use Rattle.dp_queue.proofs.WaitingLemmas.{waits_in-within}
@@ -47,7 +47,7 @@ unseat-requires-clause-rung c =
     ∙ ap (λ xs. suc (rung_count xs channel)) (sym c.set_state.ensures) in
     omega (arith, less)
 
--- the agents behind both changes
+-- the agents after both changes
 freed : (c : goal.After-put_talk) → c.unseat.new.agents
     ≡ with_state_at c.number_of-number.result (Talking c.in-Ringing.queue c.in-Ringing.channel) (all_freed c.in-Ringing.channel c.self.inside.agents)
 freed c =

@@ -1,6 +1,6 @@
 use Rattle.std.proofs.Common.{◌≡◌, ◌-◌, suc, refl, ap, ◌∙◌, sym, arith}
 use Rattle.dp_queue.specs.Agents.{state_at}
-use Rattle.dp_queue.specs.Seats.{rung_count}
+use Rattle.dp_queue.specs.steps.Seats.{rung_count}
 use Rattle.dp_queue.specs.declared.agent.AgentState.TheVariants.{Idle, Ringing}
 use Rattle.dp_queue.proofs.GoodLemmas.{ringing-waits}
 use Rattle.dp_queue.proofs.KeptLemmas.{ringing-less, seated-some, kept-declined}

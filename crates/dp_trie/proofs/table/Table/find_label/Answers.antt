@@ -1,6 +1,6 @@
 use Rattle.std.proofs.Common.{◌∙◌, sym, ap, subst, [], ◌++◌}
 use Rattle.dp_pattern.specs.Dashes.{undashed}
-use Rattle.dp_trie.specs.Labels.{AreLabels}
+use Rattle.dp_trie.specs.steps.Labels.{AreLabels}
 use Rattle.dp_trie.specs.Names.{known_plain}
 use Rattle.dp_trie.specs.Tree.{known_from}
 use Rattle.dp_trie.proofs.LabelLemmas.{named-rise, found-labelled, first_asked}

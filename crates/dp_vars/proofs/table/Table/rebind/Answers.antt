@@ -1,32 +1,41 @@
 -- What the stack is changed to stands for the name.
 use Rattle.std.proofs.Common.{◌≡◌, ◌∙◌, ap, sym, Some, None}
-use Rattle.indexmap.specs.IndexMap.{set_value_at}
 use Rattle.dp_vars.specs.Bindings.{bound, rebound}
 use Rattle.dp_vars.specs.Stores.{slot}
 use Rattle.dp_vars.specs.Tables.{names_of, stack_of, with_stack}
 use Rattle.dp_vars.specs.Variables.{by_bytes}
-use Rattle.dp_vars.proofs.TablesLemmas.{on_err, slot-by_bytes, stack_of-unknown, stood, written, written_back}
+use Rattle.dp_vars.proofs.TablesLemmas.{numbered-at, stack_of-at, stack_of-unknown, stands, written-at}
 use Rattle.dp_vars.proofs.table.Table.rebind.Goals as goal
 
 pub returns-in_default-clause-ok : goal.returns-in_default-clause-ok
 returns-in_default-clause-ok c =
-    let new : slot (names_of c.args.self.now) c.args.name.now ≡ None = ap (λ entries. slot (names_of entries) c.args.name.now) (sym c.self.view_is)
-    ∙ sym (slot-by_bytes (λ name. name.items) c.args.name.now c.self.inside.held.entries) ∙ sym c.get_index_of.ensures.index ∙ c.in_default.is in
+    let name = c.args.name.now in
+    let new : slot (names_of c.args.self.now) name ≡ None = sym c.in_default.ensures in
     c.in_ok-add.ensures.ok
-    ∙ (λ i. with_stack c.args.self.now c.args.name.now
-    (rebound (c.in_ok-value.ensures i) (sym (stack_of-unknown c.args.self.now c.args.name.now new) i)))
+    ∙ (λ i. with_stack c.args.self.now name
+    (rebound (c.in_ok-value.ensures i) (sym (stack_of-unknown c.args.self.now name new) i)))
 
-pub returns-in_err-bind-clause-err : goal.returns-in_err-bind-clause-err
-returns-in_err-bind-clause-err c = on_err c.from_residual-in_err-bind.result (
-    ap (λ bs. by_bytes (λ name. name.items) (set_value_at c.self.inside.held.entries c.in-Some.number bs)) c.in_err-bind.ensures.err
-    ∙ ap (by_bytes (λ name. name.items)) (written_back c.self.inside.held.entries c.in-Some.number c.index_mut-stack.result.now c.index_mut-stack.ensures.value)
-    ∙ c.self.view_is)
+pub invariant_of-self-2 : goal.invariant_of-self-2
+invariant_of-self-2 c =
+    let es = c.self.inside.entries.items in
+    let own = c.entry.inside.name in
+    let old = c.entry.inside.stack in
+    let here = stands es c.in-Some.number c.index_mut-entry.result.now own old c.entry.view_is c.index_mut-entry.ensures.value in
+    numbered-at es c.in-Some.number own old here (by_bytes (λ key. key.items) c.self.inside.numbers.entries) c.bind.new.self
+    c.self.invariant
 
 pub returns-clause-ok : goal.returns-clause-ok
 returns-clause-ok c =
-    let known : slot (names_of (by_bytes (λ name. name.items) c.self.inside.held.entries)) c.args.name.now ≡ Some c.in-Some.number = sym (c.in-Some.ensures.index ∙ slot-by_bytes (λ name. name.items) c.args.name.now c.self.inside.held.entries) in
-    let stack = stood (λ name. name.items) c.args.name.now c.self.inside.held.entries c.in-Some.number c.index_mut-stack.result.now known c.index_mut-stack.ensures.value in
-    written (λ name. name.items) c.args.name.now c.self.inside.held.entries c.in-Some.number c.bind.new.self known
-    ∙ ap (with_stack (by_bytes (λ name. name.items) c.self.inside.held.entries) c.args.name.now) (c.in_ok-bind.ensures.ok ∙ ap (λ depth. bound depth c.in_ok-value.value c.index_mut-stack.result.now) c.depth-depth.ensures)
-    ∙ (λ i. with_stack (by_bytes (λ name. name.items) c.self.inside.held.entries) c.args.name.now (rebound (c.in_ok-value.ensures i) (sym stack i)))
-    ∙ ap (λ entries. with_stack entries c.args.name.now (rebound c.args.value.now (stack_of entries c.args.name.now))) c.self.view_is
+    let name = c.args.name.now in
+    let number = c.in-Some.number in
+    let es = c.self.inside.entries.items in
+    let own = c.entry.inside.name in
+    let old = c.entry.inside.stack in
+    let here = stands es number c.index_mut-entry.result.now own old c.entry.view_is c.index_mut-entry.ensures.value in
+    let known : slot (names_of es) name ≡ Some number =
+    ap (λ entries. slot (names_of entries) name) c.self.view_is ∙ sym c.in-Some.ensures in
+    let stack = stack_of-at es number own old here name known in
+    written-at es number own old here name c.bind.new.self known
+    ∙ ap (with_stack es name) (c.in_ok-bind.ensures.ok ∙ ap (λ depth. bound depth c.in_ok-value.value old) c.depth-depth.ensures)
+    ∙ (λ i. with_stack es name (rebound (c.in_ok-value.ensures i) (sym stack i)))
+    ∙ ap (λ entries. with_stack entries name (rebound c.args.value.now (stack_of entries name))) c.self.view_is

@@ -1,10 +1,22 @@
-use Rattle.std.proofs.Common.{◌∙◌, ap, nat_eq}
+-- What stands at the number of the name.
+use Rattle.std.proofs.Common.{◌≡◌, ◌∙◌, Some, ap, nat_eq, sym}
 use Rattle.std.specs.Cmp.Lexicographic.{pointwise}
 use Rattle.std.specs.Map.{lookup}
-use Rattle.dp_vars.proofs.TablesLemmas.{lookup-by_bytes}
+use Rattle.dp_vars.specs.Stores.{slot}
+use Rattle.dp_vars.specs.Tables.{names_of}
+use Rattle.dp_vars.proofs.TablesLemmas.{found-at, not_found, stands}
 use Rattle.dp_vars.proofs.table.Table.stack.Goals as goal
+
+pub returns-in_default : goal.returns-in_default
+returns-in_default c = sym (not_found c.args.self.now c.args.name.now (sym c.in_default.ensures))
 
 pub returns : goal.returns
 returns c =
-    c.get.ensures.value ∙ lookup-by_bytes (λ name. name.items) c.args.name.now c.self.inside.held.entries
-    ∙ ap (lookup (pointwise nat_eq c.args.name.now)) c.self.view_is
+    let es = c.self.inside.entries.items in
+    let name = c.args.name.now in
+    let known : slot (names_of es) name ≡ Some c.in-Some.number =
+    ap (λ entries. slot (names_of entries) name) c.self.view_is ∙ sym c.in-Some.ensures in
+    let own = c.entry.inside.name in
+    let old = c.entry.inside.stack in
+    let here = stands es c.in-Some.number c.index-entry.result.now own old c.entry.view_is c.index-entry.ensures in
+    sym (found-at es c.in-Some.number own old here name known) ∙ ap (lookup (pointwise nat_eq name)) c.self.view_is

@@ -1,0 +1,85 @@
+-- A step of the code: from which contexts each entry is hidden, noted for one context after another. What the notes come to
+-- is `hidden_from` of Hidden.
+use Rattle.std.specs.Prelude.{◌≡◌, ℕ, zero, suc, Bool, ◌&&◌, ◌||◌, ◌==◌, List, [], ◌∷◌, ◌++◌, length, map, replicate, slice_get, nat_eq, Option, Some, if◌then◌else◌}
+use Rattle.std.specs.Cmp.Lexicographic.{pointwise}
+use Rattle.std.specs.List.{filter, list_any, range_with_len}
+use Rattle.std.specs.Option.{option_and_then, option_map}
+use Rattle.dp_pattern.specs.Spelling.{spelling}
+use Rattle.dp_lookup.specs.FoundEntry.{entries_at, passes}
+use Rattle.dp_plan.specs.Contexts.{PlanContext}
+use Rattle.dp_plan.specs.Lookup.{entry_at}
+use Rattle.dp_plan.specs.Plan.{PlanOf}
+use Rattle.dp_plan.specs.declared.entry.Entry.{Entry}
+use Rattle.dp_plan.specs.declared.entry.EntryId.{EntryId}
+use Rattle.dp_audit.specs.Candidates.{same_id}
+use Rattle.dp_audit.specs.Hidden.{hidden_from, is_hidden, some_shares}
+use Rattle.dp_audit.specs.declared.place.Place.{Place}
+
+-- ---- places
+
+-- the place of an entry
+abbrev pub place_of : Entry → Place
+place_of entry = record { name = spelling entry.name; priority = entry.priority }
+
+abbrev pub same_place : Place → Place → Bool
+same_place a b = pointwise nat_eq a.name b.name && a.priority == b.priority
+
+-- the entry has the place
+abbrev pub is_at : Place → Entry → Bool
+is_at place entry = same_place place (place_of entry)
+
+-- an entry of the contexts has the place
+abbrev pub some_at : PlanOf → List ℕ → Place → Bool
+some_at plan contexts place = list_any (λ number. list_any (is_at place) (entries_at plan number)) contexts
+
+-- a place is among the new ones where it is among the old ones, or passes the test
+abbrev pub Adds : (Place → Bool) → List Place → List Place → Type 0
+Adds test old new = (place : Place) → list_any (same_place place) new ≡ (list_any (same_place place) old || test place)
+
+-- ---- notes
+
+-- of each context, for each of its entries, numbers of contexts
+abbrev pub Notes : Type 0
+Notes = List (List (List ℕ))
+
+-- a number more
+abbrev pub with_number : ℕ → List ℕ → List ℕ
+with_number number numbers = numbers ++ number ∷ []
+
+-- nothing is noted of the entries of these contexts
+abbrev pub no_notes : List PlanContext → Notes
+no_notes contexts = map (λ context. replicate (length context.entries) []) contexts
+
+-- what is noted of the entry of these numbers
+abbrev pub noted_at : Notes → EntryId → Option (List ℕ)
+noted_at notes id = option_and_then (λ row. slice_get row id.entry) (slice_get notes id.context)
+
+-- after what was noted of each entry more is noted
+abbrev pub Grows : Notes → Notes → (EntryId → List ℕ) → Type 0
+Grows old new more = (id : EntryId) → noted_at new id ≡ option_map (λ noted. noted ++ more id) (noted_at old id)
+
+-- the place of the entry is among these
+abbrev pub is_among : List Place → Entry → Bool
+is_among places entry = list_any (same_place (place_of entry)) places
+
+-- a number for the entry of these numbers, where its place is among these
+abbrev pub for_one : List Place → EntryId → Entry → ℕ → EntryId → List ℕ
+for_one places id entry from other = if same_id other id && is_among places entry then from ∷ [] else []
+
+-- a number for each entry of a context that passes the test
+abbrev pub for_each : PlanOf → (Entry → Bool) → ℕ → ℕ → EntryId → List ℕ
+for_each plan test number from id = if id.context == number && passes plan test id then from ∷ [] else []
+
+-- a number for each entry of an order's contexts that shares its place with one of a context before its own
+abbrev pub asked : PlanOf → ℕ → List ℕ → List ℕ → EntryId → List ℕ
+asked plan from earlier [] id = []
+asked plan from earlier (number ∷ order) id =
+    for_each plan (some_shares plan earlier) number from id ++ asked plan from (earlier ++ number ∷ []) order id
+
+-- the first so many contexts from which each entry is hidden
+abbrev pub all_hidden : PlanOf → ℕ → EntryId → List ℕ
+all_hidden plan count id = filter (λ from. passes plan (λ entry. is_hidden plan id entry from) id) (range_with_len 0 count)
+
+-- of each entry the contexts are noted from which it is hidden
+abbrev pub AreHidden : PlanOf → Notes → Type 0
+AreHidden plan notes = (id : EntryId) (entry : Entry) → entry_at plan id ≡ Some entry → noted_at notes id ≡ Some (hidden_from plan id entry)

@@ -1,0 +1,163 @@
+//! What a run begins with: its dialplan, its queues and the lines of its script.
+ghost use Rattle.std.specs.Prelude.{◌≡◌, [], IfOk, Ok, false};
+ghost use Rattle.std.specs.Option.{option_map};
+ghost use Rattle.dp_conf.specs.Answers.{Answers};
+ghost use Rattle.dp_queue.specs.Rest.{IsAtRest};
+ghost use Rattle.dp_commands.specs.Block.{waiting};
+ghost use Rattle.dp_commands.specs.Faults.{is_write_failed, reason_of};
+ghost use Rattle.dp_commands.specs.Run as spec;
+ghost use Rattle.dp_commands.specs.Script.{turns_of};
+
+use crate::block::{Block, ROOM};
+use crate::fault::PbxFault;
+use crate::script::{ScriptLine, read_script};
+use dp_machine::Machine;
+use dp_plan::{Dialplan, NoMemory};
+use dp_queue::Queues;
+use dp_table::StandardApps;
+use std::alloc::Global;
+
+/// The queues of a run, by the text of their file, where there is one.
+fn load_queues(alloc: Global, text: Option<&[u8]>) -> Result<Queues, PbxFault>
+    ensures queues { Answers (λ queues. queues) reason_of result
+        (spec.queues_of (option_map (λ text. text.now) text.entry)) }
+    ensures rest { IfOk result IsAtRest }
+    ensures quiet { is_write_failed result ≡ false }
+{
+    let Some(text) = text else {
+        return Ok(Queues::none(alloc));
+    };
+    let queues = Queues::load(alloc, text)?;
+    Ok(queues)
+}
+
+/// The dialplan of a run and its queues. Their drop is one function, so that it is proved once, and not on each way out of all that
+/// hold them.
+struct Files {
+    plan: Dialplan,
+    queues: Queues,
+}
+
+impl Drop for Files {
+    fn drop(self) {
+        let Files { plan: _, queues: _ } = self;
+    }
+}
+
+impl Files {
+    ghost use Rattle.std.specs.Prelude.{◌≡◌, IfOk};
+    ghost use Rattle.dp_machine.specs.World.{opening};
+    ghost use Rattle.dp_queue.specs.Rest.{IsAtRest};
+
+    /// A machine in which nothing has happened.
+    fn into_machine(self, alloc: Global) -> Result<Machine<StandardApps>, NoMemory>
+        requires { IsAtRest self.queues }
+        ensures { IfOk result (λ machine. machine ≡ opening self.plan self.queues) }
+    {
+        let Files { plan, queues } = self;
+        Machine::new(alloc, plan, queues)
+    }
+}
+
+/// What the files of a run say: the dialplan is read first, then the queues.
+fn read_files(alloc: Global, plan: &[u8], queues: Option<&[u8]>) -> Result<Files, PbxFault>
+    ensures files { Answers (λ files. record { plan = files.plan; queues = files.queues }) reason_of result
+        (spec.files_of plan.now (option_map (λ text. text.now) queues.entry)) }
+    ensures rest { IfOk result (λ files. IsAtRest files.queues) }
+    ensures quiet { is_write_failed result ≡ false }
+{
+    let (plan, _) = Dialplan::load(alloc, plan)?;
+    match load_queues(alloc, queues) {
+        Ok(queues) => Ok(Files { plan, queues }),
+        Err(fault) => Err(fault),
+    }
+}
+
+/// What the texts of a run say.
+#[derive(Drop)]
+struct RunTexts {
+    files: Files,
+    lines: Vec<ScriptLine>,
+}
+
+/// What the texts of a run say: its files are read first, then the script.
+fn read_texts(
+    alloc: Global,
+    plan: &[u8],
+    queues: Option<&[u8]>,
+    second_plan: Option<&[u8]>,
+    script: &[u8],
+) -> Result<RunTexts, PbxFault>
+    ensures told { Answers (λ told. record { plan = told.files.plan; queues = told.files.queues; lines = told.lines.items }) reason_of result
+        (spec.all_texts_of plan.now (option_map (λ text. text.now) queues.entry)
+        (option_map (λ text. text.now) second_plan.entry) script.now) }
+    ensures rest { IfOk result (λ told. IsAtRest told.files.queues) }
+    ensures quiet { is_write_failed result ≡ false }
+{
+    let files = read_files(alloc, plan, queues)?;
+    match read_script(alloc, second_plan, script) {
+        Ok(lines) => Ok(RunTexts { files, lines }),
+        Err(fault) => Err(fault),
+    }
+}
+
+/// What a run has before its first turn: its machine, the lines of its script, and a block in which nothing waits. Its drop is one
+/// function, as that of the files is.
+pub(crate) struct Begun {
+    pub(crate) machine: Machine<StandardApps>,
+    pub(crate) lines: Vec<ScriptLine>,
+    pub(crate) block: Block,
+}
+
+impl Drop for Begun {
+    fn drop(self) {
+        let Begun {
+            machine: _,
+            lines: _,
+            block: _,
+        } = self;
+    }
+}
+
+impl Begun {
+    ghost use Rattle.std.specs.Prelude.{◌≡◌};
+
+    /// The machine alone.
+    pub(crate) fn into_machine(self) -> Machine<StandardApps>
+        ensures { result ≡ self.machine }
+    {
+        let Begun {
+            machine,
+            lines: _,
+            block: _,
+        } = self;
+        machine
+    }
+}
+
+/// What a run has before its first turn.
+#[tactic(auto, unfolding(crate::specs::Run::run_of))]
+pub(crate) fn begin(
+    alloc: Global,
+    plan: &[u8],
+    queues: Option<&[u8]>,
+    second_plan: Option<&[u8]>,
+    script: &[u8],
+) -> Result<Begun, PbxFault>
+    ensures run { Answers (λ begun. spec.run_on begun.machine (turns_of begun.lines.items)) reason_of result
+        (spec.run_of plan.now (option_map (λ text. text.now) queues.entry)
+        (option_map (λ text. text.now) second_plan.entry) script.now) }
+    ensures empty { IfOk result (λ begun. begun.block ≡ waiting [] []) }
+    ensures quiet { is_write_failed result ≡ false }
+{
+    let block = Block::new(alloc, ROOM)?;
+    let RunTexts { files, lines } = read_texts(alloc, plan, queues, second_plan, script)?;
+    match files.into_machine(alloc) {
+        Ok(machine) => Ok(Begun {
+            machine,
+            lines,
+            block,
+        }),
+        Err(_) => Err(PbxFault::NoMemory),
+    }
+}

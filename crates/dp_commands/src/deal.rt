@@ -1,0 +1,177 @@
+//! The events of seats, which are dealt to them in turn, and what each seat does with its own.
+ghost use Rattle.std.specs.Prelude.{◌≡◌, ◌++◌, ◌∷◌, ◌<◌, ◌≤◌, [], IfOk, OnOk, OnErr, All, length, replicate, true, false, ◌+◌};
+ghost use Rattle.std.specs.List.{prefix_len};
+ghost use Rattle.dp_commands.specs.Script.{line_turns, turns_of};
+ghost use Rattle.dp_commands.specs.Threads as spec;
+ghost use Rattle.dp_commands.specs.declared.script.Turn.TheVariants as turns;
+
+use crate::script::{ScriptLine, Turn};
+use dp_board::{Board, Gate, Seat, Session};
+use dp_machine::Event;
+use dp_plan::NoMemory;
+use dp_table::StandardApps;
+use std::alloc::Global;
+use std::sync::Wait;
+use std::thread::{Threads, for_each_mut};
+
+/// Adds an event so many times.
+fn push_copies(events: &mut Vec<Event>, event: &Event, count: u32) -> Result<(), NoMemory>
+    ensures { OnOk result (events.new.items ≡ events.old.items ++ spec.events_in
+        (replicate count (turns.Event event.now))) }
+{
+    for _copy in 0..count {
+        events.push(event.copy()?)?;
+    }
+    Ok(())
+}
+
+/// Adds the events of a line; one that shows a value has none.
+fn push_events(events: &mut Vec<Event>, line: &ScriptLine) -> Result<(), NoMemory>
+    ensures { OnOk result (events.new.items ≡ events.old.items ++ spec.events_in (line_turns line.now)) }
+{
+    match &line.turn {
+        Turn::Event(event) => push_copies(events, event, line.count),
+        Turn::Show { .. } => Ok(()),
+    }
+}
+
+/// The events of a script, one after another.
+pub(crate) fn events_of(alloc: Global, lines: &[ScriptLine]) -> Result<Vec<Event>, NoMemory>
+    ensures { IfOk result (λ events. events.items ≡ spec.events_in (turns_of lines.now)) }
+{
+    let mut events = Vec::new(alloc);
+    for line in lines {
+        push_events(&mut events, line)?;
+    }
+    Ok(events)
+}
+
+fn is_start(event: &Event) -> bool
+    ensures { result ≡ spec.is_start event.now }
+{
+    matches!(event, Event::Start { .. })
+}
+
+/// How many events stand before the first that is no call that comes in.
+pub(crate) fn leading_calls(events: &[Event]) -> usize
+    ensures { result ≡ prefix_len spec.is_start events.now }
+{
+    events.iter().take_while(|event| is_start(event)).count()
+}
+
+/// The calls that events begin with, and the events after these.
+pub(crate) fn parted(events: &[Event]) -> (&[Event], &[Event])
+    ensures calls { result.0.now ≡ spec.leading_calls events.now }
+    ensures shared { result.1.now ≡ spec.shared_events events.now }
+{
+    events.split_at(leading_calls(events))
+}
+
+/// Which turn of its seat the event at a place is, where so many seats take turns. Turns of a seat are counted from 0.
+fn turn_at(at: usize, count: usize) -> u64
+    requires { 0 < count }
+    ensures { result ≡ spec.turn_of count at }
+{
+    (at / count) as u64
+}
+
+/// Gives the machine one event for a seat, between the calls of the gate, which are told the turn of the seat.
+fn act_one<S: Session, R: Wait, G: Gate>(
+    rt: &R,
+    alloc: Global,
+    board: &Board<StandardApps, S>,
+    seat: &mut Seat<S>,
+    event: &Event,
+    gate: &G,
+    turn: u64,
+) -> Result<(), NoMemory>
+    requires { turn ≡ length seat.old.told }
+    ensures number { seat.new.number ≡ seat.old.number }
+    ensures ok { OnOk result (spec.events_told seat.new.told ≡ spec.events_told seat.old.told ++ event.now ∷ []) }
+    ensures err { OnErr result (seat.new ≡ seat.old) }
+{
+    let copy = event.copy()?;
+    let channel = event.channel();
+    gate.before(channel, turn);
+    let (_place, reply) = board.act(rt, alloc, seat, copy)?;
+    gate.after(channel, &reply);
+    Ok(())
+}
+
+/// Gives the machine the events of a seat, where so many seats take turns, one after another.
+fn act_all<S: Session, R: Wait, G: Gate>(
+    rt: &R,
+    alloc: Global,
+    board: &Board<StandardApps, S>,
+    seat: &mut Seat<S>,
+    count: usize,
+    events: &[Event],
+    gate: &G,
+) -> Result<(), NoMemory>
+    requires count { 0 < count }
+    requires fresh { seat.old.told ≡ [] }
+    ensures number { seat.new.number ≡ seat.old.number }
+    ensures front { spec.GaveFront count events.now seat.new }
+{
+    let number = seat.number() as usize;
+    for at in 0..events.len() {
+        if at % count == number {
+            let turn = turn_at(at, count);
+            act_one(rt, alloc, board, seat, &events[at], gate, turn)?;
+        }
+    }
+    Ok(())
+}
+
+/// How many events are a seat's, where so many seats take turns.
+fn own_count(events: &[Event], count: usize, number: usize) -> usize
+    requires { 0 < count }
+    ensures is { result ≡ length (spec.dealt count number events.now) }
+    ensures within { result ≤ length events.now }
+{
+    let mut own = 0;
+    for at in 0..events.len() {
+        if at % count == number {
+            own += 1;
+        }
+    }
+    own
+}
+
+/// Whether each seat was told of as many events as are its own.
+pub(crate) fn have_acted<S: Session>(seats: &[Seat<S>], events: &[Event]) -> bool
+    ensures { result ≡ true → All (λ seat. length
+        (spec.dealt (length seats.now) seat.number events.now) ≤ length seat.told) seats.now }
+{
+    for seat in seats {
+        if seat.record().len() < own_count(events, seats.len(), seat.number() as usize) {
+            return false;
+        }
+    }
+    true
+}
+
+/// Each seat gives its events in a thread of its own.
+pub(crate) fn act_at_once<S: Session + Send + Sync, R: Threads + Wait + Sync, G: Gate + Sync>(
+    rt: &R,
+    alloc: Global,
+    board: &Board<StandardApps, S>,
+    seats: &mut [Seat<S>],
+    events: &[Event],
+    gate: &G,
+)
+    requires some { 0 < length seats.old }
+    requires fresh { All (λ seat. seat.told ≡ []) seats.old }
+    ensures gave { All (spec.GaveFront (length seats.old) events.now) seats.new }
+    ensures numbers { spec.KeepNumbers seats.old seats.new }
+{
+    let count = seats.len();
+    let give = |_place: usize, seat: &mut Seat<S>|
+        requires { (0 < count) × (seat.now.told ≡ []) }
+        ensures { spec.GaveFront count events.entry.now seat.exit.now × (seat.exit.now.number ≡ seat.entry.now.number) }
+    {
+        // Where memory was refused, the seat was told of fewer events than are its own.
+        let _ = act_all(rt, alloc, board, seat, count, events, gate);
+    };
+    for_each_mut(rt, seats, count, &give);
+}

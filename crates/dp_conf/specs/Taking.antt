@@ -1,0 +1,14 @@
+-- What becomes of a value that lines are taken into, one after another.
+use Rattle.std.specs.Prelude.{Bool, ◌||◌, List, fold, Result, Ok}
+use Rattle.std.specs.List.{list_any}
+use Rattle.dp_conf.specs.Answers.{◌>>=◌}
+use Rattle.dp_conf.specs.Lines.{LineOf, LineFault, is_header}
+
+-- after the lines of a text, by what one line makes of the value; a fault of the text ends all
+abbrev pub all_taken : {S : Type 0} → (S → LineOf → S) → S → Result (List LineOf) LineFault → Result S LineFault
+all_taken after state read = read >>= λ lines. Ok (fold after state lines)
+
+-- after the reading of one more part of the text: whether a section has begun, and the value
+abbrev pub part_taken : {S : Type 0} → (S → LineOf → S) → Bool → S → Result (List LineOf) LineFault → Result (Bool × S) LineFault
+part_taken after in_section state read =
+    read >>= λ items. Ok (in_section || list_any is_header items, fold after state items)

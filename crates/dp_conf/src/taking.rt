@@ -1,0 +1,81 @@
+//! The lines of a configuration text, taken one at a time.
+ghost use Rattle.std.specs.Prelude.{◌≡◌, OnOk};
+ghost use Rattle.dp_conf.specs.Answers.{Answers};
+ghost use Rattle.dp_conf.specs.Borrowed.{line_now};
+ghost use Rattle.dp_conf.specs.Lines.{LineOf, line_fault, item_of, part_item, at_line, lines_of};
+ghost use Rattle.dp_conf.specs.Taking as spec;
+
+use crate::cut::first_part;
+use crate::fault::ConfFault;
+use crate::lines::{Line, has_begun, read_content, read_line, without_mark};
+use std::alloc::{AllocError, Global};
+
+/// What goes after the lines of a text, one after another.
+pub trait TakeLine {
+    // What it is after a line.
+    ghost after_line: { Self → LineOf → Self };
+
+    /// Goes after a line.
+    fn take(&mut self, alloc: Global, line: Line<'_>) -> Result<(), AllocError>
+        ensures { OnOk result (self.new ≡ after_line self.old (line_now line.entry)) };
+}
+
+/// Goes after the line of a content, and gives whether a section has begun after it.
+fn take_content<T: TakeLine>(
+    alloc: Global,
+    taker: &mut T,
+    line: usize,
+    in_section: bool,
+    content: &[u8],
+) -> Result<bool, ConfFault>
+    ensures { Answers (λ begun. (begun, taker.new)) line_fault result
+        (spec.part_taken T.after_line in_section taker.old (at_line line (item_of in_section line content.now))) }
+{
+    let item = read_line(line, in_section, content)?;
+    if let Some(item) = item {
+        taker.take(alloc, item)?;
+    }
+    Ok(has_begun(in_section, item))
+}
+
+/// Goes after a part of the text, and gives whether a section has begun after it.
+fn take_part<T: TakeLine>(
+    alloc: Global,
+    taker: &mut T,
+    line: usize,
+    in_section: bool,
+    part: &[u8],
+) -> Result<bool, ConfFault>
+    ensures { Answers (λ begun. (begun, taker.new)) line_fault result
+        (spec.part_taken T.after_line in_section taker.old (at_line line (part_item in_section line part.now))) }
+{
+    // An empty part says nothing.
+    if part.is_empty() {
+        return Ok(in_section);
+    }
+    let content = read_content(alloc, line, part)?;
+    take_content(alloc, taker, line, in_section, content.bytes())
+}
+
+/// Goes after the lines of a configuration text in order, with their numbers, up to the first faulty one.
+///
+/// Lines end at line feeds; a byte order mark at the front is skipped, and blanks are bytes of 32 or less (choices of
+/// this program). A `;` begins a comment unless a `\` stands directly before it, and `\;` is a `;`. What is left of
+/// a line, without the blanks at its ends, is nothing, a header `[name]`, or a pair `key = value` or `key => value`.
+///
+/// A line is refused, in this order, for a block comment, a bad header, a template, a directive, a pair before any
+/// header, and a missing `=`: see [`LineKind`](crate::LineKind). It takes memory of its own only for lines with a `\`.
+pub fn take_lines<T: TakeLine>(alloc: Global, text: &[u8], taker: &mut T) -> Result<(), ConfFault>
+    ensures { Answers (λ done. taker.new) line_fault result (spec.all_taken T.after_line taker.old (lines_of text.now)) }
+{
+    let mut line: usize = 0;
+    let mut in_section = false;
+    let mut rest = Some(without_mark(text));
+    while let Some(left) = rest {
+        let (part, after) = first_part(left);
+        line += 1;
+        in_section = take_part(alloc, taker, line, in_section, part)?;
+        rest = after;
+    }
+    Ok(())
+}

@@ -1,0 +1,4 @@
+-- What private functions say of their steps. No public clause rests on it.
+pub mod Follows
+pub mod Tables
+pub mod Templates

@@ -1,0 +1,8 @@
+-- What private functions say of their steps. No public clause rests on it.
+pub mod Draft
+pub mod KnownApplications
+pub mod Loading
+pub mod Places
+pub mod Reader
+pub mod SharedName
+pub mod Table

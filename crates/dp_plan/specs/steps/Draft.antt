@@ -1,0 +1,140 @@
+-- A step of the code: a dialplan in the making, and what one more item makes of it. What all items make, one after
+-- another, is `plan_of` and `notes_of` of Plan.
+use Rattle.std.specs.Prelude.{ℕ, zero, suc, Bool, false, ◌&&◌, ◌==◌, List, [], ◌∷◌, ◌++◌, Option, Some, None, if◌then◌else◌}
+use Rattle.std.specs.List.{list_any, position_or_len}
+use Rattle.std.specs.Option.{option_to_list, option_map}
+use Rattle.dp_conf.specs.Changes.{changed_at}
+use Rattle.dp_conf.specs.Words.{same_text}
+use Rattle.dp_plan.specs.Contexts.{PlanContext, with_entry, with_include}
+use Rattle.dp_plan.specs.steps.Places.{same_slot}
+use Rattle.dp_plan.specs.Plan.{is_named, include_note}
+use Rattle.dp_plan.specs.declared.places.Slot.{Slot}
+use Rattle.dp_plan.specs.declared.label.Label.{Label}
+use Rattle.dp_plan.specs.declared.remark.Remark.{Remark}
+use Rattle.dp_plan.specs.declared.remark.Remark.TheVariants.{Noted, Asks}
+use Rattle.dp_plan.specs.declared.entry.Entry.{Entry}
+use Rattle.dp_plan.specs.declared.plan.GlobalVariable.{GlobalVariable}
+use Rattle.dp_plan.specs.declared.note.Note.{Note}
+use Rattle.dp_plan.specs.declared.note.NoteKind.{NoteKind}
+use Rattle.dp_plan.specs.declared.note.NoteKind.TheVariants.{DoublePriority, DoubleLabel, UnknownKey}
+use Rattle.dp_plan.specs.declared.section.Section.{Section}
+use Rattle.dp_plan.specs.declared.section.Section.TheVariants.{General, Globals, Context}
+use Rattle.dp_plan.specs.declared.item.Item.{Item}
+use Rattle.dp_plan.specs.declared.item.Item.TheVariants.{Begins, Sets, Adds, Includes, Unknown}
+
+-- the global variables, the contexts with their names, the places and labels that are taken, and the remarks so far
+pub record Drafted : Type 0 where
+  pub globals : List GlobalVariable
+  pub names : List (List ℕ)
+  pub contexts : List PlanContext
+  pub taken : List Slot
+  pub labels : List Label
+  pub remarks : List Remark
+
+-- nothing so far
+abbrev pub nothing : Drafted
+nothing = record { globals = []; names = []; contexts = []; taken = []; labels = []; remarks = [] }
+
+-- two labels are the same one of the same extension
+abbrev pub same_marked : Label → Label → Bool
+same_marked a b = a.extension == b.extension && same_text a.label b.label
+
+-- the place that an entry takes, by the number of its extension
+abbrev pub slot_of : ℕ → Entry → Slot
+slot_of number entry = record { extension = number; priority = entry.priority }
+
+-- a label, by the number of its extension
+abbrev pub label_in : ℕ → List ℕ → Label
+label_in number label = record { extension = number; label = label }
+
+-- the label that an entry takes, where it has one
+abbrev pub label_of : ℕ → Entry → Option Label
+label_of number entry = option_map (label_in number) entry.label
+
+-- the context of a name, with nothing in it
+abbrev pub empty_context : List ℕ → PlanContext
+empty_context name = record { name = name; entries = []; includes = [] }
+
+-- the draft with the context, which is new or there already
+abbrev pub with_context : Drafted → List ℕ → Drafted
+with_context d name =
+    if is_named d.names name then d
+    else record d {
+      names = d.names ++ name ∷ [];
+      contexts = d.contexts ++ empty_context name ∷ [];
+    }
+
+-- the names with one more, where there is one and it is not among them already
+abbrev pub with_name : List (List ℕ) → Option (List ℕ) → List (List ℕ)
+with_name names None = names
+with_name names (Some name) = if is_named names name then names else names ++ name ∷ []
+
+-- the place is taken
+abbrev pub is_slot_taken : Drafted → Slot → Bool
+is_slot_taken d slot = list_any (same_slot slot) d.taken
+
+-- there is a label and it is taken
+abbrev pub is_marked : Drafted → Option Label → Bool
+is_marked d None = false
+is_marked d (Some label) = list_any (same_marked label) d.labels
+
+-- the draft with the label taken, where there is one and it is free
+abbrev pub with_label : Drafted → Option Label → Drafted
+with_label d label = if is_marked d label then d else record d { labels = d.labels ++ option_to_list label }
+
+-- the draft with one more note
+abbrev pub with_note : Drafted → ℕ → NoteKind → Drafted
+with_note d line kind = record d { remarks = d.remarks ++ Noted (record { line = line; kind = kind }) ∷ [] }
+
+-- the context of the name, which is there already, is changed
+abbrev pub changed_context : Drafted → (PlanContext → PlanContext) → List ℕ → List PlanContext
+changed_context d change name = changed_at change (position_or_len (same_text name) d.names) d.contexts
+
+-- what an entry is noted for, where its place or its label is taken
+abbrev pub doubled : Drafted → Slot → Option Label → Option NoteKind
+doubled d slot label =
+    if is_slot_taken d slot then Some DoublePriority else if is_marked d label then Some DoubleLabel else None
+
+-- the draft with the place and the label taken, unless one of them is taken already
+abbrev pub claimed : Drafted → Slot → Option Label → Drafted
+claimed d slot label =
+    if is_slot_taken d slot then d
+    else if is_marked d label then d
+    else record d { taken = d.taken ++ slot ∷ []; labels = d.labels ++ option_to_list label }
+
+-- the draft with the entry in its context, which is there already, unless its place or its label is taken
+abbrev pub with_addition : Drafted → ℕ → List ℕ → ℕ → Entry → Drafted
+with_addition d line context number entry =
+    if is_slot_taken d (slot_of number entry) then with_note d line DoublePriority
+    else if is_marked d (label_of number entry) then with_note d line DoubleLabel
+    else record d {
+      contexts = changed_context d (with_entry entry) context;
+      taken = d.taken ++ slot_of number entry ∷ [];
+      labels = d.labels ++ option_to_list (label_of number entry);
+    }
+
+-- the draft with the include in its context, which is there already; whether its name is known shows in the end
+abbrev pub with_inclusion : Drafted → ℕ → List ℕ → List ℕ → Drafted
+with_inclusion d line context name = record d {
+  contexts = changed_context d (with_include name) context;
+  remarks = d.remarks ++ Asks line name ∷ [];
+}
+
+-- the draft with the context of a section, where it is one
+abbrev pub with_section : Drafted → Section → Drafted
+with_section d General = d
+with_section d Globals = d
+with_section d (Context name) = with_context d name
+
+-- the draft with one more item; where it is an entry, its extension has the number
+abbrev pub added : Drafted → ℕ → Item → Drafted
+added d number (Begins section) = with_section d section
+added d number (Sets global) = record d { globals = d.globals ++ global ∷ [] }
+added d number (Adds line context entry) = with_addition (with_context d context) line context number entry
+added d number (Includes line context name) = with_inclusion (with_context d context) line context name
+added d number (Unknown line) = with_note d line UnknownKey
+
+-- the note of a remark, by the names of all contexts
+abbrev pub settled : List (List ℕ) → Remark → List Note
+settled names (Noted note) = note ∷ []
+settled names (Asks line name) = include_note line names name

@@ -1,0 +1,48 @@
+-- A step of the code: what the lines so far leave for the next one and have made, line by line. What all lines of a text
+-- make is `loaded` of Loaded.
+use Rattle.std.specs.Prelude.{ℕ, List, fold, Option, Some, None, Result, Ok, Err}
+use Rattle.dp_conf.specs.Answers.{◌>>=◌}
+use Rattle.dp_conf.specs.Lines.{LineOf, lines_of}
+use Rattle.dp_plan.specs.steps.Draft.{Drafted, nothing, added}
+use Rattle.dp_plan.specs.Faults.{text_fault}
+use Rattle.dp_plan.specs.Items.{line_item}
+use Rattle.dp_plan.specs.steps.Reader.{Reading, unread, after, history_in}
+use Rattle.dp_plan.specs.declared.fault.LoadFault.{LoadFault}
+use Rattle.dp_plan.specs.declared.item.Item.{Item}
+
+-- what the lines so far leave for the next one, and the dialplan in the making
+pub record MadeOf : Type 0 where
+  pub reading : Reading
+  pub draft : Drafted
+
+-- before the first line
+abbrev pub unmade : MadeOf
+unmade = record { reading = unread; draft = nothing }
+
+-- after one more item
+abbrev pub after_item : MadeOf → Item → MadeOf
+after_item made item = record {
+  reading = after made.reading item;
+  draft = added made.draft (after made.reading item).extensions.last item;
+}
+
+-- after one more line, or the line's fault
+abbrev pub after_line : MadeOf → LineOf → Result MadeOf LoadFault
+after_line made line = line_item (history_in made.reading) line >>= λ items. Ok (fold after_item made items)
+
+-- the same, where a line before it may have a fault, which is kept aside
+abbrev pub after_one : Result MadeOf LoadFault → LineOf → Result MadeOf LoadFault
+after_one state line = state >>= λ made. after_line made line
+
+-- what was made, or the fault that is kept aside
+abbrev pub outcome : Option LoadFault → MadeOf → Result MadeOf LoadFault
+outcome None made = Ok made
+outcome (Some fault) made = Err fault
+
+-- the draft of what was made
+abbrev pub finished : Result MadeOf LoadFault → Result Drafted LoadFault
+finished state = state >>= λ made. Ok made.draft
+
+-- what all lines of a text make: a fault of the text comes before those of a context
+unfoldable pub drafted_of : List ℕ → Result Drafted LoadFault
+drafted_of text = text_fault (lines_of text) >>= λ lines. finished (fold after_one (Ok unmade) lines)

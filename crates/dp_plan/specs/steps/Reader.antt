@@ -1,0 +1,41 @@
+-- A step of the code: what the lines so far leave for the next one, kept so that it is found at once. What all their
+-- items leave, one after another, is `history_of` of History.
+use Rattle.std.specs.Prelude.{ℕ, List, Option, Some, None}
+use Rattle.std.specs.Map.{lookup}
+use Rattle.dp_pattern.specs.Name.{Meaning}
+use Rattle.dp_plan.specs.Extensions.{extension_of, same_extension}
+use Rattle.dp_plan.specs.History.{History}
+use Rattle.dp_plan.specs.steps.Table.{Table, empty, written}
+use Rattle.dp_plan.specs.declared.section.Section.{Section}
+use Rattle.dp_plan.specs.declared.section.Section.TheVariants.{General}
+use Rattle.dp_plan.specs.declared.item.Item.{Item}
+use Rattle.dp_plan.specs.declared.item.Item.TheVariants.{Begins, Sets, Adds, Includes, Unknown}
+
+-- the section, the last extension's name since its header, and the extensions with their last priorities
+pub record Reading : Type 0 where
+  pub section : Section
+  pub name : Option Meaning
+  pub extensions : Table
+
+-- before the first line
+abbrev pub unread : Reading
+unread = record { section = General; name = None; extensions = empty }
+
+-- after one more item
+abbrev pub after : Reading → Item → Reading
+after reading (Begins section) = record reading { section = section; name = None }
+after reading (Sets global) = reading
+after reading (Adds line context entry) = record reading {
+  name = Some entry.name;
+  extensions = written reading.extensions (extension_of context entry.name) entry.priority;
+}
+after reading (Includes line context name) = reading
+after reading (Unknown line) = reading
+
+-- the last priority of an extension
+abbrev pub last_priority : Reading → List ℕ → Meaning → Option ℕ
+last_priority reading context name = lookup (same_extension (extension_of context name)) reading.extensions.priorities
+
+-- what is kept, as the history that it stands for
+abbrev pub history_in : Reading → History
+history_in reading = record { section = reading.section; name = reading.name; priority = last_priority reading }

@@ -1,0 +1,66 @@
+-- What the lines of a text make, one after another, is what the text makes.
+use Rattle.std.proofs.Common.{◌≡◌, ℕ, List, [], ◌∷◌, fold, Result, Ok, Err, refl, ap, ◌∙◌, sym}
+use Rattle.dp_conf.specs.Answers.{Refuses, ◌>>=◌}
+use Rattle.dp_conf.specs.Lines.{LineOf, LineFault, lines_of, line_fault}
+use Rattle.dp_conf.specs.Taking.{all_taken}
+use Rattle.dp_conf.specs.declared.fault.ConfFault.{ConfFault}
+use Rattle.dp_conf.specs.declared.fault.ConfFault.TheVariants.{At, NoMemory as conf_no_memory}
+use Rattle.dp_conf.proofs.TakingLemmas.{all_taken-refused}
+use Rattle.dp_queue.specs.Faults.{fault_of_conf, reason_of, text_fault}
+use Rattle.dp_queue.specs.File.{FileOf, unread, after_line, after_lines, loaded}
+use Rattle.dp_queue.specs.steps.Loading.{after_one, filed}
+use Rattle.dp_queue.specs.Queues.{QueuesOf}
+use Rattle.dp_queue.specs.Rest.{IsAtRest}
+use Rattle.dp_queue.specs.declared.fault.QueueFault.{QueueFault}
+use Rattle.dp_queue.proofs.RestLemmas.{made-at_rest}
+
+abbrev State : Type 0
+State = Result FileOf QueueFault
+
+-- a fault that is kept aside stays
+after_each : (state : State) (lines : List LineOf) → fold after_one state lines ≡ (state >>= λ file. after_lines file lines)
+after_each (Ok file) [] = refl
+after_each (Err fault) [] = refl
+after_each (Ok file) (line ∷ lines) = after_each (after_line file line) lines
+after_each (Err fault) (line ∷ lines) = after_each (Err fault) lines
+
+-- where all lines were taken, the text makes what they made
+pub filed-taken : (text : List ℕ) (before state : State) → before ≡ Ok unread → all_taken after_one before (lines_of text) ≡ Ok state → filed text ≡ state
+unfolding filed
+filed-taken text before state new e = by (lines_of text) (sym (ap (λ (s : State). all_taken after_one s (lines_of text)) new) ∙ e)
+  where
+    by : (read : Result (List LineOf) LineFault) → all_taken after_one (Ok unread) read ≡ Ok state → (text_fault read >>= λ lines. after_lines unread lines) ≡ state
+    by (Ok lines) e =
+        let same : fold after_one (Ok unread) lines ≡ state = cc in
+        sym (after_each (Ok unread) lines) ∙ same
+    by (Err fault) e = absurd cc
+
+-- where a line of the text is refused, so is the text
+pub Refuses-text : (text : List ℕ) (before : State) (conf : ConfFault) → Refuses (line_fault conf) (all_taken after_one before (lines_of text)) → Refuses (reason_of (fault_of_conf conf)) (filed text)
+unfolding filed
+Refuses-text text before (At line kind) refused =
+    ap (λ read. text_fault read >>= λ lines. after_lines unread lines)
+    (all_taken-refused after_one before (lines_of text) (record { line = line; kind = kind }) refused)
+Refuses-text text before conf_no_memory refused = tt
+
+-- what a text makes is at rest
+pub filed-at_rest : (text : List ℕ) (file : FileOf) → filed text ≡ Ok file → IsAtRest file.made
+unfolding filed
+filed-at_rest text file e = by (lines_of text) e
+  where
+    by : (read : Result (List LineOf) LineFault) → (text_fault read >>= λ lines. after_lines unread lines) ≡ Ok file → IsAtRest file.made
+    by (Ok lines) e = made-at_rest lines file e
+    by (Err fault) e = absurd cc
+
+-- the queues of what was made
+abbrev pub made_of : State → Result QueuesOf QueueFault
+made_of state = state >>= λ file. Ok file.made
+
+-- the queues of a text are those that it makes
+pub loaded-filed : (text : List ℕ) → made_of (filed text) ≡ loaded text
+unfolding filed loaded
+loaded-filed text = by (lines_of text)
+  where
+    by : (read : Result (List LineOf) LineFault) → made_of (text_fault read >>= λ lines. after_lines unread lines) ≡ (text_fault read >>= λ lines. after_lines unread lines >>= λ file. Ok file.made)
+    by (Ok lines) = refl
+    by (Err fault) = refl

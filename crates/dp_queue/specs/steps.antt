@@ -1,0 +1,4 @@
+-- What private functions say of their steps. No public clause rests on it.
+pub mod Held
+pub mod Loading
+pub mod Seats
