@@ -3,6 +3,7 @@ use Rattle.std.specs.Prelude.{◌≡◌, ℕ, ◌<◌, ◌≤◌, true, false, L
 use Rattle.dp_conf.specs.Words.{same_word}
 use Rattle.dp_queue.specs.Agents.{state_at, is_talking}
 use Rattle.dp_conf.specs.Changes.{changed_at}
+use Rattle.dp_conf.specs.Numbers.{most_priority}
 use Rattle.dp_queue.specs.Joining.{waits_in}
 use Rattle.dp_queue.specs.Queues.{QueuesOf}
 use Rattle.dp_vars.specs.Stores.{StoreOf}
@@ -124,10 +125,6 @@ IsLawful touches rows = (name : List ℕ) (row : Row) → rows name ≡ Some row
 pub record IsBlind (touches : List ℕ → Touch) (rows : Rows) : Type 0 where
   pub row : (name spelling : List ℕ) → same_word name spelling ≡ true → rows spelling ≡ rows name
   pub touch : (name spelling : List ℕ) → same_word name spelling ≡ true → touches spelling ≡ touches name
-
--- the greatest priority of an entry
-abbrev pub most_priority : ℕ
-most_priority = 2147483647
 
 -- the channel of a cell may run an application: it stands at a priority of an entry, waits in no queue and talks with no agent
 pub record MayRun (cell : Cell) : Type 0 where

@@ -2,7 +2,7 @@
 //! documentation's application reference.
 use dp_app::{AppTable, Move, Target, TargetParts};
 use dp_conf::{NoMemory, cut_once};
-use dp_rows::{Question, bytes_of, check, push_bytes, text_of};
+use dp_questions::{Question, bytes_of, check, push_bytes, text_of};
 use dp_table::StandardApps;
 use std::alloc::Global;
 use std::test::Fail;

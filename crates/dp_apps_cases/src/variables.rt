@@ -1,7 +1,7 @@
 //! Dialplans with variables, worked out by hand from the rules.
 use dp_machine::{Event, NoMemory};
-use dp_machine_rows::{Ask, Exchange, answer_on, call, push_value, state_of};
-use dp_rows::{Question, check, push_bytes};
+use dp_machine_fixture::{Ask, Exchange, answer_on, call, push_value, state_of};
+use dp_questions::{Question, check, push_bytes};
 use std::alloc::Global;
 use std::test::Fail;
 

@@ -1,5 +1,5 @@
 -- What is noted of entries that others hide, for one context after another.
-use Rattle.std.proofs.Common.{◌≡◌, ℕ, zero, suc, ◌+◌, ◌-◌, ◌<◌, ◌≤◌, ◌==◌, nat_lt, Bool, true, false, ◌&&◌, ◌||◌, List, [], ◌∷◌, ◌++◌, length, map, take, set, get_or, slice_get, Option, Some, None, unwrap_or, if◌then◌else◌, append_assoc, refl, sym, ap, ◌∙◌, arith, inl, inr}
+use Rattle.std.proofs.Common.{◌≡◌, ℕ, zero, suc, ◌+◌, ◌-◌, ◌<◌, ◌≤◌, ◌==◌, nat_lt, Bool, true, false, ◌&&◌, ◌||◌, List, [], ◌∷◌, ◌++◌, length, map, take, get_or, slice_get, Option, Some, None, unwrap_or, if◌then◌else◌, append_assoc, refl, sym, ap, ◌∙◌, arith, inl, inr}
 use Rattle.std.specs.Prelude.{replicate}
 use Rattle.std.specs.List.{filter, list_any, range_with_len}
 use Rattle.std.specs.Option.{option_and_then, option_map, option_map_or}
@@ -69,15 +69,15 @@ noted-changed : (change : List ℕ → List ℕ) (id other : EntryId) (notes : N
     → noted_at (changed_at (changed_at change id.entry) id.context notes) other
     ≡ option_map (λ noted. if same_id other id then change noted else noted) (noted_at notes other)
 noted-changed change id other notes =
-    ap (option_and_then (λ (row : List (List ℕ)). slice_get row other.entry)) (slice_get-changed (changed_at change id.entry) id.context other.context notes)
+    ap (option_and_then (λ (numbers : List (List ℕ)). slice_get numbers other.entry)) (slice_get-changed (changed_at change id.entry) id.context other.context notes)
     ∙ by (slice_get notes other.context) (other.context == id.context)
   where
-    by : (row : Option (List (List ℕ))) (b : Bool) →
-        option_and_then (λ (row : List (List ℕ)). slice_get row other.entry) (option_map (λ row. if b then changed_at change id.entry row else row) row)
-        ≡ option_map (λ noted. if b && other.entry == id.entry then change noted else noted) (option_and_then (λ (row : List (List ℕ)). slice_get row other.entry) row)
+    by : (numbers : Option (List (List ℕ))) (b : Bool) →
+        option_and_then (λ (numbers : List (List ℕ)). slice_get numbers other.entry) (option_map (λ numbers. if b then changed_at change id.entry numbers else numbers) numbers)
+        ≡ option_map (λ noted. if b && other.entry == id.entry then change noted else noted) (option_and_then (λ (numbers : List (List ℕ)). slice_get numbers other.entry) numbers)
     by None b = refl
-    by (Some row) true = slice_get-changed change id.entry other.entry row
-    by (Some row) false = same_map (slice_get row other.entry)
+    by (Some numbers) true = slice_get-changed change id.entry other.entry numbers
+    by (Some numbers) false = same_map (slice_get numbers other.entry)
 
 -- nothing more is noted
 pub grows_none : (notes : Notes) (more : EntryId → List ℕ) → ((id : EntryId) → more id ≡ []) → Grows notes notes more
@@ -325,7 +325,7 @@ no_numbers = []
 -- of each entry nothing is noted at first
 pub nothing_noted : (plan : PlanOf) (id : EntryId) → noted_at (no_notes plan.contexts) id ≡ option_map (λ entry. []) (entry_at plan id)
 nothing_noted plan id =
-    ap (option_and_then (λ (row : List (List ℕ)). slice_get row id.entry)) (slice_get-map (λ context. replicate (length context.entries) []) plan.contexts id.context)
+    ap (option_and_then (λ (numbers : List (List ℕ)). slice_get numbers id.entry)) (slice_get-map (λ context. replicate (length context.entries) []) plan.contexts id.context)
     ∙ by (slice_get plan.contexts id.context)
   where
     none : (xs : List Entry) (k : ℕ) → slice_get (replicate (length xs) no_numbers) k ≡ option_map (λ x. []) (slice_get xs k)
@@ -334,7 +334,7 @@ nothing_noted plan id =
     none (x ∷ xs) (suc k) = none xs k
 
     by : (o : Option PlanContext)
-        → option_and_then (λ (row : List (List ℕ)). slice_get row id.entry) (option_map (λ context. replicate (length context.entries) []) o)
+        → option_and_then (λ (numbers : List (List ℕ)). slice_get numbers id.entry) (option_map (λ context. replicate (length context.entries) []) o)
         ≡ option_map (λ entry. []) (option_and_then (λ context. slice_get context.entries id.entry) o)
     by None = refl
     by (Some context) = none context.entries id.entry

@@ -1,6 +1,5 @@
 pub mod CandidatesLemmas
 pub mod CandidatesOrder
-mod CandidatesRows
 mod CycleLemmas
 pub mod FindingsLemmas
 mod HiddenLemmas
@@ -8,6 +7,6 @@ pub mod HidingLemmas
 pub mod LabelsLemmas
 mod NeighbourLemmas
 pub mod OrderLemmas
-mod Rows
 pub mod TargetsLemmas
 pub mod UnsetLemmas
+mod cases

@@ -5,11 +5,10 @@ use Rattle.std.specs.Option.{option_map, option_map_or, option_to_list}
 use Rattle.dp_conf.specs.Blanks.{trim}
 use Rattle.dp_conf.specs.Cut.{cut_once}
 use Rattle.dp_conf.specs.Levels.{arguments_of, cut_outside}
-use Rattle.dp_conf.specs.Numbers.{number_of}
+use Rattle.dp_conf.specs.Numbers.{number_of, most_priority}
 use Rattle.dp_conf.specs.Words.{same_word}
 use Rattle.dp_pattern.specs.Name.{Meaning, Plain, Pattern}
 use Rattle.dp_plan.specs.Plan.{PlanOf}
-use Rattle.dp_plan.specs.Priority.{most_priority}
 use Rattle.dp_plan.specs.declared.entry.Entry.{Entry}
 use Rattle.dp_vars.specs.Openings.{has_opening}
 use Rattle.dp_audit.specs.Finders.{answers, has_label}

@@ -59,28 +59,28 @@ impl Numbers {
 
 /// Such numbers of each entry of a context. A contract sees them as a list of lists.
 #[derive(Drop)]
-struct Row {
+struct EntryNumbers {
     entries: Vec<Numbers>,
 }
 
-impl Model for Row {
+impl Model for EntryNumbers {
     ghost use Rattle.std.specs.Prelude.{ℕ, List};
 
     ghost Value = { List (List ℕ) };
 
-    ghost view = { λ row. row.entries.items };
+    ghost view = { λ noted. noted.entries.items };
 }
 
-impl Row {
+impl EntryNumbers {
     /// No numbers of so many entries.
     fn of(alloc: Global, count: usize) -> Result<Self, NoMemory>
-        ensures { IfOk result (λ row. row ≡ replicate count []) }
+        ensures { IfOk result (λ noted. noted ≡ replicate count []) }
     {
         let mut entries = Vec::with_capacity(alloc, count)?;
         for _ in 0..count {
             entries.push(Numbers::new(alloc))?;
         }
-        Ok(Row { entries })
+        Ok(EntryNumbers { entries })
     }
 
     /// Adds a number to those of an entry, where there is one.
@@ -108,7 +108,7 @@ impl Row {
 /// From which contexts each entry of a dialplan is hidden. A contract sees it as what is noted of the entries of each context.
 #[derive(Drop)]
 pub(crate) struct Hidings {
-    rows: Vec<Row>,
+    notes: Vec<EntryNumbers>,
 }
 
 impl Model for Hidings {
@@ -116,7 +116,7 @@ impl Model for Hidings {
 
     ghost Value = { Notes };
 
-    ghost view = { λ hidings. hidings.rows.items };
+    ghost view = { λ hidings. hidings.notes.items };
 }
 
 impl Hidings {
@@ -124,11 +124,11 @@ impl Hidings {
     fn none(alloc: Global, contexts: &[Context]) -> Result<Self, NoMemory>
         ensures { IfOk result (λ hidings. hidings ≡ spec.no_notes contexts.now) }
     {
-        let mut rows = Vec::with_capacity(alloc, contexts.len())?;
+        let mut notes = Vec::with_capacity(alloc, contexts.len())?;
         for context in contexts {
-            rows.push(Row::of(alloc, context.entries().len())?)?;
+            notes.push(EntryNumbers::of(alloc, context.entries().len())?)?;
         }
-        Ok(Hidings { rows })
+        Ok(Hidings { notes })
     }
 
     /// Adds a number to those of an entry, where there is one.
@@ -136,9 +136,9 @@ impl Hidings {
         ensures { OnOk result (self.new ≡ changed_at
             (changed_at (spec.with_number number) id.entry) id.context self.old) }
     {
-        if id.context < self.rows.len() {
-            let row = &mut self.rows[id.context];
-            row.push(id.entry, number)?;
+        if id.context < self.notes.len() {
+            let noted = &mut self.notes[id.context];
+            noted.push(id.entry, number)?;
         }
         Ok(())
     }
@@ -251,8 +251,8 @@ impl Hidings {
     fn get(&self, id: EntryId) -> &[usize]
         ensures { result.now ≡ unwrap_or (spec.noted_at self.now id) [] }
     {
-        match self.rows.get(id.context) {
-            Some(row) => row.get(id.entry),
+        match self.notes.get(id.context) {
+            Some(noted) => noted.get(id.entry),
             None => &[],
         }
     }

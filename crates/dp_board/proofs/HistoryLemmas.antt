@@ -1,5 +1,5 @@
 -- The places of a seat's entries, and a history without the calls of one channel.
-use Rattle.std.proofs.Common.{zero, suc, ◌≡◌, ℕ, ◌+◌, ◌<◌, ◌≤◌, ◌==◌, Bool, true, false, not, List, [], ◌∷◌, length, map, filter, get_or, if◌then◌else◌, refl, sym, ap, subst, ◌∙◌, arith, All}
+use Rattle.std.proofs.Common.{zero, suc, ◌≡◌, ℕ, ◌+◌, ◌<◌, ◌≤◌, ◌==◌, Bool, true, false, not, List, [], ◌∷◌, map, filter, get_or, if◌then◌else◌, refl, sym, ap, subst, ◌∙◌, arith, All}
 use Rattle.std.specs.List.{zip}
 use Rattle.std.specs.List.Sorted.{IsStrictlyIncreasing}
 use Rattle.dp_app.specs.Rows.{Rows}

@@ -14,8 +14,6 @@ mod gates;
 #[cfg(test)]
 mod pauses;
 #[cfg(test)]
-mod play;
-#[cfg(test)]
 mod reloads;
 #[cfg(test)]
 mod turns;

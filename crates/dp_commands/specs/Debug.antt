@@ -10,7 +10,7 @@ use Rattle.dp_debug.specs.declared.breaks.Break.TheVariants.{At}
 use Rattle.dp_machine.specs.Events.{event_row, is_refused}
 use Rattle.dp_machine.specs.Replay.{final_world}
 use Rattle.dp_machine.specs.World.{World}
-use Rattle.dp_plan.specs.Priority.{most_priority}
+use Rattle.dp_conf.specs.Numbers.{most_priority}
 use Rattle.dp_queue.specs.Changes.{one_more}
 use Rattle.dp_table.specs.Standard.{standard_rows}
 use Rattle.dp_commands.specs.Run.{Run, run_of}

@@ -6,7 +6,6 @@ mod EscapeParts
 mod LevelLemmas
 pub mod LinesKnown
 pub mod LinesLemmas
-mod Rows
 pub mod TakingLemmas
 pub mod ToldLemmas
 mod TrimLemmas
@@ -14,3 +13,4 @@ pub mod GroupsLemmas
 pub mod NestLemmas
 mod PlainNest
 pub mod TextLemmas
+mod cases

@@ -18,3 +18,7 @@ digits_number digits = fold with_digit 0 digits
 abbrev pub number_of : List ℕ → Option ℕ
 number_of [] = None
 number_of (b ∷ bs) = if list_all is_digit (b ∷ bs) then Some (digits_number (b ∷ bs)) else None
+
+-- the greatest priority that an entry may have
+abbrev pub most_priority : ℕ
+most_priority = 2147483647

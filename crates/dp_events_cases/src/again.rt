@@ -2,8 +2,8 @@
 //! from the rules.
 use dp_commands::{ScriptLine, Turn, read_script};
 use dp_machine::{Dialplan, Event, Machine, NoMemory, Queues, Reply};
-use dp_machine_rows::{Exchange, call, push_state, push_value};
-use dp_rows::{Question, bytes_of, check, check_same};
+use dp_machine_fixture::{Exchange, call, push_state, push_value};
+use dp_questions::{Question, bytes_of, check, check_same};
 use std::alloc::Global;
 use std::str;
 use std::test::Fail;

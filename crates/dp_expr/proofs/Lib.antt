@@ -1,4 +1,3 @@
-mod Rows
 mod Reducing
 mod Completeness
 mod Soundness
@@ -8,3 +7,4 @@ pub mod TokensLemmas
 pub mod NumbersLemmas
 pub mod TextsLemmas
 pub mod FramesLemmas
+mod cases

@@ -3,7 +3,7 @@ ghost use Rattle.std.specs.Prelude.{◌≡◌, ◌+◌, ◌++◌, ◌≤◌, ◌
 ghost use Rattle.std.specs.Fmt.{decimal};
 ghost use Rattle.std.specs.Option.{option_map};
 ghost use Rattle.dp_conf.specs.Cut.{cut_once};
-ghost use Rattle.dp_app.specs.Lawful.{most_priority};
+ghost use Rattle.dp_conf.specs.Numbers.{most_priority};
 ghost use Rattle.dp_flow.specs.steps.Calls as calls;
 ghost use Rattle.dp_flow.specs.Jumps as spec;
 

@@ -8,7 +8,7 @@ use Rattle.std.proofs.lemmas.Fmt.{decimal_is_IsNumeral}
 use Rattle.std.proofs.lemmas.Str.{digit_value_digit}
 use Rattle.std.proofs.lemmas.Str.Parse.{digit_from_value}
 use Rattle.dp_conf.specs.Blanks.{is_blank}
-use Rattle.dp_conf.specs.Numbers.{is_digit, with_digit, digits_number}
+use Rattle.dp_conf.specs.Numbers.{is_digit, with_digit, digits_number, most_priority}
 use Rattle.dp_conf.proofs.TextLemmas.{Avoids, each-append, each-weaker, any-none, none-any, IsTrimmed, trim-trimmed, trimmed-firm, trimmed-between, BeginsFirm, trim_end-after, cut_once-here, cut_once-nowhere}
 use Rattle.dp_pattern.specs.Name.{Meaning, is_bad, IsName}
 use Rattle.dp_pattern.specs.Spelling.{spelling}
@@ -16,7 +16,7 @@ use Rattle.dp_pattern.proofs.SpelledBytes.{spells_cleanly}
 use Rattle.dp_pattern.proofs.SpellingLemmas.{spelled_again}
 use Rattle.dp_plan.specs.EntryLine.{without_last, name_of, written_of, label_within, written_priority, application_of, entry_by, exten_entry}
 use Rattle.dp_plan.specs.History.{History}
-use Rattle.dp_plan.specs.Priority.{IsPriority, most_priority}
+use Rattle.dp_plan.specs.Priority.{IsPriority}
 use Rattle.dp_plan.specs.declared.entry.Entry.{Entry}
 use Rattle.dp_plan.proofs.ItemWords.{number as Number}
 use Rattle.dp_plan.proofs.PartsKnown.{IsExtension, IsLabel, IsLabelled, IsApplication, IsEntry, IsValue}

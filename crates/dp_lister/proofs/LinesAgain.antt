@@ -116,44 +116,44 @@ ReadsAs text item = (line : ℕ) → item_of true line (trim text) ≡ Ok (item 
 
 -- the lines beside what they are read as
 abbrev pub ReadAs : List (List ℕ × (ℕ → LineOf)) → Type 0
-ReadAs = AllByRecursion (λ row. Avoids 10 row.0 × ReadsAs row.0 row.1)
+ReadAs = AllByRecursion (λ wording. Avoids 10 wording.0 × ReadsAs wording.0 wording.1)
 
 -- the items of lines, numbered after so many lines
 abbrev pub conf_lines : ℕ → List (List ℕ × (ℕ → LineOf)) → List LineOf
 conf_lines n [] = []
-conf_lines n (row ∷ rows) = row.1 (n + 1) ∷ conf_lines (n + 1) rows
+conf_lines n (wording ∷ wordings) = wording.1 (n + 1) ∷ conf_lines (n + 1) wordings
 
 abbrev readings : List (List ℕ) → List (List ℕ × (ℕ → LineOf)) → Result (List LineOf) LineFault
-readings before rows = all_of (each_after reading_of before (map escaped (map (λ row. row.0) rows) ++ [] ∷ []))
+readings before wordings = all_of (each_after reading_of before (map escaped (map (λ wording. wording.0) wordings) ++ [] ∷ []))
 
 reading_of-written : (before : List (List ℕ)) (s : Bool) (n : ℕ) (text : List ℕ) (item : LineOf) → list_any opens_section before ≡ s → length before ≡ n → item_of s (n + 1) (trim text) ≡ Ok (item ∷ []) → reading_of before (escaped text) ≡ Ok (item ∷ [])
 reading_of-written before s n text item opened count read =
     (λ i. at_line (count i + 1) (part_item (opened i) (count i + 1) (escaped text)))
     ∙ (ap (at_line (n + 1)) (part_item-written s (n + 1) text ∙ read))
 
-read-rows : (rows : List (List ℕ × (ℕ → LineOf))) (before : List (List ℕ)) (n : ℕ) → list_any opens_section before ≡ true → length before ≡ n → ReadAs rows → readings before rows ≡ Ok (conf_lines n rows)
-read-rows [] before n opened count read = refl
-read-rows (row ∷ rows) before n opened count read =
-    let opened_on : list_any opens_section (before ++ escaped row.0 ∷ []) ≡ true = list_any-append opens_section before (escaped row.0 ∷ []) ∙ ap (λ t. t || list_any opens_section (escaped row.0 ∷ [])) opened in
-    let count_on : length (before ++ escaped row.0 ∷ []) ≡ n + 1 = length-append before (escaped row.0 ∷ []) ∙ ap (λ k. k + 1) count in
-    ap (λ (r : Result (List LineOf) LineFault). all_of (r ∷ each_after reading_of (before ++ escaped row.0 ∷ []) (map escaped (map (λ row. row.0) rows) ++ [] ∷ []))) (reading_of-written before true n row.0 (row.1 (n + 1)) opened count (read.0.1 (n + 1)))
-    ∙ ap (with_front (row.1 (n + 1) ∷ [])) (read-rows rows (before ++ escaped row.0 ∷ []) (n + 1) opened_on count_on read.1)
+read-wordings : (wordings : List (List ℕ × (ℕ → LineOf))) (before : List (List ℕ)) (n : ℕ) → list_any opens_section before ≡ true → length before ≡ n → ReadAs wordings → readings before wordings ≡ Ok (conf_lines n wordings)
+read-wordings [] before n opened count read = refl
+read-wordings (wording ∷ wordings) before n opened count read =
+    let opened_on : list_any opens_section (before ++ escaped wording.0 ∷ []) ≡ true = list_any-append opens_section before (escaped wording.0 ∷ []) ∙ ap (λ t. t || list_any opens_section (escaped wording.0 ∷ [])) opened in
+    let count_on : length (before ++ escaped wording.0 ∷ []) ≡ n + 1 = length-append before (escaped wording.0 ∷ []) ∙ ap (λ k. k + 1) count in
+    ap (λ (r : Result (List LineOf) LineFault). all_of (r ∷ each_after reading_of (before ++ escaped wording.0 ∷ []) (map escaped (map (λ wording. wording.0) wordings) ++ [] ∷ []))) (reading_of-written before true n wording.0 (wording.1 (n + 1)) opened count (read.0.1 (n + 1)))
+    ∙ ap (with_front (wording.1 (n + 1) ∷ [])) (read-wordings wordings (before ++ escaped wording.0 ∷ []) (n + 1) opened_on count_on read.1)
 
 -- lines of which the first is a header
-pub lines_of-written : (name : List ℕ) (rows : List (List ℕ × (ℕ → LineOf))) → IsHeaderName name → ReadAs rows → lines_of (text_of (header_line name ∷ map (λ row. row.0) rows)) ≡ Ok (Header 1 name ∷ conf_lines 1 rows)
+pub lines_of-written : (name : List ℕ) (wordings : List (List ℕ × (ℕ → LineOf))) → IsHeaderName name → ReadAs wordings → lines_of (text_of (header_line name ∷ map (λ wording. wording.0) wordings)) ≡ Ok (Header 1 name ∷ conf_lines 1 wordings)
 unfolding lines_of
-lines_of-written name rows fine read =
+lines_of-written name wordings fine read =
     let header : Avoids 10 (header_line name) = (refl, each-append (λ b. (b == 10) ≡ false) name (93 ∷ []) fine.one_line (refl, tt)) in
-    let texts : AllByRecursion (Avoids 10) (map (λ row. row.0) rows) = one_lines rows read in
+    let texts : AllByRecursion (Avoids 10) (map (λ wording. wording.0) wordings) = one_lines wordings read in
     let opens : list_any opens_section (escaped (header_line name) ∷ []) ≡ true =
     ap (λ (content : List ℕ). begins_with 91 content || false) (content_of-escaped (header_line name) ∙ trim-header name) in
-    ap (λ (parts : List (List ℕ)). all_of (each_after reading_of [] parts)) (parts_of-text_of (header_line name ∷ map (λ row. row.0) rows) (header, texts))
-    ∙ (ap (λ (r : Result (List LineOf) LineFault). all_of (r ∷ each_after reading_of (escaped (header_line name) ∷ []) (map escaped (map (λ row. row.0) rows) ++ [] ∷ []))) (reading_of-written [] false 0 (header_line name) (Header 1 name) refl refl (header_reads false 1 name fine))
-    ∙ ap (with_front (Header 1 name ∷ [])) (read-rows rows (escaped (header_line name) ∷ []) 1 opens refl read))
+    ap (λ (parts : List (List ℕ)). all_of (each_after reading_of [] parts)) (parts_of-text_of (header_line name ∷ map (λ wording. wording.0) wordings) (header, texts))
+    ∙ (ap (λ (r : Result (List LineOf) LineFault). all_of (r ∷ each_after reading_of (escaped (header_line name) ∷ []) (map escaped (map (λ wording. wording.0) wordings) ++ [] ∷ []))) (reading_of-written [] false 0 (header_line name) (Header 1 name) refl refl (header_reads false 1 name fine))
+    ∙ ap (with_front (Header 1 name ∷ [])) (read-wordings wordings (escaped (header_line name) ∷ []) 1 opens refl read))
   where
-    one_lines : (rows : List (List ℕ × (ℕ → LineOf))) → ReadAs rows → AllByRecursion (Avoids 10) (map (λ row. row.0) rows)
+    one_lines : (wordings : List (List ℕ × (ℕ → LineOf))) → ReadAs wordings → AllByRecursion (Avoids 10) (map (λ wording. wording.0) wordings)
     one_lines [] read = tt
-    one_lines (row ∷ rows) read = (read.0.0, one_lines rows read.1)
+    one_lines (wording ∷ wordings) read = (read.0.0, one_lines wordings read.1)
 
 -- no lines
 pub lines_of-nothing : lines_of [] ≡ Ok []

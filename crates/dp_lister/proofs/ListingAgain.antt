@@ -24,25 +24,25 @@ use Rattle.dp_lister.specs.Listing.{global_line, global_lines, priority_text, ap
 use Rattle.dp_lister.proofs.LinesAgain.{header_reads, pair_line, pair_reads, ReadsAs, ReadAs, conf_lines, lines_of-written, lines_of-nothing}
 
 -- a line beside what it is read as
-abbrev Row : Type 0
-Row = List ℕ × (ℕ → LineOf)
+abbrev Wording : Type 0
+Wording = List ℕ × (ℕ → LineOf)
 
-abbrev IsRow : Row → Type 0
-IsRow row = Avoids 10 row.0 × ReadsAs row.0 row.1
+abbrev IsWording : Wording → Type 0
+IsWording wording = Avoids 10 wording.0 × ReadsAs wording.0 wording.1
 
 -- ---- the lines, one by one
 
-header_row : (name : List ℕ) → IsHeaderName name → IsRow (header_line name, header_of name)
-header_row name fine =
+header_wording : (name : List ℕ) → IsHeaderName name → IsWording (header_line name, header_of name)
+header_wording name fine =
     ((refl, each-append (λ b. (b == 10) ≡ false) name (93 ∷ []) fine.one_line (refl, tt)), λ line. header_reads true line name fine)
 
-pair_row : (text key value : List ℕ) → text ≡ pair_line key value → IsKey key → IsValue value → IsRow (text, λ line. global_of (record { name = key; value = value }) line)
-pair_row text key value same fine v =
+pair_wording : (text key value : List ℕ) → text ≡ pair_line key value → IsKey key → IsValue value → IsWording (text, λ line. global_of (record { name = key; value = value }) line)
+pair_wording text key value same fine v =
     let avoids : Avoids 10 (pair_line key value) = each-append (λ b. (b == 10) ≡ false) key (codes " => " ++ value) fine.one_line (refl, (refl, (refl, (refl, v.one_line)))) in
     (subst (Avoids 10) (sym same) avoids, λ line. ap (λ (t : List ℕ). item_of true line (trim t)) same ∙ pair_reads line key value fine v)
 
-global_row : (global : GlobalVariable) → IsGlobal global → IsRow (global_line global, global_of global)
-global_row global fine = pair_row (global_line global) global.name global.value (append_assoc global.name (codes " => ") global.value) fine.name fine.value
+global_wording : (global : GlobalVariable) → IsGlobal global → IsWording (global_line global, global_of global)
+global_wording global fine = pair_wording (global_line global) global.name global.value (append_assoc global.name (codes " => ") global.value) fine.name fine.value
 
 exten_key : IsKey (codes "exten")
 exten_key = record {
@@ -79,90 +79,90 @@ entry_line-is entry =
     ∙ ap (λ (text : List ℕ). 44 ∷ text) (append_assoc (priority_text entry.priority entry.label) (44 ∷ []) (called_text entry.application entry.arguments)) in
     ap (λ (text : List ℕ). codes "exten => " ++ (spelling entry.name ++ text)) after
 
-entry_row : (entry : Entry) → IsEntry entry → IsRow (entry_line entry, exten_of entry)
-entry_row entry fine = pair_row (entry_line entry) (codes "exten") (entry_text entry) (entry_line-is entry) exten_key (entry_text-value entry fine)
+entry_wording : (entry : Entry) → IsEntry entry → IsWording (entry_line entry, exten_of entry)
+entry_wording entry fine = pair_wording (entry_line entry) (codes "exten") (entry_text entry) (entry_line-is entry) exten_key (entry_text-value entry fine)
 
-include_row : (name : List ℕ) → IsIncluded name → IsRow (include_line name, include_of name)
-include_row name fine = pair_row (include_line name) (codes "include") name refl include_key fine.value
+include_wording : (name : List ℕ) → IsIncluded name → IsWording (include_line name, include_of name)
+include_wording name fine = pair_wording (include_line name) (codes "include") name refl include_key fine.value
 
 -- ---- the lines of a dialplan
 
-rows_of_globals : List GlobalVariable → List Row
-rows_of_globals globals = map (λ g. (global_line g, global_of g)) globals
+wordings_of_globals : List GlobalVariable → List Wording
+wordings_of_globals globals = map (λ g. (global_line g, global_of g)) globals
 
-rows_after : PlanContext → List Row
-rows_after context = map (λ e. (entry_line e, exten_of e)) context.entries ++ map (λ i. (include_line i, include_of i)) context.includes
+wordings_after : PlanContext → List Wording
+wordings_after context = map (λ e. (entry_line e, exten_of e)) context.entries ++ map (λ i. (include_line i, include_of i)) context.includes
 
-rows_of_contexts : List PlanContext → List Row
-rows_of_contexts [] = []
-rows_of_contexts (context ∷ contexts) = (header_line context.name, header_of context.name) ∷ (rows_after context ++ rows_of_contexts contexts)
+wordings_of_contexts : List PlanContext → List Wording
+wordings_of_contexts [] = []
+wordings_of_contexts (context ∷ contexts) = (header_line context.name, header_of context.name) ∷ (wordings_after context ++ wordings_of_contexts contexts)
 
-each-of : {X : Type 0} (P : X → Type 0) (f : X → Row) (xs : List X) → ((x : X) → P x → IsRow (f x)) → AllByRecursion P xs → ReadAs (map f xs)
+each-of : {X : Type 0} (P : X → Type 0) (f : X → Wording) (xs : List X) → ((x : X) → P x → IsWording (f x)) → AllByRecursion P xs → ReadAs (map f xs)
 each-of P f [] one all = tt
 each-of P f (x ∷ xs) one all = (one x all.0, each-of P f xs one all.1)
 
-globals-read : (globals : List GlobalVariable) → AllByRecursion IsGlobal globals → ReadAs (rows_of_globals globals)
-unfolding rows_of_globals
-globals-read globals fine = each-of IsGlobal (λ g. (global_line g, global_of g)) globals global_row fine
+globals-read : (globals : List GlobalVariable) → AllByRecursion IsGlobal globals → ReadAs (wordings_of_globals globals)
+unfolding wordings_of_globals
+globals-read globals fine = each-of IsGlobal (λ g. (global_line g, global_of g)) globals global_wording fine
 
-after-read : (context : PlanContext) → IsContext context → ReadAs (rows_after context)
-unfolding rows_after
+after-read : (context : PlanContext) → IsContext context → ReadAs (wordings_after context)
+unfolding wordings_after
 after-read context fine =
-    each-append IsRow (map (λ e. (entry_line e, exten_of e)) context.entries) (map (λ i. (include_line i, include_of i)) context.includes)
-    (each-of IsEntry (λ e. (entry_line e, exten_of e)) context.entries entry_row fine.entries)
-    (each-of IsIncluded (λ i. (include_line i, include_of i)) context.includes include_row fine.includes)
+    each-append IsWording (map (λ e. (entry_line e, exten_of e)) context.entries) (map (λ i. (include_line i, include_of i)) context.includes)
+    (each-of IsEntry (λ e. (entry_line e, exten_of e)) context.entries entry_wording fine.entries)
+    (each-of IsIncluded (λ i. (include_line i, include_of i)) context.includes include_wording fine.includes)
 
-contexts-read : (contexts : List PlanContext) → AllByRecursion IsContext contexts → ReadAs (rows_of_contexts contexts)
-unfolding rows_of_contexts
+contexts-read : (contexts : List PlanContext) → AllByRecursion IsContext contexts → ReadAs (wordings_of_contexts contexts)
+unfolding wordings_of_contexts
 contexts-read [] fine = tt
 contexts-read (context ∷ contexts) fine =
-    (header_row context.name fine.0.name.header, each-append IsRow (rows_after context) (rows_of_contexts contexts) (after-read context fine.0) (contexts-read contexts fine.1))
+    (header_wording context.name fine.0.name.header, each-append IsWording (wordings_after context) (wordings_of_contexts contexts) (after-read context fine.0) (contexts-read contexts fine.1))
 
 -- their texts, and what they are read as
 
-abbrev texts : List Row → List (List ℕ)
-texts rows = map (λ row. row.0) rows
+abbrev texts : List Wording → List (List ℕ)
+texts wordings = map (λ wording. wording.0) wordings
 
-abbrev says : List Row → List (ℕ → LineOf)
-says rows = map (λ row. row.1) rows
+abbrev says : List Wording → List (ℕ → LineOf)
+says wordings = map (λ wording. wording.1) wordings
 
-globals-texts : (globals : List GlobalVariable) → texts (rows_of_globals globals) ≡ map global_line globals
-unfolding rows_of_globals
-globals-texts globals = map-map (λ (row : Row). row.0) (λ g. (global_line g, global_of g)) globals
+globals-texts : (globals : List GlobalVariable) → texts (wordings_of_globals globals) ≡ map global_line globals
+unfolding wordings_of_globals
+globals-texts globals = map-map (λ (wording : Wording). wording.0) (λ g. (global_line g, global_of g)) globals
 
-globals-says : (globals : List GlobalVariable) → says (rows_of_globals globals) ≡ map global_of globals
-unfolding rows_of_globals
-globals-says globals = map-map (λ (row : Row). row.1) (λ g. (global_line g, global_of g)) globals
+globals-says : (globals : List GlobalVariable) → says (wordings_of_globals globals) ≡ map global_of globals
+unfolding wordings_of_globals
+globals-says globals = map-map (λ (wording : Wording). wording.1) (λ g. (global_line g, global_of g)) globals
 
-after-texts : (context : PlanContext) → texts (rows_after context) ≡ map entry_line context.entries ++ map include_line context.includes
-unfolding rows_after
+after-texts : (context : PlanContext) → texts (wordings_after context) ≡ map entry_line context.entries ++ map include_line context.includes
+unfolding wordings_after
 after-texts context =
-    map-append (λ (row : Row). row.0) (map (λ e. (entry_line e, exten_of e)) context.entries) (map (λ i. (include_line i, include_of i)) context.includes)
-    ∙ (λ k. map-map (λ (row : Row). row.0) (λ e. (entry_line e, exten_of e)) context.entries k ++ map-map (λ (row : Row). row.0) (λ i. (include_line i, include_of i)) context.includes k)
+    map-append (λ (wording : Wording). wording.0) (map (λ e. (entry_line e, exten_of e)) context.entries) (map (λ i. (include_line i, include_of i)) context.includes)
+    ∙ (λ k. map-map (λ (wording : Wording). wording.0) (λ e. (entry_line e, exten_of e)) context.entries k ++ map-map (λ (wording : Wording). wording.0) (λ i. (include_line i, include_of i)) context.includes k)
 
-after-says : (context : PlanContext) → says (rows_after context) ≡ map exten_of context.entries ++ map include_of context.includes
-unfolding rows_after
+after-says : (context : PlanContext) → says (wordings_after context) ≡ map exten_of context.entries ++ map include_of context.includes
+unfolding wordings_after
 after-says context =
-    map-append (λ (row : Row). row.1) (map (λ e. (entry_line e, exten_of e)) context.entries) (map (λ i. (include_line i, include_of i)) context.includes)
-    ∙ (λ k. map-map (λ (row : Row). row.1) (λ e. (entry_line e, exten_of e)) context.entries k ++ map-map (λ (row : Row). row.1) (λ i. (include_line i, include_of i)) context.includes k)
+    map-append (λ (wording : Wording). wording.1) (map (λ e. (entry_line e, exten_of e)) context.entries) (map (λ i. (include_line i, include_of i)) context.includes)
+    ∙ (λ k. map-map (λ (wording : Wording). wording.1) (λ e. (entry_line e, exten_of e)) context.entries k ++ map-map (λ (wording : Wording). wording.1) (λ i. (include_line i, include_of i)) context.includes k)
 
-contexts-texts : (contexts : List PlanContext) → texts (rows_of_contexts contexts) ≡ flat_map context_lines contexts
-unfolding rows_of_contexts
+contexts-texts : (contexts : List PlanContext) → texts (wordings_of_contexts contexts) ≡ flat_map context_lines contexts
+unfolding wordings_of_contexts
 contexts-texts [] = refl
 contexts-texts (context ∷ contexts) =
     ap (λ (lines : List (List ℕ)). header_line context.name ∷ lines)
-    (map-append (λ (row : Row). row.0) (rows_after context) (rows_of_contexts contexts) ∙ (λ k. after-texts context k ++ contexts-texts contexts k))
+    (map-append (λ (wording : Wording). wording.0) (wordings_after context) (wordings_of_contexts contexts) ∙ (λ k. after-texts context k ++ contexts-texts contexts k))
 
-contexts-says : (contexts : List PlanContext) → says (rows_of_contexts contexts) ≡ lines_of_contexts contexts
-unfolding rows_of_contexts
+contexts-says : (contexts : List PlanContext) → says (wordings_of_contexts contexts) ≡ lines_of_contexts contexts
+unfolding wordings_of_contexts
 contexts-says [] = refl
 contexts-says (context ∷ contexts) =
     ap (λ (lines : List (ℕ → LineOf)). header_of context.name ∷ lines)
-    (map-append (λ (row : Row). row.1) (rows_after context) (rows_of_contexts contexts) ∙ (λ k. after-says context k ++ contexts-says contexts k))
+    (map-append (λ (wording : Wording). wording.1) (wordings_after context) (wordings_of_contexts contexts) ∙ (λ k. after-says context k ++ contexts-says contexts k))
 
-conf_lines-are : (n : ℕ) (rows : List Row) → conf_lines n rows ≡ numbered_lines n (says rows)
+conf_lines-are : (n : ℕ) (wordings : List Wording) → conf_lines n wordings ≡ numbered_lines n (says wordings)
 conf_lines-are n [] = refl
-conf_lines-are n (row ∷ rows) = ap (λ (lines : List LineOf). row.1 (n + 1) ∷ lines) (conf_lines-are (n + 1) rows)
+conf_lines-are n (wording ∷ wordings) = ap (λ (lines : List LineOf). wording.1 (n + 1) ∷ lines) (conf_lines-are (n + 1) wordings)
 
 globals_name : IsHeaderName (codes "globals")
 globals_name = record {
@@ -173,24 +173,24 @@ globals_name = record {
 }
 
 -- lines of which the first is a header, by their texts and by what they are read as
-read_by : (name : List ℕ) (rows : List Row) (lines : List (List ℕ)) (makes : List (ℕ → LineOf)) → IsHeaderName name → ReadAs rows → texts rows ≡ lines → says rows ≡ makes → lines_of (text_of (header_line name ∷ lines)) ≡ Ok (numbered_lines 0 (header_of name ∷ makes))
-read_by name rows lines makes fine read text said =
+read_by : (name : List ℕ) (wordings : List Wording) (lines : List (List ℕ)) (makes : List (ℕ → LineOf)) → IsHeaderName name → ReadAs wordings → texts wordings ≡ lines → says wordings ≡ makes → lines_of (text_of (header_line name ∷ lines)) ≡ Ok (numbered_lines 0 (header_of name ∷ makes))
+read_by name wordings lines makes fine read text said =
     ap (λ (ls : List (List ℕ)). lines_of (text_of (header_line name ∷ ls))) (sym text)
-    ∙ (lines_of-written name rows fine read
-    ∙ ap (λ (ls : List LineOf). Ok (header_of name 1 ∷ ls)) (conf_lines-are 1 rows ∙ ap (numbered_lines 1) said))
+    ∙ (lines_of-written name wordings fine read
+    ∙ ap (λ (ls : List LineOf). Ok (header_of name 1 ∷ ls)) (conf_lines-are 1 wordings ∙ ap (numbered_lines 1) said))
 
 lines-again : (globals : List GlobalVariable) (contexts : List PlanContext) → AllByRecursion IsGlobal globals → AllByRecursion IsContext contexts → lines_of (text_of (global_lines globals ++ flat_map context_lines contexts)) ≡ Ok (numbered_lines 0 (lines_of_globals globals ++ lines_of_contexts contexts))
 lines-again [] [] g c = lines_of-nothing
 lines-again [] (context ∷ contexts) g c =
-    read_by context.name (rows_after context ++ rows_of_contexts contexts) ((map entry_line context.entries ++ map include_line context.includes) ++ flat_map context_lines contexts) ((map exten_of context.entries ++ map include_of context.includes) ++ lines_of_contexts contexts) c.0.name.header
-    (each-append IsRow (rows_after context) (rows_of_contexts contexts) (after-read context c.0) (contexts-read contexts c.1))
-    (map-append (λ (row : Row). row.0) (rows_after context) (rows_of_contexts contexts) ∙ (λ k. after-texts context k ++ contexts-texts contexts k))
-    (map-append (λ (row : Row). row.1) (rows_after context) (rows_of_contexts contexts) ∙ (λ k. after-says context k ++ contexts-says contexts k))
+    read_by context.name (wordings_after context ++ wordings_of_contexts contexts) ((map entry_line context.entries ++ map include_line context.includes) ++ flat_map context_lines contexts) ((map exten_of context.entries ++ map include_of context.includes) ++ lines_of_contexts contexts) c.0.name.header
+    (each-append IsWording (wordings_after context) (wordings_of_contexts contexts) (after-read context c.0) (contexts-read contexts c.1))
+    (map-append (λ (wording : Wording). wording.0) (wordings_after context) (wordings_of_contexts contexts) ∙ (λ k. after-texts context k ++ contexts-texts contexts k))
+    (map-append (λ (wording : Wording). wording.1) (wordings_after context) (wordings_of_contexts contexts) ∙ (λ k. after-says context k ++ contexts-says contexts k))
 lines-again (global ∷ globals) contexts g c =
-    read_by (codes "globals") (rows_of_globals (global ∷ globals) ++ rows_of_contexts contexts) (map global_line (global ∷ globals) ++ flat_map context_lines contexts) (map global_of (global ∷ globals) ++ lines_of_contexts contexts) globals_name
-    (each-append IsRow (rows_of_globals (global ∷ globals)) (rows_of_contexts contexts) (globals-read (global ∷ globals) g) (contexts-read contexts c))
-    (map-append (λ (row : Row). row.0) (rows_of_globals (global ∷ globals)) (rows_of_contexts contexts) ∙ (λ k. globals-texts (global ∷ globals) k ++ contexts-texts contexts k))
-    (map-append (λ (row : Row). row.1) (rows_of_globals (global ∷ globals)) (rows_of_contexts contexts) ∙ (λ k. globals-says (global ∷ globals) k ++ contexts-says contexts k))
+    read_by (codes "globals") (wordings_of_globals (global ∷ globals) ++ wordings_of_contexts contexts) (map global_line (global ∷ globals) ++ flat_map context_lines contexts) (map global_of (global ∷ globals) ++ lines_of_contexts contexts) globals_name
+    (each-append IsWording (wordings_of_globals (global ∷ globals)) (wordings_of_contexts contexts) (globals-read (global ∷ globals) g) (contexts-read contexts c))
+    (map-append (λ (wording : Wording). wording.0) (wordings_of_globals (global ∷ globals)) (wordings_of_contexts contexts) ∙ (λ k. globals-texts (global ∷ globals) k ++ contexts-texts contexts k))
+    (map-append (λ (wording : Wording). wording.1) (wordings_of_globals (global ∷ globals)) (wordings_of_contexts contexts) ∙ (λ k. globals-says (global ∷ globals) k ++ contexts-says contexts k))
 
 -- the lines of a listing are those of the dialplan
 lines_of-listing : (plan : PlanOf) → IsCanonical plan → lines_of (listing plan) ≡ Ok (canonical_lines plan)

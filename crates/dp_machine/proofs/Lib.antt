@@ -1,13 +1,10 @@
 pub mod AskLemmas
-pub mod DialRows
 pub mod IsolationLemmas
-pub mod IsolationRows
 pub mod LookupLemmas
 pub mod RefusedLemmas
 pub mod ReplayLemmas
 pub mod ServedLemmas
 pub mod StepLemmas
-pub mod StepRows
 pub mod TemplatesLemmas
 pub mod TieApps
 pub mod TieEvents
@@ -17,4 +14,4 @@ pub mod TieQueues
 pub mod TieRows
 pub mod TieServed
 pub mod TieSteps
-pub mod WaitingRows
+mod cases

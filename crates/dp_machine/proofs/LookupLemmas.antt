@@ -7,7 +7,8 @@ use Rattle.dp_lookup.specs.SearchOrder.{search_order}
 use Rattle.dp_lookup.proofs.FoundLemmas.{found_entry-least}
 use Rattle.dp_plan.specs.Lookup.{entry_at}
 use Rattle.dp_plan.specs.Plan.{PlanOf}
-use Rattle.dp_plan.specs.Priority.{IsPriority, most_priority}
+use Rattle.dp_plan.specs.Priority.{IsPriority}
+use Rattle.dp_conf.specs.Numbers.{most_priority}
 use Rattle.dp_plan.specs.declared.entry.Entry.{Entry}
 use Rattle.dp_plan.specs.declared.entry.EntryId.{EntryId}
 use Rattle.dp_app.specs.declared.place.Place.{Place}

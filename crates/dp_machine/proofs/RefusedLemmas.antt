@@ -19,7 +19,7 @@ use Rattle.dp_app.specs.declared.phase.Phase.{Phase}
 use Rattle.dp_app.specs.declared.phase.Phase.TheVariants.{Ready, Digits, Pause, Queued, Talking, Dialling, Ended}
 use Rattle.dp_machine.specs.Channels.{invalid, is_invalid, hung_up, ready_at}
 use Rattle.dp_machine.specs.Events as spec
-use Rattle.dp_machine.specs.Events.{Own, Served, is_refused}
+use Rattle.dp_machine.specs.Events.{Own, is_refused}
 use Rattle.dp_machine.specs.Found.{Located, entry_found, is_found}
 use Rattle.dp_machine.specs.Reloading.{plan_in, reloaded_by}
 use Rattle.dp_machine.specs.Targets.{place_of}

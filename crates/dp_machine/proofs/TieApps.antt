@@ -3,7 +3,7 @@ use Rattle.std.proofs.Common.{◌≡◌, ℕ, ◌≤◌, Bool, true, false, List
 use Rattle.dp_queue.specs.Queues.{QueuesOf}
 use Rattle.dp_plan.specs.Plan.{PlanOf}
 use Rattle.dp_plan.specs.declared.entry.EntryId.{EntryId}
-use Rattle.dp_plan.specs.Priority.{most_priority}
+use Rattle.dp_conf.specs.Numbers.{most_priority}
 use Rattle.dp_app.specs.Lawful.{ParksNowhere, IsLawful, IsLawfulRow, MayGo, MayPark}
 use Rattle.dp_app.specs.Rows.{Row, Rows, dispatched}
 use Rattle.dp_app.specs.declared.cell.Cell.{Cell}

@@ -9,7 +9,7 @@ use Rattle.dp_queue.specs.declared.agent.AgentState.{AgentState}
 use Rattle.dp_queue.specs.declared.agent.AgentState.TheVariants.{Idle, Ringing, Talking}
 use Rattle.dp_queue.proofs.GoodLemmas.{ringing-waits}
 use Rattle.dp_plan.specs.Plan.{PlanOf}
-use Rattle.dp_plan.specs.Priority.{most_priority}
+use Rattle.dp_conf.specs.Numbers.{most_priority}
 use Rattle.dp_app.specs.declared.phase.Phase.{Phase}
 use Rattle.dp_app.specs.declared.phase.Phase.TheVariants.{Ready, Digits, Pause, Queued, Talking as PhaseTalking, Dialling, Ended}
 use Rattle.dp_machine.specs.Channels.{goes_on_after, talked}

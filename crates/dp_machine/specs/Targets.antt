@@ -1,9 +1,8 @@
 -- Where the parts of a target send a channel: `[[context,]extension,]priority`.
 use Rattle.std.specs.Prelude.{ℕ, ◌+◌, ◌&&◌, nat_le, List, [], ◌∷◌, length, Option, Some, None, slice_get, reverse, if◌then◌else◌}
 use Rattle.std.specs.Option.{option_and_then, option_map}
-use Rattle.dp_conf.specs.Numbers.{number_of}
+use Rattle.dp_conf.specs.Numbers.{number_of, most_priority}
 use Rattle.dp_plan.specs.Plan.{PlanOf}
-use Rattle.dp_plan.specs.Priority.{most_priority}
 use Rattle.dp_app.specs.declared.target.Target.{Target}
 use Rattle.dp_app.specs.declared.target.Target.TheVariants.{To, Existing, Parts}
 use Rattle.dp_app.specs.declared.place.Place.{Place}

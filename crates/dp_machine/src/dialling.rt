@@ -1,7 +1,7 @@
 //! The events of a channel that waits for what comes of its call to devices, after the Asterisk documentation's page on the
 //! application `Dial`.
 ghost use Rattle.std.specs.Prelude.{◌≡◌, ◌≤◌, OnErr, OnOk};
-ghost use Rattle.dp_app.specs.Lawful.{most_priority};
+ghost use Rattle.dp_conf.specs.Numbers.{most_priority};
 ghost use Rattle.dp_machine.specs.Channels as channels;
 ghost use Rattle.dp_machine.specs.Codes.{status_name};
 ghost use Rattle.dp_machine.specs.Events as spec;

@@ -3,6 +3,7 @@
 #![tactic(auto)]
 
 mod agents;
+mod ahead;
 mod channel;
 mod channel_event;
 mod dial_status;
@@ -21,6 +22,7 @@ mod reload;
 mod reply;
 mod seen;
 mod shared;
+mod starting;
 mod step;
 mod target;
 mod templates;
@@ -32,6 +34,7 @@ pub use dp_app::{Exten, Phase, Place};
 pub use dp_plan::{Dialplan, EntryId, NoMemory, SharedText, Text};
 pub use dp_queue::Queues;
 pub use event::Event;
-pub use machine::{MOST_CHANNELS, Machine};
+pub use machine::Machine;
 pub use refusal::Refusal;
 pub use reply::Reply;
+pub use starting::MOST_CHANNELS;

@@ -9,10 +9,10 @@ ghost use Rattle.dp_machine.specs.Replay as replay;
 ghost use Rattle.dp_machine.specs.World as worlds;
 
 use crate::agents::{agent_done, answer, decline, offer};
+use crate::ahead::{entry_ahead_of, next_entry_of};
 use crate::channel::Channel;
 use crate::channel_event::ChannelEvent;
 use crate::dialling::take_result;
-use crate::directory::Directory;
 use crate::event::Event;
 use crate::exchange::Exchange;
 use crate::numbered::{channel_at, index_of};
@@ -20,17 +20,14 @@ use crate::refusal::Refusal;
 use crate::reload::reload;
 use crate::reply::Reply;
 use crate::seen::channel_value;
+use crate::starting::{start, start_kept};
 use crate::step::step_channel;
 use crate::waiting::{dial, end_time, hang_up_channel, poll};
-use dp_app::{AppTable, Exten, Phase, Place};
+use dp_app::{AppTable, Phase, Place};
 use dp_plan::{Dialplan, EntryId, NoMemory, Text};
 use dp_queue::Queues;
-use dp_vars::Store;
 use std::alloc::Global;
 use std::marker::{Model, PhantomData};
-
-/// How many channels a machine has at most.
-pub const MOST_CHANNELS: usize = 65_535;
 
 /// A machine over a table of applications, with its dialplan, its channels and what they share. A contract sees it as its
 /// world, which is a good one at all times.
@@ -54,64 +51,6 @@ impl<T> Model for Machine<T> {
     ghost view = { λ machine. world_in machine.exchange machine.channels.items };
 
     ghost invariant = { λ machine. IsGoodWorld (world_in machine.exchange machine.channels.items) };
-}
-
-/// A call comes in. The event is refused where all numbers of channels were given, and then takes no memory.
-#[tactic(auto, unfolding(crate::specs::Events::started))]
-fn start(
-    alloc: Global,
-    channels: &mut Vec<Channel>,
-    context: Text,
-    exten: Text,
-    caller: Text,
-) -> Result<Reply, NoMemory>
-    ensures ok { IfOk result (λ reply. spec.started channels.old.items context exten caller
-        ≡ record { channels = channels.new.items; reply = reply }) }
-    ensures err { OnErr result (channels.new.items ≡ channels.old.items) }
-    ensures memory { OnErr result (spec.is_refused_at_once
-        (spec.started channels.old.items context exten caller).reply ≡ false) }
-{
-    let count = channels.len();
-    if count >= MOST_CHANNELS {
-        return Ok(Reply::Refused(Refusal::NumbersSpent));
-    }
-    let place = Place {
-        context,
-        exten: Exten::new(exten),
-        priority: 1,
-    };
-    channels.push(Channel {
-        place,
-        phase: Phase::Ready,
-        is_closing: false,
-        caller,
-        store: Store::new(alloc),
-    })?;
-    Ok(Reply::Started(count as u32 + 1))
-}
-
-/// A call comes in by texts that are kept. Where all numbers of channels were given no text is copied.
-#[tactic(auto, unfolding(crate::specs::Events::started))]
-fn start_kept(
-    alloc: Global,
-    channels: &mut Vec<Channel>,
-    context: &Text,
-    exten: &Text,
-    caller: &Text,
-) -> Result<Reply, NoMemory>
-    ensures ok { IfOk result (λ reply. spec.started channels.old.items context.now exten.now caller.now
-        ≡ record { channels = channels.new.items; reply = reply }) }
-    ensures err { OnErr result (channels.new.items ≡ channels.old.items) }
-    ensures memory { OnErr result (spec.is_refused_at_once
-        (spec.started channels.old.items context.now exten.now caller.now).reply ≡ false) }
-{
-    if channels.len() >= MOST_CHANNELS {
-        return Ok(Reply::Refused(Refusal::NumbersSpent));
-    }
-    let context = context.clone()?;
-    let exten = exten.clone()?;
-    let caller = caller.clone()?;
-    start(alloc, channels, context, exten, caller)
 }
 
 /// An event of the channel.
@@ -249,44 +188,6 @@ fn apply_to<T: AppTable>(
             caller,
         } => start(alloc, channels, context, exten, caller),
         kept => apply_kept_to::<T>(alloc, exchange, channels, &kept),
-    }
-}
-
-/// The entry that the next step of the channel would run.
-#[tactic(auto, using(crate::proofs::LookupLemmas::located_id))]
-fn next_entry_of(
-    alloc: Global,
-    plan: &Directory,
-    channel: &Channel,
-) -> Result<Option<EntryId>, NoMemory>
-    ensures { IfOk result (λ entry. entry ≡ spec.next_in channel.now.phase plan.now channel.now) }
-{
-    match channel.phase {
-        Phase::Ready => plan.entry_of(alloc, &channel.place),
-        Phase::Digits { .. }
-        | Phase::Pause
-        | Phase::Queued { .. }
-        | Phase::Talking { .. }
-        | Phase::Dialling { .. }
-        | Phase::Ended => Ok(None),
-    }
-}
-
-/// The same, looked up as a step looks up.
-#[tactic(auto, using(crate::proofs::LookupLemmas::located_id))]
-fn entry_ahead_of(plan: &mut Directory, channel: &Channel) -> Option<EntryId>
-    ensures entry { result ≡ spec.next_in channel.now.phase plan.old channel.now }
-    ensures same { plan.new ≡ plan.old }
-{
-    let place = &channel.place;
-    match channel.phase {
-        Phase::Ready => plan.find(&place.context, place.exten.bytes(), place.priority),
-        Phase::Digits { .. }
-        | Phase::Pause
-        | Phase::Queued { .. }
-        | Phase::Talking { .. }
-        | Phase::Dialling { .. }
-        | Phase::Ended => None,
     }
 }
 

@@ -1,6 +1,7 @@
 //! The step of a channel, after the Asterisk documentation's pages on dialplans and on their special extensions.
 ghost use Rattle.std.specs.Prelude.{◌≡◌, ◌+◌, ◌^◌, ◌<◌, ◌≤◌, OnErr, OnOk, Some};
-ghost use Rattle.dp_app.specs.Lawful.{IsLawful, MayRun, most_priority};
+ghost use Rattle.dp_app.specs.Lawful.{IsLawful, MayRun};
+ghost use Rattle.dp_conf.specs.Numbers.{most_priority};
 ghost use Rattle.dp_app.specs.Rows.{dispatched};
 ghost use Rattle.dp_app.specs.declared.phase.Phase.TheVariants.{Ready};
 ghost use Rattle.dp_machine.specs.Channels as channels;

@@ -1,7 +1,7 @@
 //! The events of a channel that waits: for digits, for a time, or in a queue. After the Asterisk documentation's pages on
 //! the applications `WaitExten`, `Background`, `Wait` and `Queue`.
 ghost use Rattle.std.specs.Prelude.{◌≡◌, ◌≤◌, ◌++◌, ◌∷◌, [], IfOk};
-ghost use Rattle.dp_app.specs.Lawful.{most_priority};
+ghost use Rattle.dp_conf.specs.Numbers.{most_priority};
 ghost use Rattle.dp_queue.specs.Joining.{should_leave};
 ghost use Rattle.dp_machine.specs.Channels as channels;
 ghost use Rattle.dp_machine.specs.Events as spec;

@@ -1,8 +1,8 @@
 //! Machines, their readers, runs of events, and copies of events.
 use dp_commands::{ScriptLine, Turn, read_script};
 use dp_machine::{EntryId, Event, NoMemory, Phase, Refusal, Reply};
-use dp_machine_rows::{Checked, Exchange, call, check_on, push_state, state_of};
-use dp_rows::{check_same, check_that};
+use dp_machine_fixture::{Checked, Exchange, call, check_on, push_state, state_of};
+use dp_questions::{check_same, check_that};
 use std::alloc::Global;
 use std::test::Fail;
 

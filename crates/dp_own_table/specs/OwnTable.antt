@@ -1,5 +1,5 @@
 -- The rows of two applications that are not of this program, for a table of another maker.
-use Rattle.std.specs.Prelude.{◌≡◌, ℕ, Bool, true, false, List, Option, Some, None, codes, length, if◌then◌else◌, refl}
+use Rattle.std.specs.Prelude.{◌≡◌, ℕ, Bool, true, false, List, Some, None, codes, length, if◌then◌else◌, refl}
 use Rattle.std.proofs.Common.{ap, subst}
 use Rattle.std.proofs.lemmas.Option.{none-some, same_Some}
 use Rattle.dp_conf.specs.Words.{same_text, same_word}

@@ -12,6 +12,5 @@ pub mod MemberLemmas
 pub mod NameLemmas
 pub mod MeaningLemmas
 pub mod WordLemmas
-mod MatchRows
-mod NameRows
 pub mod SetLemmas
+mod cases

@@ -73,7 +73,8 @@ name_cmp_total =
 
 -- ---- equal names
 
-then_is_Equal : (o p : Ordering) → ordering_then o p ≡ Equal → (o ≡ Equal) × (p ≡ Equal)
+-- where a comparison and the one after it tie together, each ties
+pub then_is_Equal : (o p : Ordering) → ordering_then o p ≡ Equal → (o ≡ Equal) × (p ≡ Equal)
 then_is_Equal Less p e = absurd cc
 then_is_Equal Equal p e = (refl, e)
 then_is_Equal Greater p e = absurd cc

@@ -8,7 +8,7 @@ use Rattle.std.proofs.lemmas.List.Elements.{All-contains, All-contains_itself, A
 use Rattle.dp_conf.specs.Answers.{◌>>=◌}
 use Rattle.dp_conf.specs.Blanks.{trim}
 use Rattle.dp_conf.specs.Cut.{cut_once}
-use Rattle.dp_conf.specs.Numbers.{number_of}
+use Rattle.dp_conf.specs.Numbers.{number_of, most_priority}
 use Rattle.dp_conf.specs.Shallow.{is_too_deep}
 use Rattle.dp_conf.specs.Words.{same_text}
 use Rattle.dp_conf.proofs.LinesKnown.{IsLineByte, AreLineBytes}
@@ -21,7 +21,7 @@ use Rattle.dp_pattern.proofs.SpelledBytes.{spells_cleanly}
 use Rattle.dp_plan.specs.EntryLine.{has_variable, without_last, named, name_of, name_again, is_priority_word, written_number, written_of, before_label, is_no_label, label_within, label_of, number_after, written_priority, called_with, application_parts, application_by, application_of, shallow_at, entry_by, entry_of, exten_rest, exten_cut, exten_entry, same_cut, same_entry}
 use Rattle.dp_plan.specs.Faults.{at_line, name_at_line}
 use Rattle.dp_plan.specs.History.{History}
-use Rattle.dp_plan.specs.Priority.{IsPriority, most_priority}
+use Rattle.dp_plan.specs.Priority.{IsPriority}
 use Rattle.dp_plan.specs.declared.fault.Word.TheVariants.{Hint, CallerId, Variable, OldForm, PriorityWord}
 use Rattle.dp_plan.specs.declared.fault.PlanKind.{PlanKind}
 use Rattle.dp_plan.specs.declared.fault.PlanKind.TheVariants.{BadPriority, BadLabel, LeftOut, TooDeep, PriorityLimit}

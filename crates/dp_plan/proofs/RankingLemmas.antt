@@ -5,7 +5,7 @@ use Rattle.std.specs.Cmp.Lexicographic.{nat_list_eq_equiv, options_total}
 use Rattle.std.specs.Fn.{Called, Mut, ComparesAs}
 use Rattle.std.specs.List.{All, IsDistinct, range_with_len}
 use Rattle.std.specs.Option.{option_cmp}
-use Rattle.std.specs.Ordering.{ordering_then, ordering_reverse}
+use Rattle.std.specs.Ordering.{ordering_reverse}
 use Rattle.std.proofs.lemmas.Bool.{cases_order}
 use Rattle.std.proofs.lemmas.Cmp.{on_total, then_total, nat_cmp_total, nat_eq_equiv}
 use Rattle.std.proofs.lemmas.Fn.{always_returns_same}
@@ -20,7 +20,7 @@ use Rattle.dp_conf.specs.Words.{same_text}
 use Rattle.dp_pattern.specs.Name.{Meaning}
 use Rattle.dp_pattern.specs.Order.{name_cmp}
 use Rattle.dp_pattern.specs.Spelling.{spelling}
-use Rattle.dp_pattern.proofs.OrderLemmas.{name_cmp_total, orders_names}
+use Rattle.dp_pattern.proofs.OrderLemmas.{name_cmp_total, orders_names, then_is_Equal}
 use Rattle.dp_plan.specs.Contexts.{PlanContext, AreNamed}
 use Rattle.dp_plan.specs.Ranking.{entry_cmp, shares_place, AreApart, ids_of, id_cmp, ranked_entry, IsRanking, AreRanked}
 use Rattle.dp_plan.specs.declared.entry.Entry.{Entry}
@@ -31,12 +31,6 @@ use Rattle.dp_plan.specs.declared.entry.EntryId.{EntryId}
 -- the order of entries is total
 pub entry_cmp_total : IsTotalOrder entry_cmp
 entry_cmp_total = then_total (on_total (λ (e : Entry). e.name) name_cmp_total) (on_total (λ (e : Entry). e.priority) nat_cmp_total)
-
--- where a comparison and the one after it tie together, each ties
-then_is_Equal : (o p : Ordering) → ordering_then o p ≡ Equal → (o ≡ Equal) × (p ≡ Equal)
-then_is_Equal Less p e = absurd cc
-then_is_Equal Equal p e = (refl, e)
-then_is_Equal Greater p e = absurd cc
 
 -- entries that tie have one name and priority
 tied-shares_place : (a b : Entry) → entry_cmp a b ≡ Equal → shares_place a b ≡ true

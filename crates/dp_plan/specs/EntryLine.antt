@@ -12,14 +12,13 @@ use Rattle.std.specs.Str.{byte}
 use Rattle.dp_conf.specs.Answers.{◌>>=◌}
 use Rattle.dp_conf.specs.Blanks.{trim}
 use Rattle.dp_conf.specs.Cut.{begins_with, cut_once}
-use Rattle.dp_conf.specs.Numbers.{is_digit, number_of}
+use Rattle.dp_conf.specs.Numbers.{is_digit, number_of, most_priority}
 use Rattle.dp_conf.specs.Shallow.{is_too_deep}
 use Rattle.dp_conf.specs.Words.{same_text}
 use Rattle.dp_pattern.specs.Name.{Meaning, meaning_of}
 use Rattle.dp_pattern.specs.Spelling.{spelling}
 use Rattle.dp_plan.specs.Faults.{at_line, name_at_line}
 use Rattle.dp_plan.specs.History.{History}
-use Rattle.dp_plan.specs.Priority.{most_priority}
 use Rattle.dp_plan.specs.declared.fault.Word.TheVariants.{Hint, CallerId, Variable, OldForm, PriorityWord}
 use Rattle.dp_plan.specs.declared.fault.PlanKind.{PlanKind}
 use Rattle.dp_plan.specs.declared.fault.PlanKind.TheVariants.{BadPriority, NoPrevious, BadLabel, BadApplication, LeftOut, TooDeep, NoExten, PriorityLimit, ShortLine}

@@ -1,9 +1,6 @@
 -- The numbers that are priorities of entries.
 use Rattle.std.specs.Prelude.{ℕ, ◌≤◌}
-
--- the greatest priority
-abbrev pub most_priority : ℕ
-most_priority = 2147483647
+use Rattle.dp_conf.specs.Numbers.{most_priority}
 
 -- the number lies from 1 to the greatest priority
 abbrev pub IsPriority : ℕ → Type 0

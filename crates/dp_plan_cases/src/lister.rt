@@ -5,7 +5,7 @@ use crate::plan::render::shown_plan;
 use dp_conf::{NoMemory, escape};
 use dp_lister::list;
 use dp_plan::{Dialplan, Note, NoteKind};
-use dp_rows::{Question, bytes_of, check};
+use dp_questions::{Question, bytes_of, check};
 use std::alloc::Global;
 use std::process::Abort;
 use std::test::Fail;

@@ -14,7 +14,7 @@ pub(crate) mod rows;
 
 use crate::plan::cuts::Fronts;
 use crate::plan::render::Loads;
-use dp_rows::{check, check_all};
+use dp_questions::{check, check_all};
 use std::test::Fail;
 
 /// The tables of texts with what they load as, or their fault.

@@ -1,5 +1,5 @@
 -- The row of `Queue`.
-use Rattle.std.specs.Prelude.{ℕ, Bool, true, false, List, codes, if◌then◌else◌}
+use Rattle.std.specs.Prelude.{ℕ, Bool, List, codes, if◌then◌else◌}
 use Rattle.dp_conf.specs.Levels.{arguments_of}
 use Rattle.dp_queue.specs.Joining.{join_row}
 use Rattle.dp_queue.specs.Queues.{QueuesOf}

@@ -1,5 +1,5 @@
 -- Lists with one element changed or left out.
-use Rattle.std.proofs.Common.{◌≡◌, ℕ, zero, suc, ◌+◌, ◌<◌, ◌≤◌, Bool, true, false, not, List, [], ◌∷◌, ◌++◌, Option, Some, None, refl, sym, length, get_or, set, ap, ◌∙◌, arith, if◌then◌else◌, slice_get, take, drop, nat_lt, IsSome, OnSome, OnOk, Result, Ok, Err, subst}
+use Rattle.std.proofs.Common.{◌≡◌, ℕ, zero, suc, ◌+◌, ◌<◌, ◌≤◌, Bool, true, false, not, List, [], ◌∷◌, ◌++◌, Option, Some, None, refl, sym, length, ap, ◌∙◌, arith, if◌then◌else◌, slice_get, take, drop, nat_lt, IsSome, OnSome, OnOk, Result, Ok, Err, subst}
 use Rattle.std.proofs.lemmas.List.Elements.{All-cons, All-head, All-tail}
 use Rattle.std.specs.List.{All, position_or_len, position, remove}
 use Rattle.std.proofs.lemmas.Option.{cond_some, same_Some}

@@ -10,8 +10,8 @@ mod steps;
 use crate::queues::render::{push_fault, shown};
 use crate::queues::sizes::{count_of, file_of, push_counts};
 use crate::queues::steps::take;
+use dp_questions::{Question, bytes_of, check_all};
 use dp_queue::{QueueFault, Queues};
-use dp_rows::{Question, bytes_of, check_all};
 use std::alloc::Global;
 use std::test::Fail;
 

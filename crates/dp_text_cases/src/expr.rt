@@ -3,7 +3,7 @@
 //! A row is a text and, after an arrow, its value, which is empty for a fault, both with the escapes of `bytes_of`.
 
 use dp_expr::{evaluate, one_tree, one_value};
-use dp_rows::{bytes_of, is_heading};
+use dp_questions::{bytes_of, is_heading};
 use std::alloc::{AllocError, Global};
 use std::process::Abort;
 use std::test::Fail;

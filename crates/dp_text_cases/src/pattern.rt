@@ -9,7 +9,7 @@ use dp_pattern::{
     Class, Name, NoMemory, Parts, PatternFault, Tail, compare, compare_classes, could_match_more,
     matches, order_is_total, same,
 };
-use dp_rows::{Question, bytes_of, check_all};
+use dp_questions::{Question, bytes_of, check_all};
 use std::alloc::Global;
 use std::cmp::Ordering;
 use std::test::Fail;

@@ -1,10 +1,10 @@
 //! Runs in threads, with the line that is printed of them and their histories, worked out by hand from the rules.
 use dp_board::Gate;
-use dp_board_rows::{Crossed, gate_of};
+use dp_board_fixture::{Crossed, gate_of};
 use dp_commands::{PbxFault, run_threads};
 use dp_conf::{NoMemory, Told};
 use dp_machine::Reply;
-use dp_rows::{bytes_of, check_answer, check_heading};
+use dp_questions::{bytes_of, check_answer, check_heading};
 use std::alloc::Global;
 use std::process::Abort;
 use std::str;

@@ -3,7 +3,7 @@ ghost use Rattle.std.specs.Prelude.{◌≡◌, ◌<◌, ◌≤◌, [], ◌∷◌
 ghost use Rattle.std.specs.List.{AllByRecursion};
 ghost use Rattle.std.specs.Option.{option_map};
 ghost use Rattle.dp_pattern.specs.Dashes.{undashed};
-ghost use Rattle.dp_trie.specs.steps.Labels.{rows_of, named, is_matched, name_rank, AreSorted, AreRising, AreLabels};
+ghost use Rattle.dp_trie.specs.steps.Labels.{holders_of, named, is_matched, name_rank, AreSorted, AreRising, AreLabels};
 ghost use Rattle.dp_trie.specs.steps.Ranked.{known_now, AreInOrder};
 
 use crate::digits::Digits;
@@ -36,16 +36,16 @@ fn count_labels(ranked: &[Ranked<'_>]) -> usize
         .count()
 }
 
-/// Adds the row of an entry, where it has a label.
-fn push_row(rows: &mut Vec<Labelled>, one: Ranked<'_>) -> Result<(), NoMemory>
-    ensures { OnOk result (rows.new.items ≡ rows.old.items ++ rows_of (known_now one.entry ∷ [])) }
+/// Adds an entry as a holder of its label, where it has one.
+fn push_holder(holders: &mut Vec<Labelled>, one: Ranked<'_>) -> Result<(), NoMemory>
+    ensures { OnOk result (holders.new.items ≡ holders.old.items ++ holders_of (known_now one.entry ∷ [])) }
 {
     match &one.entry.label {
         Some(label) => {
             let label = label.clone()?;
             let name = one.entry.name.clone()?;
             let priority = one.entry.priority.get();
-            rows.push(Labelled {
+            holders.push(Labelled {
                 label,
                 name,
                 priority,
@@ -56,35 +56,35 @@ fn push_row(rows: &mut Vec<Labelled>, one: Ranked<'_>) -> Result<(), NoMemory>
     }
 }
 
-/// The rows of all entries, in their order.
-fn push_rows(alloc: Global, ranked: &[Ranked<'_>]) -> Result<Vec<Labelled>, NoMemory>
-    ensures { IfOk result (λ rows. rows.items ≡ rows_of (map known_now ranked.now)) }
+/// The holders among all entries, in their order.
+fn push_holders(alloc: Global, ranked: &[Ranked<'_>]) -> Result<Vec<Labelled>, NoMemory>
+    ensures { IfOk result (λ holders. holders.items ≡ holders_of (map known_now ranked.now)) }
 {
-    let mut rows = Vec::with_capacity(alloc, count_labels(ranked))?;
+    let mut holders = Vec::with_capacity(alloc, count_labels(ranked))?;
     for one in ranked {
-        push_row(&mut rows, *one)?;
+        push_holder(&mut holders, *one)?;
     }
-    Ok(rows)
+    Ok(holders)
 }
 
 /// The table of the entries.
-pub(crate) fn label_rows(alloc: Global, ranked: &[Ranked<'_>]) -> Result<Vec<Labelled>, NoMemory>
+pub(crate) fn label_holders(alloc: Global, ranked: &[Ranked<'_>]) -> Result<Vec<Labelled>, NoMemory>
     requires { AreInOrder (map known_now ranked.now) }
-    ensures { IfOk result (λ rows. AreLabels (map known_now ranked.now) rows.items) }
+    ensures { IfOk result (λ holders. AreLabels (map known_now ranked.now) holders.items) }
 {
-    let mut rows = push_rows(alloc, ranked)?;
-    rows.sort_by(|left, right| left.label.bytes().cmp(right.label.bytes()))?;
-    Ok(rows)
+    let mut holders = push_holders(alloc, ranked)?;
+    holders.sort_by(|left, right| left.label.bytes().cmp(right.label.bytes()))?;
+    Ok(holders)
 }
 
-/// The rows of a label, which stand side by side.
-fn named<'a>(rows: &'a [Labelled], label: &[u8]) -> &'a [Labelled]
-    requires { AreSorted rows.now }
-    ensures { result.now ≡ named label.now rows.now }
+/// The holders of a label, which stand side by side.
+fn named<'a>(holders: &'a [Labelled], label: &[u8]) -> &'a [Labelled]
+    requires { AreSorted holders.now }
+    ensures { result.now ≡ named label.now holders.now }
 {
-    let before = rows.partition_point(|row| row.label.bytes().cmp(label).is_lt());
-    let (_, rest) = rows.split_at(before);
-    let count = rest.partition_point(|row| row.label.bytes().cmp(label).is_le());
+    let before = holders.partition_point(|holder| holder.label.bytes().cmp(label).is_lt());
+    let (_, rest) = holders.split_at(before);
+    let count = rest.partition_point(|holder| holder.label.bytes().cmp(label).is_le());
     let (found, _) = rest.split_at(count);
     found
 }
@@ -99,53 +99,53 @@ fn name_rank(name: &Name, digits: &Digits<'_>) -> u8
     }
 }
 
-/// How many of the rows of a label have names below a rank.
-fn count_below(rows: &[Labelled], digits: &Digits<'_>, limit: u8) -> usize
-    requires { AreRising rows.now }
-    ensures within { result ≤ length rows.now }
-    ensures below { AllByRecursion (λ row. name_rank (undashed digits.now.text.now) row.name < limit)
-        (take result rows.now) }
-    ensures above { AllByRecursion (λ row. limit ≤ name_rank (undashed digits.now.text.now) row.name)
-        (drop result rows.now) }
+/// How many of the holders of a label have names below a rank.
+fn count_below(holders: &[Labelled], digits: &Digits<'_>, limit: u8) -> usize
+    requires { AreRising holders.now }
+    ensures within { result ≤ length holders.now }
+    ensures below { AllByRecursion (λ holder. name_rank (undashed digits.now.text.now) holder.name < limit)
+        (take result holders.now) }
+    ensures above { AllByRecursion (λ holder. limit ≤ name_rank (undashed digits.now.text.now) holder.name)
+        (drop result holders.now) }
 {
-    rows.partition_point(|row| name_rank(row.name.name(), digits) < limit)
+    holders.partition_point(|holder| name_rank(holder.name.name(), digits) < limit)
 }
 
-/// The priority of the first row whose name the digits match, each asked in turn.
-fn first_matched(rows: &[Labelled], digits: &Digits<'_>) -> Option<u32>
-    ensures { result ≡ option_map (λ row. row.priority)
-        (find (λ row. is_matched (undashed digits.now.text.now) row.name) rows.now) }
+/// The priority of the first holder whose name the digits match, each asked in turn.
+fn first_matched(holders: &[Labelled], digits: &Digits<'_>) -> Option<u32>
+    ensures { result ≡ option_map (λ holder. holder.priority)
+        (find (λ holder. is_matched (undashed digits.now.text.now) holder.name) holders.now) }
 {
-    for row in rows {
-        if matches(row.name.name(), digits) {
-            return Some(row.priority);
+    for holder in holders {
+        if matches(holder.name.name(), digits) {
+            return Some(holder.priority);
         }
     }
     None
 }
 
-/// The priority of the first row of a label whose name the digits match. A plain name is found by halves, and after
+/// The priority of the first holder of a label whose name the digits match. A plain name is found by halves, and after
 /// the plain names each pattern is asked in turn.
-fn find_among(rows: &[Labelled], digits: &Digits<'_>) -> Option<u32>
-    requires { AreRising rows.now }
-    ensures { result ≡ option_map (λ row. row.priority)
-        (find (λ row. is_matched (undashed digits.now.text.now) row.name) rows.now) }
+fn find_among(holders: &[Labelled], digits: &Digits<'_>) -> Option<u32>
+    requires { AreRising holders.now }
+    ensures { result ≡ option_map (λ holder. holder.priority)
+        (find (λ holder. is_matched (undashed digits.now.text.now) holder.name) holders.now) }
 {
-    match rows.get(count_below(rows, digits, 1)) {
-        Some(row) if matches(row.name.name(), digits) => Some(row.priority),
+    match holders.get(count_below(holders, digits, 1)) {
+        Some(holder) if matches(holder.name.name(), digits) => Some(holder.priority),
         _ => {
-            let (_, patterns) = rows.split_at(count_below(rows, digits, PATTERN));
+            let (_, patterns) = holders.split_at(count_below(holders, digits, PATTERN));
             first_matched(patterns, digits)
         }
     }
 }
 
 /// The priority that the label stands for in the first name that has it and that the digits match.
-pub(crate) fn find_labelled(rows: &[Labelled], label: &[u8], digits: &Digits<'_>) -> Option<u32>
-    requires sorted { AreSorted rows.now }
-    requires rising { AreRising (named label.now rows.now) }
-    ensures { result ≡ option_map (λ row. row.priority)
-        (find (λ row. is_matched (undashed digits.now.text.now) row.name) (named label.now rows.now)) }
+pub(crate) fn find_labelled(holders: &[Labelled], label: &[u8], digits: &Digits<'_>) -> Option<u32>
+    requires sorted { AreSorted holders.now }
+    requires rising { AreRising (named label.now holders.now) }
+    ensures { result ≡ option_map (λ holder. holder.priority)
+        (find (λ holder. is_matched (undashed digits.now.text.now) holder.name) (named label.now holders.now)) }
 {
-    find_among(named(rows, label), digits)
+    find_among(named(holders, label), digits)
 }

@@ -13,7 +13,7 @@ ghost use Rattle.dp_trie.specs.Tree.{known_from, IsTree};
 
 use crate::build::build_nodes;
 use crate::digits::Digits;
-use crate::labels::{Labelled, find_labelled, label_rows};
+use crate::labels::{Labelled, find_labelled, label_holders};
 use crate::leap::{Leap, leaps_of};
 use crate::link::link;
 use crate::node::{Held, Node};
@@ -107,7 +107,7 @@ fn build_table(alloc: Global, ranked: &[Ranked<'_>]) -> Result<Table, NoMemory>
     let ends = link(alloc, &nodes)?;
     let leaps = leaps_of(alloc, &nodes, &ends)?;
     let held = hold_all(alloc, rest)?;
-    let labels = label_rows(alloc, ranked)?;
+    let labels = label_holders(alloc, ranked)?;
     Ok(Table {
         names,
         plain,

@@ -1,4 +1,3 @@
-mod Rows
 pub mod VariablesLemmas
 pub mod NamesLemmas
 pub mod StoresLemmas
@@ -14,3 +13,4 @@ pub mod ExpandingLemmas
 pub mod HeadsLemmas
 pub mod PiecesLemmas
 pub mod OpeningsLemmas
+mod cases

@@ -10,7 +10,7 @@ ghost use Rattle.std.specs.Prelude.{◌≡◌, codes, if◌then◌else◌, ℕ, 
 ghost use Rattle.dp_conf.specs.Words.{same_text};
 
 use dp_conf::{NoMemory, Text};
-use dp_rows::{Question, bytes_of, check_all};
+use dp_questions::{Question, bytes_of, check_all};
 use dp_vars::{
     ChannelSeen, Counts, Globals, Scope, Store, Template, TemplateFault, Variable, expand,
 };

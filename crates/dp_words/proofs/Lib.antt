@@ -1,3 +1,3 @@
 mod AnswerLemmas
-mod CommandLineRows
 mod RefusalsLemmas
+mod cases

@@ -8,7 +8,7 @@ use Rattle.clap.specs.Walk.{Row, Rule, first_of}
 use Rattle.clap.specs.declared.builder.action.ArgAction.TheVariants.{SetTrue}
 use Rattle.dp_conf.specs.Words.{same_text}
 use Rattle.dp_commands.specs.Script.{number_within}
-use Rattle.dp_plan.specs.Priority.{most_priority}
+use Rattle.dp_conf.specs.Numbers.{most_priority}
 use Rattle.dp_program.specs.Entries.{has_entry}
 use Rattle.dp_program.specs.Requests.{RequestOf, joined, check, listing, auditing, matching, explaining, run, debug}
 use Rattle.dp_program.specs.Texts.{OfRun}

@@ -1,6 +1,6 @@
 -- A step of the code: from which contexts each entry is hidden, noted for one context after another. What the notes come to
 -- is `hidden_from` of Hidden.
-use Rattle.std.specs.Prelude.{◌≡◌, ℕ, zero, suc, Bool, ◌&&◌, ◌||◌, ◌==◌, List, [], ◌∷◌, ◌++◌, length, map, replicate, slice_get, nat_eq, Option, Some, if◌then◌else◌}
+use Rattle.std.specs.Prelude.{◌≡◌, ℕ, Bool, ◌&&◌, ◌||◌, ◌==◌, List, [], ◌∷◌, ◌++◌, length, map, replicate, slice_get, nat_eq, Option, Some, if◌then◌else◌}
 use Rattle.std.specs.Cmp.Lexicographic.{pointwise}
 use Rattle.std.specs.List.{filter, list_any, range_with_len}
 use Rattle.std.specs.Option.{option_and_then, option_map}
@@ -52,7 +52,7 @@ no_notes contexts = map (λ context. replicate (length context.entries) []) cont
 
 -- what is noted of the entry of these numbers
 abbrev pub noted_at : Notes → EntryId → Option (List ℕ)
-noted_at notes id = option_and_then (λ row. slice_get row id.entry) (slice_get notes id.context)
+noted_at notes id = option_and_then (λ numbers. slice_get numbers id.entry) (slice_get notes id.context)
 
 -- after what was noted of each entry more is noted
 abbrev pub Grows : Notes → Notes → (EntryId → List ℕ) → Type 0

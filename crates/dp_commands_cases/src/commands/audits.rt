@@ -1,7 +1,7 @@
 //! What an audit finds.
 use dp_commands::audit;
-use dp_commands_rows::{make_sink, told};
-use dp_rows::{Question, bytes_of, check};
+use dp_commands_fixture::{make_sink, told};
+use dp_questions::{Question, bytes_of, check};
 use std::alloc::Global;
 use std::test::Fail;
 

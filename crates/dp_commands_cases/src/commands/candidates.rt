@@ -1,8 +1,8 @@
 //! All extensions that match a dialled text, and what decides about each.
 use dp_commands::match_all;
-use dp_commands_rows::{make_sink, told};
+use dp_commands_fixture::{make_sink, told};
 use dp_plan::Priority;
-use dp_rows::{Question, bytes_of, check};
+use dp_questions::{Question, bytes_of, check};
 use std::alloc::Global;
 use std::test::Fail;
 

@@ -1,8 +1,8 @@
 //! Debugged runs, with all that is printed of them, worked out by hand from the rules.
 use dp_commands::debug_script;
-use dp_commands_rows::{Texts, make_sink, read_texts, told};
+use dp_commands_fixture::{Texts, make_sink, read_texts, told};
 use dp_conf::NoMemory;
-use dp_rows::{Question, check_all};
+use dp_questions::{Question, check_all};
 use std::alloc::Global;
 use std::test::Fail;
 

@@ -1,6 +1,6 @@
 //! Long scripts, long chains of includes, and many notes.
 use dp_commands::{PbxFault, check_explained, match_one};
-use dp_commands_rows::{Command, Run, Sink, check_into, check_text, make_sink};
+use dp_commands_fixture::{Command, Run, Sink, check_into, check_text, make_sink};
 use dp_conf::{NoMemory, Told};
 use dp_plan::Priority;
 use std::alloc::Global;

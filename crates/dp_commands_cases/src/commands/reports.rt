@@ -1,6 +1,6 @@
 //! Reports on dialplans: what they write, and what they end with.
 use dp_commands::{PbxFault, check_explained};
-use dp_commands_rows::{Check, Command, Sink, check_table};
+use dp_commands_fixture::{Check, Command, Sink, check_table};
 use dp_conf::Told;
 use std::alloc::Global;
 use std::test::Fail;

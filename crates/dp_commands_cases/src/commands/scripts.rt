@@ -1,9 +1,9 @@
 //! Scripts with their lines or their fault, worked out by hand from the rules.
 use dp_commands::{PbxFault, ScriptLine, Turn, read_script};
-use dp_commands_rows::push_fault;
+use dp_commands_fixture::push_fault;
 use dp_conf::NoMemory;
 use dp_machine::Event;
-use dp_rows::{Question, bytes_of, check, push_bytes};
+use dp_questions::{Question, bytes_of, check, push_bytes};
 use std::alloc::Global;
 use std::test::Fail;
 

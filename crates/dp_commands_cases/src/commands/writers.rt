@@ -1,6 +1,6 @@
 //! Writers that fail.
 use dp_commands::{PbxFault, match_one};
-use dp_commands_rows::{Check, Command, Run, Sink, check_into, make_sink};
+use dp_commands_fixture::{Check, Command, Run, Sink, check_into, make_sink};
 use dp_conf::{NoMemory, Told};
 use dp_plan::Priority;
 use std::alloc::Global;

@@ -2,7 +2,7 @@
 use dp_lookup::{
     Dialplan, EntryId, NoMemory, SearchOrder, Text, could_be_more, exists, find, find_label,
 };
-use dp_rows::{bytes_of, is_heading};
+use dp_questions::{bytes_of, is_heading};
 use std::alloc::Global;
 use std::test::Fail;
 

@@ -6,7 +6,7 @@ use crate::manual::values::VALUES;
 use dp_commands::{Code, PbxFault};
 use dp_conf::{NoMemory, Told};
 use dp_program::ReadFiles;
-use dp_rows::is_heading;
+use dp_questions::is_heading;
 use dp_words::answer;
 use std::alloc::Global;
 use std::process::Abort;

@@ -1,6 +1,6 @@
 -- A step of the code: a dialplan in the making, and what one more item makes of it. What all items make, one after
 -- another, is `plan_of` and `notes_of` of Plan.
-use Rattle.std.specs.Prelude.{ℕ, zero, suc, Bool, false, ◌&&◌, ◌==◌, List, [], ◌∷◌, ◌++◌, Option, Some, None, if◌then◌else◌}
+use Rattle.std.specs.Prelude.{ℕ, Bool, false, ◌&&◌, ◌==◌, List, [], ◌∷◌, ◌++◌, Option, Some, None, if◌then◌else◌}
 use Rattle.std.specs.List.{list_any, position_or_len}
 use Rattle.std.specs.Option.{option_to_list, option_map}
 use Rattle.dp_conf.specs.Changes.{changed_at}

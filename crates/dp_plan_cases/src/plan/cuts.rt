@@ -1,6 +1,6 @@
 //! Dialplans that are cut short.
 use dp_plan::{ConfFault, Dialplan, LoadFault, NoMemory};
-use dp_rows::{Question, bytes_of};
+use dp_questions::{Question, bytes_of};
 use std::alloc::Global;
 use std::test::Fail;
 

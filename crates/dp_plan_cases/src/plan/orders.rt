@@ -2,7 +2,7 @@
 use crate::plan::render::ranking;
 use crate::plan::rows::RANKED;
 use dp_plan::Dialplan;
-use dp_rows::{Question, bytes_of, check_all};
+use dp_questions::{Question, bytes_of, check_all};
 use std::alloc::Global;
 use std::test::Fail;
 

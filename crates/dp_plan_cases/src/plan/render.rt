@@ -3,7 +3,7 @@ use dp_plan::{
     ConfFault, Context, Dialplan, Entry, LoadFault, Name, NoMemory, Note, PlanKind, SharedText,
     Text,
 };
-use dp_rows::{Question, bytes_of};
+use dp_questions::{Question, bytes_of};
 use std::alloc::Global;
 use std::test::Fail;
 

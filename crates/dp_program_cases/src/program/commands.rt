@@ -1,6 +1,6 @@
 //! The commands, over files: all that they print, and their statuses.
-use crate::program::folder::{check_table, make_folder};
 use crate::program::mistakes::{check_helps, check_mistakes};
+use dp_program_fixture::{check_table, make_folder};
 use std::process::Abort;
 use std::rt::Files;
 use std::sync::Wait;

@@ -1,6 +1,6 @@
 //! Texts that are larger than sixteen bits count, and words that are larger than eight do.
-use crate::program::folder::{check_line, check_table, make_folder, write_file};
 use dp_plan::NoMemory;
+use dp_program_fixture::{check_line, check_table, make_folder, write_file};
 use std::alloc::Global;
 use std::process::Abort;
 use std::rt::Files;

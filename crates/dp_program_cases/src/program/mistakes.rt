@@ -1,5 +1,5 @@
 //! Command lines that are refused or that ask for help: all that they print, and their statuses.
-use crate::program::folder::{check_line, in_a_line};
+use dp_program_fixture::{check_line, in_a_line};
 use std::process::Abort;
 use std::rt::Files;
 use std::sync::Wait;

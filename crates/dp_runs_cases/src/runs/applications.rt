@@ -2,7 +2,7 @@
 //! name in another case, and with values that come from an expansion.
 use crate::runs::calls::answer_of;
 use dp_conf::NoMemory;
-use dp_rows::{check_answer, check_heading};
+use dp_questions::{check_answer, check_heading};
 use std::alloc::Global;
 use std::test::Fail;
 

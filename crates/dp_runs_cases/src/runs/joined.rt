@@ -1,7 +1,7 @@
 //! Joined texts with all that they write and what they end with, worked out by hand from the rules.
 use dp_commands::run_script;
-use dp_commands_rows::{Run, check_table, make_sink, told};
-use dp_rows::check_same;
+use dp_commands_fixture::{Run, check_table, make_sink, told};
+use dp_questions::check_same;
 use std::alloc::Global;
 use std::test::Fail;
 

@@ -15,38 +15,38 @@ use Rattle.dp_trie.specs.Names as names
 use Rattle.dp_trie.specs.steps.Ranked.{AreInOrder}
 use Rattle.dp_trie.specs.declared.labels.Labelled.{Labelled}
 
--- the row of an entry, where it has a label
-abbrev pub row_of : Known → Option Labelled
-row_of known = option_map (λ label. record { label = label; name = known.name; priority = known.priority }) known.label
+-- an entry as a holder of its label, where it has one
+abbrev pub holder_of : Known → Option Labelled
+holder_of known = option_map (λ label. record { label = label; name = known.name; priority = known.priority }) known.label
 
--- the rows of entries
-abbrev pub rows_of : List Known → List Labelled
-rows_of entries = filter_map row_of entries
+-- the holders among entries
+abbrev pub holders_of : List Known → List Labelled
+holders_of entries = filter_map holder_of entries
 
--- the rows of one label
+-- the holders of one label
 abbrev pub named : List ℕ → List Labelled → List Labelled
-named label rows = filter (λ row. shares_label (Some row.label) (Some label)) rows
+named label holders = filter (λ holder. shares_label (Some holder.label) (Some label)) holders
 
--- the label of a row is before that of another
+-- the label of a holder is before that of another
 abbrev pub is_before : Labelled → Labelled → Bool
 is_before a b = is_lt (slice_cmp nat_cmp a.label b.label)
 
--- the rows stand in the order of their labels
+-- holders stand in the order of their labels
 abbrev pub AreSorted : List Labelled → Type 0
-AreSorted rows = IsSortedBy is_before rows
+AreSorted holders = IsSortedBy is_before holders
 
 -- by the names, and for one name by the priorities
-abbrev pub row_cmp : Labelled → Labelled → Ordering
-row_cmp a b = ordering_then (name_cmp a.name b.name) (nat_cmp a.priority b.priority)
+abbrev pub holder_cmp : Labelled → Labelled → Ordering
+holder_cmp a b = ordering_then (name_cmp a.name b.name) (nat_cmp a.priority b.priority)
 
--- rows stand in the order of their names
+-- holders stand in the order of their names
 abbrev pub AreRising : List Labelled → Type 0
-AreRising rows = IsStrictlySortedBy row_cmp rows
+AreRising holders = IsStrictlySortedBy holder_cmp holders
 
--- the rows are those of the entries: each label leads to its own, in the order of the names
-pub record AreLabels (entries : List Known) (rows : List Labelled) : Type 0 where
-  pub sorted : AreSorted rows
-  pub each : (label : List ℕ) → named label rows ≡ named label (rows_of entries)
+-- the holders are those among the entries: each label leads to its own, in the order of the names
+pub record AreLabels (entries : List Known) (holders : List Labelled) : Type 0 where
+  pub sorted : AreSorted holders
+  pub each : (label : List ℕ) → named label holders ≡ named label (holders_of entries)
   pub order : AreInOrder entries
 
 -- whether the digits match the name

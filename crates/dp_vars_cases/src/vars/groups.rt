@@ -1,7 +1,7 @@
 //! Groups, and openings without their ends.
 use crate::vars::{World, shown};
 use dp_conf::{NoMemory, nesting};
-use dp_rows::{Question, bytes_of, check};
+use dp_questions::{Question, bytes_of, check};
 use std::alloc::Global;
 use std::test::Fail;
 

@@ -1,5 +1,5 @@
 use Rattle.std.proofs.Common.{◌≤◌, IfSome, ap, refl, subst, sym}
-use Rattle.dp_app.specs.Lawful.{most_priority}
+use Rattle.dp_conf.specs.Numbers.{most_priority}
 use Rattle.dp_app.specs.declared.place.Place.{Place}
 use Rattle.dp_machine.specs.Events.{Applied}
 use Rattle.dp_machine.specs.Seen.{arguments_seen}

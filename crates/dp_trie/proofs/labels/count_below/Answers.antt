@@ -11,11 +11,11 @@ use Rattle.dp_trie.proofs.labels.count_below.Goals as goal
 pub returns-clause-below : goal.returns-clause-below
 returns-clause-below c =
     let digits = undashed c.args.digits.now.text.now in
-    let point = IsPartitionPoint-from_clause (λ (r : Labelled). nat_lt (name_rank digits r.name) c.args.limit) _ _ c.partition_point.ensures.partitioned (labels-parted digits c.args.rows.now c.args.limit c.requires) (λ a r q k. search rules) in
-    below-point (λ (r : Labelled). name_rank digits r.name) c.args.rows.now c.args.limit c.partition_point.result point
+    let point = IsPartitionPoint-from_clause (λ (r : Labelled). nat_lt (name_rank digits r.name) c.args.limit) _ _ c.partition_point.ensures.partitioned (labels-parted digits c.args.holders.now c.args.limit c.requires) (λ a r q k. search rules) in
+    below-point (λ (r : Labelled). name_rank digits r.name) c.args.holders.now c.args.limit c.partition_point.result point
 
 pub returns-clause-above : goal.returns-clause-above
 returns-clause-above c =
     let digits = undashed c.args.digits.now.text.now in
-    let point = IsPartitionPoint-from_clause (λ (r : Labelled). nat_lt (name_rank digits r.name) c.args.limit) _ _ c.partition_point.ensures.partitioned (labels-parted digits c.args.rows.now c.args.limit c.requires) (λ a r q k. search rules) in
-    above-point (λ (r : Labelled). name_rank digits r.name) c.args.rows.now c.args.limit c.partition_point.result point
+    let point = IsPartitionPoint-from_clause (λ (r : Labelled). nat_lt (name_rank digits r.name) c.args.limit) _ _ c.partition_point.ensures.partitioned (labels-parted digits c.args.holders.now c.args.limit c.requires) (λ a r q k. search rules) in
+    above-point (λ (r : Labelled). name_rank digits r.name) c.args.holders.now c.args.limit c.partition_point.result point

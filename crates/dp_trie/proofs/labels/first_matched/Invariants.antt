@@ -5,7 +5,7 @@ use Rattle.dp_trie.specs.steps.Labels.{is_matched}
 use Rattle.dp_trie.specs.declared.labels.Labelled.{Labelled}
 use Rattle.dp_trie.proofs.labels.first_matched.Given as goal
 
-abbrev pub invariant-loop-row : goal.invariant-loop-row
-invariant-loop-row l =
-    find (λ (row : Labelled). is_matched (undashed l.digits.text.now) row.name) (drop l.row-index l.rows)
-    ≡ find (λ (row : Labelled). is_matched (undashed l.digits.text.now) row.name) l.rows
+abbrev pub invariant-loop-holder : goal.invariant-loop-holder
+invariant-loop-holder l =
+    find (λ (holder : Labelled). is_matched (undashed l.digits.text.now) holder.name) (drop l.holder-index l.holders)
+    ≡ find (λ (holder : Labelled). is_matched (undashed l.digits.text.now) holder.name) l.holders

@@ -7,8 +7,8 @@ use Rattle.dp_audit.proofs.hidden.Hidings.push.Goals as goal
 pub returns-in_ok-push : goal.returns-in_ok-push
 returns-in_ok-push c =
     let change = changed_at (with_number c.args.number) c.args.id.entry in
-    changed_at-set change c.args.id.context c.self.inside.rows.items c.index_mut-row.result.now c.push.new.self
-    (omega (arith, c.len.ensures, c.if-id-len.true)) c.index_mut-row.ensures.value c.in_ok-push.ensures
+    changed_at-set change c.args.id.context c.self.inside.notes.items c.index_mut-noted.result.now c.push.new.self
+    (omega (arith, c.len.ensures, c.if-id-len.true)) c.index_mut-noted.ensures.value c.in_ok-push.ensures
     ∙ ap (changed_at change c.args.id.context) c.self.view_is
 
 pub returns-else-id-len : goal.returns-else-id-len

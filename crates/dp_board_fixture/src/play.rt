@@ -1,0 +1,277 @@
+//! Plays: a board is opened over a machine with two calls, its seats act, and it is settled. One function owns the history,
+//! and the plays ask it by reference. Where memory is refused each call of a board hands back what it was given, or leaves it as it was,
+//! and is called once more.
+ghost use Rattle.std.specs.Prelude.{◌≡◌, ◌+◌};
+
+use dp_board::{Back, Board, History, Seat, Session, Unsettled};
+use dp_machine::{Dialplan, Event, Machine, NoMemory, Reply, Text};
+use dp_queue::Queues;
+use dp_table::StandardApps;
+use std::alloc::Global;
+use std::marker::Brand;
+use std::process::Abort;
+use std::sync::Wait;
+use std::sync::ledger::Blank;
+use std::thread::Threads;
+
+/// A machine with the applications of the program.
+pub type Exchange = Machine<StandardApps>;
+
+const PLAN: &[u8] = b"[globals]
+X=1
+Y=5
+[main]
+exten => add,1,AddQueueMember(q,Line/3)
+exten => ask,1,Queue(q)
+exten => say,1,NoOp()
+exten => wait,1,Wait(1)
+exten => 100,1,NoOp(a)
+exten => 100,2,NoOp(b)
+";
+
+const QUEUES: &[u8] = b"[q]
+joinempty=no
+";
+
+/// A machine over the dialplan, with the queues.
+fn with_queues(alloc: Global, plan: Dialplan) -> Option<Exchange> {
+    match Queues::load(alloc, QUEUES) {
+        Ok(queues) => Exchange::new(alloc, plan, queues).ok(),
+        Err(_) => None,
+    }
+}
+
+/// A machine over the dialplan, where memory is not refused.
+fn exchange(alloc: Global) -> Option<Exchange> {
+    match Dialplan::load(alloc, PLAN) {
+        Ok((plan, _notes)) => with_queues(alloc, plan),
+        Err(_) => None,
+    }
+}
+
+/// A machine over the dialplan, which is made once more where memory is refused.
+fn exchange_again(rt: &impl Abort, alloc: Global) -> Exchange {
+    match exchange(alloc) {
+        Some(machine) => machine,
+        None => exchange(alloc).expect(rt, "the machine"),
+    }
+}
+
+fn call_to(alloc: Global, exten: &[u8]) -> Result<Event, NoMemory> {
+    let context = Text::copy_of(alloc, b"main")?;
+    let exten = Text::copy_of(alloc, exten)?;
+    let caller = Text::new(Vec::new(alloc));
+    Ok(Event::Start {
+        context,
+        exten,
+        caller,
+    })
+}
+
+fn start(alloc: Global, machine: &mut Exchange, exten: &[u8]) -> Result<Reply, NoMemory> {
+    machine.apply(alloc, call_to(alloc, exten)?)
+}
+
+/// A call comes in, once more where memory is refused, and has this number.
+fn start_again(rt: &impl Abort, alloc: Global, machine: &mut Exchange, exten: &[u8], channel: u32) {
+    let reply = match start(alloc, machine, exten) {
+        Ok(reply) => Some(reply),
+        Err(_) => start(alloc, machine, exten).ok(),
+    };
+    assert_eq!(rt; reply, Some(Reply::Started(channel)));
+}
+
+/// A machine with channel 1 at one extension and channel 2 at the other.
+fn machine_of(rt: &impl Abort, alloc: Global, first: &[u8], second: &[u8]) -> Exchange {
+    let mut machine = exchange_again(rt, alloc);
+    start_again(rt, alloc, &mut machine, first, 1);
+    start_again(rt, alloc, &mut machine, second, 2);
+    machine
+}
+
+/// What a call was told: the place of its entry, and the reply.
+pub type SeatReply = (usize, Reply);
+
+/// What a seat was told last, by its record.
+pub fn last_told<S: Session>(seat: &Seat<S>) -> Option<SeatReply> {
+    let call = seat.record().last()?;
+    Some((call.place, call.reply))
+}
+
+/// What two seats were told last, where there are two.
+fn told_of<S: Session>(seats: &[Seat<S>]) -> Option<(SeatReply, SeatReply)> {
+    match seats {
+        [first, second] => Some((last_told(first)?, last_told(second)?)),
+        _ => None,
+    }
+}
+
+/// What the seats of a board do, and what is held against it.
+pub trait Play: Sync {
+    /// How many calls the settled history has.
+    fn calls(&self) -> usize;
+
+    /// Acts by the seats.
+    fn act<S: Session + Send + Sync, R: Threads + Wait + Abort + Sync>(
+        &self,
+        rt: &R,
+        alloc: Global,
+        board: &Board<StandardApps, S>,
+        seats: &mut [Seat<S>],
+    );
+
+    /// Holds the settled history against what the seats did, and, where there are two, against what they were told last.
+    fn check<R: Abort>(
+        &self,
+        rt: &R,
+        alloc: Global,
+        history: &History<StandardApps>,
+        told: Option<(SeatReply, SeatReply)>,
+    );
+}
+
+/// Holds the settled history against a play.
+fn check<P: Play, R: Abort>(
+    rt: &R,
+    alloc: Global,
+    history: &History<StandardApps>,
+    play: &P,
+    told: Option<(SeatReply, SeatReply)>,
+) {
+    assert_eq!(rt; history.entries().len(), play.calls());
+    play.check(rt, alloc, history, told);
+}
+
+/// Settles, where memory is refused, what a board hands back then.
+fn settled_from<S: Session>(
+    rt: &impl Abort,
+    alloc: Global,
+    back: Back<StandardApps, S>,
+) -> Result<History<StandardApps>, Unsettled<StandardApps, S>> {
+    match back {
+        Back::Open { board, seats } => board.settle(alloc, seats),
+        Back::Closed { .. } => panic!(rt; "closed for want of memory"),
+    }
+}
+
+/// Settles, and once more where memory is refused, which is fault 62 and hands all back.
+fn settled<S: Session>(
+    rt: &impl Abort,
+    alloc: Global,
+    board: Board<StandardApps, S>,
+    seats: Vec<Seat<S>>,
+) -> Result<History<StandardApps>, Unsettled<StandardApps, S>> {
+    match board.settle(alloc, seats) {
+        Ok(history) => Ok(history),
+        Err(Unsettled { fault, back }) if fault.code() == 62 => settled_from(rt, alloc, back),
+        Err(unsettled) => Err(unsettled),
+    }
+}
+
+/// Settles with the seats that are handed back and the last one.
+fn settle_with<S: Session>(
+    rt: &impl Abort,
+    alloc: Global,
+    back: Back<StandardApps, S>,
+    last: Seat<S>,
+) -> History<StandardApps> {
+    match back {
+        Back::Open { board, mut seats } => {
+            seats.push(last).ok().expect(rt, "room");
+            settled(rt, alloc, board, seats).ok().expect(rt, "settled")
+        }
+        Back::Closed { .. } => panic!(rt; "closed without a seat"),
+    }
+}
+
+/// Settles without the last seat, which hands all back, and then with it.
+fn settle_twice<S: Session>(
+    rt: &impl Abort,
+    alloc: Global,
+    board: Board<StandardApps, S>,
+    seats: Vec<Seat<S>>,
+    last: Seat<S>,
+) -> History<StandardApps> {
+    let unsettled = settled(rt, alloc, board, seats).err();
+    let Unsettled { fault, back } = unsettled.expect(rt, "not settled without a seat");
+    assert_eq!(rt; fault.code(), 60);
+    settle_with(rt, alloc, back, last)
+}
+
+/// Settles, and before it without the last seat, where there is one.
+fn settle<S: Session>(
+    rt: &impl Abort,
+    alloc: Global,
+    board: Board<StandardApps, S>,
+    mut seats: Vec<Seat<S>>,
+) -> History<StandardApps> {
+    match seats.pop() {
+        Some(last) => settle_twice(rt, alloc, board, seats, last),
+        None => settled(rt, alloc, board, seats).ok().expect(rt, "settled"),
+    }
+}
+
+/// Acts by the seats of a board, settles it, and holds its history against what they did.
+fn play_out<P: Play, S: Session + Send + Sync, R: Threads + Wait + Abort + Sync>(
+    rt: &R,
+    alloc: Global,
+    board: Board<StandardApps, S>,
+    mut seats: Vec<Seat<S>>,
+    play: &P,
+) {
+    play.act(rt, alloc, &board, &mut seats);
+    let told = told_of(&seats);
+    let history = settle(rt, alloc, board, seats);
+    check(rt, alloc, &history, play, told);
+}
+
+/// Plays on a board of so many seats over the machine, which is given back where the board does not open.
+fn play_on<P: Play, S: Session + Send + Sync, R: Threads + Wait + Abort + Sync>(
+    rt: &R,
+    alloc: Global,
+    blank: Blank,
+    machine: Exchange,
+    seats: u32,
+    play: &P,
+) -> Option<Exchange>
+    requires name { blank.name ≡ S.name }
+    requires parts { (blank.parts ≡ S.parts) × (blank.parts ≡ seats + 1) }
+    requires opening { machine ≡ S.opening }
+{
+    match Board::<StandardApps, S>::open(alloc, blank, machine, seats) {
+        Ok((board, seats)) => {
+            play_out(rt, alloc, board, seats, play);
+            None
+        }
+        Err((machine, _)) => Some(machine),
+    }
+}
+
+/// Plays so, in a session of its own.
+fn played<P: Play, R: Threads + Wait + Abort + Sync>(
+    rt: &R,
+    alloc: Global,
+    machine: Exchange,
+    seats: u32,
+    play: &P,
+) -> Option<Exchange> {
+    let blank = Blank::new(u64::from(seats) + 1);
+    play_on::<P, Brand, R>(rt, alloc, blank, machine, seats, play)
+}
+
+/// Plays on a board of so many seats, with channel 1 at one extension and channel 2 at the other. A machine that is given back for want
+/// of memory is played on once more.
+pub fn perform<P: Play, R: Threads + Wait + Abort + Sync>(
+    rt: &R,
+    alloc: Global,
+    first: &[u8],
+    second: &[u8],
+    seats: u32,
+    play: &P,
+) {
+    let machine = machine_of(rt, alloc, first, second);
+    if let Some(machine) = played(rt, alloc, machine, seats, play) {
+        let given_back = played(rt, alloc, machine, seats, play);
+        assert!(rt; given_back.is_none());
+    }
+}

@@ -1,0 +1,4 @@
+mod Dialled
+mod Steps
+mod Unseen
+mod Waiting

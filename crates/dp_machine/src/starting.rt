@@ -1,0 +1,72 @@
+//! Calls that come in.
+ghost use Rattle.std.specs.Prelude.{◌≡◌, IfOk, OnErr, false};
+ghost use Rattle.dp_machine.specs.Events as spec;
+
+use crate::channel::Channel;
+use crate::refusal::Refusal;
+use crate::reply::Reply;
+use dp_app::{Exten, Phase, Place};
+use dp_plan::{NoMemory, Text};
+use dp_vars::Store;
+use std::alloc::Global;
+
+/// How many channels a machine has at most.
+pub const MOST_CHANNELS: usize = 65_535;
+
+/// A call comes in. The event is refused where all numbers of channels were given, and then takes no memory.
+#[tactic(auto, unfolding(crate::specs::Events::started))]
+pub(crate) fn start(
+    alloc: Global,
+    channels: &mut Vec<Channel>,
+    context: Text,
+    exten: Text,
+    caller: Text,
+) -> Result<Reply, NoMemory>
+    ensures ok { IfOk result (λ reply. spec.started channels.old.items context exten caller
+        ≡ record { channels = channels.new.items; reply = reply }) }
+    ensures err { OnErr result (channels.new.items ≡ channels.old.items) }
+    ensures memory { OnErr result (spec.is_refused_at_once
+        (spec.started channels.old.items context exten caller).reply ≡ false) }
+{
+    let count = channels.len();
+    if count >= MOST_CHANNELS {
+        return Ok(Reply::Refused(Refusal::NumbersSpent));
+    }
+    let place = Place {
+        context,
+        exten: Exten::new(exten),
+        priority: 1,
+    };
+    channels.push(Channel {
+        place,
+        phase: Phase::Ready,
+        is_closing: false,
+        caller,
+        store: Store::new(alloc),
+    })?;
+    Ok(Reply::Started(count as u32 + 1))
+}
+
+/// A call comes in by texts that are kept. Where all numbers of channels were given no text is copied.
+#[tactic(auto, unfolding(crate::specs::Events::started))]
+pub(crate) fn start_kept(
+    alloc: Global,
+    channels: &mut Vec<Channel>,
+    context: &Text,
+    exten: &Text,
+    caller: &Text,
+) -> Result<Reply, NoMemory>
+    ensures ok { IfOk result (λ reply. spec.started channels.old.items context.now exten.now caller.now
+        ≡ record { channels = channels.new.items; reply = reply }) }
+    ensures err { OnErr result (channels.new.items ≡ channels.old.items) }
+    ensures memory { OnErr result (spec.is_refused_at_once
+        (spec.started channels.old.items context.now exten.now caller.now).reply ≡ false) }
+{
+    if channels.len() >= MOST_CHANNELS {
+        return Ok(Reply::Refused(Refusal::NumbersSpent));
+    }
+    let context = context.clone()?;
+    let exten = exten.clone()?;
+    let caller = caller.clone()?;
+    start(alloc, channels, context, exten, caller)
+}

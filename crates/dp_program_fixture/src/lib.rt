@@ -1,0 +1,215 @@
+//! A folder of files, and command lines that are run over it.
+//!
+//! This is for tests alone.
+#![tactic(auto)]
+
+use dp_conf::{MOST_BYTES, Told};
+use dp_plan::NoMemory;
+use dp_words::answer;
+use std::alloc::Global;
+use std::env::Env;
+use std::process::Abort;
+use std::rt::Files;
+use std::sync::Wait;
+use std::test::Fail;
+use std::thread::Threads;
+use std::{env, fs, str};
+
+/// The files of the folder that the command lines find, beside `folder`, which is one itself, and `long`, which has one
+/// byte more than a file may have. There is none that is called `missing`. A `¶` is a line feed.
+const FILES: &str = "\
+# What the manual has as sample/extensions.conf and sample/calls.script, and its example of patterns.
+sample→; The telephones of a small house.¶[globals]¶DESK=100¶¶[phones]¶exten => 100,1(desk),NoOp(the front desk)¶same => n,Hangup()¶exten => _1XX,1,NoOp(a room)¶same => n,Goto(${DESK},desk)         ; nobody is in: to the front desk¶exten => _NXXXXXX,1,NoOp(a call to town)¶ same => n,Hangup()¶include => rest¶¶[rest]¶exten => _X.,1,NoOp(no such number)¶ same => n,Hangup()¶
+sample.script→; Room 123 is called, and then a number in town.¶start phones 123¶step 1 4¶start phones 555-1234¶step 2 2¶
+calls→[calls]¶exten => 123,1,NoOp(one)¶exten => _1XX,1,NoOp(three)¶exten => _X.,1,NoOp(any)¶exten => _X.,2,NoOp(two)¶
+usual→[general]¶static=yes¶writeprotect=no¶¶[globals]¶TRUNK=Line/9¶¶[main]¶exten => _NXXXXXX,1,Answer()¶ same => n,Playback(hello-world)¶ same => n(q),Queue(support,c)¶same => n,Hangup()¶include => out¶
+classes→[main]¶exten => _NX,1,NoOp()¶exten => _[4-8]X,1,NoOp()¶exten => _[0-4]X,1,NoOp()¶exten => _[2-9]X,1,NoOp()¶
+specific→[main]¶exten => _X.,1,NoOp()¶exten => _1XX,1,NoOp()¶exten => 123,1,NoOp()¶
+priorities→[main]¶exten => 123,1,NoOp(one)¶exten => _X.,1,NoOp(other)¶exten => _X.,2,NoOp(two)¶
+cycle→[a]¶include => b¶[b]¶include => a¶
+chain→[main]¶exten => _1XX,1,NoOp()¶include => late¶[late]¶exten => 123,1,Hangup()¶exten => 123,2,Hangup()¶include => main¶
+labels→[main]¶exten => s,1,Goto(x)¶exten => s,n(x),Hangup()¶
+labels.script→start main s¶step 1 2¶
+first→[main]¶exten => 100,1,NoOp(hello)¶exten => 100,2,Goto(200,1)¶exten => 200,1,Hangup()¶
+first.script→start main 100¶step 1 3¶
+refused.script→step 1¶start main 100¶step 1¶
+help→[help]¶member => Agent/1¶
+callers→[main]¶exten => s,1,Queue(help,,,,30)¶exten => s,2,Hangup()¶
+callers.script→start main s¶step 1¶timeout 1¶step 1¶
+pair→[main]¶exten => s,1,NoOp()¶
+pair.script→start main s¶start main s¶step 1¶step 2¶
+changing→[globals]¶X=1¶Y=5¶[main]¶exten => 100,1,NoOp(a)¶exten => 100,2,NoOp(b)¶
+changed→[globals]¶X=${X}2¶[main]¶exten => _1XX,2,Hangup()¶
+unclosed→[main
+changing.script→start main 100¶step 1¶reload¶show 1 X¶show 1 Y¶step 1¶
+between.script→start main s¶start main s¶step 1¶reload¶step 2¶
+late.script→start main s¶reload¶start main s¶
+dialling→[main]¶exten => s,1,Dial(Line/5,20)¶exten => s,2,NoOp()¶exten => h,1,Dial(Line/6)¶
+dialling.script→start main s¶step 1¶result 1 BUSY¶show 1 DIALSTATUS¶result 1 BUSY¶
+joined→[main]¶exten => s,1,NoOp()¶;; reload¶;; script¶exten => s,2,NoOp()¶
+joined.script→start main s¶;; reload¶step 1 2¶
+faulty→[main]¶abc¶
+faulty.script→start main 100¶jump 1¶
+priority→[main]¶exten => s,0,NoOp()¶
+name→[main]¶exten => s,1,NoOp()¶exten => _[],1,NoOp()¶
+strategy→[help]¶strategy = best¶
+odd→[main]¶a\tb\u{7f}é c\r¶
+wide→[main]¶xxxxxxxxxxxxxxxxxxxxxxxxxxxxxxxxxxxxxxxxxxxxxxxxxxxxxxxxxxxxxxxxxxxxxxxxxxxxxxxxxxxxxxxxxxxxxxxxxxxxxxxxxxxxxxxxxxxxxxxxxxxxxxxxxxxxxxxxxxxxxxxxxxxxxxxxxxxxxxxxxxxxxxxxxxxxxxxxxxxxxxxxxxxxxxxxxxxxxxxxxxxxxxxxxx¶
+marked→\u{feff}[main¶
+notes→[globals]¶=x¶[main]¶exten => s,1,NoOp()¶exten => s,1,Hangup()¶exten => s,2(x),NoOp()¶exten => s,3(x),NoOp()¶include => nowhere¶colour = red¶
+sections→[a]¶exten => 1,1,A¶[b]¶[a]¶exten => 2,1,A¶include => b¶[c]¶include => a¶include => b¶
+empty→
+dashed→[-in-]¶exten => 1,1,NoOp¶
+";
+
+/// The text with each character like the one in place of the other.
+fn replaced(alloc: Global, text: &str, old: char, new: char) -> Result<String, NoMemory> {
+    let mut out = String::new(alloc);
+    for character in text.chars() {
+        out.push(if character == old { new } else { character })?;
+    }
+    Ok(out)
+}
+
+/// The text in one line, with a `¶` for each line feed.
+pub fn in_a_line(alloc: Global, text: &str) -> Result<String, NoMemory> {
+    replaced(alloc, text, '\n', '¶')
+}
+
+/// The text of a line, with a line feed for each `¶`.
+fn in_lines(alloc: Global, line: &str) -> Result<String, NoMemory> {
+    replaced(alloc, line, '¶', '\n')
+}
+
+/// A word of a command line: `@NAME` is a file of the folder, and two quotes are the empty word.
+fn word_of(alloc: Global, folder: &str, word: &str) -> Result<String, NoMemory> {
+    match word.strip_prefix('@') {
+        Some(name) => format!(in alloc; "{folder}/{name}"),
+        None => String::from_str(alloc, if word == "''" { "" } else { word }),
+    }
+}
+
+/// The words of a command line, the program's own name first.
+fn words_of(alloc: Global, folder: &str, line: &str) -> Result<Vec<String>, NoMemory> {
+    let mut all = Vec::new(alloc);
+    all.push(String::from_str(alloc, "pbx")?)?;
+    for word in line.split(' ') {
+        if !word.is_empty() {
+            all.push(word_of(alloc, folder, word)?)?;
+        }
+    }
+    Ok(all)
+}
+
+/// The status of a command line, and all that it prints on the standard output and on standard error, as
+/// `STATUS→OUTPUT→ERRORS`.
+fn printed<R: Files + Threads + Wait + Sync + AllocGlobal>(
+    rt: &R,
+    folder: &str,
+    line: &str,
+    input: &str,
+) -> Result<String, Fail> {
+    let words = words_of(rt.alloc(), folder, line)?;
+    let mut output = Told::new(Vec::new(rt.alloc()));
+    let mut errors = Told::new(Vec::new(rt.alloc()));
+    let status = answer(
+        rt,
+        rt,
+        rt.alloc(),
+        &words,
+        &mut Told::new(input.as_bytes()),
+        &mut output,
+        &mut errors,
+    );
+    let output = output.into_inner();
+    let errors = errors.into_inner();
+    let out = format!(in rt.alloc();
+        "{status}→{}→{}",
+        str::from_utf8(&output)?,
+        str::from_utf8(&errors)?
+    )?;
+    Ok(out)
+}
+
+/// The text with `@NAME` for the path of each file of the folder.
+fn with_names(alloc: Global, folder: &str, text: &str) -> Result<String, NoMemory> {
+    let front = format!(in alloc; "{folder}/")?;
+    let mut out = String::new(alloc);
+    for (at, part) in text.split(front.as_str()).enumerate() {
+        if at > 0 {
+            out.push('@')?;
+        }
+        out.push_str(part)?;
+    }
+    Ok(out)
+}
+
+/// Asserts the status of a command line and all that it prints, in one line, with `@NAME` for the path of a file. After a `←` stands the
+/// standard input.
+pub fn check_line<R: Files + Threads + Wait + Sync + Abort + AllocGlobal>(
+    rt: &R,
+    folder: &str,
+    asked: &str,
+    want: &str,
+) -> Result<(), Fail> {
+    let (line, input) = asked.split_once('←').unwrap_or((asked, ""));
+    let input = in_lines(rt.alloc(), input)?;
+    let got = printed(rt, folder, line, &input)?;
+    let got = in_a_line(rt.alloc(), &with_names(rt.alloc(), folder, &got)?)?;
+    assert_eq!(rt; got.as_str(), want, "of {asked}");
+    Ok(())
+}
+
+/// Asserts each case of a table.
+pub fn check_table<R: Files + Threads + Wait + Sync + Abort + AllocGlobal>(
+    rt: &R,
+    folder: &str,
+    table: &str,
+) -> Result<(), Fail> {
+    for line in table.lines() {
+        if let Some((asked, want)) = line.split_once('→') {
+            check_line(rt, folder, asked, want)?;
+        }
+    }
+    Ok(())
+}
+
+/// Writes a file of the folder.
+pub fn write_file<R: Files + AllocGlobal>(
+    rt: &R,
+    folder: &str,
+    name: &str,
+    text: &[u8],
+) -> Result<(), Fail> {
+    let path = format!(in rt.alloc(); "{folder}/{name}")?;
+    fs::write(rt, path.as_str(), text)?;
+    Ok(())
+}
+
+/// Writes the files of the folder.
+fn write_files<R: Files + AllocGlobal>(rt: &R, folder: &str) -> Result<(), Fail> {
+    for line in FILES.lines() {
+        if let Some((name, text)) = line.split_once('→') {
+            let text = in_lines(rt.alloc(), text)?;
+            write_file(rt, folder, name, text.as_bytes())?;
+        }
+    }
+    Ok(())
+}
+
+/// Makes the folder and its files, and gives its path. The number is that of the process.
+pub fn make_folder<R: Files + Env + AllocGlobal>(
+    rt: &R,
+    name: &str,
+    number: u32,
+) -> Result<String, Fail> {
+    let place = env::temp_dir(rt)?;
+    let folder = format!(in rt.alloc(); "{}/pbx-{name}-{number}", place.as_str())?;
+    fs::create_dir(rt, folder.as_str())?;
+    write_files(rt, &folder)?;
+    let inner = format!(in rt.alloc(); "{folder}/folder")?;
+    fs::create_dir(rt, inner.as_str())?;
+    let long = vec![in rt.alloc(); b'\n'; MOST_BYTES + 1]?;
+    write_file(rt, &folder, "long", &long)?;
+    Ok(folder)
+}
