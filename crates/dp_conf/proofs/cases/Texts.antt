@@ -1,5 +1,5 @@
 -- Texts whose items, parts and arguments are computed on the definitions themselves.
-use Rattle.std.proofs.Common.{◌≡◌, [], ◌∷◌, ◌++◌, Ok, Err, Some, None, refl}
+use Rattle.std.proofs.Common.{◌≡◌, [], ◌∷◌, ◌++◌, Ok, Err, Some, None, refl, false, true}
 use Rattle.std.specs.Prelude.{codes}
 use Rattle.dp_conf.specs.Blanks.{trim}
 use Rattle.dp_conf.specs.Groups.{Over, Plain, Group, depth_of}
@@ -7,7 +7,7 @@ use Rattle.dp_conf.specs.GroupsRead.{levels, reading_of, nesting_of}
 use Rattle.dp_conf.specs.Levels.{parts_of, arguments_of, cut_outside}
 use Rattle.dp_conf.specs.declared.groups.GroupKind.TheVariants.{Braces, Brackets}
 use Rattle.dp_conf.specs.Lines.{Header, Pair, opens_block, comment_of, content_of, lines_of}
-use Rattle.dp_conf.specs.declared.fault.LineKind.TheVariants.{NoSection, BadHeader, NoEquals, Directive, Template}
+use Rattle.dp_conf.specs.declared.fault.LineKind.TheVariants.{NoSection, BadHeader, NoEquals, Directive, Template, BlockComment}
 
 trimmed : trim (codes "  a b ") ≡ codes "a b"
 trimmed = refl

@@ -3,7 +3,7 @@ use Rattle.std.proofs.Common.{◌≡◌, [], ◌∷◌, ◌++◌, Ok, Err, codes
 use Rattle.dp_pattern.specs.Classes.{byte_count}
 use Rattle.dp_pattern.specs.Name.{Plain, Pattern, meaning_of}
 use Rattle.dp_pattern.specs.declared.tail.Tail.TheVariants.{End, Dot, Bang}
-use Rattle.dp_pattern.specs.declared.fault.NameFault.TheVariants.{EmptySet, BadRange, OpenSet, AfterWildcard, BadByte}
+use Rattle.dp_pattern.specs.declared.fault.NameFault.TheVariants.{EmptySet, BadRange, OpenSet, AfterWildcard, BadByte, EmptyName}
 
 plain : meaning_of (codes "-1-00") ≡ Ok (Plain (codes "100"))
 unfolding meaning_of

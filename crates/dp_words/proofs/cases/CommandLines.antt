@@ -1,10 +1,10 @@
 -- Command lines, computed on the definition.
-use Rattle.std.proofs.Common.{◌≡◌, false, [], ◌∷◌, Some, None, codes, refl}
+use Rattle.std.proofs.Common.{◌≡◌, false, [], ◌∷◌, Some, None, codes, refl, true}
 use Rattle.clap.proofs.OnLiterals.{clap_on_literals}
 use Rattle.clap.specs.Faults.{fault_of}
 use Rattle.clap.specs.declared.error.kind.ErrorKind.TheVariants as kind
 use Rattle.dp_program.specs.Entries.{found_entry}
-use Rattle.dp_program.specs.Requests.{joined, check, listing, auditing, matching, explaining, run}
+use Rattle.dp_program.specs.Requests.{joined, check, listing, auditing, matching, explaining, run, debug}
 use Rattle.dp_words.specs.CommandLine.{pbx_app, asked_of, explains_of}
 use Rattle.dp_words.specs.Refusals.{refusals_of}
 
