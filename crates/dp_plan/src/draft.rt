@@ -22,7 +22,7 @@ use crate::ranking::rank_contexts;
 use crate::remark::{Remark, settle};
 use crate::section::Section;
 use crate::shared_text::SharedText;
-use dp_conf::{NoMemory, Text};
+use dp_conf::{NoMemory, Text, beside};
 use indexmap::IndexSet;
 use std::alloc::Global;
 use std::marker::Model;
@@ -392,8 +392,9 @@ impl Draft {
         ensures plan { IfOk result (λ made. made.0 ≡ record { globals = self.globals; contexts = self.contexts }) }
         ensures notes { IfOk result (λ made. made.1.items ≡ flat_map (spec.settled self.names) self.remarks) }
     {
-        let notes = self.notes(alloc)?;
-        let plan = plan_of(alloc, self.into_parts())?;
-        Ok((plan, notes))
+        let notes = self.notes(alloc);
+        let (notes, draft) = beside(notes, self)?;
+        let plan = plan_of(alloc, draft.into_parts());
+        beside(plan, notes)
     }
 }

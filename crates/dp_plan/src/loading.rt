@@ -1,5 +1,5 @@
 //! The lines of a dialplan's text, taken one at a time.
-ghost use Rattle.std.specs.Prelude.{◌≡◌, Ok, OnOk, fold};
+ghost use Rattle.std.specs.Prelude.{◌≡◌, Err, MatchOption, Ok, OnOk, fold};
 ghost use Rattle.std.specs.Option.{option_to_list};
 ghost use Rattle.dp_conf.specs.Answers.{Answers};
 ghost use Rattle.dp_conf.specs.Borrowed.{line_now};
@@ -10,7 +10,7 @@ use crate::draft::Draft;
 use crate::fault::LoadFault;
 use crate::item::{Item, read_item};
 use crate::reader::Reader;
-use dp_conf::{Line, NoMemory, TakeLine, take_lines};
+use dp_conf::{Line, NoMemory, TakeLine, beside, take_lines};
 use std::alloc::Global;
 use std::marker::Model;
 
@@ -66,6 +66,16 @@ impl Made {
     }
 }
 
+/// A refusal for this fault, where there is one.
+fn refused(fault: Option<LoadFault>) -> Result<(), LoadFault>
+    ensures { MatchOption fault (result ≡ Ok tt) (λ fault. result ≡ Err fault) }
+{
+    match fault {
+        Some(fault) => Err(fault),
+        None => Ok(()),
+    }
+}
+
 /// What the lines so far have made, until one of them has a fault, which is kept aside. A contract sees it as what was
 /// made or the fault.
 #[derive(Drop)]
@@ -100,10 +110,8 @@ impl Loading {
         ensures { Answers (λ draft. draft) reason_of result (spec.finished self) }
     {
         let Loading { made, fault } = self;
-        match fault {
-            Some(fault) => Err(fault),
-            None => Ok(made.into_draft()),
-        }
+        let ((), made) = beside(refused(fault), made)?;
+        Ok(made.into_draft())
     }
 }
 
@@ -133,6 +141,7 @@ pub(crate) fn read_draft(alloc: Global, text: &[u8]) -> Result<Draft, LoadFault>
     ensures { Answers (λ draft. draft) reason_of result (spec.drafted_of text.now) }
 {
     let mut loading = Loading::new(alloc);
-    take_lines(alloc, text, &mut loading)?;
+    let read = take_lines(alloc, text, &mut loading);
+    let ((), loading) = beside(read, loading)?;
     loading.into_draft()
 }
