@@ -1,16 +1,17 @@
 //! What is no channel's own: the dialplan, and what all channels share.
 ghost use Rattle.std.specs.Prelude.{◌≡◌, [], IfOk, OnErr, OnOk};
 ghost use Rattle.dp_machine.specs.Reloading.{shared_with};
-ghost use Rattle.dp_machine.specs.Seen.{globals_of};
+ghost use Rattle.dp_machine.specs.Seen.{globals_set};
 ghost use Rattle.dp_machine.specs.steps.Tables.{AreTables};
 ghost use Rattle.dp_machine.specs.World as worlds;
 
 use crate::directory::{Directory, Tables};
 use crate::queues::NoQueues;
 use crate::shared::{Shared, set_globals};
+use dp_conf::beside;
 use dp_plan::{Dialplan, NoMemory};
 use dp_queue::Queues;
-use dp_vars::Globals;
+use dp_vars::{Counts, Globals};
 use std::alloc::Global;
 
 /// The dialplan and what all channels share.
@@ -27,24 +28,39 @@ struct Made {
     tables: Tables,
 }
 
-/// Makes what the first call needs.
-#[tactic(auto, unfolding(crate::specs::Seen::globals_of))]
-fn make(alloc: Global, plan: &Dialplan) -> Result<Made, NoMemory>
-    ensures globals { IfOk result (λ made. made.globals ≡ globals_of plan.now.globals) }
+/// What a dialplan makes over these globals.
+fn make_over<C: Counts>(
+    alloc: Global,
+    plan: &Dialplan,
+    globals: Globals,
+    counts: &C,
+) -> Result<Made, NoMemory>
+    ensures globals { IfOk result (λ made. made.globals ≡ globals_set (C.count counts.now) globals plan.now.globals) }
     ensures tables { IfOk result (λ made. AreTables plan.now made.tables) }
 {
-    let mut globals = Globals::new(alloc);
-    set_globals(alloc, &mut globals, &NoQueues, plan.globals())?;
+    let mut globals = globals;
+    set_globals(alloc, &mut globals, counts, plan.globals())?;
     let tables = Tables::of(alloc, plan)?;
     Ok(Made { globals, tables })
 }
 
+/// What another dialplan makes over the globals that are there.
+fn renew(alloc: Global, plan: &Dialplan, shared: &Shared) -> Result<Made, NoMemory>
+    ensures globals { IfOk result (λ made. made.globals ≡ (shared_with shared.now plan.now.globals).globals) }
+    ensures tables { IfOk result (λ made. AreTables plan.now made.tables) }
+{
+    let globals = shared.globals.clone()?;
+    make_over(alloc, plan, globals, &shared.queues)
+}
+
 impl Exchange {
     /// The exchange of a dialplan and its queues before the first call: the globals are expanded in the order of the file.
+    #[tactic(auto, unfolding(crate::specs::Seen::globals_of))]
     pub(crate) fn of(alloc: Global, plan: Dialplan, queues: Queues) -> Result<Self, NoMemory>
         ensures { IfOk result (λ exchange. worlds.world_in exchange [] ≡ worlds.opening plan queues) }
     {
-        let Made { globals, tables } = make(alloc, &plan)?;
+        let made = make_over(alloc, &plan, Globals::new(alloc), &NoQueues);
+        let (Made { globals, tables }, (plan, queues)) = beside(made, (plan, queues))?;
         Ok(Exchange {
             plan: Directory::with(plan, tables),
             shared: Shared { globals, queues },
@@ -57,9 +73,8 @@ impl Exchange {
         ensures shared { OnOk result (self.new.shared ≡ shared_with self.old.shared plan.globals) }
         ensures err { OnErr result (self.new ≡ self.old) }
     {
-        let mut globals = self.shared.globals.clone()?;
-        set_globals(alloc, &mut globals, &self.shared.queues, plan.globals())?;
-        let tables = Tables::of(alloc, &plan)?;
+        let made = renew(alloc, &plan, &self.shared);
+        let (Made { globals, tables }, plan) = beside(made, plan)?;
         self.plan.replace(plan, tables);
         self.shared.globals = globals;
         Ok(())
