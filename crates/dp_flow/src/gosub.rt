@@ -109,7 +109,7 @@ fn enter(
     let target = TargetParts::with_last(alloc, front, called.priority)?;
     let locals = locals_of(alloc, called.arguments)?;
     let back = place_after(&cell.place)?;
-    cell.store.push_frame(alloc, back, &locals)?;
+    cell.store.push_frame(alloc, back, locals)?;
     Ok(Move::Jump(Target::Existing(target)))
 }
 

@@ -1,5 +1,5 @@
 -- Locals that are set one after another in a frame that was pushed.
-use Rattle.std.proofs.Common.{◌≡◌, ℕ, Bool, true, false, cond, List, [], ◌∷◌, ◌++◌, refl, sym, ap, ◌∙◌, append_assoc, nat_eq, length, fold, take, Result, Ok, Err, is_err}
+use Rattle.std.proofs.Common.{◌≡◌, ◌-◌, ℕ, zero, suc, Bool, true, false, cond, List, [], ◌∷◌, ◌++◌, refl, sym, ap, ◌∙◌, append_assoc, nat_eq, length, fold, take, arith, Result, Ok, Err, is_err}
 use Rattle.std.specs.Cmp.Lexicographic.{pointwise}
 use Rattle.std.specs.Result.{OnErr, OnOk}
 use Rattle.std.specs.FinMap.{empty}
@@ -69,6 +69,16 @@ module _ {B : Type 0} where
       named [] names = refl
       named (f ∷ fs) names = refl
 
+  -- a local leaves as many frames as there are
+  pub length-set_local : (store : StoreOf B) (name value : List ℕ) → length (set_local store name value).frames ≡ length store.frames
+  unfolding set_local
+  length-set_local store name value = by (length store.frames - 1) store.frames
+    where
+      by : (place : ℕ) (fs : List (Frame B)) → length (changed_at (with_local name value) place fs) ≡ length fs
+      by place [] = refl
+      by zero (f ∷ fs) = refl
+      by (suc place) (f ∷ fs) = ap suc (by place fs)
+
   -- and without the frame again
   pub pushed_popped : (store : StoreOf B) (back : B) (vs : List Variable) → without_frame (with_frame store back vs) ≡ record store { names = with_names store.names vs }
   pushed_popped store back vs = λ i. record {
@@ -77,6 +87,11 @@ module _ {B : Type 0} where
         ∙ take-push store.frames (record { back = back; locals = map_of vs })) i;
     names = with_names store.names vs;
   }
+
+-- a list of no length is empty
+pub none_left : {X : Type 0} (xs : List X) → length xs ≡ 0 → xs ≡ []
+none_left [] is = refl
+none_left (x ∷ xs) is = absurd (omega arith)
 
 -- what holds of an outcome that is known
 pub of_err : {T E P : Type 0} (r : Result T E) → is_err r ≡ true → OnErr r P → P

@@ -8,6 +8,7 @@ use Rattle.std.specs.FinMap.{get, get-empty, get-insert, get-remove, same_map, n
 use Rattle.std.specs.BTreeMap.{insert_entry}
 use Rattle.std.specs.Map.{lookup, remove_entry}
 use Rattle.std.specs.Option.{option_map}
+use Rattle.std.proofs.lemmas.List.{map-append}
 use Rattle.dp_vars.proofs.VariablesLemmas.{apart, has_bytes, lookup-by_bytes, lookup-inserted, lookup-removed, shadowed, swapped}
 use Rattle.dp_vars.specs.Bindings.{find, unbound}
 use Rattle.dp_vars.specs.Stores.{slot, with_name}
@@ -177,21 +178,24 @@ found_stack (e ∷ es) name = by (pointwise nat_eq name e.0) (found_stack es nam
 pub stack_of-lookup : (entries : Entries) (name : List ℕ) (o : Option (List Binding)) → o ≡ lookup (pointwise nat_eq name) entries → stack_of entries name ≡ unwrap_or o []
 stack_of-lookup entries name o is = found_stack entries name ∙ ap (λ r. unwrap_or r []) (sym is)
 
--- what stands at a number, seen as its name and its bindings
-pub stands : (es : Entries) (number : ℕ) (x : List ℕ × List Binding) (own : List ℕ) (old : List Binding)
-    → (own, old) ≡ x → x ≡ get_or es number x → (own, old) ≡ get_or es number (own, old)
-stands es number x own old same at = subst (λ y. y ≡ get_or es number y) (sym same) at
+-- what is unbound at a number
+unbound_at-set : (depth : ℕ) (es : Entries) (number : ℕ) (e : List ℕ × List Binding) → e ≡ get_or es number e
+    → set es number (e.0, unbound depth e.1) ≡ unbound_at depth es number
+unbound_at-set depth [] number e at = refl
+unbound_at-set depth (x ∷ es) zero e at = ap (λ y. (y.0, unbound depth y.1) ∷ es) at
+unbound_at-set depth (x ∷ es) (suc number) e at = ap (λ more. x ∷ more) (unbound_at-set depth es number e at)
 
-module _ (es : Entries) (number : ℕ) (own : List ℕ) (old : List Binding) (here : (own, old) ≡ get_or es number (own, old)) where
+-- an entry that stands at a number, seen as its name and its bindings
+module _ (es : Entries) (number : ℕ) (x : List ℕ × List Binding) (own : List ℕ) (old : List Binding)
+    (same : (own, old) ≡ x) (at : x ≡ get_or es number x) where
+  here : (own, old) ≡ get_or es number (own, old)
+  here = subst (λ y. y ≡ get_or es number y) (sym same) at
+
   -- a look-up of its name finds these bindings
   pub found-at : (name : List ℕ) → slot (names_of es) name ≡ Some number → lookup (pointwise nat_eq name) es ≡ Some old
   found-at name is = found es name number (own, old) is here
 
-  -- its name has these bindings
-  pub stack_of-at : (name : List ℕ) → slot (names_of es) name ≡ Some number → stack_of es name ≡ old
-  stack_of-at name is = stack_of-lookup es name (Some old) (sym (found-at name is))
-
-  -- other bindings at the number are other bindings for the name
+  -- other bindings at the number are other bindings for its name
   pub written-at : (name : List ℕ) (bs : List Binding) → slot (names_of es) name ≡ Some number
       → set es number (own, bs) ≡ with_stack es name bs
   written-at name bs is = written es name number (own, old) bs is here
@@ -201,6 +205,24 @@ module _ (es : Entries) (number : ℕ) (own : List ℕ) (old : List Binding) (he
       → AreNumbered numbers (names_of (set es number (own, bs)))
   numbered-at numbers bs are = subst (AreNumbered numbers) (sym (names-set es number (own, old) bs here)) are
 
+  -- a write at a name's number: what its bindings are changed to stands for the name
+  pub changed-at : (seen : Entries) → es ≡ seen → (name : List ℕ) (change : List Binding → List Binding) (bs : List Binding)
+      → slot (names_of seen) name ≡ Some number → bs ≡ change old
+      → set es number (own, bs) ≡ with_stack seen name (change (stack_of seen name))
+  changed-at seen view name change bs is made =
+      let known : slot (names_of es) name ≡ Some number = ap (λ entries. slot (names_of entries) name) view ∙ is in
+      let stack : stack_of es name ≡ old = stack_of-lookup es name (Some old) (sym (found-at name known)) in
+      written-at name bs known
+      ∙ ap (with_stack es name) (made ∙ ap change (sym stack))
+      ∙ ap (λ entries. with_stack entries name (change (stack_of entries name))) view
+
+  -- what is unbound at the number
+  pub unbound-at : (seen : Entries) → es ≡ seen → (depth : ℕ) (bs : List Binding) → bs ≡ unbound depth old
+      → set es number (own, bs) ≡ unbound_at depth seen number
+  unbound-at seen view depth bs made =
+      ap (λ bs. set es number (own, bs)) made ∙ unbound_at-set depth es number (own, old) here
+      ∙ ap (λ entries. unbound_at depth entries number) view
+
 -- a new name goes after the others
 pub with_stack-new : (es : Entries) (name : List ℕ) (bs : List Binding) → slot (names_of es) name ≡ None
     → with_stack es name bs ≡ es ++ (name, bs) ∷ []
@@ -208,13 +230,6 @@ with_stack-new [] name bs is = refl
 with_stack-new (x ∷ es) name bs is =
     let new = new_of x.0 (names_of es) name is in
     ap (λ b. cond b ((x.0, bs) ∷ es) (x ∷ with_stack es name bs)) new.0 ∙ ap (λ more. x ∷ more) (with_stack-new es name bs new.1)
-
--- what is unbound at a number
-pub unbound_at-set : (depth : ℕ) (es : Entries) (number : ℕ) (e : List ℕ × List Binding) → e ≡ get_or es number e
-    → set es number (e.0, unbound depth e.1) ≡ unbound_at depth es number
-unbound_at-set depth [] number e at = refl
-unbound_at-set depth (x ∷ es) zero e at = ap (λ y. (y.0, unbound depth y.1) ∷ es) at
-unbound_at-set depth (x ∷ es) (suc number) e at = ap (λ more. x ∷ more) (unbound_at-set depth es number e at)
 
 -- numbers of no names
 pub numbered-none : AreNumbered [] []
@@ -291,6 +306,41 @@ module _ {K : Type 0} (bytes : K → List ℕ) (numbers : List (K × ℕ)) (es :
       by None at is = (refl, omega (arith, is, many, length-names (λ (e : List ℕ × List Binding). e.0) es))
       by (Some m) at is = absurd (omega (arith, is, beyond, many, number_within es name m at))
 
+-- bindings that are added for a key: what is written at the number that a map gives it, or after the others for a new one, is written
+-- for its name, and the names have their numbers in the map with the key
+module _ {K : Type 0} (bytes : K → List ℕ) (numbers after : List (K × ℕ)) (seen es : Entries) (key : K) (number next : ℕ)
+    (bs : List Binding) (are : AreNumbered (by_bytes bytes numbers) (names_of seen)) (view : es ≡ seen) (many : next ≡ length es)
+    (is : number ≡ unwrap_or (lookup (has_bytes bytes (bytes key)) numbers) next)
+    (put : after ≡ insert_entry (in_order bytes) numbers key number) where
+  abbrev IsAdded : Entries → Type 0
+  IsAdded fs = AreNumbered (by_bytes bytes after) (names_of fs) × (fs ≡ with_stack seen (bytes key) bs)
+
+  are-es : AreNumbered (by_bytes bytes numbers) (names_of es)
+  are-es = subst (λ entries. AreNumbered (by_bytes bytes numbers) (names_of entries)) (sym view) are
+
+  pub added-at : number < next → (x : List ℕ × List Binding) (own : List ℕ) (old : List Binding) → (own, old) ≡ x → x ≡ get_or es number x
+      → IsAdded (set es number (own, bs))
+  added-at within x own old same at =
+      let known = number-known bytes numbers es (bytes key) number next are-es many is within in (
+        subst (λ ns. AreNumbered (by_bytes bytes ns) (names_of (set es number (own, bs)))) (sym put)
+            (numbered-at es number x own old same at (by_bytes bytes (insert_entry (in_order bytes) numbers key number)) bs
+            (numbered-kept bytes numbers (names_of es) key number are-es known)),
+        written-at es number x own old same at (bytes key) bs known ∙ ap (λ entries. with_stack entries (bytes key) bs) view,
+      )
+
+  pub added-new : next ≤ number → (name : List ℕ) → name ≡ bytes key → IsAdded (es ++ (name, bs) ∷ [])
+  added-new beyond name same =
+      let new = number-new bytes numbers es (bytes key) number next are-es many is beyond in
+      let names : names_of es ++ bytes key ∷ [] ≡ names_of (es ++ (name, bs) ∷ []) =
+      ap (λ n. names_of es ++ n ∷ []) (sym same) ∙ sym (map-append (λ e. e.0) es ((name, bs) ∷ [])) in (
+        subst (AreNumbered (by_bytes bytes after)) names
+            (subst (λ ns. AreNumbered (by_bytes bytes ns) (names_of es ++ bytes key ∷ []))
+            (ap (insert_entry (in_order bytes) numbers key) (sym new.1) ∙ sym put)
+            (numbered-push bytes numbers (names_of es) key are-es new.0)),
+        ap (λ n. es ++ (n, bs) ∷ []) same ∙ sym (with_stack-new es (bytes key) bs new.0)
+            ∙ ap (λ entries. with_stack entries (bytes key) bs) view,
+      )
+
 -- at a number that no name has nothing is
 pub unbound_at-beyond : (depth : ℕ) (entries : Entries) (number : ℕ) → length entries ≤ number → unbound_at depth entries number ≡ entries
 unbound_at-beyond depth [] number beyond = refl
@@ -300,6 +350,11 @@ unbound_at-beyond depth (e ∷ es) (suc number) beyond = ap (λ more. e ∷ more
 -- a name that is not known has no bindings
 pub stack_of-unknown : (entries : Entries) (name : List ℕ) → slot (names_of entries) name ≡ None → stack_of entries name ≡ []
 stack_of-unknown entries name is = stack_of-new entries name (position_none (pointwise nat_eq name) (names_of entries) is)
+
+-- so that a change makes of them what it makes of none
+pub changed-new : (seen : Entries) (name : List ℕ) (change : List Binding → List Binding) → slot (names_of seen) name ≡ None
+    → with_stack seen name (change []) ≡ with_stack seen name (change (stack_of seen name))
+changed-new seen name change is = ap (λ bs. with_stack seen name (change bs)) (sym (stack_of-unknown seen name is))
 
 -- what follows whatever the outcome
 pub on_err : {T E P : Type 0} (r : Result T E) → P → OnErr r P

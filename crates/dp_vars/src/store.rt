@@ -1,5 +1,5 @@
 //! The variables of a channel, and its frames, after the Asterisk documentation's page on variables.
-ghost use Rattle.std.specs.Prelude.{◌≡◌, ℕ, List, IfOk, OnErr, OnOk, [], nat_lt, length, take};
+ghost use Rattle.std.specs.Prelude.{◌≡◌, ◌<◌, ℕ, List, IfOk, OnErr, OnOk, [], nat_lt, length, take};
 ghost use Rattle.std.specs.Option.{option_map};
 ghost use Rattle.dp_vars.specs.Replaced as spec;
 ghost use Rattle.dp_vars.specs.Stores as stores;
@@ -122,6 +122,20 @@ impl<B> Store<B> {
         Ok(())
     }
 
+    /// Sets a local of the innermost frame to a value that is taken over.
+    fn hold_local(&mut self, alloc: Global, name: &[u8], value: Text) -> Result<(), NoMemory>
+        requires { 0 < length self.old.frames }
+        ensures ok { OnOk result (self.new ≡ stores.set_local self.old name.now value) }
+        ensures err { OnErr result (self.new ≡ self.old) }
+    {
+        let slot = self.table.slot(name);
+        let number = slot.unwrap_or(self.table.len());
+        frame::note(&mut self.frames, number)?;
+        let depth = self.frames.len();
+        self.table.bind(alloc, slot, name, depth, value)?;
+        Ok(())
+    }
+
     /// Sets a local of the innermost frame. With no frame it changes nothing and answers false.
     pub fn set_local(&mut self, alloc: Global, name: &[u8], value: &[u8]) -> Result<bool, NoMemory>
         ensures ok { OnOk result (self.new ≡ stores.set_local self.old name.now value.now) }
@@ -131,12 +145,25 @@ impl<B> Store<B> {
         if self.frames.is_empty() {
             return Ok(false);
         }
-        let slot = self.table.slot(name);
-        let number = slot.unwrap_or(self.table.len());
-        frame::note(&mut self.frames, number)?;
-        let depth = self.frames.len();
-        self.table.bind(alloc, slot, name, depth, value)?;
+        let value = Text::copy_of(alloc, value)?;
+        self.hold_local(alloc, name, value)?;
         Ok(true)
+    }
+
+    /// Sets locals of the innermost frame to values that are taken over, each after those before it. After a refused
+    /// growth some of them are set.
+    fn hold_locals(&mut self, alloc: Global, locals: Vec<Variable>) -> Result<(), NoMemory>
+        requires { 0 < length self.old.frames }
+        ensures ok { (store : StoreOf B) (back : B) → self.old ≡ stores.with_frame store back []
+            → OnOk result (self.new ≡ stores.with_frame store back locals.items) }
+        ensures err { (store : StoreOf B) (back : B) → self.old ≡ stores.with_frame store back []
+            → OnErr result ((held : List Variable) × (self.new ≡ stores.with_frame store back held)) }
+    {
+        for local in locals {
+            let Variable { name, value } = local;
+            self.hold_local(alloc, name.bytes(), value)?;
+        }
+        Ok(())
     }
 
     /// Forgets the names after the first ones, where no map has one of them.
@@ -147,28 +174,27 @@ impl<B> Store<B> {
         self.table.truncate(known);
     }
 
-    /// Adds an innermost frame with these locals. Of two values of one name the later stands.
+    /// Adds an innermost frame with these locals, whose values it takes over. Of two values of one name the later
+    /// stands.
     pub fn push_frame(
         &mut self,
         alloc: Global,
         back: B,
-        locals: &[Variable],
+        locals: Vec<Variable>,
     ) -> Result<(), NoMemory>
     where
         B: Drop,
-        ensures ok { OnOk result (self.new ≡ stores.with_frame self.old back locals.now) }
+        ensures ok { OnOk result (self.new ≡ stores.with_frame self.old back locals.items) }
         ensures err { OnErr result (self.new ≡ self.old) }
     {
         let known = self.table.len();
         let numbers = Numbers::new(alloc);
         self.frames.push(Held { back, numbers })?;
-        for local in locals {
-            let set = self.set_local(alloc, local.name.bytes(), local.value.bytes());
-            if set.is_err() {
-                let _back = self.pop_frame();
-                self.forget(known);
-                return Err(NoMemory);
-            }
+        let held = self.hold_locals(alloc, locals);
+        if held.is_err() {
+            let _back = self.pop_frame();
+            self.forget(known);
+            return Err(NoMemory);
         }
         Ok(())
     }

@@ -134,13 +134,12 @@ impl Table {
         slot: Option<usize>,
         name: &[u8],
         depth: usize,
-        value: &[u8],
+        value: Text,
     ) -> Result<(), NoMemory>
         requires { slot ≡ slot_of (names_of self.old) name.now }
-        ensures ok { OnOk result (self.new ≡ with_stack self.old name.now (bound depth value.now (stack_of self.old name.now))) }
+        ensures ok { OnOk result (self.new ≡ with_stack self.old name.now (bound depth value (stack_of self.old name.now))) }
         ensures err { OnErr result (self.new ≡ self.old) }
     {
-        let value = Text::copy_of(alloc, value)?;
         let Some(number) = slot else {
             self.add(alloc, name, depth, value)?;
             return Ok(());

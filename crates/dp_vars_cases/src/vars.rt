@@ -15,7 +15,6 @@ use dp_vars::{
     ChannelSeen, Counts, Globals, Scope, Store, Template, TemplateFault, Variable, expand,
 };
 use std::alloc::Global;
-use std::slice;
 use std::test::Fail;
 
 /// Three calls wait in the queue `sales`, and none in any other.
@@ -91,8 +90,9 @@ fn variable(alloc: Global, name: &[u8], value: &[u8]) -> Result<Variable, NoMemo
 
 /// A frame with one local, which goes back to its number.
 fn push_frame(alloc: Global, world: &mut World, name: &[u8], value: &[u8]) -> Result<(), NoMemory> {
-    let local = variable(alloc, name, value)?;
-    world.store.push_frame(alloc, 1, slice::from_ref(&local))
+    let mut locals = Vec::new(alloc);
+    locals.push(variable(alloc, name, value)?)?;
+    world.store.push_frame(alloc, 1, locals)
 }
 
 /// A global that is expanded before it is put, with no channel.
@@ -114,7 +114,7 @@ fn push_names(alloc: Global, world: &mut World, names: &str) -> Result<(), NoMem
     for name in names.split(' ') {
         locals.push(variable(alloc, name.as_bytes(), b"")?)?;
     }
-    world.store.push_frame(alloc, 1, &locals)
+    world.store.push_frame(alloc, 1, locals)
 }
 
 /// Sets a name and puts back what it had.

@@ -46,8 +46,8 @@ set A=1 ; push A=2 ; undone A=3 ; pop ; ${A}→1
 ";
 
 fn check_frames(rt: &impl Abort, alloc: Global, store: &mut Store<u32>) -> Result<(), Fail> {
-    store.push_frame(alloc, 1, &[])?;
-    store.push_frame(alloc, 2, &[])?;
+    store.push_frame(alloc, 1, Vec::new(alloc))?;
+    store.push_frame(alloc, 2, Vec::new(alloc))?;
     assert_eq!(rt; store.pop_frame(), Some(2));
     assert_eq!(rt; store.pop_frame(), Some(1));
     assert_eq!(rt; store.pop_frame(), None);
@@ -61,8 +61,10 @@ fn frames(rt: &impl Abort, alloc: Global) -> Result<(), Fail> {
 }
 
 fn push_doubled(alloc: Global, store: &mut Store<u32>) -> Result<(), NoMemory> {
-    let locals = [variable(alloc, b"A", b"1")?, variable(alloc, b"A", b"2")?];
-    store.push_frame(alloc, 1, &locals)
+    let mut locals = Vec::new(alloc);
+    locals.push(variable(alloc, b"A", b"1")?)?;
+    locals.push(variable(alloc, b"A", b"2")?)?;
+    store.push_frame(alloc, 1, locals)
 }
 
 fn check_doubled(rt: &impl Abort, store: &Store<u32>) {

@@ -4,7 +4,7 @@ use Rattle.std.specs.Cmp.Lexicographic.{pointwise}
 use Rattle.std.specs.Map.{lookup}
 use Rattle.dp_vars.specs.Stores.{slot}
 use Rattle.dp_vars.specs.Tables.{names_of}
-use Rattle.dp_vars.proofs.TablesLemmas.{found-at, not_found, stands}
+use Rattle.dp_vars.proofs.TablesLemmas.{found-at, not_found}
 use Rattle.dp_vars.proofs.table.Table.stack.Goals as goal
 
 pub returns-in_default : goal.returns-in_default
@@ -16,7 +16,6 @@ returns c =
     let name = c.args.name.now in
     let known : slot (names_of es) name ≡ Some c.in-Some.number =
     ap (λ entries. slot (names_of entries) name) c.self.view_is ∙ sym c.in-Some.ensures in
-    let own = c.entry.inside.name in
-    let old = c.entry.inside.stack in
-    let here = stands es c.in-Some.number c.index-entry.result.now own old c.entry.view_is c.index-entry.ensures in
-    sym (found-at es c.in-Some.number own old here name known) ∙ ap (lookup (pointwise nat_eq name)) c.self.view_is
+    sym (found-at es c.in-Some.number c.index-entry.result.now c.entry.inside.name c.entry.inside.stack c.entry.view_is
+    c.index-entry.ensures name known)
+    ∙ ap (lookup (pointwise nat_eq name)) c.self.view_is
