@@ -1,5 +1,5 @@
 //! Where an application sends a channel, after the Asterisk documentation's page on the application `Goto`.
-ghost use Rattle.std.specs.Prelude.{◌≡◌, ◌++◌, ℕ, List, [], ◌∷◌, IfOk, map};
+ghost use Rattle.std.specs.Prelude.{◌≡◌, ◌++◌, ◌<◌, ◌≤◌, ℕ, List, [], ◌∷◌, IfOk, MatchOption, length, map};
 ghost use Rattle.dp_conf.specs.Levels.{arguments_of};
 
 use crate::place::Place;
@@ -8,20 +8,34 @@ use smallvec::SmallVec;
 use std::alloc::Global;
 use std::marker::Model;
 
+/// How the parts of a target are held.
+#[derive(Debug, Drop)]
+pub(crate) enum Held {
+    /// The parts before the last one, and the last one, which takes no memory where it has few bytes.
+    Apart {
+        front: Vec<Text>,
+        last: SmallVec<u8, 16>,
+    },
+    /// A text of more than three parts, which names no place, as it is.
+    Whole(Text),
+}
+
 /// The parts of a target in the order of its text, which a contract sees as the list of them: `[[context,]extension,]priority`.
-/// There is at least the last one, which takes no memory where it has few bytes.
+/// There is at least the last one. Of more than three there is the text alone, however many they are.
 #[derive(Debug, Drop)]
 pub struct TargetParts {
-    front: Vec<Text>,
-    last: SmallVec<u8, 16>,
+    held: Held,
 }
 
 impl Model for TargetParts {
-    ghost use Rattle.std.specs.Prelude.{ℕ, List, [], ◌∷◌, ◌++◌};
+    ghost use Rattle.std.specs.Prelude.{ℕ, List};
+    ghost use Rattle.dp_app.specs.Targets.{AreMany, parts_held};
 
     ghost Value = { List (List ℕ) };
 
-    ghost view = { λ parts. parts.front.items ++ parts.last.items ∷ [] };
+    ghost view = { λ parts. parts_held parts.held };
+
+    ghost invariant = { λ parts. AreMany parts.held };
 }
 
 /// Texts of their own.
@@ -41,17 +55,30 @@ impl TargetParts {
     pub fn of(alloc: Global, target: &[u8]) -> Result<Self, NoMemory>
         ensures { IfOk result (λ parts. parts ≡ arguments_of target.now) }
     {
-        let mut front = Vec::new(alloc);
-        let (mut part, mut rest) = first_argument(target);
-        while let Some(left) = rest {
-            let text = Text::copy_of(alloc, trim(part))?;
-            front.push(text)?;
-            let (next, after) = first_argument(left);
-            part = next;
-            rest = after;
+        let (first, rest) = first_argument(target);
+        let Some(rest) = rest else {
+            return TargetParts::with_last(alloc, &[], trim(first));
+        };
+        let (second, rest) = first_argument(rest);
+        let Some(rest) = rest else {
+            return TargetParts::with_last(alloc, &[trim(first)], trim(second));
+        };
+        let (third, rest) = first_argument(rest);
+        if rest.is_some() {
+            return TargetParts::whole(alloc, target);
         }
-        let last = SmallVec::from_slice(alloc, trim(part))?;
-        Ok(TargetParts { front, last })
+        TargetParts::with_last(alloc, &[trim(first), trim(second)], trim(third))
+    }
+
+    /// The parts of a text that has more than three.
+    fn whole(alloc: Global, target: &[u8]) -> Result<Self, NoMemory>
+        requires { 3 < length (arguments_of target.now) }
+        ensures { IfOk result (λ parts. parts ≡ arguments_of target.now) }
+    {
+        let text = Text::copy_of(alloc, target)?;
+        Ok(TargetParts {
+            held: Held::Whole(text),
+        })
     }
 
     /// These parts and one more after them, as texts of their own.
@@ -60,21 +87,31 @@ impl TargetParts {
     {
         let front = copies_of(alloc, front)?;
         let last = SmallVec::from_slice(alloc, last)?;
-        Ok(TargetParts { front, last })
+        Ok(TargetParts {
+            held: Held::Apart { front, last },
+        })
     }
 
-    /// The parts before the last one in their order, and the last one.
-    pub fn split_last(&self) -> (&[Text], &[u8])
-        ensures { self.now ≡ result.0.now ++ result.1.now ∷ [] }
+    /// The parts before the last one in their order, and the last one; None where there are more than three parts.
+    pub fn apart(&self) -> Option<(&[Text], &[u8])>
+        ensures { MatchOption result (3 < length self.now)
+            (λ parts. (self.now ≡ parts.0.now ++ parts.1.now ∷ []) × (length parts.0.now ≤ 2)) }
     {
-        (&self.front, self.last.as_slice())
+        match &self.held {
+            Held::Apart { front, last } if front.len() <= 2 => Some((front, last.as_slice())),
+            _ => None,
+        }
     }
 
-    /// The texts before the last one themselves, in their order. It takes no memory.
-    pub fn into_front(self) -> Vec<Text>
-        ensures { (last : List ℕ) × (self ≡ result.items ++ last ∷ []) }
+    /// The texts before the last one themselves, in their order; None only where there are more than three parts. It
+    /// takes no memory.
+    pub fn into_front(self) -> Option<Vec<Text>>
+        ensures { MatchOption result (3 < length self) (λ front. (last : List ℕ) × (self ≡ front.items ++ last ∷ [])) }
     {
-        self.front
+        match self.held {
+            Held::Apart { front, .. } => Some(front),
+            Held::Whole(_) => None,
+        }
     }
 }
 

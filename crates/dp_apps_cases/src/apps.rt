@@ -27,8 +27,11 @@ Goto|sixteen_letters_→jump |sixteen_letters_|
 Goto|seventeen_letters→jump |seventeen_letters|
 Goto|200,1→jump |200|1|
 Goto|main, s ,end→jump |main|s|end|
-Goto|a,b,c,d→jump |a|b|c|d|
+Goto|a,b,c,d→jump by more than three parts
 Goto|,,→jump ||||
+Goto|,,,→jump by more than three parts
+Goto|,,,,,,,,→jump by more than three parts
+Goto|a,b,(c,d,e)→jump |a|b|(c,d,e)|
 Goto|a(b,c),1→jump |a(b,c)|1|
 GotoIf|1?2:3→jump |2|
 GotoIf|0?2:3→jump |3|
@@ -52,9 +55,11 @@ Macro|m→a cell is seen
 |→a cell is seen
 ";
 
-/// The parts of a target between bars.
+/// The parts of a target between bars, where there are at most three.
 fn push_parts(out: &mut String, parts: &TargetParts) -> Result<(), NoMemory> {
-    let (front, last) = parts.split_last();
+    let Some((front, last)) = parts.apart() else {
+        return out.push_str("by more than three parts");
+    };
     out.push('|')?;
     for part in front {
         push_bytes(out, part.bytes())?;

@@ -1,5 +1,5 @@
 //! Where a target sends a channel, after the Asterisk documentation's page on the application `Goto`.
-ghost use Rattle.std.specs.Prelude.{◌≡◌, ◌≤◌, reverse, slice_get};
+ghost use Rattle.std.specs.Prelude.{◌≡◌, ◌≤◌, IfSome, length, reverse, slice_get};
 ghost use Rattle.std.specs.Option.{option_map};
 ghost use Rattle.dp_machine.specs.Channels as channels;
 ghost use Rattle.dp_machine.specs.Targets as spec;
@@ -62,12 +62,10 @@ fn parts_priority(plan: &mut Directory, own: &Place, parts: &TargetParts) -> Opt
     ensures place { spec.parts_place plan.old own.now parts.now
         ≡ option_map (spec.place_of (spec.parts_context own.now parts.now)
         (spec.parts_exten own.now parts.now)) result }
+    ensures few { IfSome result (λ _. length parts.now ≤ 3) }
     ensures same { plan.new ≡ plan.old }
 {
-    let (front, priority) = parts.split_last();
-    if front.len() > 2 {
-        return None;
-    }
+    let (front, priority) = parts.apart()?;
     let context = context_of(own, front);
     priority_of(plan, context, exten_of(own, front), priority)
 }
@@ -92,13 +90,16 @@ fn put_exten(own: &mut Exten, part: Option<Text>)
     }
 }
 
-/// Makes the channel ready at the place of these parts, of which the last asked for the priority.
+/// Makes the channel ready at the place of these parts, at most three, of which the last asked for the priority.
 fn go_to_parts(channel: &mut Channel, parts: TargetParts, priority: u32)
+    requires { length parts ≤ 3 }
     ensures { channel.new ≡ channels.ready_at channel.old
         (spec.place_of (spec.parts_context channel.old.place parts)
         (spec.parts_exten channel.old.place parts) priority) }
 {
-    let mut texts = parts.into_front();
+    let Some(mut texts) = parts.into_front() else {
+        return;
+    };
     let exten = texts.pop();
     let context = texts.pop();
     put_exten(&mut channel.place.exten, exten);
@@ -152,10 +153,11 @@ fn existing_priority(plan: &mut Directory, own: &Place, parts: &TargetParts) -> 
     ensures place { spec.if_found plan.old (spec.parts_place plan.old own.now parts.now)
         ≡ option_map (spec.place_of (spec.parts_context own.now parts.now)
         (spec.parts_exten own.now parts.now)) result }
+    ensures few { IfSome result (λ _. length parts.now ≤ 3) }
     ensures same { plan.new ≡ plan.old }
 {
     let priority = parts_priority(plan, own, parts)?;
-    let (front, _) = parts.split_last();
+    let (front, _) = parts.apart()?;
     let context = context_of(own, front);
     if plan.is_found(context, exten_of(own, front), priority) {
         Some(priority)
