@@ -8,9 +8,9 @@ use smallvec::SmallVec;
 use std::alloc::Global;
 use std::marker::Model;
 
-/// How the parts of a target are held.
+/// How the parts of a target are kept.
 #[derive(Debug, Drop)]
-pub(crate) enum Held {
+pub(crate) enum KeptParts {
     /// The parts before the last one, and the last one, which takes no memory where it has few bytes.
     Apart {
         front: Vec<Text>,
@@ -24,18 +24,18 @@ pub(crate) enum Held {
 /// There is at least the last one. Of more than three there is the text alone, however many they are.
 #[derive(Debug, Drop)]
 pub struct TargetParts {
-    held: Held,
+    kept: KeptParts,
 }
 
 impl Model for TargetParts {
     ghost use Rattle.std.specs.Prelude.{ℕ, List};
-    ghost use Rattle.dp_app.specs.Targets.{AreMany, parts_held};
+    ghost use Rattle.dp_app.specs.Targets.{AreMany, kept_parts};
 
     ghost Value = { List (List ℕ) };
 
-    ghost view = { λ parts. parts_held parts.held };
+    ghost view = { λ parts. kept_parts parts.kept };
 
-    ghost invariant = { λ parts. AreMany parts.held };
+    ghost invariant = { λ parts. AreMany parts.kept };
 }
 
 /// Texts of their own.
@@ -77,7 +77,7 @@ impl TargetParts {
     {
         let text = Text::copy_of(alloc, target)?;
         Ok(TargetParts {
-            held: Held::Whole(text),
+            kept: KeptParts::Whole(text),
         })
     }
 
@@ -88,7 +88,7 @@ impl TargetParts {
         let front = copies_of(alloc, front)?;
         let last = SmallVec::from_slice(alloc, last)?;
         Ok(TargetParts {
-            held: Held::Apart { front, last },
+            kept: KeptParts::Apart { front, last },
         })
     }
 
@@ -97,8 +97,8 @@ impl TargetParts {
         ensures { MatchOption result (3 < length self.now)
             (λ parts. (self.now ≡ parts.0.now ++ parts.1.now ∷ []) × (length parts.0.now ≤ 2)) }
     {
-        match &self.held {
-            Held::Apart { front, last } if front.len() <= 2 => Some((front, last.as_slice())),
+        match &self.kept {
+            KeptParts::Apart { front, last } if front.len() <= 2 => Some((front, last.as_slice())),
             _ => None,
         }
     }
@@ -108,9 +108,9 @@ impl TargetParts {
     pub fn into_front(self) -> Option<Vec<Text>>
         ensures { MatchOption result (3 < length self) (λ front. (last : List ℕ) × (self ≡ front.items ++ last ∷ [])) }
     {
-        match self.held {
-            Held::Apart { front, .. } => Some(front),
-            Held::Whole(_) => None,
+        match self.kept {
+            KeptParts::Apart { front, .. } => Some(front),
+            KeptParts::Whole(_) => None,
         }
     }
 }
