@@ -1,7 +1,8 @@
 -- Seats that differ from the entries, one after another; and the counts of a whole history.
-use Rattle.std.proofs.Common.{◌≡◌, ℕ, ◌+◌, ◌<◌, nat_lt, Bool, true, false, List, [], ◌∷◌, ◌++◌, Option, Some, None, length, reverse, if◌then◌else◌, refl, sym, ap, subst, ◌∙◌, arith, All, MatchOption}
+use Rattle.std.proofs.Common.{◌≡◌, ℕ, ◌+◌, ◌<◌, nat_lt, Bool, true, false, List, [], ◌∷◌, ◌++◌, Option, Some, None, length, get_or, reverse}
+use Rattle.std.proofs.Common.{take, if◌then◌else◌, refl, sym, ap, subst, ◌∙◌, arith, All, MatchOption}
 use Rattle.std.proofs.lemmas.Bool.{ltb-true, ltb-false}
-use Rattle.std.proofs.lemmas.List.{append_assoc}
+use Rattle.std.proofs.lemmas.List.{append_assoc, take_more}
 use Rattle.std.proofs.lemmas.List.Elements.{All-push}
 use Rattle.std.proofs.lemmas.List.Sorted.{sum_by-IsPermutation, IsPermutation-reverse}
 use Rattle.dp_board.specs.Difference.{told_to, FirstDiffers}
@@ -10,7 +11,6 @@ use Rattle.dp_machine.specs.World.{World}
 use Rattle.dp_board.specs.Log.{Log, Replays, AreSeated}
 use Rattle.dp_board.specs.Settled.{Agrees, AllPresent, IsLeastDifference, IsWhole, lesser, calls_of}
 use Rattle.dp_board.specs.Sittings.{Sitting}
-use Rattle.dp_board.specs.declared.seat_call.SeatCall.{SeatCall}
 use Rattle.dp_board.specs.declared.difference.Disagree.{Disagree}
 use Rattle.dp_board.specs.declared.entry.Entry.{Entry}
 
@@ -47,7 +47,7 @@ now-least entries before seat found one least = record {
 }
 
 -- one seat more
-pub Finds-more : (entries : List Entry) (before : List Sitting) (seat : Sitting) (least found : Option Disagree) → Finds entries before least → FindsOne entries seat found → Finds entries (before ++ seat ∷ []) (lesser least found)
+Finds-more : (entries : List Entry) (before : List Sitting) (seat : Sitting) (least found : Option Disagree) → Finds entries before least → FindsOne entries seat found → Finds entries (before ++ seat ∷ []) (lesser least found)
 Finds-more entries before seat None None so_far one = All-push (Agrees entries) before seat so_far one
 Finds-more entries before seat None (Some e) so_far one = now-least entries before seat e one (λ k d lt less. so_far k d lt)
 Finds-more entries before seat (Some d) None so_far one = still-least entries before seat d so_far (λ less. one)
@@ -56,6 +56,17 @@ Finds-more entries before seat (Some d) (Some e) so_far one = by (nat_lt e.seat 
   by true less = now-least entries before seat e one (λ k x lt below. so_far.least k x lt (omega (arith, below, ltb-true e.seat d.seat less)))
   by false more = still-least entries before seat d so_far (λ below. absurd (omega (arith, below, ltb-false e.seat d.seat more, one.0)))
 
+-- and so on over the seats
+pub Finds-next : (entries : List Entry) (seats : List Sitting) (index : ℕ) (seat : Sitting) (least found next : Option Disagree)
+    → index < length seats → get_or seats index seat ≡ seat → next ≡ lesser least found
+    → Finds entries (take index seats) least → FindsOne entries seat found → Finds entries (take (index + 1) seats) next
+Finds-next entries seats index seat least found next lt there is so_far one =
+    let more : take (index + 1) seats ≡ take index seats ++ seat ∷ [] =
+    take_more seats index seat lt ∙ ap (λ (s : Sitting). take index seats ++ s ∷ []) there in
+    subst (λ (l : List Sitting). Finds entries l next) (sym more)
+    (subst (λ (o : Option Disagree). Finds entries (take index seats ++ seat ∷ []) o) (sym is)
+    (Finds-more entries (take index seats) seat least found so_far one))
+
 -- the counts of seats, whichever way round
 pub calls-reverse : (seats : List Sitting) → calls_of (reverse seats) ≡ calls_of seats
 calls-reverse seats = sum_by-IsPermutation (λ (s : Sitting). length s.told) seats (reverse seats) (IsPermutation-reverse seats)
@@ -63,11 +74,6 @@ calls-reverse seats = sum_by-IsPermutation (λ (s : Sitting). length s.told) sea
 -- the seats of a board
 pub seated-within : (parts count : ℕ) (entries : List Entry) → parts ≡ count + 1 → AreSeated parts entries → All (λ (e : Entry). e.seat < count) entries
 seated-within parts count entries is seated k d lt = omega (arith, is, seated k d lt)
-
--- what is found of one seat, by its number and its record
-pub FindsOne-of : (entries : List Entry) (seat : Sitting) (found : Option Disagree) (number : ℕ) (told : List SeatCall) → number ≡ seat.number → told ≡ seat.told → MatchOption found (told_to number entries ≡ told) (λ d. (d.seat ≡ number) × FirstDiffers (told_to number entries) told d.index) → FindsOne entries seat found
-FindsOne-of entries seat None number told n t one = ap (λ k. told_to k entries) (sym n) ∙ (one ∙ t)
-FindsOne-of entries seat (Some d) number told n t one = (one.0 ∙ n, subst (λ k. FirstDiffers (told_to k entries) seat.told d.index) n (subst (λ l. FirstDiffers (told_to number entries) l d.index) t one.1))
 
 -- the history of a board whose parts were joined
 pub IsWhole-of : (rows : Rows) (first : World) (parts count amount : ℕ) (seats : List Sitting) (history shared : Log) → history ≡ shared → Replays rows first shared → AllPresent count seats → length shared.entries ≡ amount → amount ≡ calls_of seats → AreSeated parts shared.entries → parts ≡ count + 1 → IsWhole rows first count seats history

@@ -1,2 +1,3 @@
 -- What private functions say of their steps. No public clause rests on it.
+pub mod Places
 pub mod Presence

@@ -28,7 +28,7 @@ fn is_same_reply(left: Reply, right: Reply) -> bool
 }
 
 /// Whether a seat was told of the entry at a place.
-fn is_told(call: &SeatCall, place: usize, entry: &Entry) -> bool
+pub(crate) fn is_told(call: &SeatCall, place: usize, entry: &Entry) -> bool
     ensures { IsTrue result ↔ (call.now ≡ spec.told_of place entry.now) }
 {
     call.place == place

@@ -9,6 +9,7 @@ mod fault;
 mod history;
 mod joining;
 pub mod laws;
+mod places;
 mod presence;
 mod seat;
 mod seat_call;

@@ -1,6 +1,9 @@
 //! Settling a board: once all seats have come together, its calls stand in one history.
-ghost use Rattle.std.specs.Prelude.{◌≡◌, ◌+◌, ◌≤◌, [], All, IfOk, IfErr, MatchOption, length, vec_len, vec_capacity};
+ghost use Rattle.std.specs.Prelude.{◌≡◌, ◌+◌, ◌<◌, ◌≤◌, [], All, IfOk, IfErr, MatchOption, length, replicate};
+ghost use Rattle.std.specs.Prelude.{vec_len, vec_capacity};
+ghost use Rattle.dp_board.specs.Difference as difference;
 ghost use Rattle.dp_board.specs.Settled as settled;
+ghost use Rattle.dp_board.specs.steps.Places as places;
 ghost use Rattle.dp_board.specs.Unsettled as unsettled;
 
 use crate::board::Board;
@@ -9,6 +12,7 @@ use crate::entry::Entry;
 use crate::fault::SettleFault;
 use crate::history::History;
 use crate::joining::{join_parts, split_parts};
+use crate::places::{count_entries, is_record};
 use crate::presence::least_absent;
 use crate::seat::Seat;
 use crate::session::Session;
@@ -50,35 +54,72 @@ fn lesser(least: Option<Disagree>, found: Option<Disagree>) -> Option<Disagree>
     }
 }
 
-/// Of the seats that differ from the entries, the one of the least number, and where it first does.
-fn least_difference<S: Session>(entries: &[Entry], seats: &[Seat<S>]) -> Option<Disagree>
+/// Where what the entries tell a seat and its record first differ. The counts say how many entries are the seat's.
+/// Where the two do not differ, its record alone is walked.
+fn difference_of<S: Session>(
+    counts: &[usize],
+    entries: &[Entry],
+    seat: &Seat<S>,
+) -> Option<Disagree>
+    requires parts { S.parts ≡ length counts.now + 1 }
+    requires counts { places.CountsEntries entries.now counts.now }
+    ensures { MatchOption result (settled.Agrees entries.now seat.now) (λ found. (found.seat ≡ seat.now.number)
+        × difference.FirstDiffers (difference.told_to seat.now.number entries.now) seat.now.told found.index) }
+{
+    let number = seat.number();
+    if is_record(entries, number, seat.record(), counts[number as usize]) {
+        return None;
+    }
+    first_difference(entries, number, seat.record())
+}
+
+/// Of the seats that differ from the entries, the one of the least number, and where it first does. There is a count
+/// for each seat of the board, which is at 0 at first.
+fn least_difference<S: Session>(
+    mut counts: Vec<usize>,
+    entries: &[Entry],
+    seats: &[Seat<S>],
+) -> Option<Disagree>
+    requires parts { S.parts ≡ length counts.items + 1 }
+    requires fresh { counts.items ≡ replicate (length counts.items) 0 }
+    requires seated { All (λ entry. entry.seat < length counts.items) entries.now }
     ensures { MatchOption result (All (settled.Agrees entries.now) seats.now)
         (settled.IsLeastDifference entries.now seats.now) }
 {
+    count_entries(&mut counts, entries);
     let mut least = None;
     for seat in seats {
-        let found = first_difference(entries, seat.number(), seat.record());
+        let found = difference_of(&counts, entries, seat);
         least = lesser(least, found);
     }
     least
 }
 
-/// Room for what is left of so many seats, where each seat of a board is there.
-fn sheets_of_all<S: Session>(
+/// Room to settle a board in: for what is left of its seats, and for how many entries each has.
+#[derive(Drop)]
+struct Room<S: Session> {
+    sheets: Vec<Sheet<S>>,
+    counts: Vec<usize>,
+}
+
+/// Room to settle a board of so many seats in, where each of them is there.
+fn room_for<S: Session>(
     alloc: Global,
     count: u32,
     seats: &[Seat<S>],
-) -> Result<Vec<Sheet<S>>, SettleFault>
+) -> Result<Room<S>, SettleFault>
     requires { S.parts ≡ count + 1 }
     ensures present { IfOk result (λ _. settled.AllPresent count seats.now × (count ≤ length seats.now)) }
-    ensures room { IfOk result (λ sheets. (sheets.items ≡ []) × (length seats.now ≤ vec_capacity sheets)) }
+    ensures sheets { IfOk result (λ room. (room.sheets.items ≡ []) × (length seats.now ≤ vec_capacity room.sheets)) }
+    ensures counts { IfOk result (λ room. room.counts.items ≡ replicate count 0) }
     ensures err { IfErr result (unsettled.IsOpenFault count seats.now) }
 {
     let mut present = vec![in alloc; false; count as usize]?;
+    let counts = vec![in alloc; 0; count as usize]?;
     let sheets = Vec::with_capacity(alloc, seats.len())?;
     match least_absent(&mut present, count, seats) {
         Some(seat) => Err(SettleFault::SeatMissing { seat }),
-        None => Ok(sheets),
+        None => Ok(Room { sheets, counts }),
     }
 }
 
@@ -104,16 +145,17 @@ fn history_of<T: AppTable, S: Session>(
 /// The history of a board whose seats are all there.
 fn close<T: AppTable, S: Session>(
     board: Board<T, S>,
-    sheets: Vec<Sheet<S>>,
+    room: Room<S>,
     mut seats: Vec<Seat<S>>,
 ) -> Result<History<T>, Unsettled<T, S>>
     requires present { settled.AllPresent board seats.items × (board ≤ length seats.items) }
-    requires room { (sheets.items ≡ []) × (vec_len seats ≤ vec_capacity sheets) }
+    requires sheets { (room.sheets.items ≡ []) × (vec_len seats ≤ vec_capacity room.sheets) }
+    requires counts { room.counts.items ≡ replicate board 0 }
     ensures ok { IfOk result (λ history. settled.IsSettled T.rows S.opening board seats.items history) }
     ensures err { IfErr result (λ it. unsettled.IsUnsettled T.rows S.opening board seats.items it.fault it.back) }
 {
-    let history = history_of(board, sheets, &mut seats);
-    match least_difference(history.entries(), &seats) {
+    let history = history_of(board, room.sheets, &mut seats);
+    match least_difference(room.counts, history.entries(), &seats) {
         None => Ok(history),
         Some(found) => Err(Unsettled {
             fault: SettleFault::Differs(found),
@@ -133,8 +175,8 @@ impl<T: AppTable, S: Session> Board<T, S> {
         ensures ok { IfOk result (λ history. settled.IsSettled T.rows S.opening self seats.items history) }
         ensures err { IfErr result (λ it. unsettled.IsUnsettled T.rows S.opening self seats.items it.fault it.back) }
     {
-        match sheets_of_all(alloc, self.seats, &seats) {
-            Ok(sheets) => close(self, sheets, seats),
+        match room_for(alloc, self.seats, &seats) {
+            Ok(room) => close(self, room, seats),
             Err(fault) => Err(Unsettled {
                 fault,
                 back: Back::Open { board: self, seats },
