@@ -7,7 +7,8 @@ ghost use Rattle.dp_qapps.specs.Membership as spec;
 use crate::reports::{interface_of, penalty_of};
 use dp_app::{Application, Cell, Move, Touch, part};
 use dp_conf::{NoMemory, split_args};
-use dp_queue::{Added, Removed};
+use dp_queue::{Added, Queues, Removed};
+use dp_vars::Change;
 use std::alloc::Global;
 
 /// The status of an addition.
@@ -21,8 +22,25 @@ fn added_status(added: Added) -> &'static [u8]
     }
 }
 
-/// Adds a member and reports it. The report comes first, and is taken back where there is no room for the member: after a
-/// refused growth the cell is as before.
+/// The addition of a member to the queue of this name.
+#[derive(Drop)]
+struct Addition<'a> {
+    queue: &'a [u8],
+    interface: &'a [u8],
+    penalty: u32,
+}
+
+impl Change<Queues> for Addition<'_> {
+    ghost after = { λ addition queues.
+        (add_row queues addition.queue.now addition.interface.now addition.penalty).0 };
+
+    fn run(&self, alloc: Global, queues: &mut Queues) -> Result<(), NoMemory> {
+        queues.add(alloc, self.queue, self.interface, self.penalty)?;
+        Ok(())
+    }
+}
+
+/// Adds a member and reports it. After a refused growth the cell is as before.
 fn add(
     alloc: Global,
     queue: &[u8],
@@ -36,14 +54,14 @@ fn add(
     ensures err { OnErr result (cell.new ≡ cell.old) }
 {
     let status = added_status(cell.queues.would_add(queue, interface));
-    let had = cell.store.replace(alloc, b"AQMSTATUS", status)?;
-    match cell.queues.add(alloc, queue, interface, penalty) {
-        Ok(_) => Ok(Move::Next),
-        Err(no_memory) => {
-            cell.store.put_back(b"AQMSTATUS", had);
-            Err(no_memory)
-        }
-    }
+    let addition = Addition {
+        queue,
+        interface,
+        penalty,
+    };
+    cell.store
+        .set_after(alloc, b"AQMSTATUS", status, &addition, &mut cell.queues)?;
+    Ok(Move::Next)
 }
 
 /// Adds the member that the parts of the arguments name. After a refused growth the cell is as before.

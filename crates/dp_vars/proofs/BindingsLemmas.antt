@@ -1,7 +1,7 @@
 -- The bindings of a name at depths that fall.
-use Rattle.std.proofs.Common.{◌≡◌, ◌≢◌, ◌<◌, ◌≤◌, ◌⊎◌, inl, inr, ℕ, suc, Bool, true, false, cond, eqb, List, [], ◌∷◌, Option, Some, None, refl, sym, ap, subst, ◌∙◌, true≢false, arith}
+use Rattle.std.proofs.Common.{◌≡◌, ◌≢◌, ◌<◌, ◌≤◌, ◌⊎◌, inl, inr, ℕ, suc, Bool, true, false, cond, eqb, List, [], ◌∷◌, Some, None, refl, sym, ap, subst, ◌∙◌, true≢false, arith}
 use Rattle.std.proofs.lemmas.Bool.Decides.{eqb_tells}
-use Rattle.dp_vars.specs.Bindings.{Falls, bound, bound_below, depth_of, find, rebound, restored, unbound}
+use Rattle.dp_vars.specs.Bindings.{Falls, bound, bound_below, depth_of, find, rebound, unbound}
 use Rattle.dp_vars.specs.declared.stack.Binding.{Binding}
 
 -- depths that differ are told apart
@@ -81,23 +81,6 @@ find-bound_below limit d e value (b ∷ bs) falls some = by (eqb_tells b.depth d
         ∙ find-bound b.depth e value (b ∷ bs)
         ∙ ap (λ c. cond (eqb (depth_of (cond c bs (b ∷ bs))) e) (Some value) (find e (b ∷ bs))) (sym p.0)
 
--- what is restored stands at the depth of the innermost
-pub find-restored : (e : ℕ) (o : Option (List ℕ)) (b : Binding) (bs : List Binding) → Falls b.depth bs
-    → find e (restored o (b ∷ bs)) ≡ cond (eqb b.depth e) o (find e (b ∷ bs))
-find-restored e o b bs falls = by (eqb_tells b.depth e) o
-  where
-    by : ((eqb b.depth e ≡ true) × (b.depth ≡ e)) ⊎ ((eqb b.depth e ≡ false) × (b.depth ≢ e)) → (o : Option (List ℕ))
-        → find e (restored o (b ∷ bs)) ≡ cond (eqb b.depth e) o (find e (b ∷ bs))
-    by (inl p) None =
-        find-none b.depth e bs falls (omega (arith, p.1)) ∙ ap (λ c. cond c None (find e (b ∷ bs))) (sym p.0)
-    by (inr p) None =
-        ap (λ c. cond c (Some b.value) (find e bs)) (sym p.0) ∙ ap (λ c. cond c None (find e (b ∷ bs))) (sym p.0)
-    by (inl p) (Some value) =
-        ap (λ c. cond c (Some value) (find e bs)) p.0 ∙ ap (λ c. cond c (Some value) (find e (b ∷ bs))) (sym p.0)
-    by (inr p) (Some value) =
-        ap (λ c. cond c (Some value) (find e bs)) p.0 ∙ ap (λ c. cond c (Some b.value) (find e bs)) (sym p.0)
-        ∙ ap (λ c. cond c (Some value) (find e (b ∷ bs))) (sym p.0)
-
 -- depths fall from further in too
 pub falls_under : (m n : ℕ) (bs : List Binding) → m ≤ n → Falls m bs → Falls n bs
 falls_under m n [] below falls = tt
@@ -128,8 +111,3 @@ falls-bound_below limit d value (b ∷ bs) some deep falls = by (eqb_tells b.dep
         (falls.0, falls-rebound b.depth value bs (omega (arith, p.1)) falls.1)
     by (inr p) = subst (λ c. Falls limit (cond c (b ∷ rebound value bs) (rebound value (b ∷ bs)))) (sym p.0)
         (falls-rebound limit value (b ∷ bs) some falls)
-
-pub falls-restored : (limit : ℕ) (o : Option (List ℕ)) (bs : List Binding) → Falls limit bs → Falls limit (restored o bs)
-falls-restored limit o [] falls = tt
-falls-restored limit None (b ∷ bs) falls = falls_under b.depth limit bs (omega (arith, falls.0)) falls.1
-falls-restored limit (Some value) (b ∷ bs) falls = (falls.0, falls.1)

@@ -1,14 +1,14 @@
 -- What a store knows of its bindings.
-use Rattle.std.proofs.Common.{◌≡◌, ◌≢◌, ◌<◌, ◌⊎◌, inl, inr, ◌+◌, ℕ, zero, suc, Bool, true, false, cond, eqb, List, [], ◌∷◌, ◌++◌, Option, Some, None, refl, sym, ap, subst, ◌∙◌, nat_eq, not, length, take, fold, eq-eqb, get_or, set as set_item, arith}
+use Rattle.std.proofs.Common.{◌≡◌, ◌≢◌, ◌<◌, ◌⊎◌, inl, inr, ◌+◌, ℕ, zero, suc, Bool, true, false, cond, eqb, List, [], ◌∷◌, ◌++◌, refl, sym, ap, subst, ◌∙◌, nat_eq, not, length, take, fold, eq-eqb, get_or, set as set_item, arith}
 use Rattle.std.specs.List.{position_or_len}
 use Rattle.std.specs.Cmp.Lexicographic.{pointwise}
 use Rattle.std.proofs.lemmas.Bool.Decides.{eqb_tells}
 use Rattle.std.proofs.lemmas.List.{length-append}
-use Rattle.dp_vars.specs.Bindings.{Falls, bound, bound_below, rebound, restored, unbound}
+use Rattle.dp_vars.specs.Bindings.{Falls, bound, bound_below, rebound, unbound}
 use Rattle.dp_vars.specs.Tables.{AreHeld, Entries, IsAmong, IsBound, IsHeld, names_of, noted, numbers_at, stack_at, stack_of, unbound_at, with_stack}
 use Rattle.dp_vars.specs.declared.frame.Held.{Held}
 use Rattle.dp_vars.specs.declared.stack.Binding.{Binding}
-use Rattle.dp_vars.proofs.BindingsLemmas.{falls_under, falls-restored, falls-unbound, other}
+use Rattle.dp_vars.proofs.BindingsLemmas.{falls_under, falls-unbound, other}
 
 one_more : (n : ℕ) → 1 + n ≡ suc n
 one_more n = omega arith
@@ -123,11 +123,6 @@ module _ {B : Type 0} where
         by : (c : Bool) → AreHeld hs i (cond c (b ∷ rebound value bs) (rebound value (b ∷ bs)))
         by true = (held.0, held-rebound value bs held.1)
         by false = held-rebound value (b ∷ bs) held
-
-    pub held-restored : (o : Option (List ℕ)) (bs : List Binding) → AreHeld hs i bs → AreHeld hs i (restored o bs)
-    held-restored o [] held = tt
-    held-restored None (b ∷ bs) held = held.1
-    held-restored (Some value) (b ∷ bs) held = (held.0, held.1)
 
   -- a store with no names
   pub none_bound : (hs : List (Held B)) → IsBound [] hs
@@ -262,10 +257,3 @@ module _ {B : Type 0} where
   noted-set n (suc m) (x ∷ []) h many is = absurd (omega arith)
   noted-set n zero (x ∷ y ∷ hs) h many is = absurd (omega arith)
   noted-set n (suc m) (x ∷ y ∷ hs) h many is = ap (λ more. x ∷ more) (noted-set n m (y ∷ hs) h (omega arith) is)
-
-  -- a value that is put back
-  pub restored-bound : (es : Entries) (hs : List (Held B)) (name : List ℕ) (o : Option (List ℕ)) → IsBound es hs
-      → IsBound (with_stack es name (restored o (stack_of es name))) hs
-  restored-bound es hs name o is = with_stack-bound es hs name (restored o (stack_of es name)) is
-      (falls-restored (suc (length hs)) o (stack_of es name) (falls_of es hs name is))
-      (held-restored hs (position_or_len (pointwise nat_eq name) (names_of es)) o (stack_of es name) (held_of es hs name is))

@@ -6,7 +6,7 @@ use Rattle.std.specs.Cmp.Lexicographic.{nat_list_eq_equiv, pointwise}
 use Rattle.std.proofs.lemmas.Bool.Decides.{nat_tests}
 use Rattle.std.proofs.lemmas.Map.Keys.{IsDistinct-cons, IsDistinct-head, IsDistinct-push, IsDistinct-tail}
 use Rattle.dp_vars.proofs.VariablesLemmas.{apart, swapped}
-use Rattle.dp_vars.specs.Stores.{slot, with_name}
+use Rattle.dp_vars.specs.Stores.{slot}
 
 some_by : (b : Bool) (m i : ℕ) → cond b (Some m) None ≡ Some i → (b ≡ true) × (m ≡ i)
 some_by true m i is = (refl, (cc))
@@ -44,40 +44,11 @@ module _ {X : Type 0} (test : X → Bool) where
       let within = position_or_len_within xs in
       omega arith
 
-  -- and none is found where it is
-  pub position_none_of : (xs : List X) → position_or_len test xs ≡ length xs → position test xs ≡ None
-  position_none_of xs is = ap (λ b. cond b (Some (position_or_len test xs)) None) (not_lt (position_or_len test xs) (length xs) is)
-    where
-      not_lt : (m n : ℕ) → m ≡ n → nat_lt m n ≡ false
-      not_lt m n is = grind (arith, nat_tests)
-
 -- a position by what is read of each element
 pub position_or_len-map : {X Y : Type 0} (f : X → Y) (test : Y → Bool) (xs : List X)
     → position_or_len test (map f xs) ≡ position_or_len (λ x. test (f x)) xs
 position_or_len-map f test [] = refl
 position_or_len-map f test (x ∷ xs) = ap (λ n. cond (not (test (f x))) (1 + n) 0) (position_or_len-map f test xs)
-
--- a name that is known stays one of the same names
-pub with_name-known : (names : List (List ℕ)) (name : List ℕ) → position_or_len (pointwise nat_eq name) names < length names → with_name names name ≡ names
-with_name-known [] name within = absurd (omega arith)
-with_name-known (n ∷ names) name within = by (pointwise nat_eq name n) within (with_name-known names name)
-  where
-    by : (b : Bool) → cond (not b) (1 + position_or_len (pointwise nat_eq name) names) 0 < suc (length names)
-        → (position_or_len (pointwise nat_eq name) names < length names → with_name names name ≡ names)
-        → cond b (n ∷ names) (n ∷ with_name names name) ≡ n ∷ names
-    by true within rest = refl
-    by false within rest = ap (λ ns. n ∷ ns) (rest (omega arith))
-
--- a new name goes after the others
-pub with_name-new : (names : List (List ℕ)) (name : List ℕ) → position_or_len (pointwise nat_eq name) names ≡ length names → with_name names name ≡ names ++ name ∷ []
-with_name-new [] name is = refl
-with_name-new (n ∷ names) name is = by (pointwise nat_eq name n) is (with_name-new names name)
-  where
-    by : (b : Bool) → cond (not b) (1 + position_or_len (pointwise nat_eq name) names) 0 ≡ suc (length names)
-        → (position_or_len (pointwise nat_eq name) names ≡ length names → with_name names name ≡ names ++ name ∷ [])
-        → cond b (n ∷ names) (n ∷ with_name names name) ≡ n ∷ (names ++ name ∷ [])
-    by true is rest = absurd (omega arith)
-    by false is rest = ap (λ ns. n ∷ ns) (rest (omega arith))
 
 -- the number that a name has, or gets
 pub number_of : {X : Type 0} (test : X → Bool) (xs : List X) (o : Option ℕ) → o ≡ position test xs → unwrap_or o (length xs) ≡ position_or_len test xs

@@ -5,9 +5,8 @@ use Rattle.std.proofs.lemmas.List.{map-append, reverse-append}
 use Rattle.std.specs.Option.{option_map, option_or}
 use Rattle.std.specs.FinMap.{get, insert}
 use Rattle.dp_vars.specs.Bindings.{Falls, depth_of, find, innermost_value, is_at}
-use Rattle.dp_vars.specs.Replaced.{local_at}
 use Rattle.dp_vars.specs.Stores.{Frame, all_locals, changed_at, holder, local_in, set, set_in, set_local, value_in, with_local, with_local_name, with_name}
-use Rattle.dp_vars.specs.Tables.{Entries, frames_from, map_at, names_of, noted, stack_of, store_of}
+use Rattle.dp_vars.specs.Tables.{Entries, frames_from, local_at, map_at, names_of, noted, stack_of, store_of}
 use Rattle.dp_vars.specs.Variables.{Named, first_value}
 use Rattle.dp_vars.specs.declared.frame.Held.{Held}
 use Rattle.dp_vars.specs.declared.stack.Binding.{Binding}

@@ -1,5 +1,5 @@
 -- Names with their bindings.
-use Rattle.std.proofs.Common.{◌≡◌, ◌<◌, ◌≤◌, ◌+◌, ℕ, zero, suc, Bool, true, false, cond, eqb, List, [], ◌∷◌, Option, Some, None, refl, sym, ap, ◌∙◌, nat_eq, not, length, get_or, set, subst, ◌++◌, unwrap_or, arith, Result, Ok, Err}
+use Rattle.std.proofs.Common.{◌≡◌, ◌≤◌, ◌+◌, ℕ, zero, suc, Bool, true, false, cond, eqb, List, [], ◌∷◌, Option, Some, None, refl, sym, ap, ◌∙◌, nat_eq, not, length, get_or, set, subst, ◌++◌, unwrap_or, arith, Result, Ok, Err}
 use Rattle.std.specs.List.{position_or_len}
 use Rattle.std.specs.Result.{OnErr}
 use Rattle.std.specs.Ordering.{nat_cmp}
@@ -15,7 +15,7 @@ use Rattle.dp_vars.specs.Stores.{slot, with_name}
 use Rattle.dp_vars.specs.Tables.{AreNumbered, Entries, map_at, names_of, put_value, stack_of, unbound_at, with_stack}
 use Rattle.dp_vars.specs.Variables.{Named, by_bytes, in_order}
 use Rattle.dp_vars.specs.declared.stack.Binding.{Binding}
-use Rattle.dp_vars.proofs.NamesLemmas.{distinct-but_last, distinct-none, distinct-push, last-new, length-names, new_of, position_none, position_some, slot-cons, slot-push}
+use Rattle.dp_vars.proofs.NamesLemmas.{distinct-but_last, distinct-none, distinct-push, last-new, length-names, new_of, position_none, slot-cons, slot-push}
 
 -- maps with the same values are the same
 pub same_named : (m n : Named) → ((q : List ℕ) → get m q ≡ get n q) → m ≡ n
@@ -152,12 +152,6 @@ not_found (x ∷ es) name is =
     let new = new_of x.0 (names_of es) name is in
     ap (λ b. cond b (Some x.1) (lookup (pointwise nat_eq name) es)) new.0 ∙ not_found es name new.1
 
--- a number that a name has is below how many there are
-pub number_within : (es : Entries) (name : List ℕ) (number : ℕ) → slot (names_of es) name ≡ Some number → number < length es
-number_within es name number is =
-    let p = position_some (pointwise nat_eq name) (names_of es) number is in
-    omega (arith, p.0, p.1, length-names (λ (e : List ℕ × List Binding). e.0) es)
-
 -- other bindings at a number leave the names
 pub names-set : (es : Entries) (number : ℕ) (e : List ℕ × List Binding) (bs : List Binding) → e ≡ get_or es number e
     → names_of (set es number (e.0, bs)) ≡ names_of es
@@ -248,21 +242,6 @@ module _ {K : Type 0} (bytes : K → List ℕ) where
     distinct = distinct-push names (bytes key) new are.distinct;
   }
 
-  -- a name that has its number, and is given it once more
-  pub numbered-kept : (numbers : List (K × ℕ)) (names : List (List ℕ)) (key : K) (number : ℕ) → AreNumbered (by_bytes bytes numbers) names
-      → slot names (bytes key) ≡ Some number → AreNumbered (by_bytes bytes (insert_entry (in_order bytes) numbers key number)) names
-  numbered-kept numbers names key number are known = record {
-    slots = λ q.
-        lookup-inserted bytes q numbers key number
-        ∙ ap (cond (pointwise nat_eq q (bytes key)) (Some number)) (are.slots q)
-        ∙ by q (pointwise nat_eq q (bytes key)) refl;
-    distinct = are.distinct;
-  }
-    where
-      by : (q : List ℕ) (b : Bool) → pointwise nat_eq q (bytes key) ≡ b → cond b (Some number) (slot names q) ≡ slot names q
-      by q true tied = sym (ap (slot names) ((bytes_decides q (bytes key)).0 tied) ∙ known)
-      by q false other = refl
-
   -- the names without the last, and the numbers without its own
   pub numbered-pop : (numbers : List (K × ℕ)) (names : List (List ℕ)) (name : List ℕ)
       → AreNumbered (by_bytes bytes numbers) (names ++ name ∷ [])
@@ -283,62 +262,32 @@ module _ {K : Type 0} (bytes : K → List ℕ) where
       by q true tied = sym (ap (slot names) ((bytes_decides q name).0 tied) ∙ new)
       by q false other = refl
 
--- a number that a look-up of a name gives, or the next one
-module _ {K : Type 0} (bytes : K → List ℕ) (numbers : List (K × ℕ)) (es : Entries) (name : List ℕ) (number next : ℕ)
-    (are : AreNumbered (by_bytes bytes numbers) (names_of es)) (many : next ≡ length es)
-    (is : number ≡ unwrap_or (lookup (has_bytes bytes name) numbers) next) where
-  slot_is : number ≡ unwrap_or (slot (names_of es) name) next
-  slot_is = is ∙ ap (λ o. unwrap_or o next) (lookup-by_bytes bytes name numbers ∙ are.slots name)
+-- a key of a new name
+module _ {K : Type 0} (bytes : K → List ℕ) (numbers : List (K × ℕ)) (inside seen : Entries) (key : K) (name : List ℕ)
+    (are : AreNumbered (by_bytes bytes numbers) (names_of inside)) (view : inside ≡ seen) (same : bytes key ≡ name)
+    (new : slot (names_of seen) name ≡ None) where
+  is-new : slot (names_of inside) (bytes key) ≡ None
+  is-new = (λ i. slot (names_of (view i)) (same i)) ∙ new
 
-  -- one below how many there are is the name's
-  pub number-known : number < next → slot (names_of es) name ≡ Some number
-  number-known within = by (slot (names_of es) name) slot_is
-    where
-      by : (o : Option ℕ) → number ≡ unwrap_or o next → o ≡ Some number
-      by None is = absurd (omega (arith, is, within))
-      by (Some m) is = ap (λ n. Some n) (sym is)
+  -- has no number
+  pub unnumbered : lookup (has_bytes bytes (bytes key)) numbers ≡ None
+  unnumbered = lookup-by_bytes bytes (bytes key) numbers ∙ are.slots (bytes key) ∙ is-new
 
-  -- and with any other the name is new
-  pub number-new : next ≤ number → (slot (names_of es) name ≡ None) × (number ≡ length (names_of es))
-  number-new beyond = by (slot (names_of es) name) refl slot_is
-    where
-      by : (o : Option ℕ) → slot (names_of es) name ≡ o → number ≡ unwrap_or o next → (o ≡ None) × (number ≡ length (names_of es))
-      by None at is = (refl, omega (arith, is, many, length-names (λ (e : List ℕ × List Binding). e.0) es))
-      by (Some m) at is = absurd (omega (arith, is, beyond, many, number_within es name m at))
-
--- bindings that are added for a key: what is written at the number that a map gives it, or after the others for a new one, is written
--- for its name, and the names have their numbers in the map with the key
-module _ {K : Type 0} (bytes : K → List ℕ) (numbers after : List (K × ℕ)) (seen es : Entries) (key : K) (number next : ℕ)
-    (bs : List Binding) (are : AreNumbered (by_bytes bytes numbers) (names_of seen)) (view : es ≡ seen) (many : next ≡ length es)
-    (is : number ≡ unwrap_or (lookup (has_bytes bytes (bytes key)) numbers) next)
-    (put : after ≡ insert_entry (in_order bytes) numbers key number) where
-  abbrev IsAdded : Entries → Type 0
-  IsAdded fs = AreNumbered (by_bytes bytes after) (names_of fs) × (fs ≡ with_stack seen (bytes key) bs)
-
-  are-es : AreNumbered (by_bytes bytes numbers) (names_of es)
-  are-es = subst (λ entries. AreNumbered (by_bytes bytes numbers) (names_of entries)) (sym view) are
-
-  pub added-at : number < next → (x : List ℕ × List Binding) (own : List ℕ) (old : List Binding) → (own, old) ≡ x → x ≡ get_or es number x
-      → IsAdded (set es number (own, bs))
-  added-at within x own old same at =
-      let known = number-known bytes numbers es (bytes key) number next are-es many is within in (
-        subst (λ ns. AreNumbered (by_bytes bytes ns) (names_of (set es number (own, bs)))) (sym put)
-            (numbered-at es number x own old same at (by_bytes bytes (insert_entry (in_order bytes) numbers key number)) bs
-            (numbered-kept bytes numbers (names_of es) key number are-es known)),
-        written-at es number x own old same at (bytes key) bs known ∙ ap (λ entries. with_stack entries (bytes key) bs) view,
-      )
-
-  pub added-new : next ≤ number → (name : List ℕ) → name ≡ bytes key → IsAdded (es ++ (name, bs) ∷ [])
-  added-new beyond name same =
-      let new = number-new bytes numbers es (bytes key) number next are-es many is beyond in
-      let names : names_of es ++ bytes key ∷ [] ≡ names_of (es ++ (name, bs) ∷ []) =
-      ap (λ n. names_of es ++ n ∷ []) (sym same) ∙ sym (map-append (λ e. e.0) es ((name, bs) ∷ [])) in (
+  -- bindings that are added after the others are the name's, and the names have their numbers in the map with the key
+  pub added : (after : List (K × ℕ)) (es fs : Entries) (number : ℕ) (own : List ℕ) (bs made : List Binding)
+      → es ≡ inside → number ≡ length es → after ≡ insert_entry (in_order bytes) numbers key number → own ≡ name → bs ≡ made → fs ≡ es ++ (own, bs) ∷ []
+      → AreNumbered (by_bytes bytes after) (names_of fs) × (fs ≡ with_stack seen name made)
+  added after es fs number own bs made held many put named stack is =
+      let count : length (names_of inside) ≡ number =
+      length-names (λ (e : List ℕ × List Binding). e.0) inside ∙ ap length (sym held) ∙ sym many in
+      let at : fs ≡ inside ++ (bytes key, made) ∷ [] = is ∙ (λ i. held i ++ ((named ∙ sym same) i, stack i) ∷ []) in
+      let names : names_of inside ++ bytes key ∷ [] ≡ names_of fs =
+      sym (map-append (λ e. e.0) inside ((bytes key, made) ∷ [])) ∙ ap names_of (sym at) in (
         subst (AreNumbered (by_bytes bytes after)) names
-            (subst (λ ns. AreNumbered (by_bytes bytes ns) (names_of es ++ bytes key ∷ []))
-            (ap (insert_entry (in_order bytes) numbers key) (sym new.1) ∙ sym put)
-            (numbered-push bytes numbers (names_of es) key are-es new.0)),
-        ap (λ n. es ++ (n, bs) ∷ []) same ∙ sym (with_stack-new es (bytes key) bs new.0)
-            ∙ ap (λ entries. with_stack entries (bytes key) bs) view,
+            (subst (λ ns. AreNumbered (by_bytes bytes ns) (names_of inside ++ bytes key ∷ []))
+            (ap (insert_entry (in_order bytes) numbers key) count ∙ sym put)
+            (numbered-push bytes numbers (names_of inside) key are is-new)),
+        at ∙ sym (with_stack-new inside (bytes key) made is-new) ∙ (λ i. with_stack (view i) (same i) made),
       )
 
 -- at a number that no name has nothing is

@@ -44,12 +44,6 @@ abbrev pub bound_below : ℕ → List ℕ → List Binding → List Binding
 bound_below depth value [] = rebound value []
 bound_below depth value (b ∷ bs) = if eqb b.depth depth then b ∷ rebound value bs else rebound value (b ∷ bs)
 
--- the bindings with another value for the innermost, or without it
-abbrev pub restored : Option (List ℕ) → List Binding → List Binding
-restored value [] = []
-restored None (b ∷ bs) = bs
-restored (Some value) (b ∷ bs) = binding b.depth value ∷ bs
-
 -- each binding stands further out than the one before it, and the innermost above no such depth
 abbrev pub Falls : ℕ → List Binding → Type 0
 Falls limit [] = Unit {0}

@@ -4,7 +4,6 @@ pub mod Heads
 pub mod Openings
 pub mod Parts
 pub mod Pieces
-pub mod Replaced
 pub mod Sights
 pub mod Spans
 pub mod Stores

@@ -1,11 +1,11 @@
 -- Names with their bindings, in the order of their numbers, and what a store with frames above them is.
-use Rattle.std.specs.Prelude.{ℕ, zero, suc, ◌≡◌, ◌⊎◌, List, [], ◌∷◌, ◌++◌, Option, Some, None, length, map, nat_eq, if◌then◌else◌}
+use Rattle.std.specs.Prelude.{ℕ, zero, suc, ◌≡◌, ◌⊎◌, List, [], ◌∷◌, ◌++◌, Option, Some, None, length, map, nat_eq, slice_get, if◌then◌else◌}
 use Rattle.std.specs.Cmp.Lexicographic.{pointwise}
 use Rattle.std.specs.List.{IsDistinct}
 use Rattle.std.specs.Map.{lookup}
+use Rattle.std.specs.Option.{option_and_then}
 use Rattle.std.specs.FinMap.{empty, get, insert, remove}
 use Rattle.dp_vars.specs.Bindings.{Falls, find, unbound}
-use Rattle.dp_vars.specs.Replaced.{local_at}
 use Rattle.dp_vars.specs.Stores.{Frame, StoreOf, slot}
 use Rattle.dp_vars.specs.Variables.{Named}
 use Rattle.dp_vars.specs.declared.frame.Held.{Held}
@@ -80,6 +80,10 @@ module _ {B : Type 0} where
   noted number [] = []
   noted number (h ∷ []) = record { back = h.back; numbers = h.numbers ++ number ∷ [] } ∷ []
   noted number (h ∷ g ∷ hs) = h ∷ noted number (g ∷ hs)
+
+  -- the value of a name among the locals of the frame at a place
+  abbrev pub local_at : List (Frame B) → ℕ → List ℕ → Option (List ℕ)
+  local_at frames place name = option_and_then (λ frame. get frame.locals name) (slice_get frames place)
 
   -- each name that has a value in the store is one of its names
   pub record HasNamed (store : StoreOf B) : Type 0 where

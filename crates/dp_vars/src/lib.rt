@@ -5,6 +5,7 @@
 //! `expand_text` with a text that was not read before, and `value_of` is the value of one name.
 #![tactic(auto)]
 
+mod change;
 mod expanding;
 mod frame;
 mod globals;
@@ -24,12 +25,13 @@ mod template;
 mod value;
 mod variables;
 
+pub use change::Change;
 pub use dp_conf::MOST_NESTING;
 pub use globals::Globals;
 pub use opening::has_opening;
 pub use pieces::Pieces;
 pub use reference::value_of;
 pub use scope::{ChannelSeen, Counts, Scope};
-pub use store::{Replaced, Store};
+pub use store::Store;
 pub use template::{Template, TemplateFault, expand, expand_text};
 pub use variables::Variable;

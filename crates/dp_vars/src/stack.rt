@@ -1,8 +1,9 @@
 //! The values that one name has, in the channel and in frames.
 ghost use Rattle.std.specs.Prelude.{◌≡◌, ◌+◌, ◌<◌, ◌≤◌, [], OnErr, OnOk, IfOk, reverse, if◌then◌else◌, slice_get, vec_len, vec_capacity};
 ghost use Rattle.std.specs.Option.{option_map};
-ghost use Rattle.dp_vars.specs.Bindings.{binding, bound, bound_below, depth_of, innermost_value, is_at, rebound, restored, unbound};
+ghost use Rattle.dp_vars.specs.Bindings.{binding, bound, bound_below, innermost_value, is_at, rebound, unbound};
 
+use crate::change::Change;
 use dp_conf::{NoMemory, Text};
 use std::alloc::Global;
 use std::marker::Model;
@@ -31,7 +32,8 @@ impl Model for Stack {
 
 /// Gives the last binding another value.
 fn change_last(bindings: &mut Vec<Binding>, value: Text)
-    ensures value { reverse bindings.new.items ≡ restored (Some value) (reverse bindings.old.items) }
+    requires { 0 < vec_len bindings.old }
+    ensures value { reverse bindings.new.items ≡ rebound value (reverse bindings.old.items) }
     ensures len { vec_len bindings.new ≡ vec_len bindings.old }
     ensures capacity { vec_capacity bindings.old ≤ vec_capacity bindings.new }
 {
@@ -43,7 +45,7 @@ fn change_last(bindings: &mut Vec<Binding>, value: Text)
 
 /// Gives the last binding another value, or binds one in the channel where there is none.
 fn rebind_last(bindings: &mut Vec<Binding>, value: Text)
-    requires { vec_len bindings.old < vec_capacity bindings.old }
+    requires { vec_len bindings.old ≡ 0 → 0 < vec_capacity bindings.old }
     ensures value { reverse bindings.new.items ≡ rebound value (reverse bindings.old.items) }
     ensures len { vec_len bindings.new ≤ vec_len bindings.old + 1 }
     ensures capacity { vec_capacity bindings.old ≤ vec_capacity bindings.new }
@@ -82,16 +84,6 @@ impl Stack {
         }
     }
 
-    /// The depth of the innermost binding; that of the channel where there is none.
-    pub(crate) fn depth(&self) -> usize
-        ensures { result ≡ depth_of self.now }
-    {
-        match self.innermost() {
-            Some(binding) => binding.depth,
-            None => 0,
-        }
-    }
-
     /// The value of the innermost binding.
     pub(crate) fn value(&self) -> Option<&[u8]>
         ensures { option_map (λ value. value.now) result ≡ innermost_value self.now }
@@ -127,6 +119,28 @@ impl Stack {
         Ok(())
     }
 
+    /// Gives the innermost binding another value, or binds one in the channel where there is none, after this change. After
+    /// a refused growth all is as before.
+    pub(crate) fn rebind_after<T, C: Change<T>>(
+        &mut self,
+        alloc: Global,
+        value: Text,
+        change: &C,
+        target: &mut T,
+    ) -> Result<(), NoMemory>
+        ensures ok { OnOk result (self.new ≡ rebound value self.old) }
+        ensures changed { OnOk result (target.new ≡ C.after change.now target.old) }
+        ensures err { OnErr result (self.new ≡ self.old) }
+        ensures unchanged { OnErr result (target.new ≡ target.old) }
+    {
+        if self.bindings.is_empty() {
+            self.bindings.reserve(1)?;
+        }
+        change.run(alloc, target)?;
+        rebind_last(&mut self.bindings, value);
+        Ok(())
+    }
+
     /// Gives the innermost binding that stands at no such depth another value, or binds one in the channel where there is
     /// none. After a refused growth all is as before.
     pub(crate) fn bind_below(&mut self, depth: usize, value: Text) -> Result<(), NoMemory>
@@ -152,18 +166,6 @@ impl Stack {
     {
         if self.is_at(depth) {
             let _binding = self.bindings.pop();
-        }
-    }
-
-    /// Gives the innermost binding another value, or takes it away.
-    pub(crate) fn restore(&mut self, value: Option<Text>)
-        ensures { self.new ≡ restored value self.old }
-    {
-        match value {
-            Some(value) => change_last(&mut self.bindings, value),
-            None => {
-                let _binding = self.bindings.pop();
-            }
         }
     }
 }

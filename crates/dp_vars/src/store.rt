@@ -1,11 +1,11 @@
 //! The variables of a channel, and its frames, after the Asterisk documentation's page on variables.
-ghost use Rattle.std.specs.Prelude.{◌≡◌, ◌<◌, ℕ, List, IfOk, OnErr, OnOk, [], nat_lt, length, take};
+ghost use Rattle.std.specs.Prelude.{◌≡◌, ◌<◌, List, IfOk, OnErr, OnOk, [], nat_lt, length, take};
 ghost use Rattle.std.specs.Option.{option_map};
-ghost use Rattle.dp_vars.specs.Replaced as spec;
 ghost use Rattle.dp_vars.specs.Stores as stores;
 ghost use Rattle.dp_vars.specs.Stores.{StoreOf};
 ghost use Rattle.dp_vars.specs.Tables.{HasNamed};
 
+use crate::change::{Change, Nothing};
 use crate::frame::{self, Held, Numbers};
 use crate::table::Table;
 use crate::variables::Variable;
@@ -22,37 +22,6 @@ use std::marker::Model;
 pub struct Store<B> {
     table: Table,
     frames: Vec<Held<B>>,
-}
-
-/// What a name had where it was set, and whether it was new then.
-#[derive(Debug, Drop)]
-pub struct Replaced {
-    value: Option<Text>,
-    is_new: bool,
-}
-
-impl Model for Replaced {
-    ghost use Rattle.std.specs.Prelude.{◌≡◌, true, None};
-    ghost use Rattle.dp_vars.specs.Replaced.{Had};
-
-    ghost Value = { Had };
-
-    ghost view = { λ replaced. record { value = replaced.value; is_new = replaced.is_new } };
-
-    ghost invariant = { λ replaced. replaced.is_new ≡ true → replaced.value ≡ None };
-}
-
-/// A copy of a text, where there is one.
-fn copied(alloc: Global, text: Option<&[u8]>) -> Result<Option<Text>, NoMemory>
-    ensures { IfOk result (λ copy. copy ≡ option_map (λ bytes. bytes.now) text.entry) }
-{
-    match text {
-        None => Ok(None),
-        Some(bytes) => {
-            let copy = Text::copy_of(alloc, bytes)?;
-            Ok(Some(copy))
-        }
-    }
 }
 
 impl<B> Model for Store<B> {
@@ -118,7 +87,25 @@ impl<B> Store<B> {
         ensures ok { OnOk result (self.new ≡ stores.set self.old name.now value.now) }
         ensures err { OnErr result (self.new ≡ self.old) }
     {
-        self.table.rebind(alloc, name, value)?;
+        self.set_after(alloc, name, value, &Nothing, &mut ())
+    }
+
+    /// Changes a target and then sets a name, as `set` does. All memory that setting the name takes is taken before the
+    /// change: after a refused growth, also one of the change, the store and the target are as before.
+    pub fn set_after<T, C: Change<T>>(
+        &mut self,
+        alloc: Global,
+        name: &[u8],
+        value: &[u8],
+        change: &C,
+        target: &mut T,
+    ) -> Result<(), NoMemory>
+        ensures ok { OnOk result (self.new ≡ stores.set self.old name.now value.now) }
+        ensures changed { OnOk result (target.new ≡ C.after change.now target.old) }
+        ensures err { OnErr result (self.new ≡ self.old) }
+        ensures unchanged { OnErr result (target.new ≡ target.old) }
+    {
+        self.table.rebind_after(alloc, name, value, change, target)?;
         Ok(())
     }
 
@@ -228,55 +215,6 @@ impl<B> Store<B> {
         self.table
             .bind_below(alloc, name, self.frames.len(), value)?;
         Ok(self.pop_frame())
-    }
-
-    /// Sets a name as `set` does, and gives what `put_back` needs to undo that.
-    pub fn replace(
-        &mut self,
-        alloc: Global,
-        name: &[u8],
-        value: &[u8],
-    ) -> Result<Replaced, NoMemory>
-        ensures ok { OnOk result (self.new ≡ stores.set self.old name.now value.now) }
-        ensures had { IfOk result (λ had. had ≡ spec.had self.old name.now) }
-        ensures err { OnErr result (self.new ≡ self.old) }
-    {
-        let had = self.had(alloc, name)?;
-        self.set(alloc, name, value)?;
-        Ok(had)
-    }
-
-    /// The value of a name, and whether it is new.
-    fn had(&self, alloc: Global, name: &[u8]) -> Result<Replaced, NoMemory>
-        ensures { IfOk result (λ had. had ≡ spec.had self.now name.now) }
-    {
-        match self.table.stack(name) {
-            None => Ok(Replaced {
-                value: None,
-                is_new: true,
-            }),
-            Some(stack) => {
-                let value = copied(alloc, stack.value())?;
-                Ok(Replaced {
-                    value,
-                    is_new: false,
-                })
-            }
-        }
-    }
-
-    /// Puts back what a name had before `replace` set it. It takes no memory.
-    pub fn put_back(&mut self, name: &[u8], had: Replaced)
-        ensures { (before : StoreOf B) (value : List ℕ) → self.old ≡ stores.set before name.now value
-            → had ≡ spec.had before name.now → self.new ≡ before }
-    {
-        let Replaced { value, is_new } = had;
-        if is_new {
-            let known = self.table.len().saturating_sub(1);
-            self.table.truncate(known);
-        } else {
-            self.table.restore(name, value);
-        }
     }
 }
 

@@ -1,14 +1,15 @@
 //! The names of a store by their numbers, each with its values.
-ghost use Rattle.std.specs.Prelude.{◌≡◌, [], length, nat_eq, fold, is_some, take, if◌then◌else◌, ◌-◌, unwrap_or, IfOk, OnErr, OnOk};
+ghost use Rattle.std.specs.Prelude.{◌≡◌, None, [], length, nat_eq, fold, take, ◌-◌, OnErr, OnOk};
 ghost use Rattle.std.specs.BTreeMap.{get, insert_entry};
 ghost use Rattle.std.specs.Cmp.Lexicographic.{pointwise};
 ghost use Rattle.std.specs.Map.{lookup};
 ghost use Rattle.std.specs.Option.{option_map};
-ghost use Rattle.dp_vars.specs.Bindings.{bound, bound_below, rebound, restored};
+ghost use Rattle.dp_vars.specs.Bindings.{bound, bound_below, rebound};
 ghost use Rattle.dp_vars.specs.Stores.{slot as slot_of};
 ghost use Rattle.dp_vars.specs.Tables.{names_of, stack_of, unbound_at, with_stack};
 ghost use Rattle.dp_vars.specs.Variables.{in_order};
 
+use crate::change::{Change, Nothing};
 use crate::frame::Numbers;
 use crate::stack::Stack;
 use dp_conf::{NoMemory, Text};
@@ -53,19 +54,30 @@ impl Model for Table {
     ghost invariant = { λ table. AreNumbered (by_bytes (λ name. name.items) table.numbers.entries) (names_of table.entries.items) };
 }
 
-/// The number of a name, which is the next one where it had none. After a refused growth all is as before.
-fn number_of(
+/// Gives a name that had no number this one, once this change is made. After a refused growth all is as before.
+fn number_after<T, C: Change<T>>(
+    alloc: Global,
     numbers: &mut BTreeMap<Vec<u8>, usize>,
     name: Vec<u8>,
-    next: usize,
-) -> Result<usize, NoMemory>
-    ensures number { IfOk result (λ number. number ≡ unwrap_or (get (in_order (λ key. key.items)) numbers.old name) next) }
-    ensures entries { IfOk result (λ number. numbers.new.entries
+    number: usize,
+    change: &C,
+    target: &mut T,
+) -> Result<(), NoMemory>
+    requires { get (in_order (λ key. key.items)) numbers.old name ≡ None }
+    ensures ok { OnOk result (numbers.new.entries
         ≡ insert_entry (in_order (λ key. key.items)) numbers.old.entries name number) }
+    ensures changed { OnOk result (target.new ≡ C.after change.now target.old) }
     ensures err { OnErr result (numbers.new.entries ≡ numbers.old.entries) }
+    ensures unchanged { OnErr result (target.new ≡ target.old) }
 {
-    let number = numbers.entry(name)?.or_insert(next);
-    Ok(*number)
+    // The entry has room for the number, and puts none where the change is refused.
+    let entry = numbers.entry(name)?;
+    let changed = change.run(alloc, target);
+    entry.or_try_insert_with(|| match changed {
+        Ok(()) => Ok(number),
+        Err(no_memory) => Err(no_memory),
+    })?;
+    Ok(())
 }
 
 impl Table {
@@ -107,23 +119,40 @@ impl Table {
         Some(&entry.stack)
     }
 
-    /// Gives a name a value at a depth alone. A new name goes after the others. After a refused growth all is as before.
-    fn add(&mut self, alloc: Global, name: &[u8], depth: usize, value: Text) -> Result<(), NoMemory>
+    /// Puts a new name with a value at a depth after the others, once this change is made. After a refused growth all is as
+    /// before.
+    fn add_after<T, C: Change<T>>(
+        &mut self,
+        alloc: Global,
+        name: &[u8],
+        depth: usize,
+        value: Text,
+        change: &C,
+        target: &mut T,
+    ) -> Result<(), NoMemory>
+        requires { slot_of (names_of self.old) name.now ≡ None }
         ensures ok { OnOk result (self.new ≡ with_stack self.old name.now (bound depth value [])) }
+        ensures changed { OnOk result (target.new ≡ C.after change.now target.old) }
         ensures err { OnErr result (self.new ≡ self.old) }
+        ensures unchanged { OnErr result (target.new ≡ target.old) }
     {
         let key = Vec::from_slice(alloc, name)?;
         let name = Text::copy_of(alloc, name)?;
         let stack = Stack::of(alloc, depth, value)?;
         self.entries.reserve(1)?;
-        let number = number_of(&mut self.numbers, key, self.entries.len())?;
-        if number < self.entries.len() {
-            let entry = &mut self.entries[number];
-            entry.stack = stack;
-        } else {
-            self.entries.push_reserved(Entry { name, stack });
-        }
+        let number = self.entries.len();
+        number_after(alloc, &mut self.numbers, key, number, change, target)?;
+        self.entries.push_reserved(Entry { name, stack });
         Ok(())
+    }
+
+    /// Puts a new name with a value at a depth after the others. After a refused growth all is as before.
+    fn add(&mut self, alloc: Global, name: &[u8], depth: usize, value: Text) -> Result<(), NoMemory>
+        requires { slot_of (names_of self.old) name.now ≡ None }
+        ensures ok { OnOk result (self.new ≡ with_stack self.old name.now (bound depth value [])) }
+        ensures err { OnErr result (self.new ≡ self.old) }
+    {
+        self.add_after(alloc, name, depth, value, &Nothing, &mut ())
     }
 
     /// Binds a value at a depth for a name of this number, or for a new one where it has none yet, in the place of the
@@ -149,25 +178,28 @@ impl Table {
         Ok(())
     }
 
-    /// Gives the innermost binding of a name another value, or binds one in the channel where there is none. After a refused
-    /// growth all is as before.
-    pub(crate) fn rebind(
+    /// Gives the innermost binding of a name another value, or binds one in the channel where there is none, after this
+    /// change. After a refused growth all is as before.
+    pub(crate) fn rebind_after<T, C: Change<T>>(
         &mut self,
         alloc: Global,
         name: &[u8],
         value: &[u8],
+        change: &C,
+        target: &mut T,
     ) -> Result<(), NoMemory>
         ensures ok { OnOk result (self.new ≡ with_stack self.old name.now (rebound value.now (stack_of self.old name.now))) }
+        ensures changed { OnOk result (target.new ≡ C.after change.now target.old) }
         ensures err { OnErr result (self.new ≡ self.old) }
+        ensures unchanged { OnErr result (target.new ≡ target.old) }
     {
         let value = Text::copy_of(alloc, value)?;
         let Some(number) = self.slot(name) else {
-            self.add(alloc, name, 0, value)?;
+            self.add_after(alloc, name, 0, value, change, target)?;
             return Ok(());
         };
         let entry = &mut self.entries[number];
-        let depth = entry.stack.depth();
-        entry.stack.bind(depth, value)?;
+        entry.stack.rebind_after(alloc, value, change, target)?;
         Ok(())
     }
 
@@ -190,17 +222,6 @@ impl Table {
         let entry = &mut self.entries[number];
         entry.stack.bind_below(depth, value)?;
         Ok(())
-    }
-
-    /// Gives the innermost binding of a name another value, or takes it away.
-    pub(crate) fn restore(&mut self, name: &[u8], value: Option<Text>)
-        ensures { self.new ≡ (if is_some (slot_of (names_of self.old) name.now)
-            then with_stack self.old name.now (restored value (stack_of self.old name.now)) else self.old) }
-    {
-        if let Some(number) = self.slot(name) {
-            let entry = &mut self.entries[number];
-            entry.stack.restore(value);
-        }
     }
 
     /// Takes the binding at a depth away, where it is the innermost of the name of a number.

@@ -12,7 +12,7 @@ ghost use Rattle.dp_conf.specs.Words.{same_text};
 use dp_conf::{NoMemory, Text};
 use dp_questions::{Question, bytes_of, check_all};
 use dp_vars::{
-    ChannelSeen, Counts, Globals, Scope, Store, Template, TemplateFault, Variable, expand,
+    Change, ChannelSeen, Counts, Globals, Scope, Store, Template, TemplateFault, Variable, expand,
 };
 use std::alloc::Global;
 use std::test::Fail;
@@ -25,6 +25,25 @@ impl Counts for Sales {
 
     fn waiting(&self, queue: &[u8]) -> usize {
         if queue == b"sales".as_slice() { 3 } else { 0 }
+    }
+}
+
+/// A change of the globals, which puts `TOLD` unless it is refused.
+#[derive(Drop)]
+struct Told {
+    is_refused: bool,
+}
+
+impl Change<Globals> for Told {
+    ghost use Rattle.std.specs.FinMap.{insert};
+
+    ghost after = { λ _ globals. insert globals (codes "TOLD") (codes "yes") };
+
+    fn run(&self, alloc: Global, globals: &mut Globals) -> Result<(), NoMemory> {
+        if self.is_refused {
+            return Err(NoMemory);
+        }
+        globals.put(alloc, b"TOLD", b"yes")
     }
 }
 
@@ -117,11 +136,19 @@ fn push_names(alloc: Global, world: &mut World, names: &str) -> Result<(), NoMem
     world.store.push_frame(alloc, 1, locals)
 }
 
-/// Sets a name and puts back what it had.
-fn undo(alloc: Global, world: &mut World, name: &[u8], value: &[u8]) -> Result<(), NoMemory> {
-    let had = world.store.replace(alloc, name, value)?;
-    world.store.put_back(name, had);
-    Ok(())
+/// Sets a name after a change, which may be refused.
+fn set_after(
+    alloc: Global,
+    world: &mut World,
+    name: &[u8],
+    value: &[u8],
+    is_refused: bool,
+) -> Result<(), NoMemory> {
+    let change = Told { is_refused };
+    let set = world
+        .store
+        .set_after(alloc, name, value, &change, &mut world.globals);
+    if is_refused { Ok(()) } else { set }
 }
 
 /// A step of a name and a value.
@@ -143,7 +170,8 @@ fn set(
             let _back = world.store.pop_frame_setting(alloc, name, value)?;
             Ok(())
         }
-        "undone" => undo(alloc, world, name, value),
+        "after" => set_after(alloc, world, name, value, false),
+        "refused" => set_after(alloc, world, name, value, true),
         "global" => world.globals.put(alloc, name, value),
         "expanded" => put_expanded(alloc, world, name, value),
         _ => Ok(()),
@@ -185,8 +213,9 @@ fn expanded_in(alloc: Global, world: &mut World, asked: &str) -> Result<String, 
 ///
 /// `set NAME=VALUE` sets a variable, `local` a local of the innermost frame, `push` adds a frame with one local, `frame NAME ..`
 /// one with several, `pop` drops the innermost, `return NAME=VALUE` drops it and then sets a variable, `drop` drops all
-/// frames, `undone` sets a variable and puts back what it had, `global` puts a global, `expanded` puts one whose value is
-/// expanded before, and `gone` takes the channel away. The channel is 7 at `main`, `100`, 2 with the caller `5551234`.
+/// frames, `after` sets a variable after a change that puts the global `TOLD`, `refused` does so where the change is
+/// refused, `global` puts a global, `expanded` puts one whose value is expanded before, and `gone` takes the channel away.
+/// The channel is 7 at `main`, `100`, 2 with the caller `5551234`.
 struct Expanded;
 
 impl Question for Expanded {

@@ -1,5 +1,5 @@
 //! Variables of a channel, frames and locals.
-use crate::vars::{World, push_frame, variable};
+use crate::vars::{Told, World, push_frame, variable};
 use dp_conf::NoMemory;
 use dp_vars::{Globals, Store};
 use std::alloc::Global;
@@ -38,11 +38,19 @@ set A=1 ; push A=2 ; push A=3 ; return A=4 ; pop ; ${A}→1
 push A=1 ; push A=2 ; return A=3 ; ${LOCAL(A)}→3
 push A=1 ; return A=2 ; push B=3 ; ${A}→2
 return A=1 ; ${A}→
-# What is put back stands where it was.
-undone A=1 ; ${A}→
-set A=1 ; push B=2 ; undone A=3 ; ${A}→1
-set A=1 ; push A=2 ; undone A=3 ; ${A}→2
-set A=1 ; push A=2 ; undone A=3 ; pop ; ${A}→1
+# A name is set after a change where it is set without one.
+after A=1 ; ${A}${TOLD}→1yes
+set A=1 ; push B=2 ; after A=3 ; ${A}${TOLD}→3yes
+set A=1 ; push A=2 ; after A=3 ; ${A}${TOLD}→3yes
+set A=1 ; push A=2 ; after A=3 ; pop ; ${A}${TOLD}→1yes
+push A=1 ; pop ; after A=2 ; ${A}${TOLD}→2yes
+# Where the change is refused, nothing is set.
+refused A=1 ; ${A}${TOLD}→
+set A=1 ; push B=2 ; refused A=3 ; ${A}${TOLD}→1
+set A=1 ; push A=2 ; refused A=3 ; ${A}${TOLD}→2
+set A=1 ; push A=2 ; refused A=3 ; pop ; ${A}${TOLD}→1
+push A=1 ; pop ; refused A=2 ; ${A}${TOLD}→
+refused A=1 ; set B=2 ; after A=3 ; ${A}${B}${TOLD}→32yes
 ";
 
 fn check_frames(rt: &impl Abort, alloc: Global, store: &mut Store<u32>) -> Result<(), Fail> {
@@ -94,6 +102,21 @@ fn local(rt: &impl Abort, alloc: Global) -> Result<(), Fail> {
     check_local(rt, alloc, &mut world)
 }
 
+fn check_refused(rt: &impl Abort, alloc: Global, world: &mut World) {
+    let change = Told { is_refused: true };
+    let set = world
+        .store
+        .set_after(alloc, b"A", b"1", &change, &mut world.globals);
+    assert!(rt; set.is_err(), "the change is refused");
+    assert!(rt; world.store.slot(b"A").is_none(), "the name has no number");
+}
+
+/// A name whose change is refused gets no number.
+fn refused(rt: &impl Abort, alloc: Global) {
+    let mut world = World::new(alloc);
+    check_refused(rt, alloc, &mut world);
+}
+
 fn check_globals(rt: &impl Abort, alloc: Global, globals: &mut Globals) -> Result<(), Fail> {
     globals.put(alloc, b"A", b"1")?;
     globals.put(alloc, b"A", b"2")?;
@@ -112,11 +135,12 @@ fn check_stores(rt: &impl Abort, alloc: Global) -> Result<(), Fail> {
     frames(rt, alloc)?;
     doubled(rt, alloc)?;
     local(rt, alloc)?;
+    refused(rt, alloc);
     globals(rt, alloc)
 }
 
-/// Frames go back where they were pushed, the later of two locals of one name stands, a local needs a frame, and
-/// globals are read as they were put.
+/// Frames go back where they were pushed, the later of two locals of one name stands, a local needs a frame, a name
+/// whose change is refused gets no number, and globals are read as they were put.
 #[test]
 fn stores_keep_what_is_put(rt: HostRuntime) -> Result<(), Fail> {
     check_stores(&rt, rt.alloc())
