@@ -1,6 +1,6 @@
 //! Two seats act on two threads.
+use crate::play::{Exchange, Play, SeatReply, last_told, perform};
 use dp_board::{Board, History, Seat, Session};
-use dp_board_fixture::{Exchange, Play, SeatReply, last_told, perform};
 use dp_machine::{EntryId, Event, Phase, Reply};
 use dp_table::StandardApps;
 use std::alloc::Global;

@@ -1,8 +1,8 @@
 //! One seat acts after another, and each call that wants memory is made once more. So these cases pass whichever growth is refused.
 use crate::acts::{Steps, channel_of, ran};
 use crate::gates::ENDED;
+use crate::play::{Play, SeatReply, perform};
 use dp_board::{Attended, Board, Gate, History, Seat, Session};
-use dp_board_fixture::{Play, SeatReply, perform};
 use dp_machine::{Event, Reply};
 use dp_table::StandardApps;
 use std::alloc::Global;

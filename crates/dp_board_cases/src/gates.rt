@@ -1,7 +1,8 @@
 //! Two channels are attended on two threads, and gates hold one until the other has acted.
 use crate::acts::channel_of;
+use crate::play::{Play, SeatReply, perform};
 use dp_board::{Attended, Board, Gate, History, Seat, Session, Why};
-use dp_board_fixture::{Crossed, Play, SeatReply, gate_of, perform};
+use dp_board_fixture::{Crossed, gate_of};
 use dp_table::StandardApps;
 use std::alloc::Global;
 use std::process::Abort;

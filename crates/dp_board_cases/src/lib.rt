@@ -14,6 +14,8 @@ mod gates;
 #[cfg(test)]
 mod pauses;
 #[cfg(test)]
+mod play;
+#[cfg(test)]
 mod reloads;
 #[cfg(test)]
 mod turns;

@@ -1,7 +1,8 @@
 //! A channel pauses, and the other seat dials digits and ends the pause.
 use crate::gates::attend;
+use crate::play::{Play, SeatReply, perform};
 use dp_board::{Attended, Board, Gate, History, Seat, Session, Why};
-use dp_board_fixture::{Play, SeatReply, hold, perform};
+use dp_board_fixture::hold;
 use dp_machine::{Event, Reply};
 use dp_table::StandardApps;
 use std::alloc::Global;

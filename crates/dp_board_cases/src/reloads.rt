@@ -1,7 +1,7 @@
 //! A seat puts another dialplan in force between the steps of another seat's channel.
 use crate::acts::has_value;
+use crate::play::{Play, SeatReply, perform};
 use dp_board::{Board, Entry, History, Seat, Session};
-use dp_board_fixture::{Play, SeatReply, perform};
 use dp_machine::{EntryId, Event, Phase, Reply, SharedText, Text};
 use dp_table::StandardApps;
 use std::alloc::Global;

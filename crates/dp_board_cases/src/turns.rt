@@ -1,6 +1,7 @@
 //! A seat attends one channel after another.
+use crate::play::{Play, SeatReply, perform};
 use dp_board::{Attended, Board, History, Seat, Session, Why};
-use dp_board_fixture::{Play, SeatReply, gate_of, perform};
+use dp_board_fixture::gate_of;
 use dp_machine::Refusal;
 use dp_table::StandardApps;
 use std::alloc::Global;

@@ -1,13 +1,143 @@
-//! What cases of boards share: plays, of which each opens a board, acts and settles, and gates that hold a channel.
-//!
-//! Each way out of a function that owns a board or a history is proved with the drop of all that it holds. So the functions that own one
-//! stand here alone, where they are proved once, and a play takes them by reference.
+//! Gates that cases of boards share: they hold a channel until another has acted, and know which calls they should get.
 //!
 //! This is for tests alone.
 #![tactic(auto)]
 
-mod gates;
-mod play;
+use dp_board::{Entry, Gate};
+use dp_machine::Reply;
+use std::sync::atomic::{AtomicU64, Ordering};
 
-pub use gates::{Crossed, gate_of, hold};
-pub use play::{Exchange, Play, SeatReply, last_told, perform};
+/// Waits until a flag is set, and marks a failure where that takes too long.
+pub fn hold(flag: &AtomicU64, marks: &AtomicU64) {
+    for _ in 0..1_000_000_000u32 {
+        if flag.load(Ordering::SeqCst) != 0 {
+            return;
+        }
+    }
+    marks.store(1, Ordering::SeqCst);
+}
+
+/// The calls that a gate should get of a channel: the turn and the reply of each event, parted by blanks, as `0 ran 1 none`.
+#[derive(Drop)]
+struct Calls {
+    wanted: &'static str,
+    given: AtomicU64,
+}
+
+impl Calls {
+    fn of(wanted: &'static str) -> Calls {
+        Calls {
+            wanted,
+            given: AtomicU64::new(0),
+        }
+    }
+
+    /// The word of the next call, which is empty after the last one.
+    fn next(&self) -> &'static str {
+        let given = self.given.fetch_add(1, Ordering::SeqCst);
+        self.wanted.split(' ').nth(given as usize).unwrap_or("")
+    }
+
+    fn are_given(&self) -> bool {
+        self.given.load(Ordering::SeqCst) == self.wanted.split(' ').count() as u64
+    }
+}
+
+/// The word of a reply to a step.
+fn word_of(reply: &Reply) -> &'static str {
+    match reply {
+        Reply::Ran(_) => "ran",
+        Reply::NoEntry => "none",
+        Reply::Refused(_) => "refused",
+        _ => "other",
+    }
+}
+
+/// Holds one channel before its first turn until the other channel has had all of its own, and this one after each of its turns until
+/// the first has come to the gate. So an event that is given before its gate is called stands too early in the history.
+#[derive(Drop)]
+pub struct Crossed {
+    held: u32,
+    other: u32,
+    // Of channel 1, and of any other.
+    first: Calls,
+    second: Calls,
+    come: AtomicU64,
+    done: AtomicU64,
+    marks: AtomicU64,
+}
+
+impl Crossed {
+    fn calls_of(&self, channel: u32) -> &Calls {
+        if channel == 1 {
+            &self.first
+        } else {
+            &self.second
+        }
+    }
+
+    /// Marks a call that is not the one that is wanted.
+    fn mark_unless(&self, is_wanted: bool) {
+        if !is_wanted {
+            self.marks.store(1, Ordering::SeqCst);
+        }
+    }
+
+    /// Whether the calls were those that are wanted and no thread was held for too long, and the events of the other channel stand before
+    /// those of the one that was held.
+    pub fn fits(&self, entries: &[Entry]) -> bool {
+        self.marks.load(Ordering::SeqCst) == 0
+            && self.first.are_given()
+            && self.second.are_given()
+            && are_parted(entries, self.other)
+    }
+}
+
+/// Whether all events of the channel stand before those of others.
+fn are_parted(entries: &[Entry], channel: u32) -> bool {
+    let mut is_after = false;
+    for entry in entries {
+        if entry.event.channel() != channel {
+            is_after = true;
+        } else if is_after {
+            return false;
+        }
+    }
+    true
+}
+
+impl Gate for Crossed {
+    fn before(&self, channel: u32, turn: u64) {
+        let word = self.calls_of(channel).next();
+        self.mark_unless(word.parse::<u64>().ok() == Some(turn));
+        if channel == self.held && turn == 0 {
+            self.come.store(1, Ordering::SeqCst);
+            hold(&self.done, &self.marks);
+        }
+    }
+
+    fn after(&self, channel: u32, reply: &Reply) {
+        let calls = self.calls_of(channel);
+        self.mark_unless(calls.next() == word_of(reply));
+        if channel == self.other {
+            hold(&self.come, &self.marks);
+            if calls.are_given() {
+                self.done.store(1, Ordering::SeqCst);
+            }
+        }
+    }
+}
+
+/// A gate that holds a channel until the other is done, and nobody where both are 0; with the calls that it should get of channel 1, and of
+/// others.
+pub fn gate_of(held: u32, other: u32, first: &'static str, second: &'static str) -> Crossed {
+    Crossed {
+        held,
+        other,
+        first: Calls::of(first),
+        second: Calls::of(second),
+        come: AtomicU64::new(0),
+        done: AtomicU64::new(0),
+        marks: AtomicU64::new(0),
+    }
+}

@@ -5,10 +5,10 @@
 
 use dp_conf::{MOST_BYTES, Told};
 use dp_plan::NoMemory;
+use dp_questions::check_same;
 use dp_words::answer;
 use std::alloc::Global;
 use std::env::Env;
-use std::process::Abort;
 use std::rt::Files;
 use std::sync::Wait;
 use std::test::Fail;
@@ -144,9 +144,9 @@ fn with_names(alloc: Global, folder: &str, text: &str) -> Result<String, NoMemor
     Ok(out)
 }
 
-/// Asserts the status of a command line and all that it prints, in one line, with `@NAME` for the path of a file. After a `←` stands the
+/// Whether a command line has this status and prints this, all of it in one line, with `@NAME` for the path of a file. After a `←` stands the
 /// standard input.
-pub fn check_line<R: Files + Threads + Wait + Sync + Abort + AllocGlobal>(
+pub fn check_line<R: Files + Threads + Wait + Sync + AllocGlobal>(
     rt: &R,
     folder: &str,
     asked: &str,
@@ -156,12 +156,11 @@ pub fn check_line<R: Files + Threads + Wait + Sync + Abort + AllocGlobal>(
     let input = in_lines(rt.alloc(), input)?;
     let got = printed(rt, folder, line, &input)?;
     let got = in_a_line(rt.alloc(), &with_names(rt.alloc(), folder, &got)?)?;
-    assert_eq!(rt; got.as_str(), want, "of {asked}");
-    Ok(())
+    check_same(asked, &got, want)
 }
 
-/// Asserts each case of a table.
-pub fn check_table<R: Files + Threads + Wait + Sync + Abort + AllocGlobal>(
+/// Whether each case of a table is so.
+pub fn check_table<R: Files + Threads + Wait + Sync + AllocGlobal>(
     rt: &R,
     folder: &str,
     table: &str,

@@ -30,11 +30,11 @@ impl Counts for Sales {
 
 /// A change of the globals, which puts `TOLD` unless it is refused.
 #[derive(Drop)]
-struct Told {
+struct PutsTold {
     is_refused: bool,
 }
 
-impl Change<Globals> for Told {
+impl Change<Globals> for PutsTold {
     ghost use Rattle.std.specs.FinMap.{insert};
 
     ghost after = { λ _ globals. insert globals (codes "TOLD") (codes "yes") };
@@ -144,7 +144,7 @@ fn set_after(
     value: &[u8],
     is_refused: bool,
 ) -> Result<(), NoMemory> {
-    let change = Told { is_refused };
+    let change = PutsTold { is_refused };
     let set = world
         .store
         .set_after(alloc, name, value, &change, &mut world.globals);

@@ -1,7 +1,6 @@
 //! The commands, over files: all that they print, and their statuses.
 use crate::program::mistakes::{check_helps, check_mistakes};
 use dp_program_fixture::{check_table, make_folder};
-use std::process::Abort;
 use std::rt::Files;
 use std::sync::Wait;
 use std::test::Fail;
@@ -317,7 +316,7 @@ const TABLES: [&str; 11] = [
     INPUTS,
 ];
 
-fn check_all<R: Files + Threads + Wait + Sync + Abort + AllocGlobal>(
+fn check_all<R: Files + Threads + Wait + Sync + AllocGlobal>(
     rt: &R,
     folder: &str,
 ) -> Result<(), Fail> {

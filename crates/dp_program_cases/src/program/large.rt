@@ -2,7 +2,6 @@
 use dp_plan::NoMemory;
 use dp_program_fixture::{check_line, check_table, make_folder, write_file};
 use std::alloc::Global;
-use std::process::Abort;
 use std::rt::Files;
 use std::sync::Wait;
 use std::test::Fail;
@@ -36,7 +35,7 @@ run @first @tall.script→1→→fault 70 BadScript line 70002¶
 ";
 
 /// Files of more than 70,000 bytes, which are read to their ends.
-fn check_tall<R: Files + Threads + Wait + Sync + Abort + AllocGlobal>(
+fn check_tall<R: Files + Threads + Wait + Sync + AllocGlobal>(
     rt: &R,
     folder: &str,
 ) -> Result<(), Fail> {
@@ -50,7 +49,7 @@ fn check_tall<R: Files + Threads + Wait + Sync + Abort + AllocGlobal>(
 }
 
 /// 65,600 contexts and entries, in 131,200 lines.
-fn check_many<R: Files + Threads + Wait + Sync + Abort + AllocGlobal>(
+fn check_many<R: Files + Threads + Wait + Sync + AllocGlobal>(
     rt: &R,
     folder: &str,
 ) -> Result<(), Fail> {
@@ -85,7 +84,7 @@ ran 1 main,{name},1 Hangup -> ended¶started 2¶no entry 2 -> ended¶→"
 }
 
 /// Arguments of 300 bytes, an extension of as many, and one of 301 that is missing.
-fn check_wide<R: Files + Threads + Wait + Sync + Abort + AllocGlobal>(
+fn check_wide<R: Files + Threads + Wait + Sync + AllocGlobal>(
     rt: &R,
     folder: &str,
 ) -> Result<(), Fail> {
@@ -98,7 +97,7 @@ fn check_wide<R: Files + Threads + Wait + Sync + Abort + AllocGlobal>(
     check_line(rt, folder, "run @wide @wide.script", &want)
 }
 
-fn check_all<R: Files + Threads + Wait + Sync + Abort + AllocGlobal>(
+fn check_all<R: Files + Threads + Wait + Sync + AllocGlobal>(
     rt: &R,
     folder: &str,
 ) -> Result<(), Fail> {

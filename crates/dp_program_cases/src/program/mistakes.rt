@@ -1,6 +1,5 @@
 //! Command lines that are refused or that ask for help: all that they print, and their statuses.
 use dp_program_fixture::{check_line, in_a_line};
-use std::process::Abort;
 use std::rt::Files;
 use std::sync::Wait;
 use std::test::Fail;
@@ -50,7 +49,7 @@ debug --break main,s,1 a b c→unexpected argument 'c' found→pbx debug [OPTION
 help dial→unrecognized subcommand 'dial'→pbx [COMMAND]
 ";
 
-fn check_mistake<R: Files + Threads + Wait + Sync + Abort + AllocGlobal>(
+fn check_mistake<R: Files + Threads + Wait + Sync + AllocGlobal>(
     rt: &R,
     folder: &str,
     words: &str,
@@ -64,7 +63,7 @@ fn check_mistake<R: Files + Threads + Wait + Sync + Abort + AllocGlobal>(
 }
 
 /// Asserts all that the command lines that are refused print, and their statuses.
-pub(super) fn check_mistakes<R: Files + Threads + Wait + Sync + Abort + AllocGlobal>(
+pub(super) fn check_mistakes<R: Files + Threads + Wait + Sync + AllocGlobal>(
     rt: &R,
     folder: &str,
 ) -> Result<(), Fail> {
@@ -333,7 +332,7 @@ const HELPS: [(&str, &str); 12] = [
     ("help explain", EXPLAIN_HELP),
 ];
 
-fn check_help<R: Files + Threads + Wait + Sync + Abort + AllocGlobal>(
+fn check_help<R: Files + Threads + Wait + Sync + AllocGlobal>(
     rt: &R,
     folder: &str,
     words: &str,
@@ -345,7 +344,7 @@ fn check_help<R: Files + Threads + Wait + Sync + Abort + AllocGlobal>(
 }
 
 /// Asserts all that the command lines that ask for help print, and their statuses.
-pub(super) fn check_helps<R: Files + Threads + Wait + Sync + Abort + AllocGlobal>(
+pub(super) fn check_helps<R: Files + Threads + Wait + Sync + AllocGlobal>(
     rt: &R,
     folder: &str,
 ) -> Result<(), Fail> {

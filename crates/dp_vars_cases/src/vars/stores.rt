@@ -1,5 +1,5 @@
 //! Variables of a channel, frames and locals.
-use crate::vars::{Told, World, push_frame, variable};
+use crate::vars::{PutsTold, World, push_frame, variable};
 use dp_conf::NoMemory;
 use dp_vars::{Globals, Store};
 use std::alloc::Global;
@@ -103,7 +103,7 @@ fn local(rt: &impl Abort, alloc: Global) -> Result<(), Fail> {
 }
 
 fn check_refused(rt: &impl Abort, alloc: Global, world: &mut World) {
-    let change = Told { is_refused: true };
+    let change = PutsTold { is_refused: true };
     let set = world
         .store
         .set_after(alloc, b"A", b"1", &change, &mut world.globals);

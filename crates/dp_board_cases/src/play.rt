@@ -15,7 +15,7 @@ use std::sync::ledger::Blank;
 use std::thread::Threads;
 
 /// A machine with the applications of the program.
-pub type Exchange = Machine<StandardApps>;
+pub(super) type Exchange = Machine<StandardApps>;
 
 const PLAN: &[u8] = b"[globals]
 X=1
@@ -90,10 +90,10 @@ fn machine_of(rt: &impl Abort, alloc: Global, first: &[u8], second: &[u8]) -> Ex
 }
 
 /// What a call was told: the place of its entry, and the reply.
-pub type SeatReply = (usize, Reply);
+pub(super) type SeatReply = (usize, Reply);
 
 /// What a seat was told last, by its record.
-pub fn last_told<S: Session>(seat: &Seat<S>) -> Option<SeatReply> {
+pub(super) fn last_told<S: Session>(seat: &Seat<S>) -> Option<SeatReply> {
     let call = seat.record().last()?;
     Some((call.place, call.reply))
 }
@@ -107,7 +107,7 @@ fn told_of<S: Session>(seats: &[Seat<S>]) -> Option<(SeatReply, SeatReply)> {
 }
 
 /// What the seats of a board do, and what is held against it.
-pub trait Play: Sync {
+pub(super) trait Play: Sync {
     /// How many calls the settled history has.
     fn calls(&self) -> usize;
 
@@ -261,7 +261,7 @@ fn played<P: Play, R: Threads + Wait + Abort + Sync>(
 
 /// Plays on a board of so many seats, with channel 1 at one extension and channel 2 at the other. A machine that is given back for want
 /// of memory is played on once more.
-pub fn perform<P: Play, R: Threads + Wait + Abort + Sync>(
+pub(super) fn perform<P: Play, R: Threads + Wait + Abort + Sync>(
     rt: &R,
     alloc: Global,
     first: &[u8],

@@ -1,4 +1,4 @@
-use Rattle.dp_board_fixture.proofs.play.played.Given as goal
+use Rattle.dp_board_cases.proofs.play.played.Given as goal
 
 abbrev pub ghosts-play_on-S-Session : goal.ghosts-play_on-S-Session
 ghosts-play_on-S-Session g a = record { opening = a.machine }
