@@ -1,12 +1,28 @@
 //! Two seats act on two threads.
-use crate::play::{Exchange, Play, SeatReply, last_told, perform};
+use crate::play::{Exchange, Play, perform};
 use dp_board::{Board, History, Seat, Session};
 use dp_machine::{EntryId, Event, Phase, Reply};
 use dp_table::StandardApps;
 use std::alloc::Global;
 use std::process::Abort;
 use std::sync::Wait;
-use std::thread::{Threads, for_each_mut};
+
+/// What a call was told: the place of its entry, and the reply.
+pub(super) type SeatReply = (usize, Reply);
+
+/// What a seat was told last, by its record.
+fn last_told<S: Session>(seat: &Seat<S>) -> Option<SeatReply> {
+    let call = seat.record().last()?;
+    Some((call.place, call.reply))
+}
+
+/// What two seats were told last, where there are two.
+pub(super) fn told_of<S: Session>(seats: &[Seat<S>]) -> Option<(SeatReply, SeatReply)> {
+    match seats {
+        [first, second] => Some((last_told(first)?, last_told(second)?)),
+        _ => None,
+    }
+}
 
 /// The channel that a seat acts for: the one of its number, counted from 1.
 pub(super) fn channel_of<S: Session>(seat: &Seat<S>) -> u32 {
@@ -15,7 +31,7 @@ pub(super) fn channel_of<S: Session>(seat: &Seat<S>) -> u32 {
 
 /// One step of the seat's channel. Where memory is refused the record is as it was, and the step is
 /// given once more; then what is answered stands last in the record.
-fn act_step<S: Session, R: Wait + Abort>(
+pub(super) fn act_step<S: Session, R: Wait + Abort>(
     rt: &R,
     alloc: Global,
     board: &Board<StandardApps, S>,
@@ -31,18 +47,6 @@ fn act_step<S: Session, R: Wait + Abort>(
         }
     };
     assert_eq!(rt; last_told(seat), Some(told));
-}
-
-/// One step by each seat, one after the other.
-fn act_alone<S: Session, R: Wait + Abort>(
-    rt: &R,
-    alloc: Global,
-    board: &Board<StandardApps, S>,
-    seats: &mut [Seat<S>],
-) {
-    for seat in seats {
-        act_step(rt, alloc, board, seat);
-    }
 }
 
 pub(super) fn ran(entry: usize) -> Reply {
@@ -105,85 +109,29 @@ fn has_asked(rt: &impl Abort, alloc: Global, machine: &Exchange, is_added: bool)
     }
 }
 
-/// Each of two seats steps a channel of its own.
-pub(super) struct Steps {
-    /// One seat after the other, or else each in a thread of its own.
-    pub alone: bool,
-}
-
-impl Play for Steps {
-    fn calls(&self) -> usize {
-        2
-    }
-
-    fn act<S: Session + Send + Sync, R: Threads + Wait + Abort + Sync>(
-        &self,
-        rt: &R,
-        alloc: Global,
-        board: &Board<StandardApps, S>,
-        seats: &mut [Seat<S>],
-    ) {
-        if self.alone {
-            act_alone(rt, alloc, board, seats);
-        } else {
-            let act = |_place: usize, seat: &mut Seat<S>| act_step(rt, alloc, board, seat);
-            for_each_mut(rt, seats, 2, &act);
-        }
-    }
-
-    fn check<R: Abort>(
-        &self,
-        rt: &R,
-        alloc: Global,
-        history: &History<StandardApps>,
-        told: Option<(SeatReply, SeatReply)>,
-    ) {
-        let (add, ask) = told.expect(rt, "two calls");
-        assert!(rt; are_told(add, ask));
-        assert!(rt; is_step(history, add, 0, 1));
-        assert!(rt; is_step(history, ask, 1, 2));
-        assert!(rt; has_member(history.machine()));
-        assert!(rt; has_asked(rt, alloc, history.machine(), add.0 == 0));
-    }
-}
-
-/// There are no seats.
-struct Nothing;
-
-impl Play for Nothing {
-    fn calls(&self) -> usize {
-        0
-    }
-
-    fn act<S: Session + Send + Sync, R: Threads + Wait + Abort + Sync>(
-        &self,
-        rt: &R,
-        _alloc: Global,
-        _board: &Board<StandardApps, S>,
-        seats: &mut [Seat<S>],
-    ) {
-        assert!(rt; seats.is_empty());
-    }
-
-    fn check<R: Abort>(
-        &self,
-        rt: &R,
-        _alloc: Global,
-        _history: &History<StandardApps>,
-        told: Option<(SeatReply, SeatReply)>,
-    ) {
-        assert!(rt; told.is_none());
-    }
+/// Holds the history against what the two steps were told.
+pub(super) fn check_steps(
+    rt: &impl Abort,
+    alloc: Global,
+    told: (SeatReply, SeatReply),
+    history: &History<StandardApps>,
+) {
+    let (add, ask) = told;
+    assert!(rt; are_told(add, ask));
+    assert!(rt; is_step(history, add, 0, 1));
+    assert!(rt; is_step(history, ask, 1, 2));
+    assert!(rt; has_member(history.machine()));
+    assert!(rt; has_asked(rt, alloc, history.machine(), add.0 == 0));
 }
 
 /// Each call is told the place of its entry, and the board settles once both seats are there.
 #[test]
 fn two_seats(rt: HostRuntime) {
-    perform(&rt, rt.alloc(), b"add", b"ask", 2, &Steps { alone: false });
+    perform(&rt, rt.alloc(), b"add", b"ask", 2, &Play::Steps);
 }
 
 /// A board of no seats has an empty history.
 #[test]
 fn no_seats(rt: HostRuntime) {
-    perform(&rt, rt.alloc(), b"say", b"say", 0, &Nothing);
+    perform(&rt, rt.alloc(), b"say", b"say", 0, &Play::Nothing);
 }

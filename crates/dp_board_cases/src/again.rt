@@ -1,15 +1,26 @@
 //! One seat acts after another, and each call that wants memory is made once more. So these cases pass whichever growth is refused.
-use crate::acts::{Steps, channel_of, ran};
+use crate::acts::{act_step, channel_of, ran};
 use crate::gates::ENDED;
-use crate::play::{Play, SeatReply, perform};
-use dp_board::{Attended, Board, Gate, History, Seat, Session};
+use crate::play::{Play, perform};
+use dp_board::{Attended, Board, Gate, Seat, Session};
 use dp_machine::{Event, Reply};
 use dp_table::StandardApps;
 use std::alloc::Global;
 use std::process::Abort;
 use std::sync::Wait;
 use std::sync::atomic::{AtomicU64, Ordering};
-use std::thread::Threads;
+
+/// One step by each seat.
+pub(super) fn act_steps_alone<S: Session, R: Wait + Abort>(
+    rt: &R,
+    alloc: Global,
+    board: &Board<StandardApps, S>,
+    seats: &mut [Seat<S>],
+) {
+    for seat in seats {
+        act_step(rt, alloc, board, seat);
+    }
+}
 
 /// Holds nobody, and counts the steps that were given.
 #[derive(Drop)]
@@ -76,7 +87,7 @@ fn attend_again<S: Session, R: Wait + Abort>(
 }
 
 /// Each seat attends a channel of its own to its end.
-fn attend_alone<S: Session, R: Wait + Abort>(
+pub(super) fn attend_alone<S: Session, R: Wait + Abort>(
     rt: &R,
     alloc: Global,
     board: &Board<StandardApps, S>,
@@ -87,38 +98,9 @@ fn attend_alone<S: Session, R: Wait + Abort>(
     }
 }
 
-/// Each of two seats attends a channel of its own, one after the other.
-struct AttendedAlone;
-
-impl Play for AttendedAlone {
-    fn calls(&self) -> usize {
-        4
-    }
-
-    fn act<S: Session + Send + Sync, R: Threads + Wait + Abort + Sync>(
-        &self,
-        rt: &R,
-        alloc: Global,
-        board: &Board<StandardApps, S>,
-        seats: &mut [Seat<S>],
-    ) {
-        attend_alone(rt, alloc, board, seats);
-    }
-
-    fn check<R: Abort>(
-        &self,
-        rt: &R,
-        _alloc: Global,
-        _history: &History<StandardApps>,
-        told: Option<(SeatReply, SeatReply)>,
-    ) {
-        assert!(rt; told.is_some());
-    }
-}
-
 /// A board opens, its seats act and attend, and it settles, all of it also where memory is refused once.
 #[test]
 fn boards_are_used_again(rt: HostRuntime) {
-    perform(&rt, rt.alloc(), b"add", b"ask", 2, &Steps { alone: true });
-    perform(&rt, rt.alloc(), b"say", b"say", 2, &AttendedAlone);
+    perform(&rt, rt.alloc(), b"add", b"ask", 2, &Play::StepsAlone);
+    perform(&rt, rt.alloc(), b"say", b"say", 2, &Play::AttendedAlone);
 }

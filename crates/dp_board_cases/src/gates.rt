@@ -1,13 +1,12 @@
 //! Two channels are attended on two threads, and gates hold one until the other has acted.
 use crate::acts::channel_of;
-use crate::play::{Play, SeatReply, perform};
-use dp_board::{Attended, Board, Gate, History, Seat, Session, Why};
+use crate::play::{Play, perform};
+use dp_board::{Attended, Board, Gate, Seat, Session, Why};
 use dp_board_fixture::{Crossed, gate_of};
 use dp_table::StandardApps;
 use std::alloc::Global;
 use std::process::Abort;
 use std::sync::Wait;
-use std::thread::{Threads, for_each_mut};
 
 /// A channel is attended for at most two turns.
 pub(super) fn attend<S: Session, R: Wait, G: Gate>(
@@ -28,7 +27,7 @@ pub(super) const ENDED: Attended = Attended {
 };
 
 /// The seat's channel is attended to its end.
-fn act_crossed<S: Session, R: Wait + Abort>(
+pub(super) fn act_crossed<S: Session, R: Wait + Abort>(
     rt: &R,
     alloc: Global,
     board: &Board<StandardApps, S>,
@@ -40,44 +39,17 @@ fn act_crossed<S: Session, R: Wait + Abort>(
     assert!(rt; attended == Some(ENDED));
 }
 
-/// Each of two seats attends a channel of its own, in threads, through a gate.
-#[derive(Drop)]
-struct Gated {
-    gate: Crossed,
-}
-
-impl Play for Gated {
-    fn calls(&self) -> usize {
-        4
-    }
-
-    fn act<S: Session + Send + Sync, R: Threads + Wait + Abort + Sync>(
-        &self,
-        rt: &R,
-        alloc: Global,
-        board: &Board<StandardApps, S>,
-        seats: &mut [Seat<S>],
-    ) {
-        let act = |_place: usize, seat: &mut Seat<S>| act_crossed(rt, alloc, board, seat, &self.gate);
-        for_each_mut(rt, seats, 2, &act);
-    }
-
-    fn check<R: Abort>(
-        &self,
-        rt: &R,
-        _alloc: Global,
-        history: &History<StandardApps>,
-        _told: Option<(SeatReply, SeatReply)>,
-    ) {
-        assert!(rt; self.gate.fits(history.entries()));
-    }
-}
-
 /// Each of two channels is attended while the other's thread is held before its first step, and the gate is called round each step.
 #[test]
 fn gates(rt: HostRuntime) {
     for held in 1..3u32 {
-        let gate = gate_of(held, 3 - held, "0 ran 1 none", "0 ran 1 none");
-        perform(&rt, rt.alloc(), b"say", b"say", 2, &Gated { gate });
+        perform(
+            &rt,
+            rt.alloc(),
+            b"say",
+            b"say",
+            2,
+            &Play::Crossed(gate_of(held, 3 - held, "0 ran 1 none", "0 ran 1 none")),
+        );
     }
 }

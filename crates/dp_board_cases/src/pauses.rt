@@ -1,7 +1,7 @@
 //! A channel pauses, and the other seat dials digits and ends the pause.
 use crate::gates::attend;
-use crate::play::{Play, SeatReply, perform};
-use dp_board::{Attended, Board, Gate, History, Seat, Session, Why};
+use crate::play::{Play, perform};
+use dp_board::{Attended, Board, Gate, Seat, Session, Why};
 use dp_board_fixture::hold;
 use dp_machine::{Event, Reply};
 use dp_table::StandardApps;
@@ -9,12 +9,11 @@ use std::alloc::Global;
 use std::process::Abort;
 use std::sync::Wait;
 use std::sync::atomic::{AtomicU64, Ordering};
-use std::thread::{Threads, for_each_mut};
 
 /// Holds the thread after its first step until a digit was answered, and marks the turn after the pause where it comes too
 /// early.
 #[derive(Drop)]
-struct Paced {
+pub(super) struct Paced {
     // The turn after the pause: 0 where the channel pauses before it is attended.
     late: u64,
     stepped: AtomicU64,
@@ -76,7 +75,7 @@ fn pace<S: Session, R: Wait + Abort>(
 }
 
 /// Lets the channel pause before it is attended, where the gate says so.
-fn park<S: Session, R: Wait + Abort>(
+pub(super) fn park<S: Session, R: Wait + Abort>(
     rt: &R,
     alloc: Global,
     board: &Board<StandardApps, S>,
@@ -92,7 +91,7 @@ fn park<S: Session, R: Wait + Abort>(
 }
 
 /// The first seat attends the channel to its end, while the other one ends the pause.
-fn act_paced<S: Session, R: Wait + Abort>(
+pub(super) fn act_paced<S: Session, R: Wait + Abort>(
     rt: &R,
     alloc: Global,
     board: &Board<StandardApps, S>,
@@ -110,32 +109,9 @@ fn act_paced<S: Session, R: Wait + Abort>(
     assert!(rt; attended == Some(ended));
 }
 
-impl Play for Paced {
-    fn calls(&self) -> usize {
-        5
-    }
-
-    fn act<S: Session + Send + Sync, R: Threads + Wait + Abort + Sync>(
-        &self,
-        rt: &R,
-        alloc: Global,
-        board: &Board<StandardApps, S>,
-        seats: &mut [Seat<S>],
-    ) {
-        park(rt, alloc, board, seats, self);
-        let act = |_place: usize, seat: &mut Seat<S>| act_paced(rt, alloc, board, seat, self);
-        for_each_mut(rt, seats, 2, &act);
-    }
-
-    fn check<R: Abort>(
-        &self,
-        rt: &R,
-        _alloc: Global,
-        _history: &History<StandardApps>,
-        _told: Option<(SeatReply, SeatReply)>,
-    ) {
-        assert!(rt; self.marks.load(Ordering::SeqCst) == 0);
-    }
+/// Whether nothing was marked.
+pub(super) fn has_paced(gate: &Paced) -> bool {
+    gate.marks.load(Ordering::SeqCst) == 0
 }
 
 fn gate_of(late: u64) -> Paced {
@@ -153,6 +129,13 @@ fn gate_of(late: u64) -> Paced {
 #[test]
 fn pauses(rt: HostRuntime) {
     for late in 0..2u64 {
-        perform(&rt, rt.alloc(), b"wait", b"say", 2, &gate_of(late));
+        perform(
+            &rt,
+            rt.alloc(),
+            b"wait",
+            b"say",
+            2,
+            &Play::Paced(gate_of(late)),
+        );
     }
 }

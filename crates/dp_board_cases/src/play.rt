@@ -3,7 +3,14 @@
 //! and is called once more.
 ghost use Rattle.std.specs.Prelude.{◌≡◌, ◌+◌};
 
+use crate::acts::{SeatReply, act_step, check_steps, told_of};
+use crate::again::{act_steps_alone, attend_alone};
+use crate::gates::act_crossed;
+use crate::pauses::{Paced, act_paced, has_paced, park};
+use crate::reloads::{act_reload, check_reload};
+use crate::turns::act_turns;
 use dp_board::{Back, Board, History, Seat, Session, Unsettled};
+use dp_board_fixture::Crossed;
 use dp_machine::{Dialplan, Event, Machine, NoMemory, Reply, Text};
 use dp_queue::Queues;
 use dp_table::StandardApps;
@@ -12,7 +19,7 @@ use std::marker::Brand;
 use std::process::Abort;
 use std::sync::Wait;
 use std::sync::ledger::Blank;
-use std::thread::Threads;
+use std::thread::{Threads, for_each_mut};
 
 /// A machine with the applications of the program.
 pub(super) type Exchange = Machine<StandardApps>;
@@ -89,57 +96,102 @@ fn machine_of(rt: &impl Abort, alloc: Global, first: &[u8], second: &[u8]) -> Ex
     machine
 }
 
-/// What a call was told: the place of its entry, and the reply.
-pub(super) type SeatReply = (usize, Reply);
-
-/// What a seat was told last, by its record.
-pub(super) fn last_told<S: Session>(seat: &Seat<S>) -> Option<SeatReply> {
-    let call = seat.record().last()?;
-    Some((call.place, call.reply))
+/// What the seats of a board do.
+#[derive(Drop)]
+pub(super) enum Play {
+    /// Each of two seats steps a channel of its own, in threads.
+    Steps,
+    /// Each of two seats steps a channel of its own, one after the other.
+    StepsAlone,
+    /// Each of two seats attends a channel of its own, in threads, through this gate.
+    Crossed(Crossed),
+    /// Each of two seats attends a channel of its own, one after the other.
+    AttendedAlone,
+    /// One seat attends a channel that pauses, and the other ends the pause.
+    Paced(Paced),
+    /// The first seat attends one channel after another.
+    Turns,
+    /// The second seat puts another dialplan in force between two steps of the first.
+    Reload,
+    /// There are no seats.
+    Nothing,
 }
 
-/// What two seats were told last, where there are two.
-fn told_of<S: Session>(seats: &[Seat<S>]) -> Option<(SeatReply, SeatReply)> {
-    match seats {
-        [first, second] => Some((last_told(first)?, last_told(second)?)),
-        _ => None,
+/// Acts by one of two seats, in a thread of its own.
+fn act_one<S: Session, R: Wait + Abort>(
+    rt: &R,
+    alloc: Global,
+    board: &Board<StandardApps, S>,
+    seat: &mut Seat<S>,
+    play: &Play,
+) {
+    match play {
+        Play::Crossed(gate) => act_crossed(rt, alloc, board, seat, gate),
+        Play::Paced(gate) => act_paced(rt, alloc, board, seat, gate),
+        _ => act_step(rt, alloc, board, seat),
     }
 }
 
-/// What the seats of a board do, and what is held against it.
-pub(super) trait Play: Sync {
-    /// How many calls the settled history has.
-    fn calls(&self) -> usize;
-
-    /// Acts by the seats.
-    fn act<S: Session + Send + Sync, R: Threads + Wait + Abort + Sync>(
-        &self,
-        rt: &R,
-        alloc: Global,
-        board: &Board<StandardApps, S>,
-        seats: &mut [Seat<S>],
-    );
-
-    /// Holds the settled history against what the seats did, and, where there are two, against what they were told last.
-    fn check<R: Abort>(
-        &self,
-        rt: &R,
-        alloc: Global,
-        history: &History<StandardApps>,
-        told: Option<(SeatReply, SeatReply)>,
-    );
-}
-
-/// Holds the settled history against a play.
-fn check<P: Play, R: Abort>(
+/// Acts by two seats at once.
+fn act_at_once<S: Session + Send + Sync, R: Threads + Wait + Abort + Sync>(
     rt: &R,
     alloc: Global,
+    board: &Board<StandardApps, S>,
+    seats: &mut [Seat<S>],
+    play: &Play,
+) {
+    let act = |_place: usize, seat: &mut Seat<S>| act_one(rt, alloc, board, seat, play);
+    for_each_mut(rt, seats, 2, &act);
+}
+
+/// Acts by the seats.
+fn act<S: Session + Send + Sync, R: Threads + Wait + Abort + Sync>(
+    rt: &R,
+    alloc: Global,
+    board: &Board<StandardApps, S>,
+    seats: &mut [Seat<S>],
+    play: &Play,
+) {
+    match play {
+        Play::Steps | Play::Crossed(_) => act_at_once(rt, alloc, board, seats, play),
+        Play::Paced(gate) => {
+            park(rt, alloc, board, seats, gate);
+            act_at_once(rt, alloc, board, seats, play);
+        }
+        Play::StepsAlone => act_steps_alone(rt, alloc, board, seats),
+        Play::AttendedAlone => attend_alone(rt, alloc, board, seats),
+        Play::Turns => act_turns(rt, alloc, board, seats),
+        Play::Reload => act_reload(rt, alloc, board, seats),
+        Play::Nothing => assert!(rt; seats.is_empty()),
+    }
+}
+
+/// Holds the settled history against what the seats did, and were told.
+fn check(
+    rt: &impl Abort,
+    alloc: Global,
     history: &History<StandardApps>,
-    play: &P,
+    play: &Play,
     told: Option<(SeatReply, SeatReply)>,
 ) {
-    assert_eq!(rt; history.entries().len(), play.calls());
-    play.check(rt, alloc, history, told);
+    let calls = match play {
+        Play::Steps | Play::StepsAlone => 2,
+        Play::Crossed(_) | Play::AttendedAlone => 4,
+        Play::Paced(_) => 5,
+        Play::Turns => 7,
+        Play::Reload => 3,
+        Play::Nothing => 0,
+    };
+    assert_eq!(rt; history.entries().len(), calls);
+    match play {
+        Play::Steps | Play::StepsAlone => {
+            check_steps(rt, alloc, told.expect(rt, "two calls"), history);
+        }
+        Play::Crossed(gate) => assert!(rt; gate.fits(history.entries())),
+        Play::Paced(gate) => assert!(rt; has_paced(gate)),
+        Play::Reload => check_reload(rt, alloc, history),
+        _ => {}
+    }
 }
 
 /// Settles, where memory is refused, what a board hands back then.
@@ -212,27 +264,27 @@ fn settle<S: Session>(
 }
 
 /// Acts by the seats of a board, settles it, and holds its history against what they did.
-fn play_out<P: Play, S: Session + Send + Sync, R: Threads + Wait + Abort + Sync>(
+fn play_out<S: Session + Send + Sync, R: Threads + Wait + Abort + Sync>(
     rt: &R,
     alloc: Global,
     board: Board<StandardApps, S>,
     mut seats: Vec<Seat<S>>,
-    play: &P,
+    play: &Play,
 ) {
-    play.act(rt, alloc, &board, &mut seats);
+    act(rt, alloc, &board, &mut seats, play);
     let told = told_of(&seats);
     let history = settle(rt, alloc, board, seats);
     check(rt, alloc, &history, play, told);
 }
 
 /// Plays on a board of so many seats over the machine, which is given back where the board does not open.
-fn play_on<P: Play, S: Session + Send + Sync, R: Threads + Wait + Abort + Sync>(
+fn play_on<S: Session + Send + Sync, R: Threads + Wait + Abort + Sync>(
     rt: &R,
     alloc: Global,
     blank: Blank,
     machine: Exchange,
     seats: u32,
-    play: &P,
+    play: &Play,
 ) -> Option<Exchange>
     requires name { blank.name ≡ S.name }
     requires parts { (blank.parts ≡ S.parts) × (blank.parts ≡ seats + 1) }
@@ -248,26 +300,26 @@ fn play_on<P: Play, S: Session + Send + Sync, R: Threads + Wait + Abort + Sync>(
 }
 
 /// Plays so, in a session of its own.
-fn played<P: Play, R: Threads + Wait + Abort + Sync>(
+fn played<R: Threads + Wait + Abort + Sync>(
     rt: &R,
     alloc: Global,
     machine: Exchange,
     seats: u32,
-    play: &P,
+    play: &Play,
 ) -> Option<Exchange> {
     let blank = Blank::new(u64::from(seats) + 1);
-    play_on::<P, Brand, R>(rt, alloc, blank, machine, seats, play)
+    play_on::<Brand, R>(rt, alloc, blank, machine, seats, play)
 }
 
 /// Plays on a board of so many seats, with channel 1 at one extension and channel 2 at the other. A machine that is given back for want
 /// of memory is played on once more.
-pub(super) fn perform<P: Play, R: Threads + Wait + Abort + Sync>(
+pub(super) fn perform<R: Threads + Wait + Abort + Sync>(
     rt: &R,
     alloc: Global,
     first: &[u8],
     second: &[u8],
     seats: u32,
-    play: &P,
+    play: &Play,
 ) {
     let machine = machine_of(rt, alloc, first, second);
     if let Some(machine) = played(rt, alloc, machine, seats, play) {

@@ -1,13 +1,12 @@
 //! A seat puts another dialplan in force between the steps of another seat's channel.
 use crate::acts::has_value;
-use crate::play::{Play, SeatReply, perform};
+use crate::play::{Play, perform};
 use dp_board::{Board, Entry, History, Seat, Session};
 use dp_machine::{EntryId, Event, Phase, Reply, SharedText, Text};
 use dp_table::StandardApps;
 use std::alloc::Global;
 use std::process::Abort;
 use std::sync::Wait;
-use std::thread::Threads;
 
 /// The dialplan that comes in force.
 const SECOND: &[u8] = b"[globals]
@@ -49,7 +48,7 @@ fn event_of(rt: &impl Abort, alloc: Global, seat: u32) -> Event {
 }
 
 /// One call after another, each of which is told its place and its reply.
-fn act_reload<S: Session, R: Wait + Abort>(
+pub(super) fn act_reload<S: Session, R: Wait + Abort>(
     rt: &R,
     alloc: Global,
     board: &Board<StandardApps, S>,
@@ -70,7 +69,7 @@ fn is_call(entry: &Entry, seat: u32, reply: Reply) -> bool {
 }
 
 /// Holds the history against what was told. The globals of the second dialplan are set over those of the first.
-fn check_reload(rt: &impl Abort, alloc: Global, history: &History<StandardApps>) {
+pub(super) fn check_reload(rt: &impl Abort, alloc: Global, history: &History<StandardApps>) {
     for (entry, call) in history.entries().iter().zip(CALLS) {
         assert!(rt; is_call(entry, call.0, call.1));
     }
@@ -80,37 +79,8 @@ fn check_reload(rt: &impl Abort, alloc: Global, history: &History<StandardApps>)
     assert!(rt; has_value(rt, alloc, machine, 1, b"Y", b"5"));
 }
 
-/// The second seat puts another dialplan in force between two steps of the first.
-struct Reloading;
-
-impl Play for Reloading {
-    fn calls(&self) -> usize {
-        3
-    }
-
-    fn act<S: Session + Send + Sync, R: Threads + Wait + Abort + Sync>(
-        &self,
-        rt: &R,
-        alloc: Global,
-        board: &Board<StandardApps, S>,
-        seats: &mut [Seat<S>],
-    ) {
-        act_reload(rt, alloc, board, seats);
-    }
-
-    fn check<R: Abort>(
-        &self,
-        rt: &R,
-        alloc: Global,
-        history: &History<StandardApps>,
-        _told: Option<(SeatReply, SeatReply)>,
-    ) {
-        check_reload(rt, alloc, history);
-    }
-}
-
 /// The places rise, and the board settles.
 #[test]
 fn two_seats_and_another_dialplan(rt: HostRuntime) {
-    perform(&rt, rt.alloc(), b"100", b"say", 2, &Reloading);
+    perform(&rt, rt.alloc(), b"100", b"say", 2, &Play::Reload);
 }

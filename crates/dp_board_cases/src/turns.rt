@@ -1,13 +1,12 @@
 //! A seat attends one channel after another.
-use crate::play::{Play, SeatReply, perform};
-use dp_board::{Attended, Board, History, Seat, Session, Why};
+use crate::play::{Play, perform};
+use dp_board::{Attended, Board, Seat, Session, Why};
 use dp_board_fixture::gate_of;
 use dp_machine::Refusal;
 use dp_table::StandardApps;
 use std::alloc::Global;
 use std::process::Abort;
 use std::sync::Wait;
-use std::thread::Threads;
 
 /// For each attendance on one board the channel, its turns, and how it goes.
 const TURNS: &[(u32, u64, u64, Why)] = &[
@@ -26,7 +25,7 @@ const TURNS: &[(u32, u64, u64, Why)] = &[
 const GIVEN: (&str, &str) = ("0 ran 0 none 0 refused", "0 refused 0 ran 1 none 0 refused");
 
 /// The first seat attends all.
-fn act_turns<S: Session, R: Wait + Abort>(
+pub(super) fn act_turns<S: Session, R: Wait + Abort>(
     rt: &R,
     alloc: Global,
     board: &Board<StandardApps, S>,
@@ -42,37 +41,8 @@ fn act_turns<S: Session, R: Wait + Abort>(
     assert!(rt; gate.fits(&[]));
 }
 
-/// The first of two seats attends all.
-struct Turns;
-
-impl Play for Turns {
-    fn calls(&self) -> usize {
-        7
-    }
-
-    fn act<S: Session + Send + Sync, R: Threads + Wait + Abort + Sync>(
-        &self,
-        rt: &R,
-        alloc: Global,
-        board: &Board<StandardApps, S>,
-        seats: &mut [Seat<S>],
-    ) {
-        act_turns(rt, alloc, board, seats);
-    }
-
-    fn check<R: Abort>(
-        &self,
-        rt: &R,
-        _alloc: Global,
-        _history: &History<StandardApps>,
-        told: Option<(SeatReply, SeatReply)>,
-    ) {
-        assert!(rt; told.is_none());
-    }
-}
-
 /// The turns are spent at once where there are none, and a channel that is not there is refused, whatever stands in the record before.
 #[test]
-fn channels_in_turn(rt: HostRuntime) {
-    perform(&rt, rt.alloc(), b"say", b"say", 2, &Turns);
+fn turns(rt: HostRuntime) {
+    perform(&rt, rt.alloc(), b"say", b"say", 2, &Play::Turns);
 }
