@@ -10,7 +10,6 @@ use crate::seat::Seat;
 use crate::seat_call::SeatCall;
 use crate::session::Session;
 use dp_app::AppTable;
-use dp_conf::beside;
 use dp_machine::{Event, Machine, NoMemory, Phase, Reply};
 use std::alloc::Global;
 use std::marker::Model;
@@ -103,8 +102,7 @@ fn apply_copied<T: AppTable>(
 {
     make_room(entries, told)?;
     let copy = event.copy()?;
-    let reply = machine.apply_kept(alloc, event);
-    let (reply, copy) = beside(reply, copy)?;
+    let reply = machine.apply_kept(alloc, event)?;
     Ok((copy, reply))
 }
 
@@ -139,14 +137,13 @@ impl<T: AppTable, S: Session> Shared<T, S> {
         ensures kept { IfOk result (λ told. seat.new ≡ sittings.with_call seat.old told.0 event told.1) }
         ensures err { OnErr result ((self.new ≡ self.old) × (seat.new ≡ seat.old)) }
     {
-        let applied = apply_copied(
+        let (told, reply) = apply_copied(
             alloc,
             &mut self.machine,
             &mut self.entries,
             &mut seat.told,
             &event,
-        );
-        let ((told, reply), event) = beside(applied, event)?;
+        )?;
         let place = self.entries.len();
         self.entries.push_reserved(Entry {
             seat: seat.number,

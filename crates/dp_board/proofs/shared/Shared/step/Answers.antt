@@ -5,10 +5,10 @@ use Rattle.dp_board.proofs.shared.Shared.step.Goals as goal
 
 pub invariant_of-self-2 : goal.invariant_of-self-2
 invariant_of-self-2 g c =
-    let entry : Entry = record { seat = c.seat.inside.number; event = c.in_ok-told.event; reply = c.in_ok-told.reply } in
+    let entry : Entry = record { seat = c.seat.inside.number; event = c.args.event; reply = c.in_ok-told.reply } in
     let before = c.self.inside in (
-      Replays-push g.T.AppTable.rows g.S.Session.opening (record { world = before.machine; entries = before.entries.items }) (record { world = c.apply_copied-applied.new.machine; entries = c.push_reserved.new.self.items }) entry
-          c.self.invariant.0 (search rules) (search rules),
+      Replays-push g.T.AppTable.rows g.S.Session.opening (record { world = before.machine; entries = before.entries.items }) (record { world = c.apply_copied.new.machine; entries = c.push_reserved.new.self.items }) entry
+          c.self.invariant.0 c.in_ok-told.ensures.row (search rules),
       search rules,
       AreSeated-push g.S.Ledger.parts before.entries.items c.push_reserved.new.self.items entry c.self.invariant.2 c.seat.invariant.2 (search rules),
     )
