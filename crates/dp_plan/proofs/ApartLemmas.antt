@@ -12,7 +12,7 @@ use Rattle.dp_plan.specs.Extensions.{same_name, extension_of}
 use Rattle.dp_plan.specs.Plan.{Addition, Inclusion, same_place, is_place_taken, is_label_taken, is_taken, added_in, kept_in, context_of}
 use Rattle.dp_plan.specs.Ranking.{shares_place, AreApart}
 use Rattle.dp_plan.specs.declared.entry.Entry.{Entry}
-use Rattle.dp_plan.specs.declared.item.Item.{Item}
+use Rattle.dp_plan.specs.Item.{Item}
 use Rattle.dp_plan.proofs.DraftLemmas.{kept_by-filter_map, distinct-more}
 use Rattle.dp_plan.proofs.HistoryLemmas.{both_equiv, same_extension_equiv}
 use Rattle.dp_plan.proofs.PositionLemmas.{or_false}

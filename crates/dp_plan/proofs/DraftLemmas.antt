@@ -36,8 +36,7 @@ use Rattle.dp_plan.specs.declared.remark.Remark.{Remark}
 use Rattle.dp_plan.specs.declared.remark.Remark.TheVariants.{Noted, Asks}
 use Rattle.dp_plan.specs.declared.note.NoteKind.TheVariants.{DoublePriority, DoubleLabel, UnknownKey}
 use Rattle.dp_plan.specs.declared.section.Section.TheVariants.{General, Globals, Context}
-use Rattle.dp_plan.specs.declared.item.Item.{Item}
-use Rattle.dp_plan.specs.declared.item.Item.TheVariants.{Begins, Sets, Adds, Includes, Unknown}
+use Rattle.dp_plan.specs.Item.{Item, Begins, Sets, Adds, Includes, Unknown}
 use Rattle.dp_plan.proofs.HistoryLemmas.{reading_of}
 use Rattle.dp_plan.proofs.PositionLemmas.{or_true, or_right}
 use Rattle.dp_plan.proofs.TableLemmas.{is_known, known-kept, known-written, number-kept, number-written, same_number}

@@ -14,8 +14,7 @@ use Rattle.dp_plan.specs.History.{History, latest, section_in, name_in, priority
 use Rattle.dp_plan.specs.steps.Reader.{Reading, unread, after, last_priority, history_in}
 use Rattle.dp_plan.specs.declared.extension.Extension.{Extension}
 use Rattle.dp_plan.specs.declared.section.Section.TheVariants.{General}
-use Rattle.dp_plan.specs.declared.item.Item.{Item}
-use Rattle.dp_plan.specs.declared.item.Item.TheVariants.{Begins, Sets, Adds, Includes, Unknown}
+use Rattle.dp_plan.specs.Item.{Item, Begins, Sets, Adds, Includes, Unknown}
 
 -- ---- values that are found first
 

@@ -2,8 +2,7 @@
 -- variants of them: each as a function, and what is so of each variant is so of all.
 use Rattle.std.proofs.Common.{ℕ, List}
 use Rattle.dp_plan.specs.declared.entry.Entry.{Entry}
-use Rattle.dp_plan.specs.declared.item.Item.{Item}
-use Rattle.dp_plan.specs.declared.item.Item.TheVariants.{Begins, Sets, Adds, Includes, Unknown}
+use Rattle.dp_plan.specs.Item.{Item, Begins, Sets, Adds, Includes, Unknown}
 use Rattle.dp_plan.specs.declared.numbering.Written.{Written}
 use Rattle.dp_plan.specs.declared.numbering.Written.TheVariants.{Number, TooGreat, Next}
 use Rattle.dp_plan.specs.declared.plan.GlobalVariable.{GlobalVariable}

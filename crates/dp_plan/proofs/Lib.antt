@@ -11,6 +11,7 @@ pub mod LoadedLemmas
 mod LoadingLemmas
 pub mod NamedLemmas
 pub mod PartsKnown
+mod NumberingLemmas
 mod PlaceLemmas
 mod PositionLemmas
 pub mod RankingLemmas

@@ -6,7 +6,7 @@ use Rattle.dp_plan.specs.Faults.{text_fault}
 use Rattle.dp_plan.specs.Items.{items_after}
 use Rattle.dp_plan.specs.Plan.{PlanOf, plan_of, notes_of}
 use Rattle.dp_plan.specs.declared.fault.LoadFault.{LoadFault}
-use Rattle.dp_plan.specs.declared.item.Item.{Item}
+use Rattle.dp_plan.specs.Item.{Item}
 use Rattle.dp_plan.specs.declared.note.Note.{Note}
 
 -- the dialplan of readings that all gave items

@@ -21,7 +21,7 @@ use Rattle.dp_plan.specs.Ranking.{AreApart}
 use Rattle.dp_plan.specs.steps.Reader.{history_in}
 use Rattle.dp_plan.specs.declared.fault.LoadFault.{LoadFault}
 use Rattle.dp_plan.specs.declared.fault.LoadFault.TheVariants.{Conf, Pattern, Plan, NoMemory}
-use Rattle.dp_plan.specs.declared.item.Item.{Item}
+use Rattle.dp_plan.specs.Item.{Item}
 use Rattle.dp_plan.specs.declared.note.Note.{Note}
 use Rattle.dp_plan.proofs.ApartLemmas.{kept-apart, contexts-apart}
 use Rattle.dp_plan.proofs.DraftLemmas.{drafted_in, Makes-all, names-contexts, reading-items, settled-notes}

@@ -17,8 +17,7 @@ use Rattle.dp_plan.specs.Plan.{PlanOf, Addition, Inclusion, is_taken, kept_by, a
 use Rattle.dp_plan.specs.Ranking.{AreApart}
 use Rattle.dp_plan.specs.declared.entry.Entry.{Entry}
 use Rattle.dp_plan.specs.declared.fault.LoadFault.{LoadFault}
-use Rattle.dp_plan.specs.declared.item.Item.{Item}
-use Rattle.dp_plan.specs.declared.item.Item.TheVariants.{Begins, Sets, Adds, Includes, Unknown}
+use Rattle.dp_plan.specs.Item.{Item, Begins, Sets, Adds, Includes, Unknown}
 use Rattle.dp_plan.specs.declared.note.Note.{Note}
 use Rattle.dp_plan.proofs.ApartLemmas.{kept-apart, contexts-apart}
 use Rattle.dp_plan.proofs.ItemsKnown.{IsFine, items_after-known}

@@ -6,8 +6,7 @@ use Rattle.dp_pattern.specs.Name.{Meaning}
 use Rattle.dp_plan.specs.Extensions.{same_name}
 use Rattle.dp_plan.specs.declared.section.Section.{Section}
 use Rattle.dp_plan.specs.declared.section.Section.TheVariants.{General}
-use Rattle.dp_plan.specs.declared.item.Item.{Item}
-use Rattle.dp_plan.specs.declared.item.Item.TheVariants.{Begins, Sets, Adds, Includes, Unknown}
+use Rattle.dp_plan.specs.Item.{Item, Begins, Sets, Adds, Includes, Unknown}
 
 -- the section of the line, the name of the last extension since its header, and the last priority of an extension
 pub record History : Type 0 where

@@ -4,6 +4,7 @@ pub mod EntryLine
 pub mod Extensions
 pub mod Faults
 pub mod History
+pub mod Item
 pub mod Items
 pub mod Loaded
 pub mod Lookup

@@ -12,7 +12,6 @@ ghost use Rattle.dp_plan.specs.Ranking.{AreApart};
 
 use crate::context::Context;
 use crate::entry::Entry;
-use crate::item::Item;
 use crate::label::{Label, label_of};
 use crate::note::{Note, NoteKind};
 use crate::places::{Places, Slot};
@@ -161,7 +160,7 @@ impl Draft {
     }
 
     /// Notes something of a line.
-    fn note(&mut self, line: usize, kind: NoteKind) -> Result<(), NoMemory>
+    pub(crate) fn note(&mut self, line: usize, kind: NoteKind) -> Result<(), NoMemory>
         ensures { OnOk result (self.new ≡ spec.with_note self.old line kind) }
     {
         self.remarks.push(Remark::Noted(Note { line, kind }))?;
@@ -257,7 +256,7 @@ impl Draft {
 
     /// Adds an entry to its context, or notes that its place or its label is taken.
     #[tactic(auto, using(crate::proofs::AdditionLemmas::noted_addition, crate::proofs::AdditionLemmas::kept_addition))]
-    fn add_entry(
+    pub(crate) fn add_entry(
         &mut self,
         alloc: Global,
         line: usize,
@@ -284,7 +283,7 @@ impl Draft {
     }
 
     /// Adds an include to its context. Whether its name is one of a context shows in the end.
-    fn add_include(
+    pub(crate) fn add_include(
         &mut self,
         alloc: Global,
         line: usize,
@@ -301,7 +300,7 @@ impl Draft {
     }
 
     /// Adds a global variable.
-    fn set_global(&mut self, global: GlobalVariable) -> Result<(), NoMemory>
+    pub(crate) fn set_global(&mut self, global: GlobalVariable) -> Result<(), NoMemory>
         ensures { OnOk result (self.new ≡ record self.old { globals = self.old.globals ++ global ∷ [] }) }
     {
         self.globals.push(global)?;
@@ -309,49 +308,13 @@ impl Draft {
     }
 
     /// Begins a section.
-    fn begin(&mut self, alloc: Global, section: Section) -> Result<(), NoMemory>
-        ensures { OnOk result (self.new ≡ spec.with_section self.old section) }
+    pub(crate) fn begin(&mut self, alloc: Global, section: &Section) -> Result<(), NoMemory>
+        ensures { OnOk result (self.new ≡ spec.with_section self.old section.now) }
     {
         if let Section::Context(name) = section {
-            self.open(alloc, &name)?;
+            self.open(alloc, name)?;
         }
         Ok(())
-    }
-
-    /// Adds what an item says. Where it is an entry, its extension has the number.
-    fn add(&mut self, alloc: Global, number: u32, item: Item) -> Result<(), NoMemory>
-        ensures { OnOk result (self.new ≡ spec.added self.old number item) }
-    {
-        match item {
-            Item::Begins(section) => self.begin(alloc, section),
-            Item::Sets(global) => self.set_global(global),
-            Item::Adds {
-                line,
-                context,
-                entry,
-            } => self.add_entry(alloc, line, &context, number, entry),
-            Item::Includes {
-                line,
-                context,
-                name,
-            } => self.add_include(alloc, line, &context, name),
-            Item::Unknown(line) => self.note(line, NoteKind::UnknownKey),
-        }
-    }
-
-    /// Adds what an item says, where there is one. Where it is an entry, its extension has the number.
-    pub(crate) fn add_item(
-        &mut self,
-        alloc: Global,
-        number: u32,
-        item: Option<Item>,
-    ) -> Result<(), NoMemory>
-        ensures { OnOk result (self.new ≡ fold (λ draft i. spec.added draft number i) self.old (option_to_list item)) }
-    {
-        match item {
-            None => Ok(()),
-            Some(item) => self.add(alloc, number, item),
-        }
     }
 
     /// The notes that the remarks come to.

@@ -60,15 +60,16 @@ fn priority_before(
 /// The entry of the name, with its priority and its application.
 fn read_named(
     alloc: Global,
-    reader: &Reader,
+    reader: &mut Reader,
     line: usize,
     context: &SharedText,
     name: SharedName,
     priority: &[u8],
     application: &[u8],
 ) -> Result<Entry, LoadFault>
-    ensures { Answers (λ entry. entry) reason_of result
-        (spec.entry_by (history_in reader.now) line context.now name priority.now application.now) }
+    ensures read { Answers (λ entry. entry) reason_of result
+        (spec.entry_by (history_in reader.old) line context.now name priority.now application.now) }
+    ensures same { reader.new ≡ reader.old }
 {
     let numbering = match read_numbering(priority) {
         Ok(numbering) => numbering,
@@ -99,13 +100,14 @@ fn read_named(
 #[tactic(auto, unfolding(crate::specs::EntryLine::exten_entry))]
 pub(crate) fn read_exten(
     alloc: Global,
-    reader: &Reader,
+    reader: &mut Reader,
     line: usize,
     context: &SharedText,
     value: &[u8],
 ) -> Result<Entry, LoadFault>
-    ensures { Answers (λ entry. entry) reason_of result
-        (spec.exten_entry (history_in reader.now) line context.now value.now) }
+    ensures read { Answers (λ entry. entry) reason_of result
+        (spec.exten_entry (history_in reader.old) line context.now value.now) }
+    ensures same { reader.new ≡ reader.old }
 {
     let Some((name, rest)) = cut_once(value, b',') else {
         return Err(fault(line, PlanKind::ShortLine));
@@ -137,13 +139,14 @@ fn name_again(reader: &Reader, line: usize) -> Result<SharedName, LoadFault>
 #[tactic(auto, unfolding(crate::specs::EntryLine::same_entry))]
 pub(crate) fn read_same(
     alloc: Global,
-    reader: &Reader,
+    reader: &mut Reader,
     line: usize,
     context: &SharedText,
     value: &[u8],
 ) -> Result<Entry, LoadFault>
-    ensures { Answers (λ entry. entry) reason_of result
-        (spec.same_entry (history_in reader.now) line context.now value.now) }
+    ensures read { Answers (λ entry. entry) reason_of result
+        (spec.same_entry (history_in reader.old) line context.now value.now) }
+    ensures same { reader.new ≡ reader.old }
 {
     let Some((priority, application)) = cut_once(value, b',') else {
         name_again(reader, line)?;

@@ -44,16 +44,6 @@ impl KnownApplications {
         self.names.iter().find(|known| known.bytes() == name)
     }
 
-    /// The name with its owners where it is held, and a text of its own where it is not.
-    pub(crate) fn shared(&self, alloc: Global, name: &[u8]) -> Result<SharedText, NoMemory>
-        ensures { IfOk result (λ shared. shared ≡ name.now) }
-    {
-        match self.find(name) {
-            Some(known) => known.clone(),
-            None => SharedText::copy_of(alloc, name),
-        }
-    }
-
     /// Whether a name is held that is written so.
     fn is_known(&self, name: &SharedText) -> bool
         ensures { result ≡ is_known self.now name.now }
@@ -62,7 +52,7 @@ impl KnownApplications {
     }
 
     /// Holds the name too, unless it is held or there are 32 already.
-    pub(crate) fn keep(&mut self, name: &SharedText) -> Result<(), NoMemory>
+    fn keep(&mut self, name: &SharedText) -> Result<(), NoMemory>
         ensures { OnOk result (self.new ≡ kept self.old name.now) }
     {
         if self.names.len() >= MOST_KNOWN || self.is_known(name) {
@@ -71,5 +61,18 @@ impl KnownApplications {
         let name = name.clone()?;
         self.names.push(name)?;
         Ok(())
+    }
+
+    /// The name with its owners where it is held. Where it is not, it is a text of its own, which is held from then on if
+    /// there is room.
+    pub(crate) fn shared(&mut self, alloc: Global, name: &[u8]) -> Result<SharedText, NoMemory>
+        ensures { IfOk result (λ shared. shared ≡ name.now) }
+    {
+        if let Some(known) = self.find(name) {
+            return known.clone();
+        }
+        let shared = SharedText::copy_of(alloc, name)?;
+        self.keep(&shared)?;
+        Ok(shared)
     }
 }

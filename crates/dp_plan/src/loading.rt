@@ -1,70 +1,15 @@
 //! The lines of a dialplan's text, taken one at a time.
-ghost use Rattle.std.specs.Prelude.{◌≡◌, Err, MatchOption, Ok, OnOk, fold};
-ghost use Rattle.std.specs.Option.{option_to_list};
+ghost use Rattle.std.specs.Prelude.{◌≡◌, Err, MatchOption, Ok};
 ghost use Rattle.dp_conf.specs.Answers.{Answers};
-ghost use Rattle.dp_conf.specs.Borrowed.{line_now};
 ghost use Rattle.dp_plan.specs.Faults.{reason_of};
 ghost use Rattle.dp_plan.specs.steps.Loading as spec;
 
 use crate::draft::Draft;
 use crate::fault::LoadFault;
-use crate::item::{Item, read_item};
-use crate::reader::Reader;
+use crate::made::Made;
 use dp_conf::{Line, NoMemory, TakeLine, beside, take_lines};
 use std::alloc::Global;
 use std::marker::Model;
-
-/// What the lines so far leave for the next one, and the dialplan in the making.
-#[derive(Drop)]
-pub(crate) struct Made {
-    reader: Reader,
-    draft: Draft,
-}
-
-impl Model for Made {
-    ghost use Rattle.dp_plan.specs.steps.Loading.{MadeOf};
-
-    ghost Value = { MadeOf };
-
-    ghost view = { λ made. record { reading = made.reader; draft = made.draft } };
-}
-
-impl Made {
-    /// Before the first line.
-    fn new(alloc: Global) -> Self
-        ensures { result ≡ spec.unmade }
-    {
-        Made {
-            reader: Reader::new(alloc),
-            draft: Draft::new(alloc),
-        }
-    }
-
-    /// Goes after an item, where there is one.
-    fn take_item(&mut self, alloc: Global, item: Option<Item>) -> Result<(), NoMemory>
-        ensures { OnOk result (self.new ≡ fold spec.after_item self.old (option_to_list item)) }
-    {
-        self.reader.remember(item.as_ref())?;
-        self.draft.add_item(alloc, self.reader.extension(), item)
-    }
-
-    /// Goes after a line.
-    fn take(&mut self, alloc: Global, line: Line<'_>) -> Result<(), LoadFault>
-        ensures { Answers (λ done. self.new) reason_of result (spec.after_line self.old (line_now line.entry)) }
-    {
-        let item = read_item(alloc, &self.reader, line)?;
-        self.take_item(alloc, item)?;
-        Ok(())
-    }
-
-    /// The dialplan in the making.
-    fn into_draft(self) -> Draft
-        ensures { result ≡ self.draft }
-    {
-        let Made { reader: _, draft } = self;
-        draft
-    }
-}
 
 /// A refusal for this fault, where there is one.
 fn refused(fault: Option<LoadFault>) -> Result<(), LoadFault>

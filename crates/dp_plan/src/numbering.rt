@@ -1,7 +1,8 @@
 //! The priority of an entry's line: its number, or `n`, and its label.
-ghost use Rattle.std.specs.Prelude.{◌≡◌, Some};
+ghost use Rattle.std.specs.Prelude.{◌≡◌, None, Some};
 ghost use Rattle.std.specs.List.{list_any};
 ghost use Rattle.dp_conf.specs.Answers.{Answers};
+ghost use Rattle.dp_conf.specs.Numbers.{number_of};
 ghost use Rattle.dp_plan.specs.EntryLine as spec;
 
 use crate::application::before_closing;
@@ -53,22 +54,31 @@ fn written_number(number: u64) -> Result<Written, PlanKind>
     }
 }
 
-/// A priority without its label.
-fn read_written(text: &[u8]) -> Result<Written, PlanKind>
+/// A priority without its label that is no number.
+fn read_word(text: &[u8]) -> Result<Written, PlanKind>
+    requires { number_of text.now ≡ None }
     ensures { result ≡ spec.written_of text.now }
 {
+    if text == b"n".as_slice() {
+        return Ok(Written::Next);
+    }
     if text == b"hint".as_slice() {
         return Err(PlanKind::LeftOut(Word::Hint));
     }
     if is_priority_word(text) {
         return Err(PlanKind::LeftOut(Word::PriorityWord));
     }
-    if text == b"n".as_slice() {
-        return Ok(Written::Next);
-    }
+    Err(PlanKind::BadPriority)
+}
+
+/// A priority without its label. Most are numbers, and a number is none of the words.
+#[tactic(auto, using(crate::proofs::NumberingLemmas::number_as_written))]
+fn read_written(text: &[u8]) -> Result<Written, PlanKind>
+    ensures { result ≡ spec.written_of text.now }
+{
     match read_number(text) {
-        None => Err(PlanKind::BadPriority),
         Some(number) => written_number(number),
+        None => read_word(text),
     }
 }
 

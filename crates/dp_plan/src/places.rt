@@ -60,7 +60,11 @@ fn fill(greatest: &mut Vec<u32>, count: usize) -> Result<(), NoMemory>
     ensures filled { OnOk result (count ≤ length greatest.new.items) }
     ensures same { (extension : ℕ) → get_or greatest.new.items extension 0 ≡ get_or greatest.old.items extension 0 }
 {
-    if greatest.len() < count {
+    let there = greatest.len();
+    // A new extension is mostly the next one.
+    if count == there + 1 {
+        greatest.push(0)?;
+    } else if count > there {
         greatest.resize(count, 0)?;
     }
     Ok(())

@@ -1,11 +1,10 @@
 //! What the lines so far leave for the next one.
-ghost use Rattle.std.specs.Prelude.{◌≡◌, IfOk, OnOk, fold};
-ghost use Rattle.std.specs.Option.{option_copied, option_to_list};
+ghost use Rattle.std.specs.Prelude.{◌≡◌, IfOk, OnOk};
+ghost use Rattle.std.specs.Option.{option_copied};
 ghost use Rattle.dp_plan.specs.steps.Reader as spec;
 
 use crate::entry::Entry;
 use crate::extensions::Extensions;
-use crate::item::Item;
 use crate::known_applications::KnownApplications;
 use crate::priority::Priority;
 use crate::section::Section;
@@ -83,47 +82,29 @@ impl Reader {
         self.extensions.priority(context, name)
     }
 
-    /// The name of an application, which is one of the reader's where a line before has written it so.
-    pub(crate) fn application(&self, alloc: Global, name: &[u8]) -> Result<SharedText, NoMemory>
-        ensures { IfOk result (λ application. application ≡ name.now) }
+    /// The name of an application, which is held for the lines to come, or is held where a line before has written it so.
+    pub(crate) fn application(&mut self, alloc: Global, name: &[u8]) -> Result<SharedText, NoMemory>
+        ensures ok { IfOk result (λ application. application ≡ name.now) }
+        ensures same { self.new ≡ self.old }
     {
         self.applications.shared(alloc, name)
     }
 
     /// Goes after a header.
-    fn begin(&mut self, section: &Section) -> Result<(), NoMemory>
-        ensures { OnOk result (self.new ≡ spec.after self.old (Item.Begins section.now)) }
+    pub(crate) fn begin(&mut self, section: Section)
+        ensures { self.new ≡ spec.after_header self.old section }
     {
-        self.section = section.clone()?;
+        self.section = section;
         self.name = None;
-        Ok(())
     }
 
     /// Goes after the line of an entry.
-    fn go_after(&mut self, line: usize, context: &SharedText, entry: &Entry) -> Result<(), NoMemory>
-        ensures { OnOk result (self.new ≡ spec.after self.old (Item.Adds line context.now entry.now)) }
+    pub(crate) fn go_after(&mut self, context: &SharedText, entry: &Entry) -> Result<(), NoMemory>
+        ensures { OnOk result (self.new ≡ spec.after_entry self.old context.now entry.now) }
     {
         let name = entry.name.clone()?;
         self.extensions.write(context, &entry.name, entry.priority)?;
-        self.applications.keep(&entry.application)?;
         self.name = Some(name);
         Ok(())
-    }
-
-    /// Goes after a line, by its item where it has one.
-    pub(crate) fn remember(&mut self, item: Option<&Item>) -> Result<(), NoMemory>
-        ensures { OnOk result (self.new ≡ fold spec.after self.old (option_to_list (option_copied item.entry))) }
-    {
-        match item {
-            Some(Item::Begins(section)) => self.begin(section),
-            Some(
-                Item::Adds {
-                    line,
-                    context,
-                    entry,
-                },
-            ) => self.go_after(*line, context, entry),
-            Some(Item::Sets(_) | Item::Includes { .. } | Item::Unknown(_)) | None => Ok(()),
-        }
     }
 }

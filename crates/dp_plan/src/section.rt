@@ -32,20 +32,3 @@ impl Section {
         Ok(Section::Context(name))
     }
 }
-
-impl Clone for Section {
-    ghost use Rattle.std.specs.Prelude.{◌≡◌};
-
-    ghost is_clone = { λ section copy. copy ≡ section };
-
-    fn clone(&self) -> Result<Section, NoMemory> {
-        match self {
-            Section::General => Ok(Section::General),
-            Section::Globals => Ok(Section::Globals),
-            Section::Context(name) => {
-                let name = name.clone()?;
-                Ok(Section::Context(name))
-            }
-        }
-    }
-}

@@ -19,8 +19,7 @@ use Rattle.dp_plan.specs.declared.note.NoteKind.{NoteKind}
 use Rattle.dp_plan.specs.declared.note.NoteKind.TheVariants.{DoublePriority, DoubleLabel, UnknownKey}
 use Rattle.dp_plan.specs.declared.section.Section.{Section}
 use Rattle.dp_plan.specs.declared.section.Section.TheVariants.{General, Globals, Context}
-use Rattle.dp_plan.specs.declared.item.Item.{Item}
-use Rattle.dp_plan.specs.declared.item.Item.TheVariants.{Begins, Sets, Adds, Includes, Unknown}
+use Rattle.dp_plan.specs.Item.{Item, Begins, Sets, Adds, Includes, Unknown}
 
 -- the global variables, the contexts with their names, the places and labels that are taken, and the remarks so far
 pub record Drafted : Type 0 where

@@ -8,7 +8,7 @@ use Rattle.dp_plan.specs.Faults.{text_fault}
 use Rattle.dp_plan.specs.Items.{line_item}
 use Rattle.dp_plan.specs.steps.Reader.{Reading, unread, after, history_in}
 use Rattle.dp_plan.specs.declared.fault.LoadFault.{LoadFault}
-use Rattle.dp_plan.specs.declared.item.Item.{Item}
+use Rattle.dp_plan.specs.Item.{Item}
 
 -- what the lines so far leave for the next one, and the dialplan in the making
 pub record MadeOf : Type 0 where
@@ -26,9 +26,17 @@ after_item made item = record {
   draft = added made.draft (after made.reading item).extensions.last item;
 }
 
+-- after the item of one more line, or the line's fault
+abbrev pub after_read : MadeOf → Result Item LoadFault → Result MadeOf LoadFault
+after_read made read = read >>= λ item. Ok (after_item made item)
+
+-- after the item of one more line, where it has one, or the line's fault
+abbrev pub after_items : MadeOf → Result (List Item) LoadFault → Result MadeOf LoadFault
+after_items made read = read >>= λ items. Ok (fold after_item made items)
+
 -- after one more line, or the line's fault
 abbrev pub after_line : MadeOf → LineOf → Result MadeOf LoadFault
-after_line made line = line_item (history_in made.reading) line >>= λ items. Ok (fold after_item made items)
+after_line made line = after_items made (line_item (history_in made.reading) line)
 
 -- the same, where a line before it may have a fault, which is kept aside
 abbrev pub after_one : Result MadeOf LoadFault → LineOf → Result MadeOf LoadFault

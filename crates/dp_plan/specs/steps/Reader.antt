@@ -6,10 +6,10 @@ use Rattle.dp_pattern.specs.Name.{Meaning}
 use Rattle.dp_plan.specs.Extensions.{extension_of, same_extension}
 use Rattle.dp_plan.specs.History.{History}
 use Rattle.dp_plan.specs.steps.Table.{Table, empty, written}
+use Rattle.dp_plan.specs.declared.entry.Entry.{Entry}
 use Rattle.dp_plan.specs.declared.section.Section.{Section}
 use Rattle.dp_plan.specs.declared.section.Section.TheVariants.{General}
-use Rattle.dp_plan.specs.declared.item.Item.{Item}
-use Rattle.dp_plan.specs.declared.item.Item.TheVariants.{Begins, Sets, Adds, Includes, Unknown}
+use Rattle.dp_plan.specs.Item.{Item, Begins, Sets, Adds, Includes, Unknown}
 
 -- the section, the last extension's name since its header, and the extensions with their last priorities
 pub record Reading : Type 0 where
@@ -21,14 +21,22 @@ pub record Reading : Type 0 where
 abbrev pub unread : Reading
 unread = record { section = General; name = None; extensions = empty }
 
--- after one more item
-abbrev pub after : Reading → Item → Reading
-after reading (Begins section) = record reading { section = section; name = None }
-after reading (Sets global) = reading
-after reading (Adds line context entry) = record reading {
+-- after a header
+abbrev pub after_header : Reading → Section → Reading
+after_header reading section = record reading { section = section; name = None }
+
+-- after the line of an entry
+abbrev pub after_entry : Reading → List ℕ → Entry → Reading
+after_entry reading context entry = record reading {
   name = Some entry.name;
   extensions = written reading.extensions (extension_of context entry.name) entry.priority;
 }
+
+-- after one more item
+abbrev pub after : Reading → Item → Reading
+after reading (Begins section) = after_header reading section
+after reading (Sets global) = reading
+after reading (Adds line context entry) = after_entry reading context entry
 after reading (Includes line context name) = reading
 after reading (Unknown line) = reading
 

@@ -1,0 +1,83 @@
+-- A priority that is a number is none of the words that priorities may be.
+use Rattle.std.proofs.Common.{◌≡◌, ℕ, Bool, true, false, cond, ◌==◌, ◌&&◌, ◌||◌, nat_le, List, [], ◌∷◌, codes, Some, None, refl, ap, sym, ◌∙◌, arith, min, ◌-◌, ◌^◌}
+use Rattle.std.specs.List.{list_all, list_any}
+use Rattle.std.specs.Option.{option_map}
+use Rattle.std.specs.Str.{byte}
+use Rattle.std.proofs.lemmas.Bool.Decides.{nat_tests}
+use Rattle.dp_conf.specs.Numbers.{is_digit, digits_number, most_priority, number_of}
+use Rattle.dp_conf.specs.Words.{same_text}
+use Rattle.dp_plan.specs.EntryLine.{written_number, written_of}
+
+-- a digit is no byte above the digits
+digit-apart : (b other : ℕ) → is_digit b ≡ true → nat_le other 57 ≡ false → (b == other) ≡ false
+digit-apart b other digit above = by (nat_le 48 b) (nat_le b 57) refl digit
+  where
+    by : (low high : Bool) → nat_le b 57 ≡ high → (low && high) ≡ true → (b == other) ≡ false
+    by true true within both = grind (arith, nat_tests)
+    by true false within both = absurd cc
+    by false high within both = absurd cc
+
+-- nor a plus
+digit-no_plus : (b : ℕ) → is_digit b ≡ true → (b == byte "+") ≡ false
+digit-no_plus b digit = by (nat_le 48 b) (nat_le b 57) refl digit
+  where
+    by : (low high : Bool) → nat_le 48 b ≡ low → (low && high) ≡ true → (b == byte "+") ≡ false
+    by true high within both = grind (arith, nat_tests)
+    by false high within both = absurd cc
+
+-- no plus stands among digits
+no_plus : (text : List ℕ) → list_all is_digit text ≡ true → list_any (λ b. b == byte "+") text ≡ false
+no_plus [] all = refl
+no_plus (b ∷ bs) all = by (is_digit b) refl all (λ rest. no_plus bs rest)
+  where
+    by : (t : Bool) → is_digit b ≡ t → (t && list_all is_digit bs) ≡ true → (list_all is_digit bs ≡ true → list_any (λ b. b == byte "+") bs ≡ false)
+        → ((b == byte "+") || list_any (λ b. b == byte "+") bs) ≡ false
+    by true digit all later = ap (λ (first : Bool). first || list_any (λ b. b == byte "+") bs) (digit-no_plus b digit) ∙ later all
+    by false digit all later = absurd cc
+
+-- a text that begins with a digit is no word
+no_word : (b : ℕ) (bs : List ℕ) (other : ℕ) (rest : List ℕ) → is_digit b ≡ true → nat_le other 57 ≡ false → same_text (b ∷ bs) (other ∷ rest) ≡ false
+no_word b bs other rest digit above = ap (λ (first : Bool). first && same_text bs rest) (digit-apart b other digit above)
+
+-- what a number above the greatest of 64 bits is written as, that one is written as too
+capped : (number : ℕ) → written_number (Some (min number (2 ^ 64 - 1))) ≡ written_number (Some number)
+capped number = by (nat_le number (2 ^ 64 - 1)) refl
+  where
+    by : (t : Bool) → nat_le number (2 ^ 64 - 1) ≡ t → written_number (Some (min number (2 ^ 64 - 1))) ≡ written_number (Some number)
+    by true within =
+        let same : min number (2 ^ 64 - 1) ≡ number = grind (arith, nat_tests) in
+        ap (λ (n : ℕ). written_number (Some n)) same
+    by false within =
+        let most : min number (2 ^ 64 - 1) ≡ 2 ^ 64 - 1 = grind (arith, nat_tests) in
+        let zero : (number == 0) ≡ false = grind (arith, nat_tests) in
+        let great : nat_le number most_priority ≡ false = grind (arith, nat_tests) in
+        ap (λ (n : ℕ). written_number (Some n)) most ∙ cc
+
+-- a number is written as what it is
+pub number_as_written : (text : List ℕ) (number : ℕ) → option_map (λ n. min n (2 ^ 64 - 1)) (number_of text) ≡ Some number → written_of text ≡ written_number (Some number)
+number_as_written [] number read = absurd cc
+number_as_written (b ∷ bs) number read = by (list_all is_digit (b ∷ bs)) refl read
+  where
+    exact : ℕ
+    exact = digits_number (b ∷ bs)
+
+    first : (t : Bool) → is_digit b ≡ t → (t && list_all is_digit bs) ≡ true → is_digit b ≡ true
+    first true digit all = digit
+    first false digit all = absurd cc
+
+    words : list_all is_digit (b ∷ bs) ≡ true → written_of (b ∷ bs) ≡ written_number (Some exact)
+    words all =
+        let digit : is_digit b ≡ true = first (is_digit b) refl all in
+        let hint : same_text (b ∷ bs) (codes "hint") ≡ false = no_word b bs (byte "h") (codes "int") digit refl in
+        let next : same_text (b ∷ bs) (codes "next") ≡ false = no_word b bs (byte "n") (codes "ext") digit refl in
+        let s : same_text (b ∷ bs) (codes "s") ≡ false = no_word b bs (byte "s") [] digit refl in
+        let same : same_text (b ∷ bs) (codes "same") ≡ false = no_word b bs (byte "s") (codes "ame") digit refl in
+        let n : same_text (b ∷ bs) (codes "n") ≡ false = no_word b bs (byte "n") [] digit refl in
+        let plus : list_any (λ b. b == byte "+") (b ∷ bs) ≡ false = no_plus (b ∷ bs) all in
+        cc
+
+    by : (t : Bool) → list_all is_digit (b ∷ bs) ≡ t → option_map (λ n. min n (2 ^ 64 - 1)) (cond t (Some exact) None) ≡ Some number → written_of (b ∷ bs) ≡ written_number (Some number)
+    by false all read = absurd cc
+    by true all read =
+        let is : min exact (2 ^ 64 - 1) ≡ number = cc in
+        words all ∙ (sym (capped exact) ∙ ap (λ (n : ℕ). written_number (Some n)) is)
