@@ -11,6 +11,7 @@ ghost use Rattle.dp_commands.specs.Script.{turns_of};
 use crate::block::{Block, ROOM};
 use crate::fault::PbxFault;
 use crate::script::{ScriptLine, read_script};
+use dp_conf::beside;
 use dp_machine::Machine;
 use dp_plan::{Dialplan, NoMemory};
 use dp_queue::Queues;
@@ -67,10 +68,9 @@ fn read_files(alloc: Global, plan: &[u8], queues: Option<&[u8]>) -> Result<Files
     ensures quiet { is_write_failed result ≡ false }
 {
     let (plan, _) = Dialplan::load(alloc, plan)?;
-    match load_queues(alloc, queues) {
-        Ok(queues) => Ok(Files { plan, queues }),
-        Err(fault) => Err(fault),
-    }
+    let queues = load_queues(alloc, queues);
+    let (queues, plan) = beside(queues, plan)?;
+    Ok(Files { plan, queues })
 }
 
 /// What the texts of a run say.

@@ -21,8 +21,8 @@ use crate::deal::{act_at_once, events_of, have_acted, leading_calls, parted};
 use crate::fault::{Code, PbxFault};
 use crate::script::ScriptLine;
 use crate::trace::push_number;
-use dp_board::{Back, Board, Entry, Gate, History, Seat, Session, SettleFault, Unsettled};
-use dp_conf::WriteTold;
+use dp_board::{Board, Entry, Gate, History, Seat, Session, SettleFault};
+use dp_conf::{WriteTold, beside};
 use dp_machine::{Event, Machine};
 use dp_plan::NoMemory;
 use dp_table::StandardApps;
@@ -32,19 +32,8 @@ use std::sync::Wait;
 use std::sync::ledger::Blank;
 use std::thread::Threads;
 
-/// Lets go of a board that is open, and of its seats.
-fn let_go_open<S: Session>(_board: Board<StandardApps, S>, _seats: Vec<Seat<S>>) {}
-
-/// Lets go of a history, and of the seats that it was settled from.
-fn let_go_closed<S: Session>(_history: History<StandardApps>, _seats: Vec<Seat<S>>) {}
-
-/// Lets go of what was handed back.
-fn let_go<S: Session>(back: Back<StandardApps, S>) {
-    match back {
-        Back::Open { board, seats } => let_go_open(board, seats),
-        Back::Closed { history, seats } => let_go_closed(history, seats),
-    }
-}
+/// Lets go of what is owned. It is of any type here, so that the drop is that of a variable.
+fn let_go<M: Drop>(_owned: M) {}
 
 /// Why a board was not settled, though each seat was handed in.
 fn settle_fault(fault: SettleFault) -> PbxFault
@@ -70,8 +59,8 @@ fn settled<S: Session>(
     match board.settle(alloc, seats) {
         Ok(history) => Ok(history),
         Err(unsettled) => {
-            let Unsettled { fault, back } = unsettled;
-            let_go(back);
+            let fault = unsettled.fault;
+            let_go(unsettled);
             Err(settle_fault(fault))
         }
     }
@@ -303,10 +292,8 @@ fn conclude<W: WriteTold>(
         (W.contents writer.new)) }
     ensures told { W.has_failed writer.new ≡ (W.has_failed writer.old || is_write_failed result) }
 {
-    match report(alloc, &history, seats, is_refused, writer) {
-        Ok(status) => Ok((status, history)),
-        Err(fault) => Err(fault),
-    }
+    let status = report(alloc, &history, seats, is_refused, writer);
+    beside(status, history)
 }
 
 /// Runs a script on a dialplan with its queues in so many threads, and writes `settled N seats M calls`: so many seats, and how many
