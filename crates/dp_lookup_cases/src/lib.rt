@@ -1,7 +1,9 @@
-//! Cases of look-ups in dialplans, as tables with their answers.
+//! Cases of look-ups by lists of entries and by tries, as tables with their answers.
 //!
 //! A crate with tests is proved twice, so the cases of the libraries stand in crates of their own, where each is proved once.
 #![tactic(auto)]
 
 #[cfg(test)]
 mod lookup;
+#[cfg(test)]
+mod trie;

@@ -6,7 +6,7 @@ mod more;
 mod names;
 mod orders;
 mod priorities;
-mod render;
+pub(crate) mod render;
 mod rows;
 
 use crate::lookup::render::check;

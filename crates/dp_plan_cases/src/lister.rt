@@ -1,7 +1,7 @@
 //! Listings of dialplans.
-use crate::plan::LOADED;
 use crate::plan::orders::ORDERS;
 use crate::plan::render::shown_plan;
+use crate::plan::{tables_of_parts, tables_of_texts};
 use dp_conf::{NoMemory, escape};
 use dp_lister::list;
 use dp_plan::{Dialplan, Note, NoteKind};
@@ -119,11 +119,17 @@ fn check_table(rt: &impl Abort, alloc: Global, table: &str) -> Result<(), Fail> 
     Ok(())
 }
 
-/// The dialplans of all tables of the loader, of orders and of listings.
-fn check_listings(rt: &impl Abort, alloc: Global) -> Result<(), Fail> {
-    for table in LOADED {
+fn check_all_tables(rt: &impl Abort, alloc: Global, tables: &[&str]) -> Result<(), Fail> {
+    for table in tables {
         check_table(rt, alloc, table)?;
     }
+    Ok(())
+}
+
+/// The dialplans of all tables of the loader, of orders and of listings.
+fn check_listings(rt: &impl Abort, alloc: Global) -> Result<(), Fail> {
+    check_all_tables(rt, alloc, tables_of_texts())?;
+    check_all_tables(rt, alloc, tables_of_parts())?;
     check_table(rt, alloc, ORDERS)?;
     check_table(rt, alloc, LISTINGS)
 }

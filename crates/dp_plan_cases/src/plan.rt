@@ -15,10 +15,10 @@ pub(crate) mod rows;
 use crate::plan::cuts::Fronts;
 use crate::plan::render::Loads;
 use dp_questions::{check, check_all};
+use std::alloc::Global;
 use std::test::Fail;
 
-/// The tables of texts with what they load as, or their fault.
-pub(crate) const LOADED: &[&str] = &[
+const OF_TEXTS: &[&str] = &[
     rows::WORKED,
     rows::FAULT_LINES,
     rows::ESCAPED_SEMICOLONS,
@@ -31,6 +31,17 @@ pub(crate) const LOADED: &[&str] = &[
     plans::APPLICATIONS,
     plans::NAMES_OF_APPLICATIONS,
     plans::WHOLE,
+    plans::ONE_DIALPLAN,
+];
+
+/// The tables of texts with what they load as, or their fault: these are of whole dialplans and of their lines.
+///
+/// One function has these, and one those of the parts of lines, since each function with many tables is dear.
+pub(crate) fn tables_of_texts() -> &'static [&'static str] {
+    OF_TEXTS
+}
+
+const OF_PARTS: &[&str] = &[
     names::PLAIN,
     names::PATTERNS,
     names::NO_NAMES,
@@ -46,12 +57,21 @@ pub(crate) const LOADED: &[&str] = &[
     includes::WITH_TIMES,
     faults::OF_A_LINE,
     faults::OF_A_TEXT,
-    plans::ONE_DIALPLAN,
 ];
+
+/// The tables of texts that are of names, priorities, labels, includes and faults.
+pub(crate) fn tables_of_parts() -> &'static [&'static str] {
+    OF_PARTS
+}
+
+fn check_loads(alloc: Global) -> Result<(), Fail> {
+    check_all::<Loads>(alloc, tables_of_texts())?;
+    check_all::<Loads>(alloc, tables_of_parts())
+}
 
 #[test]
 fn texts_load_so(rt: HostRuntime) -> Result<(), Fail> {
-    check_all::<Loads>(rt.alloc(), LOADED)
+    check_loads(rt.alloc())
 }
 
 #[test]

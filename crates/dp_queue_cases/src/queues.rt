@@ -11,7 +11,7 @@ use crate::queues::render::{push_fault, shown};
 use crate::queues::sizes::{count_of, file_of, push_counts};
 use crate::queues::steps::take;
 use dp_questions::{Question, bytes_of, check_all};
-use dp_queue::{QueueFault, Queues};
+use dp_queue::{NoMemory, QueueFault, Queues};
 use std::alloc::Global;
 use std::test::Fail;
 
@@ -34,28 +34,44 @@ impl Question for Counted {
     fn answer(alloc: Global, asked: &str) -> Result<String, Fail> {
         let (word, count) = asked.split_once(' ').unwrap_or((asked, ""));
         let text = file_of(alloc, word, count_of(count))?;
-        match Queues::load(alloc, text.as_bytes()) {
-            Ok(queues) => {
-                let mut out = String::new(alloc);
-                push_counts(&mut out, &queues)?;
-                Ok(out)
-            }
-            Err(fault) => fault_text(alloc, fault),
-        }
+        counts_of(alloc, text.as_bytes())
+    }
+}
+
+fn counts_text(alloc: Global, queues: &Queues) -> Result<String, Fail> {
+    let mut out = String::new(alloc);
+    push_counts(&mut out, queues)?;
+    Ok(out)
+}
+
+fn counts_of(alloc: Global, text: &[u8]) -> Result<String, Fail> {
+    match Queues::load(alloc, text) {
+        Ok(queues) => counts_text(alloc, &queues),
+        Err(fault) => fault_text(alloc, fault),
     }
 }
 
 /// What the queues of a file answer to steps between ` ; `, one answer after another.
 struct Acts;
 
-fn act(alloc: Global, queues: &mut Queues, steps: &str) -> Result<String, Fail> {
-    let mut out = String::new(alloc);
+fn take_steps(
+    alloc: Global,
+    out: &mut String,
+    queues: &mut Queues,
+    steps: &str,
+) -> Result<(), NoMemory> {
     for step in steps.split(" ; ") {
         if !out.is_empty() {
             out.push_str(", ")?;
         }
-        take(alloc, &mut out, queues, step)?;
+        take(alloc, out, queues, step)?;
     }
+    Ok(())
+}
+
+fn act(alloc: Global, queues: &mut Queues, steps: &str) -> Result<String, Fail> {
+    let mut out = String::new(alloc);
+    take_steps(alloc, &mut out, queues, steps)?;
     Ok(out)
 }
 

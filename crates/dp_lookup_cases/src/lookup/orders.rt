@@ -2,7 +2,7 @@
 ghost use Rattle.std.specs.Prelude.{◌≤◌};
 ghost use Rattle.dp_lookup.specs.SearchOrder.{context_count};
 
-use crate::lookup::render::push_order;
+use crate::lookup::render::{loaded, push_order};
 use dp_lookup::{Dialplan, SearchOrder, Text, visit_is_the_visit};
 use std::alloc::Global;
 use std::process::Abort;
@@ -53,6 +53,19 @@ fn check_new(
     check_order(rt, alloc, plan, &order, want)
 }
 
+/// An order of the context and a new one are those that are wanted.
+fn check_both(
+    rt: &impl Abort,
+    alloc: Global,
+    plan: &Dialplan,
+    order: &SearchOrder,
+    context: &Text,
+    want: &str,
+) -> Result<(), Fail> {
+    check_order(rt, alloc, plan, order, want)?;
+    check_new(rt, alloc, plan, context, want)
+}
+
 /// Fills the order again and again, and holds it, and a new one each time, against the one that is wanted.
 fn refill(
     rt: &impl Abort,
@@ -66,8 +79,7 @@ fn refill(
         let (context, want) = ORDERS[number];
         let context = Text::copy_of(alloc, context)?;
         order.fill(plan, &context);
-        check_order(rt, alloc, plan, order, want)?;
-        check_new(rt, alloc, plan, &context, want)?;
+        check_both(rt, alloc, plan, order, &context, want)?;
     }
     Ok(())
 }
@@ -82,6 +94,6 @@ fn check_orders(rt: &impl Abort, alloc: Global, plan: &Dialplan) -> Result<(), F
 #[test]
 fn orders_are_depth_first(rt: HostRuntime) -> Result<(), Fail> {
     visit_is_the_visit();
-    let (plan, _) = Dialplan::load(rt.alloc(), PLAN)?;
+    let plan = loaded(rt.alloc(), PLAN)?;
     check_orders(&rt, rt.alloc(), &plan)
 }

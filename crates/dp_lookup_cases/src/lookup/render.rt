@@ -6,6 +6,7 @@ use dp_questions::{bytes_of, is_heading};
 use std::alloc::Global;
 use std::test::Fail;
 
+/// Adds an entry as the name of its context and its application.
 fn push_entry(out: &mut String, plan: &Dialplan, id: EntryId) -> Result<(), NoMemory> {
     match (plan.contexts().get(id.context), plan.entry(id)) {
         (Some(context), Some(entry)) => write!(out, "{} {}", context.name(), entry.application),
@@ -13,25 +14,63 @@ fn push_entry(out: &mut String, plan: &Dialplan, id: EntryId) -> Result<(), NoMe
     }
 }
 
-fn push_found(
+/// Adds an entry that is found, or `none`.
+pub(crate) fn push_found(
+    out: &mut String,
+    plan: &Dialplan,
+    found: Option<EntryId>,
+) -> Result<(), NoMemory> {
+    match found {
+        Some(id) => push_entry(out, plan, id),
+        None => out.push_str("none"),
+    }
+}
+
+fn push_find(
     out: &mut String,
     plan: &Dialplan,
     order: &SearchOrder,
     text: &[u8],
     priority: u32,
 ) -> Result<(), NoMemory> {
-    match find(plan, order, text, priority) {
-        Some(id) if exists(plan, order, text, priority) => push_entry(out, plan, id),
-        None if !exists(plan, order, text, priority) => out.push_str("none"),
-        _ => out.push_str("two answers"),
+    let found = find(plan, order, text, priority);
+    if found.is_some() == exists(plan, order, text, priority) {
+        push_found(out, plan, found)
+    } else {
+        out.push_str("two answers")
     }
 }
 
-fn push_label(out: &mut String, found: Option<u32>) -> Result<(), NoMemory> {
+/// Adds the priority of a label, or `none`.
+pub(crate) fn push_label(out: &mut String, found: Option<u32>) -> Result<(), NoMemory> {
     match found {
         Some(priority) => write!(out, "{priority}"),
         None => out.push_str("none"),
     }
+}
+
+/// Adds whether a text could be more.
+pub(crate) fn push_more(out: &mut String, is_more: bool) -> Result<(), NoMemory> {
+    out.push_str(if is_more { "more" } else { "no more" })
+}
+
+fn push_of_text(
+    out: &mut String,
+    plan: &Dialplan,
+    order: &SearchOrder,
+    word: &str,
+    text: &[u8],
+    other: &str,
+) -> Result<(), Fail> {
+    match word {
+        "find" => {
+            let priority = other.parse::<u32>().ok().ok_or("no priority")?;
+            push_find(out, plan, order, text, priority)?;
+        }
+        "label" => push_label(out, find_label(plan, order, text, other.as_bytes()))?,
+        _ => out.push_str("no such question")?,
+    }
+    Ok(())
 }
 
 fn push_answer(
@@ -42,28 +81,11 @@ fn push_answer(
 ) -> Result<(), Fail> {
     let (word, rest) = asked.split_once(' ').ok_or("no question")?;
     if word == "more" {
-        out.push_str(if could_be_more(plan, order, rest.as_bytes()) {
-            "more"
-        } else {
-            "no more"
-        })?;
+        push_more(out, could_be_more(plan, order, rest.as_bytes()))?;
         return Ok(());
     }
     let (text, other) = rest.split_once(',').ok_or("no text")?;
-    match word {
-        "find" => {
-            let priority = other.parse::<u32>().ok().ok_or("no priority")?;
-            push_found(out, plan, order, text.as_bytes(), priority)?;
-        }
-        "label" => {
-            push_label(
-                out,
-                find_label(plan, order, text.as_bytes(), other.as_bytes()),
-            )?;
-        }
-        _ => out.push_str("no such question")?,
-    }
-    Ok(())
+    push_of_text(out, plan, order, word, text.as_bytes(), other)
 }
 
 /// The names of an order's contexts, each before a blank.
@@ -81,6 +103,19 @@ pub(super) fn push_order(
     Ok(())
 }
 
+fn push_asked(
+    out: &mut String,
+    plan: &Dialplan,
+    order: &SearchOrder,
+    asked: &str,
+) -> Result<(), Fail> {
+    if asked == "order" {
+        push_order(out, plan, order)?;
+        return Ok(());
+    }
+    push_answer(out, plan, order, asked)
+}
+
 fn answer(
     alloc: Global,
     plan: &Dialplan,
@@ -88,11 +123,7 @@ fn answer(
     asked: &str,
 ) -> Result<String, Fail> {
     let mut out = String::new(alloc);
-    if asked == "order" {
-        push_order(&mut out, plan, order)?;
-        return Ok(out);
-    }
-    push_answer(&mut out, plan, order, asked)?;
+    push_asked(&mut out, plan, order, asked)?;
     Ok(out)
 }
 
@@ -129,11 +160,21 @@ fn check_rows(
     Ok(())
 }
 
+/// The search order from a context.
+pub(crate) fn order_from(
+    alloc: Global,
+    plan: &Dialplan,
+    context: &[u8],
+) -> Result<SearchOrder, NoMemory> {
+    let context = Text::copy_of(alloc, context)?;
+    let order = SearchOrder::of(alloc, plan, &context)?;
+    Ok(order)
+}
+
 /// The rows that stand after the name of a context.
 fn check_context(alloc: Global, plan: &Dialplan, of: &str, asked: &str) -> Result<(), Fail> {
     let (name, rows) = asked.split_once('\n').ok_or("no rows")?;
-    let name = Text::copy_of(alloc, name.as_bytes())?;
-    let order = SearchOrder::of(alloc, plan, &name)?;
+    let order = order_from(alloc, plan, name.as_bytes())?;
     check_rows(alloc, plan, &order, of, rows)
 }
 
@@ -144,6 +185,12 @@ fn check_contexts(alloc: Global, plan: &Dialplan, of: &str, contexts: &str) -> R
     Ok(())
 }
 
+/// The dialplan of a text, without its notes.
+pub(crate) fn loaded(alloc: Global, text: &[u8]) -> Result<Dialplan, Fail> {
+    let (plan, _) = Dialplan::load(alloc, text)?;
+    Ok(plan)
+}
+
 /// The dialplan that stands on the last of these lines, and an empty one where that is a heading.
 fn plan_of(alloc: Global, head: &str) -> Result<Dialplan, Fail> {
     let line = match head.rsplit_once('\n') {
@@ -151,8 +198,7 @@ fn plan_of(alloc: Global, head: &str) -> Result<Dialplan, Fail> {
         None => head,
     };
     let text = bytes_of(alloc, if is_heading(line) { "" } else { line })?;
-    let (plan, _) = Dialplan::load(alloc, &text)?;
-    Ok(plan)
+    loaded(alloc, &text)
 }
 
 fn check_block(alloc: Global, block: &str) -> Result<(), Fail> {

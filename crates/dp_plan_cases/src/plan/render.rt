@@ -76,20 +76,21 @@ pub(crate) fn shown_plan(alloc: Global, plan: &Dialplan) -> Result<String, NoMem
     Ok(out)
 }
 
+fn push_fault_of_plan(out: &mut String, line: usize, kind: PlanKind) -> Result<(), NoMemory> {
+    let code = kind.code();
+    match kind {
+        PlanKind::LeftOut(word) => write!(out, "fault {code} {word:?} line {line}"),
+        _ => write!(out, "fault {code} line {line}"),
+    }
+}
+
 fn push_fault(out: &mut String, fault: LoadFault) -> Result<(), NoMemory> {
     match fault {
         LoadFault::Conf(ConfFault::At { line, kind }) => {
             write!(out, "fault {} line {line}", kind.code())
         }
         LoadFault::Pattern { line, fault } => { write!(out, "fault {} line {line}", fault.code()) }
-        LoadFault::Plan {
-            line,
-            kind: PlanKind::LeftOut(word),
-        } => {
-            let code = PlanKind::LeftOut(word).code();
-            write!(out, "fault {code} {word:?} line {line}")
-        }
-        LoadFault::Plan { line, kind } => write!(out, "fault {} line {line}", kind.code()),
+        LoadFault::Plan { line, kind } => push_fault_of_plan(out, line, kind),
         LoadFault::Conf(ConfFault::NoMemory) => out.push_str("no memory within a fault"),
         LoadFault::NoMemory => out.push_str("no memory"),
     }

@@ -1,35 +1,39 @@
 //! A long name, and an extension of many labels.
-use crate::render::order_from;
+use crate::lookup::render::loaded;
+use crate::trie::render::{TrieFrom, trie_from};
 use dp_lookup::find;
-use dp_trie::{Dialplan, EntryId, NoMemory, SearchOrder, Trie};
+use dp_trie::{Dialplan, EntryId, NoMemory};
 use std::alloc::Global;
 use std::process::Abort;
 use std::test::Fail;
 
 const CLASSES: usize = 1_000_000;
 
+fn push_long_name(out: &mut String) -> Result<(), NoMemory> {
+    out.push_str("[main]\nexten => _")?;
+    for _ in 0..CLASSES {
+        out.push('X')?;
+    }
+    out.push_str(",1,NoOp()\n")
+}
+
 /// A dialplan with a name of 1,000,000 classes.
 fn long_name(alloc: Global) -> Result<Dialplan, Fail> {
     let mut text = String::new(alloc);
-    text.push_str("[main]\nexten => _")?;
-    for _ in 0..CLASSES {
-        text.push('X')?;
-    }
-    text.push_str(",1,NoOp()\n")?;
-    let (plan, _) = Dialplan::load(alloc, text.as_bytes())?;
-    Ok(plan)
+    push_long_name(&mut text)?;
+    loaded(alloc, text.as_bytes())
 }
 
 /// The entry of so many digits, as the trie and as the look-up in the dialplan find it.
 fn find_digits(
     alloc: Global,
     plan: &Dialplan,
-    trie: &Trie,
-    order: &SearchOrder,
+    from: &TrieFrom,
     count: usize,
 ) -> Result<(Option<EntryId>, Option<EntryId>), NoMemory> {
     let digits = vec![in alloc; b'7'; count]?;
-    Ok((trie.find(order, &digits, 1), find(plan, order, &digits, 1)))
+    let found = from.trie.find(&from.order, &digits, 1);
+    Ok((found, find(plan, &from.order, &digits, 1)))
 }
 
 /// The only entry of the only context.
@@ -42,21 +46,19 @@ fn check_found(
     rt: &impl Abort,
     alloc: Global,
     plan: &Dialplan,
-    trie: &Trie,
-    order: &SearchOrder,
+    from: &TrieFrom,
 ) -> Result<(), Fail> {
-    let found = find_digits(alloc, plan, trie, order, CLASSES)?;
+    let found = find_digits(alloc, plan, from, CLASSES)?;
     assert_eq!(rt; found, (Some(ONLY), Some(ONLY)));
-    let found = find_digits(alloc, plan, trie, order, CLASSES - 1)?;
+    let found = find_digits(alloc, plan, from, CLASSES - 1)?;
     assert_eq!(rt; found, (None, None));
-    assert_eq!(rt; trie.nodes(0), CLASSES + 1);
+    assert_eq!(rt; from.trie.nodes(0), CLASSES + 1);
     Ok(())
 }
 
 fn check_digits(rt: &impl Abort, alloc: Global, plan: &Dialplan) -> Result<(), Fail> {
-    let trie = Trie::build(alloc, plan)?;
-    let order = order_from(alloc, plan, b"main")?;
-    check_found(rt, alloc, plan, &trie, &order)
+    let from = trie_from(alloc, plan, b"main")?;
+    check_found(rt, alloc, plan, &from)
 }
 
 fn check_long_name(rt: &impl Abort, alloc: Global) -> Result<(), Fail> {
@@ -64,7 +66,7 @@ fn check_long_name(rt: &impl Abort, alloc: Global) -> Result<(), Fail> {
     check_digits(rt, alloc, &plan)
 }
 
-/// A name of 1,000,000 classes is matched by as many digits, and not by one fewer.
+/// A name of 1,000,000 classes is matched by as many digits, and not by one fewer, in tries and in dialplans alike.
 #[test]
 fn a_long_name_is_matched(rt: HostRuntime) -> Result<(), Fail> {
     check_long_name(&rt, rt.alloc())
@@ -72,38 +74,39 @@ fn a_long_name_is_matched(rt: HostRuntime) -> Result<(), Fail> {
 
 const LABELS: u32 = 10_000;
 
+fn push_many_labels(out: &mut String) -> Result<(), NoMemory> {
+    out.push_str("[main]\n")?;
+    for priority in 1..=LABELS {
+        write!(out, "exten => _X.,{priority}(l{priority}),NoOp()\n")?;
+    }
+    Ok(())
+}
+
 /// A dialplan with an extension of 10,000 labels, each of its own priority.
 fn many_labels(alloc: Global) -> Result<Dialplan, Fail> {
     let mut text = String::new(alloc);
-    text.push_str("[main]\n")?;
-    for priority in 1..=LABELS {
-        write!(text, "exten => _X.,{priority}(l{priority}),NoOp()\n")?;
-    }
-    let (plan, _) = Dialplan::load(alloc, text.as_bytes())?;
-    Ok(plan)
+    push_many_labels(&mut text)?;
+    loaded(alloc, text.as_bytes())
 }
 
-fn check_label(
-    rt: &impl Abort,
-    alloc: Global,
-    trie: &Trie,
-    order: &SearchOrder,
-    priority: u32,
-) -> Result<(), Fail> {
+fn check_label(rt: &impl Abort, alloc: Global, from: &TrieFrom, priority: u32) -> Result<(), Fail> {
     let label = format!(in alloc; "l{priority}")?;
-    let found = trie.find_label(order, b"55", label.as_bytes());
+    let found = from.trie.find_label(&from.order, b"55", label.as_bytes());
     assert_eq!(rt; found, Some(priority));
     Ok(())
 }
 
-fn check_labels(rt: &impl Abort, alloc: Global, plan: &Dialplan) -> Result<(), Fail> {
-    let trie = Trie::build(alloc, plan)?;
-    let order = order_from(alloc, plan, b"main")?;
+fn check_each_label(rt: &impl Abort, alloc: Global, from: &TrieFrom) -> Result<(), Fail> {
     for priority in 1..=LABELS {
-        check_label(rt, alloc, &trie, &order, priority)?;
+        check_label(rt, alloc, from, priority)?;
     }
-    assert_eq!(rt; trie.find_label(&order, b"5", b"l1"), None);
+    assert_eq!(rt; from.trie.find_label(&from.order, b"5", b"l1"), None);
     Ok(())
+}
+
+fn check_labels(rt: &impl Abort, alloc: Global, plan: &Dialplan) -> Result<(), Fail> {
+    let from = trie_from(alloc, plan, b"main")?;
+    check_each_label(rt, alloc, &from)
 }
 
 fn check_many_labels(rt: &impl Abort, alloc: Global) -> Result<(), Fail> {

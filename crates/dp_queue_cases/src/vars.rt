@@ -10,7 +10,7 @@ ghost use Rattle.std.specs.Prelude.{◌≡◌, codes, if◌then◌else◌, ℕ, 
 ghost use Rattle.dp_conf.specs.Words.{same_text};
 
 use dp_conf::{NoMemory, Text};
-use dp_questions::{Question, bytes_of, check_all};
+use dp_questions::{Question, bytes_of, check_all, push_bytes};
 use dp_vars::{
     Change, ChannelSeen, Counts, Globals, Scope, Store, Template, TemplateFault, Variable, expand,
 };
@@ -85,19 +85,33 @@ impl World {
     }
 }
 
-/// The expansion of a text, in characters of the numbers of its bytes.
-fn shown(alloc: Global, world: &World, text: &[u8]) -> Result<String, NoMemory> {
-    let mut out = String::new(alloc);
+fn push_expansion(
+    out: &mut String,
+    alloc: Global,
+    world: &World,
+    template: &Template,
+) -> Result<(), NoMemory> {
+    let bytes = expand(alloc, template, &world.scope())?;
+    push_bytes(out, &bytes)
+}
+
+fn push_expanded(
+    out: &mut String,
+    alloc: Global,
+    world: &World,
+    text: &[u8],
+) -> Result<(), NoMemory> {
     match Template::read(alloc, text) {
-        Err(TemplateFault::TooDeep) => out.push_str("too deep")?,
-        Err(TemplateFault::NoMemory) => return Err(NoMemory),
-        Ok(template) => {
-            let bytes = expand(alloc, &template, &world.scope())?;
-            for byte in &bytes {
-                out.push(char::from(*byte))?;
-            }
-        }
+        Err(TemplateFault::TooDeep) => out.push_str("too deep"),
+        Err(TemplateFault::NoMemory) => Err(NoMemory),
+        Ok(template) => push_expansion(out, alloc, world, &template),
     }
+}
+
+/// The expansion of a text, in characters of the numbers of its bytes.
+fn expansion(alloc: Global, world: &World, text: &[u8]) -> Result<String, NoMemory> {
+    let mut out = String::new(alloc);
+    push_expanded(&mut out, alloc, world, text)?;
     Ok(out)
 }
 
@@ -122,7 +136,7 @@ fn put_expanded(
     text: &[u8],
 ) -> Result<(), NoMemory> {
     world.is_here = false;
-    let value = shown(alloc, world, text)?;
+    let value = expansion(alloc, world, text)?;
     world.is_here = true;
     world.globals.put(alloc, name, value.as_bytes())
 }
@@ -179,7 +193,7 @@ fn set(
 }
 
 /// A step: `pop`, `drop`, `gone`, `frame` with names, or a word with `NAME=VALUE`.
-fn take(alloc: Global, world: &mut World, step: &str) -> Result<(), NoMemory> {
+fn take_step(alloc: Global, world: &mut World, step: &str) -> Result<(), NoMemory> {
     match step.split_once(' ') {
         None => match step {
             "pop" => {
@@ -198,14 +212,20 @@ fn take(alloc: Global, world: &mut World, step: &str) -> Result<(), NoMemory> {
     Ok(())
 }
 
+/// Takes the steps between ` ; `.
+fn take_all(alloc: Global, world: &mut World, steps: &str) -> Result<(), NoMemory> {
+    for step in steps.split(" ; ") {
+        take_step(alloc, world, step)?;
+    }
+    Ok(())
+}
+
 /// The expansion in a world of what stands after the last ` ; `, after the steps between those before it.
 fn expanded_in(alloc: Global, world: &mut World, asked: &str) -> Result<String, Fail> {
     let (steps, text) = asked.rsplit_once(" ; ").unwrap_or(("", asked));
-    for step in steps.split(" ; ") {
-        take(alloc, world, step)?;
-    }
+    take_all(alloc, world, steps)?;
     let text = bytes_of(alloc, text)?;
-    let out = shown(alloc, world, &text)?;
+    let out = expansion(alloc, world, &text)?;
     Ok(out)
 }
 

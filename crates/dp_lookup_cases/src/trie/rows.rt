@@ -1,5 +1,6 @@
 //! Worked cases, with their answers.
-use crate::render::check;
+use crate::lookup::render::loaded;
+use crate::trie::render::check_tries;
 use dp_trie::{Dialplan, Trie};
 use std::alloc::Global;
 use std::process::Abort;
@@ -19,20 +20,20 @@ more →more
 more 12→more
 more 123→more
 more a→no more";
-    check(&rt, rt.alloc(), text, b"main", asked)?;
+    check_tries(rt.alloc(), text, b"main", asked)?;
     let text = b"[main]\nexten => s,1,WaitExten(5)\nexten => _1!,1,bang\nexten => _1.,1,dot\n";
     let asked = "\
 find 1,1→main bang
 find 12,1→main dot
 more 1→more";
-    check(&rt, rt.alloc(), text, b"main", asked)?;
+    check_tries(rt.alloc(), text, b"main", asked)?;
     let text = b"[main]\nexten => s,1,WaitExten(5)\nexten => _1!,1,bang\n";
     let asked = "\
 find 1,1→main bang
 find 12,1→main bang
 more →more
 more 1→no more";
-    check(&rt, rt.alloc(), text, b"main", asked)?;
+    check_tries(rt.alloc(), text, b"main", asked)?;
     let text = b"[main]\nexten => 123,1,one\nexten => _X.,1,other\nexten => _X.,2,two\n";
     let asked = "\
 find 123,1→main one
@@ -40,18 +41,22 @@ find 123,2→main two
 find 123,3→none
 more 12→more
 more 1234→more";
-    check(&rt, rt.alloc(), text, b"main", asked)
+    check_tries(rt.alloc(), text, b"main", asked)
+}
+
+fn check_count(rt: &impl Abort, trie: &Trie) {
+    assert_eq!(rt; (trie.nodes(0), trie.nodes(1)), (4, 0));
 }
 
 fn check_trie(rt: &impl Abort, alloc: Global, plan: &Dialplan) -> Result<(), Fail> {
     let trie = Trie::build(alloc, plan)?;
-    assert_eq!(rt; (trie.nodes(0), trie.nodes(1)), (4, 0));
+    check_count(rt, &trie);
     Ok(())
 }
 
 /// A tree of four nodes, and none where there is no such context.
 fn check_nodes(rt: &impl Abort, alloc: Global, text: &[u8]) -> Result<(), Fail> {
-    let (plan, _) = Dialplan::load(alloc, text)?;
+    let plan = loaded(alloc, text)?;
     check_trie(rt, alloc, &plan)
 }
 
@@ -67,7 +72,7 @@ find 155,2→main more
 count 15,1→3
 count 2,1→0
 count ,1→0";
-    check(&rt, rt.alloc(), text, b"main", asked)?;
+    check_tries(rt.alloc(), text, b"main", asked)?;
     check_nodes(&rt, rt.alloc(), text)
 }
 
@@ -92,13 +97,13 @@ count 5,1→0
 count 5,2→4
 count 678,1→2
 count 77,1→4";
-    check(&rt, rt.alloc(), text, b"a", asked)?;
+    check_tries(rt.alloc(), text, b"a", asked)?;
     let asked = "\
 find 5,1→b first
 find 5,4→a any
 label 5,out→2";
-    check(&rt, rt.alloc(), text, b"b", asked)?;
-    check(&rt, rt.alloc(), text, b"c", "find 5,1→none")
+    check_tries(rt.alloc(), text, b"b", asked)?;
+    check_tries(rt.alloc(), text, b"c", "find 5,1→none")
 }
 
 /// Names that go on from one another, priorities with gaps between them, and dashes in the text.
@@ -135,7 +140,7 @@ find -3-1-4-,1→main three
 find 3-1-4-,7→none
 more 3-1-→more
 more 3-1-4-→no more";
-    check(&rt, rt.alloc(), text, b"main", asked)
+    check_tries(rt.alloc(), text, b"main", asked)
 }
 
 /// A label of several names that match, of a name that does not, and of two contexts, each by the order of names.
@@ -166,10 +171,10 @@ label 77,far→12
 label 78,far→none
 label 12,fa→none
 label 12,→none";
-    check(&rt, rt.alloc(), text, b"main", asked)?;
+    check_tries(rt.alloc(), text, b"main", asked)?;
     let asked = "\
 label 12,both→10
 label 12,far→11
 label 12,single→none";
-    check(&rt, rt.alloc(), text, b"far", asked)
+    check_tries(rt.alloc(), text, b"far", asked)
 }

@@ -1,5 +1,5 @@
 //! Names of a store by their numbers.
-use crate::vars::{World, take};
+use crate::vars::{World, take_all};
 use dp_conf::NoMemory;
 use dp_questions::{Question, check_all};
 use std::alloc::Global;
@@ -36,27 +36,35 @@ set A=1 ; frame B ; undone C=2 ; undone B=3 ; set D=4 ; A B C D→0 1 - 2
 set a=1 ; set A=2 ; set  =3 ; a A→0 1
 ";
 
+/// Adds the number of a name, or a dash, after a blank where something stands before it.
+fn push_number(out: &mut String, number: Option<usize>) -> Result<(), NoMemory> {
+    if !out.is_empty() {
+        out.push(' ')?;
+    }
+    match number {
+        Some(number) => write!(out, "{number}"),
+        None => out.push('-'),
+    }
+}
+
+fn push_numbers(out: &mut String, world: &World, names: &str) -> Result<(), NoMemory> {
+    for name in names.split(' ') {
+        push_number(out, world.store.slot(name.as_bytes()))?;
+    }
+    Ok(())
+}
+
 /// The numbers of names between blanks, with a dash where there is none.
 fn numbers_of(alloc: Global, world: &World, names: &str) -> Result<String, NoMemory> {
     let mut out = String::new(alloc);
-    for name in names.split(' ') {
-        if !out.is_empty() {
-            out.push(' ')?;
-        }
-        match world.store.slot(name.as_bytes()) {
-            Some(number) => out.push_str(&format!(in alloc; "{number}")?)?,
-            None => out.push('-')?,
-        }
-    }
+    push_numbers(&mut out, world, names)?;
     Ok(out)
 }
 
 /// The numbers in a world of the names after the last ` ; `, after the steps between those before it.
 fn numbers_in(alloc: Global, world: &mut World, asked: &str) -> Result<String, Fail> {
     let (steps, names) = asked.rsplit_once(" ; ").unwrap_or(("", asked));
-    for step in steps.split(" ; ") {
-        take(alloc, world, step)?;
-    }
+    take_all(alloc, world, steps)?;
     let out = numbers_of(alloc, world, names)?;
     Ok(out)
 }

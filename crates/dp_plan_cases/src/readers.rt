@@ -92,7 +92,12 @@ fn number_of(word: &str) -> Result<usize, Fail> {
     Ok(number)
 }
 
-fn push_entry(out: &mut String, alloc: Global, plan: &Dialplan, words: &str) -> Result<(), Fail> {
+fn push_entry_at(
+    out: &mut String,
+    alloc: Global,
+    plan: &Dialplan,
+    words: &str,
+) -> Result<(), Fail> {
     let (context, entry) = words.split_once(' ').ok_or("no two numbers")?;
     let id = EntryId {
         context: number_of(context)?,
@@ -119,7 +124,20 @@ fn push_named(
     Ok(())
 }
 
-fn push_read(
+fn push_numbered(
+    out: &mut String,
+    plan: &Dialplan,
+    reader: &str,
+    number: usize,
+) -> Result<(), NoMemory> {
+    if reader == "ranked_at" {
+        push_ids(out, plan.ranked_at(number))
+    } else {
+        push_includes(out, plan.includes_at(number))
+    }
+}
+
+fn push_asked(
     out: &mut String,
     alloc: Global,
     plan: &Dialplan,
@@ -130,9 +148,8 @@ fn push_read(
         "contexts" => push_contexts(out, plan)?,
         "context.includes" => push_all_includes(out, plan)?,
         "globals" => push_globals(out, plan)?,
-        "entry" => push_entry(out, alloc, plan, words)?,
-        "includes_at" => push_includes(out, plan.includes_at(number_of(words)?))?,
-        "ranked_at" => push_ids(out, plan.ranked_at(number_of(words)?))?,
+        "entry" => push_entry_at(out, alloc, plan, words)?,
+        "includes_at" | "ranked_at" => push_numbered(out, plan, reader, number_of(words)?)?,
         _ => push_named(out, alloc, plan, reader, words)?,
     }
     Ok(())
@@ -142,11 +159,11 @@ fn push_read(
 fn read(alloc: Global, plan: &Dialplan, asked: &str) -> Result<String, Fail> {
     let (reader, words) = asked.split_once(' ').ok_or("no reader")?;
     let mut out = String::new(alloc);
-    push_read(&mut out, alloc, plan, reader, words)?;
+    push_asked(&mut out, alloc, plan, reader, words)?;
     Ok(out)
 }
 
-fn push_notes(out: &mut String, notes: &[Note]) -> Result<(), NoMemory> {
+fn push_note_lines(out: &mut String, notes: &[Note]) -> Result<(), NoMemory> {
     for note in notes {
         write!(out, "{} {},", note.line, note.kind.name())?;
     }
@@ -157,7 +174,7 @@ fn push_notes(out: &mut String, notes: &[Note]) -> Result<(), NoMemory> {
 fn notes_of(alloc: Global, text: &[u8]) -> Result<String, Fail> {
     let (_, notes) = Dialplan::load(alloc, text)?;
     let mut out = String::new(alloc);
-    push_notes(&mut out, &notes)?;
+    push_note_lines(&mut out, &notes)?;
     Ok(out)
 }
 
@@ -331,10 +348,14 @@ const LIMITS: &str = r"
 most→2147483647
 ";
 
-fn have_same_globals(alloc: Global, left: &[u8], right: &[u8]) -> Result<bool, Fail> {
-    let (left, _) = Dialplan::load(alloc, left)?;
+fn has_globals_of(alloc: Global, left: &Dialplan, right: &[u8]) -> Result<bool, Fail> {
     let (right, _) = Dialplan::load(alloc, right)?;
     Ok(left.globals() == right.globals())
+}
+
+fn have_same_globals(alloc: Global, left: &[u8], right: &[u8]) -> Result<bool, Fail> {
+    let (left, _) = Dialplan::load(alloc, left)?;
+    has_globals_of(alloc, &left, right)
 }
 
 fn compared_globals(alloc: Global, left: &[u8], right: &[u8]) -> Result<String, Fail> {
@@ -359,15 +380,30 @@ const SAME_GLOBALS: &str = r"
 [globals]\nA=1\n|[globals]\nA=2\n→other
 ";
 
-fn push_bytes_of_entry(out: &mut String, alloc: Global, entry: &Entry) -> Result<(), NoMemory> {
+fn push_bytes_of_name(out: &mut String, alloc: Global, entry: &Entry) -> Result<(), NoMemory> {
     let name = Text::new(entry.name.name().text(alloc)?);
-    let Entry {
-        label,
-        application,
-        arguments,
-        ..
-    } = entry;
-    write!(out, "<{name:?} {label:?} {application:?} {arguments:?}>")
+    write!(out, "<{name:?} ")
+}
+
+fn push_bytes_of_words(out: &mut String, entry: &Entry) -> Result<(), NoMemory> {
+    write!(out, "{:?} {:?}>", entry.application, entry.arguments)
+}
+
+fn push_bytes_of_entry(out: &mut String, alloc: Global, entry: &Entry) -> Result<(), NoMemory> {
+    push_bytes_of_name(out, alloc, entry)?;
+    write!(out, "{:?} ", entry.label)?;
+    push_bytes_of_words(out, entry)
+}
+
+fn push_bytes_of_entries(
+    out: &mut String,
+    alloc: Global,
+    entries: &[Entry],
+) -> Result<(), NoMemory> {
+    for entry in entries {
+        push_bytes_of_entry(out, alloc, entry)?;
+    }
+    Ok(())
 }
 
 fn push_bytes_of_context(
@@ -376,9 +412,7 @@ fn push_bytes_of_context(
     context: &Context,
 ) -> Result<(), NoMemory> {
     write!(out, "[{:?}]", context.name())?;
-    for entry in context.entries() {
-        push_bytes_of_entry(out, alloc, entry)?;
-    }
+    push_bytes_of_entries(out, alloc, context.entries())?;
     write!(out, "{:?}", context.includes())
 }
 
@@ -405,13 +439,22 @@ impl Question for Bytes {
 
 fn bytes_shown(alloc: Global, text: &[u8]) -> Result<String, Fail> {
     let (plan, notes) = Dialplan::load(alloc, text)?;
-    Ok(shown(alloc, &plan, &notes)?)
+    shown_bytes(alloc, &plan, &notes)
 }
 
-fn shown(alloc: Global, plan: &Dialplan, notes: &[Note]) -> Result<String, NoMemory> {
+fn push_all_bytes(
+    out: &mut String,
+    alloc: Global,
+    plan: &Dialplan,
+    notes: &[Note],
+) -> Result<(), NoMemory> {
+    push_bytes(out, alloc, plan)?;
+    push_note_lines(out, notes)
+}
+
+fn shown_bytes(alloc: Global, plan: &Dialplan, notes: &[Note]) -> Result<String, Fail> {
     let mut out = String::new(alloc);
-    push_bytes(&mut out, alloc, plan)?;
-    push_notes(&mut out, notes)?;
+    push_all_bytes(&mut out, alloc, plan, notes)?;
     Ok(out)
 }
 

@@ -1,5 +1,5 @@
 //! Groups, and openings without their ends.
-use crate::vars::{World, shown};
+use crate::vars::{World, expansion};
 use dp_conf::{NoMemory, nesting};
 use dp_questions::{Question, bytes_of, check};
 use std::alloc::Global;
@@ -114,7 +114,7 @@ impl Question for Deep {
 /// The expansion of a text in a world of nothing.
 fn expanded(alloc: Global, text: &[u8]) -> Result<String, Fail> {
     let world = World::new(alloc);
-    Ok(shown(alloc, &world, text)?)
+    Ok(expansion(alloc, &world, text)?)
 }
 
 fn deep_answer(alloc: Global, text: &[u8]) -> Result<String, Fail> {

@@ -1,7 +1,8 @@
 //! Generated dialplans, of which the tries and the look-up in the dialplan are asked the same questions.
-use crate::render::order_from;
+use crate::lookup::render::loaded;
+use crate::trie::render::{TrieFrom, trie_from};
 use dp_lookup::{could_be_more, find, find_label};
-use dp_trie::{Dialplan, NoMemory, SearchOrder, Trie};
+use dp_trie::{Dialplan, NoMemory};
 use std::alloc::Global;
 use std::process::Abort;
 use std::test::Fail;
@@ -34,18 +35,27 @@ fn push_name(text: &mut String, seed: &mut u32) -> Result<(), NoMemory> {
     text.push_str(TAILS[next(seed) as usize % TAILS.len()])
 }
 
-/// A dialplan of two contexts, of which the first includes the second.
-fn plan_text(alloc: Global, seed: &mut u32) -> Result<String, NoMemory> {
-    let mut text = String::new(alloc);
+fn push_line(text: &mut String, seed: &mut u32) -> Result<(), NoMemory> {
+    text.push_str("exten => ")?;
+    push_name(text, seed)?;
+    let priority = 1 + next(seed) % 3;
+    write!(text, ",{priority}(l{}),NoOp()\n", next(seed) % 4)
+}
+
+fn push_contexts(text: &mut String, seed: &mut u32) -> Result<(), NoMemory> {
     for context in 0..2 {
         write!(text, "[c{context}]\ninclude => c1\n")?;
         for _ in 0..20 {
-            text.push_str("exten => ")?;
-            push_name(&mut text, seed)?;
-            let priority = 1 + next(seed) % 3;
-            write!(text, ",{priority}(l{}),NoOp()\n", next(seed) % 4)?;
+            push_line(text, seed)?;
         }
     }
+    Ok(())
+}
+
+/// A dialplan of two contexts, of which the first includes the second.
+fn plan_text(alloc: Global, seed: &mut u32) -> Result<String, NoMemory> {
+    let mut text = String::new(alloc);
+    push_contexts(&mut text, seed)?;
     Ok(text)
 }
 
@@ -59,34 +69,37 @@ fn push_text(text: &mut Vec<u8>, seed: &mut u32) -> Result<(), NoMemory> {
 }
 
 /// Whether the tries and the look-up in the dialplan give the same answers of a text.
-fn agree(plan: &Dialplan, trie: &Trie, order: &SearchOrder, text: &[u8], number: u32) -> bool {
+fn agree(plan: &Dialplan, from: &TrieFrom, text: &[u8], number: u32) -> bool {
+    let TrieFrom { trie, order } = from;
     let label: &[u8] = if number == 1 { b"l1" } else { b"l2" };
     trie.find(order, text, number) == find(plan, order, text, number)
         && trie.find_label(order, text, label) == find_label(plan, order, text, label)
         && trie.more(order, text) == could_be_more(plan, order, text)
 }
 
-/// Asks a generated dialplan of this text, and holds each count against its bound.
+/// Asks a generated dialplan of this text, and holds the count against its bound.
+fn ask(rt: &impl Abort, text: &str, plan: &Dialplan, from: &TrieFrom, asked: &[u8], number: u32) {
+    assert!(rt;
+        agree(plan, from, asked, number),
+        "{text} {asked:?} {number}"
+    );
+    let (_, count) = from.trie.find_counted(&from.order, asked, number);
+    let nodes = from.trie.nodes(0).saturating_add(from.trie.nodes(1));
+    assert!(rt; count <= nodes, "{text} {asked:?} {number}");
+}
+
 fn ask_all(
     rt: &impl Abort,
     alloc: Global,
     text: &str,
     plan: &Dialplan,
-    trie: &Trie,
-    order: &SearchOrder,
+    from: &TrieFrom,
     seed: &mut u32,
 ) -> Result<(), Fail> {
     let mut asked = Vec::new(alloc);
     for turn in 0..112 {
         push_text(&mut asked, seed)?;
-        let number = 1 + turn % 3;
-        assert!(rt;
-            agree(plan, trie, order, &asked, number),
-            "{text} {asked:?} {number}"
-        );
-        let (_, count) = trie.find_counted(order, &asked, number);
-        let nodes = trie.nodes(0).saturating_add(trie.nodes(1));
-        assert!(rt; count <= nodes, "{text} {asked:?} {number}");
+        ask(rt, text, plan, from, &asked, 1 + turn % 3);
     }
     Ok(())
 }
@@ -98,13 +111,12 @@ fn check_trie(
     plan: &Dialplan,
     seed: &mut u32,
 ) -> Result<(), Fail> {
-    let trie = Trie::build(alloc, plan)?;
-    let order = order_from(alloc, plan, b"c0")?;
-    ask_all(rt, alloc, text, plan, &trie, &order, seed)
+    let from = trie_from(alloc, plan, b"c0")?;
+    ask_all(rt, alloc, text, plan, &from, seed)
 }
 
 fn check_plan(rt: &impl Abort, alloc: Global, text: &str, seed: &mut u32) -> Result<(), Fail> {
-    let (plan, _) = Dialplan::load(alloc, text.as_bytes())?;
+    let plan = loaded(alloc, text.as_bytes())?;
     check_trie(rt, alloc, text, &plan, seed)
 }
 

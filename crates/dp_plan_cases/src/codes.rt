@@ -4,12 +4,28 @@ use std::alloc::Global;
 use std::process::Abort;
 use std::test::Fail;
 
+fn check_kinds(rt: &impl Abort, kinds: &[(PlanKind, u8, &str)]) {
+    for (kind, code, name) in kinds {
+        assert_eq!(rt; (kind.code(), kind.name()), (*code, *name));
+    }
+}
+
 fn faults_have_these_codes(rt: &impl Abort) {
     let kinds = [
         (PlanKind::BadPriority, 20, "BadPriority"),
         (PlanKind::NoPrevious, 21, "NoPrevious"),
         (PlanKind::BadLabel, 22, "BadLabel"),
         (PlanKind::BadApplication, 23, "BadApplication"),
+        (PlanKind::TooDeep, 25, "TooDeep"),
+        (PlanKind::NoExten, 26, "NoExten"),
+        (PlanKind::PriorityLimit, 27, "PriorityLimit"),
+        (PlanKind::ShortLine, 28, "ShortLine"),
+    ];
+    check_kinds(rt, &kinds);
+}
+
+fn faults_of_words_have_this_code(rt: &impl Abort) {
+    let kinds = [
         (PlanKind::LeftOut(Word::Switch), 24, "LeftOut"),
         (PlanKind::LeftOut(Word::IgnorePat), 24, "LeftOut"),
         (PlanKind::LeftOut(Word::Hint), 24, "LeftOut"),
@@ -18,15 +34,8 @@ fn faults_have_these_codes(rt: &impl Abort) {
         (PlanKind::LeftOut(Word::Variable), 24, "LeftOut"),
         (PlanKind::LeftOut(Word::OldForm), 24, "LeftOut"),
         (PlanKind::LeftOut(Word::PriorityWord), 24, "LeftOut"),
-        (PlanKind::TooDeep, 25, "TooDeep"),
-        (PlanKind::NoExten, 26, "NoExten"),
-        (PlanKind::PriorityLimit, 27, "PriorityLimit"),
-        (PlanKind::ShortLine, 28, "ShortLine"),
     ];
-    for (kind, code, name) in kinds {
-        assert_eq!(rt; kind.code(), code);
-        assert_eq!(rt; kind.name(), name);
-    }
+    check_kinds(rt, &kinds);
 }
 
 /// The faults of names are those of the crate that reads them.
@@ -40,8 +49,7 @@ fn faults_of_names_have_these_codes(rt: &impl Abort) {
         (NameFault::BadByte, 15, "BadByte"),
     ];
     for (fault, code, name) in faults {
-        assert_eq!(rt; fault.code(), code);
-        assert_eq!(rt; fault.name(), name);
+        assert_eq!(rt; (fault.code(), fault.name()), (code, name));
     }
 }
 
@@ -111,6 +119,7 @@ fn want_of_memory_is_outermost(rt: &impl Abort) {
 
 fn check_codes(rt: &impl Abort, alloc: Global) -> Result<(), Fail> {
     faults_have_these_codes(rt);
+    faults_of_words_have_this_code(rt);
     faults_of_names_have_these_codes(rt);
     notes_have_these_names(rt);
     want_of_memory_is_outermost(rt);

@@ -1,9 +1,0 @@
-//! Cases of what is read of loaded dialplans, and of the codes of their faults, as tables with their answers.
-//!
-//! A crate with tests is proved twice, so the cases of the libraries stand in crates of their own, where each is proved once.
-#![tactic(auto)]
-
-#[cfg(test)]
-mod codes;
-#[cfg(test)]
-mod readers;
