@@ -53,6 +53,12 @@ fn faults_of_names_have_these_codes(rt: &impl Abort) {
     }
 }
 
+fn check_word(rt: &impl Abort, alloc: Global, word: Word, want: &str) -> Result<(), Fail> {
+    let printed = format!(in alloc; "{word:?}")?;
+    assert_eq!(rt; printed.as_str(), want);
+    Ok(())
+}
+
 fn words_are_named_so(rt: &impl Abort, alloc: Global) -> Result<(), Fail> {
     let words = [
         (Word::Switch, "Switch"),
@@ -65,8 +71,7 @@ fn words_are_named_so(rt: &impl Abort, alloc: Global) -> Result<(), Fail> {
         (Word::PriorityWord, "PriorityWord"),
     ];
     for (word, want) in words {
-        let printed = format!(in alloc; "{word:?}")?;
-        assert_eq!(rt; printed.as_str(), want);
+        check_word(rt, alloc, word, want)?;
     }
     Ok(())
 }
