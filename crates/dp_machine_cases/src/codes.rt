@@ -1,40 +1,91 @@
 //! The numbers and the printed names of the refusals, and the names of what comes of a call to devices.
-use dp_machine::{DialStatus, Refusal};
+use dp_machine::{DialStatus, NoMemory, Refusal};
+use dp_questions::{check_same, push_bytes};
+use std::alloc::Global;
+use std::test::Fail;
 
-#[test]
-fn refusals_have_these_codes(rt: HostRuntime) {
-    let refusals = [
-        (Refusal::NoChannel, 40, "NoChannel"),
-        (Refusal::NotReady, 41, "NotReady"),
-        (Refusal::NotWaiting, 42, "NotWaiting"),
-        (Refusal::NoTimer, 43, "NoTimer"),
-        (Refusal::NoQueue, 44, "NoQueue"),
-        (Refusal::NobodyWaiting, 45, "NobodyWaiting"),
-        (Refusal::NoMember, 46, "NoMember"),
-        (Refusal::NotRinging, 47, "NotRinging"),
-        (Refusal::NotTalking, 48, "NotTalking"),
-        (Refusal::Ended, 49, "Ended"),
-        (Refusal::NumbersSpent, 50, "NumbersSpent"),
-        (Refusal::BadDigit, 51, "BadDigit"),
-        (Refusal::BadPlan, 52, "BadPlan"),
-        (Refusal::NotDialling, 53, "NotDialling"),
-    ];
-    for (refusal, code, name) in refusals {
-        assert_eq!(rt; refusal.code(), code);
-        assert_eq!(rt; refusal.name(), name);
+const REFUSALS: [Refusal; 14] = [
+    Refusal::NoChannel,
+    Refusal::NotReady,
+    Refusal::NotWaiting,
+    Refusal::NoTimer,
+    Refusal::NoQueue,
+    Refusal::NobodyWaiting,
+    Refusal::NoMember,
+    Refusal::NotRinging,
+    Refusal::NotTalking,
+    Refusal::Ended,
+    Refusal::NumbersSpent,
+    Refusal::BadDigit,
+    Refusal::BadPlan,
+    Refusal::NotDialling,
+];
+
+/// The refusals, each with its number and its printed name.
+const CODES: &str = "NoChannel 40 NoChannel
+NotReady 41 NotReady
+NotWaiting 42 NotWaiting
+NoTimer 43 NoTimer
+NoQueue 44 NoQueue
+NobodyWaiting 45 NobodyWaiting
+NoMember 46 NoMember
+NotRinging 47 NotRinging
+NotTalking 48 NotTalking
+Ended 49 Ended
+NumbersSpent 50 NumbersSpent
+BadDigit 51 BadDigit
+BadPlan 52 BadPlan
+NotDialling 53 NotDialling
+";
+
+const STATUSES: [DialStatus; 5] = [
+    DialStatus::Answer,
+    DialStatus::Busy,
+    DialStatus::NoAnswer,
+    DialStatus::Congestion,
+    DialStatus::ChanUnavail,
+];
+
+/// What comes of a call to devices, each with its name.
+const NAMES: &str = "Answer ANSWER
+Busy BUSY
+NoAnswer NOANSWER
+Congestion CONGESTION
+ChanUnavail CHANUNAVAIL
+";
+
+fn push_refusal(out: &mut String, refusal: Refusal) -> Result<(), NoMemory> {
+    write!(out, "{refusal:?} {} {}\n", refusal.code(), refusal.name())
+}
+
+fn push_status(out: &mut String, status: DialStatus) -> Result<(), NoMemory> {
+    write!(out, "{status:?} ")?;
+    push_bytes(out, status.name())?;
+    out.push('\n')
+}
+
+fn check_codes(alloc: Global) -> Result<(), Fail> {
+    let mut out = String::new(alloc);
+    for refusal in &REFUSALS {
+        push_refusal(&mut out, *refusal)?;
     }
+    check_same("the refusals", &out, CODES)
+}
+
+fn check_names(alloc: Global) -> Result<(), Fail> {
+    let mut out = String::new(alloc);
+    for status in &STATUSES {
+        push_status(&mut out, *status)?;
+    }
+    check_same("the statuses", &out, NAMES)
 }
 
 #[test]
-fn statuses_have_these_names(rt: HostRuntime) {
-    let statuses = [
-        (DialStatus::Answer, "ANSWER"),
-        (DialStatus::Busy, "BUSY"),
-        (DialStatus::NoAnswer, "NOANSWER"),
-        (DialStatus::Congestion, "CONGESTION"),
-        (DialStatus::ChanUnavail, "CHANUNAVAIL"),
-    ];
-    for (status, name) in statuses {
-        assert_eq!(rt; status.name(), name.as_bytes());
-    }
+fn refusals_have_these_codes(rt: HostRuntime) -> Result<(), Fail> {
+    check_codes(rt.alloc())
+}
+
+#[test]
+fn statuses_have_these_names(rt: HostRuntime) -> Result<(), Fail> {
+    check_names(rt.alloc())
 }

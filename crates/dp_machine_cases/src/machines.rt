@@ -1,7 +1,7 @@
 //! Machines, their readers, runs of events, and copies of events.
 use dp_commands::{ScriptLine, Turn, read_script};
-use dp_machine::{EntryId, Event, NoMemory, Phase, Refusal, Reply};
-use dp_machine_fixture::{Checked, Exchange, call, check_on, push_state, state_of};
+use dp_machine::{EntryId, Event, NoMemory, Phase, Place, Refusal, Reply};
+use dp_machine_fixture::{Checked, Exchange, check_on, push_state, state_of};
 use dp_questions::{check_same, check_that};
 use std::alloc::Global;
 use std::test::Fail;
@@ -9,17 +9,18 @@ use std::test::Fail;
 const PLAN: &[u8] = b"[globals]\nN=1\n[main]\nexten => s,1,NoOp()\nexten => s,2,Goto(out,t,1)\n\
 [out]\nexten => t,1,Hangup()\n";
 
-/// Adds the event of a line of a script.
-fn push_event(events: &mut Vec<Event>, turn: &Turn) -> Result<(), NoMemory> {
-    if let Turn::Event(event) = turn {
-        events.push(event.copy()?)?;
-    }
+fn push_copy(events: &mut Vec<Event>, event: &Event) -> Result<(), NoMemory> {
+    let copy = event.copy()?;
+    events.push(copy)?;
     Ok(())
 }
 
+/// Adds the event of each line of a script.
 fn push_events(events: &mut Vec<Event>, lines: &[ScriptLine]) -> Result<(), NoMemory> {
     for line in lines {
-        push_event(events, &line.turn)?;
+        if let Turn::Event(event) = &line.turn {
+            push_copy(events, event)?;
+        }
     }
     Ok(())
 }
@@ -27,9 +28,7 @@ fn push_events(events: &mut Vec<Event>, lines: &[ScriptLine]) -> Result<(), NoMe
 /// The events of a script, where `reload` gives the empty dialplan.
 fn events_of(alloc: Global, script: &[u8]) -> Result<Vec<Event>, Fail> {
     let empty = b"".as_slice();
-    let lines = read_script(alloc, Some(empty), script)
-        .ok()
-        .ok_or("a faulty script")?;
+    let lines = read_script(alloc, Some(empty), script)?;
     let mut events = Vec::new(alloc);
     push_events(&mut events, &lines)?;
     Ok(events)
@@ -48,15 +47,24 @@ fn check_plan(machine: &Exchange) -> Result<(), Fail> {
     }
 }
 
+/// Whether a place is priority 1 of an extension.
+fn is_first(place: &Place, exten: &[u8]) -> bool {
+    place.context.bytes() == b"main".as_slice()
+        && place.exten.bytes() == exten
+        && place.priority == 1
+}
+
+fn is_cloned(place: &Place) -> Result<bool, NoMemory> {
+    let copy = place.clone()?;
+    Ok(copy == *place)
+}
+
 /// Asserts what a channel is, at priority 1 of an extension.
 fn check_place(machine: &Exchange, channel: u32, phase: &Phase, exten: &[u8]) -> Result<(), Fail> {
     check_that(machine.phase(channel) == Some(phase), "the phase")?;
     let place = machine.place(channel).ok_or("no place")?;
-    check_that(place.context.bytes() == b"main".as_slice(), "the context")?;
-    check_that(place.exten.bytes() == exten, "the extension")?;
-    check_that(place.priority == 1, "the priority")?;
-    let copy = place.clone()?;
-    check_that(copy == *place, "the copy")
+    let holds = is_first(place, exten) && is_cloned(place)?;
+    check_that(holds, "the place and its copy")
 }
 
 /// A new machine has its dialplan, and a channel that has ended keeps its place.
@@ -72,20 +80,6 @@ impl Checked for Read {
     }
 }
 
-/// Asserts that nothing is added after the reply that is there where there is no event.
-fn check_an_empty_run(
-    alloc: Global,
-    machine: &mut Exchange,
-    replies: &mut Vec<Reply>,
-) -> Result<(), Fail> {
-    machine.run(alloc, &[], replies)?;
-    check_that(
-        replies.as_slice() == [Reply::NoEntry].as_slice(),
-        "the reply that was there",
-    )?;
-    check_that(machine.phase(1).is_none(), "no channel")
-}
-
 /// Asserts the states of three channels, each on a line.
 fn check_states(alloc: Global, machine: &Exchange, want: &str) -> Result<(), Fail> {
     let mut got = String::new(alloc);
@@ -96,7 +90,7 @@ fn check_states(alloc: Global, machine: &Exchange, want: &str) -> Result<(), Fai
     check_same("the machine", &got, want)
 }
 
-/// The replies to the two runs, after the one that is there before.
+/// The replies to the runs, after the one that is there before: to a run of no event there is none.
 fn check_replies(replies: &[Reply]) -> Result<(), Fail> {
     let want = [
         Reply::NoEntry,
@@ -125,7 +119,11 @@ fn run_of(
 }
 
 fn check_runs(alloc: Global, machine: &mut Exchange, replies: &mut Vec<Reply>) -> Result<(), Fail> {
-    check_an_empty_run(alloc, machine, replies)?;
+    machine.run(alloc, &[], replies)?;
+    check_that(
+        replies.len() == 1 && machine.phase(1).is_none(),
+        "a run of no event",
+    )?;
     run_of(
         alloc,
         machine,
@@ -147,6 +145,16 @@ impl Checked for Runs {
     }
 }
 
+fn give(alloc: Global, machine: &mut Exchange, event: &Event) -> Result<Reply, NoMemory> {
+    let copy = event.copy()?;
+    machine.apply(alloc, copy)
+}
+
+fn check_unchanged(alloc: Global, machine: &Exchange, before: &str) -> Result<(), Fail> {
+    let after = state_of(alloc, machine, 1)?;
+    check_same("a refused event", &after, before)
+}
+
 /// Gives an event, and once more where memory is refused; then the channel is as before.
 fn give_again(
     alloc: Global,
@@ -154,12 +162,9 @@ fn give_again(
     event: &Event,
     before: &str,
 ) -> Result<(), Fail> {
-    let once = event.copy()?;
-    let again = event.copy()?;
-    if machine.apply(alloc, once).is_err() {
-        let after = state_of(alloc, machine, 1)?;
-        check_same("a refused event", &after, before)?;
-        machine.apply(alloc, again)?;
+    if give(alloc, machine, event).is_err() {
+        check_unchanged(alloc, machine, before)?;
+        give(alloc, machine, event)?;
     }
     Ok(())
 }
@@ -201,7 +206,7 @@ fn run_on(
     replies: &mut Vec<Reply>,
 ) -> Result<(), Fail> {
     if machine.run(alloc, events, replies).is_err() {
-        let left = events.get(replies.len()..).ok_or("too many replies")?;
+        let left = events.get(replies.len()..).unwrap_or(&[]);
         machine.run(alloc, left, replies)?;
     }
     Ok(())
@@ -234,57 +239,49 @@ impl Checked for GoesOn {
     }
 }
 
-fn check_the_start(event: &Event) -> Result<(), Fail> {
-    match event {
-        Event::Start {
-            context,
-            exten,
-            caller,
-        } => {
-            check_that(context.bytes() == b"main".as_slice(), "the context")?;
-            check_that(exten.bytes() == b"2-00".as_slice(), "the extension")?;
-            check_that(caller.bytes() == b"555\xFF".as_slice(), "the caller")
-        }
-        _ => check_that(false, "a call"),
-    }
-}
-
-fn check_copy(event: &Event) -> Result<(), Fail> {
-    let copy = event.copy()?;
-    if copy == *event {
-        return Ok(());
-    }
-    Err(Fail::new(format_args!("{event:?} has another copy")))
-}
-
-fn check_copies(events: &[Event]) -> Result<(), Fail> {
-    for event in events {
-        check_copy(event)?;
-    }
-    Ok(())
-}
-
-fn an_event_is_copied_whole(alloc: Global) -> Result<(), Fail> {
-    let call = call(alloc, b"main", b"2-00", b"555\xFF")?;
-    let copy = call.copy()?;
-    check_the_start(&copy)
-}
-
-/// An event of each other kind.
-const EVENTS: &[u8] = b"step 4294967295\ndigit 1 5\ntimeout 1\npoll 2\nhangup 3\nresult 4 BUSY\n\
+/// An event of each kind.
+const EVENTS: &[u8] =
+    b"start main 2-00 555\xFF\nstep 4294967295\ndigit 1 5\ntimeout 1\npoll 2\nhangup 3\nresult 4 BUSY\n\
 offer q\nanswer Line/1\ndecline Line/2\ndone Line/3\nreload\n";
 
-fn other_events_are_copied_whole(alloc: Global) -> Result<(), Fail> {
+/// For each of them, whether its copy is the same, and the copy.
+const COPIES: &str = r#"true Start { context: "main", exten: "2-00", caller: "555\xff" }
+true Step { channel: 4294967295 }
+true Digit { channel: 1, digit: 53 }
+true Timeout { channel: 1 }
+true Poll { channel: 2 }
+true Hangup { channel: 3 }
+true DialResult { channel: 4, status: Busy }
+true Offer { queue: "q" }
+true Answer { agent: "Line/1" }
+true Decline { agent: "Line/2" }
+true AgentDone { agent: "Line/3" }
+true Reload { text: "" }
+"#;
+
+fn push_copied(out: &mut String, event: &Event) -> Result<(), NoMemory> {
+    let copy = event.copy()?;
+    let same = copy == *event;
+    write!(out, "{same} {copy:?}\n")
+}
+
+fn check_copies(alloc: Global, events: &[Event]) -> Result<(), Fail> {
+    let mut got = String::new(alloc);
+    for event in events {
+        push_copied(&mut got, event)?;
+    }
+    check_same("the copies", &got, COPIES)
+}
+
+fn events_are_copied_whole(alloc: Global) -> Result<(), Fail> {
     let events = events_of(alloc, EVENTS)?;
-    check_that(events.len() == 11, "the count")?;
-    check_copies(&events)
+    check_copies(alloc, &events)
 }
 
 fn check_machines(alloc: Global) -> Result<(), Fail> {
     check_on::<Read>(alloc, PLAN)?;
     check_on::<Runs>(alloc, PLAN)?;
-    an_event_is_copied_whole(alloc)?;
-    other_events_are_copied_whole(alloc)
+    events_are_copied_whole(alloc)
 }
 
 /// Machines and their readers, runs, and copies of events.

@@ -52,9 +52,9 @@ impl Checked for Spent {
         for number in 1..65_536 {
             check_call(alloc, machine, Reply::Started(number))?;
         }
-        for (channel, want) in STEPS {
+        for (channel, want) in &STEPS {
             check_call(alloc, machine, Reply::Refused(Refusal::NumbersSpent))?;
-            check_step(alloc, machine, channel, want)?;
+            check_step(alloc, machine, *channel, *want)?;
         }
         check_that(machine.phase(65_536).is_none(), "no further channel")
     }

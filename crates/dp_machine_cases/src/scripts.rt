@@ -2,7 +2,7 @@
 use dp_commands::{ScriptLine, Turn, read_script};
 use dp_machine::NoMemory;
 use dp_machine_fixture::{Ask, Exchange, answer_on, push_given, push_value};
-use dp_questions::{Question, bytes_of, check_all, text_of};
+use dp_questions::{Question, bytes_of, check_all};
 use std::alloc::Global;
 use std::str;
 use std::test::Fail;
@@ -119,13 +119,16 @@ fn push_shown(
     push_value(out, alloc, machine, channel, name)
 }
 
-/// Adds what comes of a turn of a script.
+/// Adds what comes of a turn of a script, with ` ; ` before it where it is not the first.
 fn push_turn(
     out: &mut String,
     alloc: Global,
     machine: &mut Exchange,
     turn: &Turn,
 ) -> Result<(), Fail> {
+    if !out.is_empty() {
+        out.push_str(" ; ")?;
+    }
     match turn {
         Turn::Event(event) => push_given(out, alloc, machine, event)?,
         Turn::Show { channel, name } => {
@@ -133,7 +136,6 @@ fn push_turn(
             push_shown(out, alloc, machine, *channel, name)?;
         }
     }
-    out.push_str(" ; ")?;
     Ok(())
 }
 
@@ -149,7 +151,7 @@ fn push_line(
     Ok(())
 }
 
-/// What a machine answers to the lines of a script, with ` ; ` after each answer.
+/// What a machine answers to the lines of a script, with ` ; ` between the answers.
 fn answers_of(alloc: Global, machine: &mut Exchange, lines: &[ScriptLine]) -> Result<String, Fail> {
     let mut out = String::new(alloc);
     for line in lines {
@@ -166,8 +168,7 @@ fn answers_to(
     script: &[u8],
 ) -> Result<String, Fail> {
     let lines = read_script(alloc, Some(second), script)?;
-    let answers = answers_of(alloc, machine, &lines)?;
-    text_of(alloc, answers.strip_suffix(" ; ").unwrap_or(""))
+    answers_of(alloc, machine, &lines)
 }
 
 /// The answers to a script with the dialplan before it that its lines `reload` give.
