@@ -1,26 +1,14 @@
 //! One seat acts after another, and each call that wants memory is made once more. So these cases pass whichever growth is refused.
-use crate::acts::{act_step, channel_of, ran};
+use crate::acts::{channel_of, ran, steps};
 use crate::gates::ENDED;
 use crate::play::{Play, perform};
-use dp_board::{Attended, Board, Gate, Seat, Session};
-use dp_machine::{Event, Reply};
+use dp_board::{Attended, Board, Gate, Seat, SeatCall, Session};
+use dp_machine::Reply;
 use dp_table::StandardApps;
 use std::alloc::Global;
 use std::process::Abort;
 use std::sync::Wait;
 use std::sync::atomic::{AtomicU64, Ordering};
-
-/// One step by each seat.
-pub(super) fn act_steps_alone<S: Session, R: Wait + Abort>(
-    rt: &R,
-    alloc: Global,
-    board: &Board<StandardApps, S>,
-    seats: &mut [Seat<S>],
-) {
-    for seat in seats {
-        act_step(rt, alloc, board, seat);
-    }
-}
 
 /// Holds nobody, and counts the steps that were given.
 #[derive(Drop)]
@@ -36,71 +24,68 @@ impl Gate for Counting {
     }
 }
 
-/// Whether a seat was told of so many steps of a channel, of which the first runs its entry and the second finds none.
-fn has_steps<S: Session>(seat: &Seat<S>, channel: u32, count: u64) -> bool {
-    let replies = [ran(2), Reply::NoEntry];
-    let record = seat.record();
-    let mut calls = record.iter().zip(replies.iter());
-    record.len() as u64 == count
-        && count <= 2
-        && calls.all(|(call, reply)| call.event == Event::Step { channel } && call.reply == *reply)
+/// Whether a call is a step of the channel with this reply.
+fn is_told(call: &SeatCall, channel: u32, reply: Reply) -> bool {
+    call.reply == reply && steps(&call.event, channel)
 }
 
-/// Attends a channel for the turns that are left of two. Before it the seat was told of each step that was given.
-fn attend_rest<S: Session, R: Wait + Abort>(
+/// Whether a seat was told of so many steps of its channel, of which the first runs its entry and the second finds none.
+fn has_steps<S: Session>(seat: &Seat<S>, count: u64) -> bool {
+    let channel = channel_of(seat);
+    match seat.record() {
+        [] => count == 0,
+        [first] => count == 1 && is_told(first, channel, ran(2)),
+        [first, second] => {
+            count == 2
+                && is_told(first, channel, ran(2))
+                && is_told(second, channel, Reply::NoEntry)
+        }
+        _ => false,
+    }
+}
+
+/// Attends the seat's channel for the turns that are left of two. How it went says the steps that were given before, too.
+fn attend_rest<S: Session, R: Wait>(
     rt: &R,
     alloc: Global,
     board: &Board<StandardApps, S>,
     seat: &mut Seat<S>,
-    channel: u32,
     gate: &Counting,
-) -> Attended {
+) -> Option<Attended> {
+    let channel = channel_of(seat);
     let given = gate.given.load(Ordering::SeqCst);
-    assert!(rt; has_steps(seat, channel, given));
     let left = 2u64.saturating_sub(given);
-    let attended = board.attend(rt, alloc, seat, channel, gate, left).ok();
-    let Attended { steps, why } = attended.expect(rt, "memory");
-    Attended {
-        steps: steps.saturating_add(given),
-        why,
+    match board.attend(rt, alloc, seat, channel, gate, left) {
+        Ok(Attended { steps, why }) => Some(Attended {
+            steps: steps.saturating_add(given),
+            why,
+        }),
+        Err(_) => None,
     }
 }
 
 /// Attends the seat's channel for two turns. Where memory is refused the record holds the earlier steps, and the channel is attended once
 /// more.
-fn attend_again<S: Session, R: Wait + Abort>(
+pub(super) fn attend_again<S: Session, R: Wait + Abort>(
     rt: &R,
     alloc: Global,
     board: &Board<StandardApps, S>,
     seat: &mut Seat<S>,
 ) {
-    let channel = channel_of(seat);
     let gate = Counting {
         given: AtomicU64::new(0),
     };
-    let attended = match board.attend(rt, alloc, seat, channel, &gate, 2) {
-        Ok(attended) => attended,
-        Err(_) => attend_rest(rt, alloc, board, seat, channel, &gate),
-    };
-    assert!(rt; attended == ENDED);
-    assert!(rt; has_steps(seat, channel, 2));
-}
-
-/// Each seat attends a channel of its own to its end.
-pub(super) fn attend_alone<S: Session, R: Wait + Abort>(
-    rt: &R,
-    alloc: Global,
-    board: &Board<StandardApps, S>,
-    seats: &mut [Seat<S>],
-) {
-    for seat in seats {
-        attend_again(rt, alloc, board, seat);
+    let mut attended = attend_rest(rt, alloc, board, seat, &gate);
+    if attended.is_none() {
+        assert!(rt; has_steps(seat, gate.given.load(Ordering::SeqCst)));
+        attended = attend_rest(rt, alloc, board, seat, &gate);
     }
+    assert!(rt; attended == Some(ENDED) && has_steps(seat, 2));
 }
 
 /// A board opens, its seats act and attend, and it settles, all of it also where memory is refused once.
 #[test]
 fn boards_are_used_again(rt: HostRuntime) {
-    perform(&rt, rt.alloc(), b"add", b"ask", 2, &Play::StepsAlone);
-    perform(&rt, rt.alloc(), b"say", b"say", 2, &Play::AttendedAlone);
+    perform(&rt, rt.alloc(), b"add", b"ask", 2, Play::StepsAlone);
+    perform(&rt, rt.alloc(), b"say", b"say", 2, Play::AttendedAlone);
 }

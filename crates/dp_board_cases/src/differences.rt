@@ -1,6 +1,17 @@
 //! Where a history and a record first differ.
+use crate::play::let_go;
 use dp_board::{Disagree, Entry, SeatCall, first_difference};
 use dp_machine::{Event, Reply};
+use std::process::Abort;
+
+/// Holds the first differences of one entry and one call, which agree, against those that are wanted.
+fn check_differences(rt: &impl Abort, entries: &[Entry], told: &[SeatCall]) {
+    let at_once = Some(Disagree { seat: 0, index: 0 });
+    assert!(rt; first_difference(entries, 0, &[]) == at_once);
+    assert!(rt; first_difference(entries, 0, told).is_none());
+    assert!(rt; first_difference(entries, 1, &[]).is_none());
+    assert!(rt; first_difference(&[], 0, told) == at_once);
+}
 
 /// The first difference of a history and a record.
 #[test]
@@ -17,9 +28,6 @@ fn differences(rt: HostRuntime) {
         event: Event::Step { channel: 1 },
         reply,
     }];
-    let at_once = Some(Disagree { seat: 0, index: 0 });
-    assert!(rt; first_difference(&entries, 0, &[]) == at_once);
-    assert!(rt; first_difference(&entries, 0, &told).is_none());
-    assert!(rt; first_difference(&entries, 1, &[]).is_none());
-    assert!(rt; first_difference(&[], 0, &told) == at_once);
+    check_differences(&rt, &entries, &told);
+    let_go((entries, told));
 }

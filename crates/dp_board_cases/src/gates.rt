@@ -49,7 +49,7 @@ fn gates(rt: HostRuntime) {
             b"say",
             b"say",
             2,
-            &Play::Crossed(gate_of(held, 3 - held, "0 ran 1 none", "0 ran 1 none")),
+            Play::Crossed(gate_of(held, 3 - held, "0 ran 1 none", "0 ran 1 none")),
         );
     }
 }

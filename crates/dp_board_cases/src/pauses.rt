@@ -1,4 +1,5 @@
 //! A channel pauses, and the other seat dials digits and ends the pause.
+use crate::acts::step;
 use crate::gates::attend;
 use crate::play::{Play, perform};
 use dp_board::{Attended, Board, Gate, Seat, Session, Why};
@@ -44,8 +45,7 @@ fn give<S: Session, R: Wait + Abort>(
     event: Event,
 ) {
     let told = board.act(rt, alloc, seat, event).ok();
-    let (_place, reply) = told.expect(rt, "memory");
-    assert_eq!(rt; reply, Reply::Done);
+    assert!(rt; matches!(told, Some((_, Reply::Done))));
 }
 
 /// Lets some time go by.
@@ -74,20 +74,35 @@ fn pace<S: Session, R: Wait + Abort>(
     give(rt, alloc, board, seat, Event::Timeout { channel });
 }
 
-/// Lets the channel pause before it is attended, where the gate says so.
-pub(super) fn park<S: Session, R: Wait + Abort>(
+/// Lets the channel pause before it is attended.
+fn park<S: Session, R: Wait + Abort>(
     rt: &R,
     alloc: Global,
     board: &Board<StandardApps, S>,
-    seats: &mut [Seat<S>],
+    seat: &mut Seat<S>,
     gate: &Paced,
 ) {
+    let told = step(rt, alloc, board, seat, 1);
+    assert!(rt; told.is_some());
+    gate.stepped.store(1, Ordering::SeqCst);
+}
+
+/// Attends the channel to its end, and lets it pause before, where the gate says so.
+fn attend_paced<S: Session, R: Wait + Abort>(
+    rt: &R,
+    alloc: Global,
+    board: &Board<StandardApps, S>,
+    seat: &mut Seat<S>,
+    gate: &Paced,
+) {
+    let mut steps = 2;
     if gate.late == 0 {
-        let seat = seats.first_mut().expect(rt, "a seat");
-        let told = board.act(rt, alloc, seat, Event::Step { channel: 1 });
-        assert!(rt; told.is_ok());
-        gate.stepped.store(1, Ordering::SeqCst);
+        park(rt, alloc, board, seat, gate);
+        steps = 1;
     }
+    let why = Why::Ended;
+    let attended = attend(rt, alloc, board, seat, 1, gate);
+    assert!(rt; attended == Some(Attended { steps, why }));
 }
 
 /// The first seat attends the channel to its end, while the other one ends the pause.
@@ -98,15 +113,11 @@ pub(super) fn act_paced<S: Session, R: Wait + Abort>(
     seat: &mut Seat<S>,
     gate: &Paced,
 ) {
-    if seat.number() == 1 {
-        return pace(rt, alloc, board, seat, gate);
+    if seat.number() == 0 {
+        attend_paced(rt, alloc, board, seat, gate);
+    } else {
+        pace(rt, alloc, board, seat, gate);
     }
-    let ended = Attended {
-        steps: if gate.late == 0 { 1 } else { 2 },
-        why: Why::Ended,
-    };
-    let attended = attend(rt, alloc, board, seat, 1, gate);
-    assert!(rt; attended == Some(ended));
 }
 
 /// Whether nothing was marked.
@@ -135,7 +146,7 @@ fn pauses(rt: HostRuntime) {
             b"wait",
             b"say",
             2,
-            &Play::Paced(gate_of(late)),
+            Play::Paced(gate_of(late)),
         );
     }
 }

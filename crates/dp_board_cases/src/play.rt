@@ -4,9 +4,9 @@
 ghost use Rattle.std.specs.Prelude.{◌≡◌, ◌+◌};
 
 use crate::acts::{SeatReply, act_step, check_steps, told_of};
-use crate::again::{act_steps_alone, attend_alone};
+use crate::again::attend_again;
 use crate::gates::act_crossed;
-use crate::pauses::{Paced, act_paced, has_paced, park};
+use crate::pauses::{Paced, act_paced, has_paced};
 use crate::reloads::{act_reload, check_reload};
 use crate::turns::act_turns;
 use dp_board::{Back, Board, History, Seat, Session, Unsettled};
@@ -40,11 +40,18 @@ const QUEUES: &[u8] = b"[q]
 joinempty=no
 ";
 
+/// Lets go what is owned. Where a function does so itself, each way out of it has the drop of all that there is in a machine; here the
+/// one drop is that of a variable.
+pub(super) fn let_go<M: Drop>(_owned: M) {}
+
 /// A machine over the dialplan, with the queues.
 fn with_queues(alloc: Global, plan: Dialplan) -> Option<Exchange> {
     match Queues::load(alloc, QUEUES) {
         Ok(queues) => Exchange::new(alloc, plan, queues).ok(),
-        Err(_) => None,
+        Err(_) => {
+            let_go(plan);
+            None
+        }
     }
 }
 
@@ -85,7 +92,7 @@ fn start_again(rt: &impl Abort, alloc: Global, machine: &mut Exchange, exten: &[
         Ok(reply) => Some(reply),
         Err(_) => start(alloc, machine, exten).ok(),
     };
-    assert_eq!(rt; reply, Some(Reply::Started(channel)));
+    assert!(rt; reply == Some(Reply::Started(channel)));
 }
 
 /// A machine with channel 1 at one extension and channel 2 at the other.
@@ -109,15 +116,15 @@ pub(super) enum Play {
     AttendedAlone,
     /// One seat attends a channel that pauses, and the other ends the pause.
     Paced(Paced),
-    /// The first seat attends one channel after another.
-    Turns,
+    /// The first seat attends one channel after another, through this gate.
+    Turns(Crossed),
     /// The second seat puts another dialplan in force between two steps of the first.
     Reload,
     /// There are no seats.
     Nothing,
 }
 
-/// Acts by one of two seats, in a thread of its own.
+/// Acts by one of the seats, whichever thread it is in.
 fn act_one<S: Session, R: Wait + Abort>(
     rt: &R,
     alloc: Global,
@@ -128,6 +135,8 @@ fn act_one<S: Session, R: Wait + Abort>(
     match play {
         Play::Crossed(gate) => act_crossed(rt, alloc, board, seat, gate),
         Play::Paced(gate) => act_paced(rt, alloc, board, seat, gate),
+        Play::AttendedAlone => attend_again(rt, alloc, board, seat),
+        Play::Turns(gate) => act_turns(rt, alloc, board, seat, gate),
         _ => act_step(rt, alloc, board, seat),
     }
 }
@@ -144,6 +153,19 @@ fn act_at_once<S: Session + Send + Sync, R: Threads + Wait + Abort + Sync>(
     for_each_mut(rt, seats, 2, &act);
 }
 
+/// Acts by one seat after another.
+fn act_in_turn<S: Session, R: Wait + Abort>(
+    rt: &R,
+    alloc: Global,
+    board: &Board<StandardApps, S>,
+    seats: &mut [Seat<S>],
+    play: &Play,
+) {
+    for seat in seats {
+        act_one(rt, alloc, board, seat, play);
+    }
+}
+
 /// Acts by the seats.
 fn act<S: Session + Send + Sync, R: Threads + Wait + Abort + Sync>(
     rt: &R,
@@ -153,16 +175,23 @@ fn act<S: Session + Send + Sync, R: Threads + Wait + Abort + Sync>(
     play: &Play,
 ) {
     match play {
-        Play::Steps | Play::Crossed(_) => act_at_once(rt, alloc, board, seats, play),
-        Play::Paced(gate) => {
-            park(rt, alloc, board, seats, gate);
+        Play::Steps | Play::Crossed(_) | Play::Paced(_) => {
             act_at_once(rt, alloc, board, seats, play);
         }
-        Play::StepsAlone => act_steps_alone(rt, alloc, board, seats),
-        Play::AttendedAlone => attend_alone(rt, alloc, board, seats),
-        Play::Turns => act_turns(rt, alloc, board, seats),
         Play::Reload => act_reload(rt, alloc, board, seats),
-        Play::Nothing => assert!(rt; seats.is_empty()),
+        _ => act_in_turn(rt, alloc, board, seats, play),
+    }
+}
+
+/// How many calls the seats make.
+fn calls_of(play: &Play) -> usize {
+    match play {
+        Play::Steps | Play::StepsAlone => 2,
+        Play::Crossed(_) | Play::AttendedAlone => 4,
+        Play::Paced(_) => 5,
+        Play::Turns(_) => 7,
+        Play::Reload => 3,
+        Play::Nothing => 0,
     }
 }
 
@@ -174,35 +203,26 @@ fn check(
     play: &Play,
     told: Option<(SeatReply, SeatReply)>,
 ) {
-    let calls = match play {
-        Play::Steps | Play::StepsAlone => 2,
-        Play::Crossed(_) | Play::AttendedAlone => 4,
-        Play::Paced(_) => 5,
-        Play::Turns => 7,
-        Play::Reload => 3,
-        Play::Nothing => 0,
-    };
-    assert_eq!(rt; history.entries().len(), calls);
+    assert!(rt; history.entries().len() == calls_of(play));
     match play {
         Play::Steps | Play::StepsAlone => {
             check_steps(rt, alloc, told.expect(rt, "two calls"), history);
         }
-        Play::Crossed(gate) => assert!(rt; gate.fits(history.entries())),
+        Play::Crossed(gate) | Play::Turns(gate) => assert!(rt; gate.fits(history.entries())),
         Play::Paced(gate) => assert!(rt; has_paced(gate)),
         Play::Reload => check_reload(rt, alloc, history),
         _ => {}
     }
 }
 
-/// Settles, where memory is refused, what a board hands back then.
-fn settled_from<S: Session>(
-    rt: &impl Abort,
-    alloc: Global,
-    back: Back<StandardApps, S>,
-) -> Result<History<StandardApps>, Unsettled<StandardApps, S>> {
+/// A board with its seats.
+type Opened<S> = (Board<StandardApps, S>, Vec<Seat<S>>);
+
+/// The board and the seats that are handed back.
+fn opened<S: Session>(rt: &impl Abort, back: Back<StandardApps, S>) -> Opened<S> {
     match back {
-        Back::Open { board, seats } => board.settle(alloc, seats),
-        Back::Closed { .. } => panic!(rt; "closed for want of memory"),
+        Back::Open { board, seats } => (board, seats),
+        Back::Closed { .. } => panic!(rt; "closed"),
     }
 }
 
@@ -214,26 +234,25 @@ fn settled<S: Session>(
     seats: Vec<Seat<S>>,
 ) -> Result<History<StandardApps>, Unsettled<StandardApps, S>> {
     match board.settle(alloc, seats) {
-        Ok(history) => Ok(history),
-        Err(Unsettled { fault, back }) if fault.code() == 62 => settled_from(rt, alloc, back),
-        Err(unsettled) => Err(unsettled),
+        Err(Unsettled { fault, back }) if fault.code() == 62 => {
+            let (board, seats) = opened(rt, back);
+            board.settle(alloc, seats)
+        }
+        ended => ended,
     }
 }
 
-/// Settles with the seats that are handed back and the last one.
-fn settle_with<S: Session>(
+/// What is handed back of a board that is settled without a seat.
+fn unsettled<S: Session>(
     rt: &impl Abort,
     alloc: Global,
-    back: Back<StandardApps, S>,
-    last: Seat<S>,
-) -> History<StandardApps> {
-    match back {
-        Back::Open { board, mut seats } => {
-            seats.push(last).ok().expect(rt, "room");
-            settled(rt, alloc, board, seats).ok().expect(rt, "settled")
-        }
-        Back::Closed { .. } => panic!(rt; "closed without a seat"),
-    }
+    board: Board<StandardApps, S>,
+    seats: Vec<Seat<S>>,
+) -> Opened<S> {
+    let unsettled = settled(rt, alloc, board, seats).err();
+    let Unsettled { fault, back } = unsettled.expect(rt, "not settled without a seat");
+    assert!(rt; fault.code() == 60);
+    opened(rt, back)
 }
 
 /// Settles without the last seat, which hands all back, and then with it.
@@ -243,11 +262,10 @@ fn settle_twice<S: Session>(
     board: Board<StandardApps, S>,
     seats: Vec<Seat<S>>,
     last: Seat<S>,
-) -> History<StandardApps> {
-    let unsettled = settled(rt, alloc, board, seats).err();
-    let Unsettled { fault, back } = unsettled.expect(rt, "not settled without a seat");
-    assert_eq!(rt; fault.code(), 60);
-    settle_with(rt, alloc, back, last)
+) -> Result<History<StandardApps>, Unsettled<StandardApps, S>> {
+    let (board, mut seats) = unsettled(rt, alloc, board, seats);
+    seats.push(last).ok().expect(rt, "room");
+    settled(rt, alloc, board, seats)
 }
 
 /// Settles, and before it without the last seat, where there is one.
@@ -256,10 +274,10 @@ fn settle<S: Session>(
     alloc: Global,
     board: Board<StandardApps, S>,
     mut seats: Vec<Seat<S>>,
-) -> History<StandardApps> {
+) -> Result<History<StandardApps>, Unsettled<StandardApps, S>> {
     match seats.pop() {
         Some(last) => settle_twice(rt, alloc, board, seats, last),
-        None => settled(rt, alloc, board, seats).ok().expect(rt, "settled"),
+        None => settled(rt, alloc, board, seats),
     }
 }
 
@@ -273,8 +291,10 @@ fn play_out<S: Session + Send + Sync, R: Threads + Wait + Abort + Sync>(
 ) {
     act(rt, alloc, &board, &mut seats, play);
     let told = told_of(&seats);
-    let history = settle(rt, alloc, board, seats);
+    let settled = settle(rt, alloc, board, seats).ok();
+    let history = settled.expect(rt, "settled");
     check(rt, alloc, &history, play, told);
+    let_go(history);
 }
 
 /// Plays on a board of so many seats over the machine, which is given back where the board does not open.
@@ -319,11 +339,15 @@ pub(super) fn perform<R: Threads + Wait + Abort + Sync>(
     first: &[u8],
     second: &[u8],
     seats: u32,
-    play: &Play,
+    play: Play,
 ) {
     let machine = machine_of(rt, alloc, first, second);
-    if let Some(machine) = played(rt, alloc, machine, seats, play) {
-        let given_back = played(rt, alloc, machine, seats, play);
-        assert!(rt; given_back.is_none());
+    match played(rt, alloc, machine, seats, &play) {
+        Some(machine) => {
+            let given_back = played(rt, alloc, machine, seats, &play);
+            assert!(rt; given_back.is_none());
+            let_go((given_back, play));
+        }
+        None => let_go(play),
     }
 }

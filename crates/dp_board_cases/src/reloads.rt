@@ -58,7 +58,7 @@ pub(super) fn act_reload<S: Session, R: Wait + Abort>(
         let event = event_of(rt, alloc, call.0);
         let seat = seats.get_mut(call.0 as usize).expect(rt, "a seat");
         let told = board.act(rt, alloc, seat, event).ok();
-        assert_eq!(rt; told, Some((place, call.1)));
+        assert!(rt; told == Some((place, call.1)));
     }
 }
 
@@ -68,13 +68,20 @@ fn is_call(entry: &Entry, seat: u32, reply: Reply) -> bool {
         && matches!(entry.event, Event::Reload { .. }) == (seat == 1)
 }
 
+/// Whether the entries are the calls.
+fn are_calls(entries: &[Entry]) -> bool {
+    for (entry, call) in entries.iter().zip(CALLS) {
+        if !is_call(entry, call.0, call.1) {
+            return false;
+        }
+    }
+    true
+}
+
 /// Holds the history against what was told. The globals of the second dialplan are set over those of the first.
 pub(super) fn check_reload(rt: &impl Abort, alloc: Global, history: &History<StandardApps>) {
-    for (entry, call) in history.entries().iter().zip(CALLS) {
-        assert!(rt; is_call(entry, call.0, call.1));
-    }
     let machine = history.machine();
-    assert!(rt; machine.phase(1) == Some(&Phase::Ended));
+    assert!(rt; are_calls(history.entries()) && machine.phase(1) == Some(&Phase::Ended));
     assert!(rt; has_value(rt, alloc, machine, 1, b"X", b"12"));
     assert!(rt; has_value(rt, alloc, machine, 1, b"Y", b"5"));
 }
@@ -82,5 +89,5 @@ pub(super) fn check_reload(rt: &impl Abort, alloc: Global, history: &History<Sta
 /// The places rise, and the board settles.
 #[test]
 fn two_seats_and_another_dialplan(rt: HostRuntime) {
-    perform(&rt, rt.alloc(), b"100", b"say", 2, &Play::Reload);
+    perform(&rt, rt.alloc(), b"100", b"say", 2, Play::Reload);
 }

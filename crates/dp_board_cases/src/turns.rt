@@ -1,7 +1,7 @@
 //! A seat attends one channel after another.
 use crate::play::{Play, perform};
 use dp_board::{Attended, Board, Seat, Session, Why};
-use dp_board_fixture::gate_of;
+use dp_board_fixture::{Crossed, gate_of};
 use dp_machine::Refusal;
 use dp_table::StandardApps;
 use std::alloc::Global;
@@ -24,25 +24,29 @@ const TURNS: &[(u32, u64, u64, Why)] = &[
 /// The calls that the gate gets of channel 1, and of the others: each attendance counts its turns from 0.
 const GIVEN: (&str, &str) = ("0 ran 0 none 0 refused", "0 refused 0 ran 1 none 0 refused");
 
+/// The gate of the attendances, which holds nobody.
+fn gate() -> Crossed {
+    gate_of(0, 0, GIVEN.0, GIVEN.1)
+}
+
 /// The first seat attends all.
 pub(super) fn act_turns<S: Session, R: Wait + Abort>(
     rt: &R,
     alloc: Global,
     board: &Board<StandardApps, S>,
-    seats: &mut [Seat<S>],
+    seat: &mut Seat<S>,
+    gate: &Crossed,
 ) {
-    let gate = gate_of(0, 0, GIVEN.0, GIVEN.1);
-    if let [seat, _second] = seats {
+    if seat.number() == 0 {
         for &(channel, turns, steps, why) in TURNS {
-            let attended = board.attend(rt, alloc, seat, channel, &gate, turns);
-            assert_eq!(rt; attended.ok(), Some(Attended { steps, why }));
+            let attended = board.attend(rt, alloc, seat, channel, gate, turns).ok();
+            assert!(rt; attended == Some(Attended { steps, why }));
         }
     }
-    assert!(rt; gate.fits(&[]));
 }
 
 /// The turns are spent at once where there are none, and a channel that is not there is refused, whatever stands in the record before.
 #[test]
 fn turns(rt: HostRuntime) {
-    perform(&rt, rt.alloc(), b"say", b"say", 2, &Play::Turns);
+    perform(&rt, rt.alloc(), b"say", b"say", 2, Play::Turns(gate()));
 }
