@@ -1,7 +1,0 @@
-//! Cases of runs of scripts in threads.
-//!
-//! A crate with tests is proved twice, so the cases of the libraries stand in crates of their own, where each is proved once.
-#![tactic(auto)]
-
-#[cfg(test)]
-mod threads;
