@@ -1,5 +1,5 @@
 //! The canonical spelling of names.
-ghost use Rattle.std.specs.Prelude.{◌≡◌, ◌++◌, OnOk, IfOk};
+ghost use Rattle.std.specs.Prelude.{◌≡◌, ◌++◌, ◌∷◌, [], OnOk, IfOk};
 ghost use Rattle.std.specs.List.{flat_map};
 ghost use Rattle.dp_pattern.specs.Name.{Pattern};
 ghost use Rattle.dp_pattern.specs.Spelling.{stands_alone, class_spelling, tail_spelling, spelling};
@@ -14,17 +14,36 @@ const DIGITS_FROM_1: &[u8] = b"123456789";
 
 const DIGITS_FROM_2: &[u8] = b"23456789";
 
+// Whether the byte means itself outside sets.
+fn means_itself(byte: u8) -> bool
+    ensures { result ≡ stands_alone (byte ∷ []) }
+{
+    !matches!(
+        byte,
+        b'X' | b'x' | b'Z' | b'z' | b'N' | b'n' | b'[' | b'.' | b'!'
+    )
+}
+
 // One byte that means itself outside sets.
 fn stands_alone(members: &[u8]) -> bool
     ensures { result ≡ stands_alone members.now }
 {
     match members {
-        [byte] => !matches!(
-            *byte,
-            b'X' | b'x' | b'Z' | b'z' | b'N' | b'n' | b'[' | b'.' | b'!'
-        ),
+        [byte] => means_itself(*byte),
         _ => false,
     }
+}
+
+// Writes the class of one member.
+fn push_only(text: &mut Vec<u8>, byte: u8) -> Result<(), AllocError>
+    ensures { OnOk result (text.new.items ≡ text.old.items ++ class_spelling (byte ∷ [])) }
+{
+    if means_itself(byte) {
+        text.push(byte)?;
+    } else {
+        text.extend_from_slice(&[b'[', byte, b']'])?;
+    }
+    Ok(())
 }
 
 // Writes the class of these members.
@@ -56,7 +75,7 @@ fn push_class(text: &mut Vec<u8>, class: &Class, members: &mut Vec<u8>) -> Resul
         return Ok(());
     }
     if let Some(byte) = class.only() {
-        return push_listed(text, &[byte]);
+        return push_only(text, byte);
     }
     members.clear();
     class.push_members(members)?;
