@@ -8,7 +8,8 @@ ghost use Rattle.dp_conf.specs.Words as words;
 pub fn same_word(a: &[u8], b: &[u8]) -> bool
     ensures { result ≡ words.same_word a.now b.now }
 {
-    a.eq_ignore_ascii_case(b)
+    // Most words are written as they are asked for, and equal bytes are compared in groups.
+    a == b || a.eq_ignore_ascii_case(b)
 }
 
 /// The number of some digits with one more after it, or the greatest number of a u64 where it is above that.
