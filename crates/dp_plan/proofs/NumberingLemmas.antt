@@ -1,12 +1,13 @@
--- A priority that is a number is none of the words that priorities may be.
-use Rattle.std.proofs.Common.{◌≡◌, ℕ, Bool, true, false, cond, ◌==◌, ◌&&◌, ◌||◌, nat_le, List, [], ◌∷◌, codes, Some, None, refl, ap, sym, ◌∙◌, arith, min, ◌-◌, ◌^◌}
-use Rattle.std.specs.List.{list_all, list_any}
+-- A priority that is a number is none of the words that priorities may be, and has no label.
+use Rattle.std.proofs.Common.{length, ◌≡◌, ℕ, Bool, true, false, cond, ◌==◌, ◌&&◌, ◌||◌, nat_le, List, [], ◌∷◌, codes, Some, None, refl, ap, sym, ◌∙◌, arith, min, ◌-◌, ◌^◌}
+use Rattle.std.specs.List.{list_all, list_any, position_or_len}
 use Rattle.std.specs.Option.{option_map}
 use Rattle.std.specs.Str.{byte}
 use Rattle.std.proofs.lemmas.Bool.Decides.{nat_tests}
+use Rattle.dp_conf.specs.Cut.{cut_once}
 use Rattle.dp_conf.specs.Numbers.{is_digit, digits_number, most_priority, number_of}
 use Rattle.dp_conf.specs.Words.{same_text}
-use Rattle.dp_plan.specs.EntryLine.{written_number, written_of}
+use Rattle.dp_plan.specs.EntryLine.{unlabelled, written_number, written_of, written_priority}
 
 -- a digit is no byte above the digits
 digit-apart : (b other : ℕ) → is_digit b ≡ true → nat_le other 57 ≡ false → (b == other) ≡ false
@@ -81,3 +82,40 @@ number_as_written (b ∷ bs) number read = by (list_all is_digit (b ∷ bs)) ref
     by true all read =
         let is : min exact (2 ^ 64 - 1) ≡ number = cc in
         words all ∙ (sym (capped exact) ∙ ap (λ (n : ℕ). written_number (Some n)) is)
+
+-- a digit is no parenthesis
+digit-no_parenthesis : (b : ℕ) → is_digit b ≡ true → (b == byte "(") ≡ false
+digit-no_parenthesis b digit = by (nat_le 48 b) (nat_le b 57) refl digit
+  where
+    by : (low high : Bool) → nat_le 48 b ≡ low → (low && high) ≡ true → (b == byte "(") ≡ false
+    by true high within both = grind (arith, nat_tests)
+    by false high within both = absurd cc
+
+-- no parenthesis stands among digits
+no_parenthesis : (text : List ℕ) → list_all is_digit text ≡ true → position_or_len (λ b. b == byte "(") text ≡ length text
+no_parenthesis [] all = refl
+no_parenthesis (b ∷ bs) all = by (is_digit b) refl all (λ rest. no_parenthesis bs rest)
+  where
+    by : (t : Bool) → is_digit b ≡ t → (t && list_all is_digit bs) ≡ true → (list_all is_digit bs ≡ true → position_or_len (λ b. b == byte "(") bs ≡ length bs)
+        → position_or_len (λ b. b == byte "(") (b ∷ bs) ≡ length (b ∷ bs)
+    by true digit all later = rw (digit-no_parenthesis b digit) (let same = later all in omega arith)
+    by false digit all later = absurd cc
+
+-- a number has no label after it
+number_uncut : (text : List ℕ) → list_all is_digit text ≡ true → cut_once (byte "(") text ≡ None
+number_uncut text all = rw (no_parenthesis text all) (grind (arith, nat_tests))
+
+-- a number alone is a priority without a label
+pub number_alone : (text : List ℕ) (number : ℕ) → option_map (λ n. min n (2 ^ 64 - 1)) (number_of text) ≡ Some number
+    → written_priority text ≡ unlabelled (written_number (Some number))
+unfolding written_priority
+number_alone [] number read = absurd cc
+number_alone (b ∷ bs) number read = by (list_all is_digit (b ∷ bs)) refl read
+  where
+    by : (t : Bool) → list_all is_digit (b ∷ bs) ≡ t → option_map (λ n. min n (2 ^ 64 - 1)) (cond t (Some (digits_number (b ∷ bs))) None) ≡ Some number
+        → written_priority (b ∷ bs) ≡ unlabelled (written_number (Some number))
+    by false all digits = absurd cc
+    by true all digits =
+        let uncut = number_uncut (b ∷ bs) all in
+        let written = number_as_written (b ∷ bs) number read in
+        rw uncut (rw written refl)

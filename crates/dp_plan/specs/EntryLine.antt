@@ -121,6 +121,10 @@ written_priority text =
     written_of (before_label text (cut_once (byte "(") text)) >>= λ written.
     label_of (cut_once (byte "(") text) >>= λ label. Ok (written, label)
 
+-- a priority that stands alone, without a label
+abbrev pub unlabelled : Result Written PlanKind → Result (Written × Option (List ℕ)) PlanKind
+unlabelled written = written >>= λ written. Ok (written, None)
+
 -- a priority that was read, as its number or `n` and its label
 abbrev pub numbering_now : Numbering → Written × Option (List ℕ)
 numbering_now numbering = (numbering.written, option_map (λ label. label.now) numbering.label)

@@ -28,7 +28,8 @@ impl Extension {
     pub(crate) fn is_of(&self, context: &SharedText, name: &SharedName) -> bool
         ensures { result ≡ same_extension (extension_of context.now name.now) self.now }
     {
-        context == &self.context && self.spelling.is_of(name)
+        // The lines of a context are many, so names differ before contexts do.
+        self.spelling.is_of(name) && context == &self.context
     }
 }
 

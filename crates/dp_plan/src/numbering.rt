@@ -39,6 +39,7 @@ fn is_priority_word(text: &[u8]) -> bool
 }
 
 /// How the number is written as a priority.
+#[inline(always)]
 fn written_number(number: u64) -> Result<Written, PlanKind>
     ensures { result ≡ spec.written_number (Some number) }
 {
@@ -71,7 +72,7 @@ fn read_word(text: &[u8]) -> Result<Written, PlanKind>
     Err(PlanKind::BadPriority)
 }
 
-/// A priority without its label. Most are numbers, and a number is none of the words.
+/// A priority without its label.
 #[tactic(auto, using(crate::proofs::NumberingLemmas::number_as_written))]
 fn read_written(text: &[u8]) -> Result<Written, PlanKind>
     ensures { result ≡ spec.written_of text.now }
@@ -110,14 +111,15 @@ fn read_label(after: &[u8]) -> Result<&[u8], PlanKind>
     Ok(label)
 }
 
-/// A priority as it is written.
+/// A priority that is no number alone.
 #[tactic(auto, unfolding(crate::specs::EntryLine::written_priority))]
-pub(crate) fn read_numbering(text: &[u8]) -> Result<Numbering<'_>, PlanKind>
+fn read_labelled(text: &[u8]) -> Result<Numbering<'_>, PlanKind>
+    requires { number_of text.now ≡ None }
     ensures { Answers spec.numbering_now (λ kind. Some kind) result (spec.written_priority text.now) }
 {
     match cut_once(text, b'(') {
         None => {
-            let written = read_written(text)?;
+            let written = read_word(text)?;
             Ok(Numbering {
                 written,
                 label: None,
@@ -134,7 +136,33 @@ pub(crate) fn read_numbering(text: &[u8]) -> Result<Numbering<'_>, PlanKind>
     }
 }
 
+/// A priority that is a number alone.
+#[inline(always)]
+fn number_alone(number: u64) -> Result<Numbering<'static>, PlanKind>
+    ensures { Answers spec.numbering_now (λ kind. Some kind) result
+        (spec.unlabelled (spec.written_number (Some number))) }
+{
+    let written = written_number(number)?;
+    Ok(Numbering {
+        written,
+        label: None,
+    })
+}
+
+/// A priority as it is written. Most are numbers alone, which have no label and are none of the words.
+#[tactic(auto, using(crate::proofs::NumberingLemmas::number_alone))]
+#[inline(always)]
+pub(crate) fn read_numbering(text: &[u8]) -> Result<Numbering<'_>, PlanKind>
+    ensures { Answers spec.numbering_now (λ kind. Some kind) result (spec.written_priority text.now) }
+{
+    match read_number(text) {
+        Some(number) => number_alone(number),
+        None => read_labelled(text),
+    }
+}
+
 /// The number of a priority, by the last priority of the extension.
+#[inline(always)]
 pub(crate) fn number_after(last: Option<Priority>, written: Written) -> Result<Priority, PlanKind>
     ensures { result ≡ spec.number_after last written }
 {
