@@ -17,6 +17,7 @@ pub fn is_blank(byte: u8) -> bool
 }
 
 /// The text without the blanks at both ends. A blank is a byte of 32 or less other than a line feed.
+#[inline(always)]
 pub fn trim(text: &[u8]) -> &[u8]
     ensures { result.now ≡ blanks.trim text.now }
 {
@@ -24,6 +25,7 @@ pub fn trim(text: &[u8]) -> &[u8]
 }
 
 /// The text from its first byte that is no blank.
+#[inline(always)]
 pub(crate) fn trim_start(text: &[u8]) -> &[u8]
     ensures { result.now ≡ blanks.trim_start text.now }
 {
@@ -38,6 +40,7 @@ pub(crate) fn trim_start(text: &[u8]) -> &[u8]
 }
 
 /// The text up to its last byte that is no blank.
+#[inline(always)]
 fn trim_end(text: &[u8]) -> &[u8]
     ensures { result.now ≡ blanks.trim_end text.now }
 {
@@ -52,6 +55,7 @@ fn trim_end(text: &[u8]) -> &[u8]
 }
 
 /// What stands before the first such byte of the text and what stands after it, or None where there is none.
+#[inline(always)]
 pub fn cut_once(text: &[u8], byte: u8) -> Option<(&[u8], &[u8])>
     ensures { MatchOption result (cuts.cut_once byte text.now ≡ None)
         (λ cut. cuts.cut_once byte text.now ≡ Some (cut.0.now, cut.1.now)) }

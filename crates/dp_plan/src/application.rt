@@ -30,6 +30,7 @@ pub(crate) fn before_closing(text: &[u8]) -> Option<&[u8]>
 }
 
 /// What stands before the first `(` of an application, and what stands between that and a final `)`.
+#[inline(always)]
 fn application_parts(text: &[u8]) -> (&[u8], Option<&[u8]>)
     ensures { spec.application_parts text.now (cuts.cut_once 40 text.now)
         ≡ (result.0.now, option_map (λ arguments. arguments.now) result.1) }
@@ -42,6 +43,7 @@ fn application_parts(text: &[u8]) -> (&[u8], Option<&[u8]>)
 
 /// The application of a line, `name` or `name(arguments)`.
 #[tactic(auto, unfolding(crate::specs::EntryLine::application_of))]
+#[inline(always)]
 pub(crate) fn read_application(text: &[u8]) -> Result<ApplicationCall<'_>, PlanKind>
     ensures { spec.application_of text.now ≡ spec.called_now result }
 {
@@ -60,6 +62,7 @@ pub(crate) fn read_application(text: &[u8]) -> Result<ApplicationCall<'_>, PlanK
 }
 
 /// A copy of a text that is expanded later, the arguments of an application or the value of a global variable.
+#[inline(always)]
 pub(crate) fn read_shallow(
     alloc: Global,
     line: usize,

@@ -131,6 +131,7 @@ impl Draft {
 
     /// The number of the context that was opened last, where it has this name. No table is asked.
     #[tactic(auto, using(crate::proofs::PositionLemmas::place_of_name, crate::proofs::PositionLemmas::named_at))]
+    #[inline(always)]
     fn opened_so(&self, name: &Text) -> Option<usize>
         ensures place { IfSome result (λ place. place ≡ position_or_len (same_text name.now) self.now.names) }
         ensures within { IfSome result (λ place. place < length self.now.contexts) }
@@ -145,6 +146,7 @@ impl Draft {
     }
 
     /// Makes sure that the context of this name is there, and gives its number.
+    #[inline(always)]
     fn open(&mut self, alloc: Global, name: &SharedText) -> Result<usize, NoMemory>
         ensures ok { OnOk result (self.new ≡ spec.with_context self.old name.now) }
         ensures place { IfOk result (λ place. place ≡ position_or_len (same_text name.now) self.new.names) }
@@ -208,6 +210,7 @@ impl Draft {
     }
 
     /// Takes up what an entry takes, by the number of its extension, unless that is taken, which is noted.
+    #[inline(always)]
     fn claim(
         &mut self,
         alloc: Global,
@@ -231,6 +234,7 @@ impl Draft {
     }
 
     /// Adds the entry to the context at the place.
+    #[inline(always)]
     fn push_entry(&mut self, place: usize, entry: Entry) -> Result<(), NoMemory>
         requires { place < length self.old.contexts }
         ensures { OnOk result (self.new ≡ record self.old {
@@ -256,6 +260,7 @@ impl Draft {
 
     /// Adds an entry to its context, or notes that its place or its label is taken.
     #[tactic(auto, using(crate::proofs::AdditionLemmas::noted_addition, crate::proofs::AdditionLemmas::kept_addition))]
+    #[inline(always)]
     pub(crate) fn add_entry(
         &mut self,
         alloc: Global,

@@ -26,6 +26,7 @@ fn fault(line: usize, kind: PlanKind) -> LoadFault
 }
 
 /// A copy of the text, where there is one.
+#[inline(always)]
 fn copy_label(alloc: Global, label: Option<&[u8]>) -> Result<Option<SharedText>, NoMemory>
     ensures { IfOk result (λ copy. copy ≡ option_map (λ label. label.now) label.entry) }
 {
@@ -39,6 +40,7 @@ fn copy_label(alloc: Global, label: Option<&[u8]>) -> Result<Option<SharedText>,
 }
 
 /// The last priority of the extension, where the priority of the line asks for it.
+#[inline(always)]
 fn priority_before(
     reader: &Reader,
     context: &SharedText,
@@ -58,6 +60,7 @@ fn priority_before(
 }
 
 /// The entry of the name, with its priority and its application.
+#[inline(always)]
 fn read_named(
     alloc: Global,
     reader: &mut Reader,

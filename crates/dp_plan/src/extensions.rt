@@ -60,6 +60,7 @@ impl Extensions {
 
     /// The last priority of the last line's extension, where that is the one of the name in the context.
     #[tactic(auto, using(crate::proofs::TableLemmas::last_found))]
+    #[inline(always)]
     fn last_so(&self, context: &SharedText, name: &SharedName) -> Option<Priority>
         ensures value { IfSome result (λ priority.
             lookup (same_extension (extension_of context.now name.now)) self.now.priorities ≡ Some priority) }
@@ -92,6 +93,7 @@ impl Extensions {
     /// Gives the last line's extension another priority, where it is the one of the name in the context, and says
     /// whether it is.
     #[tactic(auto, using(crate::proofs::TableLemmas::written_last))]
+    #[inline(always)]
     fn rewrite(&mut self, context: &SharedText, name: &SharedName, priority: Priority) -> bool
         ensures same { IsTrue result → self.new ≡ spec.written self.old (extension_of context.now name.now) priority }
         ensures other { IsFalse result → self.new ≡ self.old }
@@ -106,6 +108,7 @@ impl Extensions {
     }
 
     /// Gives the extension of the name in the context another priority. It is that of the last line then.
+    #[inline(always)]
     pub(crate) fn write(
         &mut self,
         context: &SharedText,

@@ -109,6 +109,7 @@ impl Made {
     }
 
     /// Adds an entry to the context of this name.
+    #[inline(always)]
     fn add_entry(
         &mut self,
         alloc: Global,
@@ -124,6 +125,7 @@ impl Made {
     }
 
     /// Adds the entry of an `exten` line.
+    #[inline(always)]
     fn take_exten(
         &mut self,
         alloc: Global,
@@ -140,6 +142,7 @@ impl Made {
     }
 
     /// Adds the entry of a `same` line.
+    #[inline(always)]
     fn take_same(
         &mut self,
         alloc: Global,
@@ -193,6 +196,7 @@ impl Made {
 
     /// Goes after a pair of the context.
     #[tactic(auto, unfolding(crate::specs::Items::context_item))]
+    #[inline(always)]
     fn take_context_pair(
         &mut self,
         alloc: Global,
@@ -217,6 +221,7 @@ impl Made {
     }
 
     /// Goes after a pair of the section.
+    #[inline(always)]
     fn take_pair(
         &mut self,
         alloc: Global,

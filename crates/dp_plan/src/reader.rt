@@ -99,6 +99,7 @@ impl Reader {
     }
 
     /// Goes after the line of an entry.
+    #[inline(always)]
     pub(crate) fn go_after(&mut self, context: &SharedText, entry: &Entry) -> Result<(), NoMemory>
         ensures { OnOk result (self.new ≡ spec.after_entry self.old context.now entry.now) }
     {
