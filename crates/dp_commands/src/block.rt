@@ -48,11 +48,22 @@ impl Block {
     }
 
     /// Adds bytes to what is begun.
+    #[inline(always)]
     pub(crate) fn push(&mut self, bytes: &[u8]) -> Result<(), NoMemory>
         ensures kept { self.new.whole ≡ self.old.whole }
         ensures ok { OnOk result (self.new.begun ≡ self.old.begun ++ bytes.now) }
     {
         self.bytes.extend_from_slice(bytes)
+    }
+
+    /// Adds one byte to what is begun.
+    #[inline(always)]
+    pub(crate) fn push_byte(&mut self, byte: u8) -> Result<(), NoMemory>
+        ensures kept { self.new.whole ≡ self.old.whole }
+        ensures ok { OnOk result (self.new.begun ≡ self.old.begun ++ byte ∷ []) }
+    {
+        self.bytes.push(byte)?;
+        Ok(())
     }
 
     /// What is begun.
@@ -81,7 +92,7 @@ impl Block {
         ensures ok { OnOk result (self.new ≡ waiting (self.old.whole ++ (self.old.begun ++ 10 ∷ [])) []) }
         ensures err { OnErr result (self.new.whole ≡ self.old.whole) }
     {
-        self.push(b"\n")?;
+        self.push_byte(b'\n')?;
         self.close_line();
         Ok(())
     }

@@ -20,6 +20,18 @@ pub(crate) fn push_number<I: Integer>(out: &mut Block, number: I) -> Result<(), 
     out.push(buffer.format(number).as_bytes())
 }
 
+/// Adds the number of a channel or of a priority in decimal. Many have one digit.
+#[tactic(auto, using(std::proofs::lemmas::Fmt::decimal_digit))]
+fn push_short(out: &mut Block, number: u32) -> Result<(), NoMemory>
+    ensures kept { out.new.whole ≡ out.old.whole }
+    ensures ok { OnOk result (out.new.begun ≡ out.old.begun ++ decimal number) }
+{
+    match u8::try_from(number) {
+        Ok(digit) if digit < 10 => out.push_byte(b'0' + digit),
+        _ => push_number(out, number),
+    }
+}
+
 /// Adds `CONTEXT,EXTEN,PRIORITY`.
 pub(crate) fn push_place(
     out: &mut Block,
@@ -31,10 +43,10 @@ pub(crate) fn push_place(
     ensures ok { OnOk result (out.new.begun ≡ out.old.begun ++ spec.place_text context.now exten.now priority) }
 {
     out.push(context)?;
-    out.push(b",")?;
+    out.push_byte(b',')?;
     out.push(exten)?;
-    out.push(b",")?;
-    push_number(out, priority)
+    out.push_byte(b',')?;
+    push_short(out, priority)
 }
 
 /// Adds the state of a channel that is ready.
@@ -110,7 +122,7 @@ fn push_talking(
 {
     out.push(b"talking ")?;
     push_queue(out, queues, queue)?;
-    out.push(b" ")?;
+    out.push_byte(b' ')?;
     push_agent(out, queues, agent)
 }
 
@@ -142,11 +154,11 @@ fn push_entry_of(out: &mut Block, context: &Context, entry: &Entry) -> Result<()
     ensures ok { OnOk result (out.new.begun ≡ out.old.begun ++ spec.entry_by context.now (Some entry.now)) }
 {
     out.push(context.name().bytes())?;
-    out.push(b",")?;
+    out.push_byte(b',')?;
     out.push(entry.name.spelling())?;
-    out.push(b",")?;
-    push_number(out, entry.priority.get())?;
-    out.push(b" ")?;
+    out.push_byte(b',')?;
+    push_short(out, entry.priority.get())?;
+    out.push_byte(b' ')?;
     out.push(entry.application.bytes())
 }
 
@@ -181,7 +193,7 @@ fn push_refused(out: &mut Block, refusal: Refusal) -> Result<(), NoMemory>
 {
     out.push(b"refused ")?;
     push_number(out, u32::from(refusal.code()))?;
-    out.push(b" ")?;
+    out.push_byte(b' ')?;
     out.push(refusal.name().as_bytes())
 }
 
@@ -196,8 +208,8 @@ fn push_ran(
     ensures ok { OnOk result (out.new.begun ≡ out.old.begun ++ spec.reply_text machine.now number (Reply.Ran id)) }
 {
     out.push(b"ran ")?;
-    push_number(out, number)?;
-    out.push(b" ")?;
+    push_short(out, number)?;
+    out.push_byte(b' ')?;
     push_entry(out, machine.plan(), id)?;
     push_after(out, machine, number)
 }
@@ -208,7 +220,7 @@ fn push_started(out: &mut Block, channel: u32) -> Result<(), NoMemory>
     ensures ok { OnOk result (out.new.begun ≡ out.old.begun ++ (codes "started " ++ decimal channel)) }
 {
     out.push(b"started ")?;
-    push_number(out, channel)
+    push_short(out, channel)
 }
 
 /// Adds the line of a channel whose place has no entry.
@@ -221,7 +233,7 @@ fn push_no_entry(
     ensures ok { OnOk result (out.new.begun ≡ out.old.begun ++ spec.reply_text machine.now number Reply.NoEntry) }
 {
     out.push(b"no entry ")?;
-    push_number(out, number)?;
+    push_short(out, number)?;
     push_after(out, machine, number)
 }
 
@@ -235,7 +247,7 @@ fn push_invalid(
     ensures ok { OnOk result (out.new.begun ≡ out.old.begun ++ spec.reply_text machine.now number Reply.Invalid) }
 {
     out.push(b"invalid ")?;
-    push_number(out, number)?;
+    push_short(out, number)?;
     push_after(out, machine, number)
 }
 
@@ -246,8 +258,8 @@ fn push_offered(out: &mut Block, channel: u32, rung: usize) -> Result<(), NoMemo
         (codes "offered " ++ decimal channel ++ codes " " ++ decimal rung)) }
 {
     out.push(b"offered ")?;
-    push_number(out, channel)?;
-    out.push(b" ")?;
+    push_short(out, channel)?;
+    out.push_byte(b' ')?;
     push_number(out, rung)
 }
 
@@ -260,7 +272,7 @@ fn push_done(out: &mut Block, machine: &Machine<StandardApps>, number: u32) -> R
         return out.push(b"ok");
     }
     out.push(b"ok ")?;
-    push_number(out, number)?;
+    push_short(out, number)?;
     push_after(out, machine, number)
 }
 
@@ -316,7 +328,7 @@ fn push_value(
 {
     let value = machine.value(alloc, channel, name)?;
     out.push(name)?;
-    out.push(b"=")?;
+    out.push_byte(b'=')?;
     out.push(&value)
 }
 
