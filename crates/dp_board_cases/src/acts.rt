@@ -1,14 +1,12 @@
 //! Two seats act on two threads.
-use crate::play::{Exchange, Play, perform};
+use crate::play::{Play, perform};
 use dp_board::{Board, History, Seat, Session};
+use dp_board_fixture::{Exchange, SeatReply, give};
 use dp_machine::{EntryId, Event, Phase, Reply};
 use dp_table::StandardApps;
 use std::alloc::Global;
 use std::process::Abort;
 use std::sync::Wait;
-
-/// What a call was told: the place of its entry, and the reply.
-pub(super) type SeatReply = (usize, Reply);
 
 /// What a seat was told last, by its record.
 fn last_told<S: Session>(seat: &Seat<S>) -> Option<SeatReply> {
@@ -37,7 +35,7 @@ pub(super) fn step<S: Session, R: Wait>(
     seat: &mut Seat<S>,
     channel: u32,
 ) -> Option<SeatReply> {
-    board.act(rt, alloc, seat, Event::Step { channel }).ok()
+    give(rt, alloc, board, seat, Event::Step { channel })
 }
 
 /// One step of the seat's channel. Where memory is refused the record is as it was, and the step is

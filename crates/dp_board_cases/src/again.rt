@@ -3,6 +3,7 @@ use crate::acts::{channel_of, ran, steps};
 use crate::gates::ENDED;
 use crate::play::{Play, perform};
 use dp_board::{Attended, Board, Gate, Seat, SeatCall, Session};
+use dp_board_fixture::attend;
 use dp_machine::Reply;
 use dp_table::StandardApps;
 use std::alloc::Global;
@@ -55,13 +56,11 @@ fn attend_rest<S: Session, R: Wait>(
     let channel = channel_of(seat);
     let given = gate.given.load(Ordering::SeqCst);
     let left = 2u64.saturating_sub(given);
-    match board.attend(rt, alloc, seat, channel, gate, left) {
-        Ok(Attended { steps, why }) => Some(Attended {
-            steps: steps.saturating_add(given),
-            why,
-        }),
-        Err(_) => None,
-    }
+    let Attended { steps, why } = attend(rt, alloc, board, seat, channel, gate, left)?;
+    Some(Attended {
+        steps: steps.saturating_add(given),
+        why,
+    })
 }
 
 /// Attends the seat's channel for two turns. Where memory is refused the record holds the earlier steps, and the channel is attended once

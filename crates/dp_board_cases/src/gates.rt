@@ -1,24 +1,12 @@
 //! Two channels are attended on two threads, and gates hold one until the other has acted.
 use crate::acts::channel_of;
 use crate::play::{Play, perform};
-use dp_board::{Attended, Board, Gate, Seat, Session, Why};
-use dp_board_fixture::{Crossed, gate_of};
+use dp_board::{Attended, Board, Seat, Session, Why};
+use dp_board_fixture::{Crossed, attend, gate_of};
 use dp_table::StandardApps;
 use std::alloc::Global;
 use std::process::Abort;
 use std::sync::Wait;
-
-/// A channel is attended for at most two turns.
-pub(super) fn attend<S: Session, R: Wait, G: Gate>(
-    rt: &R,
-    alloc: Global,
-    board: &Board<StandardApps, S>,
-    seat: &mut Seat<S>,
-    channel: u32,
-    gate: &G,
-) -> Option<Attended> {
-    board.attend(rt, alloc, seat, channel, gate, 2).ok()
-}
 
 /// A channel that ended with its second step.
 pub(super) const ENDED: Attended = Attended {
@@ -35,7 +23,7 @@ pub(super) fn act_crossed<S: Session, R: Wait + Abort>(
     gate: &Crossed,
 ) {
     let channel = channel_of(seat);
-    let attended = attend(rt, alloc, board, seat, channel, gate);
+    let attended = attend(rt, alloc, board, seat, channel, gate, 2);
     assert!(rt; attended == Some(ENDED));
 }
 

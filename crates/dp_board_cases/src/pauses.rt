@@ -1,9 +1,8 @@
 //! A channel pauses, and the other seat dials digits and ends the pause.
 use crate::acts::step;
-use crate::gates::attend;
 use crate::play::{Play, perform};
 use dp_board::{Attended, Board, Gate, Seat, Session, Why};
-use dp_board_fixture::hold;
+use dp_board_fixture::{attend, give, hold};
 use dp_machine::{Event, Reply};
 use dp_table::StandardApps;
 use std::alloc::Global;
@@ -37,14 +36,14 @@ impl Gate for Paced {
 }
 
 /// Gives an event that is done.
-fn give<S: Session, R: Wait + Abort>(
+fn give_done<S: Session, R: Wait + Abort>(
     rt: &R,
     alloc: Global,
     board: &Board<StandardApps, S>,
     seat: &mut Seat<S>,
     event: Event,
 ) {
-    let told = board.act(rt, alloc, seat, event).ok();
+    let told = give(rt, alloc, board, seat, event);
     assert!(rt; matches!(told, Some((_, Reply::Done))));
 }
 
@@ -65,13 +64,13 @@ fn pace<S: Session, R: Wait + Abort>(
 ) {
     let (channel, digit) = (1, b'5');
     hold(&gate.stepped, &gate.marks);
-    give(rt, alloc, board, seat, Event::Digit { channel, digit });
+    give_done(rt, alloc, board, seat, Event::Digit { channel, digit });
     gate.dialled.store(1, Ordering::SeqCst);
     idle(gate);
-    give(rt, alloc, board, seat, Event::Digit { channel, digit });
+    give_done(rt, alloc, board, seat, Event::Digit { channel, digit });
     idle(gate);
     gate.due.store(1, Ordering::SeqCst);
-    give(rt, alloc, board, seat, Event::Timeout { channel });
+    give_done(rt, alloc, board, seat, Event::Timeout { channel });
 }
 
 /// Lets the channel pause before it is attended.
@@ -101,7 +100,7 @@ fn attend_paced<S: Session, R: Wait + Abort>(
         steps = 1;
     }
     let why = Why::Ended;
-    let attended = attend(rt, alloc, board, seat, 1, gate);
+    let attended = attend(rt, alloc, board, seat, 1, gate, 2);
     assert!(rt; attended == Some(Attended { steps, why }));
 }
 

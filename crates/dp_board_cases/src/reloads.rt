@@ -2,6 +2,7 @@
 use crate::acts::has_value;
 use crate::play::{Play, perform};
 use dp_board::{Board, Entry, History, Seat, Session};
+use dp_board_fixture::give;
 use dp_machine::{EntryId, Event, Phase, Reply, SharedText, Text};
 use dp_table::StandardApps;
 use std::alloc::Global;
@@ -57,7 +58,7 @@ pub(super) fn act_reload<S: Session, R: Wait + Abort>(
     for (place, call) in CALLS.iter().enumerate() {
         let event = event_of(rt, alloc, call.0);
         let seat = seats.get_mut(call.0 as usize).expect(rt, "a seat");
-        let told = board.act(rt, alloc, seat, event).ok();
+        let told = give(rt, alloc, board, seat, event);
         assert!(rt; told == Some((place, call.1)));
     }
 }

@@ -1,7 +1,7 @@
 //! A seat attends one channel after another.
 use crate::play::{Play, perform};
 use dp_board::{Attended, Board, Seat, Session, Why};
-use dp_board_fixture::{Crossed, gate_of};
+use dp_board_fixture::{Crossed, attend, gate_of};
 use dp_machine::Refusal;
 use dp_table::StandardApps;
 use std::alloc::Global;
@@ -39,7 +39,7 @@ pub(super) fn act_turns<S: Session, R: Wait + Abort>(
 ) {
     if seat.number() == 0 {
         for &(channel, turns, steps, why) in TURNS {
-            let attended = board.attend(rt, alloc, seat, channel, gate, turns).ok();
+            let attended = attend(rt, alloc, board, seat, channel, gate, turns);
             assert!(rt; attended == Some(Attended { steps, why }));
         }
     }

@@ -1,10 +1,16 @@
-//! Gates that cases of boards share: they hold a channel until another has acted, and know which calls they should get.
+//! What cases of boards share: gates, which hold a channel until another has acted and know which calls they should get, and what owns a
+//! machine, a board or a history.
 //!
 //! This is for tests alone.
 #![tactic(auto)]
 
+mod owned;
+
 use dp_board::{Entry, Gate};
 use dp_machine::Reply;
+pub use owned::{
+    Exchange, SeatReply, attend, give, let_go_history, let_go_machine, machine_of, settle,
+};
 use std::sync::atomic::{AtomicU64, Ordering};
 
 /// Waits until a flag is set, and marks a failure where that takes too long.

@@ -1,0 +1,231 @@
+//! What owns a machine, a board or a history. So what it comes to that one is let go is proved here, and in no crate of cases.
+//!
+//! Where memory is refused each call of a board hands back what it was given, or leaves it as it was, and is made once more.
+use dp_board::{
+    Attended, Back, Board, Event, Gate, History, Machine, NoMemory, Reply, Seat, Session, Text,
+    Unsettled,
+};
+use dp_machine::Dialplan;
+use dp_queue::Queues;
+use dp_table::StandardApps;
+use std::alloc::Global;
+use std::sync::Wait;
+
+/// A machine with the applications of the program.
+pub type Exchange = Machine<StandardApps>;
+
+/// What a call was told: the place of its entry, and the reply.
+pub type SeatReply = (usize, Reply);
+
+const PLAN: &[u8] = b"[globals]
+X=1
+Y=5
+[main]
+exten => add,1,AddQueueMember(q,Line/3)
+exten => ask,1,Queue(q)
+exten => say,1,NoOp()
+exten => wait,1,Wait(1)
+exten => 100,1,NoOp(a)
+exten => 100,2,NoOp(b)
+";
+
+const QUEUES: &[u8] = b"[q]
+joinempty=no
+";
+
+/// Lets go what is owned. Where a function does so itself, each way out of it has the drop of all that there is in a machine; here the
+/// one drop is that of a variable.
+fn let_go<M: Drop>(_owned: M) {}
+
+/// Lets go a machine that was given back, where there is one.
+pub fn let_go_machine(given_back: Option<Exchange>) {
+    let_go(given_back);
+}
+
+/// Lets go a history.
+pub fn let_go_history(history: History<StandardApps>) {
+    let_go(history);
+}
+
+/// A machine over the dialplan, with the queues.
+fn with_queues(alloc: Global, plan: Dialplan) -> Option<Exchange> {
+    match Queues::load(alloc, QUEUES) {
+        Ok(queues) => Exchange::new(alloc, plan, queues).ok(),
+        Err(_) => {
+            let_go(plan);
+            None
+        }
+    }
+}
+
+/// A machine over the dialplan, where memory is not refused.
+fn exchange(alloc: Global) -> Option<Exchange> {
+    match Dialplan::load(alloc, PLAN) {
+        Ok((plan, _notes)) => with_queues(alloc, plan),
+        Err(_) => None,
+    }
+}
+
+/// A machine over the dialplan, which is made once more where memory is refused.
+fn exchange_again(alloc: Global) -> Option<Exchange> {
+    match exchange(alloc) {
+        Some(machine) => Some(machine),
+        None => exchange(alloc),
+    }
+}
+
+fn call_to(alloc: Global, exten: &[u8]) -> Result<Event, NoMemory> {
+    let context = Text::copy_of(alloc, b"main")?;
+    let exten = Text::copy_of(alloc, exten)?;
+    let caller = Text::new(Vec::new(alloc));
+    Ok(Event::Start {
+        context,
+        exten,
+        caller,
+    })
+}
+
+fn start(alloc: Global, machine: &mut Exchange, exten: &[u8]) -> Result<Reply, NoMemory> {
+    machine.apply(alloc, call_to(alloc, exten)?)
+}
+
+/// Whether a call comes in, once more where memory is refused, and has this number.
+fn has_started(alloc: Global, machine: &mut Exchange, exten: &[u8], channel: u32) -> bool {
+    let reply = match start(alloc, machine, exten) {
+        Ok(reply) => Some(reply),
+        Err(_) => start(alloc, machine, exten).ok(),
+    };
+    reply == Some(Reply::Started(channel))
+}
+
+/// A machine with channel 1 at one extension and channel 2 at the other.
+pub fn machine_of(alloc: Global, first: &[u8], second: &[u8]) -> Option<Exchange> {
+    let mut machine = exchange_again(alloc)?;
+    if has_started(alloc, &mut machine, first, 1) && has_started(alloc, &mut machine, second, 2) {
+        return Some(machine);
+    }
+    let_go(machine);
+    None
+}
+
+/// What a seat is told of an event, where memory is not refused.
+pub fn give<S: Session, R: Wait>(
+    rt: &R,
+    alloc: Global,
+    board: &Board<StandardApps, S>,
+    seat: &mut Seat<S>,
+    event: Event,
+) -> Option<SeatReply> {
+    board.act(rt, alloc, seat, event).ok()
+}
+
+/// How it goes where a seat attends a channel, and memory is not refused.
+pub fn attend<S: Session, R: Wait, G: Gate>(
+    rt: &R,
+    alloc: Global,
+    board: &Board<StandardApps, S>,
+    seat: &mut Seat<S>,
+    channel: u32,
+    gate: &G,
+    turns: u64,
+) -> Option<Attended> {
+    board.attend(rt, alloc, seat, channel, gate, turns).ok()
+}
+
+/// A board with its seats.
+type Opened<S> = (Board<StandardApps, S>, Vec<Seat<S>>);
+
+/// What the settling of a board ends with.
+type Settled<S> = Result<History<StandardApps>, Unsettled<StandardApps, S>>;
+
+/// The board and the seats that are handed back.
+fn opened<S: Session>(back: Back<StandardApps, S>) -> Option<Opened<S>> {
+    match back {
+        Back::Open { board, seats } => Some((board, seats)),
+        closed => {
+            let_go(closed);
+            None
+        }
+    }
+}
+
+/// Settles, and once more where memory is refused, which is fault 62 and hands all back.
+fn settled<S: Session>(
+    alloc: Global,
+    board: Board<StandardApps, S>,
+    seats: Vec<Seat<S>>,
+) -> Option<Settled<S>> {
+    match board.settle(alloc, seats) {
+        Err(Unsettled { fault, back }) if fault.code() == 62 => {
+            let (board, seats) = opened(back)?;
+            Some(board.settle(alloc, seats))
+        }
+        ended => Some(ended),
+    }
+}
+
+/// What is handed back of a board that is settled without a seat, which is fault 60.
+fn unsettled<S: Session>(
+    alloc: Global,
+    board: Board<StandardApps, S>,
+    seats: Vec<Seat<S>>,
+) -> Option<Opened<S>> {
+    match settled(alloc, board, seats)? {
+        Err(Unsettled { fault, back }) if fault.code() == 60 => opened(back),
+        ended => {
+            let_go(ended);
+            None
+        }
+    }
+}
+
+/// Settles with the last seat, too.
+fn settle_all<S: Session>(alloc: Global, opened: Opened<S>, last: Seat<S>) -> Option<Settled<S>> {
+    let (board, mut seats) = opened;
+    match seats.push(last) {
+        Ok(()) => settled(alloc, board, seats),
+        Err(_) => {
+            let_go((board, seats));
+            None
+        }
+    }
+}
+
+/// Settles without the last seat, which hands all back, and then with it.
+fn settle_twice<S: Session>(
+    alloc: Global,
+    board: Board<StandardApps, S>,
+    seats: Vec<Seat<S>>,
+    last: Seat<S>,
+) -> Option<Settled<S>> {
+    match unsettled(alloc, board, seats) {
+        Some(opened) => settle_all(alloc, opened, last),
+        None => {
+            let_go(last);
+            None
+        }
+    }
+}
+
+/// The history of a board that settled.
+fn history_of<S: Session>(settled: Option<Settled<S>>) -> Option<History<StandardApps>> {
+    match settled {
+        Some(Ok(history)) => Some(history),
+        other => {
+            let_go(other);
+            None
+        }
+    }
+}
+
+/// The history of a board that settles with all its seats, and before it, where it has a seat, not without the last one.
+pub fn settle<S: Session>(
+    alloc: Global,
+    board: Board<StandardApps, S>,
+    mut seats: Vec<Seat<S>>,
+) -> Option<History<StandardApps>> {
+    match seats.pop() {
+        Some(last) => history_of(settle_twice(alloc, board, seats, last)),
+        None => history_of(settled(alloc, board, seats)),
+    }
+}
