@@ -1,9 +1,7 @@
-//! Cases of commands, and of runs of scripts in threads, as tables with their answers.
+//! Cases of commands, as tables with their answers.
 //!
 //! A crate with tests is proved twice, so the cases of the libraries stand in crates of their own, where each is proved once.
 #![tactic(auto)]
 
 #[cfg(test)]
 mod commands;
-#[cfg(test)]
-mod threads;
