@@ -82,6 +82,7 @@ impl TargetParts {
     }
 
     /// These parts and one more after them, as texts of their own.
+    #[inline(always)]
     pub fn with_last(alloc: Global, front: &[&[u8]], last: &[u8]) -> Result<Self, NoMemory>
         ensures { IfOk result (λ made. made ≡ map (λ part. part.now) front.now ++ last.now ∷ []) }
     {

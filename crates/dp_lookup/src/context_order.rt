@@ -46,6 +46,7 @@ impl ContextOrder {
     }
 
     /// Whether it is that of the context of this name, which the dialplan has. No table of names is asked.
+    #[inline(always)]
     pub fn is_of(&self, plan: &Dialplan, context: &Text) -> bool
         ensures { IsTrue result ↔ MatchOption self.now.context ⊥ (λ number. number_of plan.now context.now
             ≡ Some number) }
@@ -57,6 +58,7 @@ impl ContextOrder {
     }
 
     /// Makes it that of the context of this name. It is filled anew only where it was that of another, and takes no memory.
+    #[inline(always)]
     pub fn turn_to(&mut self, plan: &Dialplan, context: &Text)
         requires { IsOrder plan.now self.old }
         ensures contexts { self.new.order.contexts ≡ search_order plan.now context.now }

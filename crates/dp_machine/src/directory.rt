@@ -40,6 +40,7 @@ impl Tables {
     }
 
     /// Makes the first order that of the context of this name. It takes no memory.
+    #[inline(always)]
     fn turn_to(&mut self, plan: &Dialplan, context: &Text)
         requires { AreTables plan.now self.old }
         ensures contexts { self.new.orders.first.order.contexts ≡ search_order plan.now context.now }
@@ -95,6 +96,7 @@ impl Directory {
     /// The entry that answers for the extension of the context at the priority: that of the most specific name that matches,
     /// in the first context that has one.
     #[tactic(auto, unfolding(crate::specs::Found::id_found))]
+    #[inline(always)]
     pub(crate) fn find(&mut self, context: &Text, exten: &[u8], priority: u32) -> Option<EntryId>
         ensures found { result ≡ spec.id_found self.old context.now exten.now priority }
         ensures same { self.new ≡ self.old }

@@ -77,6 +77,7 @@ impl Orders {
     }
 
     /// Makes the first order that of the context of this name. It takes no memory.
+    #[inline(always)]
     pub(crate) fn turn_to(&mut self, plan: &Dialplan, context: &Text)
         requires { AreOrders plan.now self.old }
         ensures contexts { self.new.first.order.contexts ≡ search_order plan.now context.now }

@@ -58,6 +58,7 @@ fn exten_of<'a>(own: &'a Place, front: &'a [Text]) -> &'a [u8]
 
 /// The priority that the parts ask for, for a channel at its own place, where they ask for one.
 #[tactic(auto, unfolding(crate::specs::Targets::parts_place))]
+#[inline(always)]
 fn parts_priority(plan: &mut Directory, own: &Place, parts: &TargetParts) -> Option<u32>
     ensures place { spec.parts_place plan.old own.now parts.now
         ≡ option_map (spec.place_of (spec.parts_context own.now parts.now)
@@ -71,6 +72,7 @@ fn parts_priority(plan: &mut Directory, own: &Place, parts: &TargetParts) -> Opt
 }
 
 /// Puts a context in the place of the channel's own, unless it is empty or not there.
+#[inline(always)]
 fn put_context(own: &mut Text, part: Option<Text>)
     ensures { own.new ≡ spec.given_or own.old part }
 {
@@ -81,6 +83,7 @@ fn put_context(own: &mut Text, part: Option<Text>)
 }
 
 /// Puts an extension in the place of the channel's own, unless it is empty or not there.
+#[inline(always)]
 fn put_exten(own: &mut Exten, part: Option<Text>)
     ensures { own.new ≡ spec.given_or own.old part }
 {
@@ -91,6 +94,7 @@ fn put_exten(own: &mut Exten, part: Option<Text>)
 }
 
 /// Makes the channel ready at the place of these parts, at most three, of which the last asked for the priority.
+#[inline(always)]
 fn go_to_parts(channel: &mut Channel, parts: TargetParts, priority: u32)
     requires { length parts ≤ 3 }
     ensures { channel.new ≡ channels.ready_at channel.old
@@ -125,6 +129,7 @@ pub(crate) fn land(plan: &mut Directory, channel: &mut Channel, target: Target)
 }
 
 /// Makes the channel ready at the place that the parts name.
+#[inline(always)]
 fn land_at_parts(plan: &mut Directory, channel: &mut Channel, parts: TargetParts)
     ensures channel { channel.new ≡ channels.landed plan.old channel.old
         (spec.parts_place plan.old channel.old.place parts) }

@@ -130,6 +130,7 @@ fn count_below(names: &[PlainName], digits: &Digits<'_>, limit: u8) -> usize
 }
 
 /// Whether the name is one of those that the question asks for. A name that matches is the digits themselves.
+#[inline(always)]
 fn fits(plain: &PlainName, question: Question, digits: &Digits<'_>) -> bool
     ensures { result ≡ (rank_of (undashed digits.now.text.now) plain.now == rank (fitting (is_more question))) }
 {
@@ -141,6 +142,7 @@ fn fits(plain: &PlainName, question: Question, digits: &Digits<'_>) -> bool
 }
 
 /// The first entry of one plain name that the question asks for beside its name.
+#[inline(always)]
 fn find_own(plain: &PlainName, held: &[Held], question: Question) -> Option<EntryId>
     requires from { plain.now.from ≤ plain.now.until }
     requires until { plain.now.until ≤ length held.now }
@@ -180,6 +182,7 @@ fn find_in_front(
 }
 
 /// The first entry of one plain name that the question asks for.
+#[inline(always)]
 fn find_only(
     plain: &PlainName,
     held: &[Held],

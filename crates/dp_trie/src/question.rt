@@ -17,6 +17,7 @@ pub(crate) enum Question {
 }
 
 /// Whether the question is which names go on from the text.
+#[inline(always)]
 pub(crate) fn is_more(question: Question) -> bool
     ensures { result ≡ is_more question }
 {
@@ -39,6 +40,7 @@ fn search_priority(held: &[Held], priority: u32) -> Option<EntryId>
 }
 
 /// The entry of the priority. Priorities mostly count from 1, so its place is tried first.
+#[inline(always)]
 fn of_priority(held: &[Held], priority: u32) -> Option<EntryId>
     requires { Rise held.now }
     ensures { result ≡ option_map hit_held (lists.find (λ one. one.priority == priority) held.now) }
@@ -51,6 +53,7 @@ fn of_priority(held: &[Held], priority: u32) -> Option<EntryId>
 }
 
 /// The first of these entries, all of one name, that the question asks for.
+#[inline(always)]
 pub(crate) fn first_wanted(question: Question, held: &[Held]) -> Option<EntryId>
     requires { Rise held.now }
     ensures { result ≡ option_map hit_held (lists.find (holds (wants question)) held.now) }
