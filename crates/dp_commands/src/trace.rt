@@ -22,7 +22,6 @@ pub(crate) fn push_number<I: Integer>(out: &mut Block, number: I) -> Result<(), 
 
 /// Adds the number of a channel or of a priority in decimal. Many have one digit.
 #[tactic(auto, using(std::proofs::lemmas::Fmt::decimal_digit))]
-#[inline(always)]
 fn push_short(out: &mut Block, number: u32) -> Result<(), NoMemory>
     ensures kept { out.new.whole ≡ out.old.whole }
     ensures ok { OnOk result (out.new.begun ≡ out.old.begun ++ decimal number) }
@@ -34,7 +33,6 @@ fn push_short(out: &mut Block, number: u32) -> Result<(), NoMemory>
 }
 
 /// Adds `CONTEXT,EXTEN,PRIORITY`.
-#[inline(always)]
 pub(crate) fn push_place(
     out: &mut Block,
     context: &[u8],
@@ -52,7 +50,6 @@ pub(crate) fn push_place(
 }
 
 /// Adds the state of a channel that is ready.
-#[inline(always)]
 fn push_ready(out: &mut Block, place: Option<&Place>) -> Result<(), NoMemory>
     ensures kept { out.new.whole ≡ out.old.whole }
     ensures ok { OnOk result (out.new.begun ≡ out.old.begun ++ spec.ready_text (option_copied place.entry)) }
@@ -181,7 +178,6 @@ pub(crate) fn push_entry(out: &mut Block, plan: &Dialplan, id: EntryId) -> Resul
 }
 
 /// Adds ` -> ` and the state of the channel of this number.
-#[inline(always)]
 fn push_after(out: &mut Block, machine: &Machine<StandardApps>, number: u32) -> Result<(), NoMemory>
     ensures kept { out.new.whole ≡ out.old.whole }
     ensures ok { OnOk result (out.new.begun ≡ out.old.begun ++ codes " -> " ++ spec.state_text machine.now number) }
@@ -202,7 +198,6 @@ fn push_refused(out: &mut Block, refusal: Refusal) -> Result<(), NoMemory>
 }
 
 /// Adds the line of a step that ran an entry.
-#[inline(always)]
 fn push_ran(
     out: &mut Block,
     machine: &Machine<StandardApps>,
