@@ -20,9 +20,15 @@ pub(crate) enum Held {
 /// An extension. One of a single byte takes no memory, as `i`, `t` and `h`, to which a channel goes by itself, and one digit.
 ///
 /// A contract sees it as its bytes. Two extensions are equal where their bytes are.
-#[derive(Drop)]
 pub struct Exten {
     held: Held,
+}
+
+impl Drop for Exten {
+    #[inline(always)]
+    fn drop(self) {
+        let Exten { held: _ } = self;
+    }
 }
 
 impl Model for Exten {

@@ -4,7 +4,7 @@ use crate::phase::Phase;
 use crate::target::Target;
 
 /// Where a channel goes after an application.
-#[derive(Debug, Drop)]
+#[derive(Drop)]
 pub enum Move {
     /// To the next priority.
     Next,

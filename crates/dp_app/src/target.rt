@@ -9,7 +9,7 @@ use std::alloc::Global;
 use std::marker::Model;
 
 /// How the parts of a target are kept.
-#[derive(Debug, Drop)]
+#[derive(Drop)]
 pub(crate) enum KeptParts {
     /// The parts before the last one, and the last one, which takes no memory where it has few bytes.
     Apart {
@@ -22,7 +22,7 @@ pub(crate) enum KeptParts {
 
 /// The parts of a target in the order of its text, which a contract sees as the list of them: `[[context,]extension,]priority`.
 /// There is at least the last one. Of more than three there is the text alone, however many they are.
-#[derive(Debug, Drop)]
+#[derive(Drop)]
 pub struct TargetParts {
     kept: KeptParts,
 }
@@ -117,7 +117,7 @@ impl TargetParts {
 }
 
 /// Where an application sends a channel.
-#[derive(Debug, Drop)]
+#[derive(Drop)]
 pub enum Target {
     /// This place.
     To(Place),

@@ -7,10 +7,18 @@ use std::marker::Model;
 
 /// All calls of a board, in the order in which they were done, and the machine after the last of them. A contract sees it
 /// as the entries and the machine's world.
-#[derive(Drop)]
 pub struct History<T> {
     machine: Machine<T>,
     entries: Vec<Entry>,
+}
+
+impl<T> Drop for History<T> {
+    fn drop(self) {
+        let History {
+            machine: _,
+            entries: _,
+        } = self;
+    }
 }
 
 impl<T> Model for History<T> {

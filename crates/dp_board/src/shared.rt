@@ -18,11 +18,20 @@ use std::sync::ledger::{Book, Share};
 /// The machine that the seats of a session share, and the entries of the calls so far. Its world and the replies in the
 /// entries are always those of the events in the entries, one after another, from the world in which the session opened.
 /// A contract sees it as the world and the entries.
-#[derive(Drop)]
 pub struct Shared<T: AppTable, S: Session> {
     machine: Machine<T>,
     entries: Vec<Entry>,
     calls: Book<S>,
+}
+
+impl<T: AppTable, S: Session> Drop for Shared<T, S> {
+    fn drop(self) {
+        let Shared {
+            machine: _,
+            entries: _,
+            calls: _,
+        } = self;
+    }
 }
 
 impl<T: AppTable, S: Session> Model for Shared<T, S> {

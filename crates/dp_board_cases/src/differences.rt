@@ -1,5 +1,4 @@
 //! Where a history and a record first differ.
-use crate::play::let_go;
 use dp_board::{Disagree, Entry, SeatCall, first_difference};
 use dp_machine::{Event, Reply};
 use std::process::Abort;
@@ -29,5 +28,4 @@ fn differences(rt: HostRuntime) {
         reply,
     }];
     check_differences(&rt, &entries, &told);
-    let_go((entries, told));
 }

@@ -9,9 +9,7 @@ use crate::pauses::{Paced, act_paced, has_paced};
 use crate::reloads::{act_reload, check_reload};
 use crate::turns::act_turns;
 use dp_board::{Board, History, Seat, Session};
-use dp_board_fixture::{
-    Crossed, Exchange, SeatReply, let_go_history, let_go_machine, machine_of, settle,
-};
+use dp_board_fixture::{Crossed, Exchange, SeatReply, machine_of, settle};
 use dp_table::StandardApps;
 use std::alloc::Global;
 use std::marker::Brand;
@@ -19,9 +17,6 @@ use std::process::Abort;
 use std::sync::Wait;
 use std::sync::ledger::Blank;
 use std::thread::{Threads, for_each_mut};
-
-/// Lets go what is owned, by the drop of a variable.
-pub(super) fn let_go<M: Drop>(_owned: M) {}
 
 /// What the seats of a board do.
 #[derive(Drop)]
@@ -147,7 +142,6 @@ fn play_out<S: Session + Send + Sync, R: Threads + Wait + Abort + Sync>(
     let told = told_of(&seats);
     let history = settle(alloc, board, seats).expect(rt, "settled");
     check(rt, alloc, &history, play, told);
-    let_go_history(history);
 }
 
 /// Plays on a board of so many seats over the machine, which is given back where the board does not open.
@@ -198,7 +192,5 @@ pub(super) fn perform<R: Threads + Wait + Abort + Sync>(
     if let Some(machine) = played(rt, alloc, machine, seats, &play) {
         let given_back = played(rt, alloc, machine, seats, &play);
         assert!(rt; given_back.is_none());
-        let_go_machine(given_back);
     }
-    let_go(play);
 }

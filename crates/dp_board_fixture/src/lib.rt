@@ -8,9 +8,7 @@ mod owned;
 
 use dp_board::{Entry, Gate};
 use dp_machine::Reply;
-pub use owned::{
-    Exchange, SeatReply, attend, give, let_go_history, let_go_machine, machine_of, settle,
-};
+pub use owned::{Exchange, SeatReply, attend, give, machine_of, settle};
 use std::sync::atomic::{AtomicU64, Ordering};
 
 /// Waits until a flag is set, and marks a failure where that takes too long.

@@ -33,29 +33,10 @@ const QUEUES: &[u8] = b"[q]
 joinempty=no
 ";
 
-/// Lets go what is owned. Where a function does so itself, each way out of it has the drop of all that there is in a machine; here the
-/// one drop is that of a variable.
-fn let_go<M: Drop>(_owned: M) {}
-
-/// Lets go a machine that was given back, where there is one.
-pub fn let_go_machine(given_back: Option<Exchange>) {
-    let_go(given_back);
-}
-
-/// Lets go a history.
-pub fn let_go_history(history: History<StandardApps>) {
-    let_go(history);
-}
-
 /// A machine over the dialplan, with the queues.
 fn with_queues(alloc: Global, plan: Dialplan) -> Option<Exchange> {
-    match Queues::load(alloc, QUEUES) {
-        Ok(queues) => Exchange::new(alloc, plan, queues).ok(),
-        Err(_) => {
-            let_go(plan);
-            None
-        }
-    }
+    let queues = Queues::load(alloc, QUEUES).ok()?;
+    Exchange::new(alloc, plan, queues).ok()
 }
 
 /// A machine over the dialplan, where memory is not refused.
@@ -104,7 +85,6 @@ pub fn machine_of(alloc: Global, first: &[u8], second: &[u8]) -> Option<Exchange
     if has_started(alloc, &mut machine, first, 1) && has_started(alloc, &mut machine, second, 2) {
         return Some(machine);
     }
-    let_go(machine);
     None
 }
 
@@ -142,10 +122,7 @@ type Settled<S> = Result<History<StandardApps>, Unsettled<StandardApps, S>>;
 fn opened<S: Session>(back: Back<StandardApps, S>) -> Option<Opened<S>> {
     match back {
         Back::Open { board, seats } => Some((board, seats)),
-        closed => {
-            let_go(closed);
-            None
-        }
+        Back::Closed { .. } => None,
     }
 }
 
@@ -172,23 +149,15 @@ fn unsettled<S: Session>(
 ) -> Option<Opened<S>> {
     match settled(alloc, board, seats)? {
         Err(Unsettled { fault, back }) if fault.code() == 60 => opened(back),
-        ended => {
-            let_go(ended);
-            None
-        }
+        _ => None,
     }
 }
 
 /// Settles with the last seat, too.
 fn settle_all<S: Session>(alloc: Global, opened: Opened<S>, last: Seat<S>) -> Option<Settled<S>> {
     let (board, mut seats) = opened;
-    match seats.push(last) {
-        Ok(()) => settled(alloc, board, seats),
-        Err(_) => {
-            let_go((board, seats));
-            None
-        }
-    }
+    seats.push(last).ok()?;
+    settled(alloc, board, seats)
 }
 
 /// Settles without the last seat, which hands all back, and then with it.
@@ -198,23 +167,15 @@ fn settle_twice<S: Session>(
     seats: Vec<Seat<S>>,
     last: Seat<S>,
 ) -> Option<Settled<S>> {
-    match unsettled(alloc, board, seats) {
-        Some(opened) => settle_all(alloc, opened, last),
-        None => {
-            let_go(last);
-            None
-        }
-    }
+    let opened = unsettled(alloc, board, seats)?;
+    settle_all(alloc, opened, last)
 }
 
 /// The history of a board that settled.
 fn history_of<S: Session>(settled: Option<Settled<S>>) -> Option<History<StandardApps>> {
     match settled {
         Some(Ok(history)) => Some(history),
-        other => {
-            let_go(other);
-            None
-        }
+        _ => None,
     }
 }
 

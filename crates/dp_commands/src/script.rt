@@ -13,7 +13,7 @@ use dp_plan::{NoMemory, SharedText, Text};
 use std::alloc::Global;
 
 /// What a line of a script asks for.
-#[derive(Debug, PartialEq, Eq, Drop)]
+#[derive(PartialEq, Eq, Drop)]
 pub enum Turn {
     /// An event of the machine.
     Event(Event),
@@ -22,7 +22,7 @@ pub enum Turn {
 }
 
 /// One line of a script: a turn, and how many times it is taken.
-#[derive(Debug, PartialEq, Eq, Drop)]
+#[derive(PartialEq, Eq, Drop)]
 pub struct ScriptLine {
     pub turn: Turn,
     pub count: u32,

@@ -32,9 +32,6 @@ use std::sync::Wait;
 use std::sync::ledger::Blank;
 use std::thread::Threads;
 
-/// Lets go of what is owned. It is of any type here, so that the drop is that of a variable.
-fn let_go<M: Drop>(_owned: M) {}
-
 /// Why a board was not settled, though each seat was handed in.
 fn settle_fault(fault: SettleFault) -> PbxFault
     requires { spec.misses_no_seat fault ≡ true }
@@ -58,11 +55,7 @@ fn settled<S: Session>(
 {
     match board.settle(alloc, seats) {
         Ok(history) => Ok(history),
-        Err(unsettled) => {
-            let fault = unsettled.fault;
-            let_go(unsettled);
-            Err(settle_fault(fault))
-        }
+        Err(unsettled) => Err(settle_fault(unsettled.fault)),
     }
 }
 

@@ -18,9 +18,15 @@ pub const MOST_NESTING: usize = 32;
 /// A text of any bytes in which at most 32 groups stand inside each other, such as the arguments of an application.
 ///
 /// A contract sees it as its bytes. Two texts are equal where their bytes are.
-#[derive(Drop)]
 pub struct ShallowText {
     text: Text,
+}
+
+impl Drop for ShallowText {
+    #[inline(always)]
+    fn drop(self) {
+        let ShallowText { text: _ } = self;
+    }
 }
 
 impl Model for ShallowText {

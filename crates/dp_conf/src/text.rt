@@ -17,9 +17,15 @@ use std::marker::Model;
 /// A text of any bytes, such as a name, a key or a value.
 ///
 /// A contract sees it as its bytes. Two texts are equal where their bytes are.
-#[derive(Drop)]
 pub struct Text {
     bytes: Vec<u8>,
+}
+
+impl Drop for Text {
+    #[inline(always)]
+    fn drop(self) {
+        let Text { bytes: _ } = self;
+    }
 }
 
 impl Model for Text {

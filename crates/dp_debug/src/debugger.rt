@@ -13,7 +13,7 @@ use std::alloc::Global;
 use std::marker::Model;
 
 /// A debugger, which contracts see as the replies to the events that its run took.
-#[derive(Debug, Drop)]
+#[derive(Drop)]
 pub struct Debugger {
     trace: Vec<Reply>,
 }

@@ -10,7 +10,7 @@ use crate::operator::{Operator, Prefix};
 use crate::text::Text;
 
 /// What waits for an operand.
-#[derive(Clone, Copy, Debug)]
+#[derive(Clone, Copy)]
 pub enum Frame<'a> {
     /// A binary operator with the value on its left.
     Left(Operator, Option<Text<'a>>),

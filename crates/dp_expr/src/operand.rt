@@ -6,7 +6,7 @@ ghost use Rattle.dp_expr.specs.Numbers.{number_of};
 use crate::number::number_of;
 
 /// An operand as it stands in the text, and the number that it writes, if it writes one.
-#[derive(Clone, Copy, Debug)]
+#[derive(Clone, Copy)]
 pub struct Operand<'a> {
     pub text: &'a [u8],
     pub number: Option<i64>,

@@ -4,7 +4,7 @@ ghost use Rattle.std.specs.Prelude.{◌≡◌};
 ghost use Rattle.dp_expr.specs.Trees.{level_of};
 
 /// An operator between two operands. `||`, `&&` and `==` spell the first three too.
-#[derive(Clone, Copy, Debug, PartialEq, Eq)]
+#[derive(Clone, Copy, PartialEq, Eq)]
 pub enum Operator {
     Or,
     And,
@@ -42,7 +42,7 @@ impl Operator {
 }
 
 /// An operator before its one operand.
-#[derive(Clone, Copy, Debug, PartialEq, Eq)]
+#[derive(Clone, Copy, PartialEq, Eq)]
 pub enum Prefix {
     Negate,
     Not,

@@ -3,7 +3,7 @@
 use crate::text::Text;
 
 /// Where a walk is between two tokens.
-#[derive(Clone, Copy, Debug)]
+#[derive(Clone, Copy)]
 pub enum Place<'a> {
     /// An operand has to follow.
     Wanting,

@@ -12,7 +12,7 @@ use itoa::Buffer;
 use std::cmp::Ordering;
 
 /// The value of an expression that has no fault. It borrows from the text and takes no memory.
-#[derive(Clone, Copy, Debug)]
+#[derive(Clone, Copy)]
 pub enum Text<'a> {
     /// An operand as it stands.
     Written(Operand<'a>),

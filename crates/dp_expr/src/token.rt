@@ -7,7 +7,7 @@ ghost use Rattle.dp_expr.specs.steps.Seen.{token_seen, cut_seen, IsStart, IsNext
 use crate::operator::Operator;
 
 /// A token, which borrows the text.
-#[derive(Clone, Copy, Debug)]
+#[derive(Clone, Copy)]
 pub enum Token<'a> {
     /// A word, or a quoted operand with both its quotes.
     Operand(&'a [u8]),
@@ -21,7 +21,7 @@ pub enum Token<'a> {
 }
 
 /// A token, and how many bytes it takes of those after its first.
-#[derive(Clone, Copy, Debug)]
+#[derive(Clone, Copy)]
 struct Cut<'a> {
     token: Token<'a>,
     more: usize,

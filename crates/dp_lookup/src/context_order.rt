@@ -11,11 +11,19 @@ use std::marker::Model;
 
 /// A search order, and the context that it is of, so that it is filled anew only for another. A contract sees it as the
 /// search order and the number of that context.
-#[derive(Debug, Drop)]
 pub struct ContextOrder {
     order: SearchOrder,
     // The number of the context; None where that is unknown, and before the first.
     context: Option<usize>,
+}
+
+impl Drop for ContextOrder {
+    fn drop(self) {
+        let ContextOrder {
+            order: _,
+            context: _,
+        } = self;
+    }
 }
 
 impl Model for ContextOrder {

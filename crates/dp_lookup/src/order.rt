@@ -14,11 +14,20 @@ use std::marker::Model;
 ///
 /// After the Asterisk documentation's page on the dialplan, a context is searched and then its includes, in the order
 /// of the file. That they are searched depth first, each context once, is this program's own choice.
-#[derive(Debug, Drop)]
 pub struct SearchOrder {
     contexts: Vec<usize>,
     marks: Vec<bool>,
     frames: Vec<Frame>,
+}
+
+impl Drop for SearchOrder {
+    fn drop(self) {
+        let SearchOrder {
+            contexts: _,
+            marks: _,
+            frames: _,
+        } = self;
+    }
 }
 
 impl Model for SearchOrder {

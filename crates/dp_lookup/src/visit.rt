@@ -6,7 +6,7 @@ ghost use Rattle.dp_lookup.specs.steps.Filling.{pending, work, IsMarked, IsFilli
 use dp_plan::{Dialplan, Text};
 
 /// A context whose includes are visited: those from this one on are still to come.
-#[derive(Clone, Copy, Debug)]
+#[derive(Clone, Copy)]
 pub(crate) struct Frame {
     context: usize,
     next: usize,

@@ -3,7 +3,7 @@
 use crate::dial_status::DialStatus;
 
 /// What an event asks of one channel.
-#[derive(Clone, Copy, Debug)]
+#[derive(Clone, Copy)]
 pub(crate) enum ChannelEvent {
     Step,
     Digit(u8),

@@ -31,11 +31,20 @@ use std::marker::{Model, PhantomData};
 
 /// A machine over a table of applications, with its dialplan, its channels and what they share. A contract sees it as its
 /// world, which is a good one at all times.
-#[derive(Drop)]
 pub struct Machine<T> {
     exchange: Exchange,
     channels: Vec<Channel>,
     table: PhantomData<T>,
+}
+
+impl<T> Drop for Machine<T> {
+    fn drop(self) {
+        let Machine {
+            exchange: _,
+            channels: _,
+            table: _,
+        } = self;
+    }
 }
 
 impl<T> Model for Machine<T> {

@@ -5,7 +5,7 @@ ghost use Rattle.dp_machine.specs.Seen as seen;
 use dp_vars::Counts;
 
 /// What the globals see of queues while they are expanded: nobody waits in any.
-#[derive(Clone, Copy, Debug)]
+#[derive(Clone, Copy)]
 pub(crate) struct NoQueues;
 
 impl Counts for NoQueues {

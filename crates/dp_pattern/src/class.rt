@@ -13,9 +13,15 @@ use std::cmp::Ordering;
 use std::marker::Model;
 
 /// A class of a pattern: a finite set of bytes, which contracts see as its members in byte order.
-#[derive(Debug, Drop)]
+#[derive(Debug)]
 pub struct Class {
     members: Members,
+}
+
+impl Drop for Class {
+    fn drop(self) {
+        let Class { members: _ } = self;
+    }
 }
 
 const _: () = prove!(size_of::<Class>() == 16);

@@ -16,9 +16,16 @@ use std::marker::Model;
 /// The name of an extension: a plain text, or a pattern over dialled text.
 ///
 /// Contracts see it as its meaning, and know that some text means it.
-#[derive(Debug, Drop)]
+#[derive(Debug)]
 pub struct Name {
     kind: Kind,
+}
+
+impl Drop for Name {
+    #[inline(always)]
+    fn drop(self) {
+        let Name { kind: _ } = self;
+    }
 }
 
 const _: () = prove!(size_of::<Name>() == 32);

@@ -7,11 +7,21 @@ use std::alloc::Global;
 use std::marker::Model;
 
 /// A context: its name, and its entries and includes in the order of the file. A contract sees it as these three.
-#[derive(Debug, Drop)]
+#[derive(Debug)]
 pub struct Context {
     name: Text,
     entries: Vec<Entry>,
     includes: Vec<Text>,
+}
+
+impl Drop for Context {
+    fn drop(self) {
+        let Context {
+            name: _,
+            entries: _,
+            includes: _,
+        } = self;
+    }
 }
 
 impl Model for Context {

@@ -30,12 +30,23 @@ pub struct GlobalVariable {
 
 /// A loaded dialplan. A contract sees it as its global variables in the order of the file, and its contexts in the
 /// order of first appearance.
-#[derive(Debug, Drop)]
+#[derive(Debug)]
 pub struct Dialplan {
     globals: Vec<GlobalVariable>,
     names: IndexSet<Text>,
     contexts: Vec<Context>,
     rankings: Vec<Ranking>,
+}
+
+impl Drop for Dialplan {
+    fn drop(self) {
+        let Dialplan {
+            globals: _,
+            names: _,
+            contexts: _,
+            rankings: _,
+        } = self;
+    }
 }
 
 impl Model for Dialplan {

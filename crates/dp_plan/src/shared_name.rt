@@ -25,9 +25,16 @@ pub(crate) struct Spelled {
 
 /// The name of an extension with its canonical spelling. It has several owners, and its copies take no memory. A
 /// contract sees it as what the name means.
-#[derive(Debug, Drop)]
+#[derive(Debug)]
 pub struct SharedName {
     spelled: Arc<Spelled>,
+}
+
+impl Drop for SharedName {
+    #[inline(always)]
+    fn drop(self) {
+        let SharedName { spelled: _ } = self;
+    }
 }
 
 impl Model for SharedName {

@@ -16,9 +16,15 @@ use std::sync::Arc;
 
 /// A text with several owners, whose copies take no memory. A contract sees it as its bytes, and two are equal where
 /// these are.
-#[derive(Drop)]
 pub struct SharedText {
     text: Arc<Text>,
+}
+
+impl Drop for SharedText {
+    #[inline(always)]
+    fn drop(self) {
+        let SharedText { text: _ } = self;
+    }
 }
 
 impl Model for SharedText {

@@ -10,7 +10,7 @@ use std::collections::BTreeMap;
 use std::marker::Model;
 
 /// The agents in the order in which they were first named. They are never dropped, and no two have one name.
-#[derive(Debug, Drop)]
+#[derive(Drop)]
 pub(crate) struct Agents {
     list: Vec<Agent>,
     // The number of each agent by its name, in the order of the names: names may come from callers, and no choice of them makes

@@ -9,7 +9,7 @@ use crate::member::{Member, place_of};
 use crate::settings::Strategy;
 
 /// What members are compared by.
-#[derive(Clone, Copy, Debug, PartialEq, Eq)]
+#[derive(Clone, Copy, PartialEq, Eq)]
 pub(crate) enum Key {
     Penalty,
     Last,

@@ -16,7 +16,7 @@ use std::collections::HashMap;
 use std::marker::Model;
 
 /// The members of a queue in the order in which they came. No agent is a member twice.
-#[derive(Debug, Drop)]
+#[derive(Drop)]
 pub(crate) struct Members {
     list: Vec<Member>,
     // For the agent of each member, the rank of its arrival: each has more than those before it. It is where the member

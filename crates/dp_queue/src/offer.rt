@@ -30,7 +30,7 @@ pub struct Offered {
 }
 
 /// What an offer asks for: agents of a queue for a channel, by members of this penalty.
-#[derive(Clone, Copy, Debug, PartialEq, Eq)]
+#[derive(Clone, Copy, PartialEq, Eq)]
 pub(crate) struct OfferRequest {
     queue: usize,
     channel: u32,

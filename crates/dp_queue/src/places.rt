@@ -10,14 +10,14 @@ use std::hash::{FoldHasher, Hasher};
 use std::marker::Model;
 
 /// The hash of an element, and the last place before it of that hash.
-#[derive(Clone, Copy, Debug, PartialEq, Eq)]
+#[derive(Clone, Copy, PartialEq, Eq)]
 pub(crate) struct Link {
     pub(crate) hash: u64,
     pub(crate) before: Option<usize>,
 }
 
 /// The hashes of the elements of a list. A contract sees them in the order of the list.
-#[derive(Debug, Drop)]
+#[derive(Drop)]
 pub(crate) struct Places {
     // The last place of each hash.
     lasts: HashMap<u64, usize>,

@@ -21,7 +21,7 @@ use std::marker::Model;
 
 /// A queue: its name as its section writes it, its settings, its members in the order in which they came, and the
 /// channels that wait, the first of them first. A contract sees it as these, with the agent that `rrmemory` chose last.
-#[derive(Debug, Drop)]
+#[derive(Drop)]
 pub struct Queue {
     name: Text,
     settings: Settings,

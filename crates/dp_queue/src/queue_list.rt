@@ -19,7 +19,7 @@ use std::alloc::Global;
 use std::marker::Model;
 
 /// The queues in the order of the file. No two have one name, in any ASCII case.
-#[derive(Debug, Drop)]
+#[derive(Drop)]
 pub(crate) struct QueueList {
     list: Vec<Queue>,
     // Where the queues stand by the hashes of their names, so that none is looked for by a walk over them all.

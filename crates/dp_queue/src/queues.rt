@@ -17,13 +17,24 @@ use std::marker::Model;
 ///
 /// A contract sees the queues in the order of the file, the agents in the order in which they were first named, which
 /// are never dropped, and the count of finished calls of all queues, which stays at its greatest value.
-#[derive(Debug, Drop)]
 pub struct Queues {
     pub(crate) queues: QueueList,
     pub(crate) agents: Agents,
     // Where each channel waits, or with which agent it talks, so that no call walks over all waiting lists or all agents.
     pub(crate) seats: Seats,
     pub(crate) finished: u64,
+}
+
+impl Drop for Queues {
+    #[inline(always)]
+    fn drop(self) {
+        let Queues {
+            queues: _,
+            agents: _,
+            seats: _,
+            finished: _,
+        } = self;
+    }
 }
 
 impl Model for Queues {

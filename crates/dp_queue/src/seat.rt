@@ -9,14 +9,14 @@ use dp_conf::NoMemory;
 use std::collections::{HashMap, VecDeque};
 
 /// The number of the queue in which a channel waits, and how many agents ring for it.
-#[derive(Clone, Copy, Debug, PartialEq, Eq)]
+#[derive(Clone, Copy, PartialEq, Eq)]
 pub(crate) struct Seat {
     pub(crate) queue: usize,
     pub(crate) rung: usize,
 }
 
 /// What a channel does.
-#[derive(Clone, Copy, Debug, PartialEq, Eq)]
+#[derive(Clone, Copy, PartialEq, Eq)]
 pub(crate) enum Sitting {
     /// It waits, with the rank of its arrival: of the channels that wait in one queue, each has more than those before it.
     Waits { seat: Seat, arrival: u64 },

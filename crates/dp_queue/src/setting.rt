@@ -13,7 +13,7 @@ use std::alloc::Global;
 const MOST_NUMBER: u32 = 2_147_483_647;
 
 /// What a pair says of the settings of its queue.
-#[derive(Debug, Drop)]
+#[derive(Drop)]
 pub(crate) enum Setting {
     /// `strategy`.
     ChoosesBy(Strategy),

@@ -81,10 +81,6 @@ fn check_outcome(
     check_answer(alloc, asked, &got, want)
 }
 
-/// Lets go what is owned. Where a function does so itself, each way out of it has the drop of all that there is in a history; here the
-/// one drop is that of a variable.
-fn let_go<M: Drop>(_owned: M) {}
-
 /// The status of a run of these texts, of which the history is let go.
 fn ended<R: Threads + Wait + Sync>(
     rt: &R,
@@ -94,13 +90,8 @@ fn ended<R: Threads + Wait + Sync>(
     script: &[u8],
     writer: &mut Told<Vec<u8>>,
 ) -> Result<u8, PbxFault> {
-    match run_threads(rt, alloc, plan, None, None, script, threads, &Open, writer) {
-        Ok((status, history)) => {
-            let_go(history);
-            Ok(status)
-        }
-        Err(fault) => Err(fault),
-    }
+    let (status, _) = run_threads(rt, alloc, plan, None, None, script, threads, &Open, writer)?;
+    Ok(status)
 }
 
 /// What a run in threads prints, and what it ends with.
@@ -173,17 +164,12 @@ fn gated<R: Threads + Wait + Abort + Sync>(
     gate: &Crossed,
     writer: &mut Told<Vec<u8>>,
 ) -> Result<u8, PbxFault> {
-    match run_threads(
+    let (status, history) = run_threads(
         rt, alloc, GATED_PLAN, None, None, script, threads, gate, writer,
-    ) {
-        Ok((status, history)) => {
-            let fits = gate.fits(history.entries());
-            let_go(history);
-            assert!(rt; fits, "the gate of {events} in {threads} threads");
-            Ok(status)
-        }
-        Err(fault) => Err(fault),
-    }
+    )?;
+    let fits = gate.fits(history.entries());
+    assert!(rt; fits, "the gate of {events} in {threads} threads");
+    Ok(status)
 }
 
 fn check_gated<R: Threads + Wait + Abort + Sync>(

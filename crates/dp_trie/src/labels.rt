@@ -16,7 +16,7 @@ use dp_plan::{SharedName, SharedText};
 use std::alloc::Global;
 
 /// A label, a name that has it, and the priority that it stands for there.
-#[derive(Debug, Drop)]
+#[derive(Drop)]
 pub(crate) struct Labelled {
     pub(crate) label: SharedText,
     pub(crate) name: SharedName,

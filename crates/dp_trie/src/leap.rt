@@ -13,7 +13,7 @@ const MOST_PASSED: usize = 64;
 
 /// Classes that stand at the root of a tree one after another, from one place up to another, and for each byte whether one
 /// of them has it.
-#[derive(Debug, Drop)]
+#[derive(Drop)]
 pub(crate) struct Leap {
     pub(crate) from: usize,
     pub(crate) until: usize,

@@ -4,7 +4,7 @@ use dp_pattern::{Class, Tail};
 use dp_plan::SharedText;
 
 /// What is held of an entry beside its name. A contract sees its label here; a look-up finds it in the table of labels.
-#[derive(Debug, Drop)]
+#[derive(Drop)]
 pub(crate) struct Held {
     pub(crate) id: EntryId,
     pub(crate) priority: u32,
@@ -12,7 +12,7 @@ pub(crate) struct Held {
 }
 
 /// The end of a pattern: its tail, and which of the entries that are held are its own, from one place up to another.
-#[derive(Clone, Copy, Debug)]
+#[derive(Clone, Copy)]
 pub(crate) struct Leaf {
     pub(crate) tail: Tail,
     pub(crate) from: usize,
@@ -20,14 +20,14 @@ pub(crate) struct Leaf {
 }
 
 /// What stands at a node: a class that takes one more digit, or the end of a pattern.
-#[derive(Debug, Drop)]
+#[derive(Drop)]
 pub(crate) enum Step {
     Class(Class),
     Leaf(Leaf),
 }
 
 /// A node of a tree. So many classes stand above it; the nodes stand in the order in which a walk meets them.
-#[derive(Debug, Drop)]
+#[derive(Drop)]
 pub(crate) struct Node {
     pub(crate) depth: usize,
     pub(crate) step: Step,

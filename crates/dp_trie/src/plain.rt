@@ -16,7 +16,7 @@ use std::alloc::Global;
 use std::cmp::Ordering;
 
 /// A plain name, and which of the entries that are held are its own, from one place up to another.
-#[derive(Debug, Drop)]
+#[derive(Drop)]
 pub(crate) struct PlainName {
     pub(crate) name: Text,
     pub(crate) from: usize,

@@ -28,7 +28,7 @@ use std::marker::Model;
 
 /// What is kept of a context. A contract sees it as its entries in the order in which a look-up asks them, and the number
 /// of the nodes of its tree.
-#[derive(Debug, Drop)]
+#[derive(Drop)]
 pub(crate) struct Table {
     names: Vec<PlainName>,
     plain: Vec<Held>,

@@ -20,9 +20,14 @@ use std::marker::Model;
 /// A contract sees it as what it keeps of the dialplan that it was built from: of each context its entries, each with what
 /// its name means, its priority, its label and its number, in the order in which a look-up asks them; and how many nodes
 /// its tree has.
-#[derive(Debug, Drop)]
 pub struct Trie {
     tables: Vec<Table>,
+}
+
+impl Drop for Trie {
+    fn drop(self) {
+        let Trie { tables: _ } = self;
+    }
 }
 
 impl Model for Trie {

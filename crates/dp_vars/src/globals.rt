@@ -11,9 +11,15 @@ use std::marker::Model;
 /// The global variables with their values, which a contract sees as a finite map from names to values.
 ///
 /// Names are case sensitive.
-#[derive(Drop)]
 pub struct Globals {
     variables: Variables,
+}
+
+impl Drop for Globals {
+    #[inline(always)]
+    fn drop(self) {
+        let Globals { variables: _ } = self;
+    }
 }
 
 impl Model for Globals {

@@ -15,10 +15,15 @@ use std::marker::Model;
 /// The pieces of a text that stands elsewhere, as in a dialplan, and the place after them, from which all bytes are plain.
 ///
 /// A contract says of which text they are; they are expanded with that text.
-#[derive(Drop)]
 pub struct Pieces {
     pieces: Vec<Piece>,
     tail: usize,
+}
+
+impl Drop for Pieces {
+    fn drop(self) {
+        let Pieces { pieces: _, tail: _ } = self;
+    }
 }
 
 impl Model for Pieces {

@@ -18,10 +18,19 @@ use std::marker::Model;
 /// A contract sees the variables as a finite map, the frames as a list with the innermost last, and the names that were
 /// given to the store in the order of their numbers. Names are case sensitive. After a refused growth a call leaves all
 /// as before. A read and a `set` look at no frame, however many there are.
-#[derive(Drop)]
 pub struct Store<B> {
     table: Table,
     frames: Vec<Held<B>>,
+}
+
+impl<B: Drop> Drop for Store<B> {
+    #[inline(always)]
+    fn drop(self) {
+        let Store {
+            table: _,
+            frames: _,
+        } = self;
+    }
 }
 
 impl<B> Model for Store<B> {

@@ -33,10 +33,15 @@ impl From<AllocError> for TemplateFault {
 /// A text in which variables, functions and expressions stand in groups.
 ///
 /// A contract sees it as its text.
-#[derive(Drop)]
 pub struct Template {
     text: Vec<u8>,
     pieces: Pieces,
+}
+
+impl Drop for Template {
+    fn drop(self) {
+        let Template { text: _, pieces: _ } = self;
+    }
 }
 
 impl Model for Template {

@@ -12,3 +12,12 @@ invariant_of-self-2 g c =
       search rules,
       AreSeated-push g.S.Ledger.parts before.entries.items c.push_reserved.new.self.items entry c.self.invariant.2 c.seat.invariant.2 (search rules),
     )
+
+pub returns-clause-row : goal.returns-clause-row
+returns-clause-row g c = search rules
+
+pub returns-clause-logged : goal.returns-clause-logged
+returns-clause-logged g c = search rules
+
+pub returns-clause-kept : goal.returns-clause-kept
+returns-clause-kept g c = search rules
