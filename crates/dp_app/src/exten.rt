@@ -41,12 +41,15 @@ impl Model for Exten {
 }
 
 impl Exten {
-    /// The extension of a text. It takes no memory.
+    /// The extension of a text. It takes no memory, and gives that of a single byte back.
     pub fn new(text: Text) -> Self
         ensures { result ≡ text }
     {
-        Exten {
-            held: Held::Text(text),
+        match text.bytes() {
+            [byte] => Exten::of_byte(*byte),
+            _ => Exten {
+                held: Held::Text(text),
+            },
         }
     }
 

@@ -42,7 +42,7 @@ impl Model for TargetParts {
 fn copies_of(alloc: Global, parts: &[&[u8]]) -> Result<Vec<Text>, NoMemory>
     ensures { IfOk result (λ texts. texts.items ≡ map (λ part. part.now) parts.now) }
 {
-    let mut texts = Vec::new(alloc);
+    let mut texts = Vec::with_capacity(alloc, parts.len())?;
     for part in parts {
         let text = Text::copy_of(alloc, part)?;
         texts.push(text)?;

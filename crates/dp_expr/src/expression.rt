@@ -2,14 +2,13 @@
 
 ghost use Rattle.std.specs.Prelude.{◌≡◌, ◌↔◌, ℕ, List, [], IfOk};
 ghost use Rattle.dp_expr.specs.Tokens.{tokens_of};
-ghost use Rattle.dp_expr.specs.steps.Texts.{text_seen, value_seen};
+ghost use Rattle.dp_expr.specs.steps.Texts.{value_seen};
 ghost use Rattle.dp_expr.specs.Trees.{Tree, IsTree};
 ghost use Rattle.dp_expr.specs.Values.{value_of, answer};
 ghost use Rattle.dp_expr.specs.Expression.{IsValue, expression_value};
 
-use crate::text::Text;
+use crate::value::Value;
 use crate::{NoMemory, walk};
-use itoa::Buffer;
 use std::alloc::Global;
 
 /// The value of the expression that a text holds, or the empty text for a fault.
@@ -24,27 +23,18 @@ use std::alloc::Global;
 /// and quotes that stay are choices of this program.
 ///
 /// The error comes only where a growth was refused.
-pub fn evaluate(alloc: Global, text: &[u8]) -> Result<Vec<u8>, NoMemory>
+pub fn evaluate(alloc: Global, text: &[u8]) -> Result<Value, NoMemory>
     // The value of the text's one tree.
     ensures value { (tree : Tree) → IsTree text.now tree
-        → IfOk result (λ bytes. bytes.items ≡ answer (value_of tree)) }
+        → IfOk result (λ value. value ≡ answer (value_of tree)) }
     // A text with no tree.
-    ensures fault { ((tree : Tree) → ¬ (IsTree text.now tree)) → IfOk result (λ bytes. bytes.items ≡ []) }
+    ensures fault { ((tree : Tree) → ¬ (IsTree text.now tree)) → IfOk result (λ value. value ≡ []) }
     // The same by a function.
-    ensures exact { IfOk result (λ bytes. bytes.items ≡ expression_value text.now) }
+    ensures exact { IfOk result (λ value. value ≡ expression_value text.now) }
 {
     match walk::value(alloc, text)? {
-        Some(value) => bytes_of(alloc, &value),
-        None => Ok(Vec::new(alloc)),
-    }
-}
-
-fn bytes_of(alloc: Global, text: &Text<'_>) -> Result<Vec<u8>, NoMemory>
-    ensures { IfOk result (λ bytes. bytes.items ≡ text_seen text.now) }
-{
-    match text {
-        Text::Written(operand) => Vec::from_slice(alloc, operand.text),
-        Text::Computed(number) => Vec::from_slice(alloc, Buffer::new().format(*number).as_bytes()),
+        Some(value) => Value::of(alloc, &value),
+        None => Ok(Value::empty(alloc)),
     }
 }
 

@@ -23,7 +23,9 @@ mod place;
 mod stack;
 mod text;
 mod token;
+mod value;
 mod walk;
 
 pub use expression::{evaluate, one_tree, one_value};
 pub use std::alloc::AllocError as NoMemory;
+pub use value::Value;

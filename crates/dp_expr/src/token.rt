@@ -27,8 +27,6 @@ struct Cut<'a> {
     more: usize,
 }
 
-const MARKS: &[u8] = b"\"|&=<>+-*/%!():?~";
-
 fn is_blank(byte: u8) -> bool
     ensures { result ≡ is_blank byte }
 {
@@ -39,7 +37,27 @@ fn is_blank(byte: u8) -> bool
 fn is_word_byte(byte: u8) -> bool
     ensures { result ≡ is_word_byte byte }
 {
-    !is_blank(byte) && !MARKS.contains(&byte)
+    match byte {
+        0..=b' ' => false,
+        b'"'
+        | b'|'
+        | b'&'
+        | b'='
+        | b'<'
+        | b'>'
+        | b'+'
+        | b'-'
+        | b'*'
+        | b'/'
+        | b'%'
+        | b'!'
+        | b'('
+        | b')'
+        | b':'
+        | b'?'
+        | b'~' => false,
+        _ => true,
+    }
 }
 
 /// How many bytes of a word the text begins with.

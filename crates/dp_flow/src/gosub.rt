@@ -3,14 +3,15 @@ ghost use Rattle.std.specs.Prelude.{◌≡◌, ◌+◌, ◌++◌, ◌≤◌, ◌
 ghost use Rattle.std.specs.Fmt.{decimal};
 ghost use Rattle.std.specs.Option.{option_map};
 ghost use Rattle.dp_conf.specs.Cut.{cut_once};
+ghost use Rattle.dp_conf.specs.Levels.{arguments_of};
 ghost use Rattle.dp_conf.specs.Numbers.{most_priority};
 ghost use Rattle.dp_flow.specs.steps.Calls as calls;
 ghost use Rattle.dp_flow.specs.Jumps as spec;
 
 use crate::choice::chosen;
 use dp_app::{Application, Cell, Move, Place, Target, TargetParts, Touch};
-use dp_conf::{NoMemory, Text, before_last, cut_once, split_args, trim};
-use dp_vars::Variable;
+use dp_conf::{NoMemory, Text, before_last, cut_once, first_argument, split_args, trim};
+use dp_vars::{LocalName, Variable};
 use itoa::Buffer;
 use std::alloc::Global;
 
@@ -42,13 +43,13 @@ fn called_by(part: &[u8]) -> Option<SubroutineCall<'_>>
 }
 
 /// `ARG` and the number.
-fn argument_name(alloc: Global, number: usize) -> Result<Text, NoMemory>
+fn argument_name(alloc: Global, number: usize) -> Result<LocalName, NoMemory>
     ensures { IfOk result (λ name. name ≡ codes "ARG" ++ decimal number) }
 {
-    let mut name = Vec::from_slice(alloc, b"ARG")?;
+    let mut name = LocalName::copy_of(alloc, b"ARG")?;
     let mut buffer = Buffer::new();
-    name.extend_from_slice(buffer.format(number).as_bytes())?;
-    Ok(Text::new(name))
+    name.push_all(buffer.format(number).as_bytes())?;
+    Ok(name)
 }
 
 /// Adds the local of a number.
@@ -74,11 +75,13 @@ fn locals_of(alloc: Global, arguments: &[u8]) -> Result<Vec<Variable>, NoMemory>
     if arguments.is_empty() {
         return Ok(locals);
     }
-    let values = split_args(alloc, arguments)?;
     let mut number: usize = 0;
-    for value in &values {
+    let mut rest = Some(arguments);
+    while let Some(left) = rest {
+        let (argument, after) = first_argument(left);
         number += 1;
-        push_local(alloc, &mut locals, number, value)?;
+        push_local(alloc, &mut locals, number, trim(argument))?;
+        rest = after;
     }
     Ok(locals)
 }
@@ -130,6 +133,18 @@ fn enter_by_parts(alloc: Global, parts: &[&[u8]], cell: &mut Cell) -> Result<Mov
     Ok(going)
 }
 
+/// A subroutine is entered by the text of a target that has more than three parts.
+fn enter_by_many(alloc: Global, target: &[u8], cell: &mut Cell) -> Result<Move, NoMemory>
+    requires { cell.old.place.priority ≤ most_priority }
+    ensures ok { IfOk result (λ going. spec.gosub_parts (arguments_of target.now) cell.old
+        ≡ record { cell = cell.new; next = going }) }
+    ensures err { OnErr result (cell.new ≡ cell.old) }
+{
+    let parts = split_args(alloc, target)?;
+    let going = enter_by_parts(alloc, &parts, cell)?;
+    Ok(going)
+}
+
 /// A subroutine is entered by the text of its target. After a refused growth the cell is as before.
 #[tactic(auto, unfolding(crate::specs::Jumps::gosub_row))]
 fn enter_by_text(alloc: Global, target: &[u8], cell: &mut Cell) -> Result<Move, NoMemory>
@@ -137,9 +152,19 @@ fn enter_by_text(alloc: Global, target: &[u8], cell: &mut Cell) -> Result<Move, 
     ensures ok { IfOk result (λ going. spec.gosub_row target.now cell.old ≡ record { cell = cell.new; next = going }) }
     ensures err { OnErr result (cell.new ≡ cell.old) }
 {
-    let parts = split_args(alloc, target)?;
-    let going = enter_by_parts(alloc, &parts, cell)?;
-    Ok(going)
+    let (first, rest) = first_argument(target);
+    let Some(rest) = rest else {
+        return enter_by_parts(alloc, &[trim(first)], cell);
+    };
+    let (second, rest) = first_argument(rest);
+    let Some(rest) = rest else {
+        return enter_by_parts(alloc, &[trim(first), trim(second)], cell);
+    };
+    let (third, rest) = first_argument(rest);
+    if rest.is_some() {
+        return enter_by_many(alloc, target, cell);
+    }
+    enter_by_parts(alloc, &[trim(first), trim(second), trim(third)], cell)
 }
 
 /// `Gosub([[context,]extension,]priority[(arguments)])`: a frame is pushed that goes back to the place after this one, with

@@ -12,7 +12,8 @@ ghost use Rattle.dp_conf.specs.Words.{same_text};
 use dp_conf::{NoMemory, Text};
 use dp_questions::{Question, bytes_of, check_all, push_bytes};
 use dp_vars::{
-    Change, ChannelSeen, Counts, Globals, Scope, Store, Template, TemplateFault, Variable, expand,
+    Change, ChannelSeen, Counts, Globals, LocalName, Scope, Store, Template, TemplateFault,
+    Variable, expand,
 };
 use std::alloc::Global;
 use std::test::Fail;
@@ -116,7 +117,7 @@ fn expansion(alloc: Global, world: &World, text: &[u8]) -> Result<String, NoMemo
 }
 
 fn variable(alloc: Global, name: &[u8], value: &[u8]) -> Result<Variable, NoMemory> {
-    let name = Text::copy_of(alloc, name)?;
+    let name = LocalName::copy_of(alloc, name)?;
     let value = Text::copy_of(alloc, value)?;
     Ok(Variable { name, value })
 }

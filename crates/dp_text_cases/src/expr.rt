@@ -8,8 +8,15 @@ use std::alloc::{AllocError, Global};
 use std::process::Abort;
 use std::test::Fail;
 
+/// The bytes of the value of a text.
+fn value_bytes(alloc: Global, text: &[u8]) -> Result<Vec<u8>, AllocError> {
+    let mut bytes = Vec::new(alloc);
+    evaluate(alloc, text)?.push_onto(&mut bytes)?;
+    Ok(bytes)
+}
+
 fn assert_value(rt: &impl Abort, alloc: Global, text: &[u8], want: &[u8]) -> Result<(), Fail> {
-    let value = evaluate(alloc, text)?;
+    let value = value_bytes(alloc, text)?;
     assert_eq!(rt; value.as_slice(), want, "at {text:?}");
     Ok(())
 }
@@ -537,7 +544,7 @@ const REPEATED: &str = r"
 fn check_repeated(rt: &impl Abort, alloc: Global, text: &str, want: &str) -> Result<(), Fail> {
     let text = repeated(alloc, text)?;
     let want = repeated(alloc, want)?;
-    let value = evaluate(alloc, &text)?;
+    let value = value_bytes(alloc, &text)?;
     assert!(rt; value.as_slice() == want.as_slice());
     Ok(())
 }

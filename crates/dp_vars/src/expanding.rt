@@ -69,7 +69,7 @@ fn put_expression<B, C: Counts>(
 {
     let value = evaluate(alloc, bytes.split_at(start + 2).1)?;
     bytes.truncate(start);
-    bytes.extend_from_slice(&value)?;
+    value.push_onto(bytes)?;
     Ok(())
 }
 

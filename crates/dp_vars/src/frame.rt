@@ -3,13 +3,14 @@ ghost use Rattle.std.specs.Prelude.{◌≡◌, ◌∷◌, ◌++◌, [], OnErr, O
 ghost use Rattle.dp_vars.specs.Tables.{noted};
 
 use dp_conf::NoMemory;
+use smallvec::SmallVec;
 use std::alloc::Global;
 use std::marker::Model;
 
-/// The numbers of names.
+/// The numbers of names, of which two take no memory.
 #[derive(Drop)]
 pub(crate) struct Numbers {
-    held: Vec<usize>,
+    held: SmallVec<usize, 2>,
 }
 
 impl Model for Numbers {
@@ -26,7 +27,7 @@ impl Numbers {
         ensures { result ≡ [] }
     {
         Numbers {
-            held: Vec::new(alloc),
+            held: SmallVec::new(alloc),
         }
     }
 
@@ -43,7 +44,7 @@ impl Numbers {
     pub(crate) fn all(&self) -> &[usize]
         ensures { result.now ≡ self.now }
     {
-        &self.held
+        self.held.as_slice()
     }
 }
 

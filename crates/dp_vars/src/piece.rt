@@ -76,8 +76,10 @@ fn read_brackets(alloc: Global, text: &[u8], place: Span) -> Result<Piece, NoMem
     ensures { IfOk result (IsGroup text.now GroupKind.Brackets place) }
 {
     let value = evaluate(alloc, place.of(text))?;
-    let value = Box::new(alloc, value)?;
-    Ok(Piece::Known(value))
+    let mut bytes = Vec::new(alloc);
+    value.push_onto(&mut bytes)?;
+    let bytes = Box::new(alloc, bytes)?;
+    Ok(Piece::Known(bytes))
 }
 
 impl Piece {

@@ -3,15 +3,16 @@ ghost use Rattle.std.specs.Prelude.{◌≡◌, OnErr, OnOk};
 ghost use Rattle.std.specs.FinMap as finite;
 ghost use Rattle.std.specs.Option.{option_map};
 
+use crate::local_name::LocalName;
 use dp_conf::{NoMemory, Text};
 use std::alloc::Global;
 use std::collections::BTreeMap;
 use std::marker::Model;
 
-/// A variable's name and its value.
+/// A local's name and its value.
 #[derive(Drop)]
 pub struct Variable {
-    pub name: Text,
+    pub name: LocalName,
     pub value: Text,
 }
 

@@ -9,22 +9,22 @@ pub returns-in-Some-clause-exact : goal.returns-in-Some-clause-exact
 unfolding expression_value
 returns-in-Some-clause-exact c =
     let same = ap (λ v. answer (value_seen v)) (sym c.in-Some.is) ∙ ap answer c.in_ok-value.ensures in
-    subst (λ (x : List ℕ). IfOk c.bytes_of.result (λ bytes. bytes.items ≡ x)) same c.bytes_of.ensures
+    subst (λ (x : List ℕ). IfOk c.of.result (λ value. value ≡ x)) same c.of.ensures
 
 pub returns-in-Some-clause-value : goal.returns-in-Some-clause-value
 returns-in-Some-clause-value c = λ tree reading.
-    subst (λ (x : List ℕ). IfOk c.bytes_of.result (λ bytes. bytes.items ≡ x))
+    subst (λ (x : List ℕ). IfOk c.of.result (λ value. value ≡ x))
     (expression_value-reading c.args.text.now tree reading) (returns-in-Some-clause-exact c)
 
 pub returns-in-Some-clause-fault : goal.returns-in-Some-clause-fault
 returns-in-Some-clause-fault c = λ none.
-    subst (λ (x : List ℕ). IfOk c.bytes_of.result (λ bytes. bytes.items ≡ x))
+    subst (λ (x : List ℕ). IfOk c.of.result (λ value. value ≡ x))
     (expression_value-none c.args.text.now none) (returns-in-Some-clause-exact c)
 
 pub returns-in-None-clause-exact : goal.returns-in-None-clause-exact
 unfolding expression_value
 returns-in-None-clause-exact c =
-    c.new.ensures.items ∙ ap (λ v. answer (value_seen v)) (sym c.in-None.is) ∙ ap answer c.in_ok-value.ensures
+    c.empty.ensures ∙ ap (λ v. answer (value_seen v)) (sym c.in-None.is) ∙ ap answer c.in_ok-value.ensures
 
 pub returns-in-None-clause-value : goal.returns-in-None-clause-value
 returns-in-None-clause-value c = λ tree reading.

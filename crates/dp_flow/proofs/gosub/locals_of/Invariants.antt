@@ -1,8 +1,16 @@
-use Rattle.std.proofs.Common.{◌≡◌, map, take}
+use Rattle.std.proofs.Common.{◌≡◌, ◌+◌, ◌++◌, ◌≤◌, length, map}
+use Rattle.dp_conf.specs.Blanks.{trim}
+use Rattle.dp_conf.specs.Levels.{parts_of}
+use Rattle.dp_conf.proofs.LinesLemmas.{left_len}
+use Rattle.dp_flow.proofs.CallsLemmas.{parts_left}
 use Rattle.dp_flow.specs.Jumps.{numbered}
 use Rattle.dp_flow.proofs.gosub.locals_of.Given as goal
 
--- the locals so far are those of the values so far, which are numbered from 1
-abbrev pub invariant-loop-value : goal.invariant-loop-value
-invariant-loop-value l =
-    (l.number ≡ l.value-index) × (l.locals.items ≡ numbered 1 (map (λ value. value.now) (take l.value-index l.value-items)))
+-- the locals so far, and those of the parts that are left, numbered on; each part has a byte of the text behind it
+abbrev pub invariant-loop-rest : goal.invariant-loop-rest
+invariant-loop-rest l =
+    (l.locals.items ++ numbered (l.number + 1) (map trim (parts_left l.rest)) ≡ numbered 1 (map trim (parts_of l.fn.arguments)))
+    × (l.number + left_len l.rest ≤ length l.fn.arguments + 1)
+
+abbrev pub decreases-loop-rest : goal.decreases-loop-rest
+decreases-loop-rest l = left_len l.rest

@@ -6,7 +6,7 @@ use Rattle.dp_vars.proofs.expanding.put_expression.Goals as goal
 pub returns : goal.returns
 returns g c =
     put-brackets (sight_of g.C.Counts.count c.args.scope.now) c.args.start c.args.bytes.now.items c.truncate.new.self.items
-    c.extend_from_slice.new.self.items c.deref-2.result.now c.split_at.result.1.now
-    c.in_ok-extend_from_slice.ensures.items c.truncate.ensures.items
-    (c.deref-2.ensures.value ∙ c.in_ok-value.ensures.exact)
+    c.push_onto.new.bytes.items c.in_ok-value.value c.split_at.result.1.now
+    c.in_ok-push_onto.ensures.ok c.truncate.ensures.items
+    c.in_ok-value.ensures.exact
     (c.split_at.ensures.back ∙ ap (drop (c.args.start + 2)) c.deref.ensures.value)

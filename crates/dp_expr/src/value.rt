@@ -1,0 +1,75 @@
+//! The value of an expression, as it is handed out.
+
+ghost use Rattle.std.specs.Prelude.{◌≡◌, ◌++◌, [], IfOk, OnErr, OnOk};
+ghost use Rattle.dp_expr.specs.steps.Texts.{text_seen};
+
+use crate::NoMemory;
+use crate::text::Text;
+use itoa::Buffer;
+use std::alloc::Global;
+use std::marker::Model;
+
+/// How a value is held.
+#[derive(Drop)]
+pub(crate) enum Held {
+    Bytes(Vec<u8>),
+    Number(i64),
+}
+
+/// The value of an expression. A number that was computed takes no memory.
+///
+/// A contract sees it as its bytes.
+pub struct Value {
+    held: Held,
+}
+
+impl Drop for Value {
+    #[inline(always)]
+    fn drop(self) {
+        let Value { held: _ } = self;
+    }
+}
+
+impl Model for Value {
+    ghost use Rattle.std.specs.Prelude.{ℕ, List};
+    ghost use Rattle.dp_expr.specs.Held.{held_bytes};
+
+    ghost Value = { List ℕ };
+
+    ghost view = { λ value. held_bytes value.held };
+}
+
+impl Value {
+    /// The empty value. It takes no memory.
+    pub(crate) fn empty(alloc: Global) -> Self
+        ensures { result ≡ [] }
+    {
+        Value {
+            held: Held::Bytes(Vec::new(alloc)),
+        }
+    }
+
+    /// The value that is this text.
+    pub(crate) fn of(alloc: Global, text: &Text<'_>) -> Result<Self, NoMemory>
+        ensures { IfOk result (λ value. value ≡ text_seen text.now) }
+    {
+        let held = match text {
+            Text::Written(operand) => Held::Bytes(Vec::from_slice(alloc, operand.text)?),
+            Text::Computed(number) => Held::Number(*number),
+        };
+        Ok(Value { held })
+    }
+
+    /// Adds the value after other bytes. After a refused growth these are as before.
+    pub fn push_onto(&self, bytes: &mut Vec<u8>) -> Result<(), NoMemory>
+        ensures ok { OnOk result (bytes.new.items ≡ bytes.old.items ++ self.now) }
+        ensures err { OnErr result (bytes.new.items ≡ bytes.old.items) }
+    {
+        match &self.held {
+            Held::Bytes(value) => bytes.extend_from_slice(value),
+            Held::Number(number) => {
+                bytes.extend_from_slice(Buffer::new().format(*number).as_bytes())
+            }
+        }
+    }
+}

@@ -1,0 +1,55 @@
+//! The names of locals.
+ghost use Rattle.std.specs.Prelude.{◌≡◌, ◌++◌, IfOk, OnErr, OnOk};
+
+use dp_conf::NoMemory;
+use smallvec::SmallVec;
+use std::alloc::Global;
+use std::marker::Model;
+
+/// The name of a local, which takes no memory where it has few bytes, as `ARG1`.
+///
+/// A contract sees it as its bytes.
+pub struct LocalName {
+    bytes: SmallVec<u8, 24>,
+}
+
+impl Drop for LocalName {
+    #[inline(always)]
+    fn drop(self) {
+        let LocalName { bytes: _ } = self;
+    }
+}
+
+impl Model for LocalName {
+    ghost use Rattle.std.specs.Prelude.{ℕ, List};
+
+    ghost Value = { List ℕ };
+
+    ghost view = { λ name. name.bytes.items };
+}
+
+impl LocalName {
+    /// A name of the same bytes. It takes memory where there are more than 24.
+    pub fn copy_of(alloc: Global, bytes: &[u8]) -> Result<Self, NoMemory>
+        ensures { IfOk result (λ name. name ≡ bytes.now) }
+    {
+        let bytes = SmallVec::from_slice(alloc, bytes)?;
+        Ok(LocalName { bytes })
+    }
+
+    /// Adds bytes after the others. After a refused growth all is as before.
+    pub fn push_all(&mut self, bytes: &[u8]) -> Result<(), NoMemory>
+        ensures ok { OnOk result (self.new ≡ self.old ++ bytes.now) }
+        ensures err { OnErr result (self.new ≡ self.old) }
+    {
+        self.bytes.extend_from_slice(bytes)?;
+        Ok(())
+    }
+
+    /// The bytes of the name.
+    pub fn bytes(&self) -> &[u8]
+        ensures { result.now ≡ self.now }
+    {
+        self.bytes.as_slice()
+    }
+}
