@@ -3,7 +3,7 @@ mod CutLemmas
 pub mod ChangesLemmas
 pub mod EscapeLemmas
 mod EscapeParts
-mod LevelLemmas
+pub mod LevelLemmas
 pub mod LinesKnown
 pub mod LinesLemmas
 pub mod TakingLemmas

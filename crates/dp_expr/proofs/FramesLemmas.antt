@@ -75,8 +75,12 @@ unfolding nesting
 nesting-push frames frame depth deeper =
     ap nesting (frames_seen-push frames frame) ∙ deeper (nesting (frames_seen frames))
 
--- a list without length has no frames
-pub frames_seen-empty : (frames : List OpenFrame) → length frames ≡ 0 → frames_seen frames ≡ []
+-- without a last frame there are none
+pub frames_seen-none : (frames : List OpenFrame) → slice_get frames (length frames - 1) ≡ None → frames_seen frames ≡ []
 unfolding frames_seen frames_above
-frames_seen-empty [] e = refl
-frames_seen-empty (frame ∷ frames) e = absurd (omega arith)
+frames_seen-none [] e = refl
+frames_seen-none (frame ∷ frames) e = absurd (never frame frames (ap (slice_get (frame ∷ frames)) (omega arith) ∙ e))
+  where
+    never : (first : OpenFrame) (others : List OpenFrame) → slice_get (first ∷ others) (length others) ≡ None → ⊥
+    never first [] e = cc
+    never first (next ∷ others) e = never next others e

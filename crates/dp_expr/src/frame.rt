@@ -2,6 +2,7 @@
 
 ghost use Rattle.std.specs.Prelude.{◌≡◌, ◌+◌, ◌≤◌, ℕ};
 ghost use Rattle.dp_expr.specs.steps.Texts.{value_seen};
+ghost use Rattle.dp_expr.specs.declared.frame.Frame.TheVariants as frames;
 ghost use Rattle.dp_expr.specs.Walk.{is_due, depth_with, value_under, values};
 ghost use Rattle.dp_expr.specs.steps.Frames.{frame_seen};
 
@@ -18,6 +19,15 @@ pub enum Frame<'a> {
     Front(Prefix),
     /// A parenthesis.
     Paren,
+}
+
+impl Default for Frame<'_> {
+    ghost is_default = { λ frame. frame ≡ frames.Paren };
+
+    /// The frame that keeps nothing.
+    fn default() -> Self {
+        Frame::Paren
+    }
 }
 
 impl<'a> Frame<'a> {

@@ -7,15 +7,16 @@ ghost use Rattle.dp_expr.specs.steps.Frames.{frames_seen};
 
 use crate::frame::Frame;
 use crate::text::Text;
+use smallvec::SmallVec;
 use std::alloc::{AllocError, Global};
 
 /// How many parentheses and unary operators may stand inside one another.
 pub const MOST_DEPTH: usize = 32;
 
-/// The open frames, the innermost last.
+/// The open frames, the innermost last. Two of them take no memory.
 #[derive(Drop)]
 pub struct Stack<'a> {
-    pub frames: Vec<Frame<'a>>,
+    pub frames: SmallVec<Frame<'a>, 2>,
     pub depth: usize,
     ghost counted: { depth ≡ nesting (frames_seen frames.items) },
     ghost shallow: { depth ≤ most_depth },
@@ -33,7 +34,7 @@ impl<'a> Stack<'a> {
         ensures { stack_seen result ≡ [] }
     {
         Stack {
-            frames: Vec::new(alloc),
+            frames: SmallVec::new(alloc),
             depth: 0,
         }
     }
@@ -60,10 +61,10 @@ impl<'a> Stack<'a> {
     }
 
     /// The innermost frame takes its operand before an operator of that level does.
-    pub fn is_due(&self, level: u8) -> bool
+    pub fn is_top_due(&self, level: u8) -> bool
         ensures { result ≡ is_top_due level (stack_seen self.now) }
     {
-        match self.frames.last() {
+        match self.frames.as_slice().last() {
             Some(frame) => frame.is_due(level),
             None => false,
         }
@@ -75,7 +76,11 @@ impl<'a> Stack<'a> {
         ensures none { IfNone result (stack_seen self.new ≡ stack_seen self.old) }
         ensures some { IfSome result (λ frame. stack_seen self.old ≡ frame_seen frame ∷ stack_seen self.new) }
     {
-        if self.is_due(level) { self.pop() } else { None }
+        if self.is_top_due(level) {
+            self.pop()
+        } else {
+            None
+        }
     }
 
     /// What is held when all frames that are due before that level have taken their operand.

@@ -1,18 +1,11 @@
 -- A subroutine that is entered by the parts of its target.
-use Rattle.std.proofs.Common.{◌≡◌, ◌-◌, Option, Some, None, Bor, slice_get, ℕ, List, [], ◌∷◌, ◌++◌, refl, ap, ◌∙◌, length, map, take, arith}
+use Rattle.std.proofs.Common.{◌≡◌, ◌-◌, Some, slice_get, ℕ, List, [], ◌∷◌, ◌++◌, refl, ap, ◌∙◌, length, map, take, arith}
 use Rattle.std.specs.Option.{option_and_then}
 use Rattle.std.proofs.lemmas.List.{length-append, map-append}
 use Rattle.std.proofs.Math.Seq.{take-append_seam}
 use Rattle.dp_conf.specs.Cut.{cut_once}
-use Rattle.dp_conf.specs.Levels.{parts_of}
 use Rattle.dp_app.specs.declared.cell.Cell.{Cell}
-use Rattle.dp_app.specs.declared.moves.Move.TheVariants.{Hang}
 use Rattle.dp_flow.specs.Jumps.{called_by, entered, gosub_parts}
-
--- the parts of what is left of a text
-abbrev pub parts_left : Option (Bor (List ℕ)) → List (List ℕ)
-parts_left None = []
-parts_left (Some rest) = parts_of rest.now
 
 last-push : {X : Type 0} (xs : List X) (x : X) → slice_get (xs ++ x ∷ []) (length (xs ++ x ∷ []) - 1) ≡ Some x
 last-push {X = X} xs x = ap (slice_get (xs ++ x ∷ [])) count ∙ at xs
@@ -39,9 +32,3 @@ entered-push see parts front last cell cut =
   where
     seen : map see parts ≡ map see front ++ see last ∷ []
     seen = ap (map see) cut ∙ map-append see front (last ∷ [])
-
--- with no part there is no target
-pub entered-none : {X : Type 0} (see : X → List ℕ) (parts : List X) (cell : Cell) → length parts ≡ 0
-    → gosub_parts (map see parts) cell ≡ record { cell = cell; next = Hang }
-entered-none see [] cell none = refl
-entered-none see (p ∷ ps) cell none = absurd (omega arith)

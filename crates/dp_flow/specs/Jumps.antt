@@ -6,7 +6,7 @@ use Rattle.dp_conf.specs.Blanks.{trim}
 use Rattle.dp_conf.specs.Cut.{cut_once, before_last}
 use Rattle.dp_conf.specs.Levels.{arguments_of}
 use Rattle.dp_vars.specs.Stores.{StoreOf, innermost, popped_setting, with_frame, without_frame}
-use Rattle.dp_vars.specs.declared.variables.Variable.{Variable}
+use Rattle.dp_vars.specs.declared.local.Local.{Local}
 use Rattle.dp_app.specs.Rows.{Outcome, Row}
 use Rattle.dp_app.specs.declared.cell.Cell.{Cell}
 use Rattle.dp_app.specs.declared.moves.Move.{Move}
@@ -58,7 +58,7 @@ abbrev pub called : List (List ℕ) → Option SubroutineCall
 called parts = option_and_then (λ part. called_by part (cut_once 40 part)) (slice_get parts (length parts - 1))
 
 -- the locals of a subroutine: `ARG1`, `ARG2` and so on, from a number on
-abbrev pub numbered : ℕ → List (List ℕ) → List Variable
+abbrev pub numbered : ℕ → List (List ℕ) → List Local
 numbered number [] = []
 numbered number (value ∷ values) = record { name = codes "ARG" ++ decimal number; value = value } ∷ numbered (number + 1) values
 

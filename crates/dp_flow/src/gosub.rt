@@ -11,7 +11,7 @@ ghost use Rattle.dp_flow.specs.Jumps as spec;
 use crate::choice::chosen;
 use dp_app::{Application, Cell, Move, Place, Target, TargetParts, Touch};
 use dp_conf::{NoMemory, Text, before_last, cut_once, first_argument, split_args, trim};
-use dp_vars::{LocalName, Variable};
+use dp_vars::{Local, LocalName};
 use itoa::Buffer;
 use std::alloc::Global;
 
@@ -55,7 +55,7 @@ fn argument_name(alloc: Global, number: usize) -> Result<LocalName, NoMemory>
 /// Adds the local of a number.
 fn push_local(
     alloc: Global,
-    locals: &mut Vec<Variable>,
+    locals: &mut Vec<Local>,
     number: usize,
     value: &[u8],
 ) -> Result<(), NoMemory>
@@ -63,12 +63,12 @@ fn push_local(
 {
     let name = argument_name(alloc, number)?;
     let value = Text::copy_of(alloc, value)?;
-    locals.push(Variable { name, value })?;
+    locals.push(Local { name, value })?;
     Ok(())
 }
 
 /// The locals of a subroutine by its arguments' text: `ARG1`, `ARG2` and so on.
-fn locals_of(alloc: Global, arguments: &[u8]) -> Result<Vec<Variable>, NoMemory>
+fn locals_of(alloc: Global, arguments: &[u8]) -> Result<Vec<Local>, NoMemory>
     ensures { IfOk result (λ locals. locals.items ≡ spec.numbered 1 (spec.inner_arguments arguments.now)) }
 {
     let mut locals = Vec::new(alloc);

@@ -9,6 +9,7 @@ pub mod ItemWords
 pub mod ItemsKnown
 pub mod LoadedLemmas
 mod LoadingLemmas
+mod MeaningLemmas
 pub mod NamedLemmas
 pub mod PartsKnown
 mod NumberingLemmas

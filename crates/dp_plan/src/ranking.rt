@@ -1,13 +1,15 @@
 //! The order in which the entries of a context are asked.
-ghost use Rattle.std.specs.Prelude.{◌≡◌, ◌≤◌, ◌^◌, length, map, IfOk};
+ghost use Rattle.std.specs.Prelude.{◌≡◌, ◌≤◌, ◌^◌, length, map, IfOk, IsTrue};
 ghost use Rattle.std.specs.List.{All};
+ghost use Rattle.dp_pattern.specs.Order.{name_cmp};
 ghost use Rattle.dp_plan.specs.Contexts.{AreNamed};
 ghost use Rattle.dp_plan.specs.Ranking as spec;
 
 use crate::context::Context;
 use crate::entry::{Entry, EntryId};
+use crate::shared_name::SharedName;
 use dp_conf::NoMemory;
-use dp_pattern::compare;
+use dp_pattern::{Parts, compare};
 use std::alloc::Global;
 use std::cmp::Ordering;
 use std::marker::Model;
@@ -38,13 +40,32 @@ impl Ranking {
     }
 }
 
+/// Whether both are patterns of one spelling, which is one name. It costs a small part of what the comparison of their
+/// classes does.
+fn are_one_pattern(left: &SharedName, right: &SharedName) -> bool
+    ensures { IsTrue result → left.now ≡ right.now }
+{
+    match (left.name().parts(), right.name().parts()) {
+        (Parts::Pattern(_, _), Parts::Pattern(_, _)) => left.spelling() == right.spelling(),
+        _ => false,
+    }
+}
+
+/// The order of two names.
+fn compare_names(left: &SharedName, right: &SharedName) -> Ordering
+    ensures { result ≡ name_cmp left.now right.now }
+{
+    if are_one_pattern(left, right) {
+        return Ordering::Equal;
+    }
+    compare(left.name(), right.name())
+}
+
 /// The order of two entries: by their names, and then by their priorities.
 fn compare_entries(left: &Entry, right: &Entry) -> Ordering
     ensures { result ≡ spec.entry_cmp left.now right.now }
 {
-    compare(left.name.name(), right.name.name()).then(
-        left.priority.get().cmp(&right.priority.get()),
-    )
+    compare_names(&left.name, &right.name).then(left.priority.get().cmp(&right.priority.get()))
 }
 
 /// The order of two entries by their numbers.

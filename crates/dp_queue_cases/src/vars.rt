@@ -12,8 +12,8 @@ ghost use Rattle.dp_conf.specs.Words.{same_text};
 use dp_conf::{NoMemory, Text};
 use dp_questions::{Question, bytes_of, check_all, push_bytes};
 use dp_vars::{
-    Change, ChannelSeen, Counts, Globals, LocalName, Scope, Store, Template, TemplateFault,
-    Variable, expand,
+    Change, ChannelSeen, Counts, Globals, Local, LocalName, Scope, Store, Template, TemplateFault,
+    expand,
 };
 use std::alloc::Global;
 use std::test::Fail;
@@ -116,16 +116,16 @@ fn expansion(alloc: Global, world: &World, text: &[u8]) -> Result<String, NoMemo
     Ok(out)
 }
 
-fn variable(alloc: Global, name: &[u8], value: &[u8]) -> Result<Variable, NoMemory> {
+fn local_of(alloc: Global, name: &[u8], value: &[u8]) -> Result<Local, NoMemory> {
     let name = LocalName::copy_of(alloc, name)?;
     let value = Text::copy_of(alloc, value)?;
-    Ok(Variable { name, value })
+    Ok(Local { name, value })
 }
 
 /// A frame with one local, which goes back to its number.
 fn push_frame(alloc: Global, world: &mut World, name: &[u8], value: &[u8]) -> Result<(), NoMemory> {
     let mut locals = Vec::new(alloc);
-    locals.push(variable(alloc, name, value)?)?;
+    locals.push(local_of(alloc, name, value)?)?;
     world.store.push_frame(alloc, 1, locals)
 }
 
@@ -146,7 +146,7 @@ fn put_expanded(
 fn push_names(alloc: Global, world: &mut World, names: &str) -> Result<(), NoMemory> {
     let mut locals = Vec::new(alloc);
     for name in names.split(' ') {
-        locals.push(variable(alloc, name.as_bytes(), b"")?)?;
+        locals.push(local_of(alloc, name.as_bytes(), b"")?)?;
     }
     world.store.push_frame(alloc, 1, locals)
 }

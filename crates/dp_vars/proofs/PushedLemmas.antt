@@ -1,16 +1,14 @@
 -- Locals that are set one after another in a frame that was pushed.
-use Rattle.std.proofs.Common.{◌≡◌, ◌-◌, ℕ, zero, suc, Bool, true, false, cond, List, [], ◌∷◌, ◌++◌, refl, sym, ap, ◌∙◌, append_assoc, nat_eq, length, fold, take, arith, Result, Ok, Err, is_err}
+use Rattle.std.proofs.Common.{◌≡◌, ◌-◌, ◌<◌, ℕ, zero, suc, Bool, true, false, cond, List, [], ◌∷◌, ◌++◌, refl, sym, ap, ◌∙◌, append-nil, append_assoc, nat_eq, length, take, arith, Result, Ok, Err, is_err}
+use Rattle.std.proofs.lemmas.List.Sums.{fold-append}
+use Rattle.std.proofs.Math.Seq.{take-append_seam}
 use Rattle.std.specs.Cmp.Lexicographic.{pointwise}
 use Rattle.std.specs.Result.{OnErr, OnOk}
 use Rattle.std.specs.FinMap.{empty}
 use Rattle.dp_vars.specs.Stores.{Frame, StoreOf, changed_at, set_local, with_frame, with_local, with_local_name, with_name, with_names, without_frame}
-use Rattle.dp_vars.specs.Variables.{map_of, with_variable}
-use Rattle.dp_vars.specs.declared.variables.Variable.{Variable}
+use Rattle.dp_vars.specs.Variables.{map_of, map_with}
+use Rattle.dp_vars.specs.declared.local.Local.{Local}
 use Rattle.dp_vars.proofs.SettingLemmas.{length-push, take-push}
-
-fold-push : {X Y : Type 0} (f : Y → X → Y) (y : Y) (xs : List X) (x : X) → fold f y (xs ++ x ∷ []) ≡ f (fold f y xs) x
-fold-push f y [] x = refl
-fold-push f y (z ∷ xs) x = fold-push f (f y z) xs x
 
 with_name-front : (ns : List (List ℕ)) (name : List ℕ) → (rest : List (List ℕ)) × (with_name ns name ≡ ns ++ rest)
 with_name-front [] name = (name ∷ [], refl)
@@ -18,35 +16,23 @@ with_name-front (n ∷ ns) name = by (pointwise nat_eq name n) (with_name-front 
   where
     by : (b : Bool) → (rest : List (List ℕ)) × (with_name ns name ≡ ns ++ rest)
         → (rest : List (List ℕ)) × (cond b (n ∷ ns) (n ∷ with_name ns name) ≡ n ∷ (ns ++ rest))
-    by true more = ([], ap (λ ms. n ∷ ms) (no_more ns))
-      where
-        no_more : (ms : List (List ℕ)) → ms ≡ ms ++ []
-        no_more [] = refl
-        no_more (m ∷ ms) = ap (λ k. m ∷ k) (no_more ms)
+    by true more = ([], ap (λ ms. n ∷ ms) (sym (append-nil ns)))
     by false (rest, is) = (rest, ap (λ ms. n ∷ ms) is)
 
 -- names stay the first of the names
-with_names-front : (vs : List Variable) (ns : List (List ℕ)) → (rest : List (List ℕ)) × (with_names ns vs ≡ ns ++ rest)
-with_names-front [] ns = ([], no_more ns)
-  where
-    no_more : (ms : List (List ℕ)) → ms ≡ ms ++ []
-    no_more [] = refl
-    no_more (m ∷ ms) = ap (λ k. m ∷ k) (no_more ms)
+with_names-front : (vs : List Local) (ns : List (List ℕ)) → (rest : List (List ℕ)) × (with_names ns vs ≡ ns ++ rest)
+with_names-front [] ns = ([], sym (append-nil ns))
 with_names-front (v ∷ vs) ns = by (with_name-front ns v.name) (with_names-front vs (with_name ns v.name))
   where
     by : (rest : List (List ℕ)) × (with_name ns v.name ≡ ns ++ rest) → (rest : List (List ℕ)) × (with_names (with_name ns v.name) vs ≡ with_name ns v.name ++ rest)
         → (rest : List (List ℕ)) × (with_names (with_name ns v.name) vs ≡ ns ++ rest)
     by (one, is) (more, are) = (one ++ more, are ∙ ap (λ ms. ms ++ more) is ∙ append_assoc ns one more)
 
-take-front : {X : Type 0} (xs ys : List X) → take (length xs) (xs ++ ys) ≡ xs
-take-front [] ys = refl
-take-front (x ∷ xs) ys = ap (λ more. x ∷ more) (take-front xs ys)
-
-pub take-with_names : (vs : List Variable) (ns : List (List ℕ)) → take (length ns) (with_names ns vs) ≡ ns
+pub take-with_names : (vs : List Local) (ns : List (List ℕ)) → take (length ns) (with_names ns vs) ≡ ns
 take-with_names vs ns = by (with_names-front vs ns)
   where
     by : (rest : List (List ℕ)) × (with_names ns vs ≡ ns ++ rest) → take (length ns) (with_names ns vs) ≡ ns
-    by (rest, is) = ap (take (length ns)) is ∙ take-front ns rest
+    by (rest, is) = ap (take (length ns)) is ∙ take-append_seam ns rest
 
 module _ {B : Type 0} where
   changed_last : (change : Frame B → Frame B) (fs : List (Frame B)) (f : Frame B) → changed_at change (length fs) (fs ++ f ∷ []) ≡ fs ++ change f ∷ []
@@ -54,23 +40,29 @@ module _ {B : Type 0} where
   changed_last change (g ∷ fs) f = ap (λ more. g ∷ more) (changed_last change fs f)
 
   -- one more local
-  pub set_local-pushed : (store : StoreOf B) (back : B) (vs : List Variable) (v : Variable)
+  pub set_local-pushed : (store : StoreOf B) (back : B) (vs : List Local) (v : Local)
       → set_local (with_frame store back vs) v.name v.value ≡ with_frame store back (vs ++ v ∷ [])
   unfolding set_local
   set_local-pushed store back vs v = λ i. record {
     variables = store.variables;
     frames = (ap (λ n. changed_at (with_local v.name v.value) n (store.frames ++ record { back = back; locals = map_of vs } ∷ [])) (length-push store.frames (record { back = back; locals = map_of vs }))
         ∙ changed_last (with_local v.name v.value) store.frames (record { back = back; locals = map_of vs })
-        ∙ ap (λ m. store.frames ++ record { back = back; locals = m } ∷ []) (sym (fold-push with_variable empty vs v))) i;
-    names = (named store.frames (with_names store.names vs) ∙ sym (fold-push (λ known variable. with_name known variable.name) store.names vs v)) i;
+        ∙ ap (λ m. store.frames ++ record { back = back; locals = m } ∷ []) (sym (fold-append map_with empty vs (v ∷ [])))) i;
+    names = (named store.frames (with_names store.names vs) ∙ sym (fold-append (λ known local. with_name known local.name) store.names vs (v ∷ []))) i;
   }
     where
       named : (fs : List (Frame B)) (names : List (List ℕ)) → with_local_name (fs ++ record { back = back; locals = map_of vs } ∷ []) names v.name ≡ with_name names v.name
       named [] names = refl
       named (f ∷ fs) names = refl
 
+  -- one more local, where the store has those before it
+  pub set_local-more : (before after store : StoreOf B) (back : B) (vs : List Local) (v : Local) (name : List ℕ) → after ≡ set_local before name v.value
+      → name ≡ v.name → before ≡ with_frame store back vs → after ≡ with_frame store back (vs ++ v ∷ [])
+  set_local-more before after store back vs v name set named is =
+      set ∙ (λ i. set_local (is i) (named i) v.value) ∙ set_local-pushed store back vs v
+
   -- a local leaves as many frames as there are
-  pub length-set_local : (store : StoreOf B) (name value : List ℕ) → length (set_local store name value).frames ≡ length store.frames
+  length-set_local : (store : StoreOf B) (name value : List ℕ) → length (set_local store name value).frames ≡ length store.frames
   unfolding set_local
   length-set_local store name value = by (length store.frames - 1) store.frames
     where
@@ -79,8 +71,12 @@ module _ {B : Type 0} where
       by zero (f ∷ fs) = refl
       by (suc place) (f ∷ fs) = ap suc (by place fs)
 
+  -- and so there is still one
+  pub set_local-some : (before after : StoreOf B) (name value : List ℕ) → after ≡ set_local before name value → 0 < length before.frames → 0 < length after.frames
+  set_local-some before after name value set some = omega (arith, some, ap (λ store. length store.frames) set, length-set_local before name value)
+
   -- and without the frame again
-  pub pushed_popped : (store : StoreOf B) (back : B) (vs : List Variable) → without_frame (with_frame store back vs) ≡ record store { names = with_names store.names vs }
+  pub pushed_popped : (store : StoreOf B) (back : B) (vs : List Local) → without_frame (with_frame store back vs) ≡ record store { names = with_names store.names vs }
   pushed_popped store back vs = λ i. record {
     variables = store.variables;
     frames = (ap (λ n. take n (store.frames ++ record { back = back; locals = map_of vs } ∷ [])) (length-push store.frames (record { back = back; locals = map_of vs }))

@@ -4,7 +4,7 @@ use Rattle.std.specs.Cmp.Lexicographic.{pointwise}
 use Rattle.std.specs.Option.{option_and_then, option_map, option_or}
 use Rattle.std.specs.FinMap.{contains_key, get, insert, empty}
 use Rattle.dp_vars.specs.Variables.{Named, first_value, map_of}
-use Rattle.dp_vars.specs.declared.variables.Variable.{Variable}
+use Rattle.dp_vars.specs.declared.local.Local.{Local}
 
 -- where a subroutine goes back to, and its locals
 pub record Frame (B : Type 0) : Type 0 where
@@ -27,7 +27,7 @@ with_name [] name = name ∷ []
 with_name (n ∷ names) name = if pointwise nat_eq name n then n ∷ names else n ∷ with_name names name
 
 -- the names with those of some variables
-abbrev pub with_names : List (List ℕ) → List Variable → List (List ℕ)
+abbrev pub with_names : List (List ℕ) → List Local → List (List ℕ)
 with_names names variables = fold (λ known variable. with_name known variable.name) names variables
 
 module _ {B : Type 0} where
@@ -95,7 +95,7 @@ module _ {B : Type 0} where
   }
 
   -- the store with one more frame, which has these locals
-  abbrev pub with_frame : StoreOf B → B → List Variable → StoreOf B
+  abbrev pub with_frame : StoreOf B → B → List Local → StoreOf B
   with_frame store back locals = record store {
     frames = store.frames ++ record { back = back; locals = map_of locals } ∷ [];
     names = with_names store.names locals;

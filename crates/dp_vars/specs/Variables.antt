@@ -6,7 +6,7 @@ use Rattle.std.specs.declared.cmp.Ordering.{Ordering}
 use Rattle.std.specs.Cmp.Lexicographic.{slice_cmp}
 use Rattle.std.specs.Coded.{Coded, coded_ℕ, coded_list}
 use Rattle.std.specs.FinMap.{FinMap, code, empty, get, insert}
-use Rattle.dp_vars.specs.declared.variables.Variable.{Variable}
+use Rattle.dp_vars.specs.declared.local.Local.{Local}
 
 -- names with their values
 abbrev pub Named : Type 0
@@ -25,13 +25,13 @@ first_value (m ∷ ms) name = option_or (get m name) (first_value ms name)
 abbrev pub value_or_empty : List Named → List ℕ → List ℕ
 value_or_empty maps name = unwrap_or (first_value maps name) []
 
--- the map with the value of one variable set
-abbrev pub with_variable : Named → Variable → Named
-with_variable m variable = insert m variable.name variable.value
+-- the map with the value of one local set
+abbrev pub map_with : Named → Local → Named
+map_with m local = insert m local.name local.value
 
--- the map of some variables; of two values of one name the later stands
-abbrev pub map_of : List Variable → Named
-map_of variables = fold with_variable empty variables
+-- the map of some locals; of two values of one name the later stands
+abbrev pub map_of : List Local → Named
+map_of locals = fold map_with empty locals
 
 -- entries whose keys are read by their bytes
 abbrev pub by_bytes : {K X : Type 0} → (K → List ℕ) → List (K × X) → List (List ℕ × X)

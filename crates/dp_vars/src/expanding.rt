@@ -2,6 +2,7 @@
 ghost use Rattle.std.specs.Prelude.{◌≡◌, ◌+◌, ◌≤◌, [], ◌∷◌, ◌++◌, IfOk, OnOk, drop, length, take, vec_len};
 ghost use Rattle.dp_conf.specs.Groups as groups;
 ghost use Rattle.dp_conf.specs.GroupsRead.{first_of};
+ghost use Rattle.dp_conf.specs.declared.groups.GroupKind.TheVariants as kinds;
 ghost use Rattle.dp_vars.specs.Expanding as steps;
 ghost use Rattle.dp_vars.specs.Pieces.{past, past_all};
 ghost use Rattle.dp_vars.specs.Sights as sights;
@@ -13,6 +14,7 @@ use crate::reference::{push_reference, read_reference};
 use crate::scope::{Counts, Scope};
 use dp_conf::{GroupKind, Mark, NoMemory};
 use dp_expr::evaluate;
+use smallvec::SmallVec;
 use std::alloc::Global;
 use std::marker::Model;
 
@@ -23,11 +25,23 @@ pub(crate) struct Waiting {
     start: usize,
 }
 
-/// What is written, and the openings in it that wait. What never closes stands there already as plain bytes.
+impl Default for Waiting {
+    ghost is_default = { λ waiting. waiting ≡ record { kind = kinds.Braces; start = 0 } };
+
+    fn default() -> Self {
+        Waiting {
+            kind: GroupKind::Braces,
+            start: 0,
+        }
+    }
+}
+
+/// What is written, and the openings in it that wait, of which two take no memory. What never closes stands there already as
+/// plain bytes.
 #[derive(Drop)]
 pub(crate) struct Expanding {
     bytes: Vec<u8>,
-    waiting: Vec<Waiting>,
+    waiting: SmallVec<Waiting, 2>,
 }
 
 impl Model for Expanding {
@@ -107,7 +121,7 @@ impl Expanding {
         let bytes = Vec::with_capacity(alloc, room)?;
         Ok(Expanding {
             bytes,
-            waiting: Vec::new(alloc),
+            waiting: SmallVec::new(alloc),
         })
     }
 
@@ -115,7 +129,7 @@ impl Expanding {
     pub(crate) fn innermost(&self) -> Option<GroupKind>
         ensures { result ≡ first_of (steps.kinds_of self.now.waiting) }
     {
-        match self.waiting.last() {
+        match self.waiting.as_slice().last() {
             Some(waiting) => Some(waiting.kind),
             None => None,
         }

@@ -7,8 +7,8 @@ ghost use Rattle.dp_vars.specs.Tables.{HasNamed};
 
 use crate::change::{Change, Nothing};
 use crate::frame::{self, Held, Numbers};
+use crate::local::Local;
 use crate::table::Table;
-use crate::variables::Variable;
 use dp_conf::{NoMemory, Text};
 use std::alloc::Global;
 use std::marker::Model;
@@ -148,15 +148,15 @@ impl<B> Store<B> {
 
     /// Sets locals of the innermost frame to values that are taken over, each after those before it. After a refused
     /// growth some of them are set.
-    fn hold_locals(&mut self, alloc: Global, locals: Vec<Variable>) -> Result<(), NoMemory>
+    fn hold_locals(&mut self, alloc: Global, locals: Vec<Local>) -> Result<(), NoMemory>
         requires { 0 < length self.old.frames }
         ensures ok { (store : StoreOf B) (back : B) → self.old ≡ stores.with_frame store back []
             → OnOk result (self.new ≡ stores.with_frame store back locals.items) }
         ensures err { (store : StoreOf B) (back : B) → self.old ≡ stores.with_frame store back []
-            → OnErr result ((held : List Variable) × (self.new ≡ stores.with_frame store back held)) }
+            → OnErr result ((held : List Local) × (self.new ≡ stores.with_frame store back held)) }
     {
         for local in locals {
-            let Variable { name, value } = local;
+            let Local { name, value } = local;
             self.hold_local(alloc, name.bytes(), value)?;
         }
         Ok(())
@@ -172,12 +172,7 @@ impl<B> Store<B> {
 
     /// Adds an innermost frame with these locals, whose values it takes over. Of two values of one name the later
     /// stands.
-    pub fn push_frame(
-        &mut self,
-        alloc: Global,
-        back: B,
-        locals: Vec<Variable>,
-    ) -> Result<(), NoMemory>
+    pub fn push_frame(&mut self, alloc: Global, back: B, locals: Vec<Local>) -> Result<(), NoMemory>
     where
         B: Drop,
         ensures ok { OnOk result (self.new ≡ stores.with_frame self.old back locals.items) }

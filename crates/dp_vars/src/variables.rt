@@ -3,18 +3,10 @@ ghost use Rattle.std.specs.Prelude.{◌≡◌, OnErr, OnOk};
 ghost use Rattle.std.specs.FinMap as finite;
 ghost use Rattle.std.specs.Option.{option_map};
 
-use crate::local_name::LocalName;
 use dp_conf::{NoMemory, Text};
 use std::alloc::Global;
 use std::collections::BTreeMap;
 use std::marker::Model;
-
-/// A local's name and its value.
-#[derive(Drop)]
-pub struct Variable {
-    pub name: LocalName,
-    pub value: Text,
-}
 
 /// Variables with their values. Names are told apart by their bytes, and a look-up costs the logarithm of their number,
 /// whatever names a dialplan chooses.

@@ -3,7 +3,7 @@ use Rattle.std.specs.Prelude.{◌≡◌, ℕ, zero, suc, ◌-◌, Bool, true, fa
 use Rattle.std.proofs.Common.{ap, sym, ◌∙◌}
 use Rattle.dp_vars.specs.Stores.{Frame, StoreOf, changed_at, holder, set, set_in, set_local, with_frame, with_local, without_frame}
 use Rattle.dp_vars.specs.Variables.{Named}
-use Rattle.dp_vars.specs.declared.variables.Variable.{Variable}
+use Rattle.dp_vars.specs.declared.local.Local.{Local}
 use Rattle.dp_app.specs.laws.Keeping.{store_kept, queues_kept}
 use Rattle.dp_app.specs.Lawful.{KeepsStore, KeepsUntouched, places_of}
 use Rattle.dp_app.specs.declared.cell.Cell.{Cell}
@@ -18,7 +18,7 @@ no_false true is h = absurd (true_is_false h)
 no_false false is h = absurd (true_is_false (sym is))
 
 -- a frame is pushed
-pub pushed_kept : (touch : Touch) (store : StoreOf Place) (back : Place) (locals : List Variable) → touch.frames ≡ true
+pub pushed_kept : (touch : Touch) (store : StoreOf Place) (back : Place) (locals : List Local) → touch.frames ≡ true
     → KeepsStore touch store (with_frame store back locals)
 pushed_kept touch store back locals touches =
     record {

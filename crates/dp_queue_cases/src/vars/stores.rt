@@ -1,5 +1,5 @@
 //! Variables of a channel, frames and locals.
-use crate::vars::{PutsTold, World, push_frame, variable};
+use crate::vars::{PutsTold, World, local_of, push_frame};
 use dp_conf::NoMemory;
 use dp_vars::{Globals, Store};
 use std::alloc::Global;
@@ -70,8 +70,8 @@ fn frames(rt: &impl Abort, alloc: Global) -> Result<(), Fail> {
 
 fn push_doubled(alloc: Global, store: &mut Store<u32>) -> Result<(), NoMemory> {
     let mut locals = Vec::new(alloc);
-    locals.push(variable(alloc, b"A", b"1")?)?;
-    locals.push(variable(alloc, b"A", b"2")?)?;
+    locals.push(local_of(alloc, b"A", b"1")?)?;
+    locals.push(local_of(alloc, b"A", b"2")?)?;
     store.push_frame(alloc, 1, locals)
 }
 

@@ -1,8 +1,8 @@
 use Rattle.std.proofs.Common.{◌≡◌, ◌+◌, ◌++◌, ◌≤◌, length, map}
 use Rattle.dp_conf.specs.Blanks.{trim}
 use Rattle.dp_conf.specs.Levels.{parts_of}
+use Rattle.dp_conf.proofs.LevelLemmas.{parts_left}
 use Rattle.dp_conf.proofs.LinesLemmas.{left_len}
-use Rattle.dp_flow.proofs.CallsLemmas.{parts_left}
 use Rattle.dp_flow.specs.Jumps.{numbered}
 use Rattle.dp_flow.proofs.gosub.locals_of.Given as goal
 

@@ -1,7 +1,7 @@
-use Rattle.std.proofs.Common.{ap, ◌∙◌, arith}
+use Rattle.std.proofs.Common.{sym, ap, ◌∙◌, arith}
 use Rattle.dp_expr.specs.Walk.{nesting}
 use Rattle.dp_expr.specs.steps.Frames.{frames_seen}
-use Rattle.dp_expr.proofs.FramesLemmas.{frames_seen-empty, frames_seen-push, nesting-push}
+use Rattle.dp_expr.proofs.FramesLemmas.{frames_seen-none, frames_seen-push, nesting-push}
 use Rattle.dp_expr.proofs.stack.Stack.pop.Goals as goal
 
 pub overflow_sub-self : goal.overflow_sub-self
@@ -25,5 +25,5 @@ returns-clause-some c =
 
 pub returns-in_err-frame-clause-none : goal.returns-in_err-frame-clause-none
 returns-in_err-frame-clause-none c =
-    let empty = frames_seen-empty c.args.self.now.frames.items (omega (arith, c.in_err-frame.ensures.cases.0, c.args.self.now.frames.ok.0)) in
+    let empty = frames_seen-none c.args.self.now.frames.items (sym c.in_err-frame.ensures.value) in
     rw c.from_residual.ensures empty

@@ -1,8 +1,8 @@
 -- The frame has the locals that were taken so far.
 use Rattle.std.proofs.Common.{◌≡◌, ◌++◌, ◌∷◌, [], append-nil, append_assoc, ap, sym, ◌∙◌, length, arith}
 use Rattle.std.specs.Vec.Iter.{into_iter_items}
-use Rattle.dp_vars.specs.Stores.{set_local, with_frame}
-use Rattle.dp_vars.proofs.PushedLemmas.{length-set_local, none_left, set_local-pushed}
+use Rattle.dp_vars.specs.Stores.{with_frame}
+use Rattle.dp_vars.proofs.PushedLemmas.{none_left, set_local-more, set_local-some}
 use Rattle.dp_vars.proofs.TablesLemmas.{on_err}
 use Rattle.dp_vars.proofs.store.Store.hold_locals.Goals as goal
 
@@ -29,17 +29,9 @@ loop-local-preserved g c =
     let at = c.loop-local in
     let steps : into_iter_items at.local-iterator ≡ c.in-Some.local ∷ into_iter_items c.next.new.self = c.in-Some.ensures.steps.0 in
     record {
-      some = omega (
-        arith,
-        at.invariant.some,
-        ap (λ store. length store.frames) c.in_ok-hold_local.ensures.ok,
-        length-set_local at.self c.bytes.result.now c.in-Some.local.value,
-      );
+      some = set_local-some at.self c.hold_local.new.self c.bytes.result.now c.in-Some.local.value c.in_ok-hold_local.ensures.ok at.invariant.some;
       held = λ store back is.
-          c.in_ok-hold_local.ensures.ok
-          ∙ ap (λ store. set_local store c.bytes.result.now c.in-Some.local.value) (at.invariant.held store back is)
-          ∙ ap (λ name. set_local (with_frame store back at.yielded) name c.in-Some.local.value) c.bytes.ensures
-          ∙ set_local-pushed store back at.yielded c.in-Some.local;
+          set_local-more at.self c.hold_local.new.self store back at.yielded c.in-Some.local c.bytes.result.now c.in_ok-hold_local.ensures.ok c.bytes.ensures (at.invariant.held store back is);
       taken = append_assoc at.yielded (c.in-Some.local ∷ []) (into_iter_items c.next.new.self)
           ∙ ap (λ left. at.yielded ++ left) (sym steps) ∙ at.invariant.taken;
       many = omega (arith, at.invariant.many, c.in-Some.ensures.steps.1, ap length steps);
