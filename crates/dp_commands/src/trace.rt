@@ -49,15 +49,15 @@ pub(crate) fn push_place(
     push_short(out, priority)
 }
 
-/// Adds the state of a channel that is ready.
+/// Adds ` -> ` and the state of a channel that is ready.
 fn push_ready(out: &mut Block, place: Option<&Place>) -> Result<(), NoMemory>
     ensures kept { out.new.whole ≡ out.old.whole }
-    ensures ok { OnOk result (out.new.begun ≡ out.old.begun ++ spec.ready_text (option_copied place.entry)) }
+    ensures ok { OnOk result (out.new.begun ≡ out.old.begun ++ (codes " -> " ++ spec.ready_text (option_copied place.entry))) }
 {
     let Some(place) = place else {
-        return Ok(());
+        return out.push(b" -> ");
     };
-    out.push(b"ready ")?;
+    out.push(b" -> ready ")?;
     push_place(
         out,
         place.context.bytes(),
@@ -66,19 +66,19 @@ fn push_ready(out: &mut Block, place: Option<&Place>) -> Result<(), NoMemory>
     )
 }
 
-/// Adds the state of the channel of this number.
+/// Adds ` -> ` and the state of the channel of this number.
 #[tactic(auto, unfolding(crate::specs::Trace::state_text))]
-fn push_state(out: &mut Block, machine: &Machine<StandardApps>, number: u32) -> Result<(), NoMemory>
+fn push_after(out: &mut Block, machine: &Machine<StandardApps>, number: u32) -> Result<(), NoMemory>
     ensures kept { out.new.whole ≡ out.old.whole }
-    ensures ok { OnOk result (out.new.begun ≡ out.old.begun ++ spec.state_text machine.now number) }
+    ensures ok { OnOk result (out.new.begun ≡ out.old.begun ++ (codes " -> " ++ spec.state_text machine.now number)) }
 {
     let Some(phase) = machine.phase(number) else {
-        return Ok(());
+        return out.push(b" -> ");
     };
     push_phase(out, machine.queues(), phase, machine.place(number))
 }
 
-/// Adds the state of a channel by its phase and its place.
+/// Adds ` -> ` and the state of a channel by its phase and its place. The arrow goes in with the word of the state, at once.
 fn push_phase(
     out: &mut Block,
     queues: &Queues,
@@ -86,26 +86,29 @@ fn push_phase(
     place: Option<&Place>,
 ) -> Result<(), NoMemory>
     ensures kept { out.new.whole ≡ out.old.whole }
-    ensures ok { OnOk result (out.new.begun ≡ out.old.begun ++ spec.state_by queues.now (Some phase.now)
-        (option_copied place.entry)) }
+    ensures ok { OnOk result (out.new.begun ≡ out.old.begun ++ (codes " -> " ++ spec.state_by queues.now (Some phase.now)
+        (option_copied place.entry))) }
 {
     match phase {
         Phase::Ready => push_ready(out, place),
-        Phase::Digits { .. } => out.push(b"digits"),
-        Phase::Pause => out.push(b"pause"),
+        Phase::Digits { .. } => out.push(b" -> digits"),
+        Phase::Pause => out.push(b" -> pause"),
         Phase::Queued { queue, .. } => push_queued(out, queues, *queue),
-        Phase::Talking { queue, agent, .. } => push_talking(out, queues, *queue, *agent),
-        Phase::Dialling { .. } => out.push(b"dialling"),
-        Phase::Ended => out.push(b"ended"),
+        Phase::Talking { queue, agent, .. } => {
+            out.push(b" -> ")?;
+            push_talking(out, queues, *queue, *agent)
+        }
+        Phase::Dialling { .. } => out.push(b" -> dialling"),
+        Phase::Ended => out.push(b" -> ended"),
     }
 }
 
-/// Adds the state of a channel that waits in the queue of a number.
+/// Adds ` -> ` and the state of a channel that waits in the queue of a number.
 fn push_queued(out: &mut Block, queues: &Queues, queue: usize) -> Result<(), NoMemory>
     ensures kept { out.new.whole ≡ out.old.whole }
-    ensures ok { OnOk result (out.new.begun ≡ out.old.begun ++ (codes "queued " ++ spec.queue_name queues.now queue)) }
+    ensures ok { OnOk result (out.new.begun ≡ out.old.begun ++ (codes " -> " ++ (codes "queued " ++ spec.queue_name queues.now queue))) }
 {
-    out.push(b"queued ")?;
+    out.push(b" -> queued ")?;
     push_queue(out, queues, queue)
 }
 
@@ -175,15 +178,6 @@ pub(crate) fn push_entry(out: &mut Block, plan: &Dialplan, id: EntryId) -> Resul
         return Ok(());
     };
     push_entry_of(out, context, entry)
-}
-
-/// Adds ` -> ` and the state of the channel of this number.
-fn push_after(out: &mut Block, machine: &Machine<StandardApps>, number: u32) -> Result<(), NoMemory>
-    ensures kept { out.new.whole ≡ out.old.whole }
-    ensures ok { OnOk result (out.new.begun ≡ out.old.begun ++ codes " -> " ++ spec.state_text machine.now number) }
-{
-    out.push(b" -> ")?;
-    push_state(out, machine, number)
 }
 
 /// Adds the line of a refusal.

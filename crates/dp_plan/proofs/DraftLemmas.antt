@@ -22,9 +22,10 @@ use Rattle.dp_plan.specs.steps.Loading.{MadeOf, unmade, after_item}
 use Rattle.dp_plan.specs.steps.Reader.{Reading, unread, after}
 use Rattle.dp_plan.specs.steps.Table.{number_in}
 use Rattle.dp_plan.specs.Plan.{Addition, Inclusion, of_one_extension, shares_label, is_place_taken, is_label_taken, is_taken, is_named, kept_by, added_in, included_in, context_in, global_in, kept_in, names_in, context_of, entry_note, include_note, note_of, notes_of}
+use Rattle.dp_plan.specs.steps.Numbers.{with_number}
 use Rattle.dp_plan.specs.steps.Places.{same_slot}
 use Rattle.dp_conf.specs.Changes.{changed_at}
-use Rattle.dp_plan.specs.steps.Draft.{Drafted, same_marked, slot_of, label_of, with_context, changed_context, is_marked, with_note, with_addition, with_inclusion, added, settled}
+use Rattle.dp_plan.specs.steps.Draft.{Drafted, same_marked, slot_of, label_of, with_context, changed_context, numbers_with, is_marked, with_note, with_addition, with_inclusion, added, settled}
 use Rattle.indexmap.specs.IndexMap.{insert_entry}
 use Rattle.dp_plan.specs.declared.extension.Extension.{Extension}
 use Rattle.dp_plan.specs.declared.places.Slot.{Slot}
@@ -125,6 +126,10 @@ slot_in es a = slot_of (number_of es a) a.entry
 abbrev label_in : Priorities → Addition → Option Label
 label_in es a = label_of (number_of es a) a.entry
 
+-- the numbers of the extensions of what is kept in the context of a name
+abbrev pub numbers_of : Priorities → List Addition → List ℕ → List ℕ
+numbers_of es kept name = map (number_of es) (filter (λ a. same_text name a.context) kept)
+
 -- the extension of each addition is in the table
 abbrev pub IsKnown : Priorities → List Addition → Type 0
 IsKnown es kept = AllByRecursion (λ a. is_known es (extension_in a) ≡ true) kept
@@ -135,6 +140,7 @@ drafted es globals names kept included remarks = record {
   globals = globals;
   names = names;
   contexts = map (context_of kept included) names;
+  numbers = map (numbers_of es kept) names;
   taken = map (slot_in es) kept;
   labels = filter_map (label_in es) kept;
   remarks = remarks;
@@ -217,10 +223,11 @@ with_context-is es globals names kept included remarks name named = by (is_named
   before : Drafted
   before = drafted es globals names kept included remarks
 
-  by : (t : Bool) → is_named names name ≡ t → cond t before (record before { names = names ++ name ∷ []; contexts = map (context_of kept included) names ++ (record { name = name; entries = []; includes = [] }) ∷ [] }) ≡ drafted es globals (names ++ cond t [] (name ∷ [])) kept included remarks
+  by : (t : Bool) → is_named names name ≡ t → cond t before (record before { names = names ++ name ∷ []; contexts = map (context_of kept included) names ++ (record { name = name; entries = []; includes = [] }) ∷ []; numbers = map (numbers_of es kept) names ++ [] ∷ [] }) ≡ drafted es globals (names ++ cond t [] (name ∷ [])) kept included remarks
   by true e = rw (append-nil names) refl
   by false e = rw (
     map-append (context_of kept included) names (name ∷ []),
+    map-append (numbers_of es kept) names (name ∷ []),
     filter-absent (λ (a : Addition). a.context) names kept name e named.0,
     filter-absent (λ (k : Inclusion). k.context) names included name e named.1,
   ) refl
@@ -275,6 +282,18 @@ contexts-entry kept included a names distinct =
     pushed : (n : List ℕ) (t : Bool) → same_text n a.context ≡ t
         → (context_of (kept ++ a ∷ []) included n).entries ≡ (context_of kept included n).entries ++ map (λ x. x.entry) (cond t (a ∷ []) [])
     pushed = parts-push (λ (x : Addition). x.context) (λ (x : Addition). x.entry) kept a
+
+-- one more number goes to those of the context of its entry
+numbers-entry : (es : Priorities) (kept : List Addition) (a : Addition) (names : List (List ℕ)) → IsDistinct same_text names
+    → map (numbers_of es (kept ++ a ∷ [])) names ≡ changed_at (with_number (number_of es a)) (position_or_len (same_text a.context) names) (map (numbers_of es kept) names)
+numbers-entry es kept a names distinct =
+    map-changed (numbers_of es kept) (numbers_of es (kept ++ a ∷ [])) (with_number (number_of es a)) a.context names
+    (λ n e. pushed n true e)
+    (λ n e. pushed n false e ∙ append-nil (numbers_of es kept n)) distinct
+  where
+    pushed : (n : List ℕ) (t : Bool) → same_text n a.context ≡ t
+        → numbers_of es (kept ++ a ∷ []) n ≡ numbers_of es kept n ++ map (number_of es) (cond t (a ∷ []) [])
+    pushed = parts-push (λ (x : Addition). x.context) (number_of es) kept a
 
 -- one more include goes to the context of its name
 contexts-include : (kept : List Addition) (included : List Inclusion) (k : Inclusion) (names : List (List ℕ)) → IsDistinct same_text names
@@ -333,6 +352,7 @@ with_addition-is es globals names kept included remarks line a distinct known al
       choose : Bool → Bool → Drafted
       choose p l = cond p (with_note before line DoublePriority) (cond l (with_note before line DoubleLabel) (record before {
         contexts = changed_context before (with_entry a.entry) a.context;
+        numbers = numbers_with before (number_of es a) a.context;
         taken = map (slot_in es) kept ++ slot_in es a ∷ [];
         labels = filter_map (label_in es) kept ++ option_to_list (label_in es a);
       }))
@@ -345,6 +365,7 @@ with_addition-is es globals names kept included remarks line a distinct known al
       by false true = rw (append-nil kept) refl
       by false false = rw (
         contexts-entry kept included a names distinct,
+        numbers-entry es kept a names distinct,
         map-append (slot_in es) kept (a ∷ []),
         filter_map-append (label_in es) kept (a ∷ []),
         list-cons (label_in es a),
@@ -369,12 +390,21 @@ filter_map-alike : {X Y : Type 0} (f g : X → Option Y) (xs : List X) → AllBy
 filter_map-alike f g [] alike = refl
 filter_map-alike f g (x ∷ xs) alike = λ i. cons_option (alike.0 i) (filter_map-alike f g xs alike.1 i)
 
+-- what holds of each element holds of those that a test lets pass
+pub each-filtered : {X : Type 0} (P : X → Type 0) (test : X → Bool) (xs : List X) → AllByRecursion P xs → AllByRecursion P (filter test xs)
+each-filtered P test [] all = tt
+each-filtered {X} P test (x ∷ xs) all = by (each-filtered P test xs all.1) (test x) where
+  by : AllByRecursion P (filter test xs) → (t : Bool) → AllByRecursion P (cond t (x ∷ filter test xs) (filter test xs))
+  by rest true = (all.0, rest)
+  by rest false = rest
+
 -- a line of an extension leaves the draft of what is kept as it is
 drafted-written : (es : Priorities) (e : Extension) (v : ℕ) (globals : List GlobalVariable) (names : List (List ℕ)) (kept : List Addition) (included : List Inclusion) (remarks : List Remark) → IsKnown es kept → drafted es globals names kept included remarks ≡ drafted (insert_entry same_extension es e v) globals names kept included remarks
 drafted-written es e v globals names kept included remarks all = λ i. record {
   globals = globals;
   names = names;
   contexts = map (context_of kept included) names;
+  numbers = map (λ name. numbered name i) names;
   taken = map-alike (slot_in es) (slot_in es') kept (each-weaker known (λ a. slot_in es a ≡ slot_in es' a) (λ a there. ap (λ n. slot_of n a.entry) (same a there)) kept all) i;
   labels = filter_map-alike (label_in es) (label_in es') kept (each-weaker known (λ a. label_in es a ≡ label_in es' a) (λ a there. ap (λ n. label_of n a.entry) (same a there)) kept all) i;
   remarks = remarks;
@@ -387,6 +417,12 @@ drafted-written es e v globals names kept included remarks all = λ i. record {
 
   same : (a : Addition) → known a → number_of es a ≡ number_of es' a
   same a there = sym (number-kept es e v (extension_in a) there)
+
+  numbered : (name : List ℕ) → numbers_of es kept name ≡ numbers_of es' kept name
+  numbered name =
+      let ours : List Addition = filter (λ a. same_text name a.context) kept in
+      map-alike (number_of es) (number_of es') ours
+      (each-weaker known (λ a. number_of es a ≡ number_of es' a) same ours (each-filtered known (λ a. same_text name a.context) kept all))
 
 -- the extensions of what is kept stay known
 known-all : (es : Priorities) (e : Extension) (v : ℕ) (kept : List Addition) → IsKnown es kept → IsKnown (insert_entry same_extension es e v) kept

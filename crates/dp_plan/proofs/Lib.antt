@@ -11,6 +11,7 @@ pub mod LoadedLemmas
 mod LoadingLemmas
 mod MeaningLemmas
 pub mod NamedLemmas
+mod NumberedLemmas
 pub mod PartsKnown
 mod NumberingLemmas
 mod PlaceLemmas

@@ -18,6 +18,7 @@ use Rattle.dp_plan.specs.Loaded.{loaded}
 use Rattle.dp_plan.specs.steps.Loading.{MadeOf, unmade, after_item, after_one, finished, drafted_of}
 use Rattle.dp_plan.specs.Plan.{PlanOf, kept_in, names_in, included_in, plan_of, notes_of}
 use Rattle.dp_plan.specs.Ranking.{AreApart}
+use Rattle.dp_plan.specs.steps.Numbers.{AreAllNumbered}
 use Rattle.dp_plan.specs.steps.Reader.{history_in}
 use Rattle.dp_plan.specs.declared.fault.LoadFault.{LoadFault}
 use Rattle.dp_plan.specs.declared.fault.LoadFault.TheVariants.{Conf, Pattern, Plan, NoMemory}
@@ -25,8 +26,9 @@ use Rattle.dp_plan.specs.Item.{Item}
 use Rattle.dp_plan.specs.declared.note.Note.{Note}
 use Rattle.dp_plan.proofs.ApartLemmas.{kept-apart, contexts-apart}
 use Rattle.dp_plan.proofs.DraftLemmas.{drafted_in, Makes-all, names-contexts, reading-items, settled-notes}
-use Rattle.dp_plan.proofs.HistoryLemmas.{history_kept}
+use Rattle.dp_plan.proofs.HistoryLemmas.{history_kept, reading_of}
 use Rattle.dp_plan.proofs.LoadedLemmas.{of_items, of_lines}
+use Rattle.dp_plan.proofs.NumberedLemmas.{contexts-numbered}
 
 -- ---- lines
 
@@ -133,15 +135,17 @@ loaded-drafted text = ap plan_of_draft (drafted-items text) ∙ by (lines_of tex
   by (Ok lines) = of_items-draft (items_after [] lines)
   by (Err fault) = refl
 
--- what is known of the draft of a text: its names are those of its contexts, and their entries are apart
+-- what is known of the draft of a text: its names are those of its contexts, and their entries are apart and have their numbers
 pub record IsFit (d : Drafted) : Type 0 where
   pub names : d.names ≡ map (λ (c : PlanContext). c.name) d.contexts
   pub apart : All (λ (c : PlanContext). AreApart c.entries) d.contexts
+  pub numbered : AreAllNumbered d.contexts d.numbers
 
 fit_items : (items : List Item) → IsFit (drafted_in items)
 fit_items items = record {
   names = sym (names-contexts (kept_in items) (filter_map included_in items) (names_in items));
   apart = contexts-apart (kept_in items) (filter_map included_in items) (names_in items) (kept-apart items);
+  numbered = contexts-numbered (reading_of items).extensions.priorities (kept_in items) (filter_map included_in items) (names_in items) (Makes-all items).known;
 }
 
 pub drafted-fit : (text : List ℕ) (draft : Drafted) → drafted_of text ≡ Ok draft → IsFit draft

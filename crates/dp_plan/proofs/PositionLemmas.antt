@@ -1,5 +1,5 @@
 -- Where an element stands in a list of which no two are the same.
-use Rattle.std.proofs.Common.{◌≡◌, ℕ, zero, suc, ◌+◌, ◌<◌, Bool, true, false, cond, not, ◌||◌, ◌==◌, nat_lt, List, [], ◌∷◌, ◌++◌, length, None, Some, slice_get, get_or, refl, ap, subst, ◌∙◌, sym, arith}
+use Rattle.std.proofs.Common.{◌≡◌, ℕ, zero, suc, ◌+◌, ◌<◌, Bool, true, false, cond, not, ◌&&◌, ◌||◌, ◌==◌, nat_lt, List, [], ◌∷◌, ◌++◌, length, None, Some, slice_get, get_or, refl, ap, subst, ◌∙◌, sym, arith}
 use Rattle.std.proofs.Math.Dec.{eqb-suc-suc, eqb-suc-zero, eqb-zero-suc}
 use Rattle.std.specs.List.{IsDistinct, AllByRecursion, list_any, position, position_or_len}
 use Rattle.std.proofs.lemmas.Bool.{lt-ltb}
@@ -22,6 +22,10 @@ or_true false b e = absurd cc
 pub or_right : (a b : Bool) → b ≡ true → (a || b) ≡ true
 or_right true b e = refl
 or_right false b e = e
+
+pub and_true : (a b : Bool) → (a && b) ≡ true → (a ≡ true) × (b ≡ true)
+and_true true b e = (refl, e)
+and_true false b e = absurd cc
 
 -- an element is another than each that stands after it
 pub later_apart : {K : Type 0} (eq : K → K → Bool) (x k : K) (xs : List K) (i : ℕ) → AllByRecursion (λ y. eq x y ≡ false) xs → slice_get xs i ≡ Some k → eq x k ≡ false

@@ -1,5 +1,6 @@
 -- The table of extensions, where the last line's extension is compared first.
-use Rattle.std.proofs.Common.{◌≡◌, ℕ, zero, suc, Bool, true, false, cond, ◌==◌, List, [], ◌∷◌, ◌++◌, Option, Some, None, slice_get, refl, ap, subst, ◌∙◌, sym}
+use Rattle.std.proofs.Common.{◌≡◌, ℕ, zero, suc, Bool, true, false, cond, not, ◌+◌, ◌&&◌, ◌==◌, List, [], ◌∷◌, ◌++◌, Option, Some, None, slice_get, refl, ap, subst, ◌∙◌, sym, arith}
+use Rattle.std.proofs.Math.Bool.{and-true}
 use Rattle.std.specs.List.{IsDistinct, list_any, position_or_len}
 use Rattle.std.specs.Option.{option_map, option_map_or}
 use Rattle.std.specs.Map.{lookup, keys_of}
@@ -7,11 +8,14 @@ use Rattle.std.specs.Cmp.{IsEquivalence}
 use Rattle.std.proofs.lemmas.List.Folds.{list_any-append}
 use Rattle.indexmap.specs.IndexMap.{insert_entry, set_value_at}
 use Rattle.indexmap.proofs.SetLemmas.{keys_insert_entry}
-use Rattle.dp_plan.specs.Extensions.{same_extension}
-use Rattle.dp_plan.specs.steps.Table.{Table, is_last, number_in, written}
+use Rattle.dp_conf.specs.Words.{same_text}
+use Rattle.dp_pattern.specs.Name.{Meaning}
+use Rattle.dp_pattern.specs.Spelling.{spelling}
+use Rattle.dp_plan.specs.Extensions.{extension_of, same_extension}
+use Rattle.dp_plan.specs.steps.Table.{Table, is_last, names_last, number_in, written}
 use Rattle.dp_plan.specs.declared.extension.Extension.{Extension}
 use Rattle.dp_plan.proofs.HistoryLemmas.{same_extension_equiv}
-use Rattle.dp_plan.proofs.PositionLemmas.{later_apart, or_right, or_true, position-more, position-new, position_or_len-distinct, same_position}
+use Rattle.dp_plan.proofs.PositionLemmas.{and_true, later_apart, or_right, or_true, position-more, position-new, position_or_len-distinct, same_position}
 
 -- keys that are the same find the same
 lookup-same : {K V : Type 0} (eq : K → K → Bool) → IsEquivalence eq → (es : List (K × V)) (q k : K) → eq q k ≡ true → lookup (eq q) es ≡ lookup (eq k) es
@@ -21,6 +25,21 @@ lookup-same {K} {V} eq laws (e ∷ es) q k same = λ i. cond (laws.congr q k e.0
 -- what the last line's extension has, a name of the same extension finds
 pub last_found : (priorities : List (Extension × ℕ)) (there asked : Extension) (priority : ℕ) → lookup (same_extension there) priorities ≡ Some priority → same_extension asked there ≡ true → lookup (same_extension asked) priorities ≡ Some priority
 last_found priorities there asked priority found same = lookup-same same_extension same_extension_equiv priorities asked there same ∙ found
+
+-- where the last line's extension has the name, the extension of the name in a context is the last line's exactly where the
+-- context is that of the last line's extension
+pub is_last_named : (context : List ℕ) (name : Meaning) (there : Extension) → same_text (spelling name) there.spelling ≡ true
+    → same_extension (extension_of context name) there ≡ same_text context there.context
+is_last_named context name there named = ap (λ t. same_text context there.context && t) named ∙ and-true (same_text context there.context)
+
+-- where the last line's extension has the name and the context, the name finds in the context what it has
+pub last_named : (table : Table) (there : Extension) (priority : ℕ) (context : List ℕ) (name : Meaning)
+    → slice_get table.priorities table.last ≡ Some (there, priority) → lookup (same_extension there) table.priorities ≡ Some priority
+    → same_text context there.context ≡ true → names_last table name ≡ true → lookup (same_extension (extension_of context name)) table.priorities ≡ Some priority
+last_named table there priority context name here found in_context named =
+    let spelled : same_text (spelling name) there.spelling ≡ true =
+    sym (ap (λ (entry : Option (Extension × ℕ)). option_map_or (λ e. same_text (spelling name) e.0.spelling) entry false) here) ∙ named in
+    last_found table.priorities there (extension_of context name) priority found (is_last_named context name there spelled ∙ in_context)
 
 -- the key of a place
 slice_get-keys : {K V : Type 0} (es : List (K × V)) (i : ℕ) (e : K × V) → slice_get es i ≡ Some e → slice_get (keys_of es) i ≡ Some e.0
@@ -56,6 +75,34 @@ written_last table asked priority distinct same = by (slice_get table.priorities
     priorities = insert_entry-at same_extension same_extension_equiv table.priorities table.last entry asked priority distinct here same i;
     last = position_or_len-distinct same_extension same_extension_equiv (keys_of table.priorities) table.last entry.0 asked distinct (slice_get-keys table.priorities table.last entry here) same i;
   }
+
+-- ---- the last line's extension
+
+-- the extension of a line is at its number
+written_there : (es : List (Extension × ℕ)) (k : Extension) (v : ℕ) → option_map_or (λ entry. same_extension k entry.0) (slice_get (insert_entry same_extension es k v) (number_in es k)) false ≡ true
+written_there [] k v = same_extension_equiv.refl k
+written_there (e ∷ es) k v = by (written_there es k v) (same_extension k e.0) refl where
+  is_there : List (Extension × ℕ) → ℕ → Bool
+  is_there entries place = option_map_or (λ entry. same_extension k entry.0) (slice_get entries place) false
+
+  by : is_there (insert_entry same_extension es k v) (number_in es k) ≡ true → (t : Bool) → same_extension k e.0 ≡ t
+      → is_there (cond t ((e.0, v) ∷ es) (e ∷ insert_entry same_extension es k v)) (cond (not t) (1 + number_in es k) 0) ≡ true
+  by later true same = same
+  by later false other =
+      let next : 1 + number_in es k ≡ suc (number_in es k) = omega arith in
+      ap (is_there (e ∷ insert_entry same_extension es k v)) next ∙ later
+
+-- the extension of a line has its name
+pub names_last_written : (table : Table) (context : List ℕ) (name : Meaning) (priority : ℕ) → names_last (written table (extension_of context name) priority) name ≡ true
+names_last_written table context name priority =
+    by (slice_get (insert_entry same_extension table.priorities asked priority) (number_in table.priorities asked)) (written_there table.priorities asked priority)
+  where
+    asked : Extension
+    asked = extension_of context name
+
+    by : (found : Option (Extension × ℕ)) → option_map_or (λ entry. same_extension asked entry.0) found false ≡ true → option_map_or (λ entry. same_text (spelling name) entry.0.spelling) found false ≡ true
+    by None there = there
+    by (Some entry) there = (and_true (same_text context entry.0.context) (same_text (spelling name) entry.0.spelling) there).1
 
 -- ---- the numbers of extensions
 

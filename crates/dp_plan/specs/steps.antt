@@ -2,6 +2,7 @@
 pub mod Draft
 pub mod KnownApplications
 pub mod Loading
+pub mod Numbers
 pub mod Places
 pub mod Reader
 pub mod SharedName

@@ -2,6 +2,7 @@
 ghost use Rattle.std.specs.Prelude.{◌≡◌, [], ◌∷◌, ◌++◌, OnOk};
 
 use crate::entry::Entry;
+use crate::shared_text::SharedText;
 use dp_conf::{NoMemory, Text};
 use std::alloc::Global;
 use std::marker::Model;
@@ -9,7 +10,7 @@ use std::marker::Model;
 /// A context: its name, and its entries and includes in the order of the file. A contract sees it as these three.
 #[derive(Debug)]
 pub struct Context {
-    name: Text,
+    name: SharedText,
     entries: Vec<Entry>,
     includes: Vec<Text>,
 }
@@ -42,7 +43,7 @@ impl Context {
     ghost use Rattle.dp_plan.specs.Contexts.{AreNamed, with_entry, with_include};
 
     /// A context with no entries and no includes.
-    pub(crate) fn new(alloc: Global, name: Text) -> Self
+    pub(crate) fn new(alloc: Global, name: SharedText) -> Self
         ensures { result ≡ record { name = name; entries = []; includes = [] } }
     {
         Context {
@@ -56,7 +57,7 @@ impl Context {
     pub fn name(&self) -> &Text
         ensures { result.now ≡ self.now.name }
     {
-        &self.name
+        self.name.text()
     }
 
     /// The context's entries in the order of the file.

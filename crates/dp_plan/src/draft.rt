@@ -4,6 +4,7 @@ ghost use Rattle.std.specs.List.{All, flat_map, position_or_len};
 ghost use Rattle.std.specs.Option.{option_to_list};
 ghost use Rattle.dp_plan.specs.Contexts.{with_entry, with_include};
 ghost use Rattle.dp_plan.specs.steps.Draft as spec;
+ghost use Rattle.dp_plan.specs.steps.Numbers.{AreAllNumbered, with_number};
 ghost use Rattle.dp_conf.specs.Changes.{changed_at};
 ghost use Rattle.dp_conf.specs.Words.{same_text};
 ghost use Rattle.dp_plan.specs.Loaded.{IsLoaded};
@@ -14,6 +15,7 @@ use crate::context::Context;
 use crate::entry::Entry;
 use crate::label::{Label, label_of};
 use crate::note::{Note, NoteKind};
+use crate::numbers::Numbers;
 use crate::places::{Places, Slot};
 use crate::plan::{Dialplan, GlobalVariable, Parts};
 use crate::priority::Priority;
@@ -30,8 +32,9 @@ use std::marker::Model;
 #[derive(Drop)]
 pub(crate) struct Draft {
     globals: Vec<GlobalVariable>,
-    names: IndexSet<Text>,
+    names: IndexSet<SharedText>,
     contexts: Vec<Context>,
+    numbers: Vec<Numbers>,
     taken: Places,
     labels: IndexSet<Label>,
     remarks: Vec<Remark>,
@@ -49,12 +52,14 @@ impl Model for Draft {
       globals = draft.globals.items;
       names = draft.names.keys;
       contexts = draft.contexts.items;
+      numbers = draft.numbers.items;
       taken = draft.taken;
       labels = draft.labels.keys;
       remarks = draft.remarks.items;
     } };
 
-    ghost invariant = { λ draft. length draft.names.keys ≡ length draft.contexts.items };
+    ghost invariant = { λ draft. (length draft.names.keys ≡ length draft.contexts.items)
+        × (length draft.numbers.items ≡ length draft.contexts.items) };
 }
 
 /// The place that an entry takes, by the number of its extension.
@@ -68,21 +73,22 @@ fn slot_of(number: u32, entry: &Entry) -> Slot
 }
 
 /// The context of this name, with nothing in it.
-fn empty_context(alloc: Global, name: &Text) -> Result<Context, NoMemory>
+fn empty_context(alloc: Global, name: &SharedText) -> Result<Context, NoMemory>
     ensures { IfOk result (λ context. context ≡ spec.empty_context name.now) }
 {
     let name = name.clone()?;
     Ok(Context::new(alloc, name))
 }
 
-/// The dialplan of these parts, with the rankings of its contexts.
-fn plan_of(alloc: Global, parts: Parts) -> Result<Dialplan, NoMemory>
+/// The dialplan of these parts, with the rankings of its contexts, whose entries' extensions have these numbers.
+fn plan_of(alloc: Global, parts: Parts, numbers: &[Numbers]) -> Result<Dialplan, NoMemory>
     requires names { parts.names.keys ≡ map (λ context. context.name) parts.contexts.items }
     requires apart { All (λ context. AreApart context.entries) parts.contexts.items }
+    requires numbered { AreAllNumbered parts.contexts.items numbers.now }
     requires loaded { IsLoaded (record { globals = parts.globals.items; contexts = parts.contexts.items }) }
     ensures { IfOk result (λ plan. plan ≡ record { globals = parts.globals.items; contexts = parts.contexts.items }) }
 {
-    let rankings = rank_contexts(alloc, &parts.contexts)?;
+    let rankings = rank_contexts(alloc, &parts.contexts, numbers)?;
     Ok(Dialplan::of_parts(parts, rankings))
 }
 
@@ -95,6 +101,7 @@ impl Draft {
             globals: Vec::new(alloc),
             names: IndexSet::new(alloc),
             contexts: Vec::new(alloc),
+            numbers: Vec::new(alloc),
             taken: Places::new(alloc),
             labels: IndexSet::new(alloc),
             remarks: Vec::new(alloc),
@@ -103,22 +110,24 @@ impl Draft {
     }
 
     /// Adds the context of this name, which is not there, and gives its number.
-    fn add_context(&mut self, alloc: Global, name: &Text) -> Result<usize, NoMemory>
+    fn add_context(&mut self, alloc: Global, name: &SharedText) -> Result<usize, NoMemory>
         requires { is_named self.old.names name.now ≡ false }
         ensures ok { OnOk result (self.new ≡ spec.with_context self.old name.now) }
         ensures place { IfOk result (λ place. place ≡ position_or_len (same_text name.now) self.new.names) }
         ensures within { IfOk result (λ place. place < length self.new.contexts) }
     {
         self.contexts.reserve(1)?;
+        self.numbers.reserve(1)?;
         let context = empty_context(alloc, name)?;
         let key = name.clone()?;
         let (place, _) = self.names.insert_full(key)?;
         self.contexts.push(context).unwrap();
+        self.numbers.push(Numbers::new(alloc)).unwrap();
         Ok(place)
     }
 
     /// Makes sure that the context of this name is there, and gives its number.
-    fn open_text(&mut self, alloc: Global, name: &Text) -> Result<usize, NoMemory>
+    fn open_named(&mut self, alloc: Global, name: &SharedText) -> Result<usize, NoMemory>
         ensures ok { OnOk result (self.new ≡ spec.with_context self.old name.now) }
         ensures place { IfOk result (λ place. place ≡ position_or_len (same_text name.now) self.new.names) }
         ensures within { IfOk result (λ place. place < length self.new.contexts) }
@@ -132,7 +141,7 @@ impl Draft {
     /// The number of the context that was opened last, where it has this name. No table is asked.
     #[tactic(auto, using(crate::proofs::PositionLemmas::place_of_name, crate::proofs::PositionLemmas::named_at))]
     #[inline(always)]
-    fn opened_so(&self, name: &Text) -> Option<usize>
+    fn opened_so(&self, name: &SharedText) -> Option<usize>
         ensures place { IfSome result (λ place. place ≡ position_or_len (same_text name.now) self.now.names) }
         ensures within { IfSome result (λ place. place < length self.now.contexts) }
         ensures named { IfSome result (λ place. is_named self.now.names name.now ≡ true) }
@@ -152,10 +161,9 @@ impl Draft {
         ensures place { IfOk result (λ place. place ≡ position_or_len (same_text name.now) self.new.names) }
         ensures within { IfOk result (λ place. place < length self.new.contexts) }
     {
-        let name = name.text();
         let place = match self.opened_so(name) {
             Some(place) => place,
-            None => self.open_text(alloc, name)?,
+            None => self.open_named(alloc, name)?,
         };
         self.opened = place;
         Ok(place)
@@ -246,6 +254,34 @@ impl Draft {
         Ok(())
     }
 
+    /// Adds the number of an extension to those of the context at the place.
+    #[inline(always)]
+    fn push_number(&mut self, place: usize, number: u32) -> Result<(), NoMemory>
+        requires { place < length self.old.numbers }
+        ensures { OnOk result (self.new ≡ record self.old {
+          numbers = changed_at (with_number number) place self.old.numbers;
+        }) }
+    {
+        let numbers = &mut self.numbers[place];
+        numbers.push(number)?;
+        Ok(())
+    }
+
+    /// Adds the entry to the context at the place, by the number of its extension.
+    #[inline(always)]
+    fn push_numbered(&mut self, place: usize, number: u32, entry: Entry) -> Result<(), NoMemory>
+        requires { place < length self.old.contexts }
+        ensures { OnOk result (self.new ≡ record self.old {
+          contexts = changed_at (with_entry entry) place self.old.contexts;
+          numbers = changed_at (with_number number) place self.old.numbers;
+        }) }
+    {
+        // Each context has its numbers.
+        let _numbers = &self.numbers;
+        self.push_number(place, number)?;
+        self.push_entry(place, entry)
+    }
+
     /// Adds the include to the context at the place.
     fn push_include(&mut self, place: usize, name: Text) -> Result<(), NoMemory>
         requires { place < length self.old.contexts }
@@ -275,7 +311,7 @@ impl Draft {
         let place = self.open(alloc, context)?;
         match self.claim(alloc, number, &entry)? {
             Some(kind) => self.note(line, kind),
-            None => self.push_entry(place, entry),
+            None => self.push_numbered(place, number, entry),
         }
     }
 
@@ -330,39 +366,45 @@ impl Draft {
         Ok(notes)
     }
 
-    /// The parts of the draft's dialplan. The places, the labels and the remarks are let go.
-    fn into_parts(self) -> Parts
-        ensures globals { result.globals.items ≡ self.globals }
-        ensures names { result.names.keys ≡ self.names }
-        ensures contexts { result.contexts.items ≡ self.contexts }
+    /// The parts of the draft's dialplan, and the numbers of its entries' extensions. The places, the labels and the remarks
+    /// are let go.
+    fn into_parts(self) -> (Parts, Vec<Numbers>)
+        ensures globals { result.0.globals.items ≡ self.globals }
+        ensures names { result.0.names.keys ≡ self.names }
+        ensures contexts { result.0.contexts.items ≡ self.contexts }
+        ensures numbers { result.1.items ≡ self.numbers }
     {
         let Draft {
             globals,
             names,
             contexts,
+            numbers,
             taken: _,
             labels: _,
             remarks: _,
             opened: _,
         } = self;
-        Parts {
+        let parts = Parts {
             globals,
             names,
             contexts,
-        }
+        };
+        (parts, numbers)
     }
 
     /// The dialplan of the draft, and its notes. The places and labels are let go before the entries are ranked.
     pub(crate) fn into_plan(self, alloc: Global) -> Result<(Dialplan, Vec<Note>), NoMemory>
         requires names { self.names ≡ map (λ context. context.name) self.contexts }
         requires apart { All (λ context. AreApart context.entries) self.contexts }
+        requires numbered { AreAllNumbered self.contexts self.numbers }
         requires loaded { IsLoaded (record { globals = self.globals; contexts = self.contexts }) }
         ensures plan { IfOk result (λ made. made.0 ≡ record { globals = self.globals; contexts = self.contexts }) }
         ensures notes { IfOk result (λ made. made.1.items ≡ flat_map (spec.settled self.names) self.remarks) }
     {
         let notes = self.notes(alloc);
         let (notes, draft) = beside(notes, self)?;
-        let plan = plan_of(alloc, draft.into_parts());
+        let (parts, numbers) = draft.into_parts();
+        let plan = plan_of(alloc, parts, &numbers);
         beside(plan, notes)
     }
 }

@@ -39,23 +39,32 @@ fn copy_label(alloc: Global, label: Option<&[u8]>) -> Result<Option<SharedText>,
     }
 }
 
+/// How a line names its extension.
+#[derive(Clone, Copy)]
+pub(crate) enum Naming {
+    /// It says the name.
+    Anew,
+    /// It has the name of the line before.
+    Again,
+}
+
 /// The last priority of the extension, where the priority of the line asks for it.
 #[inline(always)]
 fn priority_before(
     reader: &Reader,
     context: &SharedText,
+    naming: Naming,
     name: &SharedName,
     written: Written,
 ) -> Result<Option<Priority>, NoMemory>
+    requires { naming ≡ Naming.Again → reader.now.name ≡ Some name.now }
     ensures { IfOk result (λ last. spec.number_after last written
         ≡ spec.number_after (last_priority reader.now context.now name.now) written) }
 {
-    match written {
-        Written::Next => {
-            let last = reader.last_priority(context, name)?;
-            Ok(last)
-        }
-        Written::Number(_) | Written::TooGreat => Ok(None),
+    match (written, naming) {
+        (Written::Next, Naming::Anew) => reader.last_priority(context, name),
+        (Written::Next, Naming::Again) => reader.last_priority_again(context, name),
+        (Written::Number(_) | Written::TooGreat, _) => Ok(None),
     }
 }
 
@@ -66,19 +75,22 @@ fn read_named(
     reader: &mut Reader,
     line: usize,
     context: &SharedText,
+    naming: Naming,
     name: SharedName,
     priority: &[u8],
     application: &[u8],
 ) -> Result<Entry, LoadFault>
+    requires { naming ≡ Naming.Again → reader.old.name ≡ Some name }
     ensures read { Answers (λ entry. entry) reason_of result
         (spec.entry_by (history_in reader.old) line context.now name priority.now application.now) }
     ensures same { reader.new ≡ reader.old }
+    ensures named { IfOk result (λ entry. entry.name ≡ name) }
 {
     let numbering = match read_numbering(priority) {
         Ok(numbering) => numbering,
         Err(kind) => return Err(fault(line, kind)),
     };
-    let last = priority_before(reader, context, &name, numbering.written)?;
+    let last = priority_before(reader, context, naming, &name, numbering.written)?;
     let priority = match number_after(last, numbering.written) {
         Ok(priority) => priority,
         Err(kind) => return Err(fault(line, kind)),
@@ -121,13 +133,24 @@ pub(crate) fn read_exten(
     let name = read_name(alloc, line, trim(name))?;
     let priority = trim(priority);
     let application = trim(application);
-    let entry = read_named(alloc, reader, line, context, name, priority, application)?;
+    let naming = Naming::Anew;
+    let entry = read_named(
+        alloc,
+        reader,
+        line,
+        context,
+        naming,
+        name,
+        priority,
+        application,
+    )?;
     Ok(entry)
 }
 
 /// The name of a line that repeats the one before it.
 fn name_again(reader: &Reader, line: usize) -> Result<SharedName, LoadFault>
-    ensures { Answers (λ name. name) reason_of result (spec.name_again line reader.now.name) }
+    ensures again { Answers (λ name. name) reason_of result (spec.name_again line reader.now.name) }
+    ensures named { IfOk result (λ name. reader.now.name ≡ Some name) }
 {
     match reader.name() {
         None => Err(fault(line, PlanKind::NoExten)),
@@ -150,6 +173,7 @@ pub(crate) fn read_same(
     ensures read { Answers (λ entry. entry) reason_of result
         (spec.same_entry (history_in reader.old) line context.now value.now) }
     ensures same { reader.new ≡ reader.old }
+    ensures named { IfOk result (λ entry. reader.old.name ≡ Some entry.name) }
 {
     let Some((priority, application)) = cut_once(value, b',') else {
         name_again(reader, line)?;
@@ -158,6 +182,16 @@ pub(crate) fn read_same(
     let name = name_again(reader, line)?;
     let priority = trim(priority);
     let application = trim(application);
-    let entry = read_named(alloc, reader, line, context, name, priority, application)?;
+    let naming = Naming::Again;
+    let entry = read_named(
+        alloc,
+        reader,
+        line,
+        context,
+        naming,
+        name,
+        priority,
+        application,
+    )?;
     Ok(entry)
 }

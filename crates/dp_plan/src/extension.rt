@@ -1,5 +1,6 @@
 //! The extensions of a dialplan.
 ghost use Rattle.std.specs.Prelude.{IfOk, IsTrue, ◌≡◌, ◌↔◌};
+ghost use Rattle.dp_conf.specs.Words.{same_text};
 ghost use Rattle.dp_pattern.specs.Name.{Meaning, IsName};
 ghost use Rattle.dp_plan.specs.Extensions.{extension_of, same_extension, same_name};
 
@@ -29,7 +30,14 @@ impl Extension {
         ensures { result ≡ same_extension (extension_of context.now name.now) self.now }
     {
         // The lines of a context are many, so names differ before contexts do.
-        self.spelling.is_of(name) && context == &self.context
+        self.spelling.is_of(name) && self.is_in(context)
+    }
+
+    /// Whether it is an extension of the context.
+    pub(crate) fn is_in(&self, context: &SharedText) -> bool
+        ensures { result ≡ same_text context.now self.now.context }
+    {
+        context == &self.context
     }
 }
 

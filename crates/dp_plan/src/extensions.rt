@@ -1,6 +1,7 @@
 //! The extensions of the lines so far, in one table.
-ghost use Rattle.std.specs.Prelude.{◌≡◌, IfOk, IfSome, OnOk, IsTrue, IsFalse, Some, is_some};
+ghost use Rattle.std.specs.Prelude.{◌≡◌, IfOk, IfSome, OnOk, IsTrue, IsFalse, Some, is_some, true};
 ghost use Rattle.std.specs.Map.{lookup};
+ghost use Rattle.dp_pattern.specs.Name.{Meaning};
 ghost use Rattle.dp_plan.specs.Extensions.{extension_of, same_extension};
 ghost use Rattle.dp_plan.specs.steps.Table as spec;
 
@@ -74,6 +75,32 @@ impl Extensions {
         }
     }
 
+    /// The last priority of the last line's extension, where that is one of the context. Its name is not compared.
+    #[tactic(auto, using(crate::proofs::TableLemmas::last_found, crate::proofs::TableLemmas::is_last_named))]
+    #[inline(always)]
+    fn last_in(&self, context: &SharedText) -> Option<Priority>
+        ensures value { IfSome result (λ priority. (name : Meaning) → spec.names_last self.now name ≡ true
+            → lookup (same_extension (extension_of context.now name)) self.now.priorities ≡ Some priority) }
+        ensures last { (name : Meaning) → spec.names_last self.now name ≡ true
+            → is_some result ≡ spec.is_last self.now (extension_of context.now name) }
+    {
+        let (extension, priority) = self.priorities.get_index(self.last as usize)?;
+        if extension.is_in(context) {
+            Some(*priority)
+        } else {
+            None
+        }
+    }
+
+    /// The last priority of the extension of the name in the context, where it has one, by the table.
+    fn look_up(&self, context: &SharedText, name: &SharedName) -> Result<Option<Priority>, NoMemory>
+        ensures { IfOk result (λ priority. priority
+            ≡ lookup (same_extension (extension_of context.now name.now)) self.now.priorities) }
+    {
+        let extension = Extension::of(context, name)?;
+        Ok(self.priorities.get(&extension).copied())
+    }
+
     /// The last priority of the extension of the name in the context, where it has one.
     pub(crate) fn priority(
         &self,
@@ -83,28 +110,57 @@ impl Extensions {
         ensures { IfOk result (λ priority. priority
             ≡ lookup (same_extension (extension_of context.now name.now)) self.now.priorities) }
     {
-        if let Some(priority) = self.last_so(context, name) {
-            return Ok(Some(priority));
+        match self.last_so(context, name) {
+            Some(priority) => Ok(Some(priority)),
+            None => self.look_up(context, name),
         }
-        let extension = Extension::of(context, name)?;
-        Ok(self.priorities.get(&extension).copied())
     }
 
-    /// Gives the last line's extension another priority, where it is the one of the name in the context, and says
-    /// whether it is.
+    /// The same, where the name is that of the last line's extension. It is not compared.
+    pub(crate) fn priority_again(
+        &self,
+        context: &SharedText,
+        name: &SharedName,
+    ) -> Result<Option<Priority>, NoMemory>
+        requires { spec.names_last self.now name.now ≡ true }
+        ensures { IfOk result (λ priority. priority
+            ≡ lookup (same_extension (extension_of context.now name.now)) self.now.priorities) }
+    {
+        match self.last_in(context) {
+            Some(priority) => Ok(Some(priority)),
+            None => self.look_up(context, name),
+        }
+    }
+
+    /// Gives the last line's extension, which is the one of the name in the context, another priority, and says that it did.
     #[tactic(auto, using(crate::proofs::TableLemmas::written_last))]
     #[inline(always)]
     fn rewrite(&mut self, context: &SharedText, name: &SharedName, priority: Priority) -> bool
+        requires { spec.is_last self.old (extension_of context.now name.now) ≡ true }
         ensures same { IsTrue result → self.new ≡ spec.written self.old (extension_of context.now name.now) priority }
         ensures other { IsFalse result → self.new ≡ self.old }
     {
-        if self.last_so(context, name).is_some()
-            && let Some(written) = self.priorities.get_index_mut(self.last as usize)
-        {
+        if let Some(written) = self.priorities.get_index_mut(self.last as usize) {
             *written = priority;
             return true;
         }
         false
+    }
+
+    /// Gives the extension of the name in the context another priority, by the table. It is that of the last line then.
+    #[inline(always)]
+    fn insert(
+        &mut self,
+        context: &SharedText,
+        name: &SharedName,
+        priority: Priority,
+    ) -> Result<(), NoMemory>
+        ensures { OnOk result (self.new ≡ spec.written self.old (extension_of context.now name.now) priority) }
+    {
+        let extension = Extension::of(context, name)?;
+        let (number, _) = self.priorities.insert_full(extension, priority)?;
+        self.last = short_number(number)?;
+        Ok(())
     }
 
     /// Gives the extension of the name in the context another priority. It is that of the last line then.
@@ -117,12 +173,26 @@ impl Extensions {
     ) -> Result<(), NoMemory>
         ensures { OnOk result (self.new ≡ spec.written self.old (extension_of context.now name.now) priority) }
     {
-        if self.rewrite(context, name, priority) {
+        if self.last_so(context, name).is_some() && self.rewrite(context, name, priority) {
             return Ok(());
         }
-        let extension = Extension::of(context, name)?;
-        let (number, _) = self.priorities.insert_full(extension, priority)?;
-        self.last = short_number(number)?;
-        Ok(())
+        self.insert(context, name, priority)
+    }
+
+    /// The same, where the name is that of the last line's extension. It is not compared.
+    #[inline(always)]
+    pub(crate) fn write_again(
+        &mut self,
+        context: &SharedText,
+        name: &SharedName,
+        priority: Priority,
+    ) -> Result<(), NoMemory>
+        requires { spec.names_last self.old name.now ≡ true }
+        ensures { OnOk result (self.new ≡ spec.written self.old (extension_of context.now name.now) priority) }
+    {
+        if self.last_in(context).is_some() && self.rewrite(context, name, priority) {
+            return Ok(());
+        }
+        self.insert(context, name, priority)
     }
 }

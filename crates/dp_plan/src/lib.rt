@@ -16,6 +16,7 @@ mod made;
 mod naming;
 mod note;
 mod numbering;
+mod numbers;
 mod places;
 mod plan;
 mod priority;

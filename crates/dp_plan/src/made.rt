@@ -1,5 +1,5 @@
 //! What the lines so far have made, and what they leave for the next one.
-ghost use Rattle.std.specs.Prelude.{◌≡◌, OnOk};
+ghost use Rattle.std.specs.Prelude.{◌≡◌, OnOk, Some};
 ghost use Rattle.dp_conf.specs.Answers.{Answers};
 ghost use Rattle.dp_conf.specs.Borrowed.{line_now};
 ghost use Rattle.dp_plan.specs.EntryLine.{exten_entry, same_entry};
@@ -108,7 +108,7 @@ impl Made {
         Ok(())
     }
 
-    /// Adds an entry to the context of this name.
+    /// Adds an entry that names its extension to the context of this name.
     #[inline(always)]
     fn add_entry(
         &mut self,
@@ -120,6 +120,23 @@ impl Made {
         ensures { OnOk result (self.new ≡ spec.after_item self.old (Adds line context.now entry)) }
     {
         self.reader.go_after(context, &entry)?;
+        let number = self.reader.extension();
+        self.draft.add_entry(alloc, line, context, number, entry)
+    }
+
+    /// Adds an entry with the name of the line before to the context of this name.
+    #[inline(always)]
+    fn add_next(
+        &mut self,
+        alloc: Global,
+        line: usize,
+        context: &SharedText,
+        entry: Entry,
+    ) -> Result<(), NoMemory>
+        requires { self.old.reading.name ≡ Some entry.name }
+        ensures { OnOk result (self.new ≡ spec.after_item self.old (Adds line context.now entry)) }
+    {
+        self.reader.go_on(context, &entry)?;
         let number = self.reader.extension();
         self.draft.add_entry(alloc, line, context, number, entry)
     }
@@ -154,7 +171,7 @@ impl Made {
             (same_entry (history_in self.old.reading) line context.now value.now))) }
     {
         let entry = read_same(alloc, &mut self.reader, line, context, value)?;
-        self.add_entry(alloc, line, context, entry)?;
+        self.add_next(alloc, line, context, entry)?;
         Ok(())
     }
 

@@ -16,6 +16,7 @@ use crate::fault::LoadFault;
 use crate::loading::read_draft;
 use crate::note::Note;
 use crate::ranking::Ranking;
+use crate::shared_text::SharedText;
 use dp_conf::{ShallowText, Text};
 use indexmap::IndexSet;
 use std::alloc::Global;
@@ -33,7 +34,7 @@ pub struct GlobalVariable {
 #[derive(Debug)]
 pub struct Dialplan {
     globals: Vec<GlobalVariable>,
-    names: IndexSet<Text>,
+    names: IndexSet<SharedText>,
     contexts: Vec<Context>,
     rankings: Vec<Ranking>,
 }
@@ -73,7 +74,7 @@ impl Model for Dialplan {
 #[derive(Drop)]
 pub(crate) struct Parts {
     pub(crate) globals: Vec<GlobalVariable>,
-    pub(crate) names: IndexSet<Text>,
+    pub(crate) names: IndexSet<SharedText>,
     pub(crate) contexts: Vec<Context>,
 }
 
@@ -164,7 +165,7 @@ impl Dialplan {
         ensures { IsTrue result ↔ (number_of self.now name.now ≡ Some number) }
     {
         match self.names.as_slice().get(number) {
-            Some(held) => name == held,
+            Some(held) => name == held.text(),
             None => false,
         }
     }

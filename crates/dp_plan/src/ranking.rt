@@ -3,13 +3,16 @@ ghost use Rattle.std.specs.Prelude.{◌≡◌, ◌≤◌, ◌^◌, length, map, 
 ghost use Rattle.std.specs.List.{All};
 ghost use Rattle.dp_pattern.specs.Order.{name_cmp};
 ghost use Rattle.dp_plan.specs.Contexts.{AreNamed};
+ghost use Rattle.dp_plan.specs.Extensions.{same_name};
 ghost use Rattle.dp_plan.specs.Ranking as spec;
+ghost use Rattle.dp_plan.specs.steps.Numbers.{AreNumbered, AreAllNumbered};
 
 use crate::context::Context;
 use crate::entry::{Entry, EntryId};
+use crate::numbers::Numbers;
 use crate::shared_name::SharedName;
 use dp_conf::NoMemory;
-use dp_pattern::{Parts, compare};
+use dp_pattern::compare;
 use std::alloc::Global;
 use std::cmp::Ordering;
 use std::marker::Model;
@@ -40,40 +43,38 @@ impl Ranking {
     }
 }
 
-/// Whether both are patterns of one spelling, which is one name. It costs a small part of what the comparison of their
-/// classes does.
-fn are_one_pattern(left: &SharedName, right: &SharedName) -> bool
-    ensures { IsTrue result → left.now ≡ right.now }
-{
-    match (left.name().parts(), right.name().parts()) {
-        (Parts::Pattern(_, _), Parts::Pattern(_, _)) => left.spelling() == right.spelling(),
-        _ => false,
-    }
-}
-
-/// The order of two names.
-fn compare_names(left: &SharedName, right: &SharedName) -> Ordering
+/// The order of two names, of which it may be known that they are one. Then they are not compared.
+fn compare_names(left: &SharedName, right: &SharedName, is_one: bool) -> Ordering
+    requires { IsTrue is_one → IsTrue (same_name left.now right.now) }
     ensures { result ≡ name_cmp left.now right.now }
 {
-    if are_one_pattern(left, right) {
+    if is_one {
+        // What a name is made of is what some text means, and that has one spelling.
+        let _left = left.name().parts();
+        let _right = right.name().parts();
         return Ordering::Equal;
     }
     compare(left.name(), right.name())
 }
 
-/// The order of two entries: by their names, and then by their priorities.
-fn compare_entries(left: &Entry, right: &Entry) -> Ordering
+/// The order of two entries, of which it may be known that they have one name: by their names, and then by their priorities.
+fn compare_entries(left: &Entry, right: &Entry, is_one: bool) -> Ordering
+    requires { IsTrue is_one → IsTrue (same_name left.now.name right.now.name) }
     ensures { result ≡ spec.entry_cmp left.now right.now }
 {
-    compare_names(&left.name, &right.name).then(left.priority.get().cmp(&right.priority.get()))
+    compare_names(&left.name, &right.name, is_one).then(
+        left.priority.get().cmp(&right.priority.get()),
+    )
 }
 
-/// The order of two entries by their numbers.
-fn compare_ids(entries: &[Entry], left: EntryId, right: EntryId) -> Ordering
+/// The order of two entries by their numbers, where entries of one extension are known by its number.
+fn compare_ids(entries: &[Entry], extensions: &Numbers, left: EntryId, right: EntryId) -> Ordering
+    requires { AreNumbered entries.now extensions.now }
     ensures { result ≡ spec.id_cmp entries.now left right }
 {
+    let is_one = extensions.are_one(left.entry, right.entry);
     match (entries.get(left.entry), entries.get(right.entry)) {
-        (Some(left), Some(right)) => compare_entries(left, right),
+        (Some(left), Some(right)) => compare_entries(left, right, is_one),
         (Some(_), None) => Ordering::Greater,
         (None, Some(_)) => Ordering::Less,
         (None, None) => Ordering::Equal,
@@ -89,35 +90,52 @@ fn number_entries(alloc: Global, context: usize, count: usize) -> Result<Vec<Ent
         .collect(alloc)
 }
 
-/// The ranking of the entries of a context.
-fn rank(alloc: Global, context: usize, entries: &[Entry]) -> Result<Ranking, NoMemory>
-    requires { spec.AreApart entries.now }
+/// The ranking of the entries of a context, whose extensions have these numbers.
+fn rank(
+    alloc: Global,
+    context: usize,
+    entries: &[Entry],
+    extensions: &Numbers,
+) -> Result<Ranking, NoMemory>
+    requires apart { spec.AreApart entries.now }
+    requires numbered { AreNumbered entries.now extensions.now }
     ensures { IfOk result (λ ranking. spec.IsRanking context entries.now ranking) }
 {
     let mut ids = number_entries(alloc, context, entries.len())?;
-    ids.sort_unstable_by(|left, right| compare_ids(entries, *left, *right));
+    ids.sort_unstable_by(|left, right| compare_ids(entries, extensions, *left, *right));
     Ok(Ranking { ids })
 }
 
 /// The ranking of a context, of whose entries each name is one that some text means.
-fn rank_context(alloc: Global, number: usize, context: &Context) -> Result<Ranking, NoMemory>
-    requires { spec.AreApart context.now.entries }
+fn rank_context(
+    alloc: Global,
+    number: usize,
+    context: &Context,
+    extensions: &Numbers,
+) -> Result<Ranking, NoMemory>
+    requires apart { spec.AreApart context.now.entries }
+    requires numbered { AreNumbered context.now.entries extensions.now }
     ensures ranked { IfOk result (λ ranking. spec.IsRanking number context.now.entries ranking) }
     ensures named { AreNamed context.now.entries }
 {
     context.entries_are_named();
-    rank(alloc, number, context.entries())
+    rank(alloc, number, context.entries(), extensions)
 }
 
-/// The rankings of all contexts.
-pub(crate) fn rank_contexts(alloc: Global, contexts: &[Context]) -> Result<Vec<Ranking>, NoMemory>
-    requires { All (λ context. spec.AreApart context.entries) contexts.now }
+/// The rankings of all contexts, by the numbers of the extensions of their entries.
+pub(crate) fn rank_contexts(
+    alloc: Global,
+    contexts: &[Context],
+    extensions: &[Numbers],
+) -> Result<Vec<Ranking>, NoMemory>
+    requires apart { All (λ context. spec.AreApart context.entries) contexts.now }
+    requires numbered { AreAllNumbered contexts.now extensions.now }
     ensures ranked { IfOk result (λ rankings. spec.AreRanked contexts.now rankings.items) }
     ensures named { IfOk result (λ rankings. All (λ context. AreNamed context.entries) contexts.now) }
 {
     let mut rankings = Vec::with_capacity(alloc, contexts.len())?;
     for (number, context) in contexts.iter().enumerate() {
-        let ranking = rank_context(alloc, number, context)?;
+        let ranking = rank_context(alloc, number, context, &extensions[number])?;
         rankings.push(ranking)?;
     }
     Ok(rankings)

@@ -1,5 +1,5 @@
 //! What the lines so far leave for the next one.
-ghost use Rattle.std.specs.Prelude.{◌≡◌, IfOk, OnOk};
+ghost use Rattle.std.specs.Prelude.{◌≡◌, IfOk, OnOk, Some};
 ghost use Rattle.std.specs.Option.{option_copied};
 ghost use Rattle.dp_plan.specs.steps.Reader as spec;
 
@@ -14,9 +14,9 @@ use dp_conf::NoMemory;
 use std::alloc::Global;
 use std::marker::Model;
 
-/// The section of the next line, the name of the last extension since its header, and the extensions with their
-/// last priorities. Beside them stand the names of applications that the lines so far have written, of which a
-/// contract sees nothing.
+/// The section of the next line, the name of the last extension since its header, which is that of the last line, and the
+/// extensions with their last priorities. Beside them stand the names of applications that the lines so far have written,
+/// of which a contract sees nothing.
 #[derive(Drop)]
 pub(crate) struct Reader {
     section: Section,
@@ -26,7 +26,7 @@ pub(crate) struct Reader {
 }
 
 impl Model for Reader {
-    ghost use Rattle.dp_plan.specs.steps.Reader.{Reading};
+    ghost use Rattle.dp_plan.specs.steps.Reader.{Reading, NamesLast};
 
     ghost Value = { Reading };
 
@@ -35,6 +35,8 @@ impl Model for Reader {
       name = reader.name;
       extensions = reader.extensions;
     } };
+
+    ghost invariant = { λ reader. NamesLast reader.name reader.extensions };
 }
 
 impl Reader {
@@ -82,6 +84,18 @@ impl Reader {
         self.extensions.priority(context, name)
     }
 
+    /// The same, where the name is that of the last extension since the section's header. It is not compared.
+    pub(crate) fn last_priority_again(
+        &self,
+        context: &SharedText,
+        name: &SharedName,
+    ) -> Result<Option<Priority>, NoMemory>
+        requires { self.now.name ≡ Some name.now }
+        ensures { IfOk result (λ last. last ≡ spec.last_priority self.now context.now name.now) }
+    {
+        self.extensions.priority_again(context, name)
+    }
+
     /// The name of an application, which is held for the lines to come, or is held where a line before has written it so.
     pub(crate) fn application(&mut self, alloc: Global, name: &[u8]) -> Result<SharedText, NoMemory>
         ensures ok { IfOk result (λ application. application ≡ name.now) }
@@ -98,14 +112,31 @@ impl Reader {
         self.name = None;
     }
 
-    /// Goes after the line of an entry.
+    /// Goes after the line of an entry that names its extension.
+    #[tactic(auto, using(crate::proofs::TableLemmas::names_last_written))]
     #[inline(always)]
     pub(crate) fn go_after(&mut self, context: &SharedText, entry: &Entry) -> Result<(), NoMemory>
         ensures { OnOk result (self.new ≡ spec.after_entry self.old context.now entry.now) }
     {
         let name = entry.name.clone()?;
+        let _before = self.name.take();
         self.extensions.write(context, &entry.name, entry.priority)?;
         self.name = Some(name);
+        Ok(())
+    }
+
+    /// Goes after the line of an entry whose name is that of the last extension since the section's header. It is not
+    /// compared.
+    #[tactic(auto, using(crate::proofs::TableLemmas::names_last_written))]
+    #[inline(always)]
+    pub(crate) fn go_on(&mut self, context: &SharedText, entry: &Entry) -> Result<(), NoMemory>
+        requires { self.old.name ≡ Some entry.now.name }
+        ensures { OnOk result (self.new ≡ spec.after_entry self.old context.now entry.now) }
+    {
+        let name = self.name.take();
+        self.extensions
+            .write_again(context, &entry.name, entry.priority)?;
+        self.name = name;
         Ok(())
     }
 }

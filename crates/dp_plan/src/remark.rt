@@ -2,9 +2,11 @@
 ghost use Rattle.std.specs.Prelude.{◌≡◌, ◌++◌, OnOk, IfOk};
 ghost use Rattle.std.specs.List.{flat_map};
 ghost use Rattle.std.specs.Option.{option_to_list};
+ghost use Rattle.dp_plan.specs.Plan as plan;
 ghost use Rattle.dp_plan.specs.steps.Draft as spec;
 
 use crate::note::{Note, NoteKind};
+use crate::shared_text::SharedText;
 use dp_conf::{NoMemory, Text};
 use indexmap::IndexSet;
 use std::alloc::Global;
@@ -18,13 +20,20 @@ pub(crate) enum Remark {
     Asks { line: usize, name: Text },
 }
 
+/// Whether a context has the name.
+fn is_named(names: &IndexSet<SharedText>, name: &Text) -> bool
+    ensures { result ≡ plan.is_named names.now.keys name.now }
+{
+    names.contains(name)
+}
+
 /// The note of a remark, where it comes to one.
-fn note_of(names: &IndexSet<Text>, remark: &Remark) -> Option<Note>
+fn note_of(names: &IndexSet<SharedText>, remark: &Remark) -> Option<Note>
     ensures { option_to_list result ≡ spec.settled names.now.keys remark.now }
 {
     match remark {
         Remark::Noted(note) => Some(*note),
-        Remark::Asks { line: _, name } if names.contains(name) => None,
+        Remark::Asks { line: _, name } if is_named(names, name) => None,
         Remark::Asks { line, name: _ } => Some(Note {
             line: *line,
             kind: NoteKind::UnknownContext,
@@ -45,7 +54,7 @@ fn push_note(notes: &mut Vec<Note>, note: Option<Note>) -> Result<(), NoMemory>
 /// The notes of the remarks, by the names of all contexts.
 pub(crate) fn settle(
     alloc: Global,
-    names: &IndexSet<Text>,
+    names: &IndexSet<SharedText>,
     remarks: &[Remark],
 ) -> Result<Vec<Note>, NoMemory>
     ensures { IfOk result (λ notes. notes.items ≡ flat_map (spec.settled names.now.keys) remarks.now) }

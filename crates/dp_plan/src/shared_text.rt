@@ -8,6 +8,7 @@ ghost use Rattle.std.proofs.Common.{rules};
 ghost use Rattle.dp_conf.specs.Printed.{printed_text};
 
 use dp_conf::{NoMemory, Text};
+use indexmap::Equivalent;
 use std::alloc::Global;
 use std::fmt;
 use std::hash::{Hash, Hasher};
@@ -102,6 +103,18 @@ impl Hash for SharedText {
 
     fn hash<H: Hasher>(&self, state: &mut H) {
         self.text().hash(state);
+    }
+}
+
+impl Equivalent<SharedText> for &Text {
+    ghost equivalent = { λ text shared. pointwise nat_eq text.now shared };
+
+    ghost respects_hash = { Prim.search (hashing, rules) };
+
+    ghost respects_eq = { λ text. nat_list_eq_equiv.congr text.now };
+
+    fn equivalent(&self, key: &SharedText) -> bool {
+        *self == key.text()
     }
 }
 

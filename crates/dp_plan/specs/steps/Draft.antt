@@ -6,6 +6,7 @@ use Rattle.std.specs.Option.{option_to_list, option_map}
 use Rattle.dp_conf.specs.Changes.{changed_at}
 use Rattle.dp_conf.specs.Words.{same_text}
 use Rattle.dp_plan.specs.Contexts.{PlanContext, with_entry, with_include}
+use Rattle.dp_plan.specs.steps.Numbers.{with_number}
 use Rattle.dp_plan.specs.steps.Places.{same_slot}
 use Rattle.dp_plan.specs.Plan.{is_named, include_note}
 use Rattle.dp_plan.specs.declared.places.Slot.{Slot}
@@ -21,18 +22,20 @@ use Rattle.dp_plan.specs.declared.section.Section.{Section}
 use Rattle.dp_plan.specs.declared.section.Section.TheVariants.{General, Globals, Context}
 use Rattle.dp_plan.specs.Item.{Item, Begins, Sets, Adds, Includes, Unknown}
 
--- the global variables, the contexts with their names, the places and labels that are taken, and the remarks so far
+-- the global variables, the contexts with their names and with the numbers of their entries' extensions, the places and labels
+-- that are taken, and the remarks so far
 pub record Drafted : Type 0 where
   pub globals : List GlobalVariable
   pub names : List (List ℕ)
   pub contexts : List PlanContext
+  pub numbers : List (List ℕ)
   pub taken : List Slot
   pub labels : List Label
   pub remarks : List Remark
 
 -- nothing so far
 abbrev pub nothing : Drafted
-nothing = record { globals = []; names = []; contexts = []; taken = []; labels = []; remarks = [] }
+nothing = record { globals = []; names = []; contexts = []; numbers = []; taken = []; labels = []; remarks = [] }
 
 -- two labels are the same one of the same extension
 abbrev pub same_marked : Label → Label → Bool
@@ -61,6 +64,7 @@ with_context d name =
     else record d {
       names = d.names ++ name ∷ [];
       contexts = d.contexts ++ empty_context name ∷ [];
+      numbers = d.numbers ++ [] ∷ [];
     }
 
 -- the names with one more, where there is one and it is not among them already
@@ -89,6 +93,10 @@ with_note d line kind = record d { remarks = d.remarks ++ Noted (record { line =
 abbrev pub changed_context : Drafted → (PlanContext → PlanContext) → List ℕ → List PlanContext
 changed_context d change name = changed_at change (position_or_len (same_text name) d.names) d.contexts
 
+-- the numbers of the context of the name, which is there already, with one more
+abbrev pub numbers_with : Drafted → ℕ → List ℕ → List (List ℕ)
+numbers_with d number name = changed_at (with_number number) (position_or_len (same_text name) d.names) d.numbers
+
 -- what an entry is noted for, where its place or its label is taken
 abbrev pub doubled : Drafted → Slot → Option Label → Option NoteKind
 doubled d slot label =
@@ -108,6 +116,7 @@ with_addition d line context number entry =
     else if is_marked d (label_of number entry) then with_note d line DoubleLabel
     else record d {
       contexts = changed_context d (with_entry entry) context;
+      numbers = numbers_with d number context;
       taken = d.taken ++ slot_of number entry ∷ [];
       labels = d.labels ++ option_to_list (label_of number entry);
     }

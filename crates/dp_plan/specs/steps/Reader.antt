@@ -1,11 +1,11 @@
 -- A step of the code: what the lines so far leave for the next one, kept so that it is found at once. What all their
 -- items leave, one after another, is `history_of` of History.
-use Rattle.std.specs.Prelude.{ℕ, List, Option, Some, None}
+use Rattle.std.specs.Prelude.{◌≡◌, ℕ, true, List, Option, Some, None, IfSome}
 use Rattle.std.specs.Map.{lookup}
 use Rattle.dp_pattern.specs.Name.{Meaning}
 use Rattle.dp_plan.specs.Extensions.{extension_of, same_extension}
 use Rattle.dp_plan.specs.History.{History}
-use Rattle.dp_plan.specs.steps.Table.{Table, empty, written}
+use Rattle.dp_plan.specs.steps.Table.{Table, empty, names_last, written}
 use Rattle.dp_plan.specs.declared.entry.Entry.{Entry}
 use Rattle.dp_plan.specs.declared.section.Section.{Section}
 use Rattle.dp_plan.specs.declared.section.Section.TheVariants.{General}
@@ -16,6 +16,10 @@ pub record Reading : Type 0 where
   pub section : Section
   pub name : Option Meaning
   pub extensions : Table
+
+-- where there is a name since the section's header, it is that of the last line's extension
+abbrev pub NamesLast : Option Meaning → Table → Type 0
+NamesLast name extensions = IfSome name (λ name. names_last extensions name ≡ true)
 
 -- before the first line
 abbrev pub unread : Reading

@@ -4,6 +4,9 @@ use Rattle.std.specs.List.{position_or_len}
 use Rattle.std.specs.Option.{option_map_or}
 use Rattle.std.specs.Map.{keys_of}
 use Rattle.indexmap.specs.IndexMap.{insert_entry}
+use Rattle.dp_conf.specs.Words.{same_text}
+use Rattle.dp_pattern.specs.Name.{Meaning}
+use Rattle.dp_pattern.specs.Spelling.{spelling}
 use Rattle.dp_plan.specs.Extensions.{same_extension}
 use Rattle.dp_plan.specs.declared.extension.Extension.{Extension}
 
@@ -23,6 +26,10 @@ number_in priorities extension = position_or_len (same_extension extension) (key
 -- the extension is that of the last line
 abbrev pub is_last : Table → Extension → Bool
 is_last table extension = option_map_or (λ entry. same_extension extension entry.0) (slice_get table.priorities table.last) false
+
+-- the extension of the last line has the name
+abbrev pub names_last : Table → Meaning → Bool
+names_last table name = option_map_or (λ entry. same_text (spelling name) entry.0.spelling) (slice_get table.priorities table.last) false
 
 -- after a line of an extension with a priority
 abbrev pub written : Table → Extension → ℕ → Table

@@ -7,4 +7,4 @@ returns c = IsRanking-sorted c.args.context c.args.entries.now c.in_ok-ids.ids.i
     (search rules)
     c.sort_unstable_by.ensures.permutation
     (IsSortedBy-entries c.args.entries.now _ c.sort_unstable_by.ensures.sorted (λ a r q k. search rules))
-    c.requires
+    c.requires.apart

@@ -13,7 +13,8 @@ returns-in-Some c =
     let read : c.in-Some.held.now ≡ get_or c.self.inside.names.keys c.args.number c.in-Some.held.now = search rules in
     let here : slice_get c.self.inside.names.keys c.args.number ≡ Some c.in-Some.held.now = slice_get_read c.self.inside.names.keys (length c.self.inside.names.keys) c.args.number c.in-Some.held.now refl within read in
     let names : map (λ context. context.name) c.args.self.now.contexts ≡ c.self.inside.names.keys = search rules in
-    let number : number_of c.args.self.now c.args.name.now ≡ position (same_text c.args.name.now) c.self.inside.names.keys = ap (position (same_text c.args.name.now)) names in (
-      (λ is. number ∙ found_at c.self.inside.names.keys c.args.number c.in-Some.held.now c.args.name.now c.as_slice.ensures.unique here (sym c.eq.ensures ∙ is)),
-      (λ found. c.eq.ensures ∙ same_at c.self.inside.names.keys c.args.number c.in-Some.held.now c.args.name.now here (sym number ∙ found)),
+    let number : number_of c.args.self.now c.args.name.now ≡ position (same_text c.args.name.now) c.self.inside.names.keys = ap (position (same_text c.args.name.now)) names in
+    let compared : c.eq.result ≡ same_text c.args.name.now c.in-Some.held.now = c.eq.ensures ∙ ap (same_text c.args.name.now) c.text.ensures in (
+      (λ is. number ∙ found_at c.self.inside.names.keys c.args.number c.in-Some.held.now c.args.name.now c.as_slice.ensures.unique here (sym compared ∙ is)),
+      (λ found. compared ∙ same_at c.self.inside.names.keys c.args.number c.in-Some.held.now c.args.name.now here (sym number ∙ found)),
     )
