@@ -1,4 +1,5 @@
 -- What private functions say of their steps. No public clause rests on it.
+pub mod ContextName
 pub mod Draft
 pub mod KnownApplications
 pub mod Loading

@@ -12,6 +12,7 @@ ghost use Rattle.dp_plan.specs.Plan.{is_named};
 ghost use Rattle.dp_plan.specs.Ranking.{AreApart};
 
 use crate::context::Context;
+use crate::context_name::ContextName;
 use crate::entry::Entry;
 use crate::label::{Label, label_of};
 use crate::note::{Note, NoteKind};
@@ -156,11 +157,12 @@ impl Draft {
 
     /// Makes sure that the context of this name is there, and gives its number.
     #[inline(always)]
-    fn open(&mut self, alloc: Global, name: &SharedText) -> Result<usize, NoMemory>
+    fn open(&mut self, alloc: Global, name: &ContextName) -> Result<usize, NoMemory>
         ensures ok { OnOk result (self.new ≡ spec.with_context self.old name.now) }
         ensures place { IfOk result (λ place. place ≡ position_or_len (same_text name.now) self.new.names) }
         ensures within { IfOk result (λ place. place < length self.new.contexts) }
     {
+        let name = name.text();
         let place = match self.opened_so(name) {
             Some(place) => place,
             None => self.open_named(alloc, name)?,
@@ -301,7 +303,7 @@ impl Draft {
         &mut self,
         alloc: Global,
         line: usize,
-        context: &SharedText,
+        context: &ContextName,
         number: u32,
         entry: Entry,
     ) -> Result<(), NoMemory>
@@ -328,7 +330,7 @@ impl Draft {
         &mut self,
         alloc: Global,
         line: usize,
-        context: &SharedText,
+        context: &ContextName,
         name: Text,
     ) -> Result<(), NoMemory>
         ensures { OnOk result (self.new

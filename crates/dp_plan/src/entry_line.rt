@@ -7,6 +7,7 @@ ghost use Rattle.dp_plan.specs.Faults.{reason_of, at_line};
 ghost use Rattle.dp_plan.specs.steps.Reader.{history_in, last_priority};
 
 use crate::application::{read_application, read_shallow};
+use crate::context_name::ContextName;
 use crate::entry::Entry;
 use crate::fault::{LoadFault, PlanKind};
 use crate::naming::read_name;
@@ -52,7 +53,7 @@ pub(crate) enum Naming {
 #[inline(always)]
 fn priority_before(
     reader: &Reader,
-    context: &SharedText,
+    context: &ContextName,
     naming: Naming,
     name: &SharedName,
     written: Written,
@@ -74,7 +75,7 @@ fn read_named(
     alloc: Global,
     reader: &mut Reader,
     line: usize,
-    context: &SharedText,
+    context: &ContextName,
     naming: Naming,
     name: SharedName,
     priority: &[u8],
@@ -117,7 +118,7 @@ pub(crate) fn read_exten(
     alloc: Global,
     reader: &mut Reader,
     line: usize,
-    context: &SharedText,
+    context: &ContextName,
     value: &[u8],
 ) -> Result<Entry, LoadFault>
     ensures read { Answers (λ entry. entry) reason_of result
@@ -167,7 +168,7 @@ pub(crate) fn read_same(
     alloc: Global,
     reader: &mut Reader,
     line: usize,
-    context: &SharedText,
+    context: &ContextName,
     value: &[u8],
 ) -> Result<Entry, LoadFault>
     ensures read { Answers (λ entry. entry) reason_of result

@@ -4,6 +4,7 @@ ghost use Rattle.dp_conf.specs.Words.{same_text};
 ghost use Rattle.dp_pattern.specs.Name.{Meaning, IsName};
 ghost use Rattle.dp_plan.specs.Extensions.{extension_of, same_extension, same_name};
 
+use crate::context_name::ContextName;
 use crate::shared_name::{SharedName, SharedSpelling};
 use crate::shared_text::SharedText;
 use dp_conf::NoMemory;
@@ -11,13 +12,13 @@ use dp_conf::NoMemory;
 /// An extension of a context. Names of one meaning are one extension, since they have one canonical spelling.
 #[derive(PartialEq, Eq, Hash, Drop)]
 pub(crate) struct Extension {
-    context: SharedText,
+    context: ContextName,
     spelling: SharedSpelling,
 }
 
 impl Extension {
     /// The extension of the name in the context. It takes no memory.
-    pub(crate) fn of(context: &SharedText, name: &SharedName) -> Result<Self, NoMemory>
+    pub(crate) fn of(context: &ContextName, name: &SharedName) -> Result<Self, NoMemory>
         ensures { IfOk result (λ extension. extension ≡ extension_of context.now name.now) }
     {
         let context = context.clone()?;
@@ -26,7 +27,7 @@ impl Extension {
     }
 
     /// Whether it is the extension of the name in the context.
-    pub(crate) fn is_of(&self, context: &SharedText, name: &SharedName) -> bool
+    pub(crate) fn is_of(&self, context: &ContextName, name: &SharedName) -> bool
         ensures { result ≡ same_extension (extension_of context.now name.now) self.now }
     {
         // The lines of a context are many, so names differ before contexts do.
@@ -34,7 +35,7 @@ impl Extension {
     }
 
     /// Whether it is an extension of the context.
-    pub(crate) fn is_in(&self, context: &SharedText) -> bool
+    pub(crate) fn is_in(&self, context: &ContextName) -> bool
         ensures { result ≡ same_text context.now self.now.context }
     {
         context == &self.context

@@ -5,6 +5,7 @@ ghost use Rattle.dp_pattern.specs.Name.{Meaning};
 ghost use Rattle.dp_plan.specs.Extensions.{extension_of, same_extension};
 ghost use Rattle.dp_plan.specs.steps.Table as spec;
 
+use crate::context_name::ContextName;
 use crate::extension::Extension;
 use crate::priority::Priority;
 use crate::shared_name::SharedName;
@@ -62,7 +63,7 @@ impl Extensions {
     /// The last priority of the last line's extension, where that is the one of the name in the context.
     #[tactic(auto, using(crate::proofs::TableLemmas::last_found))]
     #[inline(always)]
-    fn last_so(&self, context: &SharedText, name: &SharedName) -> Option<Priority>
+    fn last_so(&self, context: &ContextName, name: &SharedName) -> Option<Priority>
         ensures value { IfSome result (λ priority.
             lookup (same_extension (extension_of context.now name.now)) self.now.priorities ≡ Some priority) }
         ensures last { is_some result ≡ spec.is_last self.now (extension_of context.now name.now) }
@@ -78,7 +79,7 @@ impl Extensions {
     /// The last priority of the last line's extension, where that is one of the context. Its name is not compared.
     #[tactic(auto, using(crate::proofs::TableLemmas::last_found, crate::proofs::TableLemmas::is_last_named))]
     #[inline(always)]
-    fn last_in(&self, context: &SharedText) -> Option<Priority>
+    fn last_in(&self, context: &ContextName) -> Option<Priority>
         ensures value { IfSome result (λ priority. (name : Meaning) → spec.names_last self.now name ≡ true
             → lookup (same_extension (extension_of context.now name)) self.now.priorities ≡ Some priority) }
         ensures last { (name : Meaning) → spec.names_last self.now name ≡ true
@@ -93,7 +94,11 @@ impl Extensions {
     }
 
     /// The last priority of the extension of the name in the context, where it has one, by the table.
-    fn look_up(&self, context: &SharedText, name: &SharedName) -> Result<Option<Priority>, NoMemory>
+    fn look_up(
+        &self,
+        context: &ContextName,
+        name: &SharedName,
+    ) -> Result<Option<Priority>, NoMemory>
         ensures { IfOk result (λ priority. priority
             ≡ lookup (same_extension (extension_of context.now name.now)) self.now.priorities) }
     {
@@ -104,7 +109,7 @@ impl Extensions {
     /// The last priority of the extension of the name in the context, where it has one.
     pub(crate) fn priority(
         &self,
-        context: &SharedText,
+        context: &ContextName,
         name: &SharedName,
     ) -> Result<Option<Priority>, NoMemory>
         ensures { IfOk result (λ priority. priority
@@ -119,7 +124,7 @@ impl Extensions {
     /// The same, where the name is that of the last line's extension. It is not compared.
     pub(crate) fn priority_again(
         &self,
-        context: &SharedText,
+        context: &ContextName,
         name: &SharedName,
     ) -> Result<Option<Priority>, NoMemory>
         requires { spec.names_last self.now name.now ≡ true }
@@ -135,7 +140,7 @@ impl Extensions {
     /// Gives the last line's extension, which is the one of the name in the context, another priority, and says that it did.
     #[tactic(auto, using(crate::proofs::TableLemmas::written_last))]
     #[inline(always)]
-    fn rewrite(&mut self, context: &SharedText, name: &SharedName, priority: Priority) -> bool
+    fn rewrite(&mut self, context: &ContextName, name: &SharedName, priority: Priority) -> bool
         requires { spec.is_last self.old (extension_of context.now name.now) ≡ true }
         ensures same { IsTrue result → self.new ≡ spec.written self.old (extension_of context.now name.now) priority }
         ensures other { IsFalse result → self.new ≡ self.old }
@@ -151,7 +156,7 @@ impl Extensions {
     #[inline(always)]
     fn insert(
         &mut self,
-        context: &SharedText,
+        context: &ContextName,
         name: &SharedName,
         priority: Priority,
     ) -> Result<(), NoMemory>
@@ -167,7 +172,7 @@ impl Extensions {
     #[inline(always)]
     pub(crate) fn write(
         &mut self,
-        context: &SharedText,
+        context: &ContextName,
         name: &SharedName,
         priority: Priority,
     ) -> Result<(), NoMemory>
@@ -183,7 +188,7 @@ impl Extensions {
     #[inline(always)]
     pub(crate) fn write_again(
         &mut self,
-        context: &SharedText,
+        context: &ContextName,
         name: &SharedName,
         priority: Priority,
     ) -> Result<(), NoMemory>

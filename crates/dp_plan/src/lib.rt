@@ -3,6 +3,7 @@
 
 mod application;
 mod context;
+mod context_name;
 mod draft;
 mod entry;
 mod entry_line;

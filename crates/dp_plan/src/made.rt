@@ -10,6 +10,7 @@ ghost use Rattle.dp_plan.specs.steps.Loading as spec;
 ghost use Rattle.dp_plan.specs.steps.Reader.{history_in};
 
 use crate::application::read_shallow;
+use crate::context_name::ContextName;
 use crate::draft::Draft;
 use crate::entry::Entry;
 use crate::entry_line::{read_exten, read_same};
@@ -114,7 +115,7 @@ impl Made {
         &mut self,
         alloc: Global,
         line: usize,
-        context: &SharedText,
+        context: &ContextName,
         entry: Entry,
     ) -> Result<(), NoMemory>
         ensures { OnOk result (self.new ≡ spec.after_item self.old (Adds line context.now entry)) }
@@ -130,7 +131,7 @@ impl Made {
         &mut self,
         alloc: Global,
         line: usize,
-        context: &SharedText,
+        context: &ContextName,
         entry: Entry,
     ) -> Result<(), NoMemory>
         requires { self.old.reading.name ≡ Some entry.name }
@@ -147,7 +148,7 @@ impl Made {
         &mut self,
         alloc: Global,
         line: usize,
-        context: &SharedText,
+        context: &ContextName,
         value: &[u8],
     ) -> Result<(), LoadFault>
         ensures { Answers (λ done. self.new) reason_of result (spec.after_read self.old (items.entry_item context.now line
@@ -164,7 +165,7 @@ impl Made {
         &mut self,
         alloc: Global,
         line: usize,
-        context: &SharedText,
+        context: &ContextName,
         value: &[u8],
     ) -> Result<(), LoadFault>
         ensures { Answers (λ done. self.new) reason_of result (spec.after_read self.old (items.entry_item context.now line
@@ -180,7 +181,7 @@ impl Made {
         &mut self,
         alloc: Global,
         line: usize,
-        context: &SharedText,
+        context: &ContextName,
         name: &[u8],
     ) -> Result<(), LoadFault>
         ensures { Answers (λ done. self.new) reason_of result
@@ -218,7 +219,7 @@ impl Made {
         &mut self,
         alloc: Global,
         line: usize,
-        context: &SharedText,
+        context: &ContextName,
         key: &[u8],
         value: &[u8],
     ) -> Result<(), LoadFault>

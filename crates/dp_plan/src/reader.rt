@@ -3,6 +3,7 @@ ghost use Rattle.std.specs.Prelude.{◌≡◌, IfOk, OnOk, Some};
 ghost use Rattle.std.specs.Option.{option_copied};
 ghost use Rattle.dp_plan.specs.steps.Reader as spec;
 
+use crate::context_name::ContextName;
 use crate::entry::Entry;
 use crate::extensions::Extensions;
 use crate::known_applications::KnownApplications;
@@ -76,7 +77,7 @@ impl Reader {
     /// The priority of the last line of the extension, also where that line is dropped.
     pub(crate) fn last_priority(
         &self,
-        context: &SharedText,
+        context: &ContextName,
         name: &SharedName,
     ) -> Result<Option<Priority>, NoMemory>
         ensures { IfOk result (λ last. last ≡ spec.last_priority self.now context.now name.now) }
@@ -87,7 +88,7 @@ impl Reader {
     /// The same, where the name is that of the last extension since the section's header. It is not compared.
     pub(crate) fn last_priority_again(
         &self,
-        context: &SharedText,
+        context: &ContextName,
         name: &SharedName,
     ) -> Result<Option<Priority>, NoMemory>
         requires { self.now.name ≡ Some name.now }
@@ -115,7 +116,7 @@ impl Reader {
     /// Goes after the line of an entry that names its extension.
     #[tactic(auto, using(crate::proofs::TableLemmas::names_last_written))]
     #[inline(always)]
-    pub(crate) fn go_after(&mut self, context: &SharedText, entry: &Entry) -> Result<(), NoMemory>
+    pub(crate) fn go_after(&mut self, context: &ContextName, entry: &Entry) -> Result<(), NoMemory>
         ensures { OnOk result (self.new ≡ spec.after_entry self.old context.now entry.now) }
     {
         let name = entry.name.clone()?;
@@ -129,7 +130,7 @@ impl Reader {
     /// compared.
     #[tactic(auto, using(crate::proofs::TableLemmas::names_last_written))]
     #[inline(always)]
-    pub(crate) fn go_on(&mut self, context: &SharedText, entry: &Entry) -> Result<(), NoMemory>
+    pub(crate) fn go_on(&mut self, context: &ContextName, entry: &Entry) -> Result<(), NoMemory>
         requires { self.old.name ≡ Some entry.now.name }
         ensures { OnOk result (self.new ≡ spec.after_entry self.old context.now entry.now) }
     {

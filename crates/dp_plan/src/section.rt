@@ -2,7 +2,7 @@
 ghost use Rattle.std.specs.Prelude.{◌≡◌, IfOk};
 ghost use Rattle.dp_plan.specs.Items.{section_named};
 
-use crate::shared_text::SharedText;
+use crate::context_name::ContextName;
 use dp_conf::{NoMemory, same_word};
 use std::alloc::Global;
 
@@ -14,7 +14,7 @@ pub(crate) enum Section {
     /// Global variables.
     Globals,
     /// The context of this name.
-    Context(SharedText),
+    Context(ContextName),
 }
 
 impl Section {
@@ -28,7 +28,7 @@ impl Section {
         if same_word(name, b"globals") {
             return Ok(Section::Globals);
         }
-        let name = SharedText::copy_of(alloc, name)?;
+        let name = ContextName::copy_of(alloc, name)?;
         Ok(Section::Context(name))
     }
 }
