@@ -10,7 +10,7 @@ ghost use Rattle.dp_plan.specs.steps.ContextName as spec;
 use crate::shared_text::SharedText;
 use dp_conf::NoMemory;
 use std::alloc::Global;
-use std::hash::{FoldHasher, Hash, Hasher};
+use std::hash::{DefaultHasher, Hash, Hasher};
 use std::marker::Model;
 
 /// The name of a context beside its hash, so that the extensions of a context are hashed and its name is not. Its copies take
@@ -32,12 +32,12 @@ impl Model for ContextName {
     ghost invariant = { λ name. name.hash ≡ name_hash name.text };
 }
 
-/// The hash of a name.
+/// The hash of a name, by SipHash: names that have one hash of all its bits are hard to find.
 #[tactic(auto, unfolding(crate::specs::steps::ContextName::name_hash))]
 fn name_hash(name: &[u8]) -> u64
     ensures { result ≡ spec.name_hash name.now }
 {
-    let mut hasher = FoldHasher::default();
+    let mut hasher = DefaultHasher::new();
     hasher.write(name);
     hasher.finish()
 }

@@ -1,7 +1,7 @@
 -- A step of the code: the hash of a context's name, by which its extensions are found in a table.
 use Rattle.std.specs.Prelude.{ℕ, List}
-use Rattle.std.specs.Hash.FoldHasher as folding
+use Rattle.std.specs.Hash.DefaultHasher as sip
 
 -- the hash of a name
 unfoldable pub name_hash : List ℕ → ℕ
-name_hash name = folding.finish (folding.write folding.initial name)
+name_hash name = sip.finish (sip.write sip.initial name)
