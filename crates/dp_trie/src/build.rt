@@ -93,7 +93,7 @@ pub(crate) fn build_nodes(alloc: Global, ranked: &[Ranked<'_>]) -> Result<Vec<No
     let mut from = 0;
     while let Some(first) = ranked.get(from) {
         let name = name_of(first.entry);
-        let until = group_end(ranked, from, name);
+        let until = group_end(ranked, from, &first.entry.name);
         let (classes, tail) = pattern_of(name);
         push_pattern(&mut nodes, above, classes, Leaf { tail, from, until })?;
         above = classes;

@@ -235,7 +235,7 @@ pub(crate) fn plain_names(alloc: Global, ranked: &[Ranked<'_>]) -> Result<Vec<Pl
     let mut from = 0;
     while let Some(first) = ranked.get(from) {
         let name = name_of(first.entry);
-        let until = group_end(ranked, from, name);
+        let until = group_end(ranked, from, &first.entry.name);
         let name = Text::new(Vec::from_slice(alloc, plain_of(name))?);
         names.push(PlainName { name, from, until })?;
         from = until;

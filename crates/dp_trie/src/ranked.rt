@@ -1,5 +1,5 @@
 //! The entries of a context in the order in which a look-up asks them.
-ghost use Rattle.std.specs.Prelude.{◌≡◌, ◌<◌, [], ◌∷◌, ◌++◌, length, map, slice_get, filter_map, Some, IfOk, OnOk};
+ghost use Rattle.std.specs.Prelude.{◌≡◌, ◌<◌, [], ◌∷◌, ◌++◌, length, map, slice_get, filter_map, Some, IfOk, OnOk, IsTrue, ◌↔◌};
 ghost use Rattle.dp_trie.specs.declared.ranked.Ranked.{Ranked};
 ghost use Rattle.dp_pattern.specs.Name.{Plain, Pattern};
 ghost use Rattle.dp_trie.specs.Known.{known_at, KeepsEntries};
@@ -7,8 +7,8 @@ ghost use Rattle.dp_trie.specs.steps.Ranked.{known_now, hold_of, IsPattern, IsPl
 
 use crate::node::Held;
 use dp_lookup::{Dialplan, EntryId, NoMemory};
-use dp_pattern::{Class, Name, Parts, Tail, same};
-use dp_plan::Entry;
+use dp_pattern::{Class, Name, Parts, Tail};
+use dp_plan::{Entry, SharedName, same_names_are_equal};
 use std::alloc::Global;
 
 /// An entry beside its number.
@@ -83,15 +83,26 @@ pub(crate) fn rank(
     Ok(ranked)
 }
 
+/// Whether two names are one, by their spellings: these are compared many bytes at a time, and classes one by one.
+fn are_one(left: &SharedName, right: &SharedName) -> bool
+    ensures { IsTrue result ↔ (left.now ≡ right.now) }
+{
+    // What a name is made of is what some text means, and that has one spelling.
+    same_names_are_equal();
+    let _left = left.name().parts();
+    let _right = right.name().parts();
+    left.spelling() == right.spelling()
+}
+
 /// The place after the entries that have the name of the one at a place.
-pub(crate) fn group_end(ranked: &[Ranked<'_>], from: usize, name: &Name) -> usize
+pub(crate) fn group_end(ranked: &[Ranked<'_>], from: usize, name: &SharedName) -> usize
     requires within { from < length ranked.now }
     requires first { (one : Ranked) → slice_get ranked.now from ≡ Some one → (known_now one).name ≡ name.now }
     ensures { IsGroup (map known_now ranked.now) from result name.now }
 {
     let mut until = from + 1;
     while let Some(next) = ranked.get(until) {
-        if !same(name_of(next.entry), name) {
+        if !are_one(&next.entry.name, name) {
             return until;
         }
         until += 1;
