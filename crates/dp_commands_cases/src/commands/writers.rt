@@ -1,5 +1,5 @@
 //! Writers that fail.
-use dp_commands::{PbxFault, match_one};
+use dp_commands::{PbxFault, match_one, run_script};
 use dp_commands_fixture::{Check, Command, Run, Sink, check_into, make_sink};
 use dp_conf::{NoMemory, Told};
 use dp_plan::Priority;
@@ -15,6 +15,36 @@ impl Command for Match23 {
             Some(priority) => match_one(alloc, text, b"main", b"23", priority, writer),
             None => Ok(2),
         }
+    }
+}
+
+/// The dialplan of a call that waits in a queue of two agents, which ring together.
+const RING_ALL_PLAN: &[u8] = b"[main]\nexten => s,1,Queue(q,c)\nexten => s,2,NoOp()\n";
+
+/// The queue.
+const RING_ALL_QUEUES: &[u8] = b"[q]\nstrategy = ringall\nmember => Line/1\nmember => Line/2\n";
+
+/// The script: the second agent answers too late.
+const RING_ALL_SCRIPT: &[u8] = b"start main s\nstep 1\noffer q\nanswer Line/1\nanswer Line/2\n\
+done Line/1\nshow 1 QUEUESTATUS\n";
+
+/// Its trace.
+const RING_ALL_TRACE: &[u8] = b"started 1\nran 1 main,s,1 Queue -> queued q\noffered 1 2\nok\n\
+refused 47 NotRinging\nok\nQUEUESTATUS=CONTINUE\n";
+
+/// The run of a script over the call that waits in a queue.
+struct RingAll;
+
+impl Command for RingAll {
+    fn serve(alloc: Global, text: &[u8], writer: &mut Told<Sink>) -> Result<u8, PbxFault> {
+        run_script(
+            alloc,
+            RING_ALL_PLAN,
+            Some(RING_ALL_QUEUES),
+            None,
+            text,
+            writer,
+        )
     }
 }
 
@@ -54,21 +84,28 @@ fn check_failing<C: Command>(
     check_into::<C>(alloc, text, make_sink(alloc, step, Some(k)), &want)
 }
 
-/// One byte at a time, a text is as many writes as it has bytes: where write k fails, the bytes before it were written.
-fn check_each<C: Command>(alloc: Global, text: &[u8], whole: &[u8]) -> Result<(), Fail> {
+/// One byte at a time, a text is as many writes as it has bytes: where write k fails, the bytes before it were written. Where none
+/// fails, the command ends with its status.
+fn check_each<C: Command>(
+    alloc: Global,
+    text: &[u8],
+    whole: &[u8],
+    ending: &[u8],
+) -> Result<(), Fail> {
     for k in 0..whole.len() {
         check_failing::<C>(alloc, text, (1, k), &whole[..k])?;
     }
-    let want = with_after(alloc, whole, b"status 0")?;
+    let want = with_after(alloc, whole, ending)?;
     let writer = make_sink(alloc, 1, Some(whole.len()));
     check_into::<C>(alloc, text, writer, &want)
 }
 
 #[test]
 fn a_writer_that_fails_at_write_k(rt: HostRuntime) -> Result<(), Fail> {
-    check_each::<Run>(rt.alloc(), RUN, TRACE)?;
-    check_each::<Check>(rt.alloc(), NOTED, CHECKED)?;
-    check_each::<Match23>(rt.alloc(), NOTED, MATCHED)?;
+    check_each::<Run>(rt.alloc(), RUN, TRACE, b"status 0")?;
+    check_each::<RingAll>(rt.alloc(), RING_ALL_SCRIPT, RING_ALL_TRACE, b"status 1")?;
+    check_each::<Check>(rt.alloc(), NOTED, CHECKED, b"status 0")?;
+    check_each::<Match23>(rt.alloc(), NOTED, MATCHED, b"status 0")?;
     check_failing::<Run>(rt.alloc(), RUN, (4096, 0), b"")
 }
 
