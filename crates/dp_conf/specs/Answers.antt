@@ -26,6 +26,12 @@ abbrev pub all_of : {X E : Type 0} → List (Result (List X) E) → Result (List
 all_of [] = Ok []
 all_of (reading ∷ readings) = reading >>= λ xs. with_front xs (all_of readings)
 
+-- the values of the readings before the first fault
+abbrev pub before_fault : {X E : Type 0} → List (Result (List X) E) → List X
+before_fault [] = []
+before_fault (Ok xs ∷ readings) = xs ++ before_fault readings
+before_fault (Err fault ∷ readings) = []
+
 -- what `f` says of each element and of those before it, where `before` stands before them all
 abbrev pub each_after : {X Y : Type 0} → (List X → X → Y) → List X → List X → List Y
 each_after f before [] = []

@@ -3,6 +3,7 @@ pub mod Blanks
 pub mod Borrowed
 pub mod Changes
 pub mod Codes
+pub mod Counts
 pub mod Cut
 pub mod Escape
 pub mod Fronts
@@ -11,6 +12,7 @@ pub mod GroupsRead
 pub mod Levels
 pub mod Lines
 pub mod Numbers
+pub mod Owned
 pub mod Printed
 pub mod Shallow
 pub mod Taking

@@ -2,7 +2,7 @@
 use Rattle.std.specs.Prelude.{ℕ, ◌+◌, Bool, true, false, not, ◌&&◌, ◌==◌, nat_eq, List, [], ◌∷◌, length, take, drop, Option, Some, None, Result, Ok, Err, codes, if◌then◌else◌}
 use Rattle.std.specs.List.{slice_split, list_any, starts_with}
 use Rattle.std.specs.Str.{byte}
-use Rattle.dp_conf.specs.Answers.{all_of, each_after}
+use Rattle.dp_conf.specs.Answers.{all_of, before_fault, each_after}
 use Rattle.dp_conf.specs.Blanks.{trim, trim_start}
 use Rattle.dp_conf.specs.Cut.{begins_with, cut_once}
 use Rattle.dp_conf.specs.declared.fault.LineKind.{LineKind}
@@ -115,6 +115,10 @@ reading_of before part =
 -- the items of a text in order, or the fault of its first faulty line
 unfoldable pub lines_of : List ℕ → Result (List LineOf) LineFault
 lines_of text = all_of (each_after reading_of [] (parts_of (without_mark text)))
+
+-- the items of the lines before the first faulty one, or all where none is faulty
+unfoldable pub items_before_fault : List ℕ → List LineOf
+items_before_fault text = before_fault (each_after reading_of [] (parts_of (without_mark text)))
 
 -- the faulty line that a fault names; want of memory names none
 abbrev pub line_fault : ConfFault → Option LineFault

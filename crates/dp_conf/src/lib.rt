@@ -1,6 +1,7 @@
 //! The text layer of the dialplan machine: lines of a configuration text, its byte texts, and what is read and written.
 #![tactic(auto)]
 
+mod conf_line;
 mod cut;
 mod escaping;
 mod fault;
@@ -15,6 +16,7 @@ mod told;
 mod whole;
 mod words;
 
+pub use conf_line::{ConfLine, read_lines};
 pub use cut::{
     before_last, cut_once, cut_outside, first_argument, first_part, is_blank, split_args, trim,
 };

@@ -1,5 +1,5 @@
 //! How deep groups stand inside each other.
-ghost use Rattle.std.specs.Prelude.{◌≡◌, ◌+◌, ◌^◌, ◌<◌, [], IfOk, OnOk};
+ghost use Rattle.std.specs.Prelude.{◌≡◌, ◌+◌, ◌^◌, ◌<◌, [], IfOk, OnErr, OnOk};
 ghost use Rattle.dp_conf.specs.Groups.{Reading, IsReading, depth_of};
 ghost use Rattle.dp_conf.specs.GroupsRead.{first_of, nesting_of};
 ghost use Rattle.dp_conf.specs.steps.Nest as nests;
@@ -61,9 +61,10 @@ impl Nest {
         }
     }
 
-    /// A group opens.
+    /// A group opens. After a refused growth all is as before.
     fn open(&mut self, kind: GroupKind) -> Result<(), AllocError>
-        ensures { OnOk result (self.new ≡ nests.nest_after (Mark.Opening kind) self.old) }
+        ensures ok { OnOk result (self.new ≡ nests.nest_after (Mark.Opening kind) self.old) }
+        ensures err { OnErr result (self.new ≡ self.old) }
     {
         let deepest = self.deepest;
         self.waiting.push(Waiting { kind, deepest })?;
@@ -71,10 +72,11 @@ impl Nest {
         Ok(())
     }
 
-    /// Goes after a mark.
+    /// Goes after a mark. After a refused growth all is as before.
     fn take(&mut self, mark: Mark) -> Result<(), AllocError>
         requires { self.old.deepest + 1 < 2 ^ 64 }
-        ensures { OnOk result (self.new ≡ nests.nest_after mark self.old) }
+        ensures ok { OnOk result (self.new ≡ nests.nest_after mark self.old) }
+        ensures err { OnErr result (self.new ≡ self.old) }
     {
         match mark {
             Mark::End => {

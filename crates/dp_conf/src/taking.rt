@@ -1,8 +1,8 @@
 //! The lines of a configuration text, taken one at a time.
-ghost use Rattle.std.specs.Prelude.{◌≡◌, OnOk};
+ghost use Rattle.std.specs.Prelude.{◌≡◌, fold, OnOk};
 ghost use Rattle.dp_conf.specs.Answers.{Answers};
 ghost use Rattle.dp_conf.specs.Borrowed.{line_now};
-ghost use Rattle.dp_conf.specs.Lines.{LineOf, line_fault, item_of, part_item, at_line, lines_of};
+ghost use Rattle.dp_conf.specs.Lines.{LineOf, line_fault, item_of, part_item, at_line, lines_of, items_before_fault};
 ghost use Rattle.dp_conf.specs.Taking as spec;
 
 use crate::cut::first_part;
@@ -28,7 +28,8 @@ fn take_content<T: TakeLine>(
     in_section: bool,
     content: &[u8],
 ) -> Result<bool, ConfFault>
-    ensures { Answers (λ begun. (begun, taker.new)) line_fault result
+    ensures kept { spec.AtFault (taker.new ≡ taker.old) result }
+    ensures taken { Answers (λ begun. (begun, taker.new)) line_fault result
         (spec.part_taken T.after_line in_section taker.old (at_line line (item_of in_section line content.now))) }
 {
     let item = read_line(line, in_section, content)?;
@@ -46,7 +47,8 @@ fn take_part<T: TakeLine>(
     in_section: bool,
     part: &[u8],
 ) -> Result<bool, ConfFault>
-    ensures { Answers (λ begun. (begun, taker.new)) line_fault result
+    ensures kept { spec.AtFault (taker.new ≡ taker.old) result }
+    ensures taken { Answers (λ begun. (begun, taker.new)) line_fault result
         (spec.part_taken T.after_line in_section taker.old (at_line line (part_item in_section line part.now))) }
 {
     // An empty part says nothing.
@@ -65,8 +67,12 @@ fn take_part<T: TakeLine>(
 ///
 /// A line is refused, in this order, for a block comment, a bad header, a template, a directive, a pair before any
 /// header, and a missing `=`: see [`LineKind`](crate::LineKind). It takes memory of its own only for lines with a `\`.
+///
+/// After a faulty line the taker has gone after the lines before it, and no others. After out-of-memory it is what its
+/// own [`take`](TakeLine::take) left, which its type says.
 pub fn take_lines<T: TakeLine>(alloc: Global, text: &[u8], taker: &mut T) -> Result<(), ConfFault>
-    ensures { Answers (λ done. taker.new) line_fault result (spec.all_taken T.after_line taker.old (lines_of text.now)) }
+    ensures taken { Answers (λ done. taker.new) line_fault result (spec.all_taken T.after_line taker.old (lines_of text.now)) }
+    ensures left { spec.AtFault (taker.new ≡ fold T.after_line taker.old (items_before_fault text.now)) result }
 {
     let mut line: usize = 0;
     let mut in_section = false;

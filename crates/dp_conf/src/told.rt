@@ -4,29 +4,33 @@ ghost use Rattle.std.specs.Result.{is_err};
 ghost use Rattle.std.specs.Io.{ReadsAtMost};
 ghost use Rattle.std.specs.Io.KnownBytes.{Appends, ReadConsumes};
 ghost use Rattle.dp_conf.specs.Fronts.{AppendsFront};
+ghost use Rattle.dp_conf.specs.Counts.{one_more};
 
 use crate::fault::WriteFailed;
 use std::io;
 use std::io::{Read, Write};
 
-/// A reader or a writer that remembers whether one of its calls has failed.
+/// A reader or a writer that remembers whether one of its calls has failed, and how often it was read.
 #[derive(Drop)]
 pub struct Told<T> {
     inner: T,
     failed: bool,
+    reads: u64,
 }
 
 impl<T> Told<T> {
-    ghost use Rattle.dp_conf.specs.Told.{told_inner, told_failed};
+    ghost use Rattle.dp_conf.specs.Told.{told_inner, told_failed, told_reads};
 
-    /// The reader or the writer, of which no call has failed yet.
+    /// The reader or the writer, of which no call has been made yet.
     pub fn new(inner: T) -> Self
         ensures inner { told_inner result ≡ inner }
         ensures failed { told_failed result ≡ false }
+        ensures reads { told_reads result ≡ 0 }
     {
         Told {
             inner,
             failed: false,
+            reads: 0,
         }
     }
 
@@ -41,7 +45,11 @@ impl<T> Told<T> {
     pub fn into_inner(self) -> T
         ensures { result ≡ told_inner self }
     {
-        let Told { inner, failed: _ } = self;
+        let Told {
+            inner,
+            failed: _,
+            reads: _,
+        } = self;
         inner
     }
 }
@@ -54,11 +62,15 @@ pub trait ReadTold {
     // Whether a read has failed.
     ghost has_failed: { Self → Bool };
 
+    // How many reads were made, counted up to the greatest number of 64 bits.
+    ghost reads: { Self → ℕ };
+
     /// Reads some bytes into the buffer and says how many, none only at the end or with no room.
     fn read_told(&mut self, buffer: &mut [u8]) -> io::Result<usize>
         ensures bound { ReadsAtMost result buffer.new }
         ensures bytes { ReadConsumes (remaining self.old) (remaining self.new) result buffer.new }
-        ensures told { has_failed self.new ≡ (has_failed self.old || is_err result) };
+        ensures told { has_failed self.new ≡ (has_failed self.old || is_err result) }
+        ensures counted { reads self.new ≡ one_more (reads self.old) };
 }
 
 impl<R: Read> ReadTold for Told<R> {
@@ -66,10 +78,17 @@ impl<R: Read> ReadTold for Told<R> {
 
     ghost has_failed = { λ told. told.failed };
 
+    ghost reads = { λ told. told.reads };
+
     fn read_told(&mut self, buffer: &mut [u8]) -> io::Result<usize> {
-        let Told { inner, failed } = self;
+        let Told {
+            inner,
+            failed,
+            reads,
+        } = self;
         let result = inner.read(buffer);
         *failed = *failed || result.is_err();
+        *reads = reads.saturating_add(1);
         result
     }
 }
@@ -111,7 +130,11 @@ impl<W: Write> WriteTold for Told<W> {
     ghost has_failed = { λ told. told.failed };
 
     fn write_told(&mut self, bytes: &[u8]) -> Result<(), WriteFailed> {
-        let Told { inner, failed } = self;
+        let Told {
+            inner,
+            failed,
+            reads: _,
+        } = self;
         let result = write_left(inner, bytes);
         *failed = *failed || result.is_err();
         result

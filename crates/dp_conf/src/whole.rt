@@ -1,7 +1,7 @@
 //! A reader read whole, up to the most bytes that a file may have.
-ghost use Rattle.std.specs.Prelude.{◌≡◌, ◌||◌, IfSome};
+ghost use Rattle.std.specs.Prelude.{◌≡◌, ◌+◌, ◌≤◌, ◌||◌, IfSome};
 ghost use Rattle.dp_conf.specs.Answers.{Answers};
-ghost use Rattle.dp_conf.specs.Whole.{whole_of, length_fault, is_read_failed};
+ghost use Rattle.dp_conf.specs.Whole.{most_bytes, whole_of, length_fault, is_read_failed};
 
 use crate::fault::ReadFault;
 use crate::told::ReadTold;
@@ -16,12 +16,13 @@ const CHUNK: usize = 8192;
 /// All bytes of the reader, where it has at most 16,777,216 of them.
 ///
 /// The fault is `ReadFailed` where a read answered an error of any kind, and `TooLong` where more bytes came. Each
-/// read but the last brings a byte, so there are at most 16,777,217 of them. After a fault the reader has given some
-/// of its bytes.
+/// read but the last brings a byte, so the reader is read at most 16,777,217 times. After a fault the reader has given
+/// some of its bytes.
 pub fn read_whole<R: ReadTold>(alloc: Global, reader: &mut R) -> Result<Vec<u8>, ReadFault>
     ensures whole { IfSome (R.remaining reader.old)
         (λ bytes. Answers (λ read. read.items) length_fault result (whole_of bytes)) }
     ensures told { R.has_failed reader.new ≡ (R.has_failed reader.old || is_read_failed result) }
+    ensures reads { R.reads reader.new ≤ R.reads reader.old + (most_bytes + 1) }
 {
     let mut bytes = Vec::new(alloc);
     let mut chunk = [0u8; CHUNK];

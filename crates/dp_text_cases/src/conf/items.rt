@@ -1,5 +1,5 @@
 //! Configuration texts with their items or their fault, worked out by hand from the rules.
-use dp_conf::{ConfFault, Line, NoMemory, TakeLine, Text, take_lines};
+use dp_conf::{ConfFault, ConfLine, Line, NoMemory, TakeLine, Text, read_lines, take_lines};
 use dp_questions::{Question, bytes_of, check, check_all, text_of};
 use std::alloc::Global;
 use std::marker::Model;
@@ -89,6 +89,14 @@ impl Model for Shown {
     ghost view = { λ _. tt };
 }
 
+fn push_header(out: &mut String, line: usize, name: &Text) -> Result<(), NoMemory> {
+    write!(out, "{line}[{name}]")
+}
+
+fn push_pair(out: &mut String, line: usize, key: &Text, value: &Text) -> Result<(), NoMemory> {
+    write!(out, "{line}{{{key}}}{{{value}}}")
+}
+
 impl TakeLine for Shown {
     ghost after_line = { λ shown _. shown };
 
@@ -96,12 +104,12 @@ impl TakeLine for Shown {
         match line {
             Line::Header { line, name } => {
                 let name = Text::copy_of(alloc, name)?;
-                write!(self.out, "{line}[{name}]")
+                push_header(&mut self.out, line, &name)
             }
             Line::Pair { line, key, value } => {
                 let key = Text::copy_of(alloc, key)?;
                 let value = Text::copy_of(alloc, value)?;
-                write!(self.out, "{line}{{{key}}}{{{value}}}")
+                push_pair(&mut self.out, line, &key, &value)
             }
         }
     }
@@ -112,6 +120,18 @@ fn items_of(alloc: Global, text: &[u8]) -> Result<String, ConfFault> {
     let mut shown = Shown { out };
     take_lines(alloc, text, &mut shown)?;
     let Shown { out } = shown;
+    Ok(out)
+}
+
+/// The items of a text that is read at once.
+fn items_read(alloc: Global, text: &[u8]) -> Result<String, ConfFault> {
+    let mut out = String::new(alloc);
+    for item in read_lines(alloc, text)?.iter() {
+        match item {
+            ConfLine::Header { line, name } => push_header(&mut out, *line, name)?,
+            ConfLine::Pair { line, key, value } => push_pair(&mut out, *line, key, value)?,
+        }
+    }
     Ok(out)
 }
 
@@ -127,21 +147,58 @@ fn fault_text(alloc: Global, fault: &ConfFault) -> Result<String, NoMemory> {
     Ok(out)
 }
 
+fn items_or_fault(alloc: Global, items: Result<String, ConfFault>) -> Result<String, Fail> {
+    match items {
+        Ok(items) => Ok(items),
+        Err(fault) => {
+            let got = fault_text(alloc, &fault)?;
+            Ok(got)
+        }
+    }
+}
+
 /// The items of a text, or its fault.
 struct Items;
 
 impl Question for Items {
     fn answer(alloc: Global, asked: &str) -> Result<String, Fail> {
         let text = bytes_of(alloc, asked)?;
-        match items_of(alloc, &text) {
-            Ok(items) => Ok(items),
-            Err(fault) => {
-                let got = fault_text(alloc, &fault)?;
-                Ok(got)
-            }
-        }
+        items_or_fault(alloc, items_of(alloc, &text))
     }
 }
+
+/// The same of a text that is read at once.
+struct ItemsRead;
+
+impl Question for ItemsRead {
+    fn answer(alloc: Global, asked: &str) -> Result<String, Fail> {
+        let text = bytes_of(alloc, asked)?;
+        items_or_fault(alloc, items_read(alloc, &text))
+    }
+}
+
+/// The items that were taken, up to the fault where there is one.
+struct Taken;
+
+impl Question for Taken {
+    fn answer(alloc: Global, asked: &str) -> Result<String, Fail> {
+        let text = bytes_of(alloc, asked)?;
+        let out = String::new(alloc);
+        let mut shown = Shown { out };
+        let _fault = take_lines(alloc, &text, &mut shown);
+        let Shown { out } = shown;
+        Ok(out)
+    }
+}
+
+/// The lines before the faulty one are taken, and none after it.
+const TAKEN: &str = r"
+[m]\na=b\nabc\nc=d→1[m]2{a}{b}
+[m]\na=b\n[n\n[o]→1[m]2{a}{b}
+abc\n[m]→
+[m]\na=1 ;-- x→1[m]
+[m]\na=b→1[m]2{a}{b}
+";
 
 /// Each line stands after `[main]`.
 const FAULT_LINES: &str = r#"
@@ -189,6 +246,8 @@ const COMPARED: &str = r"
 
 fn check_items(alloc: Global) -> Result<(), Fail> {
     check_all::<Items>(alloc, &[TEXTS, FAULT_LINES, ESCAPED_SEMICOLONS])?;
+    check_all::<ItemsRead>(alloc, &[TEXTS, FAULT_LINES, ESCAPED_SEMICOLONS])?;
+    check::<Taken>(alloc, TAKEN)?;
     check::<Compared>(alloc, COMPARED)
 }
 

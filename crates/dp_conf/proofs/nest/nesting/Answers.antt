@@ -34,7 +34,7 @@ take-requires c =
 
 pub loop-mark-preserved : goal.loop-mark-preserved
 loop-mark-preserved c =
-    ap (λ nest. come nest.waiting nest.deepest (levels c.in-Some.after.now (kinds_of nest.waiting) 0)) c.in_ok-take.ensures
+    ap (λ nest. come nest.waiting nest.deepest (levels c.in-Some.after.now (kinds_of nest.waiting) 0)) c.in_ok-take.ensures.ok
     ∙ come-mark c.in-Some.mark c.loop-mark.nest (levels c.in-Some.after.now)
     ∙ ap (come c.loop-mark.nest.waiting c.loop-mark.nest.deepest)
     (sym (c.in-Some.ensures.marked (kinds_of c.loop-mark.nest.waiting) (sym c.innermost.ensures)))
