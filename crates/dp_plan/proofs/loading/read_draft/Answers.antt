@@ -11,7 +11,7 @@ pub returns : goal.returns
 returns c =
     let both = c.in_ok-loading.ensures {u = tt} in
     let all = all_taken after_one c.new-loading.result (lines_of c.args.text.now) in
-    let read = subst (λ r. Answers (λ done. c.take_lines-read.new.taker) line_fault r all) both.ok.0 c.take_lines-read.ensures in
+    let read = subst (λ r. Answers (λ done. c.take_lines-read.new.taker) line_fault r all) both.ok.0 c.take_lines-read.ensures.taken in
     rw (drafted_of-taken c.args.text.now c.new-loading.result c.in_ok-loading.loading c.new-loading.ensures (read ∙ ap (λ s. Ok s) (sym both.ok.1))) c.into_draft.ensures
 
 pub returns-in_err-loading : goal.returns-in_err-loading
@@ -19,5 +19,5 @@ returns-in_err-loading c =
     let p = err_from_is_err_and c.from_residual.result c.from_residual.ensures.1 in
     let fault = c.in_err-loading.field-0.0 in
     let all = all_taken after_one c.new-loading.result (lines_of c.args.text.now) in
-    let refused : Refuses (line_fault fault) all = subst (λ r. Answers (λ done. c.take_lines-read.new.taker) line_fault r all) (c.in_err-loading.ensures {u = tt}).err c.take_lines-read.ensures in
+    let refused : Refuses (line_fault fault) all = subst (λ r. Answers (λ done. c.take_lines-read.new.taker) line_fault r all) (c.in_err-loading.ensures {u = tt}).err c.take_lines-read.ensures.taken in
     rw (p.1, p.2) (Refuses-text c.args.text.now c.new-loading.result fault refused)
