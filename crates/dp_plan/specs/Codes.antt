@@ -1,5 +1,9 @@
--- The numbers of the faults of a dialplan and the names that are printed beside them.
-use Rattle.std.specs.Prelude.{ℕ, List, codes}
+-- The numbers of the faults of a dialplan, the names that are printed beside them, and the text of a fault at a line.
+use Rattle.std.specs.Prelude.{ℕ, List, ◌++◌, codes, decimal}
+use Rattle.dp_conf.specs.Codes.{conf_fault_text}
+use Rattle.dp_pattern.specs.Codes.{fault_name}
+use Rattle.dp_plan.specs.declared.fault.LoadFault.{LoadFault}
+use Rattle.dp_plan.specs.declared.fault.LoadFault.TheVariants.{Conf, Pattern, Plan, NoMemory}
 use Rattle.dp_plan.specs.declared.fault.PlanKind.{PlanKind}
 use Rattle.dp_plan.specs.declared.fault.PlanKind.TheVariants.{BadPriority, NoPrevious, BadLabel, BadApplication, LeftOut, TooDeep, NoExten, PriorityLimit, ShortLine}
 use Rattle.dp_plan.specs.declared.note.NoteKind.{NoteKind}
@@ -28,6 +32,13 @@ plan_name TooDeep = codes "TooDeep"
 plan_name NoExten = codes "NoExten"
 plan_name PriorityLimit = codes "PriorityLimit"
 plan_name ShortLine = codes "ShortLine"
+
+-- what is printed where a dialplan did not load
+abbrev pub load_fault_text : LoadFault → List ℕ
+load_fault_text (Conf fault) = conf_fault_text fault
+load_fault_text (Pattern line fault) = fault_name fault ++ codes " line " ++ decimal line
+load_fault_text (Plan line kind) = plan_name kind ++ codes " line " ++ decimal line
+load_fault_text NoMemory = codes "out of memory"
 
 -- the printed name of a note
 abbrev pub note_name : NoteKind → List ℕ

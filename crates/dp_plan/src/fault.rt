@@ -1,11 +1,12 @@
 //! What a dialplan is refused for, with the numbers and the names that are printed.
-ghost use Rattle.std.specs.Prelude.{◌≡◌};
-ghost use Rattle.dp_plan.specs.Codes.{plan_code, plan_name};
+ghost use Rattle.std.specs.Prelude.{◌≡◌, Some};
+ghost use Rattle.dp_plan.specs.Codes.{plan_code, plan_name, load_fault_text};
 
 use dp_conf::{ConfFault, NoMemory};
 use dp_pattern::NameFault;
 use std::alloc::AllocFailed;
-use thiserror::Error;
+use std::error::Error;
+use std::fmt;
 
 /// What a line asks for that this program leaves out.
 #[derive(Clone, Copy, Debug, PartialEq, Eq)]
@@ -88,21 +89,32 @@ impl PlanKind {
 }
 
 /// Why a dialplan did not load. Want of memory is always `NoMemory`, and never within `Conf`.
-#[derive(Clone, Copy, Debug, PartialEq, Eq, Error)]
+#[derive(Clone, Copy, Debug, PartialEq, Eq)]
 pub enum LoadFault {
     /// A line of the text is refused, whatever its section.
-    #[error(transparent)]
     Conf(ConfFault),
     /// The name of a line is none; lines are counted from 1.
-    #[error("{} line {line}", fault.name())]
     Pattern { line: usize, fault: NameFault },
     /// A line of a context or of the global variables is refused; lines are counted from 1.
-    #[error("{} line {line}", kind.name())]
     Plan { line: usize, kind: PlanKind },
     /// The allocator had no memory.
-    #[error("out of memory")]
     NoMemory,
 }
+
+impl fmt::Display for LoadFault {
+    ghost output = { λ fault. Some (load_fault_text fault) };
+
+    fn fmt<W: fmt::Write>(&self, f: &mut fmt::Formatter<W>) -> fmt::Result {
+        match self {
+            LoadFault::Conf(conf) => write!(f, "{conf}"),
+            LoadFault::Pattern { line, fault } => write!(f, "{fault} line {line}"),
+            LoadFault::Plan { line, kind } => write!(f, "{} line {line}", kind.name()),
+            LoadFault::NoMemory => f.write_str("out of memory"),
+        }
+    }
+}
+
+impl Error for LoadFault {}
 
 impl From<ConfFault> for LoadFault {
     ghost use Rattle.dp_plan.specs.Faults.{fault_of_conf};
