@@ -66,6 +66,7 @@ impl ContextOrder {
     }
 
     /// Makes it that of the context of this name. It is filled anew only where it was that of another, and takes no memory.
+    /// The dialplan is the one that `room` made it for, and each earlier turn was for that one too.
     #[inline(always)]
     pub fn turn_to(&mut self, plan: &Dialplan, context: &Text)
         requires { IsOrder plan.now self.old }
