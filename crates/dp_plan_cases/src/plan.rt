@@ -3,6 +3,7 @@ pub(crate) mod cuts;
 pub(crate) mod faults;
 pub(crate) mod includes;
 pub(crate) mod labels;
+pub(crate) mod large;
 pub(crate) mod manual;
 pub(crate) mod names;
 pub(crate) mod numbering;

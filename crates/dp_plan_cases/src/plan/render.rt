@@ -100,7 +100,7 @@ fn push_fault(out: &mut String, fault: LoadFault) -> Result<(), NoMemory> {
 /// `<NAME,PRIORITY,APPLICATION(ARGUMENTS)>`, or `<NAME,PRIORITY(LABEL),APPLICATION(ARGUMENTS)>` where there is a label,
 /// and with its includes `{+NAME}`, and its notes ` note LINE KIND`; a fault as `fault CODE line L`, and as
 /// `fault 24 WORD line L` where the line asks for what is left out.
-fn shown(
+pub(super) fn shown(
     alloc: Global,
     read: &Result<(Dialplan, Vec<Note>), LoadFault>,
 ) -> Result<String, NoMemory> {

@@ -1,0 +1,22 @@
+//! The greatest text.
+use crate::plan::render::shown;
+use dp_plan::Dialplan;
+use dp_questions::check_same;
+use std::alloc::Global;
+use std::test::Fail;
+
+/// How many bytes a text may have: 16 MiB.
+const MOST_BYTES: usize = 16_777_216;
+
+fn check_line_feeds(alloc: Global) -> Result<(), Fail> {
+    let text = vec![in alloc; b'\n'; MOST_BYTES]?;
+    let read = Dialplan::load(alloc, &text);
+    let got = shown(alloc, &read)?;
+    check_same("a text of 16,777,216 line feeds", &got, "")
+}
+
+/// A text of 16,777,216 line feeds is the empty dialplan, with no note.
+#[test]
+fn the_greatest_text_of_line_feeds_loads(rt: HostRuntime) -> Result<(), Fail> {
+    check_line_feeds(rt.alloc())
+}
