@@ -28,6 +28,9 @@ use Rattle.dp_trie.specs.declared.ranked.Ranked.{Ranked}
 use Rattle.dp_trie.proofs.BuildLemmas.{IsBuilt, all-at, take-range}
 use Rattle.dp_trie.proofs.TreeLemmas.{take-all}
 
+none_before : (n : ℕ) → n ≡ 0 + n
+none_before n = omega arith
+
 -- ---- what two patterns share
 
 pub shared-right : (left right : List (List ℕ)) → shared_count left right ≤ length right
@@ -51,10 +54,7 @@ other_class a b other = by (is_eq (class_cmp a b)) refl
 
 -- what begins alike up to a place is shared up to there, and on from there
 pub shared-parts : (k : ℕ) (left right : List (List ℕ)) → k ≤ length left → take k left ≡ take k right → shared_count left right ≡ k + shared_count (drop k left) (drop k right)
-shared-parts zero left right few same = zero_before (shared_count left right)
-  where
-    zero_before : (n : ℕ) → n ≡ 0 + n
-    zero_before n = omega arith
+shared-parts zero left right few same = none_before (shared_count left right)
 shared-parts (suc k) [] right few same = absurd (omega (arith, few))
 shared-parts (suc k) (a ∷ left) [] few same = absurd cc
 shared-parts (suc k) (a ∷ left) (b ∷ right) few same =
@@ -168,10 +168,7 @@ module _ (held : List Held) (more : Bool) (wanted : Wanted) (digits : List ℕ) 
   -- ---- nodes one after another
 
   count-append : (xs ys : List Node) (path : List (List ℕ)) → count_from path (xs ++ ys) ≡ count_from path xs + cond (is_some (find test (known_from held path xs))) 0 (count_from (path_end path xs) ys)
-  count-append [] ys path = zero_before (count_from path ys)
-    where
-      zero_before : (n : ℕ) → n ≡ 0 + n
-      zero_before n = omega arith
+  count-append [] ys path = none_before (count_from path ys)
   count-append (node ∷ xs) ys path =
       by (alive more (path_after path node) digits) (find test (own held (take node.depth path) node.step)) (find test (known_from held (path_after path node) xs))
       (count_from (path_after path node) (xs ++ ys)) (count_from (path_after path node) xs) (count_from (path_end (path_after path node) xs) ys) (count-append xs ys (path_after path node))
@@ -214,10 +211,7 @@ module _ (held : List Held) (more : Bool) (wanted : Wanted) (digits : List ℕ) 
   -- ---- entries one after another
 
   below-append : (xs ys : List Known) (above : Meaning) → entered_below above (xs ++ ys) ≡ entered_below above xs + cond (is_some (find test xs)) 0 (entered_below (last_name above xs) ys)
-  below-append [] ys above = zero_before (entered_below above ys)
-    where
-      zero_before : (n : ℕ) → n ≡ 0 + n
-      zero_before n = omega arith
+  below-append [] ys above = none_before (entered_below above ys)
   below-append (x ∷ xs) ys above =
       by (test x) (taken_count more digits (nodes_added above x.name)) (entered_below x.name (xs ++ ys)) (entered_below x.name xs) (entered_below (last_name x.name xs) ys) (find test xs) (below-append xs ys x.name)
     where
@@ -262,10 +256,7 @@ module _ (held : List Held) (more : Bool) (wanted : Wanted) (digits : List ℕ) 
     where
       step : (b : Bool) (o : Option Known) (n m : ℕ) → n ≡ cond (is_some o) 0 m → 0 + cond b 0 n ≡ cond (is_some (cond b (Some known) o)) 0 m
       step true o n m e = omega arith
-      step false o n m e = zero_before n ∙ e
-        where
-          zero_before : (n : ℕ) → 0 + n ≡ n
-          zero_before n = omega arith
+      step false o n m e = sym (none_before n) ∙ e
 
       by : entered_below (Plain x) (plain ++ rest) ≡ cond (is_some (find test plain)) 0 (entered_below (Plain x) rest) → (name : Meaning) → known.name ≡ name → IsPlain name → entered_below (Plain x) (known ∷ plain ++ rest) ≡ cond (is_some (find test (known ∷ plain))) 0 (entered_below (Plain x) rest)
       by past (Plain text) e is =
