@@ -11,7 +11,7 @@ use Rattle.dp_pattern.specs.declared.tail.Tail.{Tail}
 use Rattle.dp_trie.specs.Known.{Known, most_added}
 use Rattle.dp_trie.specs.Names.{own_plain, known_plain, ArePlainRanges}
 use Rattle.dp_trie.specs.steps.Ranked.{known_now, hold_of, AreNamed, IsGroup, IsPlain, IsPattern, ArePlainFirst}
-use Rattle.dp_trie.specs.Tree.{known_held, own, path_after, path_end, known_from, depth_below, IsRooted, IsRange, AreRanges, Reaches, Pushes}
+use Rattle.dp_trie.specs.Tree.{known_held, own, path_after, path_end, known_from, depth_below, IsRooted, IsRange, AreRanges, pattern_nodes, Reaches, Pushes}
 use Rattle.dp_trie.specs.declared.node.Held.{Held}
 use Rattle.dp_trie.specs.declared.node.Leaf as leaf
 use Rattle.dp_trie.specs.declared.node.Node.{Node}
@@ -58,7 +58,7 @@ ranges-push count nodes node each one place other here = elim (get-push nodes no
 abbrev class_node : ℕ → List ℕ → Node
 class_node depth class = record { depth = depth; step = Class class }
 
-abbrev leaf_node : ℕ → leaf.Leaf → Node
+abbrev pub leaf_node : ℕ → leaf.Leaf → Node
 leaf_node depth l = record { depth = depth; step = Leaf l }
 
 pub take-get : {X : Type 0} (xs : List X) (k : ℕ) (x : X) → slice_get xs k ≡ Some x → take (suc k) xs ≡ take k xs ++ x ∷ []
@@ -74,6 +74,7 @@ reaches-start old classes from same long = record {
   rooted = λ rooted. rooted;
   ranges = λ count each. each;
   size = refl;
+  nodes = λ l. refl;
 }
 
 pub reaches-push : (old new : List Node) (classes : List (List ℕ)) (from depth : ℕ) (class : List ℕ) → Reaches old new classes from depth → slice_get classes depth ≡ Some class → Reaches old (new ++ class_node depth class ∷ []) classes from (depth + 1)
@@ -84,6 +85,11 @@ reaches-push old new classes from depth class reached here = record {
   rooted = λ rooted. rooted-push new [] (class_node depth class) (reached.rooted rooted) reached.long;
   ranges = λ count each. ranges-push count new (class_node depth class) (reached.ranges count each) tt;
   size = (let size = reached.size in let parts = length-append new (class_node depth class ∷ []) in omega (arith, size, parts));
+  nodes = λ l.
+      append_assoc new (class_node depth class ∷ []) (pattern_nodes (depth + 1) (drop (depth + 1) classes) l)
+      ∙ (ap (λ d. new ++ class_node depth class ∷ pattern_nodes d (drop (depth + 1) classes) l) (add-one depth)
+      ∙ (ap (λ cs. new ++ pattern_nodes depth cs l) (sym (drop-get classes depth class here))
+      ∙ reached.nodes l));
 }
   where
     end : path_end [] (new ++ class_node depth class ∷ []) ≡ take depth (path_end [] new) ++ class ∷ []
@@ -110,6 +116,14 @@ reaches-leaf old new classes from l reached = record {
   where
     path : take (length classes) (path_end [] new) ≡ classes
     path = reached.path ∙ take-whole classes
+
+drop-whole : {X : Type 0} (xs : List X) → drop (length xs) xs ≡ []
+drop-whole [] = refl
+drop-whole (x ∷ xs) = drop-whole xs
+
+-- the nodes that were added
+pub reaches-nodes : (old new : List Node) (classes : List (List ℕ)) (from : ℕ) (l : leaf.Leaf) → Reaches old new classes from (length classes) → new ++ leaf_node (length classes) l ∷ [] ≡ old ++ pattern_nodes from (drop from classes) l
+reaches-nodes old new classes from l reached = ap (λ cs. new ++ pattern_nodes (length classes) cs l) (sym (drop-whole classes)) ∙ reached.nodes l
 
 -- ---- the entries of a group
 

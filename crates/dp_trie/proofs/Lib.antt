@@ -1,5 +1,6 @@
 pub mod BuildLemmas
 pub mod DigitLemmas
+pub mod EnteredLemmas
 pub mod KeepLemmas
 pub mod LabelLemmas
 pub mod LeapLemmas
@@ -11,3 +12,4 @@ pub mod RisingLemmas
 pub mod TableLemmas
 pub mod TreeLemmas
 pub mod WalkLemmas
+mod cases

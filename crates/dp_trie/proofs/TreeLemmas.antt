@@ -1,6 +1,6 @@
 -- A walk through a tree of patterns finds the first of its entries that is asked for.
 use Rattle.std.proofs.Common.{◌≡◌, ℕ, zero, suc, ◌+◌, ◌<◌, ◌≤◌, Bool, true, false, cond, ◌&&◌, List, [], ◌∷◌, ◌++◌, length, map, take, drop, Option, Some, None, MatchOption, arith, refl, sym, ap, subst, ◌∙◌, add-one, length-append}
-use Rattle.std.specs.Prelude.{slice_get, slice_range, nat_lt}
+use Rattle.std.specs.Prelude.{slice_get, slice_range, nat_lt, is_some}
 use Rattle.std.specs.List.{find}
 use Rattle.std.specs.Option.{option_map, option_or}
 use Rattle.std.proofs.lemmas.Bool.{ltb-true, ltb-false}
@@ -10,6 +10,7 @@ use Rattle.std.proofs.lemmas.Option.{slice_get_within}
 use Rattle.dp_pattern.specs.Name.{Pattern}
 use Rattle.dp_pattern.specs.Walk.{walked, classes_of}
 use Rattle.dp_trie.specs.Asked.{Wanted, fits, asked, holds, hit_held, hit_of}
+use Rattle.dp_trie.specs.Entered.{one_more, tree_entered}
 use Rattle.dp_trie.specs.Known.{Known}
 use Rattle.dp_trie.specs.Tree.{known_held, own, path_below, path_after, known_from, skipped, depth_below, IsRooted, IsEnd, alive, takes, allows, hold_or_pass, step_visit}
 use Rattle.dp_plan.specs.declared.entry.EntryId.{EntryId}
@@ -19,7 +20,7 @@ use Rattle.dp_trie.specs.declared.node.Node.{Node}
 use Rattle.dp_trie.specs.declared.node.Step.{Step}
 use Rattle.dp_trie.specs.declared.node.Step.TheVariants.{Class, Leaf}
 use Rattle.dp_trie.specs.declared.walk.Visit.TheVariants.{Enters, Fails, Holds}
-use Rattle.dp_trie.proofs.WalkLemmas.{alive-push, alive-take, dead-fits, fits-allows}
+use Rattle.dp_trie.proofs.WalkLemmas.{alive-push, alive-take, dead-whole, dead-fits, fits-allows}
 
 -- ---- lists
 
@@ -29,7 +30,7 @@ take-take (suc n) zero xs few = absurd (omega (arith, few))
 take-take (suc n) (suc m) [] few = refl
 take-take (suc n) (suc m) (x ∷ xs) few = ap (λ l. x ∷ l) (take-take n m xs (omega (arith, few)))
 
-take-all : {X : Type 0} (n : ℕ) (xs : List X) → length xs ≤ n → take n xs ≡ xs
+pub take-all : {X : Type 0} (n : ℕ) (xs : List X) → length xs ≤ n → take n xs ≡ xs
 take-all zero [] few = refl
 take-all zero (x ∷ xs) few = absurd (omega (arith, few))
 take-all (suc n) [] few = refl
@@ -75,6 +76,15 @@ module _ (held : List Held) (more : Bool) (wanted : Wanted) (digits : List ℕ) 
   abbrev found_step : List (List ℕ) → Step → List Node → Option Known
   found_step path step nodes = find (asked more wanted digits) (own held path step ++ known_from held (path_below path step) nodes)
 
+  -- how many nodes are entered from some place on
+  abbrev pub count_from : List (List ℕ) → List Node → ℕ
+  count_from path nodes = tree_entered held more wanted digits path nodes
+
+  -- how many are entered at a step below a path and after it
+  abbrev pub count_step : List (List ℕ) → Step → List Node → ℕ
+  count_step path step nodes =
+      one_more (alive more (path_below path step) digits) (cond (is_some (find (asked more wanted digits) (own held path step))) 0 (count_from (path_below path step) nodes))
+
   find-own : (path : List (List ℕ)) (l : leaf.Leaf) → find (asked more wanted digits) (own held path (Leaf l)) ≡ cond (fits more l.tail (walked path digits)) (option_map (known_held (Pattern path l.tail)) (find (holds wanted) (slice_range held l.from l.until))) None
   find-own path l =
       find_images (fits more l.tail (walked path digits)) (known_held (Pattern path l.tail)) (asked more wanted digits) (holds wanted) (λ h. refl) (slice_range held l.from l.until)
@@ -119,17 +129,41 @@ module _ (held : List Held) (more : Bool) (wanted : Wanted) (digits : List ℕ) 
       by inner true e = deeper inner (ltb-true depth node.depth e)
       by inner false e = ap (λ p. found_step p node.step nodes) (sym (take-take node.depth depth path (ltb-false depth node.depth e)))
 
+  -- and none of it is entered
+  pub skip-count : (depth : ℕ) (nodes : List Node) (path : List (List ℕ)) → depth < length path → alive more (take (suc depth) path) digits ≡ false → count_from path nodes ≡ count_from (take depth path) (skipped depth nodes)
+  skip-count depth [] path deep dead = refl
+  skip-count depth (node ∷ nodes) path deep dead = by (λ p. skip-count depth nodes p) (nat_lt depth node.depth) refl
+    where
+      deeper : ((p : List (List ℕ)) → depth < length p → alive more (take (suc depth) p) digits ≡ false → count_from p nodes ≡ count_from (take depth p) (skipped depth nodes)) → depth < node.depth → count_from path (node ∷ nodes) ≡ count_from (take depth path) (skipped depth nodes)
+      deeper inner below =
+          let size = length-take node.depth path in
+          let long = longer-below (take node.depth path) node.step in
+          let room : suc depth ≤ length (take node.depth path) = omega (arith, size, below, deep) in
+          let begins : take (suc depth) (take node.depth path) ≡ take (suc depth) path = take-take (suc depth) node.depth path (omega (arith, below)) in
+          let same : take (suc depth) (path_after path node) ≡ take (suc depth) path = take-below (suc depth) (take node.depth path) node.step room ∙ begins in
+          let shorter : take depth (path_after path node) ≡ take depth path = take-below depth (take node.depth path) node.step (omega (arith, room)) ∙ take-take depth node.depth path (omega (arith, below)) in
+          let off = dead-whole more (suc depth) (path_after path node) digits (ap (λ p. alive more p digits) same ∙ dead) in
+          let none = none-own (suc depth) (take node.depth path) node.step (ap (λ p. alive more p digits) begins ∙ dead) in
+          ap (λ b. one_more b (cond (is_some (find (asked more wanted digits) (own held (take node.depth path) node.step))) 0 (count_from (path_after path node) nodes))) off
+          ∙ (ap (λ o. cond (is_some o) 0 (count_from (path_after path node) nodes)) none
+          ∙ (inner (path_after path node) (omega (arith, room, long)) (ap (λ p. alive more p digits) same ∙ dead)
+          ∙ ap (λ p. count_from p (skipped depth nodes)) shorter))
+
+      by : ((p : List (List ℕ)) → depth < length p → alive more (take (suc depth) p) digits ≡ false → count_from p nodes ≡ count_from (take depth p) (skipped depth nodes)) → (b : Bool) → nat_lt depth node.depth ≡ b → count_from path (node ∷ nodes) ≡ count_from (take depth path) (cond b (skipped depth nodes) (node ∷ nodes))
+      by inner true e = deeper inner (ltb-true depth node.depth e)
+      by inner false e = ap (λ p. count_step p node.step nodes) (sym (take-take node.depth depth path (ltb-false depth node.depth e)))
+
   -- ---- a step of the walk
 
   -- a node that is entered without a hit has nothing that is asked for, and the path after it takes the digits
-  pub entered : (step : Step) (path : List (List ℕ)) (depth : ℕ) (nodes : List Node) → length path ≡ depth → alive more path digits ≡ true → step_visit held more wanted digits depth step ≡ Enters → (alive more (path_below path step) digits ≡ true) × (found_step path step nodes ≡ found_from (path_below path step) nodes)
+  pub entered : (step : Step) (path : List (List ℕ)) (depth : ℕ) (nodes : List Node) → length path ≡ depth → alive more path digits ≡ true → step_visit held more wanted digits depth step ≡ Enters → (alive more (path_below path step) digits ≡ true) × (find (asked more wanted digits) (own held path step) ≡ None)
   entered (Class class) path depth nodes size on e =
       (alive-push more path class digits on ∙ (ap (takes more digits class) size ∙ taken (takes more digits class depth) e), refl)
     where
       taken : (b : Bool) → cond b Enters Fails ≡ Enters → b ≡ true
       taken true e = refl
       taken false e = absurd cc
-  entered (Leaf l) path depth nodes size on e = (on, past-own path (Leaf l) nodes (find-own path l ∙ nothing (fits more l.tail (walked path digits)) agree))
+  entered (Leaf l) path depth nodes size on e = (on, find-own path l ∙ nothing (fits more l.tail (walked path digits)) agree)
     where
       all : List Held
       all = slice_range held l.from l.until
@@ -148,16 +182,23 @@ module _ (held : List Held) (more : Bool) (wanted : Wanted) (digits : List ℕ) 
       nothing true e = none (find (holds wanted) (slice_range held l.from l.until)) e
       nothing false e = refl
 
-  -- a node that fails has nothing that is asked for below it
-  pub failed : (step : Step) (path : List (List ℕ)) (depth : ℕ) (nodes : List Node) → length path ≡ depth → alive more path digits ≡ true → step_visit held more wanted digits depth step ≡ Fails → found_step path step nodes ≡ found_from path (skipped depth nodes)
+  entered-count : (step : Step) (path : List (List ℕ)) (nodes : List Node) → alive more (path_below path step) digits ≡ true → find (asked more wanted digits) (own held path step) ≡ None → count_step path step nodes ≡ suc (count_from (path_below path step) nodes)
+  entered-count step path nodes on none =
+      ap (λ b. one_more b (cond (is_some (find (asked more wanted digits) (own held path step))) 0 (count_from (path_below path step) nodes))) on
+      ∙ ap (λ o. suc (cond (is_some o) 0 (count_from (path_below path step) nodes))) none
+
+  -- a node that fails has nothing that is asked for below it, and none of it is entered
+  pub failed : (step : Step) (path : List (List ℕ)) (depth : ℕ) (nodes : List Node) → length path ≡ depth → alive more path digits ≡ true → step_visit held more wanted digits depth step ≡ Fails → (found_step path step nodes ≡ found_from path (skipped depth nodes)) × (count_step path step nodes ≡ count_from path (skipped depth nodes))
   failed (Class class) path depth nodes size on e =
       let long = length-append path (class ∷ []) in
       let front : take depth (path ++ class ∷ []) ≡ path = ap (λ n. take n (path ++ class ∷ [])) (sym size) ∙ take-front path class in
+      let off : alive more (path ++ class ∷ []) digits ≡ false = alive-push more path class digits on ∙ (ap (takes more digits class) size ∙ refused (takes more digits class depth) e) in
       let dead : alive more (take (suc depth) (path ++ class ∷ [])) digits ≡ false =
-      ap (λ p. alive more p digits) (take-all (suc depth) (path ++ class ∷ []) (omega (arith, long, size)))
-      ∙ (alive-push more path class digits on ∙ (ap (takes more digits class) size ∙ refused (takes more digits class depth) e)) in
-      skip depth nodes (path ++ class ∷ []) (omega (arith, long, size)) dead
-      ∙ ap (λ p. found_from p (skipped depth nodes)) front
+      ap (λ p. alive more p digits) (take-all (suc depth) (path ++ class ∷ []) (omega (arith, long, size))) ∙ off in (
+        skip depth nodes (path ++ class ∷ []) (omega (arith, long, size)) dead ∙ ap (λ p. found_from p (skipped depth nodes)) front,
+        ap (λ b. one_more b (count_from (path ++ class ∷ []) nodes)) off
+            ∙ (skip-count depth nodes (path ++ class ∷ []) (omega (arith, long, size)) dead ∙ ap (λ p. count_from p (skipped depth nodes)) front),
+      )
     where
       refused : (b : Bool) → cond b Enters Fails ≡ Fails → b ≡ false
       refused true e = absurd cc
@@ -175,6 +216,7 @@ module _ (held : List Held) (more : Bool) (wanted : Wanted) (digits : List ℕ) 
     pub found : found_step path step nodes ≡ Some known
     pub same : hit_of known ≡ hit
     pub deep : length (classes_of known.name) ≡ depth
+    pub counted : count_step path step nodes ≡ 1
 
   pub held_at : (step : Step) (path : List (List ℕ)) (depth : ℕ) (nodes : List Node) (hit : EntryId) → length path ≡ depth → alive more path digits ≡ true → step_visit held more wanted digits depth step ≡ Holds hit → IsHeld path step nodes depth hit
   held_at (Class class) path depth nodes hit size on e = absurd (never (takes more digits class depth) e)
@@ -201,6 +243,10 @@ module _ (held : List Held) (more : Bool) (wanted : Wanted) (digits : List ℕ) 
             (find-own path l ∙ (ap (λ b. cond b (option_map (known_held (Pattern path l.tail)) (find (holds wanted) (slice_range held l.from l.until))) None) fb ∙ ap (option_map (known_held (Pattern path l.tail))) fo));
         same = (let inner : hit_held h ≡ hit = cc in inner);
         deep = size;
+        counted =
+            ap (λ b. one_more b (cond (is_some (find (asked more wanted digits) (own held path (Leaf l)))) 0 (count_from path nodes))) on
+            ∙ ap (λ o. suc (cond (is_some o) 0 (count_from path nodes)))
+            (find-own path l ∙ (ap (λ b. cond b (option_map (known_held (Pattern path l.tail)) (find (holds wanted) (slice_range held l.from l.until))) None) fb ∙ ap (option_map (known_held (Pattern path l.tail))) fo));
       }
 
 -- ---- the form of a tree
@@ -220,12 +266,28 @@ rooted-skipped depth n (node ∷ nodes) rooted = by (rooted-skipped depth (depth
 
 -- ---- the walk
 
+add-here : (count before here after all : ℕ) → count + before ≡ all → before ≡ here → here ≡ after → count + after ≡ all
+add-here count before here after all e same step = omega (arith, e, same, step)
+
+add-one_here : (count before here after all : ℕ) → count + before ≡ all → before ≡ here → here ≡ suc after → count + 1 + after ≡ all
+add-one_here count before here after all e same step = omega (arith, e, same, step)
+
+add-last : (count before here all : ℕ) → count + before ≡ all → before ≡ here → here ≡ 1 → count + 1 ≡ all
+add-last count before here all e same step = omega (arith, e, same, step)
+
+zero-before : (n : ℕ) → 0 + n ≡ n
+zero-before n = omega arith
+
+none-after : (count before all : ℕ) → count + before ≡ all → before ≡ 0 → count ≡ all
+none-after count before all e same = omega (arith, e, same)
+
 -- a walk that has come to a place: what is found from there on is what is found in all nodes, and the classes on the way
--- take the digits
+-- take the digits; and what was entered and what is entered from there on is all that is entered
 pub record IsAt (held : List Held) (more : Bool) (wanted : Wanted) (digits : List ℕ) (nodes : List Node) (place count : ℕ) : Type 0 where
   pub path : List (List ℕ)
   pub on : alive more path digits ≡ true
   pub same : found_from held more wanted digits path (drop place nodes) ≡ found_from held more wanted digits [] nodes
+  pub counted : count + count_from held more wanted digits path (drop place nodes) ≡ count_from held more wanted digits [] nodes
   pub rooted : IsRooted (length path) (drop place nodes)
   pub deep : length path ≤ count
   pub few : count ≤ place
@@ -233,7 +295,7 @@ pub record IsAt (held : List Held) (more : Bool) (wanted : Wanted) (digits : Lis
 
 module _ (held : List Held) (more : Bool) (wanted : Wanted) (digits : List ℕ) (nodes : List Node) where
   pub at-start : IsRooted 0 nodes → IsAt held more wanted digits nodes 0 0
-  at-start rooted = record { path = []; on = refl; same = refl; rooted = rooted; deep = omega arith; few = omega arith; within = omega arith }
+  at-start rooted = record { path = []; on = refl; same = refl; counted = zero-before (count_from held more wanted digits [] nodes); rooted = rooted; deep = omega arith; few = omega arith; within = omega arith }
 
   module _ (place count : ℕ) (at : IsAt held more wanted digits nodes place count) (node : Node) (here : slice_get nodes place ≡ Some node) where
     abbrev above : List (List ℕ)
@@ -254,6 +316,9 @@ module _ (held : List Held) (more : Bool) (wanted : Wanted) (digits : List ℕ) 
     whole : found_step held more wanted digits above node.step rest ≡ found_from held more wanted digits [] nodes
     whole = ap (found_from held more wanted digits at.path) (sym (drop-get nodes place node here)) ∙ at.same
 
+    here_count : count_from held more wanted digits at.path (drop place nodes) ≡ count_step held more wanted digits above node.step rest
+    here_count = ap (count_from held more wanted digits at.path) (drop-get nodes place node here)
+
     pub after-enter : step_visit held more wanted digits node.depth node.step ≡ Enters → IsAt held more wanted digits nodes (place + 1) (count + 1)
     after-enter e =
         let step = entered held more wanted digits node.step above node.depth rest size taken e in
@@ -263,7 +328,8 @@ module _ (held : List Held) (more : Bool) (wanted : Wanted) (digits : List ℕ) 
         record {
           path = path_below above node.step;
           on = step.0;
-          same = sym step.1 ∙ whole;
+          same = sym (past-own held more wanted digits above node.step rest step.1) ∙ whole;
+          counted = add-one_here count _ _ _ _ at.counted here_count (entered-count held more wanted digits node.step above rest step.0 step.1);
           rooted = subst (λ n. IsRooted n rest) (sym long) form.1;
           deep = (let deep = at.deep in below_by node.step long few deep);
           few = (let few = at.few in omega (arith, few));
@@ -282,7 +348,10 @@ module _ (held : List Held) (more : Bool) (wanted : Wanted) (digits : List ℕ) 
           on = taken;
           same =
               ap (found_from held more wanted digits above) is_end.after
-              ∙ (sym (failed held more wanted digits node.step above node.depth rest size taken e) ∙ whole);
+              ∙ (sym (failed held more wanted digits node.step above node.depth rest size taken e).0 ∙ whole);
+          counted =
+              add-here count _ _ _ _ at.counted here_count
+              ((failed held more wanted digits node.step above node.depth rest size taken e).1 ∙ ap (count_from held more wanted digits above) (sym is_end.after));
           rooted = subst (λ n. IsRooted n (drop end nodes)) (sym size) (subst (IsRooted node.depth) (sym is_end.after) (rooted-skipped node.depth (depth_below node.depth node.step) rest form.1));
           deep = (let deep = at.deep in let s = size in omega (arith, deep, s, few));
           few = (let few = at.few in let later = is_end.later in omega (arith, few, later));
@@ -292,6 +361,7 @@ module _ (held : List Held) (more : Bool) (wanted : Wanted) (digits : List ℕ) 
     -- what is found in all nodes, where this one holds it
     pub record IsFoundHere (hit : EntryId) : Type 0 where
       pub found : Some hit ≡ option_map hit_of (found_from held more wanted digits [] nodes)
+      pub counted : count + 1 ≡ count_from held more wanted digits [] nodes
       pub most : count + 1 ≤ length nodes
       pub least : MatchOption (found_from held more wanted digits [] nodes) (Unit {0}) (λ known. length (classes_of known.name) ≤ count + 1)
 
@@ -306,6 +376,7 @@ module _ (held : List Held) (more : Bool) (wanted : Wanted) (digits : List ℕ) 
         let what : Some is_held.known ≡ found_from held more wanted digits [] nodes = sym is_held.found ∙ whole in
         record {
           found = ap Some (sym is_held.same) ∙ ap (option_map hit_of) what;
+          counted = add-last count _ _ _ at.counted here_count is_held.counted;
           most = omega (arith, inside, few);
           least =
               let P : Option Known → Type 0 = λ o. MatchOption o (Unit {0}) (λ known. length (classes_of known.name) ≤ count + 1) in
@@ -315,3 +386,6 @@ module _ (held : List Held) (more : Bool) (wanted : Wanted) (digits : List ℕ) 
   -- a walk that has ended
   pub at-end : (place count : ℕ) → IsAt held more wanted digits nodes place count → slice_get nodes place ≡ None → found_from held more wanted digits [] nodes ≡ None
   at-end place count at e = sym at.same ∙ ap (found_from held more wanted digits at.path) (drop-end nodes place e)
+
+  pub all-counted : (place count : ℕ) → IsAt held more wanted digits nodes place count → slice_get nodes place ≡ None → count ≡ count_from held more wanted digits [] nodes
+  all-counted place count at e = none-after count _ _ at.counted (ap (count_from held more wanted digits at.path) (drop-end nodes place e))

@@ -45,13 +45,17 @@ dead_fits true tail Short dead = absurd (true≢false dead)
 dead_fits false tail Short dead = refl
 dead_fits more tail (After digits) dead = absurd (true≢false dead)
 
--- a path that begins with one that does not take the digits fits under no tail
-pub dead-fits : (more : Bool) (tail : Tail) (n : ℕ) (path : List (List ℕ)) (digits : List ℕ) → alive more (take n path) digits ≡ false → fits more tail (walked path digits) ≡ false
-dead-fits more tail n path digits dead = dead_fits more tail (walked path digits) (whole (alive more path digits) refl)
+-- a path that begins with one that does not take the digits does not take them
+pub dead-whole : (more : Bool) (n : ℕ) (path : List (List ℕ)) (digits : List ℕ) → alive more (take n path) digits ≡ false → alive more path digits ≡ false
+dead-whole more n path digits dead = whole (alive more path digits) refl
   where
     whole : (b : Bool) → alive more path digits ≡ b → alive more path digits ≡ false
     whole true on = absurd (true≢false (sym (alive-take more n path digits on) ∙ dead))
     whole false off = off
+
+-- and it fits under no tail
+pub dead-fits : (more : Bool) (tail : Tail) (n : ℕ) (path : List (List ℕ)) (digits : List ℕ) → alive more (take n path) digits ≡ false → fits more tail (walked path digits) ≡ false
+dead-fits more tail n path digits dead = dead_fits more tail (walked path digits) (dead-whole more n path digits dead)
 
 -- ---- comparisons, which do not compute at variables
 

@@ -1,4 +1,5 @@
 pub mod Asked
+pub mod Entered
 pub mod Known
 pub mod Names
 pub mod Tree

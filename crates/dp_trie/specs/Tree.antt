@@ -104,6 +104,11 @@ pub record IsTree (held : List Held) (nodes : List Node) (ends : List ℕ) : Typ
 
 -- ---- the nodes of one pattern more
 
+-- the nodes of these classes, from a depth on, and the leaf below them
+abbrev pub pattern_nodes : ℕ → List (List ℕ) → leaves.Leaf → List Node
+pattern_nodes depth [] leaf = (record { depth = depth; step = Leaf leaf }) ∷ []
+pattern_nodes depth (class ∷ classes) leaf = (record { depth = depth; step = Class class }) ∷ pattern_nodes (suc depth) classes leaf
+
 -- the nodes of classes stand after others, from a place of the pattern up to a depth
 pub record Reaches (old new : List Node) (classes : List (List ℕ)) (from depth : ℕ) : Type 0 where
   pub known : (held : List Held) → known_from held [] new ≡ known_from held [] old
@@ -112,6 +117,7 @@ pub record Reaches (old new : List Node) (classes : List (List ℕ)) (from depth
   pub rooted : IsRooted 0 old → IsRooted 0 new
   pub ranges : (count : ℕ) → AreRanges count old → AreRanges count new
   pub size : length new + from ≡ length old + depth
+  pub nodes : (leaf : leaves.Leaf) → new ++ pattern_nodes depth (drop depth classes) leaf ≡ old ++ pattern_nodes from (drop from classes) leaf
 
 -- the nodes of a pattern and its leaf stand after others
 pub record Pushes (old new : List Node) (classes : List (List ℕ)) (leaf : leaves.Leaf) : Type 0 where

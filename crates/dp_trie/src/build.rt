@@ -1,9 +1,10 @@
 //! Building a tree of patterns from the entries of a context in their order.
-ghost use Rattle.std.specs.Prelude.{◌≡◌, ◌↔◌, ◌+◌, ◌≤◌, [], ◌∷◌, ◌++◌, length, map, take, IfOk, OnOk, IsTrue, sum_by};
+ghost use Rattle.std.specs.Prelude.{◌≡◌, ◌↔◌, ◌+◌, ◌≤◌, [], ◌∷◌, ◌++◌, length, map, take, drop, IfOk, OnOk, IsTrue, sum_by};
 ghost use Rattle.std.specs.List.{AllByRecursion};
+ghost use Rattle.dp_trie.specs.Entered.{shared_count, StandOnce};
 ghost use Rattle.dp_trie.specs.Known.{most_added};
 ghost use Rattle.dp_trie.specs.steps.Ranked.{known_now, hold_of, IsPattern};
-ghost use Rattle.dp_trie.specs.Tree.{known_from, path_end, AreRanges, IsRooted, Pushes, Reaches};
+ghost use Rattle.dp_trie.specs.Tree.{known_from, path_end, AreRanges, IsRooted, pattern_nodes, Pushes, Reaches};
 
 use crate::node::{Leaf, Node, Step};
 use crate::ranked::{Ranked, group_end, name_of, pattern_of};
@@ -23,6 +24,7 @@ fn shared(left: &[Class], right: &[Class]) -> usize
     ensures left { result ≤ length left.now }
     ensures right { result ≤ length right.now }
     ensures same { take result left.now ≡ take result right.now }
+    ensures value { result ≡ shared_count left.now right.now }
 {
     let most = left.len().min(right.len());
     for place in 0..most {
@@ -67,7 +69,9 @@ fn push_pattern(
     leaf: Leaf,
 ) -> Result<(), NoMemory>
     requires { path_end [] nodes.old.items ≡ above.now }
-    ensures { OnOk result (Pushes nodes.old.items nodes.new.items classes.now leaf) }
+    ensures pushes { OnOk result (Pushes nodes.old.items nodes.new.items classes.now leaf) }
+    ensures added { OnOk result (nodes.new.items ≡ nodes.old.items ++
+        pattern_nodes (shared_count above.now classes.now) (drop (shared_count above.now classes.now) classes.now) leaf) }
 {
     let from = shared(above, classes);
     push_classes(nodes, classes, from)?;
@@ -87,6 +91,7 @@ pub(crate) fn build_nodes(alloc: Global, ranked: &[Ranked<'_>]) -> Result<Vec<No
     ensures ranges { IfOk result (λ nodes. AreRanges (length ranked.now) nodes.items) }
     ensures size { IfOk result (λ nodes. length nodes.items ≤ sum_by (λ known. most_added known.name)
         (map known_now ranked.now)) }
+    ensures once { IfOk result (λ nodes. StandOnce (map hold_of (map known_now ranked.now)) nodes.items) }
 {
     let mut nodes = Vec::new(alloc);
     let mut above: &[Class] = &[];

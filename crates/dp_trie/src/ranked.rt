@@ -1,5 +1,5 @@
 //! The entries of a context in the order in which a look-up asks them.
-ghost use Rattle.std.specs.Prelude.{◌≡◌, ◌<◌, [], ◌∷◌, ◌++◌, length, map, slice_get, filter_map, Some, IfOk, OnOk, IsTrue, ◌↔◌};
+ghost use Rattle.std.specs.Prelude.{◌≡◌, ◌≢◌, ◌<◌, [], ◌∷◌, ◌++◌, length, map, slice_get, filter_map, Some, IfOk, OnOk, IsTrue, ◌↔◌};
 ghost use Rattle.dp_trie.specs.declared.ranked.Ranked.{Ranked};
 ghost use Rattle.dp_pattern.specs.Name.{Plain, Pattern};
 ghost use Rattle.dp_trie.specs.Known.{known_at, KeepsEntries};
@@ -94,11 +94,12 @@ fn are_one(left: &SharedName, right: &SharedName) -> bool
     left.spelling() == right.spelling()
 }
 
-/// The place after the entries that have the name of the one at a place.
+/// The place after the entries that have the name of the one at a place: what stands there, if anything, has another name.
 pub(crate) fn group_end(ranked: &[Ranked<'_>], from: usize, name: &SharedName) -> usize
     requires within { from < length ranked.now }
     requires first { (one : Ranked) → slice_get ranked.now from ≡ Some one → (known_now one).name ≡ name.now }
-    ensures { IsGroup (map known_now ranked.now) from result name.now }
+    ensures group { IsGroup (map known_now ranked.now) from result name.now }
+    ensures apart { (next : Ranked) → slice_get ranked.now result ≡ Some next → (known_now next).name ≢ name.now }
 {
     let mut until = from + 1;
     while let Some(next) = ranked.get(until) {

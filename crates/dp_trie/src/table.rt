@@ -4,6 +4,7 @@ ghost use Rattle.std.specs.List.{AllByRecursion};
 ghost use Rattle.std.specs.Option.{option_map};
 ghost use Rattle.dp_pattern.specs.Dashes.{undashed};
 ghost use Rattle.dp_trie.specs.Asked.{is_more, wants, asked, has_label, hit_of};
+ghost use Rattle.dp_trie.specs.Entered.{entered, StandOnce};
 ghost use Rattle.dp_trie.specs.Known.{KeepsEntries, class_count, most_nodes};
 ghost use Rattle.dp_trie.specs.steps.Labels.{AreLabels};
 ghost use Rattle.dp_trie.specs.steps.Leaps.{AreLeaps};
@@ -41,6 +42,7 @@ pub(crate) struct Table {
 
 impl Model for Table {
     ghost use Rattle.std.specs.Prelude.{◌≤◌, [], ◌++◌, length};
+    ghost use Rattle.dp_trie.specs.Entered.{StandOnce};
     ghost use Rattle.dp_trie.specs.Known.{KeptContext, most_nodes};
     ghost use Rattle.dp_trie.specs.steps.Labels.{AreLabels};
     ghost use Rattle.dp_trie.specs.steps.Leaps.{AreLeaps};
@@ -63,7 +65,8 @@ impl Model for Table {
         × AreLabels (known_plain table.plain.items table.names.items ++ known_from table.held.items [] table.nodes.items)
         table.labels.items
         × (length table.nodes.items
-        ≤ most_nodes (known_plain table.plain.items table.names.items ++ known_from table.held.items [] table.nodes.items)) };
+        ≤ most_nodes (known_plain table.plain.items table.names.items ++ known_from table.held.items [] table.nodes.items))
+        × StandOnce table.held.items table.nodes.items };
 }
 
 /// Whether the name is plain.
@@ -134,9 +137,12 @@ fn find_in_parts(
     requires order { AreInOrder (known_plain plain.now names.now) }
     requires tree { IsTree held.now nodes.now ends.now }
     requires leaps { AreLeaps nodes.now ends.now leaps.now }
+    requires once { StandOnce held.now nodes.now }
     ensures hit { result.hit ≡ option_map hit_of
         (find (asked (is_more question) (wants question) (undashed digits.now.text.now))
         (known_plain plain.now names.now ++ known_from held.now [] nodes.now)) }
+    ensures count { result.count ≡ entered (is_more question) (wants question) (undashed digits.now.text.now)
+        (known_plain plain.now names.now ++ known_from held.now [] nodes.now) }
     ensures most { result.count ≤ length nodes.now }
     ensures least { MatchOption
         (find (asked (is_more question) (wants question) (undashed digits.now.text.now))
@@ -183,6 +189,8 @@ impl Table {
     pub(crate) fn find(&self, question: Question, digits: &Digits<'_>) -> Counted
         ensures hit { result.hit ≡ option_map hit_of
             (find (asked (is_more question) (wants question) (undashed digits.now.text.now)) self.now.entries) }
+        ensures count { result.count ≡ entered (is_more question) (wants question) (undashed digits.now.text.now)
+            self.now.entries }
         ensures most { result.count ≤ self.now.size }
         ensures least { MatchOption
             (find (asked (is_more question) (wants question) (undashed digits.now.text.now)) self.now.entries)

@@ -1,11 +1,13 @@
 //! A dialplan as tries.
-ghost use Rattle.std.specs.Prelude.{◌≡◌, ◌≤◌, false, is_some, sum_by, find, IfOk, MatchOption};
+ghost use Rattle.std.specs.Prelude.{◌≡◌, ◌-◌, ◌^◌, ◌≤◌, min, false, is_some, sum_by, find, IfOk, MatchOption};
 ghost use Rattle.std.specs.Option.{option_map};
 ghost use Rattle.dp_lookup.specs.FoundEntry.{found_entry, found_label, goes_on_more};
 ghost use Rattle.dp_pattern.specs.Dashes.{undashed};
 ghost use Rattle.dp_plan.specs.Plan.{PlanOf};
 ghost use Rattle.dp_trie.specs.Asked.{is_more, wants, asked, has_label, hit_of};
+ghost use Rattle.dp_trie.specs.Entered.{entered, entered_first};
 ghost use Rattle.dp_trie.specs.Known.{Keeps, FindsPattern, class_count, kept_at, nodes_at, most_nodes, found_first};
+ghost use Rattle.dp_trie.specs.declared.question.Question.TheVariants.{Priority};
 
 use crate::digits::Digits;
 use crate::question::Question;
@@ -43,6 +45,8 @@ impl Model for Trie {
 fn find_at(tables: &[Table], number: usize, question: Question, digits: &Digits<'_>) -> Counted
     ensures hit { result.hit ≡ option_map hit_of
         (find (asked (is_more question) (wants question) (undashed digits.now.text.now)) (kept_at tables.now number)) }
+    ensures count { result.count ≡ entered (is_more question) (wants question) (undashed digits.now.text.now)
+        (kept_at tables.now number) }
     ensures most { result.count ≤ nodes_at tables.now number }
     ensures least { MatchOption
         (find (asked (is_more question) (wants question) (undashed digits.now.text.now)) (kept_at tables.now number))
@@ -61,6 +65,8 @@ fn find_at(tables: &[Table], number: usize, question: Question, digits: &Digits<
 fn find_first(tables: &[Table], order: &[usize], question: Question, digits: &Digits<'_>) -> Counted
     ensures hit { result.hit ≡ option_map hit_of
         (found_first tables.now (asked (is_more question) (wants question) (undashed digits.now.text.now)) order.now) }
+    ensures count { result.count ≡ min (entered_first tables.now (is_more question) (wants question)
+        (undashed digits.now.text.now) order.now) (2 ^ 64 - 1) }
     ensures most { result.count ≤ sum_by (nodes_at tables.now) order.now }
     ensures least { MatchOption
         (found_first tables.now (asked (is_more question) (wants question) (undashed digits.now.text.now)) order.now)
@@ -84,6 +90,8 @@ fn find_first(tables: &[Table], order: &[usize], question: Question, digits: &Di
 fn look_up(tables: &[Table], order: &SearchOrder, question: Question, text: &[u8]) -> Counted
     ensures hit { result.hit ≡ option_map hit_of
         (found_first tables.now (asked (is_more question) (wants question) (undashed text.now)) order.now.contexts) }
+    ensures count { result.count ≡ min (entered_first tables.now (is_more question) (wants question)
+        (undashed text.now) order.now.contexts) (2 ^ 64 - 1) }
     ensures most { result.count ≤ sum_by (nodes_at tables.now) order.now.contexts }
     ensures least { MatchOption
         (found_first tables.now (asked (is_more question) (wants question) (undashed text.now)) order.now.contexts)
@@ -154,7 +162,8 @@ impl Trie {
     }
 
     /// The entry of the order's contexts that matches the dialled text and has the priority, as `dp_lookup::find` gives
-    /// it, and how many nodes were entered. Each entry into a node raises that count by one. It takes no memory.
+    /// it, and how many nodes were entered. Each entry into a node raises that count by one, in each of the contexts up to
+    /// the one that answers. The count stays at 18,446,744,073,709,551,615 where it would be more. It takes no memory.
     pub fn find_counted(
         &self,
         order: &SearchOrder,
@@ -163,6 +172,8 @@ impl Trie {
     ) -> (Option<EntryId>, usize)
         ensures found { (plan : PlanOf) → Keeps plan self.now
             → result.0 ≡ found_entry plan order.now.contexts text.now priority }
+        ensures count { result.1 ≡ min (entered_first self.now false (wants (Priority priority)) (undashed text.now)
+            order.now.contexts) (2 ^ 64 - 1) }
         ensures most { result.1 ≤ sum_by (nodes_at self.now) order.now.contexts }
         ensures least { (plan : PlanOf) → Keeps plan self.now → FindsPattern plan result.0 result.1 }
     {

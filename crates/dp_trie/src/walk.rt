@@ -4,6 +4,7 @@ ghost use Rattle.std.specs.Option.{option_map};
 ghost use Rattle.dp_pattern.specs.Walk.{classes_of};
 ghost use Rattle.dp_trie.specs.Asked.{is_more, wants, asked, hit_of};
 ghost use Rattle.dp_pattern.specs.Dashes.{undashed};
+ghost use Rattle.dp_trie.specs.Entered.{tree_entered};
 ghost use Rattle.dp_trie.specs.steps.Digits.{Stands};
 ghost use Rattle.dp_trie.specs.declared.walk.Visit.TheVariants.{Enters, Fails};
 ghost use Rattle.dp_trie.specs.steps.Leaps.{AreLeaps};
@@ -156,6 +157,8 @@ pub(crate) fn find_in_tree(
     ensures hit { result.hit ≡ option_map hit_of
         (find (asked (is_more question) (wants question) (undashed digits.now.text.now))
         (known_from held.now [] nodes.now)) }
+    ensures count { result.count ≡ tree_entered held.now (is_more question) (wants question)
+        (undashed digits.now.text.now) [] nodes.now }
     ensures most { result.count ≤ length nodes.now }
     ensures least { MatchOption
         (find (asked (is_more question) (wants question) (undashed digits.now.text.now))

@@ -76,6 +76,32 @@ count ,1→0";
     check_nodes(&rt, rt.alloc(), text)
 }
 
+/// The entries of one name have one end, also where one of them has a label: the class and the end are entered, whichever
+/// priority is asked for.
+#[test]
+fn counted_name_of_two_priorities(rt: HostRuntime) -> Result<(), Fail> {
+    let text = b"[main]\ninclude => far\nexten => _X,1,one\nexten => _X,2(here),two\n\
+[far]\nexten => _X,3,three\nexten => _X,4(there),four\nexten => _X.,5,five\n";
+    let asked = "\
+find 5,2→main two
+label 5,here→2
+label 5,there→4
+count 5,1→2
+count 5,2→2
+count 5,3→4
+count 5,4→4
+count 5,5→5
+count 55,2→5
+count 55,5→5
+count a,1→0
+count ,1→0";
+    check_tries(rt.alloc(), text, b"main", asked)?;
+    let asked = "\
+count 5,3→2
+count 5,2→3";
+    check_tries(rt.alloc(), text, b"far", asked)
+}
+
 /// The nodes that are entered count in each context that is asked, up to the one that answers.
 #[test]
 fn rows_of_several_contexts(rt: HostRuntime) -> Result<(), Fail> {

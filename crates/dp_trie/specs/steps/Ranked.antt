@@ -32,7 +32,7 @@ IsPlain (Pattern classes tail) = ⊥
 abbrev pub AreNamed : Meaning → List Known → Type 0
 AreNamed name known = AllByRecursion (λ one. one.name ≡ name) known
 
--- the entries from one place up to another are all that have the name of the first, among those after it
+-- the entries from one place up to another, of which there is one at least, have one name
 pub record IsGroup (known : List Known) (from until : ℕ) (name : Meaning) : Type 0 where
   pub later : from < until
   pub within : until ≤ length known

@@ -10,4 +10,4 @@ loop-first-preserved c =
     let same = c.new-name.ensures ∙ (c.in_ok-from_slice.ensures {u = tt}).items in
     rw pushed
     (names-push c.args.ranked.now c.loop-first.names.items c.new-name.result c.loop-first.from c.group_end-until.result c.loop-first.invariant
-    (subst (λ (m : Meaning). IsGroup (map known_now c.args.ranked.now) c.loop-first.from c.group_end-until.result m) (sym (ap Plain same ∙ (c.plain_of.ensures ∙ c.name_of-name.ensures))) c.group_end-until.ensures))
+    (subst (λ (m : Meaning). IsGroup (map known_now c.args.ranked.now) c.loop-first.from c.group_end-until.result m) (sym (ap Plain same ∙ (c.plain_of.ensures ∙ c.name_of-name.ensures))) c.group_end-until.ensures.group))

@@ -1,9 +1,11 @@
-use Rattle.std.proofs.Common.{subst, sym, ap, ◌∙◌, ◌++◌, [], map}
+use Rattle.std.proofs.Common.{List, subst, sym, ap, ◌∙◌, ◌++◌, [], map}
+use Rattle.dp_trie.specs.Entered.{StandOnce}
 use Rattle.dp_trie.specs.steps.Labels.{AreLabels}
 use Rattle.dp_trie.specs.steps.Leaps.{AreLeaps}
 use Rattle.dp_trie.specs.Names.{known_plain}
 use Rattle.dp_trie.specs.steps.Ranked.{known_now}
 use Rattle.dp_trie.specs.Tree.{AreLinked, known_from}
+use Rattle.dp_trie.specs.declared.node.Held.{Held}
 use Rattle.dp_trie.proofs.TableLemmas.{order-parts, whole-known, names-known, tree-known, names-order, names-ranges, is-tree, tree-size}
 use Rattle.dp_trie.proofs.table.build_table.Goals as goal
 
@@ -30,4 +32,5 @@ invariant_of-result c =
       leaps,
       subst (λ entries. AreLabels entries c.in_ok-labels.labels.items) (sym entries) (c.in_ok-labels.ensures {u = tt}),
       tree-size rest c.in_ok-held.held.items c.in_ok-nodes.nodes.items held tree (known_plain c.in_ok-plain.plain.items c.in_ok-names.names.items) (c.in_ok-nodes.ensures.size),
+      subst (λ (h : List Held). StandOnce h c.in_ok-nodes.nodes.items) (sym held) (c.in_ok-nodes.ensures.once),
     )

@@ -5,6 +5,7 @@ use Rattle.dp_trie.specs.Asked.{is_more, wants, asked, hit_of}
 use Rattle.dp_trie.specs.Known.{Known}
 use Rattle.dp_trie.specs.Names.{known_plain}
 use Rattle.dp_trie.specs.Tree.{known_from}
+use Rattle.dp_trie.proofs.EnteredLemmas.{plain-answers, none-entered, tree-answers}
 use Rattle.dp_trie.proofs.PlainLemmas.{both-some, both-none, no-nodes, none-counted, tree-counted, names-plain, HasAtMost}
 use Rattle.dp_trie.proofs.table.find_in_parts.Goals as goal
 
@@ -42,3 +43,18 @@ pub returns-else-is_empty-clause-least : goal.returns-else-is_empty-clause-least
 returns-else-is_empty-clause-least c =
     subst (λ (o : Option Known). HasAtMost o c.find_in_tree.result.count) (sym (both-none (asked (is_more c.args.question) (wants c.args.question) (undashed c.args.digits.now.text.now)) (known_plain c.args.plain.now c.args.names.now) (known_from c.args.held.now [] c.args.nodes.now) c.in-None.ensures))
     (tree-counted _ c.find_in_tree.result.count c.find_in_tree.ensures.least)
+
+pub returns-in-Some-clause-count : goal.returns-in-Some-clause-count
+returns-in-Some-clause-count c =
+    plain-answers (is_more c.args.question) (wants c.args.question) (undashed c.args.digits.now.text.now) c.args.plain.now c.args.held.now c.args.names.now c.args.nodes.now c.in-Some.hit c.in-Some.ensures
+
+pub returns-then-is_empty-clause-count : goal.returns-then-is_empty-clause-count
+returns-then-is_empty-clause-count c =
+    none-entered (is_more c.args.question) (wants c.args.question) (undashed c.args.digits.now.text.now) c.args.held.now c.args.nodes.now (sym c.is_empty.ensures ∙ c.if-is_empty.true)
+    ∙ tree-answers (is_more c.args.question) (wants c.args.question) (undashed c.args.digits.now.text.now) c.args.plain.now c.args.held.now c.args.names.now c.args.nodes.now c.in-None.ensures
+
+pub returns-else-is_empty-clause-count : goal.returns-else-is_empty-clause-count
+returns-else-is_empty-clause-count c =
+    c.find_in_tree.ensures.count
+    ∙ (c.requires.once.each (is_more c.args.question) (wants c.args.question) (undashed c.args.digits.now.text.now)
+    ∙ tree-answers (is_more c.args.question) (wants c.args.question) (undashed c.args.digits.now.text.now) c.args.plain.now c.args.held.now c.args.names.now c.args.nodes.now c.in-None.ensures)

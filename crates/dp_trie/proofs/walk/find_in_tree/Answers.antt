@@ -21,6 +21,13 @@ returns-in-Holds-clause-least c =
     let hold = after-hold c.args.held.now (is_more c.args.question) (wants c.args.question) (undashed c.args.digits.now.text.now) c.args.nodes.now c.loop-node.place c.loop-node.count c.loop-node.invariant.at c.in-Some.node.now here c.in-Holds.hit (sym c.in-Holds.ensures.visit) in
     hold.least
 
+pub returns-in-Holds-clause-count : goal.returns-in-Holds-clause-count
+returns-in-Holds-clause-count c =
+    let found = c.in-Some.ensures.lookup.3 in
+    let here = slice_get_read c.args.nodes.now _ c.loop-node.place c.in-Some.node.now refl found.0 (found.1 c.in-Some.node.now) in
+    let hold = after-hold c.args.held.now (is_more c.args.question) (wants c.args.question) (undashed c.args.digits.now.text.now) c.args.nodes.now c.loop-node.place c.loop-node.count c.loop-node.invariant.at c.in-Some.node.now here c.in-Holds.hit (sym c.in-Holds.ensures.visit) in
+    hold.counted
+
 pub loop-node-preserved-in-Enters : goal.loop-node-preserved-in-Enters
 loop-node-preserved-in-Enters c =
     let found = c.in-Some.ensures.lookup.3 in
