@@ -1,14 +1,13 @@
 -- What is noted of targets, one after another.
-use Rattle.std.proofs.Common.{◌≡◌, ℕ, suc, ◌+◌, ◌<◌, Bool, true, false, not, ◌||◌, List, [], ◌∷◌, ◌++◌, length, drop, get_or, Some, ap, refl, sym, subst, ◌∙◌, add-one, drop-cons}
+use Rattle.std.proofs.Common.{◌≡◌, ℕ, suc, ◌+◌, ◌<◌, Bool, true, false, ◌||◌, List, [], ◌∷◌, ◌++◌, length, drop, get_or, ap, refl, sym, subst, ◌∙◌, add-one, drop-cons}
 use Rattle.std.specs.List.{filter_map, flat_map, list_any}
 use Rattle.std.proofs.lemmas.Grind.{flat_map-append}
 use Rattle.std.proofs.lemmas.List.Elements.{filter_map-append}
 use Rattle.std.proofs.lemmas.List.Folds.{list_any-append}
 use Rattle.dp_conf.specs.Words.{same_text}
-use Rattle.dp_plan.specs.Plan.{PlanOf}
 use Rattle.dp_plan.specs.Contexts.{PlanContext}
 use Rattle.dp_plan.specs.declared.entry.Entry.{Entry}
-use Rattle.dp_audit.specs.Labels.{AreNamed, Notes, NotesTexts, computes, entries_in, has_name, is_computed, is_computing, named_in, names, names_of, unused_by}
+use Rattle.dp_audit.specs.Labels.{Notes, NotesTexts, computes, entries_in, has_name, is_computed, named_in, names}
 use Rattle.dp_audit.specs.declared.jump.Jump.{Jump}
 use Rattle.dp_audit.specs.declared.labels.Named.{Named}
 
@@ -42,12 +41,6 @@ notes_both a b c x y xs ys first second = record {
       ∙ or_assoc (has_name a label) (list_any (same_text label) xs) (list_any (same_text label) ys)
       ∙ ap (λ o. has_name a label || o) (sym (list_any-append (same_text label) xs ys));
 }
-
--- a label is unused by what is noted
-pub unused_by_named : (plan : PlanOf) (named : Named) (label : List ℕ) → AreNamed plan named →
-    not (named.is_computing || has_name named label) ≡ unused_by (is_computing plan) (names_of plan) (Some label)
-unused_by_named plan named label are =
-    ap (λ o. not (o || has_name named label)) are.computing ∙ ap (λ o. not (is_computing plan || o)) (are.names label)
 
 -- the targets of one list, and then those of another
 pub notes_texts : (jump : Jump) (a b c : Named) (xs ys : List (List ℕ)) → NotesTexts jump a b xs → NotesTexts jump b c ys → NotesTexts jump a c (xs ++ ys)

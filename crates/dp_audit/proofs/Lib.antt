@@ -7,6 +7,7 @@ pub mod HidingLemmas
 pub mod LabelsLemmas
 mod NeighbourLemmas
 pub mod OrderLemmas
+pub mod PiecesLemmas
 pub mod TargetsLemmas
 pub mod UnsetLemmas
 mod cases

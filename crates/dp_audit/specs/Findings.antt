@@ -83,14 +83,14 @@ abbrev pub of_targets : PlanOf → EntryId → Entry → List Finding
 of_targets plan id entry = map (NoTarget id) (missing_targets plan (context_name plan id.context) entry)
 
 -- what is found of the variables in the arguments of the entry, and of its label
-abbrev pub of_texts : PlanOf → EntryId → Entry → List Finding
-of_texts plan id entry = map (Unset id) (unset_names plan entry) ++ found_if (is_unused plan entry) (Unused id)
+abbrev pub of_texts : (List ℕ → Bool) → PlanOf → EntryId → Entry → List Finding
+of_texts known plan id entry = map (Unset id) (unset_names plan entry) ++ found_if (is_unused known plan entry) (Unused id)
 
 -- what is found of the entry of these numbers, where the table has the names that are known
 abbrev pub of_entry : (List ℕ → Bool) → PlanOf → EntryId → Entry → List Finding
 of_entry known plan id entry =
     found_if (not (known entry.application)) (NoApplication id) ++ of_targets plan id entry ++ of_priorities plan id entry
-    ++ of_hidden plan id entry ++ of_texts plan id entry
+    ++ of_hidden plan id entry ++ of_texts known plan id entry
 
 -- what is found of the entry of these numbers; where there is none, nothing
 abbrev pub findings_of_entry : (List ℕ → Bool) → PlanOf → EntryId → List Finding

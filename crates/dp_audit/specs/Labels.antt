@@ -1,14 +1,16 @@
--- The labels of a dialplan that none of its targets names.
-use Rattle.std.specs.Prelude.{◌≡◌, ℕ, Bool, false, not, ◌||◌, List, [], Option, Some, None, if◌then◌else◌}
+-- The labels of a dialplan that nothing in it may name.
+use Rattle.std.specs.Prelude.{◌≡◌, ℕ, Bool, false, not, ◌&&◌, ◌||◌, List, [], Option, Some, None, if◌then◌else◌}
 use Rattle.std.specs.List.{list_any, filter_map, flat_map}
 use Rattle.std.specs.Option.{option_map}
 use Rattle.dp_conf.specs.Words.{same_text}
 use Rattle.dp_plan.specs.Contexts.{PlanContext}
 use Rattle.dp_plan.specs.Plan.{PlanOf}
 use Rattle.dp_plan.specs.declared.entry.Entry.{Entry}
+use Rattle.dp_audit.specs.Pieces.{first_piece, is_held}
 use Rattle.dp_audit.specs.Targets.{jump_of, parts_of, parts_stand, targets_in}
 use Rattle.dp_audit.specs.declared.jump.Jump.{Jump}
 use Rattle.dp_audit.specs.declared.labels.Named.{Named}
+use Rattle.dp_audit.specs.declared.labels.Naming.{Naming}
 
 -- whether a target is computed: what it comes to is not known before a call
 abbrev pub is_computed : Jump → List ℕ → Bool
@@ -67,10 +69,25 @@ pub record AreNamed (plan : PlanOf) (named : Named) : Type 0 where
   pub computing : named.is_computing ≡ is_computing plan
   pub names : (label : List ℕ) → has_name named label ≡ list_any (same_text label) (names_of plan)
 
--- whether the label is one that no target names, where none is computed; an entry without a label has none
-abbrev pub unused_by : Bool → List (List ℕ) → Option (List ℕ) → Bool
-unused_by computing names None = false
-unused_by computing names (Some label) = not (computing || list_any (same_text label) names)
+-- the piece is among those of arguments that are noted
+abbrev pub has_piece : Naming → List ℕ → Bool
+has_piece naming piece = list_any (same_text piece) naming.pieces.keys
 
-unfoldable pub is_unused : PlanOf → Entry → Bool
-is_unused plan entry = unused_by (is_computing plan) (names_of plan) entry.label
+-- what is noted is what may name a label: the targets of the dialplan, and the pieces of the arguments of applications that the
+-- table lacks
+pub record IsNaming (known : List ℕ → Bool) (plan : PlanOf) (naming : Naming) : Type 0 where
+  pub targets : AreNamed plan naming.targets
+  pub pieces : (piece : List ℕ) → has_piece naming piece ≡ is_held known plan piece
+
+-- a label that no target names, where none is computed, and of which the first piece is none of those of the arguments of an
+-- application that the table lacks
+abbrev pub is_unnamed : (List ℕ → Bool) → PlanOf → List ℕ → Bool
+is_unnamed known plan label = not (is_computing plan || list_any (same_text label) (names_of plan)) && not (is_held known plan (first_piece label))
+
+-- whether the label is such a one; an entry without a label has none
+abbrev pub unused_by : (List ℕ → Bool) → PlanOf → Option (List ℕ) → Bool
+unused_by known plan None = false
+unused_by known plan (Some label) = is_unnamed known plan label
+
+unfoldable pub is_unused : (List ℕ → Bool) → PlanOf → Entry → Bool
+is_unused known plan entry = unused_by known plan entry.label

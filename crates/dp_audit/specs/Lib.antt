@@ -4,6 +4,7 @@ pub mod Findings
 pub mod Hidden
 pub mod Labels
 pub mod Orders
+pub mod Pieces
 pub mod Targets
 pub mod Unset
 pub mod steps

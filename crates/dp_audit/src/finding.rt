@@ -19,6 +19,6 @@ pub enum Finding {
     Hidden { entry: EntryId, from: usize },
     /// The arguments of the entry read a variable that nothing sets.
     Unset { entry: EntryId, name: Text },
-    /// The entry has a label that no target names.
+    /// The entry has a label that nothing may name: no target, and no piece of the arguments of an application that the table lacks.
     Unused { entry: EntryId },
 }

@@ -3,7 +3,7 @@ ghost use Rattle.std.specs.Prelude.{◌≡◌, ◌≤◌, ◌<◌, ◌++◌, Som
 ghost use Rattle.std.specs.List.{flat_map, range_with_len};
 ghost use Rattle.dp_audit.specs.Findings as spec;
 ghost use Rattle.dp_audit.specs.steps.Hiding.{AreHidden};
-ghost use Rattle.dp_audit.specs.Labels.{AreNamed};
+ghost use Rattle.dp_audit.specs.Labels.{IsNaming};
 ghost use Rattle.dp_audit.specs.Orders.{order_at};
 ghost use Rattle.dp_audit.specs.steps.Scene.{IsKnown, IsScene};
 ghost use Rattle.dp_audit.specs.Unset.{AreSet};
@@ -16,7 +16,7 @@ use crate::finding::Finding;
 use crate::firsts::firsts_of;
 use crate::gap::{is_gap, lacks_first};
 use crate::hidden::{Hidings, push_hidden};
-use crate::labels::Named;
+use crate::labels::Naming;
 use crate::names::Names;
 use crate::neighbours::{entries_at, greater_marks, lower_marks};
 use crate::order::fill;
@@ -28,12 +28,12 @@ use dp_plan::{Dialplan, Entry, EntryId, NoMemory, Text};
 use dp_trie::Trie;
 use std::alloc::Global;
 
-/// A dialplan with its trie, and what its targets name, what it sets and what it hides.
+/// A dialplan with its trie, and what may name its labels, what it sets and what it hides.
 #[derive(Clone, Copy)]
 struct Known<'a> {
     plan: &'a Dialplan,
     trie: &'a Trie,
-    named: &'a Named,
+    naming: &'a Naming,
     set: &'a SetNames,
     hidden: &'a Hidings,
 }
@@ -68,22 +68,21 @@ fn push_of_priorities(
 }
 
 /// Adds what is found of the texts of the entry: its targets are told before its priorities.
-fn push_of_texts(
+fn push_of_texts<N: Names>(
     findings: &mut Vec<Finding>,
     alloc: Global,
     scene: &Scene<'_>,
     id: EntryId,
     entry: &Entry,
 ) -> Result<(), NoMemory>
-    requires { IsScene id.context scene.now }
-    ensures { OnOk result (findings.new.items ≡ findings.old.items ++ spec.of_texts scene.now.plan.now id entry.now) }
+    requires scene { IsScene id.context scene.now }
+    requires naming { IsNaming N.known scene.now.plan.now scene.now.naming.now }
+    ensures { OnOk result (findings.new.items
+        ≡ findings.old.items ++ spec.of_texts N.known scene.now.plan.now id entry.now) }
 {
     push_unset(findings, alloc, scene.set, id, entry)?;
-    push_if(
-        findings,
-        scene.named.is_unused(entry),
-        Finding::Unused { entry: id },
-    )?;
+    let is_unused = scene.naming.is_unused(alloc, entry)?;
+    push_if(findings, is_unused, Finding::Unused { entry: id })?;
     Ok(())
 }
 
@@ -99,6 +98,7 @@ fn push_of<N: Names>(
 ) -> Result<(), NoMemory>
     requires scene { IsScene id.context scene.now }
     requires there { entry_at scene.now.plan.now id ≡ Some entry.now }
+    requires naming { IsNaming N.known scene.now.plan.now scene.now.naming.now }
     requires finds { finder.old ≡ scene.now.plan.now }
     ensures found { OnOk result (findings.new.items
         ≡ findings.old.items ++ spec.of_entry N.known scene.now.plan.now id entry.now) }
@@ -109,7 +109,7 @@ fn push_of<N: Names>(
     push_missing(findings, alloc, finder, scene.context, id, entry)?;
     push_of_priorities(findings, scene, id, entry)?;
     push_hidden(findings, scene.hidden, id)?;
-    push_of_texts(findings, alloc, scene, id, entry)?;
+    push_of_texts::<N>(findings, alloc, scene, id, entry)?;
     Ok(())
 }
 
@@ -122,6 +122,7 @@ fn push_of_entry<N: Names>(
     id: EntryId,
 ) -> Result<(), NoMemory>
     requires scene { IsScene id.context scene.now }
+    requires naming { IsNaming N.known scene.now.plan.now scene.now.naming.now }
     requires finds { finder.old ≡ scene.now.plan.now }
     ensures found { OnOk result (findings.new.items
         ≡ findings.old.items ++ spec.findings_of_entry N.known scene.now.plan.now id) }
@@ -143,6 +144,7 @@ fn push_of_entries<N: Names>(
     number: usize,
 ) -> Result<(), NoMemory>
     requires scene { IsScene number scene.now }
+    requires naming { IsNaming N.known scene.now.plan.now scene.now.naming.now }
     requires finds { finder.old ≡ scene.now.plan.now }
     ensures found { OnOk result (findings.new.items
         ≡ findings.old.items ++ spec.findings_of_entries N.known scene.now.plan.now number) }
@@ -168,7 +170,7 @@ fn push_by_order<N: Names>(
     order: &SearchOrder,
     number: usize,
 ) -> Result<(), NoMemory>
-    requires known { IsKnown known }
+    requires known { IsKnown N.known known }
     requires finds { finder.old ≡ known.plan.now }
     requires context { context.now ≡ spec.context_name known.plan.now number }
     requires order { order.now.contexts ≡ order_at known.plan.now number }
@@ -187,7 +189,7 @@ fn push_by_order<N: Names>(
         lower: &lower,
         firsts: &firsts,
         context,
-        named: known.named,
+        naming: known.naming,
         set: known.set,
         hidden: known.hidden,
     };
@@ -205,7 +207,7 @@ fn push_of_context<N: Names>(
     number: usize,
 ) -> Result<(), NoMemory>
     requires context { number < context_count known.plan.now }
-    requires known { IsKnown known }
+    requires known { IsKnown N.known known }
     requires finds { finder.old ≡ known.plan.now }
     requires room { context_count known.plan.now ≤ order.old.room }
     ensures found { OnOk result (findings.new.items
@@ -227,7 +229,7 @@ fn findings_of<N: Names>(
     known: Known<'_>,
     order: &mut SearchOrder,
 ) -> Result<Vec<Finding>, NoMemory>
-    requires known { IsKnown known }
+    requires known { IsKnown N.known known }
     requires finds { finder.old ≡ known.plan.now }
     requires room { context_count known.plan.now ≤ order.old.room }
     ensures { IfOk result (λ findings. findings.items
@@ -241,16 +243,16 @@ fn findings_of<N: Names>(
     Ok(findings)
 }
 
-/// What is found in the dialplan, by what its targets name, what it sets and what it hides.
+/// What is found in the dialplan, by what may name its labels, what it sets and what it hides.
 #[tactic(auto, unfolding(crate::specs::Findings::findings_of))]
 fn findings_by<N: Names>(
     alloc: Global,
     plan: &Dialplan,
-    named: &Named,
+    naming: &Naming,
     set: &SetNames,
     hidden: &Hidings,
 ) -> Result<Vec<Finding>, NoMemory>
-    requires named { AreNamed plan.now named.now }
+    requires naming { IsNaming N.known plan.now naming.now }
     requires set { AreSet plan.now set.now }
     requires hidden { AreHidden plan.now hidden.now }
     ensures { IfOk result (λ findings. findings.items ≡ spec.findings_of N.known plan.now) }
@@ -261,7 +263,7 @@ fn findings_by<N: Names>(
     let known = Known {
         plan,
         trie: &trie,
-        named,
+        naming,
         set,
         hidden,
     };
@@ -272,15 +274,16 @@ fn findings_by<N: Names>(
 /// What an audit finds in the dialplan, in the order of the file: of each context first whether it includes itself, and
 /// then of each of its entries whether the table lacks its application, which of its targets lead nowhere, whether it is
 /// followed by a gap, whether its extension has no beginning, from which contexts it is hidden, which variables in its
-/// arguments nothing sets, and whether no target names its label.
+/// arguments nothing sets, and whether nothing may name its label: no target, and no piece of the arguments of an application
+/// that the table lacks.
 ///
 /// It is linear in the dialplan and its search orders, but for what look-ups in tries cost. The error comes only where a
 /// growth was refused.
 pub fn audit<N: Names>(alloc: Global, plan: &Dialplan) -> Result<Vec<Finding>, NoMemory>
     ensures { IfOk result (λ findings. findings.items ≡ spec.findings_of N.known plan.now) }
 {
-    let named = Named::of(alloc, plan)?;
+    let naming = Naming::of::<N>(alloc, plan)?;
     let set = SetNames::of(alloc, plan)?;
     let hidden = Hidings::of(alloc, plan)?;
-    findings_by::<N>(alloc, plan, &named, &set, &hidden)
+    findings_by::<N>(alloc, plan, &naming, &set, &hidden)
 }

@@ -1,19 +1,22 @@
-//! Labels that no target names.
-ghost use Rattle.std.specs.Prelude.{◌≡◌, ◌||◌, [], ◌∷◌, IfOk, OnOk};
+//! Labels that nothing may name: no target, and no arguments of an application that a table lacks.
+ghost use Rattle.std.specs.Prelude.{◌≡◌, ◌||◌, Bool, List, ℕ, [], ◌∷◌, IfOk, OnOk};
 ghost use Rattle.std.specs.List.{flat_map, list_any};
 ghost use Rattle.std.specs.Option.{option_map, option_to_list};
 ghost use Rattle.dp_plan.specs.Plan.{PlanOf};
 ghost use Rattle.dp_audit.specs.Labels as spec;
+ghost use Rattle.dp_audit.specs.Pieces as cut;
 ghost use Rattle.dp_audit.specs.Targets.{shown};
 
 use crate::jump::{Jump, Targets, jump_of, parts_of, parts_stand, targets_in};
+use crate::names::Names;
+use crate::pieces::{first_piece, pieces_of};
 use dp_plan::{Context, Dialplan, Entry, NoMemory, Text};
 use indexmap::IndexSet;
 use std::alloc::Global;
 
 /// What the targets of a dialplan name, and whether one of them is computed.
 #[derive(Drop)]
-pub(crate) struct Named {
+struct Named {
     is_computing: bool,
     names: IndexSet<Text>,
 }
@@ -99,7 +102,7 @@ impl Named {
     }
 
     /// What the targets of a dialplan name.
-    pub(crate) fn of(alloc: Global, plan: &Dialplan) -> Result<Self, NoMemory>
+    fn of(alloc: Global, plan: &Dialplan) -> Result<Self, NoMemory>
         ensures { IfOk result (spec.AreNamed plan.now) }
     {
         let mut named = Named {
@@ -116,15 +119,54 @@ impl Named {
     {
         self.is_computing || self.names.contains(label)
     }
+}
 
-    /// Whether the entry has a label that no target names, where no target is computed.
-    #[tactic(auto, unfolding(crate::specs::Labels::is_unused), using(crate::proofs::LabelsLemmas::unused_by_named))]
-    pub(crate) fn is_unused(&self, entry: &Entry) -> bool
-        ensures { (plan : PlanOf) → spec.AreNamed plan self.now → result ≡ spec.is_unused plan entry.now }
+/// What may name a label: the targets of a dialplan, and the arguments of applications that a table lacks.
+#[derive(Drop)]
+pub(crate) struct Naming {
+    targets: Named,
+    pieces: IndexSet<Text>,
+}
+
+impl Naming {
+    /// What may name a label of the dialplan.
+    pub(crate) fn of<N: Names>(alloc: Global, plan: &Dialplan) -> Result<Self, NoMemory>
+        ensures { IfOk result (spec.IsNaming N.known plan.now) }
+    {
+        let targets = Named::of(alloc, plan)?;
+        let pieces = pieces_of::<N>(alloc, plan)?;
+        Ok(Naming { targets, pieces })
+    }
+
+    /// Whether the label's first piece is among those of arguments.
+    fn has_piece(&self, alloc: Global, label: &Text) -> Result<bool, NoMemory>
+        ensures { IfOk result (λ found. found ≡ spec.has_piece self.now (cut.first_piece label.now)) }
+    {
+        let piece = Text::copy_of(alloc, first_piece(label.bytes()))?;
+        Ok(self.pieces.contains(&piece))
+    }
+
+    /// Whether nothing may name the label.
+    fn lacks(&self, alloc: Global, label: &Text) -> Result<bool, NoMemory>
+        ensures { (known : List ℕ → Bool) (plan : PlanOf) → spec.IsNaming known plan self.now
+            → IfOk result (λ unused. unused ≡ spec.is_unnamed known plan label.now) }
+    {
+        if self.targets.may_name(label) {
+            return Ok(false);
+        }
+        let is_piece = self.has_piece(alloc, label)?;
+        Ok(!is_piece)
+    }
+
+    /// Whether the entry has a label that nothing may name.
+    #[tactic(auto, unfolding(crate::specs::Labels::is_unused))]
+    pub(crate) fn is_unused(&self, alloc: Global, entry: &Entry) -> Result<bool, NoMemory>
+        ensures { (known : List ℕ → Bool) (plan : PlanOf) → spec.IsNaming known plan self.now
+            → IfOk result (λ unused. unused ≡ spec.is_unused known plan entry.now) }
     {
         match &entry.label {
-            None => false,
-            Some(label) => !self.may_name(label.text()),
+            None => Ok(false),
+            Some(label) => self.lacks(alloc, label.text()),
         }
     }
 }

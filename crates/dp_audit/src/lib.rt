@@ -15,6 +15,7 @@ mod labels;
 mod names;
 mod neighbours;
 mod order;
+mod pieces;
 mod place;
 mod scene;
 mod spelling;

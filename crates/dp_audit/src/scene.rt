@@ -1,6 +1,6 @@
 //! What the entries of a context are asked by.
 use crate::hidden::Hidings;
-use crate::labels::Named;
+use crate::labels::Naming;
 use crate::spelling::Spelling;
 use crate::unset::SetNames;
 use dp_lookup::SearchOrder;
@@ -20,8 +20,8 @@ pub(crate) struct Scene<'a> {
     pub(crate) firsts: &'a IndexSet<Spelling>,
     /// The context's name.
     pub(crate) context: &'a Text,
-    /// What the targets of the dialplan name.
-    pub(crate) named: &'a Named,
+    /// What may name a label of the dialplan.
+    pub(crate) naming: &'a Naming,
     /// What the dialplan sets.
     pub(crate) set: &'a SetNames,
     /// What the dialplan hides.

@@ -175,3 +175,32 @@ found-texts : findings_of known texts
     ≡ NoApplication (id_of 0 0) ∷ NoTarget (id_of 0 0) (codes "9") ∷ Unused (id_of 0 0) ∷ Unset (id_of 0 1) (codes "X") ∷ []
 unfolding findings_of visit found_entry name_cmp spelling missing_targets hidden_from unset_names names_read is_unused answers parts_of has_opening
 found-texts = refl
+
+-- ---- labels
+
+abbrev with_label : Entry → List ℕ → Entry
+with_label entry label = record entry { label = Some label }
+
+-- an application that the table lacks may name `x` and `z`, and not `xy`
+abbrev held_labels : PlanOf
+held_labels = plan_of (
+    context_of (codes "a") (
+    with_label (entry_of (Plain (codes "1")) 1 (codes "NoOp")) (codes "x")
+    ∷ with_label (entry_of (Plain (codes "1")) 2 (codes "NoOp")) (codes "xy")
+    ∷ with_label (entry_of (Plain (codes "1")) 3 (codes "NoOp")) (codes "z") ∷ []) []
+    ∷ context_of (codes "b") (
+    with_arguments (entry_of (Plain (codes "1")) 1 (codes "Later")) (codes "1?x: z ,s,1") ∷ []) [] ∷ [])
+
+found-held_labels : findings_of known held_labels ≡ Unused (id_of 0 1) ∷ NoApplication (id_of 1 0) ∷ []
+unfolding findings_of visit found_entry name_cmp spelling missing_targets hidden_from unset_names names_read is_unused answers parts_of has_opening
+found-held_labels = refl
+
+-- one that the table has names none by the same arguments
+abbrev known_labels : PlanOf
+known_labels = plan_of (
+    context_of (codes "a") (
+    with_label (with_arguments (entry_of (Plain (codes "1")) 1 (codes "NoOp")) (codes "1?x: z ,s,1")) (codes "x") ∷ []) [] ∷ [])
+
+found-known_labels : findings_of known known_labels ≡ Unused (id_of 0 0) ∷ []
+unfolding findings_of visit found_entry name_cmp spelling missing_targets hidden_from unset_names names_read is_unused answers parts_of has_opening
+found-known_labels = refl

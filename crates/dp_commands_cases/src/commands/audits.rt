@@ -55,6 +55,20 @@ exten => s,1(a),NoOp()\n same => n(b),Goto(b)→Unused c,s,1 a\nok 1 findings\ns
 exten => s,1(a),NoOp()\n same => n(b),Goto(${EXTEN},b)→ok 0 findings\nstatus 0
 exten => s,1(a),NoOp()\n same => n,GosubIf(1?a(x):s,1)→ok 0 findings\nstatus 0
 
+# arguments of an application that the table lacks may name a label, whole and in its own case, and those of another do not
+exten => s,1,GotoIfTime(9:00-17:00,mon-fri,*,*?open:closed,s,1)\n same => n(open),NoOp()\n same => n(closed),NoOp()→NoApplication c,s,1 GotoIfTime\nok 1 findings\nstatus 1
+exten => s,1,GotoIfTime(*,*,*,*? open : closed ,s,1)\n same => n(ope),NoOp()\n same => n(opened),NoOp()\n same => n(Open),NoOp()\n same => n(open),NoOp()→NoApplication c,s,1 GotoIfTime\nUnused c,s,2 ope\nUnused c,s,3 opened\nUnused c,s,4 Open\nok 4 findings\nstatus 1
+exten => s,1(c),Say(a b, c )\n same => n(a),NoOp()\n same => n(b),NoOp()\n same => n(a b),NoOp()→NoApplication c,s,1 Say\nUnused c,s,2 a\nUnused c,s,3 b\nok 3 findings\nstatus 1
+exten => s,1,NoOp(open)\n same => n(open),NoOp(1?open:open)→Unused c,s,2 open\nok 1 findings\nstatus 1
+exten => s,1,Later()\n same => n(a),Later(${a})→NoApplication c,s,1 Later\nNoApplication c,s,2 Later\nUnset c,s,2 a\nUnused c,s,2 a\nok 4 findings\nstatus 1
+
+# what stands before a `:`, within parentheses and round a `^` does so too
+exten => s,1,Later(1?c,s,a:c,s,b)\n same => n(a),NoOp()\n same => n(b),NoOp()→NoApplication c,s,1 Later\nok 1 findings\nstatus 1
+exten => s,1,Later(1?Gosub(s,a(1)):Goto(b))\n same => n(a),Bridge(1,F(c^s^d))\n same => n(b),NoOp()\n same => n(d),NoOp()→NoApplication c,s,1 Later\nNoApplication c,s,2 Bridge\nok 2 findings\nstatus 1
+
+# a label that holds such a byte counts as far as the first
+exten => s,1,Later(a:b)\n same => n(a:b),NoOp()\n same => n(c:b),NoOp()→NoApplication c,s,1 Later\nUnused c,s,3 c:b\nok 2 findings\nstatus 1
+
 # of one entry all that is found, in its order
 exten => s,2(a),No(${X})\nexten => s,4,Goto(9)→NoApplication c,s,2 No\nGap c,s,2 3\nNoFirst c,s,2\nUnset c,s,2 X\nUnused c,s,2 a\nNoTarget c,s,4 9\nok 6 findings\nstatus 1
 ";
@@ -89,6 +103,7 @@ const ROWS: &str = r"
 
 # a label is named wherever the target leads
 [a]\nexten => s,1(x),Goto(b,s,x)\n[b]\nexten => s,1(x),NoOp()\n→ok 0 findings\nstatus 0
+[a]\nexten => s,1(x),NoOp()\n[b]\nexten => s,1(y),Later(x)\n→NoApplication b,s,1 Later\nUnused b,s,1 y\nok 2 findings\nstatus 1
 
 # a faulty dialplan
 abc\n→fault 2 NoSection line 1

@@ -19,7 +19,6 @@ push_of_entries-requires-clause-scene g c = record {
       subst (λ (order : List ℕ). Adds (some_first c.args.known.plan.now order) [] c.in_ok-firsts.firsts.keys)
       (c.contexts.ensures ∙ c.requires.order) c.in_ok-firsts.ensures;
   context = c.requires.context;
-  named = c.requires.known.named;
   set = c.requires.known.set;
   hidden = c.requires.known.hidden;
 }
