@@ -46,7 +46,8 @@ impl Pieces {
         Ok(Pieces { pieces, tail })
     }
 
-    /// The expansion of their text: each group replaced by its value, as `expand_text` does.
+    /// The expansion of their text, where it is the one given: each group replaced by its value, as `expand_text` does.
+    /// With another text they come to bytes of which nothing is said.
     ///
     /// The error comes only where a growth was refused.
     pub fn expand<B, C: Counts>(
@@ -55,8 +56,8 @@ impl Pieces {
         text: &[u8],
         scope: &Scope<'_, B, C>,
     ) -> Result<Vec<u8>, NoMemory>
-        requires { AreOf text.now self.now }
-        ensures { IfOk result (λ bytes. bytes.items ≡ expansion (sight_of C.count scope.now) text.now) }
+        ensures { AreOf text.now self.now
+            → IfOk result (λ bytes. bytes.items ≡ expansion (sight_of C.count scope.now) text.now) }
     {
         let mut bytes = write_pieces(alloc, scope, text, &self.pieces)?;
         bytes.extend_from_slice(text.split_at(self.tail.min(text.len())).1)?;

@@ -6,4 +6,4 @@ use Rattle.dp_machine.proofs.seen.expand_arguments.Goals as goal
 pub returns : goal.returns
 unfolding arguments_seen
 returns c =
-    c.in_ok-bytes.ensures ∙ ap (λ sight. expansion sight c.args.arguments.now) c.scope_of-scope.ensures.sight
+    c.in_ok-bytes.ensures c.requires ∙ ap (λ sight. expansion sight c.args.arguments.now) c.scope_of-scope.ensures.sight
