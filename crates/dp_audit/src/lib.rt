@@ -29,3 +29,4 @@ pub use finding::Finding;
 pub use findings::audit;
 pub use hidden::hidden_is_never_found;
 pub use names::Names;
+pub use pieces::standing_label_is_never_unused;

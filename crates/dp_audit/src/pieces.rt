@@ -1,7 +1,12 @@
 //! The pieces of the arguments of applications that a table lacks, which may name a label.
-ghost use Rattle.std.specs.Prelude.{◌≡◌, ◌<◌, ◌∷◌, [], IfOk, IfSome, MatchOption, OnOk, length, position};
-ghost use Rattle.std.specs.List.{before_first, list_any, slice_split};
+ghost use Rattle.std.specs.Prelude.{◌≡◌, ◌<◌, ◌∷◌, [], Bool, false, IfOk, IfSome, List, MatchOption, OnOk, Some, length, position, ℕ};
+ghost use Rattle.std.specs.List.{list_any, slice_split};
 ghost use Rattle.dp_conf.specs.Words.{same_text};
+ghost use Rattle.dp_plan.specs.Lookup.{entry_at};
+ghost use Rattle.dp_plan.specs.Plan.{PlanOf};
+ghost use Rattle.dp_plan.specs.declared.entry.Entry.{Entry};
+ghost use Rattle.dp_plan.specs.declared.entry.EntryId.{EntryId};
+ghost use Rattle.dp_audit.specs.Labels.{is_unused};
 ghost use Rattle.dp_audit.specs.Pieces as spec;
 ghost use Rattle.dp_audit.specs.steps.Firsts.{Adds};
 
@@ -27,7 +32,6 @@ fn cut_place(text: &[u8]) -> Option<usize>
 
 /// What stands before the first byte at which applications cut their arguments, and what stands after it, where there is one.
 fn cut_first(text: &[u8]) -> (&[u8], Option<&[u8]>)
-    ensures before { result.0.now ≡ before_first spec.cuts text.now }
     ensures pieces { MatchOption result.1 (slice_split spec.cuts text.now ≡ result.0.now ∷ [])
         (λ rest. slice_split spec.cuts text.now ≡ result.0.now ∷ slice_split spec.cuts rest.now) }
     ensures shorter { IfSome result.1 (λ rest. length rest.now < length text.now) }
@@ -109,3 +113,11 @@ pub(crate) fn pieces_of<N: Names>(
     }
     Ok(pieces)
 }
+
+/// A label is never unused where it stands in the arguments of an application that the table lacks, between two bytes at which
+/// applications cut them, or between one and an end, in any dialplan and by any table.
+pub fn standing_label_is_never_unused()
+    ensures { (known : List ℕ → Bool) (plan : PlanOf) (id : EntryId) (other entry : Entry) (label : List ℕ)
+        → entry_at plan id ≡ Some other → known other.application ≡ false → spec.Stands label other.arguments
+        → entry.label ≡ Some label → is_unused known plan entry ≡ false }
+{}

@@ -5,15 +5,8 @@ use Rattle.dp_audit.specs.Pieces.{cuts}
 use Rattle.dp_audit.proofs.PiecesLemmas.{cut_none, cut_some}
 use Rattle.dp_audit.proofs.pieces.cut_first.Goals as goal
 
-pub returns-in-None-clause-before : goal.returns-in-None-clause-before
-returns-in-None-clause-before c = sym (cut_none c.args.text.now (sym c.cut_place.ensures ∙ c.in-None.is)).0
-
 pub returns-in-None-clause-pieces : goal.returns-in-None-clause-pieces
-returns-in-None-clause-pieces c = (cut_none c.args.text.now (sym c.cut_place.ensures ∙ c.in-None.is)).1
-
-pub returns-in-Some-clause-before : goal.returns-in-Some-clause-before
-returns-in-Some-clause-before c =
-    ap (λ (at : ℕ). take at c.args.text.now) (sym (cut_some c.args.text.now c.in-Some.at (sym c.cut_place.ensures ∙ c.in-Some.is)).0)
+returns-in-None-clause-pieces c = cut_none c.args.text.now (sym c.cut_place.ensures ∙ c.in-None.is)
 
 pub returns-in-Some-clause-pieces : goal.returns-in-Some-clause-pieces
 returns-in-Some-clause-pieces c =
