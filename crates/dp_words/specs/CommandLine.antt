@@ -9,7 +9,7 @@ use Rattle.clap.specs.declared.builder.action.ArgAction.TheVariants.{SetTrue}
 use Rattle.dp_conf.specs.Words.{same_text}
 use Rattle.dp_commands.specs.Script.{number_within}
 use Rattle.dp_conf.specs.Numbers.{most_priority}
-use Rattle.dp_program.specs.Entries.{has_entry}
+use Rattle.dp_program.specs.Entries.{fault_named, fault_numbered}
 use Rattle.dp_program.specs.Requests.{RequestOf, joined, check, listing, auditing, matching, explaining, run, debug}
 use Rattle.dp_program.specs.Texts.{OfRun}
 
@@ -114,9 +114,14 @@ threads_in word = option_and_then (λ n. if nat_lt 0 n then Some n else None) (n
 abbrev pub most_code : ℕ
 most_code = 4294967295
 
--- the fault of which a word writes the number, in digits
+-- the first of two, where it is there, and else the second
+abbrev pub or_else : Option ℕ → Option ℕ → Option ℕ
+or_else None second = second
+or_else (Some first) second = Some first
+
+-- the fault of which a word writes the number, in digits, or the name, where just one has it
 abbrev pub fault_in : List ℕ → Option ℕ
-fault_in word = option_and_then (λ n. if has_entry n then Some n else None) (number_within most_code word)
+fault_in word = or_else (option_and_then fault_numbered (number_within most_code word)) (fault_named word)
 
 -- whether a flag is given, which has the value `true` then, and `false` else
 abbrev pub is_set : List ℕ → List Row → Bool

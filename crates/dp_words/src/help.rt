@@ -72,7 +72,8 @@ Example:
 
 /// What the help of `explain` says below its words.
 pub(crate) const EXPLAIN_NOTES: &str = "\
-Prints the number and the name of a fault, when it comes, and an example of it, as the manual has them.
+Prints the number and the name of a fault, or of a refusal of an event, when it comes, and an example of it, as the manual has them.
+CODE is the number or the name; the case of each letter counts. `LeftOut` is the name of 24 and of 32, and is refused.
 
 Example:
   $ pbx explain 20
