@@ -1,5 +1,8 @@
 //! What the help says beside the words of the commands.
 
+/// The version of the program, and the logic of the kit that it is proved with.
+pub(crate) const VERSION: &str = "0.1.0 logic dac8208d650f15bf";
+
 /// What the help says below the commands.
 pub(crate) const PBX_NOTES: &str = "\
 With no command, pbx reads one text from the standard input and runs it: a dialplan, a line `;; script`, and a script. A line

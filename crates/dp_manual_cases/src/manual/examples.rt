@@ -134,12 +134,8 @@ ran 1 -in,s,1 NoOp -> ready -in,s,2
 end 2
 ? 0
 $ pbx --version
-error: unexpected argument '--version' found
-
-Usage: pbx [COMMAND]
-
-For more information, try '--help'.
-? 2
+pbx 0.1.0 logic dac8208d650f15bf
+? 0
 $ pbx run --threads 2 --threads=3 dashed.conf dashed.script
 error: the argument '--threads <N>' cannot be used multiple times
 

@@ -47,7 +47,7 @@ run --threads=two @missing @missing→invalid value 'two' for '--threads <N>': t
 run --threads 2 @missing→the following required arguments were not provided:¶  <SCRIPT>→pbx run --threads <N> <FILE> <SCRIPT>
 debug @missing @missing→the following required arguments were not provided:¶  --break <CONTEXT,EXTEN,PRIORITY>→pbx debug --break <CONTEXT,EXTEN,PRIORITY> <FILE> <SCRIPT>
 debug --break main,s,1 a b c→unexpected argument 'c' found→pbx debug [OPTIONS] --break <CONTEXT,EXTEN,PRIORITY> <FILE> <SCRIPT>
---version→unexpected argument '--version' found→pbx [COMMAND]
+check --version→unexpected argument '--version' found¶¶  tip: to pass '--version' as a value, use '-- --version'→pbx check [OPTIONS] <FILE>
 help dial→unrecognized subcommand 'dial'→pbx [COMMAND]
 ";
 
@@ -95,7 +95,8 @@ Commands:
   help     Print this message or the help of the given subcommand(s)
 
 Options:
-  -h, --help  Print help
+  -h, --help     Print help
+  -V, --version  Print version
 
 With no command, pbx reads one text from the standard input and runs it: a dialplan, a line `;; script`, and a script. A line
 `;; reload` and a second dialplan may stand before the line `;; script`.
@@ -319,8 +320,11 @@ Example:
   end 3
 ";
 
-/// Command lines that ask for help, and what is printed.
-const HELPS: [(&str, &str); 12] = [
+/// What is printed where the version is asked for.
+const VERSION: &str = "pbx 0.1.0 logic dac8208d650f15bf\n";
+
+/// Command lines that ask for help or for the version, and what is printed.
+const HELPS: [(&str, &str); 14] = [
     ("help", PBX_HELP),
     ("-h", PBX_HELP),
     ("--help", PBX_HELP),
@@ -333,6 +337,8 @@ const HELPS: [(&str, &str); 12] = [
     ("debug --help", DEBUG_HELP),
     ("audit --help", AUDIT_HELP),
     ("help explain", EXPLAIN_HELP),
+    ("--version", VERSION),
+    ("-V", VERSION),
 ];
 
 fn check_help<R: Files + Threads + Wait + Sync + AllocGlobal>(

@@ -146,6 +146,14 @@ missing_break : fault_of pbx_app (codes "pbx" ∷ codes "debug" ∷ codes "a.con
 unfolding clap_on_literals
 missing_break = refl
 
+version : refusals_of (codes "pbx" ∷ codes "--version" ∷ []) ≡ kind.DisplayVersion ∷ []
+unfolding clap_on_literals refusals_of
+version = refl
+
+no_version_of_a_command : fault_of pbx_app (codes "pbx" ∷ codes "check" ∷ codes "--version" ∷ []) ≡ kind.UnknownArgument ∷ []
+unfolding clap_on_literals
+no_version_of_a_command = refl
+
 -- words that are refused for their number alone
 no_priority : refusals_of (codes "pbx" ∷ codes "match" ∷ codes "a.conf" ∷ codes "main" ∷ codes "5" ∷ codes "0" ∷ []) ≡ kind.ValueValidation ∷ []
 unfolding clap_on_literals refusals_of
