@@ -1,7 +1,18 @@
--- The manual's entries of the faults, by their numbers. Their texts stand in the source once.
-use Rattle.std.specs.Prelude.{ℕ, Bool, List, [], ◌∷◌, Option, Some, None, is_some, map, unwrap_or, ◌==◌, if◌then◌else◌}
+-- The manual's entries of the faults and of the refusals, by their numbers and by their names. Their texts stand in the source once.
+use Rattle.std.specs.Prelude.{ℕ, Bool, List, [], ◌∷◌, ◌++◌, Option, Some, None, is_some, map, unwrap_or, codes, ◌==◌, if◌then◌else◌}
+use Rattle.std.specs.List.{filter_map}
+use Rattle.std.specs.Option.{option_and_then, option_map_or}
+use Rattle.dp_conf.specs.Cut.{cut_once}
 use Rattle.dp_conf.specs.Lines.{parts_of}
+use Rattle.dp_conf.specs.Words.{same_text}
+use Rattle.dp_plan.specs.declared.fault.PlanKind.{PlanKind}
+use Rattle.dp_plan.specs.declared.fault.PlanKind.TheVariants.{LeftOut}
+use Rattle.dp_plan.specs.declared.fault.Word.{Word}
+use Rattle.dp_plan.specs.declared.fault.Word.TheVariants.{Switch, IgnorePat, CallerId, IncludeTimes, Variable, Hint, OldForm, PriorityWord}
+use Rattle.dp_commands.specs.Codes.{code_number}
 use Rattle.dp_commands.specs.Explained.{line_among}
+use Rattle.dp_commands.specs.declared.fault.Code.{Code}
+use Rattle.dp_commands.specs.declared.fault.Code.TheVariants.{Plan}
 use Rattle.dp_program.specs.declared.entries.TheConstants.{ENTRIES}
 
 -- the entry of a number in a list of them
@@ -24,3 +35,54 @@ entry_of number = unwrap_or (found_entry number) []
 -- the manual's sentence on a fault: the second line of its entry
 abbrev pub sentence_of : ℕ → List ℕ
 sentence_of number = line_among (parts_of (entry_of number)) 2
+
+-- the name in an entry: what stands after the number, in the first line
+abbrev pub name_in : List ℕ → List ℕ
+name_in entry = option_map_or (λ cut. cut.1) (cut_once 32 (line_among (parts_of entry) 1)) []
+
+-- the numbers of the entries that have a name
+abbrev pub numbers_in : List (ℕ × List ℕ) → List ℕ → List ℕ
+numbers_in entries name = filter_map (λ entry. if same_text (name_in entry.1) name then Some entry.0 else None) entries
+
+-- the one of a list that has no other
+abbrev pub only : List ℕ → Option ℕ
+only [] = None
+only (number ∷ []) = Some number
+only (number ∷ next ∷ numbers) = None
+
+-- the number of the fault that has the name, where just one has it
+unfoldable pub found_number : List ℕ → Option ℕ
+found_number name = only (numbers_in (map (λ entry. (entry.0, entry.1.now)) ENTRIES) name)
+
+-- a number, if it is that of a fault
+abbrev pub fault_numbered : ℕ → Option ℕ
+fault_numbered number = if has_entry number then Some number else None
+
+-- the fault that has the name, where just one has it
+abbrev pub fault_named : List ℕ → Option ℕ
+fault_named name = option_and_then fault_numbered (found_number name)
+
+-- the line of the entry of 24 that has a kind of what is left out
+abbrev pub kind_line : Word → ℕ
+kind_line Switch = 5
+kind_line IgnorePat = 8
+kind_line Hint = 11
+kind_line PriorityWord = 14
+kind_line CallerId = 17
+kind_line Variable = 20
+kind_line IncludeTimes = 23
+kind_line OldForm = 26
+
+-- the kind of what is left out, as the manual has it
+abbrev pub kind_of : Word → List ℕ
+kind_of word = line_among (parts_of (entry_of 24)) (kind_line word)
+
+-- what is said of a fault of a context's line: of what is left out its kind, and else the manual's sentence
+abbrev pub said_of_plan : PlanKind → ℕ → List ℕ
+said_of_plan (LeftOut word) number = codes "what this program leaves out: " ++ kind_of word
+said_of_plan _ number = sentence_of number
+
+-- what is said of a fault
+abbrev pub said_of : Code → List ℕ
+said_of (Plan kind) = said_of_plan kind (code_number (Plan kind))
+said_of code = sentence_of (code_number code)

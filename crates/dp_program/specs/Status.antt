@@ -1,11 +1,11 @@
 -- The status of the program, and what is printed beside it.
 use Rattle.std.specs.Prelude.{ℕ, Bool, true, false, List, [], ◌++◌, Option, Some, None, Result, Ok, Err}
 use Rattle.std.specs.Io.KnownBytes.{Appends}
-use Rattle.dp_commands.specs.Codes.{code_number, fault_line}
+use Rattle.dp_commands.specs.Codes.{fault_line}
 use Rattle.dp_commands.specs.Explained.{LineOfFile, line_text, sentence_text}
 use Rattle.dp_commands.specs.declared.fault.PbxFault.{PbxFault}
 use Rattle.dp_commands.specs.declared.fault.PbxFault.TheVariants.{Coded, NoMemory}
-use Rattle.dp_program.specs.Entries.{sentence_of}
+use Rattle.dp_program.specs.Entries.{said_of}
 use Rattle.dp_program.specs.declared.faulted.Faulted.{Faulted}
 
 -- the status of what was answered: that of an answer, and 1 of a fault
@@ -18,9 +18,9 @@ abbrev pub place_text : Option LineOfFile → List ℕ
 place_text None = []
 place_text (Some line) = line_text line
 
--- the explanation of a fault: the line where it stands, and the manual's sentence on it; want of memory has none
+-- the explanation of a fault: the line where it stands, and what is said of it; want of memory has none
 abbrev pub explanation : PbxFault → Option LineOfFile → List ℕ
-explanation (Coded code line) place = place_text place ++ sentence_text (sentence_of (code_number code))
+explanation (Coded code line) place = place_text place ++ sentence_text (said_of code)
 explanation NoMemory place = []
 
 -- the line of a fault, and below it its explanation where that is asked for

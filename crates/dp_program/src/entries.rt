@@ -1,13 +1,15 @@
-//! The manual's entries of the faults.
+//! The manual's entries of the faults, and of the refusals of events.
 ghost use Rattle.std.specs.Prelude.{◌≡◌, ◌==◌, map, option_map};
 ghost use Rattle.dp_program.specs.Entries as spec;
 
 use dp_commands::line_in;
+use dp_conf::cut_once;
+use dp_plan::Word;
 use std::marker::Model;
 
-/// Each fault that has a number, with its entry as it is printed: the number and the name, when the fault comes, and an example. `docs/check`
-/// compares them with the manual's table. 24 has one sentence and example more for each kind of what is left out.
-pub const ENTRIES: [(u32, &str); 33] = [
+/// Each fault and each refusal of an event, with its entry as it is printed: the number and the name, when it comes, and an example.
+/// `docs/check` compares them with the manual's tables. 24 has one sentence and example more for each kind of what is left out.
+pub const ENTRIES: [(u32, &str); 47] = [
     (
         1,
         "\
@@ -257,6 +259,118 @@ example: `[sales]` twice
 ",
     ),
     (
+        40,
+        "\
+40 NoChannel
+no channel has the number
+example: `step 1` as the first line
+",
+    ),
+    (
+        41,
+        "\
+41 NotReady
+a `step` of a channel that waits
+example: `step 1` while channel 1 is in `Wait`
+",
+    ),
+    (
+        42,
+        "\
+42 NotWaiting
+a `digit`, `timeout` or `poll` of a channel that waits for nothing that this could be
+example: `digit 1 5` just after the `start` of channel 1
+",
+    ),
+    (
+        43,
+        "\
+43 NoTimer
+a `timeout` of a channel that waits in a queue, or for a call to devices, for as long as it takes
+example: `timeout 1` while channel 1 is in `Queue(support)`
+",
+    ),
+    (
+        44,
+        "\
+44 NoQueue
+an `offer` of a queue that is not there
+example: `offer support` where no file of queues is given
+",
+    ),
+    (
+        45,
+        "\
+45 NobodyWaiting
+no call waits in the queue for which no agent rings
+example: `offer support` before a call is in the queue
+",
+    ),
+    (
+        46,
+        "\
+46 NoMember
+no member of the queue is free: each is paused, or its agent rings or talks
+example: `offer support` where the queue has no members
+",
+    ),
+    (
+        47,
+        "\
+47 NotRinging
+an `answer` or `decline` of an agent that does not ring
+example: `answer Line/1` before an `offer`
+",
+    ),
+    (
+        48,
+        "\
+48 NotTalking
+a `done` of an agent that does not talk
+example: `done Line/1` before an `answer`
+",
+    ),
+    (
+        49,
+        "\
+49 Ended
+the channel has ended
+example: `step 1` after `hangup 1`
+",
+    ),
+    (
+        50,
+        "\
+50 NumbersSpent
+65,535 calls have come in before this one
+example: the 65,536th `start`
+",
+    ),
+    (
+        51,
+        "\
+51 BadDigit
+the byte is no digit of a telephone
+example: `digit 1 x`
+",
+    ),
+    (
+        52,
+        "\
+52 BadPlan
+a `reload`, and the second dialplan has a fault
+example: `reload` where the second dialplan is `abc`
+",
+    ),
+    (
+        53,
+        "\
+53 NotDialling
+a `result` of a channel that waits for no call to devices
+example: `result 1 BUSY` just after the `start` of channel 1
+",
+    ),
+    (
         60,
         "\
 60 SeatMissing
@@ -319,7 +433,41 @@ fn found_entry(number: u32) -> Option<&'static str>
     entry_in(&ENTRIES, number)
 }
 
-/// The number of a fault that has an entry. A contract sees it as its number.
+/// The name in an entry: what stands after the number, in the first line.
+fn name_in(entry: &str) -> &[u8]
+    ensures { result.now ≡ spec.name_in entry.now }
+{
+    match cut_once(line_in(entry.as_bytes(), 1), b' ') {
+        Some((_, name)) => name,
+        None => b"",
+    }
+}
+
+/// The number of the entry that has the name, where just one of them has it.
+fn number_in(entries: &[(u32, &str)], name: &[u8]) -> Option<u32>
+    ensures { result ≡ spec.only (spec.numbers_in (map (λ entry. (entry.0, entry.1.now)) entries.now) name.now) }
+{
+    let mut found = None;
+    for (number, entry) in entries {
+        if name_in(entry) == name {
+            match found {
+                Some(_) => return None,
+                None => found = Some(*number),
+            }
+        }
+    }
+    found
+}
+
+/// The number of the fault that has the name, where just one has it.
+#[tactic(auto, unfolding(crate::specs::Entries::found_number))]
+fn found_number(name: &[u8]) -> Option<u32>
+    ensures { result ≡ spec.found_number name.now }
+{
+    number_in(&ENTRIES, name)
+}
+
+/// The number of a fault, or of a refusal of an event, that has an entry. A contract sees it as its number.
 #[derive(Clone, Copy, Debug, PartialEq, Eq)]
 pub struct FaultNumber {
     number: u32,
@@ -341,7 +489,7 @@ impl Model for FaultNumber {
 impl FaultNumber {
     ghost use Rattle.std.specs.Prelude.{◌≡◌, true};
     ghost use Rattle.std.specs.Option.{SomeIff};
-    ghost use Rattle.dp_program.specs.Entries.{entry_of, has_entry};
+    ghost use Rattle.dp_program.specs.Entries.{entry_of, fault_named, has_entry};
 
     /// The fault of this number, or None where no fault has it.
     pub fn new(number: u32) -> Option<Self>
@@ -351,6 +499,14 @@ impl FaultNumber {
             return None;
         }
         Some(FaultNumber { number })
+    }
+
+    /// The fault of this name, or None where no fault has it, or more than one. The case of each letter counts.
+    pub fn named(name: &str) -> Option<Self>
+        ensures { result ≡ fault_named name.now }
+    {
+        let number = found_number(name.as_bytes())?;
+        FaultNumber::new(number)
     }
 
     /// The manual's entry of the fault: its number and name, when it comes, and an example, each in a line.
@@ -367,4 +523,28 @@ pub(crate) fn sentence_of(number: u32) -> &'static [u8]
 {
     let entry = found_entry(number).unwrap_or("");
     line_in(entry.as_bytes(), 2)
+}
+
+/// The line of the entry of 24 that has a kind of what is left out.
+fn kind_line(word: Word) -> usize
+    ensures { result ≡ spec.kind_line word }
+{
+    match word {
+        Word::Switch => 5,
+        Word::IgnorePat => 8,
+        Word::Hint => 11,
+        Word::PriorityWord => 14,
+        Word::CallerId => 17,
+        Word::Variable => 20,
+        Word::IncludeTimes => 23,
+        Word::OldForm => 26,
+    }
+}
+
+/// The kind of what is left out, as the manual has it.
+pub(crate) fn kind_of(word: Word) -> &'static [u8]
+    ensures { result.now ≡ spec.kind_of word }
+{
+    let entry = found_entry(24).unwrap_or("");
+    line_in(entry.as_bytes(), kind_line(word))
 }

@@ -3,15 +3,16 @@ ghost use Rattle.std.specs.Prelude.{◌≡◌, ◌||◌, ◌++◌, OnOk, decimal
 ghost use Rattle.std.specs.Option.{option_copied};
 ghost use Rattle.std.specs.Result.{is_err};
 ghost use Rattle.std.specs.Io.KnownBytes.{Appends};
-ghost use Rattle.dp_commands.specs.Codes.{code_number, code_text, fault_line};
+ghost use Rattle.dp_commands.specs.Codes.{code_text, fault_line};
 ghost use Rattle.dp_commands.specs.Explained.{line_text, sentence_text, shown_text, where_text};
-ghost use Rattle.dp_program.specs.Entries.{sentence_of};
+ghost use Rattle.dp_program.specs.Entries.{kind_of, said_of};
 ghost use Rattle.dp_program.specs.Status as spec;
 
-use crate::entries::sentence_of;
+use crate::entries::{kind_of, sentence_of};
 use crate::faulted::Faulted;
 use dp_commands::{Code, FileLine, PbxFault};
 use dp_conf::{WriteFailed, WriteTold};
+use dp_plan::{PlanKind, Word};
 use itoa::{Buffer, Integer};
 
 /// Prints a number in decimal.
@@ -109,14 +110,35 @@ fn print_place<E: WriteTold>(errors: &mut E, line: Option<&FileLine<'_>>) -> Res
     }
 }
 
-/// Prints the manual's sentence on a fault.
+/// Prints that a kind of lines is left out.
+fn print_left_out<E: WriteTold>(errors: &mut E, word: Word) -> Result<(), WriteFailed>
+    ensures ok { OnOk result (Appends (E.contents errors.old) (E.contents errors.new)
+        (codes "what this program leaves out: " ++ kind_of word)) }
+    ensures told { E.has_failed errors.new ≡ (E.has_failed errors.old || is_err result) }
+{
+    errors.write_told(b"what this program leaves out: ")?;
+    errors.write_told(kind_of(word))
+}
+
+/// Prints what is said of a fault: of what is left out its kind, and else the manual's sentence.
+fn print_said<E: WriteTold>(errors: &mut E, code: Code) -> Result<(), WriteFailed>
+    ensures ok { OnOk result (Appends (E.contents errors.old) (E.contents errors.new) (said_of code)) }
+    ensures told { E.has_failed errors.new ≡ (E.has_failed errors.old || is_err result) }
+{
+    match code {
+        Code::Plan(PlanKind::LeftOut(word)) => print_left_out(errors, word),
+        _ => errors.write_told(sentence_of(u32::from(code.number()))),
+    }
+}
+
+/// Prints what is said of a fault, in a line of its own.
 fn print_sentence<E: WriteTold>(errors: &mut E, code: Code) -> Result<(), WriteFailed>
     ensures ok { OnOk result (Appends (E.contents errors.old) (E.contents errors.new)
-        (sentence_text (sentence_of (code_number code)))) }
+        (sentence_text (said_of code))) }
     ensures told { E.has_failed errors.new ≡ (E.has_failed errors.old || is_err result) }
 {
     errors.write_told(b"  ")?;
-    errors.write_told(sentence_of(u32::from(code.number())))?;
+    print_said(errors, code)?;
     errors.write_told(b"\n")
 }
 

@@ -52,6 +52,14 @@ faulty→[main]¶abc¶
 faulty.script→start main 100¶jump 1¶
 priority→[main]¶exten => s,0,NoOp()¶
 name→[main]¶exten => s,1,NoOp()¶exten => _[],1,NoOp()¶
+switched→[main]¶lswitch => Loopback/x¶
+ignoring→[main]¶ignorepat => 9¶
+hinted→[main]¶exten => 100,hint,Line/1¶
+plus→[main]¶exten => s,n+1,NoOp()¶
+slash→[main]¶exten => s/5551234,1,NoOp()¶
+braced→[main]¶exten => ${X},1,NoOp()¶
+timed→[main]¶include => late,9:00-17:00,*,*,*¶
+commas→[main]¶exten => s,1,Wait,5¶
 strategy→[help]¶strategy = best¶
 odd→[main]¶a\tb\u{7f}é c\r¶
 wide→[main]¶xxxxxxxxxxxxxxxxxxxxxxxxxxxxxxxxxxxxxxxxxxxxxxxxxxxxxxxxxxxxxxxxxxxxxxxxxxxxxxxxxxxxxxxxxxxxxxxxxxxxxxxxxxxxxxxxxxxxxxxxxxxxxxxxxxxxxxxxxxxxxxxxxxxxxxxxxxxxxxxxxxxxxxxxxxxxxxxxxxxxxxxxxxxxxxxxxxxxxxxxxxxxxxxxxx¶

@@ -3,13 +3,13 @@
 use Rattle.std.specs.Prelude.{ℕ, Bool, true, false, String, string_bytes, List, [], ◌∷◌, Option, Some, None, nat_lt, map, codes, if◌then◌else◌}
 use Rattle.std.specs.Option.{option_and_then, option_map, option_map_or}
 use Rattle.std.specs.declared.alloc.Global.{Global}
-use Rattle.clap.specs.Simple.{App, new_app, new_rule, with_rule, with_subcommand, subcommand_of}
+use Rattle.clap.specs.Simple.{App, new_app, new_rule, on_top, with_rule, with_subcommand, subcommand_of}
 use Rattle.clap.specs.Walk.{Row, Rule, first_of}
 use Rattle.clap.specs.declared.builder.action.ArgAction.TheVariants.{SetTrue}
 use Rattle.dp_conf.specs.Words.{same_text}
 use Rattle.dp_commands.specs.Script.{number_within}
 use Rattle.dp_conf.specs.Numbers.{most_priority}
-use Rattle.dp_program.specs.Entries.{has_entry}
+use Rattle.dp_program.specs.Entries.{fault_named, fault_numbered}
 use Rattle.dp_program.specs.Requests.{RequestOf, joined, check, listing, auditing, matching, explaining, run, debug}
 use Rattle.dp_program.specs.Texts.{OfRun}
 
@@ -92,10 +92,18 @@ debug_app =
     with_explain (with_files (with_rule (with_more_files (new_app (codes "debug")))
     (required_named_word (codes "CONTEXT,EXTEN,PRIORITY") (codes "break"))))
 
+-- a command that says its version after `--version` or `-V`
+abbrev pub with_version : App → App
+with_version app = on_top (λ shape. record shape { has_version = true }) app
+
+-- the program without its commands
+abbrev pub bare_app : App
+bare_app = with_version (new_app (codes "pbx"))
+
 -- the program's commands
 abbrev pub pbx_app : App
 pbx_app =
-    with_subcommand (with_subcommand (with_subcommand (with_subcommand (with_subcommand (with_subcommand (with_subcommand (new_app (codes "pbx"))
+    with_subcommand (with_subcommand (with_subcommand (with_subcommand (with_subcommand (with_subcommand (with_subcommand bare_app
     check_app.top) list_app.top) match_app.top) run_app.top) debug_app.top) audit_app.top) explain_app.top
 
 -- the priority that a word writes: digits, and a number from 1 to the greatest priority
@@ -114,9 +122,14 @@ threads_in word = option_and_then (λ n. if nat_lt 0 n then Some n else None) (n
 abbrev pub most_code : ℕ
 most_code = 4294967295
 
--- the fault of which a word writes the number, in digits
+-- the first of two, where it is there, and else the second
+abbrev pub or_next : Option ℕ → Option ℕ → Option ℕ
+or_next None second = second
+or_next (Some first) second = Some first
+
+-- the fault of which a word writes the number, in digits, or the name, where just one has it
 abbrev pub fault_in : List ℕ → Option ℕ
-fault_in word = option_and_then (λ n. if has_entry n then Some n else None) (number_within most_code word)
+fault_in word = or_next (option_and_then fault_numbered (number_within most_code word)) (fault_named word)
 
 -- whether a flag is given, which has the value `true` then, and `false` else
 abbrev pub is_set : List ℕ → List Row → Bool

@@ -1,5 +1,6 @@
 //! The command line: what its words ask for.
 ghost use Rattle.std.specs.Prelude.{◌≡◌, IfOk, IfErr, Some, is_some, codes, option_map, true};
+ghost use Rattle.std.specs.Option.{option_and_then};
 ghost use Rattle.clap.specs.Faults.{fault_of};
 ghost use Rattle.clap.specs.Kinds.{FailsBy};
 ghost use Rattle.clap.specs.Matches.{found_of};
@@ -8,6 +9,8 @@ ghost use Rattle.clap.specs.Takes.{takes};
 ghost use Rattle.clap.specs.Values.{kind_of};
 ghost use Rattle.clap.specs.Walk.{first_of, rows_of};
 ghost use Rattle.clap.specs.declared.error.kind.ErrorKind.TheVariants.{MissingRequiredArgument, OutOfMemory, ValueValidation};
+ghost use Rattle.dp_commands.specs.Script.{number_within};
+ghost use Rattle.dp_program.specs.Entries.{fault_numbered};
 ghost use Rattle.dp_program.specs.Requests.{asked};
 ghost use Rattle.dp_program.specs.Texts.{paths_of};
 ghost use Rattle.dp_words.specs.CommandLine as spec;
@@ -95,19 +98,29 @@ fn refuse_threads(alloc: Global, word: &str) -> Result<Error, NoMemory>
 }
 
 /// The fault of which a word writes the number, in digits.
-fn read_fault(word: &str) -> Option<FaultNumber>
-    ensures { result ≡ spec.fault_in word.now }
+fn read_fault_number(word: &str) -> Option<FaultNumber>
+    ensures { result ≡ option_and_then fault_numbered (number_within spec.most_code word.now) }
 {
     let number = number_within(u32::MAX, word.as_bytes())?;
     FaultNumber::new(number)
 }
 
-/// The refusal of a word that writes no number of a fault.
+/// The fault of which a word writes the number, or the name.
+fn read_fault(word: &str) -> Option<FaultNumber>
+    ensures { result ≡ spec.fault_in word.now }
+{
+    match read_fault_number(word) {
+        Some(fault) => Some(fault),
+        None => FaultNumber::named(word),
+    }
+}
+
+/// The refusal of a word that writes no fault.
 fn refuse_fault(alloc: Global, word: &str) -> Result<Error, NoMemory>
     ensures { IfOk result (λ error. kind_of error ≡ ValueValidation) }
 {
     let message = format!(in alloc;
-        "invalid value '{word}' for '<CODE>': no fault has this number"
+        "invalid value '{word}' for '<CODE>': neither the number of a fault nor the name of just one"
     )?;
     refuse(
         explain_command(alloc),

@@ -1,6 +1,6 @@
 //! The program's commands, with what their help says. Each function takes what was made before, or its refusal for want of
 //! memory, which it hands on.
-ghost use Rattle.std.specs.Prelude.{◌≡◌, false, codes};
+ghost use Rattle.std.specs.Prelude.{◌≡◌, false};
 ghost use Rattle.clap.specs.Simple.{App, app_of, new_app, with_rule, with_subcommand};
 ghost use Rattle.clap.specs.Walk.{rule_of};
 ghost use Rattle.clap.specs.declared.builder.command.Command.TheViews.{out-Command as fields_of};
@@ -9,7 +9,7 @@ ghost use Rattle.dp_words.specs.steps.Made.{Makes};
 
 use crate::help::{
     AUDIT_NOTES, CHECK_NOTES, DEBUG_NOTES, EXPLAIN_NOTES, LIST_NOTES, MATCH_NOTES, PBX_NOTES,
-    RUN_NOTES,
+    RUN_NOTES, VERSION,
 };
 use clap::{Arg, ArgAction, Command};
 use dp_plan::NoMemory;
@@ -269,7 +269,7 @@ pub(crate) fn explain_command<'a>(alloc: Global) -> Result<Command<'a>, NoMemory
         "Print what the manual says of a fault",
         EXPLAIN_NOTES,
     );
-    let code = required_word(alloc, "CODE", "The number of the fault, from 1 to 71");
+    let code = required_word(alloc, "CODE", "The number of the fault, from 1 to 71, or its name");
     let explain = with_word(explain, code);
     with_explain(alloc, explain)
 }
@@ -320,7 +320,7 @@ fn debug_command<'a>(alloc: Global) -> Result<Command<'a>, NoMemory>
 
 /// The program's own part of its commands.
 fn bare_command<'a>(alloc: Global) -> Result<Command<'a>, NoMemory>
-    ensures { Makes (new_app (codes "pbx")) result }
+    ensures { Makes spec.bare_app result }
 {
     let pbx = described(
         alloc,
@@ -329,7 +329,7 @@ fn bare_command<'a>(alloc: Global) -> Result<Command<'a>, NoMemory>
         PBX_NOTES,
     );
     let pbx = pbx?.bin_name("pbx")?;
-    Ok(pbx)
+    Ok(pbx.version(VERSION))
 }
 
 /// The program's commands.

@@ -1,5 +1,8 @@
 //! What the help says beside the words of the commands.
 
+/// The version of the program, and the logic of the kit that it is proved with.
+pub(crate) const VERSION: &str = "0.1.0 logic dac8208d650f15bf";
+
 /// What the help says below the commands.
 pub(crate) const PBX_NOTES: &str = "\
 With no command, pbx reads one text from the standard input and runs it: a dialplan, a line `;; script`, and a script. A line
@@ -72,7 +75,8 @@ Example:
 
 /// What the help of `explain` says below its words.
 pub(crate) const EXPLAIN_NOTES: &str = "\
-Prints the number and the name of a fault, when it comes, and an example of it, as the manual has them.
+Prints the number and the name of a fault, or of a refusal of an event, when it comes, and an example of it, as the manual has them.
+CODE is the number or the name; the case of each letter counts. `LeftOut` is the name of 24 and of 32, and is refused.
 
 Example:
   $ pbx explain 20

@@ -134,12 +134,8 @@ ran 1 -in,s,1 NoOp -> ready -in,s,2
 end 2
 ? 0
 $ pbx --version
-error: unexpected argument '--version' found
-
-Usage: pbx [COMMAND]
-
-For more information, try '--help'.
-? 2
+pbx 0.1.0 logic dac8208d650f15bf
+? 0
 $ pbx run --threads 2 --threads=3 dashed.conf dashed.script
 error: the argument '--threads <N>' cannot be used multiple times
 
@@ -345,18 +341,33 @@ $ pbx explain 32
 a strategy that this program leaves out (`random`, `wrandom`, `rrordered`), or another word for `joinempty` or `leavewhenempty` than `yes`, `no`, `strict` and `loose`
 example: `strategy=random`, `joinempty=paused`
 ? 0
+$ pbx explain NoTimer
+43 NoTimer
+a `timeout` of a channel that waits in a queue, or for a call to devices, for as long as it takes
+example: `timeout 1` while channel 1 is in `Queue(support)`
+? 0
 $ pbx explain 16
-error: invalid value '16' for '<CODE>': no fault has this number
+error: invalid value '16' for '<CODE>': neither the number of a fault nor the name of just one
 
 Usage: pbx explain [OPTIONS] <CODE>
 
 For more information, try '--help'.
 ? 2
+@ ignoring.conf
+[main]
+ignorepat => 9
+@
 $ pbx list --explain faulty.conf
 fault 20 BadPriority line 2
   faulty.conf:2
   exten => s,0,NoOp()
   a priority that is neither `n` nor a number from 1 on
+? 1
+$ pbx list --explain ignoring.conf
+fault 24 LeftOut line 2
+  ignoring.conf:2
+  ignorepat => 9
+  what this program leaves out: the key `ignorepat`
 ? 1
 $ pbx check --explain usual.conf
 note 13 UnknownContext

@@ -101,6 +101,13 @@ explain 1→0→1 BlockComment¶a comment begins with `;--` and no third dash (`
 explain 020→0→20 BadPriority¶a priority that is neither `n` nor a number from 1 on¶example: `exten => s,0,NoOp()`¶→
 explain 24→0→24 LeftOut¶what this program leaves out: one of the kinds that `explain 24` lists¶example: `switch => Loopback/x`¶¶the keys `switch`, `lswitch`, `eswitch`¶example: `lswitch => Loopback/x`¶¶the key `ignorepat`¶example: `ignorepat => 9`¶¶the priority `hint`¶example: `exten => 100,hint,Line/1`¶¶the priorities `next`, `s` and `same`, and those with a `+`¶example: `exten => s,n+1,NoOp()`¶¶a `/` in a name: names for one caller¶example: `exten => s/5551234,1,NoOp()`¶¶a `${` in a name, or in its one spelling: variables¶example: `exten => ${X},1,NoOp()`, `exten => _[{$],1,NoOp()`¶¶an include with a comma: times¶example: `include => late,9:00-17:00,*,*,*`¶¶an application with a comma in place of parentheses¶example: `exten => s,1,Wait,5`¶→
 explain 71→0→71 BadBreak¶a break of `debug` that has not three parts, or of which the priority is no number from 1 to 2,147,483,647¶example: `--break main,s`, `--break main,s,0`, `--break main,s,+1`¶→
+# The refusals of events are known too.
+explain 40→0→40 NoChannel¶no channel has the number¶example: `step 1` as the first line¶→
+explain 53→0→53 NotDialling¶a `result` of a channel that waits for no call to devices¶example: `result 1 BUSY` just after the `start` of channel 1¶→
+# A name stands for its number.
+explain NoEquals→0→4 NoEquals¶a line of a section with no `=`¶example: `abc`¶→
+explain NoTimer→0→43 NoTimer¶a `timeout` of a channel that waits in a queue, or for a call to devices, for as long as it takes¶example: `timeout 1` while channel 1 is in `Queue(support)`¶→
+explain --explain DoubleQueue→0→33 DoubleQueue¶a second section of one queue¶example: `[sales]` twice¶→
 # It reads no input.
 explain 33←[main]¶abc¶→0→33 DoubleQueue¶a second section of one queue¶example: `[sales]` twice¶→
 ";
@@ -118,6 +125,15 @@ run --threads 2 --explain @faulty @faulty.script→1→→fault 4 NoEquals line 
 debug --break main,s,1 --explain @faulty @faulty.script→1→→fault 4 NoEquals line 2¶  @faulty:2¶  abc¶  a line of a section with no `=`¶
 check --explain @priority→1→→fault 20 BadPriority line 2¶  @priority:2¶  exten => s,0,NoOp()¶  a priority that is neither `n` nor a number from 1 on¶
 check --explain @name→1→→fault 11 EmptySet line 3¶  @name:3¶  exten => _[],1,NoOp()¶  a set with no member¶
+# Of what is left out stands its kind.
+check --explain @switched→1→→fault 24 LeftOut line 2¶  @switched:2¶  lswitch => Loopback/x¶  what this program leaves out: the keys `switch`, `lswitch`, `eswitch`¶
+check --explain @ignoring→1→→fault 24 LeftOut line 2¶  @ignoring:2¶  ignorepat => 9¶  what this program leaves out: the key `ignorepat`¶
+check --explain @hinted→1→→fault 24 LeftOut line 2¶  @hinted:2¶  exten => 100,hint,Line/1¶  what this program leaves out: the priority `hint`¶
+check --explain @plus→1→→fault 24 LeftOut line 2¶  @plus:2¶  exten => s,n+1,NoOp()¶  what this program leaves out: the priorities `next`, `s` and `same`, and those with a `+`¶
+check --explain @slash→1→→fault 24 LeftOut line 2¶  @slash:2¶  exten => s/5551234,1,NoOp()¶  what this program leaves out: a `/` in a name: names for one caller¶
+check --explain @braced→1→→fault 24 LeftOut line 2¶  @braced:2¶  exten => ${X},1,NoOp()¶  what this program leaves out: a `${` in a name, or in its one spelling: variables¶
+check --explain @timed→1→→fault 24 LeftOut line 2¶  @timed:2¶  include => late,9:00-17:00,*,*,*¶  what this program leaves out: an include with a comma: times¶
+check --explain @commas→1→→fault 24 LeftOut line 2¶  @commas:2¶  exten => s,1,Wait,5¶  what this program leaves out: an application with a comma in place of parentheses¶
 # In the queues, also where the line is none of any text.
 run --explain --queues @strategy @first @first.script→1→→fault 30 BadStrategy line 2¶  @strategy:2¶  strategy = best¶  a strategy that is none¶
 run --explain --queues @faulty @first @first.script→1→→fault 4 NoEquals line 2¶  @faulty:2¶  abc¶  a line of a section with no `=`¶

@@ -30,12 +30,14 @@ audit→the following required arguments were not provided:¶  <FILE>→pbx audi
 audit a b→unexpected argument 'b' found→pbx audit [OPTIONS] <FILE>
 explain→the following required arguments were not provided:¶  <CODE>→pbx explain <CODE>
 explain 20 21→unexpected argument '21' found→pbx explain [OPTIONS] <CODE>
-explain 0→invalid value '0' for '<CODE>': no fault has this number→pbx explain [OPTIONS] <CODE>
-explain 16→invalid value '16' for '<CODE>': no fault has this number→pbx explain [OPTIONS] <CODE>
-explain 72→invalid value '72' for '<CODE>': no fault has this number→pbx explain [OPTIONS] <CODE>
-explain BadPriority→invalid value 'BadPriority' for '<CODE>': no fault has this number→pbx explain [OPTIONS] <CODE>
-explain 4294967316→invalid value '4294967316' for '<CODE>': no fault has this number→pbx explain [OPTIONS] <CODE>
-explain ''→invalid value '' for '<CODE>': no fault has this number→pbx explain [OPTIONS] <CODE>
+explain 0→invalid value '0' for '<CODE>': neither the number of a fault nor the name of just one→pbx explain [OPTIONS] <CODE>
+explain 16→invalid value '16' for '<CODE>': neither the number of a fault nor the name of just one→pbx explain [OPTIONS] <CODE>
+explain 72→invalid value '72' for '<CODE>': neither the number of a fault nor the name of just one→pbx explain [OPTIONS] <CODE>
+explain badPriority→invalid value 'badPriority' for '<CODE>': neither the number of a fault nor the name of just one→pbx explain [OPTIONS] <CODE>
+explain 4294967316→invalid value '4294967316' for '<CODE>': neither the number of a fault nor the name of just one→pbx explain [OPTIONS] <CODE>
+explain LeftOut→invalid value 'LeftOut' for '<CODE>': neither the number of a fault nor the name of just one→pbx explain [OPTIONS] <CODE>
+explain NoEqual→invalid value 'NoEqual' for '<CODE>': neither the number of a fault nor the name of just one→pbx explain [OPTIONS] <CODE>
+explain ''→invalid value '' for '<CODE>': neither the number of a fault nor the name of just one→pbx explain [OPTIONS] <CODE>
 run→the following required arguments were not provided:¶  <FILE>¶  <SCRIPT>→pbx run <FILE> <SCRIPT>
 run @missing→the following required arguments were not provided:¶  <SCRIPT>→pbx run <FILE> <SCRIPT>
 run a b c→unexpected argument 'c' found→pbx run [OPTIONS] <FILE> <SCRIPT>
@@ -45,7 +47,7 @@ run --threads=two @missing @missing→invalid value 'two' for '--threads <N>': t
 run --threads 2 @missing→the following required arguments were not provided:¶  <SCRIPT>→pbx run --threads <N> <FILE> <SCRIPT>
 debug @missing @missing→the following required arguments were not provided:¶  --break <CONTEXT,EXTEN,PRIORITY>→pbx debug --break <CONTEXT,EXTEN,PRIORITY> <FILE> <SCRIPT>
 debug --break main,s,1 a b c→unexpected argument 'c' found→pbx debug [OPTIONS] --break <CONTEXT,EXTEN,PRIORITY> <FILE> <SCRIPT>
---version→unexpected argument '--version' found→pbx [COMMAND]
+check --version→unexpected argument '--version' found¶¶  tip: to pass '--version' as a value, use '-- --version'→pbx check [OPTIONS] <FILE>
 help dial→unrecognized subcommand 'dial'→pbx [COMMAND]
 ";
 
@@ -93,7 +95,8 @@ Commands:
   help     Print this message or the help of the given subcommand(s)
 
 Options:
-  -h, --help  Print help
+  -h, --help     Print help
+  -V, --version  Print version
 
 With no command, pbx reads one text from the standard input and runs it: a dialplan, a line `;; script`, and a script. A line
 `;; reload` and a second dialplan may stand before the line `;; script`.
@@ -223,13 +226,14 @@ Print what the manual says of a fault
 Usage: pbx explain [OPTIONS] <CODE>
 
 Arguments:
-  <CODE>  The number of the fault, from 1 to 71
+  <CODE>  The number of the fault, from 1 to 71, or its name
 
 Options:
       --explain  Print below each fault, and below each note of `check`, where it stands and what the manual says of it
   -h, --help     Print help
 
-Prints the number and the name of a fault, when it comes, and an example of it, as the manual has them.
+Prints the number and the name of a fault, or of a refusal of an event, when it comes, and an example of it, as the manual has them.
+CODE is the number or the name; the case of each letter counts. `LeftOut` is the name of 24 and of 32, and is refused.
 
 Example:
   $ pbx explain 20
@@ -316,8 +320,11 @@ Example:
   end 3
 ";
 
-/// Command lines that ask for help, and what is printed.
-const HELPS: [(&str, &str); 12] = [
+/// What is printed where the version is asked for.
+const VERSION: &str = "pbx 0.1.0 logic dac8208d650f15bf\n";
+
+/// Command lines that ask for help or for the version, and what is printed.
+const HELPS: [(&str, &str); 14] = [
     ("help", PBX_HELP),
     ("-h", PBX_HELP),
     ("--help", PBX_HELP),
@@ -330,6 +337,8 @@ const HELPS: [(&str, &str); 12] = [
     ("debug --help", DEBUG_HELP),
     ("audit --help", AUDIT_HELP),
     ("help explain", EXPLAIN_HELP),
+    ("--version", VERSION),
+    ("-V", VERSION),
 ];
 
 fn check_help<R: Files + Threads + Wait + Sync + AllocGlobal>(

@@ -3,7 +3,7 @@ use Rattle.std.proofs.Common.{◌≡◌, false, [], ◌∷◌, Some, None, codes
 use Rattle.clap.proofs.OnLiterals.{clap_on_literals}
 use Rattle.clap.specs.Faults.{fault_of}
 use Rattle.clap.specs.declared.error.kind.ErrorKind.TheVariants as kind
-use Rattle.dp_program.specs.Entries.{found_entry}
+use Rattle.dp_program.specs.Entries.{found_entry, found_number}
 use Rattle.dp_program.specs.Requests.{joined, check, listing, auditing, matching, explaining, run, debug}
 use Rattle.dp_words.specs.CommandLine.{pbx_app, asked_of, explains_of}
 use Rattle.dp_words.specs.Refusals.{refusals_of}
@@ -55,6 +55,14 @@ explained = refl
 explained_zeros : asked_of (codes "pbx" ∷ codes "explain" ∷ codes "020" ∷ []) ≡ Some (explaining 20)
 unfolding clap_on_literals asked_of found_entry
 explained_zeros = refl
+
+explained_refusal : asked_of (codes "pbx" ∷ codes "explain" ∷ codes "53" ∷ []) ≡ Some (explaining 53)
+unfolding clap_on_literals asked_of found_entry
+explained_refusal = refl
+
+explained_name : asked_of (codes "pbx" ∷ codes "explain" ∷ codes "NoEquals" ∷ []) ≡ Some (explaining 4)
+unfolding clap_on_literals asked_of found_entry found_number
+explained_name = refl
 
 ran : asked_of (codes "pbx" ∷ codes "run" ∷ codes "a.conf" ∷ codes "b.script" ∷ []) ≡ Some (run (record { plan = codes "a.conf"; queues = None; second_plan = None; script = codes "b.script" }) None)
 unfolding clap_on_literals asked_of
@@ -138,6 +146,14 @@ missing_break : fault_of pbx_app (codes "pbx" ∷ codes "debug" ∷ codes "a.con
 unfolding clap_on_literals
 missing_break = refl
 
+version : refusals_of (codes "pbx" ∷ codes "--version" ∷ []) ≡ kind.DisplayVersion ∷ []
+unfolding clap_on_literals refusals_of
+version = refl
+
+no_version_of_a_command : fault_of pbx_app (codes "pbx" ∷ codes "check" ∷ codes "--version" ∷ []) ≡ kind.UnknownArgument ∷ []
+unfolding clap_on_literals
+no_version_of_a_command = refl
+
 -- words that are refused for their number alone
 no_priority : refusals_of (codes "pbx" ∷ codes "match" ∷ codes "a.conf" ∷ codes "main" ∷ codes "5" ∷ codes "0" ∷ []) ≡ kind.ValueValidation ∷ []
 unfolding clap_on_literals refusals_of
@@ -148,8 +164,12 @@ unfolding clap_on_literals refusals_of
 no_threads = refl
 
 no_fault_number : refusals_of (codes "pbx" ∷ codes "explain" ∷ codes "16" ∷ []) ≡ kind.ValueValidation ∷ []
-unfolding clap_on_literals refusals_of found_entry
+unfolding clap_on_literals refusals_of found_entry found_number
 no_fault_number = refl
+
+two_faults : refusals_of (codes "pbx" ∷ codes "explain" ∷ codes "LeftOut" ∷ []) ≡ kind.ValueValidation ∷ []
+unfolding clap_on_literals refusals_of found_entry found_number
+two_faults = refl
 
 all_twice : refusals_of (codes "pbx" ∷ codes "match" ∷ codes "--all" ∷ codes "--all" ∷ codes "a.conf" ∷ codes "main" ∷ codes "5" ∷ []) ≡ kind.ArgumentConflict ∷ []
 unfolding clap_on_literals refusals_of

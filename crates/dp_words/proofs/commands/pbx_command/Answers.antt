@@ -1,12 +1,11 @@
-use Rattle.std.proofs.Common.{codes}
-use Rattle.clap.specs.Simple.{new_app, with_subcommand}
-use Rattle.dp_words.specs.CommandLine.{check_app, list_app, match_app, run_app, debug_app, audit_app, explain_app}
+use Rattle.clap.specs.Simple.{with_subcommand}
+use Rattle.dp_words.specs.CommandLine.{bare_app, check_app, list_app, match_app, run_app, debug_app, audit_app, explain_app}
 use Rattle.dp_words.proofs.commands.pbx_command.Goals as goal
 
 -- each command is added to those before it
 pub returns : goal.returns
 returns c =
-    let step_1 = with_subcommand (new_app (codes "pbx")) check_app.top in
+    let step_1 = with_subcommand bare_app check_app.top in
     let step_2 = with_subcommand step_1 list_app.top in
     let step_3 = with_subcommand step_2 match_app.top in
     let step_4 = with_subcommand step_3 run_app.top in
@@ -18,5 +17,5 @@ returns c =
     (c.with_command-pbx-4.ensures step_3 run_app
     (c.with_command-pbx-3.ensures step_2 match_app
     (c.with_command-pbx-2.ensures step_1 list_app
-    (c.with_command-pbx.ensures (new_app (codes "pbx")) check_app c.bare_command-pbx.ensures c.check_command.ensures)
+    (c.with_command-pbx.ensures bare_app check_app c.bare_command-pbx.ensures c.check_command.ensures)
     c.list_command.ensures) c.match_command.ensures) c.run_command.ensures) c.debug_command.ensures) c.audit_command.ensures) c.explain_command.ensures
