@@ -1,13 +1,17 @@
 -- What a seat gains step after step.
-use Rattle.std.proofs.Common.{◌≡◌, ℕ, ◌+◌, ◌-◌, ◌≤◌, List, [], ◌∷◌, ◌++◌, Some, length, take, drop, refl, sym, ap, subst, ◌∙◌, arith, All}
+use Rattle.std.proofs.Common.{◌≡◌, ℕ, ◌+◌, ◌-◌, Bool, List, [], ◌∷◌, ◌++◌, Option, Some, None, MatchOption, length, take, drop, refl, sym, ap, subst, ◌∙◌, arith, All}
 use Rattle.std.proofs.Math.Seq.{drop-append_seam, take-append_seam}
 use Rattle.std.proofs.lemmas.List.{append-nil, append_assoc, length-append}
 use Rattle.std.proofs.lemmas.List.Elements.{All-push, All-nil, All-take}
 use Rattle.dp_machine.specs.declared.event.Event.TheVariants.{Step as step}
+use Rattle.dp_app.specs.Rows.{Rows}
+use Rattle.dp_machine.specs.World.{World}
+use Rattle.dp_machine.specs.declared.refusal.Refusal.TheVariants.{NoChannel}
 use Rattle.dp_machine.specs.declared.reply.Reply.{Reply}
+use Rattle.dp_machine.specs.declared.reply.Reply.TheVariants.{Refused as refused}
 use Rattle.dp_board.specs.Sittings.{Sitting, call_of}
 use Rattle.dp_board.specs.declared.seat_call.SeatCall.{SeatCall}
-use Rattle.dp_board.specs.Attending.{IsStepOf, AddsSteps, GoesOn, GoesOnAfter, GoesOnToLast, added, IsEnd, IsReason, with_step, last_reply}
+use Rattle.dp_board.specs.Attending.{IsStepOf, AddsSteps, Leaves, GoesOn, GoesOnAfter, GoesOnToLast, added, IsOver, IsEndAfter, IsEnd, IsReason, with_step, last_call}
 use Rattle.dp_board.specs.declared.attend.Why.{Why}
 use Rattle.dp_board.specs.declared.attend.Why.TheVariants.{Ended, TurnsSpent, Refused}
 
@@ -47,8 +51,8 @@ AddsSteps-more channel old seat new place reply before one =
 pub count-more : (channel : ℕ) (seat new : Sitting) (place : ℕ) (reply : Reply) → new ≡ with_step seat channel place reply → length new.told ≡ length seat.told + 1
 count-more channel seat new place reply one = ap (λ (s : Sitting). length s.told) one ∙ length-append seat.told ((call_of place (step channel) reply) ∷ [])
 
--- the last reply is that of the last step
-last-push : (told : List SeatCall) (one : SeatCall) → last_reply (told ++ one ∷ []) ≡ Some one.reply
+-- the last call is that of the last step
+last-push : (told : List SeatCall) (one : SeatCall) → last_call (told ++ one ∷ []) ≡ Some one
 last-push [] one = refl
 last-push (first ∷ []) one = refl
 last-push (first ∷ next ∷ rest) one = last-push (next ∷ rest) one
@@ -58,33 +62,42 @@ added-more : (channel : ℕ) (old seat new : Sitting) (place : ℕ) (reply : Rep
 added-more channel old seat new place reply before one =
     added-is old new (added old seat ++ (call_of place (step channel) reply) ∷ []) (told-more channel old seat new place reply before one)
 
-pub last-more : (channel : ℕ) (old seat new : Sitting) (place : ℕ) (reply : Reply) → AddsSteps channel old seat → new ≡ with_step seat channel place reply → last_reply (added old new) ≡ Some reply
+pub last-more : (channel : ℕ) (old seat new : Sitting) (place : ℕ) (reply : Reply) → AddsSteps channel old seat → new ≡ with_step seat channel place reply → last_call (added old new) ≡ Some (call_of place (step channel) reply)
 last-more channel old seat new place reply before one =
-    ap last_reply (added-more channel old seat new place reply before one) ∙ last-push (added old seat) (call_of place (step channel) reply)
+    ap last_call (added-more channel old seat new place reply before one) ∙ last-push (added old seat) (call_of place (step channel) reply)
 
 -- before the first step nothing has ended it
-pub GoesOnAfter-none : (seat : Sitting) → GoesOnAfter (added seat seat)
-GoesOnAfter-none seat = subst GoesOnAfter (sym (added-is seat seat [] (sym (append-nil seat.told)))) (All-nil (λ (told : SeatCall). GoesOn told.reply))
+pub GoesOnAfter-none : (rows : Rows) (first : World) (channel : ℕ) (seat : Sitting) → GoesOnAfter rows first channel (added seat seat)
+GoesOnAfter-none rows first channel seat = subst (GoesOnAfter rows first channel) (sym (added-is seat seat [] (sym (append-nil seat.told)))) (All-nil (GoesOn rows first channel))
 
 -- nor after one step more, where that does not
-pub GoesOnAfter-more : (channel : ℕ) (old seat new : Sitting) (place : ℕ) (reply : Reply) → AddsSteps channel old seat → new ≡ with_step seat channel place reply → GoesOnAfter (added old seat) → GoesOn reply → GoesOnAfter (added old new)
-GoesOnAfter-more channel old seat new place reply before one on goes =
-    subst GoesOnAfter (sym (added-more channel old seat new place reply before one)) (All-push (λ (told : SeatCall). GoesOn told.reply) (added old seat) (call_of place (step channel) reply) on goes)
+pub GoesOnAfter-more : (rows : Rows) (first : World) (channel : ℕ) (old seat new : Sitting) (place : ℕ) (reply : Reply) → AddsSteps channel old seat → new ≡ with_step seat channel place reply → GoesOnAfter rows first channel (added old seat) → GoesOn rows first channel (call_of place (step channel) reply) → GoesOnAfter rows first channel (added old new)
+GoesOnAfter-more rows first channel old seat new place reply before one on goes =
+    subst (GoesOnAfter rows first channel) (sym (added-more channel old seat new place reply before one)) (All-push (GoesOn rows first channel) (added old seat) (call_of place (step channel) reply) on goes)
 
 -- the last step may end it
-pub GoesOnToLast-more : (channel : ℕ) (old seat new : Sitting) (place : ℕ) (reply : Reply) → AddsSteps channel old seat → new ≡ with_step seat channel place reply → GoesOnAfter (added old seat) → GoesOnToLast (added old new)
-GoesOnToLast-more channel old seat new place reply before one on =
+pub GoesOnToLast-more : (rows : Rows) (first : World) (channel : ℕ) (old seat new : Sitting) (place : ℕ) (reply : Reply) → AddsSteps channel old seat → new ≡ with_step seat channel place reply → GoesOnAfter rows first channel (added old seat) → GoesOnToLast rows first channel (added old new)
+GoesOnToLast-more rows first channel old seat new place reply before one on =
     let more : List SeatCall = added old seat ++ (call_of place (step channel) reply) ∷ [] in
     let count : length more - 1 ≡ length (added old seat) = omega (arith, length-append (added old seat) ((call_of place (step channel) reply) ∷ [])) in
-    subst GoesOnToLast (sym (added-more channel old seat new place reply before one))
-    (subst GoesOnAfter (sym (ap (λ n. take n more) count ∙ take-append_seam (added old seat) ((call_of place (step channel) reply) ∷ []))) on)
+    subst (GoesOnToLast rows first channel) (sym (added-more channel old seat new place reply before one))
+    (subst (GoesOnAfter rows first channel) (sym (ap (λ n. take n more) count ∙ take-append_seam (added old seat) ((call_of place (step channel) reply) ∷ []))) on)
 
 -- where it goes on after all it goes on after all but the last
-pub GoesOnToLast-all : (given : List SeatCall) → GoesOnAfter given → GoesOnToLast given
-GoesOnToLast-all given on = All-take (λ (told : SeatCall). GoesOn told.reply) (length given - 1) given on
+pub GoesOnToLast-all : (rows : Rows) (first : World) (channel : ℕ) (given : List SeatCall) → GoesOnAfter rows first channel given → GoesOnToLast rows first channel given
+GoesOnToLast-all rows first channel given on = All-take (GoesOn rows first channel) (length given - 1) given on
+
+-- whether it is over, by the reply and by what the step left
+pub IsEnd-left : (rows : Rows) (first : World) (channel : ℕ) (told : SeatCall) (ended : Bool) (end : Option Why) → Leaves rows first channel told ended → IsEndAfter ended told.reply end → IsEnd rows first channel told end
+IsEnd-left rows first channel told ended None left after =
+    record { left = subst (Leaves rows first channel told) after.0 left; not_over = after.1; there = after.2 }
+IsEnd-left rows first channel told ended (Some Ended) left after = λ other. subst (Leaves rows first channel told) (after other) left
+IsEnd-left rows first channel told ended (Some TurnsSpent) left after = absurd after
+IsEnd-left rows first channel told ended (Some (Refused reason)) left after = (after.1, after.2)
 
 -- the reason after the last step
-pub IsReason-end : (why : Why) (reply : Reply) (steps turns : ℕ) (given : List SeatCall) → IsEnd reply (Some why) → 1 ≤ steps → last_reply given ≡ Some reply → IsReason why steps turns given
-IsReason-end Ended reply steps turns given end some last = some
-IsReason-end TurnsSpent reply steps turns given end some last = absurd end
-IsReason-end (Refused reason) reply steps turns given end some last = (end.0, last ∙ ap (λ (r : Reply). Some r) end.1)
+pub IsReason-end : (rows : Rows) (first : World) (channel turns : ℕ) (why : Why) (told : SeatCall) (given : List SeatCall) → IsEnd rows first channel told (Some why) → last_call given ≡ Some told → IsReason rows first channel why turns given
+IsReason-end rows first channel turns Ended told given end last = subst (λ call. MatchOption call ⊥ (IsOver rows first channel)) (sym last) end
+IsReason-end rows first channel turns TurnsSpent told given end last = absurd end
+IsReason-end rows first channel turns (Refused reason) told given end last =
+    (end.0, subst (λ call. MatchOption call ⊥ (λ (one : SeatCall). one.reply ≡ refused NoChannel)) (sym last) end.1)

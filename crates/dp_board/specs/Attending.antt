@@ -1,12 +1,16 @@
 -- What a seat gains that attends a channel.
-use Rattle.std.specs.Prelude.{◌≡◌, ◌≢◌, ℕ, ◌-◌, ◌≤◌, List, [], ◌∷◌, ◌++◌, length, take, drop, Option, Some, None, All}
+use Rattle.std.specs.Prelude.{◌≡◌, ◌≢◌, ℕ, ◌-◌, Bool, true, false, List, [], ◌∷◌, ◌++◌, length, take, drop, Option, Some, None, MatchOption, All}
+use Rattle.dp_app.specs.Rows.{Rows}
+use Rattle.dp_machine.specs.World.{World}
 use Rattle.dp_machine.specs.declared.event.Event.TheVariants.{Step as step}
 use Rattle.dp_machine.specs.declared.refusal.Refusal.TheVariants.{NoChannel, Ended as is_over}
 use Rattle.dp_machine.specs.declared.reply.Reply.{Reply}
 use Rattle.dp_machine.specs.declared.reply.Reply.TheVariants.{Refused as refused}
+use Rattle.dp_board.specs.Log.{Log, Replays, has_ended}
 use Rattle.dp_board.specs.Sittings.{Sitting, with_call}
 use Rattle.dp_board.specs.declared.attend.Why.{Why}
 use Rattle.dp_board.specs.declared.attend.Why.TheVariants.{Ended, TurnsSpent, Refused}
+use Rattle.dp_board.specs.declared.entry.Entry.{Entry}
 use Rattle.dp_board.specs.declared.seat_call.SeatCall.{SeatCall}
 
 -- a call that gave the channel its next step
@@ -27,34 +31,59 @@ pub record AddsSteps (channel : ℕ) (old new : Sitting) : Type 0 where
 abbrev pub with_step : Sitting → ℕ → ℕ → Reply → Sitting
 with_step seat channel place reply = with_call seat place (step channel) reply
 
--- the last reply that was told
-abbrev pub last_reply : List SeatCall → Option Reply
-last_reply [] = None
-last_reply (told ∷ []) = Some told.reply
-last_reply (told ∷ next ∷ rest) = last_reply (next ∷ rest)
+-- the last call that was told
+abbrev pub last_call : List SeatCall → Option SeatCall
+last_call [] = None
+last_call (told ∷ []) = Some told
+last_call (told ∷ next ∷ rest) = last_call (next ∷ rest)
 
--- an attendance goes on after this reply: it does not refuse the step since the channel has ended, nor since there is no such channel
-abbrev pub GoesOn : Reply → Type 0
-GoesOn reply = (reply ≢ refused is_over) × (reply ≢ refused NoChannel)
+-- a log that replays from the first world and ends with this step of the channel, and whether the channel has ended in its world
+pub record Leaves (rows : Rows) (first : World) (channel : ℕ) (told : SeatCall) (ended : Bool) : Type 0 where
+  pub before : List Entry
+  pub seat : ℕ
+  pub log : Log
+  pub replays : Replays rows first log
+  pub entries : log.entries ≡ before ++ (record { seat = seat; event = step channel; reply = told.reply }) ∷ []
+  pub place : told.place ≡ length before
+  pub state : has_ended log channel ≡ ended
+
+-- an attendance goes on after this call: it left the channel not ended, and was refused neither since the channel has ended nor since there
+-- is no such channel
+pub record GoesOn (rows : Rows) (first : World) (channel : ℕ) (told : SeatCall) : Type 0 where
+  pub left : Leaves rows first channel told false
+  pub not_over : told.reply ≢ refused is_over
+  pub there : told.reply ≢ refused NoChannel
 
 -- it goes on after each of these calls
-abbrev pub GoesOnAfter : List SeatCall → Type 0
-GoesOnAfter given = All (λ told. GoesOn told.reply) given
+abbrev pub GoesOnAfter : Rows → World → ℕ → List SeatCall → Type 0
+GoesOnAfter rows first channel given = All (GoesOn rows first channel) given
 
 -- it goes on after each of them but the last
-abbrev pub GoesOnToLast : List SeatCall → Type 0
-GoesOnToLast given = GoesOnAfter (take (length given - 1) given)
+abbrev pub GoesOnToLast : Rows → World → ℕ → List SeatCall → Type 0
+GoesOnToLast rows first channel given = GoesOnAfter rows first channel (take (length given - 1) given)
 
--- whether an attendance is over after this reply, by the reply alone
-abbrev pub IsEnd : Reply → Option Why → Type 0
-IsEnd reply None = GoesOn reply
-IsEnd reply (Some Ended) = Unit {0}
-IsEnd reply (Some TurnsSpent) = ⊥
-IsEnd reply (Some (Refused reason)) = (reason ≡ NoChannel) × (reply ≡ refused NoChannel)
+-- the call left the channel ended, or its reply says that the channel had ended
+abbrev pub IsOver : Rows → World → ℕ → SeatCall → Type 0
+IsOver rows first channel told = told.reply ≢ refused is_over → Leaves rows first channel told true
 
--- the reason of an attendance, by the calls that it gave: the channel has ended after one of them, the turns are spent where all
+-- whether an attendance is over after a reply, by it and by whether the channel has ended then
+abbrev pub IsEndAfter : Bool → Reply → Option Why → Type 0
+IsEndAfter ended reply None = (ended ≡ false) × (reply ≢ refused is_over) × (reply ≢ refused NoChannel)
+IsEndAfter ended reply (Some Ended) = reply ≢ refused is_over → ended ≡ true
+IsEndAfter ended reply (Some TurnsSpent) = ⊥
+IsEndAfter ended reply (Some (Refused reason)) = (ended ≡ false) × (reason ≡ NoChannel) × (reply ≡ refused NoChannel)
+
+-- whether an attendance is over after this call
+abbrev pub IsEnd : Rows → World → ℕ → SeatCall → Option Why → Type 0
+IsEnd rows first channel told None = GoesOn rows first channel told
+IsEnd rows first channel told (Some Ended) = IsOver rows first channel told
+IsEnd rows first channel told (Some TurnsSpent) = ⊥
+IsEnd rows first channel told (Some (Refused reason)) = (reason ≡ NoChannel) × (told.reply ≡ refused NoChannel)
+
+-- the reason of an attendance, by the calls that it gave: the channel has ended after the last of them, the turns are spent where all
 -- were taken and none ended it, and it was refused where there is a last one, to which the reply says so
-abbrev pub IsReason : Why → ℕ → ℕ → List SeatCall → Type 0
-IsReason Ended steps turns given = 1 ≤ steps
-IsReason TurnsSpent steps turns given = (steps ≡ turns) × GoesOnAfter given
-IsReason (Refused reason) steps turns given = (reason ≡ NoChannel) × (last_reply given ≡ Some (refused NoChannel))
+abbrev pub IsReason : Rows → World → ℕ → Why → ℕ → List SeatCall → Type 0
+IsReason rows first channel Ended turns given = MatchOption (last_call given) ⊥ (IsOver rows first channel)
+IsReason rows first channel TurnsSpent turns given = (length given ≡ turns) × GoesOnAfter rows first channel given
+IsReason rows first channel (Refused reason) turns given =
+    (reason ≡ NoChannel) × MatchOption (last_call given) ⊥ (λ told. told.reply ≡ refused NoChannel)

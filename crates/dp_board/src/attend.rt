@@ -1,6 +1,8 @@
 //! Attending a channel: step after step, until it ends or the turns are spent.
 ghost use Rattle.std.specs.Prelude.{◌≡◌, ◌+◌, ◌≤◌, length, IfOk, OnErr};
 ghost use Rattle.dp_board.specs.Attending as steps;
+ghost use Rattle.dp_board.specs.Sittings as sittings;
+ghost use Rattle.dp_machine.specs.declared.event.Event.TheVariants.{Step};
 
 use crate::board::Board;
 use crate::seat::Seat;
@@ -39,7 +41,7 @@ pub struct Attended {
 
 /// Why an attendance is over after this reply, where it is: `has_ended` says that the turn left the channel ended.
 fn end_after(reply: Reply, has_ended: bool) -> Option<Why>
-    ensures { steps.IsEnd reply result }
+    ensures { steps.IsEndAfter has_ended reply result }
 {
     if has_ended || reply == Reply::Refused(Refusal::Ended) {
         return Some(Why::Ended);
@@ -69,6 +71,8 @@ impl<T: AppTable, S: Session> Board<T, S> {
         channel: u32,
     ) -> Result<(usize, Reply, bool), NoMemory>
         ensures ok { IfOk result (λ answer. seat.new ≡ steps.with_step seat.old channel answer.0 answer.1) }
+        ensures left { IfOk result (λ answer. steps.Leaves T.rows S.opening channel
+            (sittings.call_of answer.0 (Step channel) answer.1) answer.2) }
         ensures err { OnErr result (seat.new ≡ seat.old) }
     {
         let mut shared = self.shared.lock(rt);
@@ -90,7 +94,8 @@ impl<T: AppTable, S: Session> Board<T, S> {
         turn: u64,
     ) -> Result<(usize, Reply, Option<Why>), NoMemory>
         ensures ok { IfOk result (λ answer. seat.new ≡ steps.with_step seat.old channel answer.0 answer.1) }
-        ensures end { IfOk result (λ answer. steps.IsEnd answer.1 answer.2) }
+        ensures end { IfOk result (λ answer. steps.IsEnd T.rows S.opening channel
+            (sittings.call_of answer.0 (Step channel) answer.1) answer.2) }
         ensures err { OnErr result (seat.new ≡ seat.old) }
     {
         self.wait_for(rt, channel);
@@ -117,8 +122,8 @@ impl<T: AppTable, S: Session> Board<T, S> {
         ensures steps { steps.AddsSteps channel seat.old seat.new }
         ensures bound { length seat.new.told ≤ length seat.old.told + turns }
         ensures count { IfOk result (λ attended. length seat.new.told ≡ length seat.old.told + attended.steps) }
-        ensures on { steps.GoesOnToLast (steps.added seat.old seat.new) }
-        ensures why { IfOk result (λ attended. steps.IsReason attended.why attended.steps turns
+        ensures on { steps.GoesOnToLast T.rows S.opening channel (steps.added seat.old seat.new) }
+        ensures why { IfOk result (λ attended. steps.IsReason T.rows S.opening channel attended.why turns
             (steps.added seat.old seat.new)) }
     {
         for turn in 0..turns {

@@ -143,6 +143,7 @@ impl<T: AppTable, S: Session> Shared<T, S> {
         ensures place { IfOk result (λ told. told.0 ≡ length self.old.entries) }
         ensures logged { IfOk result (λ told. self.new.entries
             ≡ self.old.entries ++ record { seat = seat.old.number; event = event; reply = told.1 } ∷ []) }
+        ensures replays { IfOk result (λ _. log.Replays T.rows S.opening self.new) }
         ensures kept { IfOk result (λ told. seat.new ≡ sittings.with_call seat.old told.0 event told.1) }
         ensures err { OnErr result ((self.new ≡ self.old) × (seat.new ≡ seat.old)) }
     {

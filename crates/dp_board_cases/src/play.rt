@@ -7,7 +7,7 @@ use crate::again::attend_again;
 use crate::gates::act_crossed;
 use crate::pauses::{Paced, act_paced, has_paced};
 use crate::reloads::{act_reload, check_reload};
-use crate::turns::act_turns;
+use crate::turns::{act_hung_up, act_turns};
 use dp_board::{Board, History, Seat, Session};
 use dp_board_fixture::{Crossed, Exchange, SeatReply, machine_of, settle};
 use dp_table::StandardApps;
@@ -33,6 +33,8 @@ pub(super) enum Play {
     Paced(Paced),
     /// The first seat attends one channel after another, through this gate.
     Turns(Crossed),
+    /// The first seat attends one channel after another, each of which is hung up at once, through this gate.
+    HungUp(Crossed),
     /// The second seat puts another dialplan in force between two steps of the first.
     Reload,
     /// There are no seats.
@@ -52,6 +54,7 @@ fn act_one<S: Session, R: Wait + Abort>(
         Play::Paced(gate) => act_paced(rt, alloc, board, seat, gate),
         Play::AttendedAlone => attend_again(rt, alloc, board, seat),
         Play::Turns(gate) => act_turns(rt, alloc, board, seat, gate),
+        Play::HungUp(gate) => act_hung_up(rt, alloc, board, seat, gate),
         _ => act_step(rt, alloc, board, seat),
     }
 }
@@ -105,7 +108,7 @@ fn calls_of(play: &Play) -> usize {
         Play::Crossed(_) | Play::AttendedAlone => 4,
         Play::Paced(_) => 5,
         Play::Turns(_) => 7,
-        Play::Reload => 3,
+        Play::Reload | Play::HungUp(_) => 3,
         Play::Nothing => 0,
     }
 }
@@ -123,7 +126,9 @@ fn check(
         Play::Steps | Play::StepsAlone => {
             check_steps(rt, alloc, told.expect(rt, "two calls"), history);
         }
-        Play::Crossed(gate) | Play::Turns(gate) => assert!(rt; gate.fits(history.entries())),
+        Play::Crossed(gate) | Play::Turns(gate) | Play::HungUp(gate) => {
+            assert!(rt; gate.fits(history.entries()));
+        }
         Play::Paced(gate) => assert!(rt; has_paced(gate)),
         Play::Reload => check_reload(rt, alloc, history),
         _ => {}

@@ -8,8 +8,11 @@ use std::alloc::Global;
 use std::process::Abort;
 use std::sync::Wait;
 
-/// For each attendance on one board the channel, its turns, and how it goes.
-const TURNS: &[(u32, u64, u64, Why)] = &[
+/// For each attendance on one board the channel, its turns, and how it goes: how many steps it gives, and why it is over.
+type Attendances = &'static [(u32, u64, u64, Why)];
+
+/// Channels whose extension has one priority, and one that is not there.
+const TURNS: Attendances = &[
     (1, 0, 0, Why::TurnsSpent),
     (1, 1, 1, Why::TurnsSpent),
     (1, 9, 1, Why::Ended),
@@ -24,12 +27,37 @@ const TURNS: &[(u32, u64, u64, Why)] = &[
 /// The calls that the gate gets of channel 1, and of the others: each attendance counts its turns from 0.
 const GIVEN: (&str, &str) = ("0 ran 0 none 0 refused", "0 refused 0 ran 1 none 0 refused");
 
-/// The gate of the attendances, which holds nobody.
-fn gate() -> Crossed {
-    gate_of(0, 0, GIVEN.0, GIVEN.1)
+/// Channels that the first step hangs up: a step more would be refused, and is not given.
+const HUNG_UP: Attendances = &[
+    (1, 2, 1, Why::Ended),
+    (2, 9, 1, Why::Ended),
+    (1, 2, 1, Why::Ended),
+];
+
+/// The calls that the gate gets then.
+const GIVEN_HUNG_UP: (&str, &str) = ("0 ran 0 refused", "0 ran");
+
+/// The gate of attendances, which holds nobody.
+fn gate(given: (&'static str, &'static str)) -> Crossed {
+    gate_of(0, 0, given.0, given.1)
 }
 
-/// The first seat attends all.
+/// The first seat attends these channels, one after another.
+fn attend_all<S: Session, R: Wait + Abort>(
+    rt: &R,
+    alloc: Global,
+    board: &Board<StandardApps, S>,
+    seat: &mut Seat<S>,
+    gate: &Crossed,
+    attendances: Attendances,
+) {
+    for &(channel, turns, steps, why) in attendances {
+        let attended = attend(rt, alloc, board, seat, channel, gate, turns);
+        assert!(rt; attended == Some(Attended { steps, why }));
+    }
+}
+
+/// The first seat attends channels whose extension has one priority.
 pub(super) fn act_turns<S: Session, R: Wait + Abort>(
     rt: &R,
     alloc: Global,
@@ -38,15 +66,38 @@ pub(super) fn act_turns<S: Session, R: Wait + Abort>(
     gate: &Crossed,
 ) {
     if seat.number() == 0 {
-        for &(channel, turns, steps, why) in TURNS {
-            let attended = attend(rt, alloc, board, seat, channel, gate, turns);
-            assert!(rt; attended == Some(Attended { steps, why }));
-        }
+        attend_all(rt, alloc, board, seat, gate, TURNS);
+    }
+}
+
+/// The first seat attends channels that are hung up.
+pub(super) fn act_hung_up<S: Session, R: Wait + Abort>(
+    rt: &R,
+    alloc: Global,
+    board: &Board<StandardApps, S>,
+    seat: &mut Seat<S>,
+    gate: &Crossed,
+) {
+    if seat.number() == 0 {
+        attend_all(rt, alloc, board, seat, gate, HUNG_UP);
     }
 }
 
 /// The turns are spent at once where there are none, and a channel that is not there is refused, whatever stands in the record before.
 #[test]
 fn turns(rt: HostRuntime) {
-    perform(&rt, rt.alloc(), b"say", b"say", 2, Play::Turns(gate()));
+    perform(&rt, rt.alloc(), b"say", b"say", 2, Play::Turns(gate(GIVEN)));
+}
+
+/// A channel that a step has ended gets no step more, though turns are left.
+#[test]
+fn a_channel_that_is_hung_up_gets_no_step_more(rt: HostRuntime) {
+    perform(
+        &rt,
+        rt.alloc(),
+        b"bye",
+        b"bye",
+        2,
+        Play::HungUp(gate(GIVEN_HUNG_UP)),
+    );
 }

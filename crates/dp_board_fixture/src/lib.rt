@@ -11,9 +11,12 @@ use dp_machine::Reply;
 pub use owned::{Exchange, SeatReply, attend, give, machine_of, settle};
 use std::sync::atomic::{AtomicU64, Ordering};
 
+/// For how many turns of a loop a gate waits.
+const MOST_TURNS: u32 = 10_000_000;
+
 /// Waits until a flag is set, and marks a failure where that takes too long.
 pub fn hold(flag: &AtomicU64, marks: &AtomicU64) {
-    for _ in 0..1_000_000_000u32 {
+    for _ in 0..MOST_TURNS {
         if flag.load(Ordering::SeqCst) != 0 {
             return;
         }

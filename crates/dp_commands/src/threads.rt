@@ -1,5 +1,5 @@
 //! Runs in threads: the events of a script are dealt to the seats of a board, which act at once.
-ghost use Rattle.std.specs.Prelude.{◌≡◌, ◌++◌, ◌<◌, ◌||◌, [], IfOk, IfErr, OnOk, OnErr, length, map, max, true, false, ◌+◌};
+ghost use Rattle.std.specs.Prelude.{◌≡◌, ◌++◌, ◌<◌, ◌||◌, [], None, IfOk, IfErr, OnOk, OnErr, length, map, max, true, false, ◌+◌};
 ghost use Rattle.std.specs.List.{list_any, range_with_len};
 ghost use Rattle.std.specs.Io.KnownBytes.{Appends};
 ghost use Rattle.std.specs.Option.{option_map};
@@ -14,6 +14,8 @@ ghost use Rattle.dp_conf.specs.Answers.{Answers};
 ghost use Rattle.dp_commands.specs.Run as run;
 ghost use Rattle.dp_commands.specs.Script.{turns_of};
 ghost use Rattle.dp_commands.specs.Threads as spec;
+ghost use Rattle.dp_commands.specs.declared.fault.Code.TheVariants.{Settle};
+ghost use Rattle.dp_commands.specs.declared.fault.PbxFault.TheVariants.{Coded};
 
 use crate::begun::{Begun, begin};
 use crate::block::Block;
@@ -35,7 +37,8 @@ use std::thread::Threads;
 /// Why a board was not settled, though each seat was handed in.
 fn settle_fault(fault: SettleFault) -> PbxFault
     requires { spec.misses_no_seat fault ≡ true }
-    ensures { spec.is_settle_fault result ≡ true }
+    ensures code { spec.is_settle_fault result ≡ true }
+    ensures told { result ≡ Coded (Settle fault) None }
 {
     PbxFault::Coded {
         code: Code::Settle(fault),

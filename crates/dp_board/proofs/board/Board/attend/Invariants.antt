@@ -6,5 +6,5 @@ abbrev pub invariant-loop-turn : goal.invariant-loop-turn
 invariant-loop-turn g l = record {
   steps : AddsSteps l.channel l.fn.seat l.seat;
   count : length l.seat.told ≡ length l.fn.seat.told + l.turn;
-  on : GoesOnAfter (added l.fn.seat l.seat);
+  on : GoesOnAfter g.T.AppTable.rows g.S.Session.opening l.channel (added l.fn.seat l.seat);
 }

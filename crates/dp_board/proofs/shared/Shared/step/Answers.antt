@@ -21,3 +21,10 @@ returns-clause-logged g c = search rules
 
 pub returns-clause-kept : goal.returns-clause-kept
 returns-clause-kept g c = search rules
+
+pub returns-clause-replays : goal.returns-clause-replays
+returns-clause-replays g c =
+    let entry : Entry = record { seat = c.seat.inside.number; event = c.args.event; reply = c.in_ok-told.reply } in
+    let before = c.self.inside in
+    Replays-push g.T.AppTable.rows g.S.Session.opening (record { world = before.machine; entries = before.entries.items }) (record { world = c.apply_copied.new.machine; entries = c.push_reserved.new.self.items }) entry
+    c.self.invariant.0 c.in_ok-told.ensures.row (search rules)
