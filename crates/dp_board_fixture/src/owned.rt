@@ -25,9 +25,9 @@ exten => add,1,AddQueueMember(q,Line/3)
 exten => ask,1,Queue(q)
 exten => say,1,NoOp()
 exten => wait,1,Wait(1)
-exten => bye,1,Hangup()
 exten => 100,1,NoOp(a)
 exten => 100,2,NoOp(b)
+exten => bye,1,Hangup()
 ";
 
 const QUEUES: &[u8] = b"[q]
