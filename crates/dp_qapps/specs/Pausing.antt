@@ -13,7 +13,7 @@ abbrev pub queue_asked : List ℕ → Option (List ℕ)
 queue_asked [] = None
 queue_asked (b ∷ bs) = Some (b ∷ bs)
 
--- a member is paused, or its pause ends, and whether there is such a member; no member is of the empty interface
+-- a member is paused, or its pause ends, and whether there is such a member; the empty interface names none
 abbrev pub paused : QueuesOf → Option (List ℕ) → List ℕ → Bool → QueuesOf × Bool
 paused q queue [] is_paused = (q, false)
 paused q queue (b ∷ bs) is_paused = pause_row q queue (b ∷ bs) is_paused

@@ -19,7 +19,7 @@ fn queue_asked(text: &[u8]) -> Option<&[u8]>
     Some(text)
 }
 
-/// Whether there is such a member; none is of the empty interface.
+/// Whether there is such a member; the empty interface names none.
 fn is_there(queues: &Queues, queue: Option<&[u8]>, interface: &[u8]) -> bool
     ensures { (is_paused : Bool) → result ≡ (spec.paused queues.now
         (option_copied queue.entry) interface.now is_paused).1 }
@@ -30,7 +30,7 @@ fn is_there(queues: &Queues, queue: Option<&[u8]>, interface: &[u8]) -> bool
     queues.would_pause(queue, interface)
 }
 
-/// Pauses a member, or ends its pause.
+/// Pauses a member, or ends its pause; the empty interface names none.
 fn pause(queues: &mut Queues, queue: Option<&[u8]>, interface: &[u8], is_paused: bool)
     ensures { queues.new ≡ (spec.paused queues.old (option_copied queue.entry) interface.now is_paused).0 }
 {
@@ -108,7 +108,7 @@ fn pause_by_text(
 
 /// `PauseQueueMember(queue,interface)`: no call is offered to the member of the queue any more, or of all queues where the
 /// queue is empty. `PQMSTATUS` is `PAUSED`, or `NOTFOUND` where there is no such member, and the channel goes on. A member that
-/// is paused already is paused again.
+/// is paused already is paused again. An empty interface names no member, so it is `NOTFOUND`.
 pub struct PauseQueueMember;
 
 impl Application for PauseQueueMember {
@@ -142,7 +142,8 @@ impl Application for PauseQueueMember {
 }
 
 /// `UnpauseQueueMember(queue,interface)`: the pause of the member ends, in the queue or in all queues where the queue is empty.
-/// `UPQMSTATUS` is `UNPAUSED`, or `NOTFOUND` where there is no such member, and the channel goes on.
+/// `UPQMSTATUS` is `UNPAUSED`, or `NOTFOUND` where there is no such member, and the channel goes on. An empty interface names
+/// no member, so it is `NOTFOUND`.
 pub struct UnpauseQueueMember;
 
 impl Application for UnpauseQueueMember {
