@@ -1,0 +1,42 @@
+-- Sets of bytes, and texts whose bytes are among them.
+use Rattle.std.specs.Prelude.{◌≡◌, ℕ, zero, suc, Bool, true, false, ◌&&◌, ◌||◌, ◌==◌, nat_le, List}
+use Rattle.std.specs.List.{AllByRecursion}
+use Rattle.dp_conf.specs.Blanks.{is_blank}
+
+-- a set of bytes
+abbrev pub Bytes : Type 0
+Bytes = ℕ → Bool
+
+-- no byte, and any byte
+abbrev pub none : Bytes
+none byte = false
+
+abbrev pub anything : Bytes
+anything byte = true
+
+-- the digits, and what a number has
+abbrev pub digits : Bytes
+digits byte = nat_le 48 byte && nat_le byte 57
+
+abbrev pub numeric : Bytes
+numeric byte = digits byte || byte == 45
+
+-- the bytes of either
+abbrev pub either : Bytes → Bytes → Bytes
+either a b byte = a byte || b byte
+
+-- the set has a blank below a byte, and a blank at all: none is above 32
+unfoldable pub has_blank_below : ℕ → Bytes → Bool
+has_blank_below zero set = false
+has_blank_below (suc byte) set = (is_blank byte && set byte) || has_blank_below byte set
+
+abbrev pub has_blank : Bytes → Bool
+has_blank set = has_blank_below 33 set
+
+-- each byte of the text is in the set
+abbrev pub Within : Bytes → List ℕ → Type 0
+Within set text = AllByRecursion (λ byte. set byte ≡ true) text
+
+-- each byte of the one set is in the other
+abbrev pub IsPart : Bytes → Bytes → Type 0
+IsPart a b = (byte : ℕ) → a byte ≡ true → b byte ≡ true

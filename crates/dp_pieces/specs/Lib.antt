@@ -1,0 +1,11 @@
+pub mod Arguments
+pub mod Bytes
+pub mod Cuts
+pub mod Fitting
+pub mod Names
+pub mod Pieces
+pub mod Reader
+pub mod Sets
+pub mod Shown
+pub mod Texts
+pub mod Trimmed
