@@ -9,3 +9,4 @@ pub mod ShownLemmas
 pub mod TrimmedLemmas
 pub mod ArgumentLemmas
 pub mod CutLemmas
+pub mod MetLemmas

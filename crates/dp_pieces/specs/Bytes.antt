@@ -25,6 +25,10 @@ numeric byte = digits byte || byte == 45
 abbrev pub either : Bytes → Bytes → Bytes
 either a b byte = a byte || b byte
 
+-- the bytes that both have
+abbrev pub both : Bytes → Bytes → Bytes
+both a b byte = a byte && b byte
+
 -- the set has a blank below a byte, and a blank at all: none is above 32
 unfoldable pub has_blank_below : ℕ → Bytes → Bool
 has_blank_below zero set = false

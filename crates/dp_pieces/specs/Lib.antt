@@ -2,6 +2,7 @@ pub mod Arguments
 pub mod Bytes
 pub mod Cuts
 pub mod Fitting
+pub mod Met
 pub mod Names
 pub mod Pieces
 pub mod Reader

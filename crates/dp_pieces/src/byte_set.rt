@@ -1,5 +1,5 @@
 //! Sets of bytes.
-ghost use Rattle.std.specs.Prelude.{◌≡◌, ℕ, true, false, ◌||◌, ◌==◌, IsTrue, replicate};
+ghost use Rattle.std.specs.Prelude.{◌≡◌, ℕ, true, false, ◌||◌, ◌==◌, IsFalse, IsTrue, replicate};
 ghost use Rattle.dp_pieces.specs.Bytes.{IsPart, either};
 ghost use Rattle.dp_pieces.specs.Sets.{set_by};
 
@@ -50,9 +50,10 @@ impl ByteSet {
         }
     }
 
-    /// Whether each byte of the set is in the other. `true` is a promise; nothing is promised of `false`.
+    /// Whether each byte of the set is in the other.
     pub fn is_part(&self, other: &ByteSet) -> bool
-        ensures { IsTrue result → IsPart (set_by self.now) (set_by other.now) }
+        ensures part { IsTrue result → IsPart (set_by self.now) (set_by other.now) }
+        ensures no_part { IsFalse result → IsPart (set_by self.now) (set_by other.now) → ⊥ }
     {
         for i in 0..256 {
             if self.has[i] && !other.has[i] {

@@ -7,6 +7,10 @@ ghost use Rattle.dp_pieces.specs.Arguments.{are_clean, shapes_of};
 ghost use Rattle.dp_pieces.specs.Bytes.{Within};
 ghost use Rattle.dp_pieces.specs.Cuts.{cut_level, cut_pieces};
 ghost use Rattle.dp_pieces.specs.Fitting.{AllFit, IsCutAs};
+ghost use Rattle.dp_pattern.specs.Dashes.{undashed};
+ghost use Rattle.dp_pattern.specs.Matches.{Matches};
+ghost use Rattle.dp_pattern.specs.Name.{Meaning};
+ghost use Rattle.dp_pieces.specs.Met.{met};
 ghost use Rattle.dp_pieces.specs.Names.{IsWithin, Names, part_pieces};
 ghost use Rattle.dp_pieces.specs.Pieces.{Fits, Piece, pieces_set};
 ghost use Rattle.dp_pieces.specs.Texts.{text_pieces};
@@ -43,4 +47,9 @@ pub fn cuts_fit()
 pub fn parts_fit()
     ensures part { (asked : Selection) (pieces : List Piece) (text : List ℕ) → Fits pieces text → Fits (part_pieces asked pieces) (part asked text) }
     ensures trimmed { (pieces : List Piece) (text : List ℕ) → Fits pieces text → Fits (trimmed pieces) (trim text) }
+{}
+
+/// A text without dashes that fits a shape and matches the name of an extension fits the shape met with the name. It does nothing.
+pub fn meet_fits()
+    ensures { (pieces : List Piece) (name : Meaning) (text : List ℕ) → undashed text ≡ text → Fits pieces text → Matches name text → Fits (met pieces name) text }
 {}
