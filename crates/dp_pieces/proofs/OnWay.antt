@@ -8,8 +8,8 @@ use Rattle.dp_conf.specs.GroupsRead.{levels, with_mark}
 use Rattle.dp_pieces.specs.Names.{Names}
 use Rattle.dp_pieces.specs.Pieces.{Known}
 use Rattle.dp_pieces.specs.Texts.{group_pieces, text_pieces}
-use Rattle.dp_pieces.specs.Reader.{Open, Read, after, closed, kinds_of, with_group}
-use Rattle.dp_pieces.specs.Shown.{StandIn}
+use Rattle.dp_pieces.specs.steps.Reader.{Open, Read, after, closed, kinds_of, with_group}
+use Rattle.dp_pieces.specs.steps.ReadSoFar.{StandIn}
 use Rattle.dp_pieces.proofs.ReaderLemmas.{come, come-mark, come-over, come-text}
 
 pub record IsOnWay (names : Names) (text : List ℕ) (read : Read) (rest : List ℕ) : Type 0 where

@@ -11,7 +11,7 @@ use Rattle.dp_conf.specs.GroupsRead.{Levels, Last, Within, with_byte, with_openi
 use Rattle.dp_pieces.specs.Names.{Names}
 use Rattle.dp_pieces.specs.Pieces.{Known, Piece}
 use Rattle.dp_pieces.specs.Texts.{group_pieces, pieces_of, text_pieces}
-use Rattle.dp_pieces.specs.Reader.{Open, Read, after, closed, kinds_of, with_group}
+use Rattle.dp_pieces.specs.steps.Reader.{Open, Read, after, closed, kinds_of, with_group}
 
 module _ (names : Names) where
   -- the pieces of the whole, by those that are read, the openings that wait in them, and the levels after

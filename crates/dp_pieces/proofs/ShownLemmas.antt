@@ -3,7 +3,7 @@ use Rattle.std.proofs.Common.{◌≡◌, ◌+◌, ℕ, List, [], ◌∷◌, ◌+
 use Rattle.std.proofs.lemmas.List.{map-append}
 use Rattle.dp_conf.specs.declared.groups.GroupKind.{GroupKind}
 use Rattle.dp_pieces.specs.Names.{Names}
-use Rattle.dp_pieces.specs.Reader.{with_group}
+use Rattle.dp_pieces.specs.steps.Reader.{with_group}
 use Rattle.dp_pieces.specs.Shown.{shown, shown_all}
 use Rattle.dp_pieces.specs.Texts.{group_pieces}
 use Rattle.dp_pieces.specs.declared.piece.Piece.{Piece}

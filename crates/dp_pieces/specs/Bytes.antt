@@ -7,12 +7,9 @@ use Rattle.dp_conf.specs.Blanks.{is_blank}
 abbrev pub Bytes : Type 0
 Bytes = ℕ → Bool
 
--- no byte, and any byte
+-- no byte
 abbrev pub none : Bytes
 none byte = false
-
-abbrev pub anything : Bytes
-anything byte = true
 
 -- the digits, and what a number has
 abbrev pub digits : Bytes

@@ -1,5 +1,5 @@
--- Pieces that are cut once at a byte, and the sides of a choice.
-use Rattle.std.specs.Prelude.{ℕ, Bool, ◌&&◌, ◌||◌, ◌==◌, List, [], ◌∷◌, Option, Some, None, if◌then◌else◌}
+-- Pieces that are cut once at a byte.
+use Rattle.std.specs.Prelude.{ℕ, Bool, ◌&&◌, ◌||◌, ◌==◌, List, [], ◌∷◌, if◌then◌else◌}
 use Rattle.dp_conf.specs.Levels.{next_level}
 use Rattle.dp_pieces.specs.Bytes.{Bytes}
 use Rattle.dp_pieces.specs.Pieces.{AnyOf, Known, OneOf, Piece}
@@ -34,18 +34,3 @@ cut_level mark level (Known byte ∷ pieces) =
     if byte == mark && level == 0 then At [] pieces else with_piece (Known byte) (cut_level mark (next_level level byte) pieces)
 cut_level mark level (OneOf set ∷ pieces) = if may_cut mark level set then Unsure else with_piece (OneOf set) (cut_level mark level pieces)
 cut_level mark level (AnyOf set ∷ pieces) = if may_cut mark level set then Unsure else with_piece (AnyOf set) (cut_level mark level pieces)
-
--- the sides of a choice by its pieces after the condition; none are known where an unknown piece may part them
-abbrev pub sides_by : List Piece → Cutting → Option (List (List Piece))
-sides_by rest Nowhere = Some (rest ∷ [])
-sides_by rest Unsure = None
-sides_by rest (At first second) = Some (first ∷ second ∷ [])
-
-abbrev pub sides_of : Cutting → Option (List (List Piece))
-sides_of Nowhere = Some []
-sides_of Unsure = None
-sides_of (At condition rest) = sides_by rest (cut_level 58 0 rest)
-
--- the sides of `CONDITION?SIDE:SIDE`
-abbrev pub sides_in : List Piece → Option (List (List Piece))
-sides_in pieces = sides_of (cut_pieces 63 pieces)

@@ -5,8 +5,8 @@ pub mod Fitting
 pub mod Met
 pub mod Names
 pub mod Pieces
-pub mod Reader
 pub mod Sets
 pub mod Shown
 pub mod Texts
 pub mod Trimmed
+pub mod steps

@@ -3,9 +3,10 @@ ghost use Rattle.std.specs.Prelude.{◌≡◌, ◌+◌, ◌≤◌, ℕ, [], ◌�
 ghost use Rattle.dp_conf.specs.Groups.{opener};
 ghost use Rattle.dp_conf.specs.GroupsRead.{first_of};
 ghost use Rattle.dp_pieces.specs.Names.{Names};
-ghost use Rattle.dp_pieces.specs.Reader as steps;
+ghost use Rattle.dp_pieces.specs.steps.Reader as steps;
 ghost use Rattle.dp_pieces.specs.Texts.{group_pieces, text_pieces};
-ghost use Rattle.dp_pieces.specs.Shown.{read_of, shown_all, StandIn};
+ghost use Rattle.dp_pieces.specs.Shown.{shown_all};
+ghost use Rattle.dp_pieces.specs.steps.ReadSoFar.{read_of, StandIn};
 
 use crate::piece::Piece;
 use dp_conf::{GroupKind, Mark, NoMemory, next_mark};

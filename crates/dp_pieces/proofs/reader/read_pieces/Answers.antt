@@ -1,6 +1,7 @@
 use Rattle.std.proofs.Common.{sym, subst, ◌∙◌, reverse, map}
-use Rattle.dp_pieces.specs.Reader.{Read, kinds_of}
-use Rattle.dp_pieces.specs.Shown.{read_of, shown_all, shown_open}
+use Rattle.dp_pieces.specs.steps.Reader.{Read, kinds_of}
+use Rattle.dp_pieces.specs.Shown.{shown_all}
+use Rattle.dp_pieces.specs.steps.ReadSoFar.{read_of, shown_open}
 use Rattle.dp_pieces.proofs.OnWay.{IsOnWay, on_way-first, on_way-after, on_way-over}
 use Rattle.dp_pieces.proofs.reader.read_pieces.Goals as goal
 

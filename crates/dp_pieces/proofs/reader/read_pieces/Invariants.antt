@@ -1,5 +1,5 @@
 use Rattle.std.proofs.Common.{length}
-use Rattle.dp_pieces.specs.Shown.{read_of}
+use Rattle.dp_pieces.specs.steps.ReadSoFar.{read_of}
 use Rattle.dp_pieces.proofs.OnWay.{IsOnWay}
 use Rattle.dp_pieces.proofs.reader.read_pieces.Given as goal
 
