@@ -11,10 +11,11 @@ Bytes = ℕ → Bool
 abbrev pub none : Bytes
 none byte = false
 
--- the digits, and what a number has
+-- the digits
 abbrev pub digits : Bytes
 digits byte = nat_le 48 byte && nat_le byte 57
 
+-- what a number has: digits, or a minus sign
 abbrev pub numeric : Bytes
 numeric byte = digits byte || byte == 45
 
@@ -26,11 +27,12 @@ either a b byte = a byte || b byte
 abbrev pub both : Bytes → Bytes → Bytes
 both a b byte = a byte && b byte
 
--- the set has a blank below a byte, and a blank at all: none is above 32
+-- the set has a blank below a byte
 unfoldable pub has_blank_below : ℕ → Bytes → Bool
 has_blank_below zero set = false
 has_blank_below (suc byte) set = (is_blank byte && set byte) || has_blank_below byte set
 
+-- the set has a blank: none is above 32
 abbrev pub has_blank : Bytes → Bool
 has_blank set = has_blank_below 33 set
 

@@ -64,11 +64,12 @@ abbrev pub called_set : Names → List ℕ → Option (List ℕ) → Bytes
 called_set names name None = none
 called_set names name (Some argument) = function_set names (function_of name) argument
 
--- a head: a function of an argument, or a variable
+-- a head by what is cut at its first `(`: a function of an argument, or a variable
 abbrev pub head_by : Names → List ℕ → Option (List ℕ × List ℕ) → List Piece
 head_by names head None = variable_pieces names head
 head_by names head (Some cut) = made (called_set names cut.0 (before_last 41 cut.1))
 
+-- a head: a name, or a function with its argument in parentheses
 unfoldable pub head_pieces : Names → List ℕ → List Piece
 head_pieces names head = head_by names head (cut_once 40 head)
 

@@ -33,12 +33,13 @@ exactly (byte ∷ bytes) = Known byte ∷ exactly bytes
 abbrev pub made : Bytes → List Piece
 made set = AnyOf set ∷ []
 
--- the bytes of a piece, and of pieces
+-- the bytes of a piece
 abbrev pub piece_set : Piece → Bytes
 piece_set (Known b) byte = byte == b
 piece_set (OneOf set) byte = set byte
 piece_set (AnyOf set) byte = set byte
 
+-- the bytes of pieces
 unfoldable pub pieces_set : List Piece → Bytes
 pieces_set [] byte = false
 pieces_set (piece ∷ pieces) byte = piece_set piece byte || pieces_set pieces byte

@@ -18,6 +18,7 @@ pub record Read : Type 0 where
   pub pieces : List Piece
   pub waiting : List Open
 
+-- the kinds of the openings that wait
 abbrev pub kinds_of : List Open → List GroupKind
 kinds_of waiting = map (λ w. w.kind) waiting
 
