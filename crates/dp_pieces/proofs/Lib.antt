@@ -1,0 +1,12 @@
+pub mod WithinLemmas
+pub mod NumeralLemmas
+pub mod ExpressionLemmas
+pub mod FitsLemmas
+pub mod TextLemmas
+pub mod ReaderLemmas
+pub mod OnWay
+pub mod ShownLemmas
+pub mod TrimmedLemmas
+pub mod ArgumentLemmas
+pub mod CutLemmas
+pub mod MetLemmas

@@ -1,0 +1,48 @@
+-- A text on the way to its pieces.
+use Rattle.std.proofs.Common.{◌≡◌, ◌≤◌, ◌+◌, ℕ, List, [], ◌∷◌, ◌++◌, length, take, drop, sym, ap, ◌∙◌, subst, arith}
+use Rattle.std.proofs.lemmas.List.{length-append, length-take}
+use Rattle.dp_conf.specs.declared.groups.Mark.{Mark}
+use Rattle.dp_conf.specs.declared.groups.Mark.TheVariants.{End, Opening, Byte}
+use Rattle.dp_conf.specs.Groups.{opener}
+use Rattle.dp_conf.specs.GroupsRead.{levels, with_mark}
+use Rattle.dp_pieces.specs.Names.{Names}
+use Rattle.dp_pieces.specs.Pieces.{Known}
+use Rattle.dp_pieces.specs.Texts.{group_pieces, text_pieces}
+use Rattle.dp_pieces.specs.steps.Reader.{Open, Read, after, closed, kinds_of, with_group}
+use Rattle.dp_pieces.specs.steps.ReadSoFar.{StandIn}
+use Rattle.dp_pieces.proofs.ReaderLemmas.{come, come-mark, come-over, come-text}
+
+pub record IsOnWay (names : Names) (text : List ℕ) (read : Read) (rest : List ℕ) : Type 0 where
+  pub comes : come names read.waiting read.pieces (levels rest (kinds_of read.waiting) 0) ≡ text_pieces names text
+  pub stands : StandIn read.waiting (length read.pieces)
+
+stand-more : (waiting : List Open) (size more : ℕ) → size ≤ more → StandIn waiting size → StandIn waiting more
+stand-more [] size more larger stand = tt
+stand-more (w ∷ waiting) size more larger stand = (omega (arith, stand.0), stand.1)
+
+stand-after : (names : Names) (m : Mark) (read : Read) → StandIn read.waiting (length read.pieces) → StandIn (after names m read).waiting (length (after names m read).pieces)
+stand-after names End read stand = by read.waiting stand
+  where
+    by : (ws : List Open) → StandIn ws (length read.pieces) → StandIn (closed names ws read.pieces).waiting (length (closed names ws read.pieces).pieces)
+    by [] stand = tt
+    by (w ∷ ws) stand =
+        stand-more ws w.start (length (with_group names w read.pieces))
+        (omega (arith, stand.0, length-append (take w.start read.pieces) (group_pieces names w.kind (drop (w.start + 2) read.pieces)), length-take w.start read.pieces)) stand.1
+stand-after names (Opening kind) read stand = (omega (arith, length-append read.pieces (Known 36 ∷ Known (opener kind) ∷ [])), stand)
+stand-after names (Byte byte) read stand =
+    stand-more read.waiting (length read.pieces) (length (read.pieces ++ Known byte ∷ [])) (omega (arith, length-append read.pieces (Known byte ∷ []))) stand
+
+pub on_way-first : (names : Names) (text : List ℕ) → IsOnWay names text (record { pieces = []; waiting = [] }) text
+on_way-first names text = record { comes = come-text names text; stands = tt }
+
+pub on_way-after : (names : Names) (text : List ℕ) (before next : Read) (rest beyond : List ℕ) (mark : Mark) → IsOnWay names text before rest
+    → levels rest (kinds_of before.waiting) 0 ≡ with_mark mark (levels beyond) 0 (kinds_of before.waiting) → next ≡ after names mark before → IsOnWay names text next beyond
+on_way-after names text before next rest beyond mark on marked is =
+    subst (λ read. IsOnWay names text read beyond) (sym is) (record {
+      comes = come-mark names mark before (levels beyond) ∙ (ap (come names before.waiting before.pieces) (sym marked) ∙ on.comes);
+      stands = stand-after names mark before on.stands;
+    })
+
+pub on_way-over : (names : Names) (text : List ℕ) (read : Read) (rest : List ℕ) → IsOnWay names text read rest → rest ≡ [] → read.pieces ≡ text_pieces names text
+on_way-over names text read rest on is =
+    sym (come-over names read.waiting read.pieces) ∙ (ap (λ r. come names read.waiting read.pieces (levels r (kinds_of read.waiting) 0)) (sym is) ∙ on.comes)

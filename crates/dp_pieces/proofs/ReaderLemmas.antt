@@ -1,0 +1,73 @@
+-- What is read, the openings that wait in it, and what is still to be read, come to the pieces of the whole.
+use Rattle.std.proofs.Common.{◌≡◌, ℕ, List, [], ◌∷◌, ◌++◌, length, append_assoc, sym, ap, ◌∙◌}
+use Rattle.std.proofs.lemmas.List.{append-nil}
+use Rattle.std.proofs.Math.Seq.{take-append_seam, drop-append-add}
+use Rattle.dp_conf.proofs.GroupsLemmas.{levels-last}
+use Rattle.dp_conf.specs.declared.groups.GroupKind.{GroupKind}
+use Rattle.dp_conf.specs.declared.groups.Mark.{Mark}
+use Rattle.dp_conf.specs.declared.groups.Mark.TheVariants.{End, Opening, Byte}
+use Rattle.dp_conf.specs.Groups.{Over, opener}
+use Rattle.dp_conf.specs.GroupsRead.{Levels, Last, Within, with_byte, with_opening, with_mark, levels, outer_of}
+use Rattle.dp_pieces.specs.Names.{Names}
+use Rattle.dp_pieces.specs.Pieces.{Known, Piece}
+use Rattle.dp_pieces.specs.Texts.{group_pieces, pieces_of, text_pieces}
+use Rattle.dp_pieces.specs.steps.Reader.{Open, Read, after, closed, kinds_of, with_group}
+
+module _ (names : Names) where
+  -- the pieces of the whole, by those that are read, the openings that wait in them, and the levels after
+  abbrev pub come : List Open → List Piece → Levels → List Piece
+  come waiting pieces (Last rest) = pieces ++ pieces_of names rest
+  come [] pieces (Within rest outer) = come [] (pieces ++ pieces_of names rest) outer
+  come (w ∷ waiting) pieces (Within rest outer) = come waiting (with_group names w (pieces ++ pieces_of names rest)) outer
+
+  come-with_byte : (waiting : List Open) (pieces : List Piece) (byte : ℕ) (l : Levels) → come waiting (pieces ++ Known byte ∷ []) l ≡ come waiting pieces (with_byte byte l)
+  unfolding pieces_of
+  come-with_byte waiting pieces byte (Last rest) = append_assoc pieces (Known byte ∷ []) (pieces_of names rest)
+  come-with_byte [] pieces byte (Within rest outer) = ap (λ ps. come [] ps outer) (append_assoc pieces (Known byte ∷ []) (pieces_of names rest))
+  come-with_byte (w ∷ waiting) pieces byte (Within rest outer) =
+      ap (λ ps. come waiting (with_group names w ps) outer) (append_assoc pieces (Known byte ∷ []) (pieces_of names rest))
+
+  -- a group whose opening is read last
+  group_at_end : (pieces body : List Piece) (kind : GroupKind)
+      → with_group names (record { kind = kind; start = length pieces }) ((pieces ++ Known 36 ∷ Known (opener kind) ∷ []) ++ body) ≡ pieces ++ group_pieces names kind body
+  group_at_end pieces body kind =
+      ap (with_group names (record { kind = kind; start = length pieces })) (append_assoc pieces (Known 36 ∷ Known (opener kind) ∷ []) body)
+      ∙ (λ i. take-append_seam pieces (Known 36 ∷ Known (opener kind) ∷ body) i ++ group_pieces names kind (drop-append-add pieces (Known 36 ∷ Known (opener kind) ∷ body) 2 i))
+
+  come-with_opening : (waiting : List Open) (pieces : List Piece) (kind : GroupKind) (l : Levels)
+      → come (record { kind = kind; start = length pieces } ∷ waiting) (pieces ++ Known 36 ∷ Known (opener kind) ∷ []) l ≡ come waiting pieces (with_opening kind l)
+  unfolding pieces_of
+  come-with_opening waiting pieces kind (Last rest) = append_assoc pieces (Known 36 ∷ Known (opener kind) ∷ []) (pieces_of names rest)
+  come-with_opening waiting pieces kind (Within inside (Last rest)) =
+      ap (λ ps. ps ++ pieces_of names rest) (group_at_end pieces (pieces_of names inside) kind)
+      ∙ append_assoc pieces (group_pieces names kind (pieces_of names inside)) (pieces_of names rest)
+  come-with_opening [] pieces kind (Within inside (Within rest outer)) =
+      ap (λ ps. come [] (ps ++ pieces_of names rest) outer) (group_at_end pieces (pieces_of names inside) kind)
+      ∙ ap (λ ps. come [] ps outer) (append_assoc pieces (group_pieces names kind (pieces_of names inside)) (pieces_of names rest))
+  come-with_opening (w ∷ waiting) pieces kind (Within inside (Within rest outer)) =
+      ap (λ ps. come waiting (with_group names w (ps ++ pieces_of names rest)) outer) (group_at_end pieces (pieces_of names inside) kind)
+      ∙ ap (λ ps. come waiting (with_group names w ps) outer) (append_assoc pieces (group_pieces names kind (pieces_of names inside)) (pieces_of names rest))
+
+  come-end : (waiting : List Open) (pieces : List Piece) (beyond : List GroupKind → ℕ → Levels)
+      → come (closed names waiting pieces).waiting (closed names waiting pieces).pieces (beyond (kinds_of (closed names waiting pieces).waiting) 0)
+      ≡ come waiting pieces (Within Over (beyond (outer_of (kinds_of waiting)) 0))
+  unfolding pieces_of
+  come-end [] pieces beyond = ap (λ ps. come [] ps (beyond [] 0)) (sym (append-nil pieces))
+  come-end (w ∷ waiting) pieces beyond = ap (λ ps. come waiting (with_group names w ps) (beyond (kinds_of waiting) 0)) (sym (append-nil pieces))
+
+  -- a mark changes nothing of what all comes to
+  pub come-mark : (m : Mark) (read : Read) (beyond : List GroupKind → ℕ → Levels)
+      → come (after names m read).waiting (after names m read).pieces (beyond (kinds_of (after names m read).waiting) 0)
+      ≡ come read.waiting read.pieces (with_mark m beyond 0 (kinds_of read.waiting))
+  come-mark End read beyond = come-end read.waiting read.pieces beyond
+  come-mark (Opening kind) read beyond = come-with_opening read.waiting read.pieces kind (beyond (kind ∷ kinds_of read.waiting) 0)
+  come-mark (Byte byte) read beyond = come-with_byte read.waiting read.pieces byte (beyond (kinds_of read.waiting) 0)
+
+  -- nothing is left
+  pub come-over : (waiting : List Open) (pieces : List Piece) → come waiting pieces (levels [] (kinds_of waiting) 0) ≡ pieces
+  unfolding levels pieces_of
+  come-over waiting pieces = append-nil pieces
+
+  -- nothing is read yet
+  pub come-text : (text : List ℕ) → come [] [] (levels text [] 0) ≡ text_pieces names text
+  come-text text = ap (come [] []) (levels-last text)

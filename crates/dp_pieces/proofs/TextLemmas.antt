@@ -1,0 +1,126 @@
+-- An expanded text fits its pieces.
+use Rattle.std.proofs.Common.{◌≡◌, ℕ, Bool, true, false, List, [], ◌∷◌, Option, Some, None, refl, sym, subst, codes, if◌then◌else◌, length}
+use Rattle.dp_conf.specs.Cut.{before_last, cut_once}
+use Rattle.dp_conf.specs.Groups.{Reading, Over, Plain, Group}
+use Rattle.dp_conf.specs.GroupsRead.{reading_of}
+use Rattle.dp_conf.specs.Levels.{cut_outside}
+use Rattle.dp_conf.specs.Words.{same_text}
+use Rattle.dp_conf.specs.declared.groups.GroupKind.{GroupKind}
+use Rattle.dp_conf.specs.declared.groups.GroupKind.TheVariants.{Braces, Brackets}
+use Rattle.dp_expr.specs.Expression.{expression_value}
+use Rattle.dp_vars.specs.Parts.{asked_of}
+use Rattle.dp_vars.specs.Sights.{Sight}
+use Rattle.dp_vars.specs.Values.{body_by as body_value_by, called, caller_value, expanded, expansion, function_of, function_value, group_value, head_by as head_value_by, head_value}
+use Rattle.dp_vars.specs.declared.value.Function.{Function}
+use Rattle.dp_vars.specs.declared.value.Function.TheVariants.{Global, Local, Len, CallerId, QueueWaitingCount}
+use Rattle.dp_pieces.specs.Bytes.{IsPart, Within, either, none, numeric}
+use Rattle.dp_pieces.specs.Names.{Names, IsWithin, body_by, called_set, caller_set, function_set, head_by, head_pieces, variable_pieces}
+use Rattle.dp_pieces.specs.Pieces.{Fits, Known, Piece, known, made, pieces_set}
+use Rattle.dp_pieces.specs.Texts.{braces_pieces, group_pieces, pieces_of, text_pieces, text_set}
+use Rattle.dp_pieces.proofs.ExpressionLemmas.{within-expression}
+use Rattle.dp_pieces.proofs.FitsLemmas.{fits-append, fits-known, fits-made, fits-nothing, fits-part, fits-set, made-part}
+use Rattle.dp_pieces.proofs.NumeralLemmas.{within-decimal}
+use Rattle.dp_pieces.proofs.WithinLemmas.{within-more, within-part}
+
+module _ (names : Names) (sight : Sight) (seen : IsWithin names sight) where
+  within-caller : (argument : List ℕ) → Within (caller_set names.caller argument) (caller_value sight.caller argument)
+  within-caller argument = by (same_text argument (codes "num"))
+    where
+      by : (b : Bool) → Within (if b then names.caller else none) (if b then sight.caller else [])
+      by true = seen.caller
+      by false = tt
+
+  within-function : (function : Option Function) (argument : List ℕ) → Within (function_set names function argument) (function_value sight function argument)
+  within-function None argument = tt
+  within-function (Some Global) argument = seen.global argument
+  within-function (Some Local) argument = seen.local argument
+  within-function (Some Len) argument = within-decimal (length argument)
+  within-function (Some CallerId) argument = within-caller argument
+  within-function (Some QueueWaitingCount) argument = within-decimal (sight.waiting argument)
+
+  within-called : (name : List ℕ) (argument : Option (List ℕ)) → Within (called_set names name argument) (called sight name argument)
+  within-called name None = tt
+  within-called name (Some argument) = within-function (function_of name) argument
+
+  fits-head : (head : List ℕ) → Fits (head_pieces names head) (head_value sight head)
+  unfolding head_pieces head_value
+  fits-head head = by (cut_once 40 head)
+    where
+      by : (cut : Option (List ℕ × List ℕ)) → Fits (head_by names head cut) (head_value_by sight head cut)
+      by None = seen.variable head
+      by (Some cut) = fits-made (called_set names cut.0 (before_last 41 cut.1)) _ (within-called cut.0 (before_last 41 cut.1))
+
+  fits-body : (body : List ℕ) (cut : Option (List ℕ × List ℕ)) → Fits (body_by names body cut) (body_value_by sight body cut)
+  fits-body body None = fits-head body
+  fits-body body (Some cut) = fits-part (asked_of (Some cut.1)) (head_pieces names cut.0) (head_value sight cut.0) (fits-head cut.0)
+
+  -- whatever a body names, its bytes are among those of all
+  part-called : (name : List ℕ) (argument : Option (List ℕ)) → IsPart (called_set names name argument) names.all
+  part-called name None = λ byte is. absurd cc
+  part-called name (Some argument) = by (function_of name)
+    where
+      num : (b : Bool) → IsPart (if b then names.caller else none) names.all
+      num true = seen.whole.caller
+      num false = λ byte is. absurd cc
+
+      by : (function : Option Function) → IsPart (function_set names function argument) names.all
+      by None = λ byte is. absurd cc
+      by (Some Global) = seen.whole.bytes argument
+      by (Some Local) = seen.whole.bytes argument
+      by (Some Len) = seen.whole.digits
+      by (Some CallerId) = num (same_text argument (codes "num"))
+      by (Some QueueWaitingCount) = seen.whole.digits
+
+  all-variable : (name : List ℕ) → Within names.all (sight.variable name)
+  all-variable name = by (same_text name (codes "EXTEN")) (same_text name (codes "CONTEXT")) (fits-set (variable_pieces names name) (sight.variable name) (seen.variable name))
+    where
+      by : (a b : Bool) → Within (pieces_set (if a then names.exten else if b then names.context else made (names.bytes name))) (sight.variable name) → Within names.all (sight.variable name)
+      by true b is = within-more (pieces_set names.exten) names.all seen.whole.exten (sight.variable name) is
+      by false true is = within-more (pieces_set names.context) names.all seen.whole.context (sight.variable name) is
+      by false false is =
+          within-more (names.bytes name) names.all (seen.whole.bytes name) (sight.variable name)
+          (within-more (pieces_set (made (names.bytes name))) (names.bytes name) (made-part (names.bytes name)) (sight.variable name) is)
+
+  all-head : (head : List ℕ) → Within names.all (head_value sight head)
+  unfolding head_value
+  all-head head = by (cut_once 40 head)
+    where
+      by : (cut : Option (List ℕ × List ℕ)) → Within names.all (head_value_by sight head cut)
+      by None = all-variable head
+      by (Some cut) = within-more (called_set names cut.0 (before_last 41 cut.1)) names.all (part-called cut.0 (before_last 41 cut.1)) _ (within-called cut.0 (before_last 41 cut.1))
+
+  all-body : (body : List ℕ) (cut : Option (List ℕ × List ℕ)) → Within names.all (body_value_by sight body cut)
+  all-body body None = all-head body
+  all-body body (Some cut) = within-part names.all (asked_of (Some cut.1)) (head_value sight cut.0) (all-head cut.0)
+
+  fits-braces : (text : List ℕ) (o : Option (List ℕ)) → ((body : List ℕ) → o ≡ Some body → text ≡ body)
+      → Fits (braces_pieces names o) (body_value_by sight text (cut_outside 58 text))
+  fits-braces text None is = fits-made names.all _ (all-body text (cut_outside 58 text))
+  fits-braces text (Some body) is =
+      subst (λ t. Fits (body_by names body (cut_outside 58 body)) (body_value_by sight t (cut_outside 58 t))) (sym (is body refl)) (fits-body body (cut_outside 58 body))
+
+  -- the value of a group whose expanded body fits pieces
+  pub fits-group : (kind : GroupKind) (body : List Piece) (text : List ℕ) → Fits body text → Fits (group_pieces names kind body) (group_value sight kind text)
+  unfolding group_value
+  fits-group Braces body text fits = fits-braces text (known body) (λ bytes from. fits-known body text bytes from fits)
+  fits-group Brackets body text fits = fits-made (either (pieces_set body) numeric) (expression_value text) (within-expression (pieces_set body) text (fits-set body text fits))
+
+  plain : (byte : ℕ) (pieces : List Piece) (text : List ℕ) → Fits pieces text → Fits (Known byte ∷ pieces) (byte ∷ text)
+  unfolding Fits
+  plain byte pieces text fits = (text, refl, fits)
+
+  fits-reading : (reading : Reading) → Fits (pieces_of names reading) (expanded sight reading)
+  unfolding pieces_of expanded
+  fits-reading Over = fits-nothing
+  fits-reading (Plain byte rest) = plain byte (pieces_of names rest) (expanded sight rest) (fits-reading rest)
+  fits-reading (Group kind inside rest) =
+      fits-append (group_pieces names kind (pieces_of names inside)) (pieces_of names rest) (group_value sight kind (expanded sight inside)) (expanded sight rest)
+      (fits-group kind (pieces_of names inside) (expanded sight inside) (fits-reading inside)) (fits-reading rest)
+
+-- an expanded text fits its pieces
+pub fits-expansion : (names : Names) (sight : Sight) → IsWithin names sight → (text : List ℕ) → Fits (text_pieces names text) (expansion sight text)
+fits-expansion names sight seen text = fits-reading names sight seen (reading_of text)
+
+-- and has no bytes but theirs
+pub within-expansion : (names : Names) (sight : Sight) → IsWithin names sight → (text : List ℕ) → Within (text_set names text) (expansion sight text)
+within-expansion names sight seen text = fits-set (text_pieces names text) (expansion sight text) (fits-expansion names sight seen text)

@@ -1,0 +1,8 @@
+use Rattle.dp_pieces.proofs.CutLemmas.{cut-level, cut-pieces}
+use Rattle.dp_pieces.proofs.laws.cuts_fit.Goals as goal
+
+pub returns-clause-first : goal.returns-clause-first
+returns-clause-first c = cut-pieces
+
+pub returns-clause-level : goal.returns-clause-level
+returns-clause-level c = cut-level

@@ -1,0 +1,12 @@
+pub mod Arguments
+pub mod Bytes
+pub mod Cuts
+pub mod Fitting
+pub mod Met
+pub mod Names
+pub mod Pieces
+pub mod Sets
+pub mod Shown
+pub mod Texts
+pub mod Trimmed
+pub mod steps

@@ -1,0 +1,27 @@
+-- What is known of an extension that an entry's name has matched: its shape met with the name.
+use Rattle.std.specs.Prelude.{ℕ, List, [], ◌∷◌}
+use Rattle.dp_pattern.specs.Name.{Meaning, Plain, Pattern}
+use Rattle.dp_pattern.specs.declared.tail.Tail.{Tail}
+use Rattle.dp_pattern.specs.declared.tail.Tail.TheVariants.{End, Dot, Bang}
+use Rattle.dp_pieces.specs.Bytes.{both}
+use Rattle.dp_pieces.specs.Pieces.{AnyOf, Known, OneOf, Piece, bytes_in, exactly, made, pieces_set}
+
+-- what may follow the classes: nothing, or what the pieces say
+abbrev pub met_tail : List Piece → Tail → List Piece
+met_tail pieces End = []
+met_tail pieces Dot = pieces
+met_tail pieces Bang = pieces
+
+-- each piece met with the class of its byte; from a piece of any bytes on, each byte is of the class and of what may follow
+abbrev pub met_classes : List Piece → List (List ℕ) → Tail → List Piece
+met_classes pieces [] tail = met_tail pieces tail
+met_classes [] (class ∷ classes) tail = []
+met_classes (Known byte ∷ pieces) (class ∷ classes) tail = Known byte ∷ met_classes pieces classes tail
+met_classes (OneOf set ∷ pieces) (class ∷ classes) tail = OneOf (both set (bytes_in class)) ∷ met_classes pieces classes tail
+met_classes (AnyOf set ∷ pieces) (class ∷ classes) tail =
+    OneOf (both (pieces_set (AnyOf set ∷ pieces)) (bytes_in class)) ∷ met_classes (made (pieces_set (AnyOf set ∷ pieces))) classes tail
+
+-- a name without classes is matched by itself alone
+abbrev pub met : List Piece → Meaning → List Piece
+met pieces (Plain plain) = exactly plain
+met pieces (Pattern classes tail) = met_classes pieces classes tail

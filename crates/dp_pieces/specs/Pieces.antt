@@ -1,0 +1,65 @@
+-- Texts of which parts are unknown, as pieces one after another.
+use Rattle.std.specs.Prelude.{◌≡◌, ℕ, zero, suc, true, false, ◌||◌, ◌==◌, List, [], ◌∷◌, ◌++◌, Option, Some, None}
+use Rattle.std.specs.List.{list_any}
+use Rattle.std.specs.Option.{option_map}
+use Rattle.dp_pieces.specs.Bytes.{Bytes, Within}
+
+-- a byte that stands there, one byte of a set, or any bytes of a set
+pub data Piece : Type 0 where
+  Known : ℕ → Piece
+  OneOf : Bytes → Piece
+  AnyOf : Bytes → Piece
+
+-- the text is the pieces one after another
+unfoldable pub Fits : List Piece → List ℕ → Type 0
+Fits [] text = text ≡ []
+Fits (Known byte ∷ pieces) text = (rest : List ℕ) × (text ≡ byte ∷ rest) × Fits pieces rest
+Fits (OneOf set ∷ pieces) text = (cut : ℕ × List ℕ) × (text ≡ cut.0 ∷ cut.1) × (set cut.0 ≡ true) × Fits pieces cut.1
+Fits (AnyOf set ∷ pieces) text = (cut : List ℕ × List ℕ) × (text ≡ cut.0 ++ cut.1) × Within set cut.0 × Fits pieces cut.1
+
+-- the text of pieces that are all known
+abbrev pub known : List Piece → Option (List ℕ)
+known [] = Some []
+known (Known byte ∷ pieces) = option_map (λ bytes. byte ∷ bytes) (known pieces)
+known (OneOf set ∷ pieces) = None
+known (AnyOf set ∷ pieces) = None
+
+-- the pieces of a known text
+abbrev pub exactly : List ℕ → List Piece
+exactly [] = []
+exactly (byte ∷ bytes) = Known byte ∷ exactly bytes
+
+-- the pieces of a text that is made of these bytes
+abbrev pub made : Bytes → List Piece
+made set = AnyOf set ∷ []
+
+-- the bytes of a piece
+abbrev pub piece_set : Piece → Bytes
+piece_set (Known b) byte = byte == b
+piece_set (OneOf set) byte = set byte
+piece_set (AnyOf set) byte = set byte
+
+-- the bytes of pieces
+unfoldable pub pieces_set : List Piece → Bytes
+pieces_set [] byte = false
+pieces_set (piece ∷ pieces) byte = piece_set piece byte || pieces_set pieces byte
+
+-- the bytes of a text
+abbrev pub bytes_in : List ℕ → Bytes
+bytes_in text byte = list_any (λ b. b == byte) text
+
+-- without the first bytes: bytes that may be any of a set take all that follows into one piece
+abbrev pub without : ℕ → List Piece → List Piece
+without zero pieces = pieces
+without (suc count) [] = []
+without (suc count) (Known byte ∷ pieces) = without count pieces
+without (suc count) (OneOf set ∷ pieces) = without count pieces
+without (suc count) (AnyOf set ∷ pieces) = made (pieces_set (AnyOf set ∷ pieces))
+
+-- the first bytes alone
+abbrev pub front : ℕ → List Piece → List Piece
+front zero pieces = []
+front (suc count) [] = []
+front (suc count) (Known byte ∷ pieces) = Known byte ∷ front count pieces
+front (suc count) (OneOf set ∷ pieces) = OneOf set ∷ front count pieces
+front (suc count) (AnyOf set ∷ pieces) = made (pieces_set (AnyOf set ∷ pieces))

@@ -1,0 +1,16 @@
+-- Pieces by what they are.
+use Rattle.std.specs.Prelude.{List, map}
+use Rattle.dp_pieces.specs.Pieces as spec
+use Rattle.dp_pieces.specs.Sets.{set_by}
+use Rattle.dp_pieces.specs.declared.piece.Piece.{Piece}
+use Rattle.dp_pieces.specs.declared.piece.Piece.TheVariants.{Known, OneOf, AnyOf}
+
+-- a piece by its byte or its set
+abbrev pub shown : Piece → spec.Piece
+shown (Known byte) = spec.Known byte
+shown (OneOf set) = spec.OneOf (set_by set)
+shown (AnyOf set) = spec.AnyOf (set_by set)
+
+-- each of several
+abbrev pub shown_all : List Piece → List spec.Piece
+shown_all pieces = map shown pieces

@@ -1,0 +1,34 @@
+-- The pieces of a text that is not expanded yet.
+use Rattle.std.specs.Prelude.{ℕ, List, [], ◌∷◌, ◌++◌, Option, Some, None}
+use Rattle.dp_conf.specs.Groups.{Reading, Over, Plain, Group}
+use Rattle.dp_conf.specs.GroupsRead.{reading_of}
+use Rattle.dp_conf.specs.Levels.{cut_outside}
+use Rattle.dp_conf.specs.declared.groups.GroupKind.{GroupKind}
+use Rattle.dp_conf.specs.declared.groups.GroupKind.TheVariants.{Braces, Brackets}
+use Rattle.dp_pieces.specs.Bytes.{Bytes, either, numeric}
+use Rattle.dp_pieces.specs.Names.{Names, body_by}
+use Rattle.dp_pieces.specs.Pieces.{Known, Piece, known, made, pieces_set}
+
+-- a text in braces: where it is not known it may name anything
+abbrev pub braces_pieces : Names → Option (List ℕ) → List Piece
+braces_pieces names None = made names.all
+braces_pieces names (Some body) = body_by names body (cut_outside 58 body)
+
+-- a group by its body: an expression comes to a number or to a part of its text
+abbrev pub group_pieces : Names → GroupKind → List Piece → List Piece
+group_pieces names Braces body = braces_pieces names (known body)
+group_pieces names Brackets body = made (either (pieces_set body) numeric)
+
+-- the pieces of a reading
+unfoldable pub pieces_of : Names → Reading → List Piece
+pieces_of names Over = []
+pieces_of names (Plain byte rest) = Known byte ∷ pieces_of names rest
+pieces_of names (Group kind inside rest) = group_pieces names kind (pieces_of names inside) ++ pieces_of names rest
+
+-- the pieces of a text
+abbrev pub text_pieces : Names → List ℕ → List Piece
+text_pieces names text = pieces_of names (reading_of text)
+
+-- the bytes of a text
+abbrev pub text_set : Names → List ℕ → Bytes
+text_set names text = pieces_set (text_pieces names text)

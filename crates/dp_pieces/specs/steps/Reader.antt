@@ -1,0 +1,41 @@
+-- A text on the way to its pieces: those so far, and the openings in them that wait for their ends.
+use Rattle.std.specs.Prelude.{ℕ, ◌+◌, List, [], ◌∷◌, ◌++◌, drop, length, map, take}
+use Rattle.dp_conf.specs.declared.groups.GroupKind.{GroupKind}
+use Rattle.dp_conf.specs.declared.groups.Mark.{Mark}
+use Rattle.dp_conf.specs.declared.groups.Mark.TheVariants.{End, Opening, Byte}
+use Rattle.dp_conf.specs.Groups.{opener}
+use Rattle.dp_pieces.specs.Names.{Names}
+use Rattle.dp_pieces.specs.Pieces.{Known, Piece}
+use Rattle.dp_pieces.specs.Texts.{group_pieces}
+
+-- an opening, with the place of its `$`
+pub record Open : Type 0 where
+  pub kind : GroupKind
+  pub start : ℕ
+
+-- the pieces, and the openings that wait, the innermost first
+pub record Read : Type 0 where
+  pub pieces : List Piece
+  pub waiting : List Open
+
+-- the kinds of the openings that wait
+abbrev pub kinds_of : List Open → List GroupKind
+kinds_of waiting = map (λ w. w.kind) waiting
+
+-- the pieces with those of a group in place of its opening and its body
+abbrev pub with_group : Names → Open → List Piece → List Piece
+with_group names w pieces = take w.start pieces ++ group_pieces names w.kind (drop (w.start + 2) pieces)
+
+-- after the end of the innermost group
+abbrev pub closed : Names → List Open → List Piece → Read
+closed names [] pieces = record { pieces = pieces; waiting = [] }
+closed names (w ∷ waiting) pieces = record { pieces = with_group names w pieces; waiting = waiting }
+
+-- after a mark
+abbrev pub after : Names → Mark → Read → Read
+after names End read = closed names read.waiting read.pieces
+after names (Opening kind) read = record {
+  pieces = read.pieces ++ Known 36 ∷ Known (opener kind) ∷ [];
+  waiting = record { kind = kind; start = length read.pieces } ∷ read.waiting;
+}
+after names (Byte byte) read = record read { pieces = read.pieces ++ Known byte ∷ [] }

@@ -1,0 +1,65 @@
+//! Sets of bytes.
+ghost use Rattle.std.specs.Prelude.{◌≡◌, ℕ, true, false, ◌||◌, ◌==◌, IsFalse, IsTrue, replicate};
+ghost use Rattle.dp_pieces.specs.Bytes.{IsPart, either};
+ghost use Rattle.dp_pieces.specs.Sets.{set_by};
+
+use std::marker::Model;
+
+/// A set of bytes.
+#[derive(Drop)]
+pub struct ByteSet {
+    has: [bool; 256],
+}
+
+impl Model for ByteSet {
+    ghost use Rattle.std.specs.Prelude.{Bool, List};
+
+    ghost Value = { List Bool };
+
+    ghost view = { λ s. s.has };
+}
+
+impl ByteSet {
+    /// The empty set.
+    pub fn none() -> Self
+        ensures { result ≡ replicate 256 false }
+    {
+        ByteSet { has: [false; 256] }
+    }
+
+    /// Whether the set has the byte.
+    pub fn has(&self, byte: u8) -> bool
+        ensures { result ≡ set_by self.now byte }
+    {
+        self.has[byte as usize]
+    }
+
+    /// Puts a byte in the set.
+    pub fn put(&mut self, byte: u8)
+        ensures { (b : ℕ) → set_by self.new b ≡ (b == byte || set_by self.old b) }
+    {
+        self.has[byte as usize] = true;
+    }
+
+    /// Puts all bytes of the other set in this one.
+    pub fn add(&mut self, other: &ByteSet)
+        ensures { (b : ℕ) → set_by self.new b ≡ either (set_by self.old) (set_by other.now) b }
+    {
+        for i in 0..256 {
+            self.has[i] = self.has[i] || other.has[i];
+        }
+    }
+
+    /// Whether each byte of the set is in the other.
+    pub fn is_part(&self, other: &ByteSet) -> bool
+        ensures part { IsTrue result → IsPart (set_by self.now) (set_by other.now) }
+        ensures no_part { IsFalse result → IsPart (set_by self.now) (set_by other.now) → ⊥ }
+    {
+        for i in 0..256 {
+            if self.has[i] && !other.has[i] {
+                return false;
+            }
+        }
+        true
+    }
+}

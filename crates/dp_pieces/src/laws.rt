@@ -1,0 +1,55 @@
+//! Laws over the definitions of this crate.
+ghost use Rattle.std.specs.Prelude.{◌≡◌, ℕ, List, true};
+ghost use Rattle.dp_conf.specs.Blanks.{trim};
+ghost use Rattle.dp_conf.specs.Cut.{cut_once};
+ghost use Rattle.dp_conf.specs.Levels.{arguments_of, cut_outside};
+ghost use Rattle.dp_pieces.specs.Arguments.{are_clean, shapes_of};
+ghost use Rattle.dp_pieces.specs.Bytes.{Within};
+ghost use Rattle.dp_pieces.specs.Cuts.{cut_level, cut_pieces};
+ghost use Rattle.dp_pieces.specs.Fitting.{AllFit, IsCutAs};
+ghost use Rattle.dp_pattern.specs.Dashes.{undashed};
+ghost use Rattle.dp_pattern.specs.Matches.{Matches};
+ghost use Rattle.dp_pattern.specs.Name.{Meaning};
+ghost use Rattle.dp_pieces.specs.Met.{met};
+ghost use Rattle.dp_pieces.specs.Names.{IsWithin, Names, part_pieces};
+ghost use Rattle.dp_pieces.specs.Pieces.{Fits, Piece, pieces_set};
+ghost use Rattle.dp_pieces.specs.Texts.{text_pieces};
+ghost use Rattle.dp_pieces.specs.Trimmed.{trimmed};
+ghost use Rattle.dp_vars.specs.Parts.{part};
+ghost use Rattle.dp_vars.specs.Sights.{Sight};
+ghost use Rattle.dp_vars.specs.Values.{expansion};
+ghost use Rattle.dp_vars.specs.declared.part.Selection.{Selection};
+
+/// The expansion of a text fits its pieces, in every sight within what is known of the names. It does nothing.
+pub fn expansion_fits()
+    ensures { (names : Names) (sight : Sight) (text : List ℕ) → IsWithin names sight → Fits (text_pieces names text) (expansion sight text) }
+{}
+
+/// What fits pieces has no bytes but theirs. It does nothing.
+pub fn bytes_within()
+    ensures { (pieces : List Piece) (text : List ℕ) → Fits pieces text → Within (pieces_set pieces) text }
+{}
+
+/// Where no unknown piece has a comma or a parenthesis, the arguments of a text that fits pieces are as many as the parts of these,
+/// and each fits its part without blanks at the ends. It does nothing.
+pub fn arguments_fit()
+    ensures { (pieces : List Piece) (text : List ℕ) → are_clean 0 pieces ≡ true → Fits pieces text → AllFit (shapes_of pieces) (arguments_of text) }
+{}
+
+/// A text is cut once where its pieces are: at the first such byte, and at the first of level 0. It does nothing.
+pub fn cuts_fit()
+    ensures first { (mark : ℕ) (pieces : List Piece) (text : List ℕ) → Fits pieces text → IsCutAs (cut_pieces mark pieces) (cut_once mark text) }
+    ensures level { (mark : ℕ) (pieces : List Piece) (text : List ℕ) → Fits pieces text → IsCutAs (cut_level mark 0 pieces) (cut_outside mark text) }
+{}
+
+/// A part of a text, as `:offset:length` asks for it, fits that part of its pieces; so does a text without the blanks at its ends. It
+/// does nothing.
+pub fn parts_fit()
+    ensures part { (asked : Selection) (pieces : List Piece) (text : List ℕ) → Fits pieces text → Fits (part_pieces asked pieces) (part asked text) }
+    ensures trimmed { (pieces : List Piece) (text : List ℕ) → Fits pieces text → Fits (trimmed pieces) (trim text) }
+{}
+
+/// A text without dashes that fits a shape and matches the name of an extension fits the shape met with the name. It does nothing.
+pub fn meet_fits()
+    ensures { (pieces : List Piece) (name : Meaning) (text : List ℕ) → undashed text ≡ text → Fits pieces text → Matches name text → Fits (met pieces name) text }
+{}

@@ -1,0 +1,140 @@
+//! A text read as its pieces, in one pass with no recursion.
+ghost use Rattle.std.specs.Prelude.{◌≡◌, ◌+◌, ◌≤◌, ℕ, [], ◌∷◌, ◌++◌, IfOk, OnOk, drop, length, map, reverse, take};
+ghost use Rattle.dp_conf.specs.Groups.{opener};
+ghost use Rattle.dp_conf.specs.GroupsRead.{first_of};
+ghost use Rattle.dp_pieces.specs.Names.{Names};
+ghost use Rattle.dp_pieces.specs.steps.Reader as steps;
+ghost use Rattle.dp_pieces.specs.Texts.{group_pieces, text_pieces};
+ghost use Rattle.dp_pieces.specs.Shown.{shown_all};
+ghost use Rattle.dp_pieces.specs.steps.ReadSoFar.{read_of, StandIn};
+
+use crate::piece::Piece;
+use dp_conf::{GroupKind, Mark, NoMemory, next_mark};
+use std::alloc::Global;
+
+/// What is known of the values of names.
+pub trait NamedPieces {
+    // What that is.
+    ghost names: { Self → Names };
+
+    /// The pieces of the value of a group, by the pieces of its body. It fails only for want of memory.
+    fn group(&self, alloc: Global, kind: GroupKind, body: &[Piece]) -> Result<Vec<Piece>, NoMemory>
+        ensures { IfOk result (λ pieces. shown_all pieces.items ≡ group_pieces (names self.now) kind (shown_all body.now)) };
+}
+
+/// The byte after the `$` that opens a group.
+fn opener(kind: GroupKind) -> u8
+    ensures { result ≡ opener kind }
+{
+    match kind {
+        GroupKind::Braces => b'{',
+        GroupKind::Brackets => b'[',
+    }
+}
+
+/// Pieces after others.
+fn push_all(pieces: &mut Vec<Piece>, more: Vec<Piece>) -> Result<(), NoMemory>
+    ensures { OnOk result (pieces.new.items ≡ pieces.old.items ++ more.items) }
+{
+    for piece in more {
+        pieces.push(piece)?;
+    }
+    Ok(())
+}
+
+/// Puts the pieces of a group in the place of its opening and its body.
+fn put_group<N: NamedPieces>(
+    alloc: Global,
+    names: &N,
+    pieces: &mut Vec<Piece>,
+    kind: GroupKind,
+    start: usize,
+) -> Result<(), NoMemory>
+    requires { start + 2 ≤ length pieces.old.items }
+    ensures { OnOk result (shown_all pieces.new.items
+        ≡ steps.with_group (N.names names.now) (record { kind = kind; start = start }) (shown_all pieces.old.items)) }
+{
+    let value = names.group(alloc, kind, pieces.split_at(start + 2).1)?;
+    pieces.truncate(start);
+    push_all(pieces, value)?;
+    Ok(())
+}
+
+/// An opening that waits for its end, with the place of its `$` among the pieces.
+#[derive(Clone, Copy)]
+struct Open {
+    kind: GroupKind,
+    start: usize,
+}
+
+/// The pieces so far, and the openings that wait.
+#[derive(Drop)]
+struct Reading {
+    pieces: Vec<Piece>,
+    waiting: Vec<Open>,
+}
+
+/// Reads a text that is not expanded yet as its pieces. It fails only for want of memory.
+pub fn read_pieces<N: NamedPieces>(
+    alloc: Global,
+    names: &N,
+    text: &[u8],
+) -> Result<Vec<Piece>, NoMemory>
+    ensures { IfOk result (λ pieces. shown_all pieces.items ≡ text_pieces (N.names names.now) text.now) }
+{
+    let mut reading = Reading {
+        pieces: Vec::new(alloc),
+        waiting: Vec::new(alloc),
+    };
+    let mut rest = text;
+    while let Some((mark, after)) = next_mark(rest, reading.innermost()) {
+        reading.take(alloc, names, mark)?;
+        rest = after;
+    }
+    Ok(reading.finish())
+}
+
+impl Reading {
+    /// The kind of the innermost opening that waits.
+    fn innermost(&self) -> Option<GroupKind>
+        ensures { result ≡ first_of (steps.kinds_of (read_of self.now).waiting) }
+    {
+        match self.waiting.last() {
+            Some(open) => Some(open.kind),
+            None => None,
+        }
+    }
+
+    /// Goes after a mark.
+    fn take<N: NamedPieces>(&mut self, alloc: Global, names: &N, mark: Mark) -> Result<(), NoMemory>
+        requires { StandIn (read_of self.old).waiting (length (read_of self.old).pieces) }
+        ensures { OnOk result (read_of self.new ≡ steps.after (N.names names.now) mark (read_of self.old)) }
+    {
+        match mark {
+            Mark::End => {
+                if let Some(open) = self.waiting.pop() {
+                    put_group(alloc, names, &mut self.pieces, open.kind, open.start)?;
+                }
+            }
+            Mark::Opening(kind) => {
+                self.waiting.push(Open {
+                    kind,
+                    start: self.pieces.len(),
+                })?;
+                self.pieces.push(Piece::Known(b'$'))?;
+                self.pieces.push(Piece::Known(opener(kind)))?;
+            }
+            Mark::Byte(byte) => self.pieces.push(Piece::Known(byte))?,
+        }
+        Ok(())
+    }
+
+    /// The pieces, where the text ends.
+    fn finish(self) -> Vec<Piece>
+        ensures { shown_all result.items ≡ (read_of self).pieces }
+    {
+        let Reading { pieces, waiting } = self;
+        drop(waiting);
+        pieces
+    }
+}
