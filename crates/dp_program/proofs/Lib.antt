@@ -1,3 +1,4 @@
+mod EntriesLemmas
 mod ReadsLemmas
 mod RunLemmas
 pub mod ServesLemmas

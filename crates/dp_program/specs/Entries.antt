@@ -77,9 +77,13 @@ kind_line OldForm = 26
 abbrev pub kind_of : Word → List ℕ
 kind_of word = line_among (parts_of (entry_of 24)) (kind_line word)
 
+-- what stands before the kind of what is left out
+unfoldable pub left_out : List ℕ
+left_out = codes "what this program leaves out: "
+
 -- what is said of a fault of a context's line: of what is left out its kind, and else the manual's sentence
 abbrev pub said_of_plan : PlanKind → ℕ → List ℕ
-said_of_plan (LeftOut word) number = codes "what this program leaves out: " ++ kind_of word
+said_of_plan (LeftOut word) number = left_out ++ kind_of word
 said_of_plan _ number = sentence_of number
 
 -- what is said of a fault

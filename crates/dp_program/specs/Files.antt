@@ -1,5 +1,7 @@
 -- What is known of files and of the input, and what reading them whole comes to.
 use Rattle.std.specs.Prelude.{◌≡◌, ◌⊎◌, ℕ, Bool, true, false, List, Option, Some, None, Result, Ok, Err, IfErr}
+use Rattle.std.specs.declared.io.ErrorKind.{ErrorKind}
+use Rattle.std.specs.declared.io.ErrorKind.TheVariants.{OutOfMemory}
 use Rattle.dp_conf.specs.Whole.{whole_of}
 use Rattle.dp_conf.specs.declared.fault.ReadFault.{ReadFault}
 use Rattle.dp_commands.specs.Faults.{fault_of_read}
@@ -15,6 +17,11 @@ read_fault (Err fault) = Err (fault_of_read fault)
 -- all bytes of a file, where it has no more than a file may have
 abbrev pub whole_text : List ℕ → Result (List ℕ) PbxFault
 whole_text bytes = read_fault (whole_of bytes)
+
+-- why a file could not be opened, by the kind of the error
+abbrev pub opening_fault : ErrorKind → PbxFault
+opening_fault OutOfMemory = NoMemory
+opening_fault _ = Coded ReadFailed None
 
 -- whether a reader can have the fault
 abbrev pub is_read_fault : PbxFault → Bool

@@ -444,6 +444,7 @@ fn name_in(entry: &str) -> &[u8]
 }
 
 /// The number of the entry that has the name, where just one of them has it.
+#[tactic(auto, using(crate::proofs::EntriesLemmas::only_first))]
 fn number_in(entries: &[(u32, &str)], name: &[u8]) -> Option<u32>
     ensures { result ≡ spec.only (spec.numbers_in (map (λ entry. (entry.0, entry.1.now)) entries.now) name.now) }
 {

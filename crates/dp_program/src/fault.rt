@@ -6,6 +6,7 @@ ghost use Rattle.std.specs.Io.KnownBytes.{Appends};
 ghost use Rattle.dp_commands.specs.Codes.{code_text, fault_line};
 ghost use Rattle.dp_commands.specs.Explained.{line_text, sentence_text, shown_text, where_text};
 ghost use Rattle.dp_program.specs.Entries.{kind_of, said_of};
+ghost use Rattle.dp_program.specs.Entries as spec_entries;
 ghost use Rattle.dp_program.specs.Status as spec;
 
 use crate::entries::{kind_of, sentence_of};
@@ -110,13 +111,21 @@ fn print_place<E: WriteTold>(errors: &mut E, line: Option<&FileLine<'_>>) -> Res
     }
 }
 
+/// What stands before the kind of what is left out.
+#[tactic(auto, unfolding(crate::specs::Entries::left_out))]
+fn left_out() -> &'static [u8]
+    ensures { result.now ≡ spec_entries.left_out }
+{
+    b"what this program leaves out: "
+}
+
 /// Prints that a kind of lines is left out.
 fn print_left_out<E: WriteTold>(errors: &mut E, word: Word) -> Result<(), WriteFailed>
     ensures ok { OnOk result (Appends (E.contents errors.old) (E.contents errors.new)
-        (codes "what this program leaves out: " ++ kind_of word)) }
+        (spec_entries.left_out ++ kind_of word)) }
     ensures told { E.has_failed errors.new ≡ (E.has_failed errors.old || is_err result) }
 {
-    errors.write_told(b"what this program leaves out: ")?;
+    errors.write_told(left_out())?;
     errors.write_told(kind_of(word))
 }
 

@@ -1,8 +1,9 @@
 //! Files, read whole.
 ghost use Rattle.std.specs.Prelude.{◌≡◌, ◌||◌, List, ℕ, IfErr, None, true};
+ghost use Rattle.std.specs.IoError.{error_kind};
 ghost use Rattle.dp_conf.specs.Answers.{Answers};
 ghost use Rattle.dp_commands.specs.Faults.{reason_of};
-ghost use Rattle.dp_program.specs.Files.{Reads, Source, has_read_failed, is_read_fault, source};
+ghost use Rattle.dp_program.specs.Files.{Reads, Source, has_read_failed, is_read_fault, opening_fault, source};
 
 use dp_commands::{Code, PbxFault};
 use dp_conf::{ReadTold, Told, read_whole};
@@ -25,7 +26,8 @@ pub trait ReadFiles {
 
 /// Why a file could not be opened.
 fn opening_fault(error: &io::Error) -> PbxFault
-    ensures { is_read_fault result ≡ true }
+    ensures kind { result ≡ opening_fault (error_kind error.now) }
+    ensures fault { is_read_fault result ≡ true }
 {
     match error.kind() {
         io::ErrorKind::OutOfMemory => PbxFault::NoMemory,

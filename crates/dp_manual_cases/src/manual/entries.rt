@@ -1,5 +1,6 @@
-//! The entries of the faults: which numbers have one, and with which number and name it begins.
+//! The entries of the faults and of the refusals: which numbers have one, and with which number and name it begins.
 use dp_board::{Disagree, SettleFault};
+use dp_machine::Refusal;
 use dp_plan::{LineKind, NameFault, PlanKind, Word};
 use dp_program::{Code, FaultNumber};
 use dp_queue::QueueKind;
@@ -43,20 +44,51 @@ const CODES: [Code; 33] = [
     Code::BadBreak,
 ];
 
-/// Asserts that the entry of a fault begins with its number and its name, in a line of their own.
-fn check_entry<R: Abort + AllocGlobal>(rt: &R, code: Code) -> Result<(), Fail> {
-    let number = code.number();
+/// Each refusal of an event, in the order of their numbers.
+const REFUSALS: [Refusal; 14] = [
+    Refusal::NoChannel,
+    Refusal::NotReady,
+    Refusal::NotWaiting,
+    Refusal::NoTimer,
+    Refusal::NoQueue,
+    Refusal::NobodyWaiting,
+    Refusal::NoMember,
+    Refusal::NotRinging,
+    Refusal::NotTalking,
+    Refusal::Ended,
+    Refusal::NumbersSpent,
+    Refusal::BadDigit,
+    Refusal::BadPlan,
+    Refusal::NotDialling,
+];
+
+/// The name of two faults.
+const TWICE: &str = "LeftOut";
+
+/// Asserts that the entry of a number begins with it and with the name, in a line of their own, and that the name finds it, where it is no
+/// name of another.
+fn check_entry<R: Abort + AllocGlobal>(rt: &R, number: u8, name: &str) -> Result<(), Fail> {
     let fault = FaultNumber::new(u32::from(number)).ok_or("no entry")?;
-    let head = format!(in rt.alloc(); "{number} {}\n", code.name())?;
+    let head = format!(in rt.alloc(); "{number} {name}\n")?;
     let entry = fault.entry();
     assert!(rt; entry.starts_with(head.as_str()), "of {number}: {entry}");
+    let named = FaultNumber::named(name);
+    assert!(rt; named == Some(fault) || (name == TWICE && named.is_none()), "of {name}");
     Ok(())
 }
 
 #[test]
 fn each_fault_has_its_entry(rt: HostRuntime) -> Result<(), Fail> {
     for code in &CODES {
-        check_entry(&rt, *code)?;
+        check_entry(&rt, code.number(), code.name())?;
+    }
+    Ok(())
+}
+
+#[test]
+fn each_refusal_has_its_entry(rt: HostRuntime) -> Result<(), Fail> {
+    for refusal in &REFUSALS {
+        check_entry(&rt, refusal.code(), refusal.name())?;
     }
     Ok(())
 }
@@ -66,6 +98,6 @@ fn no_other_number_has_an_entry(rt: HostRuntime) -> Result<(), Fail> {
     let count = (0..1000)
         .filter(|number| FaultNumber::new(*number).is_some())
         .count();
-    assert_eq!(&rt; count, CODES.len());
+    assert_eq!(&rt; count, CODES.len() + REFUSALS.len());
     Ok(())
 }

@@ -21,6 +21,9 @@ check -- @empty→0→ok 0 contexts 0 entries¶→
 check @faulty→1→→fault 4 NoEquals line 2¶
 check @missing→1→→fault 7 ReadFailed¶
 check @folder→1→→fault 7 ReadFailed¶
+# A file stands where a folder would, and a name has more than 255 bytes.
+check @sample/extensions.conf→1→→fault 7 ReadFailed¶
+check @xxxxxxxxxxxxxxxxxxxxxxxxxxxxxxxxxxxxxxxxxxxxxxxxxxxxxxxxxxxxxxxxxxxxxxxxxxxxxxxxxxxxxxxxxxxxxxxxxxxxxxxxxxxxxxxxxxxxxxxxxxxxxxxxxxxxxxxxxxxxxxxxxxxxxxxxxxxxxxxxxxxxxxxxxxxxxxxxxxxxxxxxxxxxxxxxxxxxxxxxxxxxxxxxxxxxxxxxxxxxxxxxxxxxxxxxxxxxxxxxxxxxxxxxxxxxxxxx→1→→fault 7 ReadFailed¶
 check ''→1→→fault 7 ReadFailed¶
 check @long→1→→fault 8 TooLong¶
 ";

@@ -3,7 +3,7 @@ use Rattle.std.specs.Option.{option_to_list}
 use Rattle.dp_program.specs.Entries.{numbers_in}
 use Rattle.dp_program.proofs.entries.number_in.Given as goal
 
-abbrev pub invariant-loop-of : goal.invariant-loop-of
-invariant-loop-of l =
-    numbers_in (map (λ entry. (entry.0, entry.1.now)) l.entries) l.name.now
-    ≡ option_to_list l.found ++ numbers_in (map (λ entry. (entry.0, entry.1.now)) (drop l.of-index l.entries)) l.name.now
+abbrev pub invariant-loop-number : goal.invariant-loop-number
+invariant-loop-number l =
+    numbers_in (map (λ entry. (entry.0, entry.1.now)) l.entries) l.name
+    ≡ option_to_list l.found ++ numbers_in (map (λ entry. (entry.0, entry.1.now)) (drop l.number-index l.entries)) l.name
