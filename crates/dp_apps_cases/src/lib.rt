@@ -10,6 +10,8 @@ mod apps;
 #[cfg(test)]
 mod dial;
 #[cfg(test)]
+mod nameless;
+#[cfg(test)]
 mod own;
 #[cfg(test)]
 mod variables;

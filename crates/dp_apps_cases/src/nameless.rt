@@ -1,0 +1,109 @@
+//! Applications on a queue with a member of the empty name, worked out by hand from their pages in the Asterisk documentation's
+//! application reference. No file and no application makes such a member, so a call of the queues does.
+ghost use Rattle.std.specs.Prelude.{IfOk};
+ghost use Rattle.dp_queue.specs.Rest.{IsAtRest};
+
+use dp_machine::{Dialplan, Event, NoMemory, Queues};
+use dp_machine_fixture::{Exchange, call, push_value};
+use dp_questions::{Question, bytes_of, check, check_that};
+use dp_queue::{Added, Member, Queue};
+use std::alloc::Global;
+use std::test::Fail;
+
+/// The queue, with a member of the file.
+const QUEUE: &[u8] = b"[q]\nmember => Line/1\n";
+
+/// An application, and what a call to it reports, with the members of the queue after it: ` NAME` and ` paused`, each between
+/// pointed brackets.
+const ROWS: &str = r"
+# An empty interface names no member, in a queue and in all of them.
+PauseQueueMember(q,)→NOTFOUND < Line/1>< >
+PauseQueueMember(q, )→NOTFOUND < Line/1>< >
+PauseQueueMember(q)→NOTFOUND < Line/1>< >
+PauseQueueMember(,)→NOTFOUND < Line/1>< >
+PauseQueueMember→NOTFOUND < Line/1>< >
+UnpauseQueueMember(q,)→NOTFOUND < Line/1>< >
+UnpauseQueueMember(,)→NOTFOUND < Line/1>< >
+UnpauseQueueMember→NOTFOUND < Line/1>< >
+# A member with a name is paused beside it.
+PauseQueueMember(,Line/1)→PAUSED < Line/1 paused>< >
+# Where members come and go, an empty interface is the channel's name.
+AddQueueMember(q,)→ADDED < Line/1>< >< Channel/1>
+RemoveQueueMember(q,)→NOTINQUEUE < Line/1>< >
+";
+
+/// The queue with one member more, whose name is empty, and which the queue's own calls find.
+fn queues_with_nameless(alloc: Global) -> Result<Queues, Fail>
+    ensures rest { IfOk result IsAtRest }
+{
+    let mut queues = Queues::load(alloc, QUEUE)?;
+    let added = queues.add(alloc, b"q", b"", 0)?;
+    check_that(added == Added::Added, "that the member was added")?;
+    check_that(queues.would_pause(Some(b"q"), b""), "that it is there")?;
+    Ok(queues)
+}
+
+/// A machine over these queues, with the application at priority 1 of `s` in `main`.
+fn machine_with(alloc: Global, application: &[u8]) -> Result<Exchange, Fail> {
+    let mut text = Vec::from_slice(alloc, b"[main]\nexten => s,1,")?;
+    text.extend_from_slice(application)?;
+    let (plan, _) = Dialplan::load(alloc, &text)?;
+    let queues = queues_with_nameless(alloc)?;
+    let machine = Exchange::new(alloc, plan, queues)?;
+    Ok(machine)
+}
+
+/// What the applications report: one of them has run, so one of the variables has a value.
+fn push_reports(out: &mut String, alloc: Global, machine: &Exchange) -> Result<(), NoMemory> {
+    for name in ["AQMSTATUS", "RQMSTATUS", "PQMSTATUS", "UPQMSTATUS"] {
+        push_value(out, alloc, machine, 1, name)?;
+    }
+    Ok(())
+}
+
+fn push_member(out: &mut String, queues: &Queues, member: &Member) -> Result<(), NoMemory> {
+    let paused = if member.is_paused { " paused" } else { "" };
+    match queues.agents().get(member.agent) {
+        Some(agent) => write!(out, "< {}{paused}>", agent.name),
+        None => out.push_str("a member that is no agent"),
+    }
+}
+
+fn push_members(out: &mut String, queues: &Queues, queue: &Queue) -> Result<(), NoMemory> {
+    for member in queue.members() {
+        push_member(out, queues, member)?;
+    }
+    Ok(())
+}
+
+/// What a call to the application reports, and the members of the queue after it.
+fn push_run(out: &mut String, alloc: Global, machine: &mut Exchange) -> Result<(), NoMemory> {
+    let call = call(alloc, b"main", b"s", b"")?;
+    let _started = machine.apply(alloc, call)?;
+    let _ran = machine.apply(alloc, Event::Step { channel: 1 })?;
+    push_reports(out, alloc, machine)?;
+    out.push(' ')?;
+    match machine.queues().queues().first() {
+        Some(queue) => push_members(out, machine.queues(), queue),
+        None => out.push_str("no queue"),
+    }
+}
+
+/// What becomes of the members of a queue of which one has the empty name.
+struct Members;
+
+impl Question for Members {
+    fn answer(alloc: Global, asked: &str) -> Result<String, Fail> {
+        let application = bytes_of(alloc, asked)?;
+        let mut machine = machine_with(alloc, &application)?;
+        let mut out = String::new(alloc);
+        push_run(&mut out, alloc, &mut machine)?;
+        Ok(out)
+    }
+}
+
+/// A member of the empty name is none that an application of pauses names.
+#[test]
+fn nameless_members_are_not_named(rt: HostRuntime) -> Result<(), Fail> {
+    check::<Members>(rt.alloc(), ROWS)
+}
