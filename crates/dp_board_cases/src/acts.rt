@@ -1,7 +1,7 @@
 //! Two seats act on two threads.
 use crate::play::{Play, perform};
 use dp_board::{Board, History, Seat, Session};
-use dp_board_fixture::{Exchange, SeatReply, give};
+use dp_board_fixture::{Exchange, Retry, SeatReply, give};
 use dp_machine::{EntryId, Event, Phase, Reply};
 use dp_table::StandardApps;
 use std::alloc::Global;
@@ -38,17 +38,18 @@ pub(super) fn step<S: Session, R: Wait>(
     give(rt, alloc, board, seat, Event::Step { channel })
 }
 
-/// One step of the seat's channel. Where memory is refused the record is as it was, and the step is
-/// given once more; then what is answered stands last in the record.
+/// One step of the seat's channel. Where memory is refused the record is as it was, and the step is given once more if that is asked for;
+/// then what is answered stands last in the record.
 pub(super) fn act_step<S: Session, R: Wait + Abort>(
     rt: &R,
     alloc: Global,
     board: &Board<StandardApps, S>,
     seat: &mut Seat<S>,
+    retry: Retry,
 ) {
     let channel = channel_of(seat);
     let mut told = step(rt, alloc, board, seat, channel);
-    if told.is_none() {
+    if told.is_none() && retry == Retry::Once {
         assert!(rt; seat.record().is_empty());
         told = step(rt, alloc, board, seat, channel);
     }

@@ -16,6 +16,8 @@ mod pauses;
 #[cfg(test)]
 mod play;
 #[cfg(test)]
+mod releases;
+#[cfg(test)]
 mod reloads;
 #[cfg(test)]
 mod turns;

@@ -36,7 +36,7 @@ impl Gate for Paced {
 }
 
 /// Gives an event that is done.
-fn give_done<S: Session, R: Wait + Abort>(
+pub(super) fn give_done<S: Session, R: Wait + Abort>(
     rt: &R,
     alloc: Global,
     board: &Board<StandardApps, S>,

@@ -6,10 +6,11 @@ use crate::acts::{act_step, check_steps, told_of};
 use crate::again::attend_again;
 use crate::gates::act_crossed;
 use crate::pauses::{Paced, act_paced, has_paced};
+use crate::releases::{Released, act_released, has_released};
 use crate::reloads::{act_reload, check_reload};
 use crate::turns::{act_hung_up, act_turns};
 use dp_board::{Board, History, Seat, Session};
-use dp_board_fixture::{Crossed, Exchange, SeatReply, machine_of, settle};
+use dp_board_fixture::{Crossed, Exchange, Retry, SeatReply, machine_of, settle};
 use dp_table::StandardApps;
 use std::alloc::Global;
 use std::marker::Brand;
@@ -35,6 +36,8 @@ pub(super) enum Play {
     Turns(Crossed),
     /// The first seat attends one channel after another, each of which is hung up at once, through this gate.
     HungUp(Crossed),
+    /// Two seats attend a channel each, which pause, and the third ends one pause after the other.
+    Released(Released),
     /// The second seat puts another dialplan in force between two steps of the first.
     Reload,
     /// There are no seats.
@@ -55,11 +58,20 @@ fn act_one<S: Session, R: Wait + Abort>(
         Play::AttendedAlone => attend_again(rt, alloc, board, seat),
         Play::Turns(gate) => act_turns(rt, alloc, board, seat, gate),
         Play::HungUp(gate) => act_hung_up(rt, alloc, board, seat, gate),
-        _ => act_step(rt, alloc, board, seat),
+        Play::Released(gate) => act_released(rt, alloc, board, seat, gate),
+        _ => act_step(rt, alloc, board, seat, retry_of(play)),
     }
 }
 
-/// Acts by two seats at once.
+/// Whether a call that is refused memory is made once more. In all other plays there is memory, and no call may say otherwise.
+fn retry_of(play: &Play) -> Retry {
+    match play {
+        Play::StepsAlone | Play::AttendedAlone => Retry::Once,
+        _ => Retry::Never,
+    }
+}
+
+/// Acts by all seats at once.
 fn act_at_once<S: Session + Send + Sync, R: Threads + Wait + Abort + Sync>(
     rt: &R,
     alloc: Global,
@@ -68,7 +80,8 @@ fn act_at_once<S: Session + Send + Sync, R: Threads + Wait + Abort + Sync>(
     play: &Play,
 ) {
     let act = |_place: usize, seat: &mut Seat<S>| act_one(rt, alloc, board, seat, play);
-    for_each_mut(rt, seats, 2, &act);
+    let threads = seats.len();
+    for_each_mut(rt, seats, threads, &act);
 }
 
 /// Acts by one seat after another.
@@ -93,7 +106,7 @@ fn act<S: Session + Send + Sync, R: Threads + Wait + Abort + Sync>(
     play: &Play,
 ) {
     match play {
-        Play::Steps | Play::Crossed(_) | Play::Paced(_) => {
+        Play::Steps | Play::Crossed(_) | Play::Paced(_) | Play::Released(_) => {
             act_at_once(rt, alloc, board, seats, play);
         }
         Play::Reload => act_reload(rt, alloc, board, seats),
@@ -107,6 +120,7 @@ fn calls_of(play: &Play) -> usize {
         Play::Steps | Play::StepsAlone => 2,
         Play::Crossed(_) | Play::AttendedAlone => 4,
         Play::Paced(_) => 5,
+        Play::Released(_) => 6,
         Play::Turns(_) => 7,
         Play::Reload | Play::HungUp(_) => 3,
         Play::Nothing => 0,
@@ -130,6 +144,7 @@ fn check(
             assert!(rt; gate.fits(history.entries()));
         }
         Play::Paced(gate) => assert!(rt; has_paced(gate)),
+        Play::Released(gate) => assert!(rt; has_released(gate)),
         Play::Reload => check_reload(rt, alloc, history),
         _ => {}
     }
@@ -145,7 +160,7 @@ fn play_out<S: Session + Send + Sync, R: Threads + Wait + Abort + Sync>(
 ) {
     act(rt, alloc, &board, &mut seats, play);
     let told = told_of(&seats);
-    let history = settle(alloc, board, seats).expect(rt, "settled");
+    let history = settle(alloc, board, seats, retry_of(play)).expect(rt, "settled");
     check(rt, alloc, &history, play, told);
 }
 
@@ -184,7 +199,7 @@ fn played<R: Threads + Wait + Abort + Sync>(
 }
 
 /// Plays on a board of so many seats, with channel 1 at one extension and channel 2 at the other. A machine that is given back for want
-/// of memory is played on once more.
+/// of memory is played on once more, if the play is one for refused memory.
 pub(super) fn perform<R: Threads + Wait + Abort + Sync>(
     rt: &R,
     alloc: Global,
@@ -195,6 +210,7 @@ pub(super) fn perform<R: Threads + Wait + Abort + Sync>(
 ) {
     let machine = machine_of(alloc, first, second).expect(rt, "the machine");
     if let Some(machine) = played(rt, alloc, machine, seats, &play) {
+        assert!(rt; retry_of(&play) == Retry::Once);
         let given_back = played(rt, alloc, machine, seats, &play);
         assert!(rt; given_back.is_none());
     }

@@ -8,20 +8,25 @@ mod owned;
 
 use dp_board::{Entry, Gate};
 use dp_machine::Reply;
-pub use owned::{Exchange, SeatReply, attend, give, machine_of, settle};
+pub use owned::{Exchange, Retry, SeatReply, attend, give, machine_of, settle};
 use std::sync::atomic::{AtomicU64, Ordering};
 
 /// For how many turns of a loop a gate waits.
 const MOST_TURNS: u32 = 10_000_000;
 
-/// Waits until a flag is set, and marks a failure where that takes too long.
-pub fn hold(flag: &AtomicU64, marks: &AtomicU64) {
+/// Waits until a count has come so far, and marks a failure where that takes too long.
+pub fn hold_until(count: &AtomicU64, wanted: u64, marks: &AtomicU64) {
     for _ in 0..MOST_TURNS {
-        if flag.load(Ordering::SeqCst) != 0 {
+        if count.load(Ordering::SeqCst) >= wanted {
             return;
         }
     }
     marks.store(1, Ordering::SeqCst);
+}
+
+/// Waits until a flag is set, and marks a failure where that takes too long.
+pub fn hold(flag: &AtomicU64, marks: &AtomicU64) {
+    hold_until(flag, 1, marks);
 }
 
 /// The calls that a gate should get of a channel: the turn and the reply of each event, parted by blanks, as `0 ran 1 none`.

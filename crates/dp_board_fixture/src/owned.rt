@@ -1,6 +1,7 @@
 //! What owns a machine, a board or a history. So what it comes to that one is let go is proved here, and in no crate of cases.
 //!
-//! Where memory is refused each call of a board hands back what it was given, or leaves it as it was, and is made once more.
+//! Where memory is refused each call of a board hands back what it was given, or leaves it as it was, and is made once more where that is
+//! asked for.
 use dp_board::{
     Attended, Back, Board, Event, Gate, History, Machine, NoMemory, Reply, Seat, Session, Text,
     Unsettled,
@@ -127,14 +128,24 @@ fn opened<S: Session>(back: Back<StandardApps, S>) -> Option<Opened<S>> {
     }
 }
 
-/// Settles, and once more where memory is refused, which is fault 62 and hands all back.
+/// Whether a call that is refused memory is made once more.
+#[derive(Clone, Copy, PartialEq, Eq)]
+pub enum Retry {
+    /// It is made once more, since each growth is refused in turn.
+    Once,
+    /// It is not: there is memory, and a refusal would be false.
+    Never,
+}
+
+/// Settles, and once more where memory is refused, which is fault 62 and hands all back, if that is asked for.
 fn settled<S: Session>(
     alloc: Global,
     board: Board<StandardApps, S>,
     seats: Vec<Seat<S>>,
+    retry: Retry,
 ) -> Option<Settled<S>> {
     match board.settle(alloc, seats) {
-        Err(Unsettled { fault, back }) if fault.code() == 62 => {
+        Err(Unsettled { fault, back }) if fault.code() == 62 && retry == Retry::Once => {
             let (board, seats) = opened(back)?;
             Some(board.settle(alloc, seats))
         }
@@ -147,18 +158,24 @@ fn unsettled<S: Session>(
     alloc: Global,
     board: Board<StandardApps, S>,
     seats: Vec<Seat<S>>,
+    retry: Retry,
 ) -> Option<Opened<S>> {
-    match settled(alloc, board, seats)? {
+    match settled(alloc, board, seats, retry)? {
         Err(Unsettled { fault, back }) if fault.code() == 60 => opened(back),
         _ => None,
     }
 }
 
 /// Settles with the last seat, too.
-fn settle_all<S: Session>(alloc: Global, opened: Opened<S>, last: Seat<S>) -> Option<Settled<S>> {
+fn settle_all<S: Session>(
+    alloc: Global,
+    opened: Opened<S>,
+    last: Seat<S>,
+    retry: Retry,
+) -> Option<Settled<S>> {
     let (board, mut seats) = opened;
     seats.push(last).ok()?;
-    settled(alloc, board, seats)
+    settled(alloc, board, seats, retry)
 }
 
 /// Settles without the last seat, which hands all back, and then with it.
@@ -167,9 +184,10 @@ fn settle_twice<S: Session>(
     board: Board<StandardApps, S>,
     seats: Vec<Seat<S>>,
     last: Seat<S>,
+    retry: Retry,
 ) -> Option<Settled<S>> {
-    let opened = unsettled(alloc, board, seats)?;
-    settle_all(alloc, opened, last)
+    let opened = unsettled(alloc, board, seats, retry)?;
+    settle_all(alloc, opened, last, retry)
 }
 
 /// The history of a board that settled.
@@ -185,9 +203,10 @@ pub fn settle<S: Session>(
     alloc: Global,
     board: Board<StandardApps, S>,
     mut seats: Vec<Seat<S>>,
+    retry: Retry,
 ) -> Option<History<StandardApps>> {
     match seats.pop() {
-        Some(last) => history_of(settle_twice(alloc, board, seats, last)),
-        None => history_of(settled(alloc, board, seats)),
+        Some(last) => history_of(settle_twice(alloc, board, seats, last, retry)),
+        None => history_of(settled(alloc, board, seats, retry)),
     }
 }

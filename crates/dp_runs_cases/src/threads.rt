@@ -1,6 +1,6 @@
 //! Runs in threads, with the line that is printed of them and their histories, worked out by hand from the rules.
 use dp_board::Gate;
-use dp_board_fixture::{Crossed, gate_of};
+use dp_board_fixture::{Crossed, gate_of, hold_until};
 use dp_commands::{PbxFault, run_threads};
 use dp_conf::{NoMemory, Told};
 use dp_machine::Reply;
@@ -9,6 +9,7 @@ use std::alloc::Global;
 use std::process::Abort;
 use std::str;
 use std::sync::Wait;
+use std::sync::atomic::{AtomicU64, Ordering};
 use std::test::Fail;
 use std::thread::Threads;
 
@@ -216,4 +217,64 @@ fn gates_are_called_so(rt: HostRuntime) -> Result<(), Fail> {
         }
     }
     Ok(())
+}
+
+/// Holds each seat before its event until so many seats have come, and marks one that waits too long.
+#[derive(Drop)]
+struct Gathered {
+    seats: u64,
+    come: AtomicU64,
+    marks: AtomicU64,
+}
+
+impl Gate for Gathered {
+    fn before(&self, _channel: u32, _turn: u64) {
+        self.come.fetch_add(1, Ordering::SeqCst);
+        hold_until(&self.come, self.seats, &self.marks);
+    }
+
+    fn after(&self, _channel: u32, _reply: &Reply) {}
+}
+
+/// A call for each of nine seats, and one event for each.
+const NINE: &[u8] =
+    b"start main s\nstart main s\nstart main s\nstart main s\nstart main s\nstart main s\n\
+start main s\nstart main s\nstart main s\nstep 1\nstep 2\nstep 3\nstep 4\nstep 5\nstep 6\nstep 7\nstep 8\nstep 9\n";
+
+/// The status of a run of nine seats through the gate.
+fn run_nine<R: Threads + Wait + Sync>(
+    rt: &R,
+    alloc: Global,
+    gate: &Gathered,
+    writer: &mut Told<Vec<u8>>,
+) -> Result<u8, PbxFault> {
+    let (status, _) = run_threads(rt, alloc, GATED_PLAN, None, None, NINE, 9, gate, writer)?;
+    Ok(status)
+}
+
+fn check_gathered<R: Threads + Wait + Abort + Sync>(rt: &R, alloc: Global) -> Result<(), Fail> {
+    let gate = Gathered {
+        seats: 9,
+        come: AtomicU64::new(0),
+        marks: AtomicU64::new(0),
+    };
+    let mut writer = Told::new(Vec::new(alloc));
+    let ended = run_nine(rt, alloc, &gate, &mut writer);
+    assert!(rt;
+        gate.marks.load(Ordering::SeqCst) == 0,
+        "a seat waited too long for the others"
+    );
+    check_outcome(
+        alloc,
+        "nine seats",
+        ended,
+        &writer.into_inner(),
+        "settled 9 seats 9 calls\nstatus 0",
+    )
+}
+
+/// Each seat has a thread of its own, also where there are more than eight: each comes to its gate while all others wait there.
+#[test]
+fn nine_seats_act_at_once(rt: HostRuntime) -> Result<(), Fail> {
+    check_gathered(&rt, rt.alloc())
 }
