@@ -1,4 +1,4 @@
-use Rattle.std.proofs.Common.{◌+◌, subst, arith}
+use Rattle.std.proofs.Common.{subst, arith}
 use Rattle.dp_machine.specs.declared.event.Event.TheVariants.{Step as step}
 use Rattle.dp_board.specs.Attending.{IsEnd, added}
 use Rattle.dp_board.specs.Sittings.{call_of}
