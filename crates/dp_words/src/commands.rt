@@ -269,7 +269,11 @@ pub(crate) fn explain_command<'a>(alloc: Global) -> Result<Command<'a>, NoMemory
         "Print what the manual says of a fault",
         EXPLAIN_NOTES,
     );
-    let code = required_word(alloc, "CODE", "The number of the fault, from 1 to 71, or its name");
+    let code = required_word(
+        alloc,
+        "CODE",
+        "The number of the fault, from 1 to 71, or its name",
+    );
     let explain = with_word(explain, code);
     with_explain(alloc, explain)
 }

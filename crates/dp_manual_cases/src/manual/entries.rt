@@ -73,7 +73,10 @@ fn check_entry<R: Abort + AllocGlobal>(rt: &R, number: u8, name: &str) -> Result
     let entry = fault.entry();
     assert!(rt; entry.starts_with(head.as_str()), "of {number}: {entry}");
     let named = FaultNumber::named(name);
-    assert!(rt; named == Some(fault) || (name == TWICE && named.is_none()), "of {name}");
+    assert!(rt;
+        named == Some(fault) || (name == TWICE && named.is_none()),
+        "of {name}"
+    );
     Ok(())
 }
 
