@@ -1,6 +1,6 @@
 -- The manual's entries of the faults and of the refusals, by their numbers and by their names. Their texts stand in the source once.
-use Rattle.std.specs.Prelude.{ℕ, Bool, List, [], ◌∷◌, ◌++◌, Option, Some, None, is_some, map, unwrap_or, codes, ◌==◌, if◌then◌else◌}
-use Rattle.std.specs.List.{filter_map}
+use Rattle.std.specs.Prelude.{ℕ, Bool, List, [], ◌∷◌, ◌++◌, Option, Some, None, is_some, map, unwrap_or, nat_eq, decimal, codes, ◌==◌, if◌then◌else◌}
+use Rattle.std.specs.List.{filter_map, starts_with}
 use Rattle.std.specs.Option.{option_and_then, option_map_or}
 use Rattle.dp_conf.specs.Cut.{cut_once}
 use Rattle.dp_conf.specs.Lines.{parts_of}
@@ -35,6 +35,10 @@ entry_of number = unwrap_or (found_entry number) []
 -- the manual's sentence on a fault: the second line of its entry
 abbrev pub sentence_of : ℕ → List ℕ
 sentence_of number = line_among (parts_of (entry_of number)) 2
+
+-- an entry begins with this number and this name, in a line of their own
+abbrev pub is_headed : ℕ → List ℕ → List ℕ → Bool
+is_headed number name entry = starts_with nat_eq entry (decimal number ++ codes " " ++ name ++ codes "\n")
 
 -- the name in an entry: what stands after the number, in the first line
 abbrev pub name_in : List ℕ → List ℕ

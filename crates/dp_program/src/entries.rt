@@ -1,5 +1,9 @@
 //! The manual's entries of the faults, and of the refusals of events.
-ghost use Rattle.std.specs.Prelude.{◌≡◌, ◌==◌, map, option_map};
+ghost use Rattle.std.specs.Prelude.{◌≡◌, ◌==◌, map, option_map, true};
+ghost use Rattle.dp_commands.specs.Codes.{code_name, code_number};
+ghost use Rattle.dp_commands.specs.declared.fault.Code.{Code};
+ghost use Rattle.dp_machine.specs.Codes.{refusal_code, refusal_name};
+ghost use Rattle.dp_machine.specs.declared.refusal.Refusal.{Refusal};
 ghost use Rattle.dp_program.specs.Entries as spec;
 
 use dp_commands::line_in;
@@ -517,6 +521,14 @@ impl FaultNumber {
         found_entry(self.number).unwrap()
     }
 }
+
+/// The entry of each fault, and that of each refusal of an event, begins with its number and its name, in a line of their own. It does
+/// nothing.
+pub fn entries_are_headed()
+    ensures faults { (code : Code) → spec.is_headed (code_number code) (code_name code) (spec.entry_of (code_number code)) ≡ true }
+    ensures refusals { (refusal : Refusal) → spec.is_headed (refusal_code refusal) (refusal_name refusal)
+        (spec.entry_of (refusal_code refusal)) ≡ true }
+{}
 
 /// The manual's sentence on the fault of the number.
 pub(crate) fn sentence_of(number: u32) -> &'static [u8]

@@ -12,7 +12,7 @@ mod runs;
 mod texts;
 
 pub use dp_commands::{Code, FileLine, PbxFault};
-pub use entries::FaultNumber;
+pub use entries::{FaultNumber, entries_are_headed};
 pub use fault::{finish, print_fault};
 pub use faulted::Faulted;
 pub use files::ReadFiles;
