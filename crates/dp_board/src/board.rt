@@ -34,7 +34,7 @@ impl<S: Session> Rest<S> {
 pub struct Board<T: AppTable, S: Session> {
     pub(crate) shared: Mutex<Shared<T, S>>,
     pub(crate) changed: Condvar,
-    pub(crate) rest: Rest<S>,
+    pub(crate) rest: Mutex<Rest<S>>,
     pub(crate) seats: u32,
 }
 
@@ -90,7 +90,7 @@ fn board_over<T: AppTable, S: Session>(
     Board {
         shared: Mutex::new(Shared::new(alloc, machine, calls)),
         changed: Condvar::new(),
-        rest: Rest::new(share),
+        rest: Mutex::new(Rest::new(share)),
         seats,
     }
 }

@@ -135,7 +135,7 @@ fn history_of<T: AppTable, S: Session>(
     ensures same { seats.new.items ≡ seats.old.items }
 {
     let shared = board.shared.into_inner();
-    let mut all = board.rest.share;
+    let mut all = board.rest.into_inner().share;
     join_parts(seats, &mut sheets, &mut all);
     let history = shared.closed(&mut all);
     split_parts(&mut sheets, seats, &mut all);

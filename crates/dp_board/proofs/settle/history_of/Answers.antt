@@ -13,7 +13,7 @@ returns-clause-whole g c =
     let seats = c.args.seats.now.items in
     let shared = c.into_inner-shared.result in
     let closed = c.closed-history.ensures in
-    let counted : c.join_parts.new.all.amount ≡ calls_of seats = omega (arith, c.join_parts.ensures.amount, c.board.inside.rest.no_call) in
+    let counted : c.join_parts.new.all.amount ≡ calls_of seats = omega (arith, c.join_parts.ensures.amount, c.into_inner.result.no_call) in
     IsWhole-of g.T.AppTable.rows g.S.Session.opening g.S.Ledger.parts c.args.board c.join_parts.new.all.amount seats c.closed-history.result shared closed.history closed.replays c.requires.present.0 closed.calls counted closed.seated
     (c.board.invariant ∙ ap (λ n. n + 1) c.board.view_is)
 
