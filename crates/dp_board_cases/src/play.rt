@@ -71,6 +71,9 @@ fn retry_of(play: &Play) -> Retry {
     }
 }
 
+/// How many threads a play has at most: one for each of its seats.
+const MOST_THREADS: usize = 3;
+
 /// Acts by all seats at once.
 fn act_at_once<S: Session + Send + Sync, R: Threads + Wait + Abort + Sync>(
     rt: &R,
@@ -80,8 +83,7 @@ fn act_at_once<S: Session + Send + Sync, R: Threads + Wait + Abort + Sync>(
     play: &Play,
 ) {
     let act = |_place: usize, seat: &mut Seat<S>| act_one(rt, alloc, board, seat, play);
-    let threads = seats.len();
-    for_each_mut(rt, seats, threads, &act);
+    for_each_mut(rt, seats, MOST_THREADS, &act);
 }
 
 /// Acts by one seat after another.

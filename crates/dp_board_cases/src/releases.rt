@@ -65,6 +65,11 @@ fn release<S: Session, R: Wait + Abort>(
     gate.hold(channel, 2);
 }
 
+/// The other of the two channels.
+fn other_of(channel: u32) -> u32 {
+    if channel == 1 { 2 } else { 1 }
+}
+
 /// Ends both pauses, once both channels pause.
 fn release_both<S: Session, R: Wait + Abort>(
     rt: &R,
@@ -77,7 +82,7 @@ fn release_both<S: Session, R: Wait + Abort>(
     gate.hold(2, 1);
     idle(gate);
     release(rt, alloc, board, seat, gate, gate.leading);
-    release(rt, alloc, board, seat, gate, 3 - gate.leading);
+    release(rt, alloc, board, seat, gate, other_of(gate.leading));
 }
 
 /// The first two seats attend a channel each, and the third ends the pauses.
