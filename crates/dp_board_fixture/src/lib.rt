@@ -11,8 +11,8 @@ use dp_machine::Reply;
 pub use owned::{Exchange, Retry, SeatReply, attend, give, machine_of, settle};
 use std::sync::atomic::{AtomicU64, Ordering};
 
-/// For how many turns of a loop a gate waits.
-const MOST_TURNS: u32 = 10_000_000;
+/// For how many turns of a loop a gate waits. A turn is one load: ten million of them are over before another thread has begun.
+const MOST_TURNS: u32 = 1_000_000_000;
 
 /// Waits until a count has come so far, and marks a failure where that takes too long.
 pub fn hold_until(count: &AtomicU64, wanted: u64, marks: &AtomicU64) {
