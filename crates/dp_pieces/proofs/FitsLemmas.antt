@@ -51,11 +51,11 @@ fits-known (OneOf set ∷ pieces) text bytes is fits = absurd cc
 fits-known (AnyOf set ∷ pieces) text bytes is fits = absurd cc
 
 -- the bytes after the first piece are among those of all
-later-part : (piece : Piece) (pieces : List Piece) → IsPart (pieces_set pieces) (pieces_set (piece ∷ pieces))
+pub later-part : (piece : Piece) (pieces : List Piece) → IsPart (pieces_set pieces) (pieces_set (piece ∷ pieces))
 unfolding pieces_set
 later-part piece pieces byte is = either-right (piece_set piece byte) (pieces_set pieces byte) is
 
-first-part : (piece : Piece) (pieces : List Piece) → IsPart (piece_set piece) (pieces_set (piece ∷ pieces))
+pub first-part : (piece : Piece) (pieces : List Piece) → IsPart (piece_set piece) (pieces_set (piece ∷ pieces))
 unfolding pieces_set
 first-part piece pieces byte is = either-left (piece_set piece byte) (pieces_set pieces byte) is
 

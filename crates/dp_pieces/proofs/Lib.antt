@@ -9,4 +9,5 @@ pub mod ShownLemmas
 pub mod TrimmedLemmas
 pub mod ArgumentLemmas
 pub mod CutLemmas
+pub mod LastLemmas
 pub mod MetLemmas

@@ -1,16 +1,17 @@
 -- A text that fits a shape and matches a name fits what both say.
-use Rattle.std.proofs.Common.{◌≡◌, ℕ, zero, suc, ◌<◌, true, ◌&&◌, ◌==◌, List, [], ◌∷◌, ◌++◌, length, refl, sym, ap, ◌∙◌, subst, eq-eqb, arith}
+use Rattle.std.proofs.Common.{◌≡◌, ℕ, zero, suc, ◌<◌, Bool, true, false, not, ◌&&◌, ◌||◌, ◌==◌, if◌then◌else◌, List, [], ◌∷◌, ◌++◌, length, refl, sym, ap, ◌∙◌, subst, eq-eqb, arith}
+use borrow.Author.Tests.{eqb-true}
 use Rattle.std.specs.Prelude.{Contains, slice_index_or}
 use Rattle.std.specs.List.{AllZip}
-use Rattle.dp_pattern.specs.Dashes.{undashed}
+use Rattle.dp_pattern.specs.Dashes.{is_dash, undashed}
 use Rattle.dp_pattern.specs.Matches.{FitsTail, Matches}
 use Rattle.dp_pattern.specs.Name.{Meaning, Plain, Pattern}
 use Rattle.dp_pattern.specs.declared.tail.Tail.{Tail}
 use Rattle.dp_pattern.specs.declared.tail.Tail.TheVariants.{End, Dot, Bang}
-use Rattle.dp_pieces.specs.Bytes.{Bytes, Within, both}
-use Rattle.dp_pieces.specs.Met.{met, met_classes, met_tail}
-use Rattle.dp_pieces.specs.Pieces.{AnyOf, Fits, Known, OneOf, Piece, bytes_in, exactly, made, pieces_set}
-use Rattle.dp_pieces.proofs.FitsLemmas.{fits-exactly, fits-made, fits-set}
+use Rattle.dp_pieces.specs.Bytes.{Bytes, IsPart, Within, both}
+use Rattle.dp_pieces.specs.Met.{matched, met, met_classes, met_tail}
+use Rattle.dp_pieces.specs.Pieces.{AnyOf, Fits, Known, OneOf, Piece, bytes_in, exactly, made, piece_set, pieces_set}
+use Rattle.dp_pieces.proofs.FitsLemmas.{first-part, fits-exactly, fits-made, fits-set, later-part, made-part}
 use Rattle.dp_pieces.proofs.WithinLemmas.{either-left, either-right}
 
 -- a byte at a place of a class is one of its bytes
@@ -60,8 +61,92 @@ fits-classes (AnyOf set ∷ pieces) (class ∷ classes) tail text (byte ∷ begi
           (fits-made (pieces_set (AnyOf set ∷ pieces)) (begin ++ rest) within.1),
     )
 
-pub fits-met : (pieces : List Piece) (name : Meaning) (text : List ℕ) → undashed text ≡ text → Fits pieces text → Matches name text → Fits (met pieces name) text
+fits-met : (pieces : List Piece) (name : Meaning) (text : List ℕ) → undashed text ≡ text → Fits pieces text → Matches name text → Fits (met pieces name) text
 unfolding Matches
 fits-met pieces (Plain plain) text clean fits matching = subst (Fits (exactly plain)) (sym matching ∙ clean) (fits-exactly plain)
 fits-met pieces (Pattern classes tail) text clean fits matching =
     fits-classes pieces classes tail text matching.begin matching.rest (sym clean ∙ matching.whole) matching.members matching.ending fits
+
+-- a text of a set without the dash has none
+no-dashes : (set : Bytes) (text : List ℕ) → set 45 ≡ false → Within set text → undashed text ≡ text
+no-dashes set [] lacks within = refl
+no-dashes set (byte ∷ text) lacks within = by (is_dash byte) refl (no-dashes set text lacks within.1)
+  where
+    by : (dash : Bool) → is_dash byte ≡ dash → undashed text ≡ text → (if not dash then byte ∷ undashed text else undashed text) ≡ byte ∷ text
+    by true is rest = let same : byte ≡ 45 = eqb-true byte 45 is in absurd (let no : false ≡ true = sym lacks ∙ (ap set (sym same) ∙ within.0) in let b : ⊥ = cc in b)
+    by false is rest = ap (λ t. byte ∷ t) rest
+
+-- an extension that has matched a name
+pub fits-matched : (pieces : List Piece) (name : Meaning) (text : List ℕ) → Fits pieces text → Matches name text → Fits (matched pieces name) text
+fits-matched pieces name text fits matching = by (pieces_set pieces 45) refl
+  where
+    by : (dashed : Bool) → pieces_set pieces 45 ≡ dashed → Fits (if dashed then pieces else met pieces name) text
+    by true is = fits
+    by false is = fits-met pieces name text (no-dashes (pieces_set pieces) text is (fits-set pieces text fits)) fits matching
+
+-- the bytes of the pieces after a first one, and of the first
+part-cons : (a b : Piece) (xs ys : List Piece) → IsPart (piece_set a) (pieces_set (b ∷ ys)) → IsPart (pieces_set xs) (pieces_set (b ∷ ys)) → IsPart (pieces_set (a ∷ xs)) (pieces_set (b ∷ ys))
+unfolding pieces_set
+part-cons a b xs ys first rest byte is = by (piece_set a byte) refl is
+  where
+    by : (has : Bool) → piece_set a byte ≡ has → (has || pieces_set xs byte) ≡ true → pieces_set (b ∷ ys) byte ≡ true
+    by true here same = first byte here
+    by false none same = rest byte same
+
+both-left : (a b : Bytes) → IsPart (both a b) a
+both-left a b byte is = by (a byte) is
+  where
+    by : (has : Bool) → (has && b byte) ≡ true → has ≡ true
+    by true same = refl
+    by false same = same
+
+trans-part : (a b c : Bytes) → IsPart a b → IsPart b c → IsPart a c
+trans-part a b c first second byte is = second byte (first byte is)
+
+nothing-part : (set : Bytes) → IsPart (pieces_set []) set
+unfolding pieces_set
+nothing-part set byte is = absurd cc
+
+tail-part : (pieces : List Piece) (tail : Tail) → IsPart (pieces_set (met_tail pieces tail)) (pieces_set pieces)
+tail-part pieces End = nothing-part (pieces_set pieces)
+tail-part pieces Dot = λ byte is. is
+tail-part pieces Bang = λ byte is. is
+
+-- what is met with classes has no other bytes
+classes-part : (pieces : List Piece) (classes : List (List ℕ)) (tail : Tail) → IsPart (pieces_set (met_classes pieces classes tail)) (pieces_set pieces)
+classes-part pieces [] tail = tail-part pieces tail
+classes-part [] (class ∷ classes) tail = λ byte is. is
+classes-part (Known known ∷ pieces) (class ∷ classes) tail =
+    part-cons (Known known) (Known known) _ pieces (first-part (Known known) pieces)
+    (trans-part _ (pieces_set pieces) _ (classes-part pieces classes tail) (later-part (Known known) pieces))
+classes-part (OneOf set ∷ pieces) (class ∷ classes) tail =
+    part-cons (OneOf (both set (bytes_in class))) (OneOf set) _ pieces
+    (trans-part _ set _ (both-left set (bytes_in class)) (first-part (OneOf set) pieces))
+    (trans-part _ (pieces_set pieces) _ (classes-part pieces classes tail) (later-part (OneOf set) pieces))
+classes-part (AnyOf set ∷ pieces) (class ∷ classes) tail =
+    part-cons (OneOf (both (pieces_set (AnyOf set ∷ pieces)) (bytes_in class))) (AnyOf set) _ pieces
+    (both-left (pieces_set (AnyOf set ∷ pieces)) (bytes_in class))
+    (trans-part _ (pieces_set (made (pieces_set (AnyOf set ∷ pieces)))) _ (classes-part (made (pieces_set (AnyOf set ∷ pieces))) classes tail)
+    (made-part (pieces_set (AnyOf set ∷ pieces))))
+
+-- the pieces of a known text have its bytes
+exactly-part : (set : Bytes) (text : List ℕ) → Within set text → IsPart (pieces_set (exactly text)) set
+unfolding pieces_set
+exactly-part set [] within byte is = absurd cc
+exactly-part set (b ∷ text) within byte is = by (byte == b) refl (exactly-part set text within.1 byte) is
+  where
+    by : (same : Bool) → (byte == b) ≡ same → (pieces_set (exactly text) byte ≡ true → set byte ≡ true) → (same || pieces_set (exactly text) byte) ≡ true → set byte ≡ true
+    by true same rest has = ap set (eqb-true byte b same) ∙ within.0
+    by false other rest has = rest has
+
+-- and what is met with a name that the text matches has no other bytes
+pub part-matched : (pieces : List Piece) (name : Meaning) (text : List ℕ) → Fits pieces text → Matches name text → IsPart (pieces_set (matched pieces name)) (pieces_set pieces)
+unfolding Matches
+part-matched pieces name text fits matching = by (pieces_set pieces 45) refl name matching
+  where
+    by : (dashed : Bool) → pieces_set pieces 45 ≡ dashed → (name : Meaning) → Matches name text → IsPart (pieces_set (if dashed then pieces else met pieces name)) (pieces_set pieces)
+    by true is name matching = λ byte has. has
+    by false is (Plain plain) matching =
+        exactly-part (pieces_set pieces) plain
+        (subst (Within (pieces_set pieces)) (sym (no-dashes (pieces_set pieces) text is (fits-set pieces text fits)) ∙ matching) (fits-set pieces text fits))
+    by false is (Pattern classes tail) matching = classes-part pieces classes tail

@@ -1,9 +1,11 @@
 -- An expanded text fits its pieces.
-use Rattle.std.proofs.Common.{◌≡◌, ℕ, Bool, true, false, List, [], ◌∷◌, Option, Some, None, refl, sym, subst, codes, if◌then◌else◌, length}
+use Rattle.std.proofs.Common.{◌≡◌, ℕ, ◌==◌, Bool, true, false, ◌&&◌, List, [], ◌∷◌, ◌++◌, Option, Some, None, refl, sym, ap, ◌∙◌, subst, append_assoc, codes, if◌then◌else◌, length}
+use Rattle.std.proofs.lemmas.List.{append-nil}
+use Rattle.dp_conf.proofs.TextLemmas.{Avoids, cut_once-here, each-append, either-false}
 use Rattle.dp_conf.specs.Cut.{before_last, cut_once}
 use Rattle.dp_conf.specs.Groups.{Reading, Over, Plain, Group}
 use Rattle.dp_conf.specs.GroupsRead.{reading_of}
-use Rattle.dp_conf.specs.Levels.{cut_outside}
+use Rattle.dp_conf.specs.Levels.{cut_after, cut_outside, level_of, stands_outside}
 use Rattle.dp_conf.specs.Words.{same_text}
 use Rattle.dp_conf.specs.declared.groups.GroupKind.{GroupKind}
 use Rattle.dp_conf.specs.declared.groups.GroupKind.TheVariants.{Braces, Brackets}
@@ -14,13 +16,46 @@ use Rattle.dp_vars.specs.Values.{body_by as body_value_by, called, caller_value,
 use Rattle.dp_vars.specs.declared.value.Function.{Function}
 use Rattle.dp_vars.specs.declared.value.Function.TheVariants.{Global, Local, Len, CallerId, QueueWaitingCount}
 use Rattle.dp_pieces.specs.Bytes.{IsPart, Within, either, none, numeric}
-use Rattle.dp_pieces.specs.Names.{Names, IsWithin, body_by, called_set, caller_set, function_set, head_by, head_pieces, variable_pieces}
-use Rattle.dp_pieces.specs.Pieces.{Fits, Known, Piece, known, made, pieces_set}
-use Rattle.dp_pieces.specs.Texts.{braces_pieces, group_pieces, pieces_of, text_pieces, text_set}
+use Rattle.dp_pieces.specs.Cuts.{cut_known}
+use Rattle.dp_pieces.specs.Names.{Names, IsWithin, any_argument_set, body_by, called_set, caller_set, function_set, head_by, head_pieces, variable_pieces}
+use Rattle.dp_pieces.specs.Pieces.{Fits, Known, Piece, bytes_in, known, made, pieces_set}
+use Rattle.dp_pieces.specs.Texts.{braces_pieces, called_pieces, group_pieces, pieces_of, text_pieces, text_set, unknown_pieces}
 use Rattle.dp_pieces.proofs.ExpressionLemmas.{within-expression}
+use Rattle.dp_pieces.proofs.LastLemmas.{headed}
 use Rattle.dp_pieces.proofs.FitsLemmas.{fits-append, fits-known, fits-made, fits-nothing, fits-part, fits-set, made-part}
 use Rattle.dp_pieces.proofs.NumeralLemmas.{within-decimal}
 use Rattle.dp_pieces.proofs.WithinLemmas.{within-more, within-part}
+
+-- a byte that a text lacks
+lacks-avoids : (byte : ℕ) (text : List ℕ) → bytes_in text byte ≡ false → Avoids byte text
+lacks-avoids byte [] lacks = tt
+lacks-avoids byte (b ∷ text) lacks = let both = either-false (b == byte) (bytes_in text byte) lacks in (both.0, lacks-avoids byte text both.1)
+
+-- what stands before a cut begins with what stood before the search
+begins-with : (mark : ℕ) (text before : List ℕ) (cut : List ℕ × List ℕ) → cut_after (stands_outside mark) before text ≡ Some cut → (more : List ℕ) × (cut.0 ≡ before ++ more)
+begins-with mark [] before cut is = absurd cc
+begins-with mark (b ∷ text) before cut is = by (stands_outside mark before b) (begins-with mark text (before ++ b ∷ []) cut) is
+  where
+    by : (here : Bool) → (cut_after (stands_outside mark) (before ++ b ∷ []) text ≡ Some cut → (more : List ℕ) × (cut.0 ≡ (before ++ b ∷ []) ++ more))
+        → (if here then Some (before, text) else cut_after (stands_outside mark) (before ++ b ∷ []) text) ≡ Some cut → (more : List ℕ) × (cut.0 ≡ before ++ more)
+    by true later same = let pair : (let p : List ℕ × List ℕ = (before, text) in p ≡ cut) = cc in ([], ap (λ p. p.0) (sym pair) ∙ sym (append-nil before))
+    by false later same = let found = later same in (b ∷ found.0, found.1 ∙ append_assoc before (b ∷ []) found.0)
+
+-- bytes that are none of the mark are passed over
+passed-over : (mark : ℕ) (front rest before : List ℕ) → Avoids mark front → cut_after (stands_outside mark) before (front ++ rest) ≡ cut_after (stands_outside mark) (before ++ front) rest
+passed-over mark [] rest before avoids = ap (λ b. cut_after (stands_outside mark) b rest) (sym (append-nil before))
+passed-over mark (b ∷ front) rest before avoids =
+    ap (λ (t : Bool). if t && level_of before == 0 then Some (before, front ++ rest) else cut_after (stands_outside mark) (before ++ b ∷ []) (front ++ rest)) avoids.0
+    ∙ (passed-over mark front rest (before ++ b ∷ []) avoids.1
+    ∙ ap (λ x. cut_after (stands_outside mark) x rest) (append_assoc before (b ∷ []) front))
+
+begins-named : (mark : ℕ) (name rest : List ℕ) (cut : List ℕ × List ℕ) → Avoids mark (name ++ 40 ∷ []) → cut_outside mark (name ++ 40 ∷ rest) ≡ Some cut
+    → (more : List ℕ) × (cut.0 ≡ name ++ 40 ∷ more)
+unfolding cut_outside
+begins-named mark name rest cut avoids is =
+    let found = begins-with mark rest (name ++ 40 ∷ []) cut (
+    sym (passed-over mark (name ++ 40 ∷ []) rest [] avoids ∙ refl) ∙ (ap (cut_after (stands_outside mark) []) (append_assoc name (40 ∷ []) rest) ∙ is)) in
+    (found.0, found.1 ∙ append_assoc name (40 ∷ []) found.0)
 
 module _ (names : Names) (sight : Sight) (seen : IsWithin names sight) where
   within-caller : (argument : List ℕ) → Within (caller_set names.caller argument) (caller_value sight.caller argument)
@@ -93,16 +128,60 @@ module _ (names : Names) (sight : Sight) (seen : IsWithin names sight) where
   all-body body None = all-head body
   all-body body (Some cut) = within-part names.all (asked_of (Some cut.1)) (head_value sight cut.0) (all-head cut.0)
 
-  fits-braces : (text : List ℕ) (o : Option (List ℕ)) → ((body : List ℕ) → o ≡ Some body → text ≡ body)
-      → Fits (braces_pieces names o) (body_value_by sight text (cut_outside 58 text))
-  fits-braces text None is = fits-made names.all _ (all-body text (cut_outside 58 text))
-  fits-braces text (Some body) is =
+  -- a function whose name is known, of any argument
+  any-called : (name : List ℕ) (argument : Option (List ℕ)) → Within (any_argument_set names (function_of name)) (called sight name argument)
+  any-called name None = tt
+  any-called name (Some argument) = by (function_of name)
+    where
+      num : (b : Bool) → Within names.caller (if b then sight.caller else [])
+      num true = seen.caller
+      num false = tt
+
+      by : (function : Option Function) → Within (any_argument_set names function) (function_value sight function argument)
+      by None = tt
+      by (Some Global) = within-more (names.bytes argument) names.all (seen.whole.bytes argument) (sight.global argument) (seen.global argument)
+      by (Some Local) = within-more (names.bytes argument) names.all (seen.whole.bytes argument) (sight.local argument) (seen.local argument)
+      by (Some Len) = within-decimal (length argument)
+      by (Some CallerId) = num (same_text argument (codes "num"))
+      by (Some QueueWaitingCount) = within-decimal (sight.waiting argument)
+
+  named-head : (name rest head : List ℕ) → Avoids 40 name → head ≡ name ++ 40 ∷ rest → Within (any_argument_set names (function_of name)) (head_value sight head)
+  unfolding head_value
+  named-head name rest head avoids is =
+      subst (λ o. Within (any_argument_set names (function_of name)) (head_value_by sight head o)) (sym (ap (cut_once 40) is ∙ cut_once-here 40 name rest avoids))
+      (any-called name (before_last 41 rest))
+
+  named-body : (name rest text : List ℕ) → Avoids 40 name → Avoids 58 name → text ≡ name ++ 40 ∷ rest
+      → (cut : Option (List ℕ × List ℕ)) → cut_outside 58 text ≡ cut → Within (any_argument_set names (function_of name)) (body_value_by sight text cut)
+  named-body name rest text avoids no_part is None from = named-head name rest text avoids is
+  named-body name rest text avoids no_part is (Some cut) from =
+      let begun = begins-named 58 name rest cut (each-append (λ b. (b == 58) ≡ false) name (40 ∷ []) no_part (refl, tt)) (ap (cut_outside 58) (sym is) ∙ from) in
+      within-part (any_argument_set names (function_of name)) (asked_of (Some cut.1)) (head_value sight cut.0) (named-head name begun.0 cut.0 avoids begun.1)
+
+  fits-called : (name rest text : List ℕ) → Avoids 40 name → text ≡ name ++ 40 ∷ rest → Fits (called_pieces names name) (body_value_by sight text (cut_outside 58 text))
+  fits-called name rest text avoids is = fits-made _ _ (by (bytes_in name 58) refl)
+    where
+      by : (b : Bool) → bytes_in name 58 ≡ b → Within (if b then names.all else any_argument_set names (function_of name)) (body_value_by sight text (cut_outside 58 text))
+      by true has = all-body text (cut_outside 58 text)
+      by false lacks = named-body name rest text avoids (lacks-avoids 58 name lacks) is (cut_outside 58 text) refl
+
+  fits-unknown : (pieces : List Piece) (text : List ℕ) → Fits pieces text → Fits (unknown_pieces names (cut_known 40 pieces)) (body_value_by sight text (cut_outside 58 text))
+  fits-unknown pieces text fits = by (cut_known 40 pieces) refl
+    where
+      by : (o : Option (List ℕ × List Piece)) → cut_known 40 pieces ≡ o → Fits (unknown_pieces names o) (body_value_by sight text (cut_outside 58 text))
+      by None from = fits-made names.all _ (all-body text (cut_outside 58 text))
+      by (Some cut) from = let is = headed 40 pieces text cut from fits in fits-called cut.0 is.rest text is.avoids is.whole
+
+  fits-braces : (pieces : List Piece) (text : List ℕ) → Fits pieces text → (o : Option (List ℕ)) → ((body : List ℕ) → o ≡ Some body → text ≡ body)
+      → Fits (braces_pieces names pieces o) (body_value_by sight text (cut_outside 58 text))
+  fits-braces pieces text fits None is = fits-unknown pieces text fits
+  fits-braces pieces text fits (Some body) is =
       subst (λ t. Fits (body_by names body (cut_outside 58 body)) (body_value_by sight t (cut_outside 58 t))) (sym (is body refl)) (fits-body body (cut_outside 58 body))
 
   -- the value of a group whose expanded body fits pieces
   pub fits-group : (kind : GroupKind) (body : List Piece) (text : List ℕ) → Fits body text → Fits (group_pieces names kind body) (group_value sight kind text)
   unfolding group_value
-  fits-group Braces body text fits = fits-braces text (known body) (λ bytes from. fits-known body text bytes from fits)
+  fits-group Braces body text fits = fits-braces body text fits (known body) (λ bytes from. fits-known body text bytes from fits)
   fits-group Brackets body text fits = fits-made (either (pieces_set body) numeric) (expression_value text) (within-expression (pieces_set body) text (fits-set body text fits))
 
   plain : (byte : ℕ) (pieces : List Piece) (text : List ℕ) → Fits pieces text → Fits (Known byte ∷ pieces) (byte ∷ text)

@@ -1,5 +1,6 @@
 -- Pieces that are cut once at a byte.
-use Rattle.std.specs.Prelude.{ℕ, Bool, ◌&&◌, ◌||◌, ◌==◌, List, [], ◌∷◌, if◌then◌else◌}
+use Rattle.std.specs.Prelude.{ℕ, Bool, ◌&&◌, ◌||◌, ◌==◌, List, [], ◌∷◌, Option, Some, None, if◌then◌else◌}
+use Rattle.std.specs.Option.{option_map}
 use Rattle.dp_conf.specs.Levels.{next_level}
 use Rattle.dp_pieces.specs.Bytes.{Bytes}
 use Rattle.dp_pieces.specs.Pieces.{AnyOf, Known, OneOf, Piece}
@@ -34,3 +35,32 @@ cut_level mark level (Known byte ∷ pieces) =
     if byte == mark && level == 0 then At [] pieces else with_piece (Known byte) (cut_level mark (next_level level byte) pieces)
 cut_level mark level (OneOf set ∷ pieces) = if may_cut mark level set then Unsure else with_piece (OneOf set) (cut_level mark level pieces)
 cut_level mark level (AnyOf set ∷ pieces) = if may_cut mark level set then Unsure else with_piece (AnyOf set) (cut_level mark level pieces)
+
+-- the same at the last such byte: a known byte, and an unknown piece, before the cut of those after it
+abbrev pub last_known : ℕ → ℕ → Cutting → Cutting
+last_known mark byte Nowhere = if byte == mark then At [] [] else Nowhere
+last_known mark byte Unsure = Unsure
+last_known mark byte (At front rest) = At (Known byte ∷ front) rest
+
+abbrev pub last_unknown : ℕ → Bytes → Piece → Cutting → Cutting
+last_unknown mark set piece Nowhere = if set mark then Unsure else Nowhere
+last_unknown mark set piece Unsure = Unsure
+last_unknown mark set piece (At front rest) = At (piece ∷ front) rest
+
+-- the pieces before the last such byte; what stands after it is left out
+abbrev pub cut_last : ℕ → List Piece → Cutting
+cut_last mark [] = Nowhere
+cut_last mark (Known byte ∷ pieces) = last_known mark byte (cut_last mark pieces)
+cut_last mark (OneOf set ∷ pieces) = last_unknown mark set (OneOf set) (cut_last mark pieces)
+cut_last mark (AnyOf set ∷ pieces) = last_unknown mark set (AnyOf set) (cut_last mark pieces)
+
+-- one more known byte before a cut
+abbrev pub with_byte : ℕ → Option (List ℕ × List Piece) → Option (List ℕ × List Piece)
+with_byte byte cut = option_map (λ c. (byte ∷ c.0, c.1)) cut
+
+-- a known text before the first such byte, and the pieces after that
+abbrev pub cut_known : ℕ → List Piece → Option (List ℕ × List Piece)
+cut_known mark [] = None
+cut_known mark (Known byte ∷ pieces) = if byte == mark then Some ([], pieces) else with_byte byte (cut_known mark pieces)
+cut_known mark (OneOf set ∷ pieces) = None
+cut_known mark (AnyOf set ∷ pieces) = None

@@ -1,5 +1,5 @@
 -- What is known of an extension that an entry's name has matched: its shape met with the name.
-use Rattle.std.specs.Prelude.{ℕ, List, [], ◌∷◌}
+use Rattle.std.specs.Prelude.{ℕ, List, [], ◌∷◌, if◌then◌else◌}
 use Rattle.dp_pattern.specs.Name.{Meaning, Plain, Pattern}
 use Rattle.dp_pattern.specs.declared.tail.Tail.{Tail}
 use Rattle.dp_pattern.specs.declared.tail.Tail.TheVariants.{End, Dot, Bang}
@@ -25,3 +25,7 @@ met_classes (AnyOf set ∷ pieces) (class ∷ classes) tail =
 abbrev pub met : List Piece → Meaning → List Piece
 met pieces (Plain plain) = exactly plain
 met pieces (Pattern classes tail) = met_classes pieces classes tail
+
+-- what is known of an extension that has matched the name: dashes do not count for a match, so a shape that may have them is left as it is
+abbrev pub matched : List Piece → Meaning → List Piece
+matched pieces name = if pieces_set pieces 45 then pieces else met pieces name

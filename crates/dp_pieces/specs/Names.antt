@@ -64,6 +64,15 @@ abbrev pub called_set : Names → List ℕ → Option (List ℕ) → Bytes
 called_set names name None = none
 called_set names name (Some argument) = function_set names (function_of name) argument
 
+-- the bytes of a function of any argument
+abbrev pub any_argument_set : Names → Option Function → Bytes
+any_argument_set names None = none
+any_argument_set names (Some Global) = names.all
+any_argument_set names (Some Local) = names.all
+any_argument_set names (Some Len) = digits
+any_argument_set names (Some CallerId) = names.caller
+any_argument_set names (Some QueueWaitingCount) = digits
+
 -- a head by what is cut at its first `(`: a function of an argument, or a variable
 abbrev pub head_by : Names → List ℕ → Option (List ℕ × List ℕ) → List Piece
 head_by names head None = variable_pieces names head

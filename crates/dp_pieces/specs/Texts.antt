@@ -1,22 +1,33 @@
 -- The pieces of a text that is not expanded yet.
-use Rattle.std.specs.Prelude.{ℕ, List, [], ◌∷◌, ◌++◌, Option, Some, None}
+use Rattle.std.specs.Prelude.{ℕ, List, [], ◌∷◌, ◌++◌, Option, Some, None, if◌then◌else◌}
 use Rattle.dp_conf.specs.Groups.{Reading, Over, Plain, Group}
 use Rattle.dp_conf.specs.GroupsRead.{reading_of}
 use Rattle.dp_conf.specs.Levels.{cut_outside}
 use Rattle.dp_conf.specs.declared.groups.GroupKind.{GroupKind}
 use Rattle.dp_conf.specs.declared.groups.GroupKind.TheVariants.{Braces, Brackets}
 use Rattle.dp_pieces.specs.Bytes.{Bytes, either, numeric}
-use Rattle.dp_pieces.specs.Names.{Names, body_by}
-use Rattle.dp_pieces.specs.Pieces.{Known, Piece, known, made, pieces_set}
+use Rattle.dp_pieces.specs.Cuts.{cut_known}
+use Rattle.dp_pieces.specs.Names.{Names, any_argument_set, body_by}
+use Rattle.dp_pieces.specs.Pieces.{Known, Piece, bytes_in, known, made, pieces_set}
+use Rattle.dp_vars.specs.Values.{function_of}
 
--- a text in braces: where it is not known it may name anything
-abbrev pub braces_pieces : Names → Option (List ℕ) → List Piece
-braces_pieces names None = made names.all
-braces_pieces names (Some body) = body_by names body (cut_outside 58 body)
+-- a text in braces that is known as far as its first `(`: a function whose argument is not known
+abbrev pub called_pieces : Names → List ℕ → List Piece
+called_pieces names name = made (if bytes_in name 58 then names.all else any_argument_set names (function_of name))
+
+-- a text in braces that is not known may name anything, or is known in part
+abbrev pub unknown_pieces : Names → Option (List ℕ × List Piece) → List Piece
+unknown_pieces names None = made names.all
+unknown_pieces names (Some cut) = called_pieces names cut.0
+
+-- a text in braces
+abbrev pub braces_pieces : Names → List Piece → Option (List ℕ) → List Piece
+braces_pieces names pieces None = unknown_pieces names (cut_known 40 pieces)
+braces_pieces names pieces (Some body) = body_by names body (cut_outside 58 body)
 
 -- a group by its body: an expression comes to a number or to a part of its text
 abbrev pub group_pieces : Names → GroupKind → List Piece → List Piece
-group_pieces names Braces body = braces_pieces names (known body)
+group_pieces names Braces body = braces_pieces names body (known body)
 group_pieces names Brackets body = made (either (pieces_set body) numeric)
 
 -- the pieces of a reading

@@ -1,16 +1,15 @@
 //! Laws over the definitions of this crate.
 ghost use Rattle.std.specs.Prelude.{◌≡◌, ℕ, List, true};
 ghost use Rattle.dp_conf.specs.Blanks.{trim};
-ghost use Rattle.dp_conf.specs.Cut.{cut_once};
+ghost use Rattle.dp_conf.specs.Cut.{before_last, cut_once};
 ghost use Rattle.dp_conf.specs.Levels.{arguments_of, cut_outside};
 ghost use Rattle.dp_pieces.specs.Arguments.{are_clean, shapes_of};
-ghost use Rattle.dp_pieces.specs.Bytes.{Within};
-ghost use Rattle.dp_pieces.specs.Cuts.{cut_level, cut_pieces};
-ghost use Rattle.dp_pieces.specs.Fitting.{AllFit, IsCutAs};
-ghost use Rattle.dp_pattern.specs.Dashes.{undashed};
+ghost use Rattle.dp_pieces.specs.Bytes.{IsPart, Within};
+ghost use Rattle.dp_pieces.specs.Cuts.{cut_known, cut_last, cut_level, cut_pieces};
+ghost use Rattle.dp_pieces.specs.Fitting.{AllFit, IsCutAs, IsCutKnown, IsLast};
 ghost use Rattle.dp_pattern.specs.Matches.{Matches};
 ghost use Rattle.dp_pattern.specs.Name.{Meaning};
-ghost use Rattle.dp_pieces.specs.Met.{met};
+ghost use Rattle.dp_pieces.specs.Met.{matched};
 ghost use Rattle.dp_pieces.specs.Names.{IsWithin, Names, part_pieces};
 ghost use Rattle.dp_pieces.specs.Pieces.{Fits, Piece, pieces_set};
 ghost use Rattle.dp_pieces.specs.Texts.{text_pieces};
@@ -36,10 +35,13 @@ pub fn arguments_fit()
     ensures { (pieces : List Piece) (text : List ℕ) → are_clean 0 pieces ≡ true → Fits pieces text → AllFit (shapes_of pieces) (arguments_of text) }
 {}
 
-/// A text is cut once where its pieces are: at the first such byte, and at the first of level 0. It does nothing.
+/// A text is cut once where its pieces are: at the first such byte, at the first of level 0, before the last one, and after a known
+/// text. It does nothing.
 pub fn cuts_fit()
     ensures first { (mark : ℕ) (pieces : List Piece) (text : List ℕ) → Fits pieces text → IsCutAs (cut_pieces mark pieces) (cut_once mark text) }
     ensures level { (mark : ℕ) (pieces : List Piece) (text : List ℕ) → Fits pieces text → IsCutAs (cut_level mark 0 pieces) (cut_outside mark text) }
+    ensures last { (mark : ℕ) (pieces : List Piece) (text : List ℕ) → Fits pieces text → IsLast (cut_last mark pieces) (before_last mark text) }
+    ensures known { (mark : ℕ) (pieces : List Piece) (text : List ℕ) → Fits pieces text → IsCutKnown mark (cut_known mark pieces) text }
 {}
 
 /// A part of a text, as `:offset:length` asks for it, fits that part of its pieces; so does a text without the blanks at its ends. It
@@ -49,7 +51,9 @@ pub fn parts_fit()
     ensures trimmed { (pieces : List Piece) (text : List ℕ) → Fits pieces text → Fits (trimmed pieces) (trim text) }
 {}
 
-/// A text without dashes that fits a shape and matches the name of an extension fits the shape met with the name. It does nothing.
+/// A text that fits a shape and matches the name of an extension fits the shape met with the name, and this has no bytes but those of
+/// the shape. It does nothing.
 pub fn meet_fits()
-    ensures { (pieces : List Piece) (name : Meaning) (text : List ℕ) → undashed text ≡ text → Fits pieces text → Matches name text → Fits (met pieces name) text }
+    ensures fits { (pieces : List Piece) (name : Meaning) (text : List ℕ) → Fits pieces text → Matches name text → Fits (matched pieces name) text }
+    ensures bytes { (pieces : List Piece) (name : Meaning) (text : List ℕ) → Fits pieces text → Matches name text → IsPart (pieces_set (matched pieces name)) (pieces_set pieces) }
 {}

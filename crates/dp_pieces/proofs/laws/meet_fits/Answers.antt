@@ -1,5 +1,8 @@
-use Rattle.dp_pieces.proofs.MetLemmas.{fits-met}
+use Rattle.dp_pieces.proofs.MetLemmas.{fits-matched, part-matched}
 use Rattle.dp_pieces.proofs.laws.meet_fits.Goals as goal
 
-pub returns : goal.returns
-returns c = fits-met
+pub returns-clause-fits : goal.returns-clause-fits
+returns-clause-fits c = fits-matched
+
+pub returns-clause-bytes : goal.returns-clause-bytes
+returns-clause-bytes c = part-matched
