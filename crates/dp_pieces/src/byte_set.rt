@@ -6,7 +6,7 @@ ghost use Rattle.dp_pieces.specs.Sets.{set_by};
 use std::marker::Model;
 
 /// A set of bytes.
-#[derive(Drop)]
+#[derive(Clone, Copy)]
 pub struct ByteSet {
     has: [bool; 256],
 }
@@ -17,6 +17,8 @@ impl Model for ByteSet {
     ghost Value = { List Bool };
 
     ghost view = { λ s. s.has };
+
+    ghost inverse = { λ has. record { has = has } };
 }
 
 impl ByteSet {

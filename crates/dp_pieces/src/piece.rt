@@ -2,7 +2,7 @@
 use crate::byte_set::ByteSet;
 
 /// A piece of a text: a byte that stands there, one byte of a set, or any bytes of a set.
-#[derive(Drop)]
+#[derive(Clone, Copy)]
 pub enum Piece {
     Known(u8),
     OneOf(ByteSet),
