@@ -102,7 +102,7 @@ split-any set level clean (byte ∷ front) rest parts within later before at =
     next : List (List ℕ)
     next = split_after parts_arguments (before ++ byte ∷ []) (front ++ rest)
 
-and-both : (a b : Bool) → (a && b) ≡ true → (a ≡ true) × (b ≡ true)
+pub and-both : (a b : Bool) → (a && b) ≡ true → (a ≡ true) × (b ≡ true)
 and-both true b is = (refl, is)
 and-both false b is = absurd cc
 

@@ -10,4 +10,5 @@ pub mod TrimmedLemmas
 pub mod ArgumentLemmas
 pub mod CutLemmas
 pub mod LastLemmas
+pub mod RuleLemmas
 pub mod MetLemmas

@@ -7,6 +7,7 @@ pub mod Names
 pub mod Pieces
 pub mod Sets
 pub mod Shown
+pub mod ShownCuts
 pub mod Texts
 pub mod Trimmed
 pub mod steps

@@ -1,3 +1,4 @@
 -- What private functions say of their steps. No public clause rests on it.
 pub mod Reader
 pub mod ReadSoFar
+pub mod Stands

@@ -2,10 +2,12 @@
 #![tactic(auto)]
 
 mod byte_set;
+mod cuts;
 pub mod laws;
 mod piece;
 mod reader;
 
 pub use byte_set::ByteSet;
+pub use cuts::{Cutting, cut_last, cut_level, cut_pieces, first_part};
 pub use piece::Piece;
 pub use reader::{NamedPieces, read_pieces};
