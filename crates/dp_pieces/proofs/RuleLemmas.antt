@@ -1,22 +1,23 @@
 -- Pieces that are cut by a rule, from the first on.
-use Rattle.std.proofs.Common.{◌≡◌, ℕ, zero, suc, ◌+◌, ◌-◌, ◌<◌, ◌≤◌, ◌&&◌, ◌==◌, Bool, true, false, List, [], ◌∷◌, ◌++◌, length, map, take, drop, refl, sym, ap, ◌∙◌, subst, arith, if◌then◌else◌}
-use Rattle.std.proofs.lemmas.List.{drop-map, map-append, take-map, take_rest}
+use Rattle.std.proofs.Common.{◌≡◌, ℕ, zero, suc, ◌+◌, ◌-◌, ◌<◌, ◌≤◌, ◌&&◌, ◌||◌, ◌==◌, not, Bool, true, false, List, [], ◌∷◌, ◌++◌, Option, Some, None, append_assoc, length, map, take, drop, refl, sym, ap, ◌∙◌, subst, arith, if◌then◌else◌}
+use Rattle.std.proofs.lemmas.List.{append-nil, drop-map, map-append, take-map, take_rest}
 use borrow.Author.Tests.{eqb-true}
 use Rattle.std.specs.Prelude.{slice_index_or}
 use Rattle.std.specs.List.{onto_first}
-use Rattle.dp_pieces.specs.Arguments.{split_pieces}
+use Rattle.std.specs.Option.{option_map}
+use Rattle.dp_pieces.specs.Arguments.{are_clean, split_pieces}
 use Rattle.dp_pieces.proofs.ArgumentLemmas.{and-both}
 use Rattle.dp_conf.specs.Levels.{next_level}
 use Rattle.dp_pieces.specs.Bytes.{Bytes}
-use Rattle.dp_pieces.specs.Cuts.{At, Cutting, Nowhere, Unsure, cut_last, cut_level, cut_pieces, last_known, last_unknown, may_cut, with_piece}
-use Rattle.dp_pieces.specs.Pieces.{AnyOf, Known, OneOf, Piece}
+use Rattle.dp_pieces.specs.Cuts.{At, Cutting, Nowhere, Unsure, cut_known, cut_last, cut_level, cut_pieces, last_known, last_unknown, may_cut, with_byte, with_piece}
+use Rattle.dp_pieces.specs.Pieces.{AnyOf, Known, OneOf, Piece, byte_of, exactly}
 use Rattle.dp_pieces.specs.Shown.{shown, shown_all}
 use Rattle.dp_pieces.specs.declared.cuts.Rule.{Rule}
 use Rattle.dp_pieces.specs.declared.cuts.Rule.TheVariants.{First, Outside, Comma}
 use Rattle.dp_pieces.specs.declared.cuts.Stand.{Stand}
 use Rattle.dp_pieces.specs.declared.cuts.Stand.TheVariants.{Here, Maybe, Apart}
 use Rattle.dp_pieces.specs.declared.piece.Piece.{Piece as KeptPiece}
-use Rattle.dp_pieces.specs.steps.Stands.{cut_by, cut_rule, level_after, stand_of}
+use Rattle.dp_pieces.specs.steps.Stands.{cut_by, cut_rule, is_clean_piece, level_after, stand_of}
 
 -- one piece opens one level at most
 pub level-bound : (level at : ℕ) (piece : Piece) → level ≤ at → level_after level piece ≤ at + 1
@@ -29,13 +30,15 @@ level-bound level at (Known byte) is = by (byte == 40) (byte == 41)
 level-bound level at (OneOf set) is = omega (arith, is)
 level-bound level at (AnyOf set) is = omega (arith, is)
 
--- what stands before and after a place
+-- what stands after a place, and before it too
+pub rest-at : (at : ℕ) (pieces : List KeptPiece) → drop (suc at) (shown_all pieces) ≡ shown_all (take (length pieces - (at + 1)) (drop (at + 1) pieces))
+rest-at at pieces =
+    let next : suc at ≡ at + 1 = omega arith in
+    ap (λ n. drop n (shown_all pieces)) next ∙ (drop-map shown (at + 1) pieces ∙ ap shown_all (sym (take_rest pieces (at + 1))))
+
 pub parts-at : (at : ℕ) (pieces : List KeptPiece)
     → At (shown_all (take at pieces)) (shown_all (take (length pieces - (at + 1)) (drop (at + 1) pieces))) ≡ At (take at (shown_all pieces)) (drop (suc at) (shown_all pieces))
-parts-at at pieces =
-    let next : at + 1 ≡ suc at = omega arith in
-    (λ i. At (sym (take-map shown at pieces) i) (shown_all (take_rest pieces (at + 1) i)))
-    ∙ (λ i. At (take at (shown_all pieces)) ((ap (λ n. shown_all (drop n pieces)) next ∙ sym (drop-map shown (suc at) pieces)) i))
+parts-at at pieces = λ i. At (sym (take-map shown at pieces) i) (sym (rest-at at pieces) i)
 
 -- pieces before a cut
 abbrev pub before : List Piece → Cutting → Cutting
@@ -216,3 +219,103 @@ last-push mark (AnyOf set ∷ pieces) piece =
 pub last-kept : (mark : ℕ) (left front : List KeptPiece) (last : KeptPiece) → left ≡ front ++ last ∷ []
     → cut_last mark (shown_all left) ≡ last_by (stand_of (First mark) 0 (shown last)) (shown_all front) (cut_last mark (shown_all front))
 last-kept mark left front last is = ap (λ ps. cut_last mark (shown_all ps)) is ∙ (ap (cut_last mark) (map-append shown front (last ∷ [])) ∙ last-push mark (shown_all front) (shown last))
+
+-- the pieces from a place on
+pub from-place : (at : ℕ) (pieces : List KeptPiece) (piece : KeptPiece) → at < length pieces → piece ≡ slice_index_or pieces at piece
+    → drop at (shown_all pieces) ≡ shown piece ∷ drop (suc at) (shown_all pieces)
+from-place at [] piece below is = absurd (omega (arith, below))
+from-place zero (p ∷ pieces) piece below is = ap (λ (x : KeptPiece). shown x ∷ shown_all pieces) (sym is)
+from-place (suc at) (p ∷ pieces) piece below is = from-place at pieces piece (omega (arith, below)) is
+
+pub from-end : (at : ℕ) (pieces : List KeptPiece) → length pieces ≤ at → drop at (shown_all pieces) ≡ []
+from-end zero [] far = refl
+from-end zero (p ∷ pieces) far = absurd (omega (arith, far))
+from-end (suc at) [] far = refl
+from-end (suc at) (p ∷ pieces) far = from-end at pieces (omega (arith, far))
+
+-- pieces are clean where the first is, and those after it
+not-any : (a b c : Bool) → (not a && not b && not c) ≡ not (a || b || c)
+not-any true b c = refl
+not-any false true c = refl
+not-any false false c = refl
+
+clean-first : (level : ℕ) (piece : Piece) (pieces : List Piece) → are_clean level (piece ∷ pieces) ≡ (is_clean_piece level piece && are_clean (level_after level piece) pieces)
+clean-first level (Known byte) pieces = refl
+clean-first level (OneOf set) pieces = ap (λ b. b && are_clean level pieces) (not-any (set 40) (set 41) (set 44 && level == 0))
+clean-first level (AnyOf set) pieces = ap (λ b. b && are_clean level pieces) (not-any (set 40) (set 41) (set 44 && level == 0))
+
+pub clean-at : (level at : ℕ) (pieces : List KeptPiece) (piece : KeptPiece) → at < length pieces → piece ≡ slice_index_or pieces at piece
+    → are_clean level (drop at (shown_all pieces)) ≡ (is_clean_piece level (shown piece) && are_clean (level_after level (shown piece)) (drop (suc at) (shown_all pieces)))
+clean-at level at pieces piece below is =
+    ap (are_clean level) (from-place at pieces piece below is) ∙ clean-first level (shown piece) (drop (suc at) (shown_all pieces))
+
+-- a known text before a cut
+abbrev pub with_bytes : List ℕ → Option (List ℕ × List Piece) → Option (List ℕ × List Piece)
+with_bytes name cut = option_map (λ c. (name ++ c.0, c.1)) cut
+
+with_bytes-push : (name : List ℕ) (byte : ℕ) (cut : Option (List ℕ × List Piece)) → with_bytes name (with_byte byte cut) ≡ with_bytes (name ++ byte ∷ []) cut
+with_bytes-push name byte None = refl
+with_bytes-push name byte (Some cut) = (λ i. Some (sym (append_assoc name (byte ∷ []) cut.0) i, cut.1))
+
+-- the pieces before a place are known and none is the byte, so that the cut is made after them
+pub record IsKnownFront (mark at : ℕ) (pieces : List KeptPiece) : Type 0 where
+  pub name : List ℕ
+  pub front : take at (shown_all pieces) ≡ exactly name
+  pub cut : cut_known mark (shown_all pieces) ≡ with_bytes name (cut_known mark (drop at (shown_all pieces)))
+
+pub front-none : (mark : ℕ) (pieces : List KeptPiece) → IsKnownFront mark 0 pieces
+front-none mark pieces = record { name = []; front = refl; cut = by (cut_known mark (shown_all pieces)) }
+  where
+    by : (o : Option (List ℕ × List Piece)) → o ≡ with_bytes [] o
+    by None = refl
+    by (Some cut) = refl
+
+exactly-push : (name : List ℕ) (byte : ℕ) → exactly (name ++ byte ∷ []) ≡ exactly name ++ Known byte ∷ []
+exactly-push [] byte = refl
+exactly-push (b ∷ name) byte = ap (λ ps. Known b ∷ ps) (exactly-push name byte)
+
+take-push : (at : ℕ) (pieces : List KeptPiece) (piece : KeptPiece) → at < length pieces → piece ≡ slice_index_or pieces at piece
+    → take (suc at) (shown_all pieces) ≡ take at (shown_all pieces) ++ shown piece ∷ []
+take-push at [] piece below is = absurd (omega (arith, below))
+take-push zero (p ∷ pieces) piece below is = ap (λ (x : KeptPiece). shown x ∷ []) (sym is)
+take-push (suc at) (p ∷ pieces) piece below is = ap (λ ps. shown p ∷ ps) (take-push at pieces piece (omega (arith, below)) is)
+
+known-at : (mark byte : ℕ) (b : Bool) → (byte == mark) ≡ b → (rest : List Piece) → cut_known mark (Known byte ∷ rest) ≡ (if b then Some ([], rest) else with_byte byte (cut_known mark rest))
+known-at mark byte b is rest = ap (λ t. if t then Some ([], rest) else with_byte byte (cut_known mark rest)) is
+
+pub front-push : (mark at byte : ℕ) (pieces : List KeptPiece) (piece : KeptPiece) → at < length pieces → piece ≡ slice_index_or pieces at piece → shown piece ≡ Known byte
+    → (byte == mark) ≡ false → IsKnownFront mark at pieces → IsKnownFront mark (suc at) pieces
+front-push mark at byte pieces piece below is known other front = record {
+  name = front.name ++ byte ∷ [];
+  front = take-push at pieces piece below is ∙ ((λ i. front.front i ++ known i ∷ []) ∙ sym (exactly-push front.name byte));
+  cut = front.cut ∙ (ap (λ ps. with_bytes front.name (cut_known mark ps)) (from-place at pieces piece below is ∙ ap (λ p. p ∷ drop (suc at) (shown_all pieces)) known)
+      ∙ (ap (with_bytes front.name) (known-at mark byte false other (drop (suc at) (shown_all pieces)))
+      ∙ with_bytes-push front.name byte (cut_known mark (drop (suc at) (shown_all pieces)))));
+}
+
+pub front-here : (mark at byte : ℕ) (pieces : List KeptPiece) (piece : KeptPiece) → at < length pieces → piece ≡ slice_index_or pieces at piece → shown piece ≡ Known byte
+    → (byte == mark) ≡ true → (front : IsKnownFront mark at pieces) → cut_known mark (shown_all pieces) ≡ Some (front.name, drop (suc at) (shown_all pieces))
+front-here mark at byte pieces piece below is known same front =
+    front.cut ∙ (ap (λ ps. with_bytes front.name (cut_known mark ps)) (from-place at pieces piece below is ∙ ap (λ p. p ∷ drop (suc at) (shown_all pieces)) known)
+    ∙ (ap (with_bytes front.name) (known-at mark byte true same (drop (suc at) (shown_all pieces)))
+    ∙ (λ i. Some (append-nil front.name i, drop (suc at) (shown_all pieces)))))
+
+pub front-unknown : (mark at : ℕ) (pieces : List KeptPiece) (piece : KeptPiece) → at < length pieces → piece ≡ slice_index_or pieces at piece
+    → byte_of (shown piece) ≡ None → IsKnownFront mark at pieces → cut_known mark (shown_all pieces) ≡ None
+front-unknown mark at pieces piece below is unknown front =
+    front.cut ∙ (ap (λ ps. with_bytes front.name (cut_known mark ps)) (from-place at pieces piece below is)
+    ∙ ap (with_bytes front.name) (none (shown piece) (drop (suc at) (shown_all pieces)) unknown))
+  where
+    none : (piece : Piece) (rest : List Piece) → byte_of piece ≡ None → cut_known mark (piece ∷ rest) ≡ None
+    none (Known byte) rest is = absurd cc
+    none (OneOf set) rest is = refl
+    none (AnyOf set) rest is = refl
+
+-- a piece whose byte is known
+pub is-known : (piece : Piece) (byte : ℕ) → byte_of piece ≡ Some byte → piece ≡ Known byte
+is-known (Known b) byte is = let same : b ≡ byte = cc in ap (λ x. Known x) same
+is-known (OneOf set) byte is = absurd cc
+is-known (AnyOf set) byte is = absurd cc
+
+pub front-over : (mark at : ℕ) (pieces : List KeptPiece) → length pieces ≤ at → IsKnownFront mark at pieces → cut_known mark (shown_all pieces) ≡ None
+front-over mark at pieces far front = front.cut ∙ ap (λ ps. with_bytes front.name (cut_known mark ps)) (from-end at pieces far)

@@ -10,6 +10,12 @@ pub data Piece : Type 0 where
   OneOf : Bytes → Piece
   AnyOf : Bytes → Piece
 
+-- the byte that stands there
+abbrev pub byte_of : Piece → Option ℕ
+byte_of (Known byte) = Some byte
+byte_of (OneOf set) = None
+byte_of (AnyOf set) = None
+
 -- the text is the pieces one after another
 unfoldable pub Fits : List Piece → List ℕ → Type 0
 Fits [] text = text ≡ []

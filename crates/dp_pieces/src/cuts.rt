@@ -1,12 +1,12 @@
 //! Pieces that are cut at a byte: at the first one, at the first outside parentheses, at the last, and after a known text.
-ghost use Rattle.std.specs.Prelude.{◌≡◌, ◌+◌, ◌^◌, ◌<◌, IfSome, MatchOption, [], ◌∷◌, length, map};
-ghost use Rattle.dp_pieces.specs.Arguments.{split_pieces};
+ghost use Rattle.std.specs.Prelude.{◌≡◌, ℕ, ◌+◌, ◌^◌, ◌<◌, List, IfSome, MatchOption, None, Some, [], ◌∷◌, length, map};
+ghost use Rattle.dp_pieces.specs.Arguments.{are_clean, split_pieces};
 ghost use Rattle.dp_pieces.specs.Cuts as cuts;
-ghost use Rattle.dp_pieces.specs.Pieces.{Known, OneOf};
+ghost use Rattle.dp_pieces.specs.Pieces.{Known, OneOf, exactly};
 ghost use Rattle.dp_pieces.specs.Sets.{set_by};
 ghost use Rattle.dp_pieces.specs.Shown.{shown, shown_all};
 ghost use Rattle.dp_pieces.specs.ShownCuts.{shown_cutting};
-ghost use Rattle.dp_pieces.specs.steps.Stands.{level_after, stand_of, cut_rule};
+ghost use Rattle.dp_pieces.specs.steps.Stands.{cut_rule, is_clean_piece, level_after, stand_of};
 
 use crate::byte_set::ByteSet;
 use crate::piece::Piece;
@@ -143,4 +143,44 @@ pub fn cut_last(pieces: &[Piece], mark: u8) -> Cutting<'_>
         }
     }
     Cutting::Nowhere
+}
+
+/// The pieces before the first such byte, all of them known, and those after it, or None where one that is not known comes first.
+pub fn cut_known(pieces: &[Piece], mark: u8) -> Option<(&[Piece], &[Piece])>
+    ensures { MatchOption result (cuts.cut_known mark (shown_all pieces.now) ≡ None)
+        (λ cut. (name : List ℕ) × (cuts.cut_known mark (shown_all pieces.now) ≡ Some (name, shown_all cut.1.now)) × (shown_all cut.0.now ≡ exactly name)) }
+{
+    for (at, piece) in pieces.iter().enumerate() {
+        let Some(byte) = piece.byte() else {
+            return None;
+        };
+        if byte == mark {
+            return Some((&pieces[..at], &pieces[at + 1..]));
+        }
+    }
+    None
+}
+
+/// Whether a piece at a level of parentheses parts no arguments and changes no level, unless it is known.
+fn is_clean(level: usize, piece: &Piece) -> bool
+    ensures { result ≡ is_clean_piece level (shown piece.now) }
+{
+    match piece {
+        Piece::Known(_) => true,
+        Piece::OneOf(set) | Piece::AnyOf(set) => !may_cut(b',', level, set),
+    }
+}
+
+/// Whether no piece that is not known parts arguments: none has a parenthesis, nor a comma outside them.
+pub fn are_clean(pieces: &[Piece]) -> bool
+    ensures { result ≡ are_clean 0 (shown_all pieces.now) }
+{
+    let mut level: usize = 0;
+    for piece in pieces {
+        if !is_clean(level, piece) {
+            return false;
+        }
+        level = level_after(level, piece);
+    }
+    true
 }

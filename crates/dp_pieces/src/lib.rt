@@ -8,6 +8,6 @@ mod piece;
 mod reader;
 
 pub use byte_set::ByteSet;
-pub use cuts::{Cutting, cut_last, cut_level, cut_pieces, first_part};
+pub use cuts::{Cutting, are_clean, cut_known, cut_last, cut_level, cut_pieces, first_part};
 pub use piece::Piece;
 pub use reader::{NamedPieces, read_pieces};

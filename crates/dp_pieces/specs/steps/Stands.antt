@@ -1,5 +1,5 @@
 -- How pieces stand to a rule by which they are cut, one after another.
-use Rattle.std.specs.Prelude.{ℕ, Bool, ◌&&◌, ◌==◌, List, [], ◌∷◌, if◌then◌else◌}
+use Rattle.std.specs.Prelude.{ℕ, Bool, true, not, ◌&&◌, ◌==◌, List, [], ◌∷◌, if◌then◌else◌}
 use Rattle.dp_conf.specs.Levels.{next_level}
 use Rattle.dp_pieces.specs.Bytes.{Bytes}
 use Rattle.dp_pieces.specs.Cuts.{At, Cutting, Nowhere, Unsure, may_cut, with_piece}
@@ -36,6 +36,12 @@ abbrev pub level_after : ℕ → Piece → ℕ
 level_after level (Known byte) = next_level level byte
 level_after level (OneOf set) = level
 level_after level (AnyOf set) = level
+
+-- a piece that is not known parts no arguments and changes no level
+abbrev pub is_clean_piece : ℕ → Piece → Bool
+is_clean_piece level (Known byte) = true
+is_clean_piece level (OneOf set) = not (may_cut 44 level set)
+is_clean_piece level (AnyOf set) = not (may_cut 44 level set)
 
 -- the cut by the first piece, and by those after it
 abbrev pub cut_by : Stand → Piece → List Piece → Cutting → Cutting
