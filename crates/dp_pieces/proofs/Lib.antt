@@ -1,6 +1,7 @@
 pub mod WithinLemmas
 pub mod NumeralLemmas
 pub mod ExpressionLemmas
+pub mod BlankLemmas
 pub mod FitsLemmas
 pub mod TextLemmas
 pub mod ReaderLemmas
@@ -11,4 +12,5 @@ pub mod ArgumentLemmas
 pub mod CutLemmas
 pub mod LastLemmas
 pub mod RuleLemmas
+pub mod SoftLemmas
 pub mod MetLemmas

@@ -2,3 +2,4 @@
 pub mod Reader
 pub mod ReadSoFar
 pub mod Stands
+pub mod Softened

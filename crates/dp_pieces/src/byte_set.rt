@@ -1,8 +1,10 @@
 //! Sets of bytes.
-ghost use Rattle.std.specs.Prelude.{◌≡◌, ℕ, true, false, ◌||◌, ◌==◌, IsFalse, IsTrue, replicate};
-ghost use Rattle.dp_pieces.specs.Bytes.{IsPart, either};
+ghost use Rattle.dp_conf.specs.Blanks.{is_blank as blank};
+ghost use Rattle.std.specs.Prelude.{◌≡◌, ℕ, true, false, ◌&&◌, ◌||◌, ◌==◌, IsFalse, IsTrue, replicate};
+ghost use Rattle.dp_pieces.specs.Bytes.{IsPart, either, has_blank};
 ghost use Rattle.dp_pieces.specs.Sets.{set_by};
 
+use dp_conf::is_blank;
 use std::marker::Model;
 
 /// A set of bytes.
@@ -50,6 +52,34 @@ impl ByteSet {
         for i in 0..256 {
             self.has[i] = self.has[i] || other.has[i];
         }
+    }
+
+    /// The set of one byte.
+    pub fn of(byte: u8) -> Self
+        ensures { (b : ℕ) → set_by result b ≡ (b == byte) }
+    {
+        let mut set = ByteSet::none();
+        set.put(byte);
+        set
+    }
+
+    /// Whether the set has a blank, a byte of 32 or less other than a line feed.
+    pub fn has_blank(&self) -> bool
+        ensures { result ≡ has_blank (set_by self.now) }
+    {
+        for byte in 0..33 {
+            if self.has_as_blank(byte) {
+                return true;
+            }
+        }
+        false
+    }
+
+    /// Whether the byte is a blank of the set.
+    fn has_as_blank(&self, byte: u8) -> bool
+        ensures { result ≡ (blank byte && set_by self.now byte) }
+    {
+        is_blank(byte) && self.has(byte)
     }
 
     /// Whether each byte of the set is in the other.

@@ -6,8 +6,10 @@ mod cuts;
 pub mod laws;
 mod piece;
 mod reader;
+mod trims;
 
 pub use byte_set::ByteSet;
 pub use cuts::{Cutting, are_clean, cut_known, cut_last, cut_level, cut_pieces, first_part};
-pub use piece::Piece;
+pub use piece::{Piece, add_pieces};
 pub use reader::{NamedPieces, read_pieces};
+pub use trims::trimmed;

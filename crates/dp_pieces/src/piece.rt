@@ -1,7 +1,8 @@
 //! Pieces of a text of which parts are unknown.
-ghost use Rattle.std.specs.Prelude.{◌≡◌};
-ghost use Rattle.dp_pieces.specs.Pieces.{byte_of};
-ghost use Rattle.dp_pieces.specs.Shown.{shown};
+ghost use Rattle.std.specs.Prelude.{◌≡◌, ◌||◌, ℕ};
+ghost use Rattle.dp_pieces.specs.Pieces.{byte_of, piece_set, pieces_set};
+ghost use Rattle.dp_pieces.specs.Sets.{set_by};
+ghost use Rattle.dp_pieces.specs.Shown.{shown, shown_all};
 
 use crate::byte_set::ByteSet;
 
@@ -22,5 +23,24 @@ impl Piece {
             Piece::Known(byte) => Some(*byte),
             Piece::OneOf(_) | Piece::AnyOf(_) => None,
         }
+    }
+}
+
+/// Puts the bytes of a piece in the set.
+fn add_piece(set: &mut ByteSet, piece: &Piece)
+    ensures { (b : ℕ) → set_by set.new b ≡ (set_by set.old b || piece_set (shown piece.now) b) }
+{
+    match piece {
+        Piece::Known(byte) => set.put(*byte),
+        Piece::OneOf(other) | Piece::AnyOf(other) => set.add(other),
+    }
+}
+
+/// Puts the bytes of all pieces in the set.
+pub fn add_pieces(set: &mut ByteSet, pieces: &[Piece])
+    ensures { (b : ℕ) → set_by set.new b ≡ (set_by set.old b || pieces_set (shown_all pieces.now) b) }
+{
+    for piece in pieces {
+        add_piece(set, piece);
     }
 }

@@ -1,4 +1,4 @@
-use Rattle.std.proofs.Common.{◌≡◌, ◌≤◌, ◌+◌, suc, ◌&&◌, true, false, drop, sym, ap, ◌∙◌, subst, arith}
+use Rattle.std.proofs.Common.{◌≡◌, ◌≤◌, ◌+◌, suc, ◌&&◌, true, drop, sym, ap, ◌∙◌, subst, arith}
 use Rattle.dp_pieces.specs.Arguments.{are_clean}
 use Rattle.dp_pieces.specs.Shown.{shown, shown_all}
 use Rattle.dp_pieces.specs.steps.Stands.{is_clean_piece, level_after}

@@ -1,7 +1,6 @@
 use Rattle.std.proofs.Common.{◌≡◌, ◌≤◌, ◌+◌, suc, sym, ap, ◌∙◌, subst, arith}
-use Rattle.dp_pieces.specs.Cuts.{At, Cutting}
 use Rattle.dp_pieces.specs.Shown.{shown, shown_all}
-use Rattle.dp_pieces.specs.steps.Stands.{cut_rule, level_after}
+use Rattle.dp_pieces.specs.steps.Stands.{cut_rule}
 use Rattle.dp_pieces.proofs.RuleLemmas.{cut_from, cut_from-apart, cut_from-here, cut_from-maybe, cut_from-over, level-bound, parts-at}
 use Rattle.dp_pieces.proofs.cuts.cut_by.Goals as goal
 

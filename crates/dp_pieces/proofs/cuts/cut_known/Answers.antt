@@ -1,7 +1,7 @@
-use Rattle.std.proofs.Common.{◌≡◌, ◌==◌, ◌+◌, suc, true, false, Some, None, drop, take, length, sym, ap, ◌∙◌, subst, arith, rules, tests}
+use Rattle.std.proofs.Common.{◌≡◌, ◌==◌, ◌+◌, suc, true, false, Some, sym, ap, ◌∙◌, subst, arith, rules, tests}
 use Rattle.std.proofs.lemmas.List.{take-map}
-use Rattle.dp_pieces.specs.Pieces.{Known, byte_of}
-use Rattle.dp_pieces.specs.Shown.{shown, shown_all}
+use Rattle.dp_pieces.specs.Pieces.{Known}
+use Rattle.dp_pieces.specs.Shown.{shown}
 use Rattle.dp_pieces.proofs.RuleLemmas.{IsKnownFront, front-here, front-none, front-over, front-push, front-unknown, is-known, rest-at}
 use Rattle.dp_pieces.proofs.cuts.cut_known.Goals as goal
 

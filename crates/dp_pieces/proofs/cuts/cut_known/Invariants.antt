@@ -1,6 +1,3 @@
-use Rattle.std.proofs.Common.{◌≡◌}
-use Rattle.dp_pieces.specs.Cuts.{cut_known}
-use Rattle.dp_pieces.specs.Shown.{shown_all}
 use Rattle.dp_pieces.proofs.RuleLemmas.{IsKnownFront}
 use Rattle.dp_pieces.proofs.cuts.cut_known.Given as goal
 

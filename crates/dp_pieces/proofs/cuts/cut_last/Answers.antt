@@ -1,9 +1,7 @@
-use Rattle.std.proofs.Common.{◌≡◌, sym, ap, ◌∙◌}
-use Rattle.dp_pieces.specs.Cuts.{Cutting, cut_last}
-use Rattle.dp_pieces.specs.Shown.{shown, shown_all}
-use Rattle.dp_pieces.specs.declared.cuts.Rule.TheVariants.{First}
+use Rattle.std.proofs.Common.{sym, ap, ◌∙◌}
+use Rattle.dp_pieces.specs.Cuts.{cut_last}
+use Rattle.dp_pieces.specs.Shown.{shown_all}
 use Rattle.dp_pieces.specs.declared.cuts.Stand.{Stand}
-use Rattle.dp_pieces.specs.steps.Stands.{stand_of}
 use Rattle.dp_pieces.proofs.RuleLemmas.{last-kept, last_by}
 use Rattle.dp_pieces.proofs.cuts.cut_last.Goals as goal
 

@@ -1,11 +1,10 @@
-use Rattle.std.proofs.Common.{◌≡◌, ◌<◌, inl, inr, ◌⊎◌, [], ◌∷◌, length, map, sym, ap, ◌∙◌, subst, arith}
+use Rattle.std.proofs.Common.{◌≡◌, inl, inr, ◌⊎◌, [], ◌∷◌, sym, ap, ◌∙◌, subst, arith}
 use Rattle.std.proofs.lemmas.List.{length-map}
 use Rattle.dp_pieces.specs.Arguments.{split_pieces}
 use Rattle.dp_pieces.specs.declared.cuts.Cutting.{Cutting}
 use Rattle.dp_pieces.specs.declared.cuts.Cutting.TheVariants.{Nowhere, Unsure}
 use Rattle.dp_pieces.specs.Shown.{shown, shown_all}
 use Rattle.dp_pieces.specs.ShownCuts.{shown_cutting}
-use Rattle.dp_pieces.specs.steps.Stands.{cut_rule}
 use Rattle.dp_pieces.proofs.RuleLemmas.{IsSplit, split-comma}
 use Rattle.dp_pieces.proofs.cuts.first_part.Goals as goal
 
