@@ -1,6 +1,7 @@
 //! Texts that are not expanded yet, as pieces: a known byte, one byte of a set, or any bytes of a set.
 #![tactic(auto)]
 
+mod arguments;
 mod byte_set;
 mod cuts;
 pub mod laws;
@@ -8,6 +9,7 @@ mod piece;
 mod reader;
 mod trims;
 
+pub use arguments::shapes_of;
 pub use byte_set::ByteSet;
 pub use cuts::{Cutting, are_clean, cut_known, cut_last, cut_level, cut_pieces, first_part};
 pub use piece::{Piece, add_pieces};

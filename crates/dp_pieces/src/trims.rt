@@ -62,13 +62,7 @@ fn losing(piece: &Piece) -> Option<ByteSet>
 {
     match piece {
         Piece::Known(_) => None,
-        Piece::OneOf(set) => {
-            if set.has_blank() {
-                Some(*set)
-            } else {
-                None
-            }
-        }
+        Piece::OneOf(set) => { if set.has_blank() { Some(*set) } else { None } }
         Piece::AnyOf(set) => Some(*set),
     }
 }

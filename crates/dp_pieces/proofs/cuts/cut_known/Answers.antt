@@ -15,11 +15,12 @@ returns-in_default c =
 pub returns-then-byte-mark : goal.returns-then-byte-mark
 returns-then-byte-mark c =
     let same : (c.in-Some.byte == c.args.mark) ≡ true = search (rules, tests) in
-    let known : shown c.index-pieces-at.result ≡ Known c.in-Some.byte = is-known (shown c.index-pieces-at.result) c.in-Some.byte (sym c.byte.ensures ∙ c.in-Some.is) in
-    (c.loop-at.invariant.name,
-    front-here c.args.mark c.loop-at.at c.in-Some.byte c.args.pieces.now c.index-pieces-at.result c.loop-at-test.true c.index-pieces-at.is known same c.loop-at.invariant
-    ∙ ap (λ ps. Some (c.loop-at.invariant.name, ps)) (rest-at c.loop-at.at c.args.pieces.now),
-    sym (take-map shown c.loop-at.at c.args.pieces.now) ∙ c.loop-at.invariant.front)
+    let known : shown c.index-pieces-at.result ≡ Known c.in-Some.byte = is-known (shown c.index-pieces-at.result) c.in-Some.byte (sym c.byte.ensures ∙ c.in-Some.is) in (
+      c.loop-at.invariant.name,
+      front-here c.args.mark c.loop-at.at c.in-Some.byte c.args.pieces.now c.index-pieces-at.result c.loop-at-test.true c.index-pieces-at.is known same c.loop-at.invariant
+          ∙ ap (λ ps. Some (c.loop-at.invariant.name, ps)) (rest-at c.loop-at.at c.args.pieces.now),
+      sym (take-map shown c.loop-at.at c.args.pieces.now) ∙ c.loop-at.invariant.front,
+    )
 
 pub loop-at-preserved : goal.loop-at-preserved
 loop-at-preserved c =

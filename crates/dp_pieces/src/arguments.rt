@@ -1,0 +1,38 @@
+//! The arguments of a text by its pieces, and parts of these.
+ghost use Rattle.std.specs.Prelude.{◌≡◌, IfOk, map};
+ghost use Rattle.dp_pieces.specs.Arguments.{shapes_of};
+ghost use Rattle.dp_pieces.specs.Pieces.{made, pieces_set};
+ghost use Rattle.dp_pieces.specs.Shown.{shown_all};
+
+use crate::byte_set::ByteSet;
+use crate::cuts::first_part;
+use crate::piece::{Piece, add_pieces};
+use crate::trims::trimmed;
+use dp_conf::NoMemory;
+use std::alloc::Global;
+
+/// The shapes of the arguments: what known commas outside parentheses part, each without the blanks at its ends. It fails only for want
+/// of memory.
+pub fn shapes_of(alloc: Global, pieces: &[Piece]) -> Result<Vec<Vec<Piece>>, NoMemory>
+    ensures { IfOk result (λ shapes. map (λ shape. shown_all shape.items) shapes.items ≡ shapes_of (shown_all pieces.now)) }
+{
+    let mut shapes = Vec::new(alloc);
+    let mut rest = Some(pieces);
+    while let Some(left) = rest {
+        let (part, after) = first_part(left);
+        shapes.push(trimmed(alloc, part)?)?;
+        rest = after;
+    }
+    Ok(shapes)
+}
+
+/// Any bytes of these pieces, as one piece.
+fn any_of(alloc: Global, pieces: &[Piece]) -> Result<Vec<Piece>, NoMemory>
+    ensures { IfOk result (λ all. shown_all all.items ≡ made (pieces_set (shown_all pieces.now))) }
+{
+    let mut set = ByteSet::none();
+    add_pieces(&mut set, pieces);
+    let mut all = Vec::new(alloc);
+    all.push(Piece::AnyOf(set))?;
+    Ok(all)
+}
