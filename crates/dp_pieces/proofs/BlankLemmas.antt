@@ -26,7 +26,7 @@ below-found (suc count) byte set less here = by (byte == count) refl (λ below. 
     by false other later = let far = eqb-false byte count other in either-right (is_blank count && set count) (has_blank_below count set) (later (omega (arith, less, far)))
 
 -- a table of bytes that has none
-none-has : (size byte : ℕ) → set_by (replicate size false) byte ≡ false
+pub none-has : (size byte : ℕ) → set_by (replicate size false) byte ≡ false
 none-has zero byte = refl
 none-has (suc size) zero = refl
 none-has (suc size) (suc byte) = none-has size byte

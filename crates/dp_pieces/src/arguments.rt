@@ -1,7 +1,7 @@
 //! The arguments of a text by its pieces, and parts of these.
 ghost use Rattle.std.specs.Prelude.{◌≡◌, IfOk, map};
 ghost use Rattle.dp_pieces.specs.Arguments.{shapes_of};
-ghost use Rattle.dp_pieces.specs.Pieces.{made, pieces_set};
+ghost use Rattle.dp_pieces.specs.Pieces.{made, pieces_set, without};
 ghost use Rattle.dp_pieces.specs.Shown.{shown_all};
 
 use crate::byte_set::ByteSet;
@@ -35,4 +35,27 @@ fn any_of(alloc: Global, pieces: &[Piece]) -> Result<Vec<Piece>, NoMemory>
     let mut all = Vec::new(alloc);
     all.push(Piece::AnyOf(set))?;
     Ok(all)
+}
+
+/// The pieces without so many of the first bytes. Where a piece that may have any bytes comes first, it and what follows it become one
+/// such piece. It fails only for want of memory.
+pub fn without(alloc: Global, count: usize, pieces: &[Piece]) -> Result<Vec<Piece>, NoMemory>
+    ensures { IfOk result (λ rest. shown_all rest.items ≡ without count (shown_all pieces.now)) }
+{
+    let mut left = pieces;
+    let mut count = count;
+    while count > 0 {
+        let Some((first, rest)) = left.split_first() else {
+            break;
+        };
+        if let Piece::AnyOf(_) = first {
+            let all = any_of(alloc, left)?;
+            return Ok(all);
+        }
+        left = rest;
+        count -= 1;
+    }
+    let mut kept = Vec::new(alloc);
+    kept.extend_from_slice(left)?;
+    Ok(kept)
 }

@@ -9,7 +9,7 @@ mod piece;
 mod reader;
 mod trims;
 
-pub use arguments::shapes_of;
+pub use arguments::{shapes_of, without};
 pub use byte_set::ByteSet;
 pub use cuts::{Cutting, are_clean, cut_known, cut_last, cut_level, cut_pieces, first_part};
 pub use piece::{Piece, add_pieces};
