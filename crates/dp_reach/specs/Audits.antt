@@ -1,0 +1,72 @@
+-- What an audit claims: from where calls come in, and what they may run.
+use Rattle.std.specs.Prelude.{◌≡◌, ℕ, Bool, List, [], ◌∷◌, ◌++◌, map, ◌⊎◌}
+use Rattle.std.specs.List.{AllByRecursion}
+use Rattle.dp_plan.specs.declared.entry.EntryId.{EntryId}
+use Rattle.dp_plan.specs.declared.plan.GlobalVariable.{GlobalVariable}
+use Rattle.dp_queue.specs.Queues.{QueuesOf}
+use Rattle.dp_app.specs.Rows.{Rows}
+use Rattle.dp_machine.specs.Events.{event_row}
+use Rattle.dp_machine.specs.Replay.{final_world, world_after}
+use Rattle.dp_machine.specs.World.{opening}
+use Rattle.dp_machine.specs.declared.event.Event.{Event}
+use Rattle.dp_machine.specs.declared.event.Event.TheVariants.{Start, Step, Digit, Timeout, Poll, Hangup, DialResult, Offer, Answer, Decline, AgentDone, Reload}
+use Rattle.dp_machine.specs.declared.reply.Reply.TheVariants.{Started}
+use Rattle.dp_reach.specs.Areas.{Area, Includes, area_at}
+use Rattle.dp_reach.specs.Bounds.{Duties}
+use Rattle.dp_pieces.specs.Bytes.{Bytes, IsPart, Within}
+use Rattle.dp_pieces.specs.Names.{Names}
+use Rattle.dp_pieces.specs.Pieces.{exactly, made}
+use Rattle.dp_pieces.specs.Texts.{text_set}
+use Rattle.dp_reach.specs.Closed.{IsClosed}
+use Rattle.dp_reach.specs.Holding.{Claim}
+use Rattle.dp_reach.specs.Runs.{RunsWithin, narrowed}
+
+-- what may come in: the bytes of an extension and of a caller's number, and the contexts
+pub record Outside : Type 0 where
+  pub exten : Bytes
+  pub caller : Bytes
+  pub contexts : List (List ℕ)
+
+abbrev pub IsOneOf : List (List ℕ) → List ℕ → Type 0
+IsOneOf [] text = ⊥
+IsOneOf (name ∷ names) text = (text ≡ name) ⊎ IsOneOf names text
+
+-- an event in which no call comes in but such, and in which no other dialplan is loaded
+abbrev pub IsFromOutside : Outside → Event → Type 0
+IsFromOutside outside (Start context exten caller) = IsOneOf outside.contexts context × Within outside.exten exten × Within outside.caller caller
+IsFromOutside outside (Step number) = Unit {0}
+IsFromOutside outside (Digit number digit) = Unit {0}
+IsFromOutside outside (Timeout number) = Unit {0}
+IsFromOutside outside (Poll number) = Unit {0}
+IsFromOutside outside (Hangup number) = Unit {0}
+IsFromOutside outside (DialResult number status) = Unit {0}
+IsFromOutside outside (Offer queue) = Unit {0}
+IsFromOutside outside (Answer agent) = Unit {0}
+IsFromOutside outside (Decline agent) = Unit {0}
+IsFromOutside outside (AgentDone agent) = Unit {0}
+IsFromOutside outside (Reload text) = ⊥
+
+-- where such a call comes in
+abbrev pub entrance : Outside → List ℕ → Area
+entrance outside context = area_at (exactly context) (made outside.exten)
+
+-- the names that the value of a global sees: no channel, and so no extension and no context
+abbrev pub names_outside : Names → Names
+names_outside names = record names { exten = []; context = [] }
+
+-- an audit is closed: for all calls, and for those that come in at the context
+pub record IsAudit (duties : List ℕ → Duties) (outside : Outside) (context : List ℕ) (claim : Claim) (others : EntryId → Bool) (reach : List Area) (answers : EntryId → Bool) : Type 0 where
+  pub all : IsClosed duties claim others
+  pub own : IsClosed duties (narrowed claim reach) answers
+  pub calls : AllByRecursion (λ name. Includes claim.plan claim.reach (entrance outside name)) outside.contexts
+  pub call : Includes claim.plan reach (entrance outside context)
+  pub caller : IsPart outside.caller claim.names.caller
+  pub globals : AllByRecursion (λ (variable : GlobalVariable). IsPart (text_set (names_outside claim.names) variable.value) (claim.names.bytes variable.name)) claim.plan.globals
+
+-- in a run from the beginning, a call that comes in at the context runs none but these entries
+abbrev pub RunsOnly : Rows → Outside → List ℕ → Claim → (EntryId → Bool) → Type 0
+RunsOnly rows outside context claim answers = (queues : QueuesOf) (before later : List Event) (exten caller : List ℕ) (number : ℕ)
+    → map (λ queue. queue.settings) queues.queues ≡ claim.settings
+    → AllByRecursion (IsFromOutside outside) (before ++ Start context exten caller ∷ later)
+    → (event_row rows (world_after rows (opening claim.plan queues) before) (Start context exten caller)).1 ≡ Started number
+    → RunsWithin rows answers number (final_world rows (world_after rows (opening claim.plan queues) before) (Start context exten caller)) later

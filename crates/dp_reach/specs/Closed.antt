@@ -1,0 +1,54 @@
+-- When a claim is closed: the machine and each entry that may run in an area keep to it.
+use Rattle.std.specs.Prelude.{◌≡◌, ℕ, Bool, true, List, codes}
+use Rattle.std.specs.List.{AllByRecursion}
+use Rattle.dp_plan.specs.declared.entry.Entry.{Entry}
+use Rattle.dp_plan.specs.declared.entry.EntryId.{EntryId}
+use Rattle.dp_vars.specs.Sights.{Sight}
+use Rattle.dp_vars.specs.Values.{expansion}
+use Rattle.dp_machine.specs.Codes.{status_name}
+use Rattle.dp_machine.specs.declared.dial_status.DialStatus.{DialStatus}
+use Rattle.dp_pieces.specs.Bytes.{IsPart, Within, digits}
+use Rattle.dp_pieces.specs.Names.{IsWhole, IsWithin}
+use Rattle.dp_pieces.specs.Pieces.{Fits, Piece, pieces_set}
+use Rattle.dp_reach.specs.Areas.{Area, Includes, area_matched, beside, names_at}
+use Rattle.dp_reach.specs.Bounds.{Duties, MeetsAll}
+use Rattle.dp_reach.specs.Finding.{MayFind}
+use Rattle.dp_reach.specs.Holding.{Claim}
+
+-- the bytes that the machine puts into an area's names
+pub record IsNamed (claim : Claim) (area : Area) : Type 0 where
+  pub exten : IsPart (pieces_set area.exten) claim.names.all
+  pub context : IsPart (pieces_set area.context) claim.names.all
+  pub invalid : IsPart (pieces_set area.exten) (claim.names.bytes (codes "INVALID_EXTEN"))
+
+-- and into those that are the same in each
+pub record AreNamed (claim : Claim) : Type 0 where
+  pub whole : IsWhole claim.names
+  pub priority : IsPart digits (claim.names.bytes (codes "PRIORITY"))
+  pub channel : Within (claim.names.bytes (codes "CHANNEL")) (codes "Channel/")
+  pub number : IsPart digits (claim.names.bytes (codes "CHANNEL"))
+  pub timeout : Within (claim.names.bytes (codes "QUEUESTATUS")) (codes "TIMEOUT")
+  pub leave : Within (claim.names.bytes (codes "QUEUESTATUS")) (codes "LEAVEEMPTY")
+  pub talked : Within (claim.names.bytes (codes "QUEUESTATUS")) (codes "CONTINUE")
+  pub status : (status : DialStatus) → Within (claim.names.bytes (codes "DIALSTATUS")) (status_name status)
+  pub unanswered : Within (claim.names.bytes (codes "DIALSTATUS")) (codes "NOANSWER")
+  pub cancelled : Within (claim.names.bytes (codes "DIALSTATUS")) (codes "CANCEL")
+
+-- an entry that may run in an area is among the answers; its arguments fit pieces whatever is seen, and by these it owes what is met
+pub record IsEntry (duties : List ℕ → Duties) (claim : Claim) (answers : EntryId → Bool) (area : Area) (id : EntryId) (entry : Entry) : Type 0 where
+  pub answer : answers id ≡ true
+  pub pieces : List Piece
+  pub fits : (sight : Sight) → IsWithin (names_at claim.names area) sight → Fits pieces (expansion sight entry.arguments)
+  pub met : MeetsAll claim (duties entry.application area pieces)
+
+-- an area is closed: where a call that ends or finds nothing goes, and each entry that may be found, from what is known of its match
+pub record IsAreaClosed (duties : List ℕ → Duties) (claim : Claim) (answers : EntryId → Bool) (area : Area) : Type 0 where
+  pub named : IsNamed claim area
+  pub hang : Includes claim.plan claim.reach (beside area (codes "h"))
+  pub invalid : Includes claim.plan claim.reach (beside area (codes "i"))
+  pub entries : (id : EntryId) (entry : Entry) → MayFind claim.plan area id entry → IsEntry duties claim answers (area_matched area entry.name) id entry
+
+-- a claim is closed, with the entries that are answered
+pub record IsClosed (duties : List ℕ → Duties) (claim : Claim) (answers : EntryId → Bool) : Type 0 where
+  pub named : AreNamed claim
+  pub areas : AllByRecursion (IsAreaClosed duties claim answers) claim.reach

@@ -1,0 +1,10 @@
+pub mod Areas
+pub mod Audits
+pub mod Bounds
+pub mod Choices
+pub mod Closed
+pub mod Finding
+pub mod Holding
+pub mod Runs
+pub mod Settings
+pub mod Standard

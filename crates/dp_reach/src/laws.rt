@@ -1,0 +1,52 @@
+//! Laws over the definitions of this crate.
+ghost use Rattle.std.specs.Prelude.{◌≡◌, ℕ, ◌≤◌, Bool, List, Some, length};
+ghost use Rattle.dp_app.specs.declared.place.Place.{Place};
+ghost use Rattle.dp_machine.specs.Found.{Located, entry_found};
+ghost use Rattle.dp_machine.specs.World.{World};
+ghost use Rattle.dp_machine.specs.declared.event.Event.{Event};
+ghost use Rattle.dp_plan.specs.Plan.{PlanOf};
+ghost use Rattle.dp_plan.specs.declared.entry.EntryId.{EntryId};
+ghost use Rattle.dp_table.specs.Standard.{standard_rows};
+ghost use Rattle.dp_reach.specs.Areas.{Area, IsIn, area_matched};
+ghost use Rattle.dp_reach.specs.Audits.{IsAudit, Outside, RunsOnly};
+ghost use Rattle.dp_reach.specs.Bounds.{AreBounded, Duties};
+ghost use Rattle.dp_reach.specs.Closed.{IsClosed};
+ghost use Rattle.dp_reach.specs.Finding.{MayFind};
+ghost use Rattle.dp_reach.specs.Holding.{Claim};
+ghost use Rattle.dp_reach.specs.Runs.{AreAllowed, IsNumberIn, IsWorldIn, RunsWithin, narrowed};
+ghost use Rattle.dp_reach.specs.Standard.{standard_duties};
+
+use dp_app::AppTable;
+
+/// In a world of which each channel is in a closed reach, and in which calls come in into that reach alone, a channel that is in
+/// a smaller closed reach runs none but the entries that are answered for that, in any list of events without another dialplan.
+/// So it is over every table whose rows keep the laws and stay inside where what they owe is met. It does nothing.
+pub fn runs<T: AppTable>()
+    ensures { (duties : List ℕ → Duties) (wide : Claim) (others : EntryId → Bool) (reach : List Area) (answers : EntryId → Bool)
+        (world : World) (events : List Event) (channel : ℕ)
+        → AreBounded duties T.rows → IsClosed duties wide others → IsClosed duties (narrowed wide reach) answers
+        → IsWorldIn wide world → IsNumberIn (narrowed wide reach) world channel → channel ≤ length world.channels → AreAllowed wide events
+        → RunsWithin T.rows answers channel world events }
+{}
+
+/// Each row of this program's table stays inside where what it owes is met. It does nothing.
+pub fn standard()
+    ensures { AreBounded standard_duties standard_rows }
+{}
+
+/// An entry that is found at a place of an area may be found from the area, and what is known of its match is true of the place. It
+/// does nothing.
+pub fn finding()
+    ensures found { (plan : PlanOf) (area : Area) (place : Place) (found : Located) → IsIn area place → entry_found plan place ≡ Some found
+        → MayFind plan area found.id found.entry }
+    ensures matched { (plan : PlanOf) (area : Area) (place : Place) (found : Located) → IsIn area place → entry_found plan place ≡ Some found
+        → IsIn (area_matched area found.entry.name) place }
+{}
+
+/// A closed audit is right of every run from the beginning: a call that comes in at the context runs none but the entries that are
+/// answered. It does nothing.
+pub fn audit<T: AppTable>()
+    ensures { (duties : List ℕ → Duties) (outside : Outside) (context : List ℕ) (claim : Claim) (others : EntryId → Bool) (reach : List Area)
+        (answers : EntryId → Bool) → AreBounded duties T.rows → IsAudit duties outside context claim others reach answers
+        → RunsOnly T.rows outside context claim answers }
+{}
