@@ -11,3 +11,4 @@ pub mod ArgumentLemmas
 pub mod CutLemmas
 pub mod LastLemmas
 pub mod MetLemmas
+pub mod ShapeLemmas

@@ -5,7 +5,9 @@ mod byte_set;
 pub mod laws;
 mod piece;
 mod reader;
+mod shapes;
 
 pub use byte_set::ByteSet;
 pub use piece::Piece;
 pub use reader::{NamedPieces, read_pieces};
+pub use shapes::matched;

@@ -1,0 +1,206 @@
+//! Questions about shapes: lists of pieces that a text fits.
+ghost use Rattle.std.specs.Prelude.{◌≡◌, ℕ, [], ◌∷◌, ◌++◌, IfOk, MatchOption, OnOk};
+ghost use Rattle.dp_pattern.specs.Kept.{parts_meaning};
+ghost use Rattle.dp_pattern.specs.Walk.{classes_of, tail_of};
+ghost use Rattle.dp_pieces.specs.Bytes.{both, either};
+ghost use Rattle.dp_pieces.specs.Met.{matched, met_classes, met_tail};
+ghost use Rattle.dp_pieces.specs.Pieces.{bytes_in, exactly, made, piece_set, pieces_set};
+ghost use Rattle.dp_pieces.specs.Sets.{set_by};
+ghost use Rattle.dp_pieces.specs.ShapeSteps.{AreAllBytes, AreBytes, IsAny, IsMet, class_at};
+ghost use Rattle.dp_pieces.specs.Shown.{shown, shown_all};
+
+use crate::byte_set::ByteSet;
+use crate::piece::Piece;
+use dp_conf::NoMemory;
+use dp_pattern::{Class, Name, Parts, Tail};
+use std::alloc::Global;
+
+/// Puts the bytes of a piece in the set.
+fn add_piece(set: &mut ByteSet, piece: &Piece)
+    ensures { (b : ℕ) → set_by set.new b ≡ either (set_by set.old) (piece_set (shown piece.now)) b }
+{
+    match piece {
+        Piece::Known(byte) => set.put(*byte),
+        Piece::OneOf(bytes) | Piece::AnyOf(bytes) => set.add(bytes),
+    }
+}
+
+/// The bytes of pieces.
+fn set_of(pieces: &[Piece]) -> ByteSet
+    ensures { (b : ℕ) → set_by result b ≡ pieces_set (shown_all pieces.now) b }
+{
+    let mut set = ByteSet::none();
+    for piece in pieces {
+        add_piece(&mut set, piece);
+    }
+    set
+}
+
+/// The same set.
+fn copy_set(set: &ByteSet) -> ByteSet
+    ensures { (b : ℕ) → set_by result b ≡ set_by set.now b }
+{
+    let mut copy = ByteSet::none();
+    copy.add(set);
+    copy
+}
+
+/// The same piece.
+fn copy_piece(piece: &Piece) -> Piece
+    ensures { shown result ≡ shown piece.now }
+{
+    match piece {
+        Piece::Known(byte) => Piece::Known(*byte),
+        Piece::OneOf(set) => Piece::OneOf(copy_set(set)),
+        Piece::AnyOf(set) => Piece::AnyOf(copy_set(set)),
+    }
+}
+
+/// The same pieces after others.
+fn push_copies(pieces: &mut Vec<Piece>, more: &[Piece]) -> Result<(), NoMemory>
+    ensures { OnOk result (shown_all pieces.new.items ≡ shown_all pieces.old.items ++ shown_all more.now) }
+{
+    for piece in more {
+        pieces.push(copy_piece(piece))?;
+    }
+    Ok(())
+}
+
+/// A place of a name: a byte of a plain one, or a class.
+#[derive(Clone, Copy)]
+enum Place<'a> {
+    Byte(u8),
+    Class(&'a Class),
+}
+
+impl Place<'_> {
+    /// Whether the byte may stand there.
+    fn has(self, byte: u8) -> bool
+        ensures { result ≡ bytes_in (class_at self.entry) byte }
+    {
+        match self {
+            Place::Byte(only) => only == byte,
+            Place::Class(class) => class.has(byte),
+        }
+    }
+}
+
+/// The first place of a name, and the name after it.
+fn next_place<'a>(parts: Parts<'a>) -> Option<(Place<'a>, Parts<'a>)>
+    ensures { MatchOption result (classes_of (parts_meaning parts.entry) ≡ [])
+        (λ x. (classes_of (parts_meaning parts.entry) ≡ class_at x.0 ∷ classes_of (parts_meaning x.1)) × (tail_of (parts_meaning x.1) ≡ tail_of (parts_meaning parts.entry))) }
+{
+    match parts {
+        Parts::Plain(plain) => match plain.split_first() {
+            None => None,
+            Some((byte, after)) => Some((Place::Byte(*byte), Parts::Plain(after))),
+        },
+        Parts::Pattern(classes, tail) => match classes.split_first() {
+            None => None,
+            Some((class, after)) => Some((Place::Class(class), Parts::Pattern(after, tail))),
+        },
+    }
+}
+
+/// The bytes of the set that may stand at the place.
+fn meet(set: &ByteSet, place: Place<'_>) -> ByteSet
+    requires { AreBytes (class_at place) }
+    ensures { (b : ℕ) → set_by result b ≡ both (set_by set.now) (bytes_in (class_at place.entry)) b }
+{
+    let mut met = ByteSet::none();
+    for i in 0..256usize {
+        let byte = i as u8;
+        if set.has(byte) && place.has(byte) {
+            met.put(byte);
+        }
+    }
+    met
+}
+
+/// Any bytes of a set met with the classes of a pattern, after other pieces.
+fn push_any(
+    pieces: &mut Vec<Piece>,
+    set: &ByteSet,
+    classes: &[Class],
+    tail: Tail,
+) -> Result<(), NoMemory>
+    requires { AreAllBytes classes.now }
+    ensures { OnOk result (shown_all pieces.new.items ≡ shown_all pieces.old.items ++ met_classes (made (set_by set.now)) classes.now tail) }
+{
+    for class in classes {
+        pieces.push(Piece::OneOf(meet(set, Place::Class(class))))?;
+    }
+    match tail {
+        Tail::End => (),
+        Tail::Dot | Tail::Bang => pieces.push(Piece::AnyOf(copy_set(set)))?,
+    }
+    Ok(())
+}
+
+/// A piece that is one byte, met with the class of this.
+fn meet_one(piece: &Piece, class: &Class) -> Option<Piece>
+    requires { AreBytes class.now }
+    ensures { MatchOption result (IsAny (shown piece.now)) (λ met. IsMet (shown piece.now) class.now (shown met)) }
+{
+    match piece {
+        Piece::Known(byte) => Some(Piece::Known(*byte)),
+        Piece::OneOf(set) => Some(Piece::OneOf(meet(set, Place::Class(class)))),
+        Piece::AnyOf(_) => None,
+    }
+}
+
+/// Pieces met with the classes of a pattern, after others.
+fn push_met(
+    met: &mut Vec<Piece>,
+    pieces: &[Piece],
+    classes: &[Class],
+    tail: Tail,
+) -> Result<(), NoMemory>
+    requires { AreAllBytes classes.now }
+    ensures { OnOk result (shown_all met.new.items ≡ shown_all met.old.items ++ met_classes (shown_all pieces.now) classes.now tail) }
+{
+    let mut rest = pieces;
+    let mut left = classes;
+    while let Some((class, after)) = left.split_first() {
+        let Some((piece, later)) = rest.split_first() else {
+            return Ok(());
+        };
+        let Some(one) = meet_one(piece, class) else {
+            push_any(met, &set_of(rest), left, tail)?;
+            return Ok(());
+        };
+        met.push(one)?;
+        rest = later;
+        left = after;
+    }
+    match tail {
+        Tail::End => Ok(()),
+        Tail::Dot | Tail::Bang => push_copies(met, rest),
+    }
+}
+
+/// The pieces of a known text, after others.
+fn push_text(pieces: &mut Vec<Piece>, text: &[u8]) -> Result<(), NoMemory>
+    ensures { OnOk result (shown_all pieces.new.items ≡ shown_all pieces.old.items ++ exactly text.now) }
+{
+    for byte in text {
+        pieces.push(Piece::Known(*byte))?;
+    }
+    Ok(())
+}
+
+/// What is known of a text of this shape that has matched the name of an extension. It fails only for want of memory.
+pub fn matched(alloc: Global, pieces: &[Piece], name: &Name) -> Result<Vec<Piece>, NoMemory>
+    ensures { IfOk result (λ met. shown_all met.items ≡ matched (shown_all pieces.now) name.now) }
+{
+    let mut met = Vec::new(alloc);
+    if set_of(pieces).has(b'-') {
+        push_copies(&mut met, pieces)?;
+        return Ok(met);
+    }
+    match name.parts() {
+        Parts::Plain(plain) => push_text(&mut met, plain)?,
+        Parts::Pattern(classes, tail) => push_met(&mut met, pieces, classes, tail)?,
+    }
+    Ok(met)
+}
