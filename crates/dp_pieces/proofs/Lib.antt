@@ -12,3 +12,4 @@ pub mod CutLemmas
 pub mod LastLemmas
 pub mod MetLemmas
 pub mod ShapeLemmas
+pub mod TakesLemmas

@@ -12,7 +12,7 @@ use Rattle.dp_pieces.specs.Bytes.{Bytes, both, either}
 use Rattle.dp_pieces.specs.Met.{met_classes, met_tail}
 use Rattle.dp_pieces.specs.Pieces.{AnyOf, Known, OneOf, Piece, bytes_in, made, piece_set, pieces_set}
 use Rattle.dp_pieces.specs.Sets.{set_by}
-use Rattle.dp_pieces.specs.ShapeSteps.{AreAllBytes, AreBytes, IsAny}
+use Rattle.dp_pieces.specs.ShapeSteps.{AreAllBytes, AreBytes, is_any}
 use Rattle.dp_pieces.specs.Shown.{shown, shown_all}
 use Rattle.dp_pieces.specs.declared.piece.Piece.{Piece as Kept}
 use Rattle.dp_pieces.specs.declared.piece.Piece.TheVariants as kept
@@ -84,10 +84,10 @@ any-end old new set copy left tail all is follows same pushed so_far =
     ∙ (ap (λ cs. shown_all old ++ met_classes (made set) cs tail) (sym is) ∙ so_far))))
 
 -- from a piece of any bytes on, the pieces are met as any bytes of all of them
-pub any-met : (piece : Piece) (later left : List Piece) (class : List ℕ) (after classes : List (List ℕ)) (tail : Tail) (set : Bytes) → IsAny piece → left ≡ piece ∷ later → classes ≡ class ∷ after
+pub any-met : (piece : Piece) (later left : List Piece) (class : List ℕ) (after classes : List (List ℕ)) (tail : Tail) (set : Bytes) → is_any piece ≡ true → left ≡ piece ∷ later → classes ≡ class ∷ after
     → ((byte : ℕ) → set byte ≡ pieces_set left byte) → met_classes left classes tail ≡ met_classes (made set) classes tail
-any-met (Known byte) later left class after classes tail set any is begins same = absurd any
-any-met (OneOf bytes) later left class after classes tail set any is begins same = absurd any
+any-met (Known byte) later left class after classes tail set any is begins same = absurd cc
+any-met (OneOf bytes) later left class after classes tail set any is begins same = absurd cc
 any-met (AnyOf bytes) later left class after classes tail set any is begins same =
     let whole : Bytes = pieces_set (AnyOf bytes ∷ later) in
     let all : set ≡ whole = λ i byte. (same byte ∙ ap (λ ps. pieces_set ps byte) is) i in

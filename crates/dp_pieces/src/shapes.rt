@@ -1,12 +1,13 @@
 //! Questions about shapes: lists of pieces that a text fits.
-ghost use Rattle.std.specs.Prelude.{◌≡◌, ℕ, [], ◌∷◌, ◌++◌, IfOk, MatchOption, OnOk};
+ghost use Rattle.std.specs.Prelude.{◌≡◌, ◌≤◌, ℕ, List, true, [], ◌∷◌, ◌++◌, IfOk, IsFalse, IsTrue, MatchOption, OnOk, length};
 ghost use Rattle.dp_pattern.specs.Kept.{parts_meaning};
+ghost use Rattle.dp_pattern.specs.Matches.{FitsTail, Matches};
 ghost use Rattle.dp_pattern.specs.Walk.{classes_of, tail_of};
-ghost use Rattle.dp_pieces.specs.Bytes.{both, either};
+ghost use Rattle.dp_pieces.specs.Bytes.{IsPart, Within, both, either, none};
 ghost use Rattle.dp_pieces.specs.Met.{matched, met_classes, met_tail};
-ghost use Rattle.dp_pieces.specs.Pieces.{bytes_in, exactly, made, piece_set, pieces_set};
+ghost use Rattle.dp_pieces.specs.Pieces.{Fits, bytes_in, exactly, made, piece_set, pieces_set};
 ghost use Rattle.dp_pieces.specs.Sets.{set_by};
-ghost use Rattle.dp_pieces.specs.ShapeSteps.{AreAllBytes, AreBytes, IsAny, IsMet, class_at};
+ghost use Rattle.dp_pieces.specs.ShapeSteps.{AlwaysFits, AlwaysTakes, AlwaysTakesWithin, AreAllBytes, AreBytes, IsMet, IsWithinPiece, Lacks, Misses, MissesWithin, class_at, is_any, least_of};
 ghost use Rattle.dp_pieces.specs.Shown.{shown, shown_all};
 
 use crate::byte_set::ByteSet;
@@ -140,7 +141,7 @@ fn push_any(
 /// A piece that is one byte, met with the class of this.
 fn meet_one(piece: &Piece, class: &Class) -> Option<Piece>
     requires { AreBytes class.now }
-    ensures { MatchOption result (IsAny (shown piece.now)) (λ met. IsMet (shown piece.now) class.now (shown met)) }
+    ensures { MatchOption result (is_any (shown piece.now) ≡ true) (λ met. IsMet (shown piece.now) class.now (shown met)) }
 {
     match piece {
         Piece::Known(byte) => Some(Piece::Known(*byte)),
@@ -203,4 +204,126 @@ pub fn matched(alloc: Global, pieces: &[Piece], name: &Name) -> Result<Vec<Piece
         Parts::Pattern(classes, tail) => push_met(&mut met, pieces, classes, tail)?,
     }
     Ok(met)
+}
+
+/// Whether the piece is any bytes of a set, and not one.
+fn is_any(piece: &Piece) -> bool
+    ensures { result ≡ is_any (shown piece.now) }
+{
+    match piece {
+        Piece::Known(_) | Piece::OneOf(_) => false,
+        Piece::AnyOf(_) => true,
+    }
+}
+
+/// How many bytes a text of the pieces has at least.
+fn least_of(pieces: &[Piece]) -> usize
+    ensures { result ≡ least_of (shown_all pieces.now) }
+{
+    let mut least = 0;
+    for piece in pieces {
+        if !is_any(piece) {
+            least += 1;
+        }
+    }
+    least
+}
+
+/// Whether the set has no byte.
+fn is_none(set: &ByteSet) -> bool
+    ensures { IsTrue result → IsPart (set_by set.now) none }
+{
+    set.is_part(&ByteSet::none())
+}
+
+/// The tail of a name.
+fn tail_of(parts: Parts<'_>) -> Tail
+    ensures { result ≡ tail_of (parts_meaning parts.entry) }
+{
+    match parts {
+        Parts::Plain(_) => Tail::End,
+        Parts::Pattern(_, tail) => tail,
+    }
+}
+
+/// Whether a byte of the set may stand at the place.
+fn may_stand(set: &ByteSet, place: Place<'_>) -> bool
+    requires { AreBytes (class_at place) }
+    ensures { IsFalse result → Lacks (set_by set.now) (class_at place.entry) }
+{
+    !is_none(&meet(set, place))
+}
+
+/// Whether a byte of the piece may stand at the place.
+fn may_be(piece: &Piece, place: Place<'_>) -> bool
+    requires { AreBytes (class_at place) }
+    ensures { IsFalse result → Lacks (piece_set (shown piece.now)) (class_at place.entry) }
+{
+    match piece {
+        Piece::Known(byte) => place.has(*byte),
+        Piece::OneOf(set) | Piece::AnyOf(set) => may_stand(set, place),
+    }
+}
+
+/// Whether so many bytes of the set at least may be what stands for the tail.
+fn may_follow(set: &ByteSet, least: usize, tail: Tail) -> bool
+    ensures { IsFalse result → (digits : List ℕ) → Within (set_by set.now) digits → least ≤ length digits → FitsTail tail digits → ⊥ }
+{
+    match tail {
+        Tail::End => least == 0,
+        Tail::Dot => !is_none(set),
+        Tail::Bang => true,
+    }
+}
+
+/// Whether so many bytes of the set at least may match.
+fn may_hold(set: &ByteSet, least: usize, parts: Parts<'_>) -> bool
+    requires { AreAllBytes (classes_of (parts_meaning parts)) }
+    ensures { IsFalse result → MissesWithin (set_by set.now) least (classes_of (parts_meaning parts.entry)) (tail_of (parts_meaning parts.entry)) }
+{
+    let mut rest = parts;
+    let mut more = least;
+    while let Some((place, after)) = next_place(rest) {
+        if !may_stand(set, place) {
+            return false;
+        }
+        more = more.saturating_sub(1);
+        rest = after;
+    }
+    may_follow(set, more, tail_of(rest))
+}
+
+/// Whether a text of the pieces may match, dashes and all.
+fn may_meet(pieces: &[Piece], parts: Parts<'_>) -> bool
+    requires { AreAllBytes (classes_of (parts_meaning parts)) }
+    ensures { IsFalse result → Misses (shown_all pieces.now) (classes_of (parts_meaning parts.entry)) (tail_of (parts_meaning parts.entry)) }
+{
+    let mut left = pieces;
+    let mut rest = parts;
+    while let Some((place, after)) = next_place(rest) {
+        let Some((piece, later)) = left.split_first() else {
+            return false;
+        };
+        if is_any(piece) {
+            return may_hold(&set_of(left), least_of(left), rest);
+        }
+        if !may_be(piece, place) {
+            return false;
+        }
+        left = later;
+        rest = after;
+    }
+    may_follow(&set_of(left), least_of(left), tail_of(rest))
+}
+
+/// Whether a text of this shape may match the name of an extension: a false says that none does. A shape that may have a dash is looked
+/// at as any bytes of its set.
+pub fn may_match(pieces: &[Piece], name: &Name) -> bool
+    ensures { IsFalse result → (text : List ℕ) → Fits (shown_all pieces.now) text → Matches name.now text → ⊥ }
+{
+    let set = set_of(pieces);
+    if set.has(b'-') {
+        return may_hold(&set, 0, name.parts());
+    }
+    may_meet(pieces, name.parts())
 }
