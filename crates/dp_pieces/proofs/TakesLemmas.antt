@@ -3,7 +3,7 @@ use Rattle.std.proofs.Common.{◌≡◌, ℕ, ◌<◌, ◌≤◌, Bool, true, fa
 use Rattle.std.specs.List.{AllZip}
 use Rattle.dp_pattern.proofs.WalkLemmas.{member}
 use Rattle.dp_pattern.specs.Dashes.{is_dash, undashed}
-use Rattle.dp_pattern.specs.Matches.{FitsTail, Matches}
+use Rattle.dp_pattern.specs.Matches.{FitsTail, Matches, MatchesPattern}
 use Rattle.dp_pattern.specs.Name.{Meaning, Plain, Pattern, is_one_of}
 use Rattle.dp_pattern.specs.Walk.{classes_of, singles, tail_of}
 use Rattle.dp_pattern.specs.declared.tail.Tail.{Tail}
@@ -12,7 +12,7 @@ use Rattle.dp_pieces.specs.Bytes.{Bytes, IsPart, Within, none}
 use Rattle.dp_pieces.specs.Pieces.{AnyOf, Fits, Known, OneOf, Piece, bytes_in, piece_set, pieces_set}
 use Rattle.dp_pieces.specs.Shown.{shown_all}
 use Rattle.dp_pieces.specs.declared.piece.Piece.{Piece as Kept}
-use Rattle.dp_pieces.specs.ShapeSteps.{Lacks, Misses, MissesWithin, Takes, is_any, least_of}
+use Rattle.dp_pieces.specs.ShapeSteps.{AlwaysTakes, AlwaysTakesWithin, Lacks, Misses, MissesWithin, Takes, is_any, least_of}
 use Rattle.dp_pieces.proofs.FitsLemmas.{fits-set}
 
 -- ---- a name takes a text without its dashes where they match
@@ -46,6 +46,32 @@ unfolding Matches
 takes-name (Plain plain) text matching = subst (Takes (singles plain) End) (sym matching) (takes-singles plain)
 takes-name (Pattern classes tail) text matching =
     subst (Takes classes tail) (sym matching.whole) (takes-begin classes tail matching.begin matching.rest matching.members matching.ending)
+
+takes-pattern : (classes : List (List ℕ)) (tail : Tail) (digits : List ℕ) → Takes classes tail digits → MatchesPattern classes tail digits
+takes-pattern [] tail digits takes = record { begin = []; rest = digits; whole = refl; members = tt; ending = takes }
+takes-pattern (class ∷ classes) tail [] takes = absurd takes
+takes-pattern (class ∷ classes) tail (d ∷ digits) takes =
+    let more = takes-pattern classes tail digits takes.1 in record {
+      begin = d ∷ more.begin;
+      rest = more.rest;
+      whole = ap (λ ds. d ∷ ds) more.whole;
+      members = ((member class d).0 (sym (flipped class d) ∙ takes.0), more.members);
+      ending = more.ending;
+    }
+
+singles-take : (plain digits : List ℕ) → Takes (singles plain) End digits → digits ≡ plain
+singles-take [] digits takes = takes
+singles-take (b ∷ plain) [] takes = absurd takes
+singles-take (b ∷ plain) (d ∷ digits) takes = by (b == d) refl takes.0 (singles-take plain digits takes.1)
+  where
+    by : (same : Bool) → (b == d) ≡ same → (same || false) ≡ true → digits ≡ plain → d ∷ digits ≡ b ∷ plain
+    by true is has rest = λ i. sym (eqb-true b d is) i ∷ rest i
+    by false is has rest = absurd cc
+
+name-takes : (name : Meaning) (text : List ℕ) → Takes (classes_of name) (tail_of name) (undashed text) → Matches name text
+unfolding Matches
+name-takes (Plain plain) text takes = singles-take plain (undashed text) takes
+name-takes (Pattern classes tail) text takes = takes-pattern classes tail (undashed text) takes
 
 -- a text of a set without the dash has none
 clean : (set : Bytes) (text : List ℕ) → set 45 ≡ false → Within set text → undashed text ≡ text
@@ -122,7 +148,37 @@ pub none-follow : (set : Bytes) (digits : List ℕ) → IsPart set none → With
 none-follow set [] empty within long = omega (arith, long)
 none-follow set (d ∷ digits) empty within long = let no : false ≡ true = empty d within.0 in absurd cc
 
+-- ---- each text is taken
+
+pub always-step : (left later : List Piece) (piece : Piece) (classes after : List (List ℕ)) (class : List ℕ) (tail next : Tail) → left ≡ piece ∷ later → classes ≡ class ∷ after → next ≡ tail
+    → is_any piece ≡ false → IsPart (piece_set piece) (bytes_in class) → AlwaysTakes later after next → AlwaysTakes left classes tail
+always-step left later piece classes after class tail next is begins same one part always digits fits =
+    let cut = one-byte piece later digits one (subst (λ ps. Fits ps digits) is fits) in
+    let rest : Takes after tail cut.0.1 = subst (λ t. Takes after t cut.0.1) same (always cut.0.1 cut.3) in
+    subst (λ cs. Takes cs tail digits) (sym begins) (subst (Takes (class ∷ after) tail) (sym cut.1) (part cut.0.0 cut.2, rest))
+
+pub always-within : (left : List Piece) (set : Bytes) (least : ℕ) (classes : List (List ℕ)) (tail : Tail) → ((byte : ℕ) → set byte ≡ pieces_set left byte) → least ≡ least_of left
+    → AlwaysTakesWithin set least classes tail → AlwaysTakes left classes tail
+always-within left set least classes tail same long always digits fits =
+    always digits (subst (λ s. Within s digits) (λ i byte. sym (same byte) i) (fits-set left digits fits)) (omega (arith, least-fits left digits fits, long))
+
+pub always-end : (set : Bytes) (least : ℕ) (classes : List (List ℕ)) (tail found : Tail) → classes ≡ [] → found ≡ tail
+    → ((digits : List ℕ) → Within set digits → least ≤ length digits → FitsTail found digits) → AlwaysTakesWithin set least classes tail
+always-end set least classes tail found is same always digits within long =
+    subst (λ cs. Takes cs tail digits) (sym is) (subst (λ t. FitsTail t digits) same (always digits within long))
+
+pub none-ends : (set : Bytes) (digits : List ℕ) → IsPart set none → Within set digits → digits ≡ []
+none-ends set [] empty within = refl
+none-ends set (d ∷ digits) empty within = let no : false ≡ true = empty d within.0 in absurd cc
+
 -- ---- a name
+
+pub covered : (pieces : List Piece) (set : Bytes) (name found : Meaning) → ((byte : ℕ) → set byte ≡ pieces_set pieces byte) → set 45 ≡ false → found ≡ name
+    → AlwaysTakes pieces (classes_of found) (tail_of found) → (text : List ℕ) → Fits pieces text → Matches name text
+covered pieces set name found same dashless is always text fits =
+    name-takes name text
+    (subst (λ n. Takes (classes_of n) (tail_of n) (undashed text)) is
+    (subst (Takes (classes_of found) (tail_of found)) (sym (clean (pieces_set pieces) text (sym (same 45) ∙ dashless) (fits-set pieces text fits))) (always text fits)))
 
 -- a shape that may have dashes, by its set
 pub unmatched-dashed : (pieces : List Piece) (set : Bytes) (name found : Meaning) → ((byte : ℕ) → set byte ≡ pieces_set pieces byte) → found ≡ name

@@ -327,3 +327,81 @@ pub fn may_match(pieces: &[Piece], name: &Name) -> bool
     }
     may_meet(pieces, name.parts())
 }
+
+/// Whether each byte of the set may stand at the place.
+fn all_stand(set: &ByteSet, place: Place<'_>) -> bool
+    requires { AreBytes (class_at place) }
+    ensures { IsTrue result → IsPart (set_by set.now) (bytes_in (class_at place.entry)) }
+{
+    set.is_part(&meet(set, place))
+}
+
+/// Whether each byte of the piece may stand at the place.
+fn all_be(piece: &Piece, place: Place<'_>) -> bool
+    requires { AreBytes (class_at place) }
+    ensures { IsTrue result → IsPart (piece_set (shown piece.now)) (bytes_in (class_at place.entry)) }
+{
+    match piece {
+        Piece::Known(byte) => place.has(*byte),
+        Piece::OneOf(set) | Piece::AnyOf(set) => all_stand(set, place),
+    }
+}
+
+/// Whether any so many bytes of the set at least may stand for the tail.
+fn all_follow(set: &ByteSet, least: usize, tail: Tail) -> bool
+    ensures { IsTrue result → (digits : List ℕ) → Within (set_by set.now) digits → least ≤ length digits → FitsTail tail digits }
+{
+    match tail {
+        Tail::End => is_none(set),
+        Tail::Dot => least > 0,
+        Tail::Bang => true,
+    }
+}
+
+/// Whether any so many bytes of the set at least match.
+fn all_hold(set: &ByteSet, least: usize, parts: Parts<'_>) -> bool
+    requires { AreAllBytes (classes_of (parts_meaning parts)) }
+    ensures { IsTrue result → AlwaysTakesWithin (set_by set.now) least (classes_of (parts_meaning parts.entry)) (tail_of (parts_meaning parts.entry)) }
+{
+    let mut rest = parts;
+    let mut more = least;
+    while let Some((place, after)) = next_place(rest) {
+        if more == 0 || !all_stand(set, place) {
+            return false;
+        }
+        more -= 1;
+        rest = after;
+    }
+    all_follow(set, more, tail_of(rest))
+}
+
+/// Whether each text of the pieces matches, dashes and all.
+fn all_meet(pieces: &[Piece], parts: Parts<'_>) -> bool
+    requires { AreAllBytes (classes_of (parts_meaning parts)) }
+    ensures { IsTrue result → AlwaysTakes (shown_all pieces.now) (classes_of (parts_meaning parts.entry)) (tail_of (parts_meaning parts.entry)) }
+{
+    let mut left = pieces;
+    let mut rest = parts;
+    while let Some((place, after)) = next_place(rest) {
+        let Some((piece, later)) = left.split_first() else {
+            return false;
+        };
+        if is_any(piece) {
+            return all_hold(&set_of(left), least_of(left), rest);
+        }
+        if !all_be(piece, place) {
+            return false;
+        }
+        left = later;
+        rest = after;
+    }
+    all_follow(&set_of(left), least_of(left), tail_of(rest))
+}
+
+/// Whether each text of this shape matches the name of an extension, as far as is seen: a true says that each does. Of a shape that may
+/// have a dash this is not seen.
+pub fn covers(pieces: &[Piece], name: &Name) -> bool
+    ensures { IsTrue result → (text : List ℕ) → Fits (shown_all pieces.now) text → Matches name.now text }
+{
+    !set_of(pieces).has(b'-') && all_meet(pieces, name.parts())
+}
