@@ -13,3 +13,4 @@ pub mod LastLemmas
 pub mod MetLemmas
 pub mod ShapeLemmas
 pub mod TakesLemmas
+pub mod AlwaysFitsLemmas

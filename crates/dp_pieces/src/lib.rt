@@ -10,4 +10,4 @@ mod shapes;
 pub use byte_set::ByteSet;
 pub use piece::Piece;
 pub use reader::{NamedPieces, read_pieces};
-pub use shapes::{covers, matched, may_match};
+pub use shapes::{covers, is_within, matched, may_match};

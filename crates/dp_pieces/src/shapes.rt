@@ -1,5 +1,5 @@
 //! Questions about shapes: lists of pieces that a text fits.
-ghost use Rattle.std.specs.Prelude.{◌≡◌, ◌≤◌, ℕ, List, true, [], ◌∷◌, ◌++◌, IfOk, IsFalse, IsTrue, MatchOption, OnOk, length};
+ghost use Rattle.std.specs.Prelude.{◌≡◌, ◌≤◌, ℕ, List, true, [], ◌∷◌, ◌++◌, IfOk, IfSome, IsFalse, IsTrue, MatchOption, OnOk, length};
 ghost use Rattle.dp_pattern.specs.Kept.{parts_meaning};
 ghost use Rattle.dp_pattern.specs.Matches.{FitsTail, Matches};
 ghost use Rattle.dp_pattern.specs.Walk.{classes_of, tail_of};
@@ -404,4 +404,49 @@ pub fn covers(pieces: &[Piece], name: &Name) -> bool
     ensures { IsTrue result → (text : List ℕ) → Fits (shown_all pieces.now) text → Matches name.now text }
 {
     !set_of(pieces).has(b'-') && all_meet(pieces, name.parts())
+}
+
+/// Whether the first pieces of two shapes are so that each text of the one is one of the other, where it is so for the pieces after them.
+fn is_within_piece(piece: &Piece, wide: &Piece) -> bool
+    ensures { IsTrue result → IsWithinPiece (shown piece.now) (shown wide.now) }
+{
+    match (piece, wide) {
+        (Piece::Known(byte), Piece::Known(other)) => byte == other,
+        (Piece::Known(byte), Piece::OneOf(set)) => set.has(*byte),
+        (Piece::OneOf(set), Piece::OneOf(more)) => set.is_part(more),
+        (Piece::AnyOf(set), Piece::AnyOf(more)) => set.is_part(more),
+        _ => false,
+    }
+}
+
+/// The set of a shape that is any bytes of one.
+fn only_set(pieces: &[Piece]) -> Option<&ByteSet>
+    ensures { IfSome result (λ set. shown_all pieces.now ≡ made (set_by set.now)) }
+{
+    match pieces {
+        [Piece::AnyOf(set)] => Some(set),
+        _ => None,
+    }
+}
+
+/// Whether each text of the one shape is one of the other, as far as is seen: a true says that each is.
+pub fn is_within(pieces: &[Piece], other: &[Piece]) -> bool
+    ensures { IsTrue result → (text : List ℕ) → Fits (shown_all pieces.now) text → Fits (shown_all other.now) text }
+{
+    let mut left = pieces;
+    let mut right = other;
+    while let Some((wide, more)) = right.split_first() {
+        if let Some(set) = only_set(right) {
+            return set_of(left).is_part(set);
+        }
+        let Some((piece, later)) = left.split_first() else {
+            return false;
+        };
+        if !is_within_piece(piece, wide) {
+            return false;
+        }
+        left = later;
+        right = more;
+    }
+    left.is_empty()
 }
