@@ -3,7 +3,7 @@ use Rattle.std.specs.Prelude.{◌≡◌, ℕ, ◌+◌, ◌≤◌, Bool, true, fa
 use Rattle.std.specs.List.{AllByRecursion}
 use Rattle.dp_pattern.specs.Matches.{FitsTail}
 use Rattle.dp_pattern.specs.declared.tail.Tail.{Tail}
-use Rattle.dp_pieces.specs.Bytes.{Bytes, IsPart, Within, both}
+use Rattle.dp_pieces.specs.Bytes.{Bytes, IsPart, Within, both, none}
 use Rattle.dp_pieces.specs.Pieces.{AnyOf, Fits, Known, OneOf, Piece, bytes_in}
 use Rattle.dp_pieces.specs.declared.shapes.Place.{Place}
 use Rattle.dp_pieces.specs.declared.shapes.Place.TheVariants.{Byte, Class}
@@ -68,7 +68,17 @@ AlwaysTakesWithin set least classes tail = (digits : List ℕ) → Within set di
 abbrev pub AlwaysFits : List Piece → List Piece → Type 0
 AlwaysFits pieces other = (text : List ℕ) → Fits pieces text → Fits other text
 
--- so for the first pieces, where it is so for those after them
+-- the texts of both are the same
+abbrev pub AreTextsOf : List Piece → List Piece → Type 0
+AreTextsOf pieces other = AlwaysFits pieces other × AlwaysFits other pieces
+
+-- any bytes of the empty set
+abbrev pub IsNothing : Piece → Type 0
+IsNothing (Known byte) = ⊥
+IsNothing (OneOf set) = ⊥
+IsNothing (AnyOf set) = IsPart set none
+
+-- each text of the one shape is one of the other for the first pieces, where it is so for those after them
 abbrev pub IsWithinPiece : Piece → Piece → Type 0
 IsWithinPiece (Known byte) (Known other) = byte ≡ other
 IsWithinPiece (Known byte) (OneOf wide) = wide byte ≡ true

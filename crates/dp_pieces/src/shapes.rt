@@ -7,7 +7,7 @@ ghost use Rattle.dp_pieces.specs.Bytes.{IsPart, Within, both, either, none};
 ghost use Rattle.dp_pieces.specs.Met.{matched, met_classes, met_tail};
 ghost use Rattle.dp_pieces.specs.Pieces.{Fits, bytes_in, exactly, made, piece_set, pieces_set};
 ghost use Rattle.dp_pieces.specs.Sets.{set_by};
-ghost use Rattle.dp_pieces.specs.ShapeSteps.{AlwaysFits, AlwaysTakes, AlwaysTakesWithin, AreAllBytes, AreBytes, IsMet, IsWithinPiece, Lacks, Misses, MissesWithin, class_at, is_any, least_of};
+ghost use Rattle.dp_pieces.specs.ShapeSteps.{AlwaysFits, AlwaysTakes, AlwaysTakesWithin, AreAllBytes, AreBytes, AreTextsOf, IsMet, IsNothing, IsWithinPiece, Lacks, Misses, MissesWithin, class_at, is_any, least_of};
 ghost use Rattle.dp_pieces.specs.Shown.{shown, shown_all};
 
 use crate::byte_set::ByteSet;
@@ -236,6 +236,31 @@ fn is_none(set: &ByteSet) -> bool
     set.is_part(&ByteSet::none())
 }
 
+/// Whether the piece is any bytes of the empty set.
+fn is_nothing(piece: &Piece) -> bool
+    ensures { IsTrue result → IsNothing (shown piece.now) }
+{
+    match piece {
+        Piece::Known(_) | Piece::OneOf(_) => false,
+        Piece::AnyOf(set) => is_none(set),
+    }
+}
+
+/// The pieces without the first ones that are any bytes of the empty set.
+fn skip_nothing(pieces: &[Piece]) -> &[Piece]
+    ensures same { AreTextsOf (shown_all result.now) (shown_all pieces.now) }
+    ensures shorter { length result.now ≤ length pieces.now }
+{
+    let mut left = pieces;
+    while let Some((piece, after)) = left.split_first() {
+        if !is_nothing(piece) {
+            break;
+        }
+        left = after;
+    }
+    left
+}
+
 /// The tail of a name.
 fn tail_of(parts: Parts<'_>) -> Tail
     ensures { result ≡ tail_of (parts_meaning parts.entry) }
@@ -301,7 +326,7 @@ fn may_meet(pieces: &[Piece], parts: Parts<'_>) -> bool
     let mut left = pieces;
     let mut rest = parts;
     while let Some((place, after)) = next_place(rest) {
-        let Some((piece, later)) = left.split_first() else {
+        let Some((piece, later)) = skip_nothing(left).split_first() else {
             return false;
         };
         if is_any(piece) {
@@ -383,7 +408,7 @@ fn all_meet(pieces: &[Piece], parts: Parts<'_>) -> bool
     let mut left = pieces;
     let mut rest = parts;
     while let Some((place, after)) = next_place(rest) {
-        let Some((piece, later)) = left.split_first() else {
+        let Some((piece, later)) = skip_nothing(left).split_first() else {
             return false;
         };
         if is_any(piece) {
@@ -419,12 +444,12 @@ fn is_within_piece(piece: &Piece, wide: &Piece) -> bool
     }
 }
 
-/// The set of a shape that is any bytes of one.
-fn only_set(pieces: &[Piece]) -> Option<&ByteSet>
-    ensures { IfSome result (λ set. shown_all pieces.now ≡ made (set_by set.now)) }
+/// The set of a shape that is any bytes of one, by its first piece and those after it.
+fn only_set<'a>(first: &'a Piece, after: &[Piece]) -> Option<&'a ByteSet>
+    ensures { IfSome result (λ set. shown_all (first.now ∷ after.now) ≡ made (set_by set.now)) }
 {
-    match pieces {
-        [Piece::AnyOf(set)] => Some(set),
+    match (first, after) {
+        (Piece::AnyOf(set), []) => Some(set),
         _ => None,
     }
 }
@@ -434,12 +459,13 @@ pub fn is_within(pieces: &[Piece], other: &[Piece]) -> bool
     ensures { IsTrue result → (text : List ℕ) → Fits (shown_all pieces.now) text → Fits (shown_all other.now) text }
 {
     let mut left = pieces;
-    let mut right = other;
+    let mut right = skip_nothing(other);
     while let Some((wide, more)) = right.split_first() {
-        if let Some(set) = only_set(right) {
+        let more = skip_nothing(more);
+        if let Some(set) = only_set(wide, more) {
             return set_of(left).is_part(set);
         }
-        let Some((piece, later)) = left.split_first() else {
+        let Some((piece, later)) = skip_nothing(left).split_first() else {
             return false;
         };
         if !is_within_piece(piece, wide) {
@@ -448,5 +474,5 @@ pub fn is_within(pieces: &[Piece], other: &[Piece]) -> bool
         left = later;
         right = more;
     }
-    left.is_empty()
+    skip_nothing(left).is_empty()
 }

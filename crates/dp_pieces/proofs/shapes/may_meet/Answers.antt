@@ -9,8 +9,8 @@ use Rattle.dp_pieces.proofs.shapes.may_meet.Goals as goal
 
 pub returns-in_default-split_first : goal.returns-in_default-split_first
 returns-in_default-split_first c =
-    λ is. c.loop-place.invariant.misses (misses-short c.loop-place.left.now (classes_of (parts_meaning c.loop-place.rest)) (classes_of (parts_meaning c.in-Some.after))
-    (class_at c.in-Some.place) (tail_of (parts_meaning c.loop-place.rest)) c.in-Some.ensures.0 c.in_default-split_first.ensures.cases)
+    λ is. c.loop-place.invariant.misses (λ digits fits. misses-short c.skip_nothing.result.now (classes_of (parts_meaning c.loop-place.rest)) (classes_of (parts_meaning c.in-Some.after))
+    (class_at c.in-Some.place) (tail_of (parts_meaning c.loop-place.rest)) c.in-Some.ensures.0 c.in_default-split_first.ensures.cases digits (c.skip_nothing.ensures.same.1 digits fits))
 
 pub returns-then-is_any : goal.returns-then-is_any
 returns-then-is_any c =
@@ -19,16 +19,18 @@ returns-then-is_any c =
 
 pub returns-then-not-may_be : goal.returns-then-not-may_be
 returns-then-not-may_be c =
-    λ is. c.loop-place.invariant.misses (misses-lacks (shown_all c.loop-place.left.now) (shown_all c.in-Some-split_first.later.now) (shown c.in-Some-split_first.piece.now)
+    λ is. c.loop-place.invariant.misses (λ digits fits. misses-lacks (shown_all c.skip_nothing.result.now) (shown_all c.in-Some-split_first.later.now) (shown c.in-Some-split_first.piece.now)
     (classes_of (parts_meaning c.loop-place.rest)) (classes_of (parts_meaning c.in-Some.after)) (class_at c.in-Some.place) (tail_of (parts_meaning c.loop-place.rest))
-    (tail_of (parts_meaning c.in-Some.after)) c.in-Some.ensures.0 (ap shown_all c.in-Some-split_first.ensures.cases.0) (sym c.is_any.ensures ∙ c.if-is_any.false) (c.may_be.ensures c.if-not-may_be.true))
+    (tail_of (parts_meaning c.in-Some.after)) c.in-Some.ensures.0 (ap shown_all c.in-Some-split_first.ensures.cases.0) (sym c.is_any.ensures ∙ c.if-is_any.false) (c.may_be.ensures c.if-not-may_be.true)
+    digits (c.skip_nothing.ensures.same.1 digits fits))
 
 pub loop-place-preserved : goal.loop-place-preserved
 loop-place-preserved c = record {
   bytes = (subst AreAllBytes c.in-Some.ensures.0 c.loop-place.invariant.bytes).1;
-  misses = λ none. c.loop-place.invariant.misses (misses-step (shown_all c.loop-place.left.now) (shown_all c.in-Some-split_first.later.now) (shown c.in-Some-split_first.piece.now)
+  misses = λ none. c.loop-place.invariant.misses (λ digits fits. misses-step (shown_all c.skip_nothing.result.now) (shown_all c.in-Some-split_first.later.now) (shown c.in-Some-split_first.piece.now)
       (classes_of (parts_meaning c.loop-place.rest)) (classes_of (parts_meaning c.in-Some.after)) (class_at c.in-Some.place) (tail_of (parts_meaning c.loop-place.rest))
-      (tail_of (parts_meaning c.in-Some.after)) c.in-Some.ensures.0 (ap shown_all c.in-Some-split_first.ensures.cases.0) c.in-Some.ensures.1 (sym c.is_any.ensures ∙ c.if-is_any.false) none);
+      (tail_of (parts_meaning c.in-Some.after)) c.in-Some.ensures.0 (ap shown_all c.in-Some-split_first.ensures.cases.0) c.in-Some.ensures.1 (sym c.is_any.ensures ∙ c.if-is_any.false) none
+      digits (c.skip_nothing.ensures.same.1 digits fits));
 }
 
 pub returns : goal.returns
