@@ -15,3 +15,6 @@ pub mod PartLemmas
 pub mod RuleLemmas
 pub mod SoftLemmas
 pub mod MetLemmas
+pub mod ShapeLemmas
+pub mod TakesLemmas
+pub mod AlwaysFitsLemmas

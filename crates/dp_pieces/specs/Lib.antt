@@ -6,6 +6,7 @@ pub mod Met
 pub mod Names
 pub mod Pieces
 pub mod Sets
+pub mod ShapeSteps
 pub mod Shown
 pub mod ShownCuts
 pub mod Texts

@@ -7,6 +7,7 @@ mod cuts;
 pub mod laws;
 mod piece;
 mod reader;
+mod shapes;
 mod trims;
 
 pub use arguments::{shapes_of, without};
@@ -14,4 +15,6 @@ pub use byte_set::ByteSet;
 pub use cuts::{Cutting, are_clean, cut_known, cut_last, cut_level, cut_pieces, first_part};
 pub use piece::{Piece, add_pieces};
 pub use reader::{NamedPieces, read_pieces};
+pub use shapes::{covers, is_within, matched, may_match};
 pub use trims::trimmed;
+
