@@ -1,7 +1,7 @@
 //! The arguments of a text by its pieces, and parts of these.
 ghost use Rattle.std.specs.Prelude.{◌≡◌, IfOk, map};
 ghost use Rattle.dp_pieces.specs.Arguments.{shapes_of};
-ghost use Rattle.dp_pieces.specs.Pieces.{made, pieces_set, without};
+ghost use Rattle.dp_pieces.specs.Pieces.{front, made, pieces_set, without};
 ghost use Rattle.dp_pieces.specs.Shown.{shown_all};
 
 use crate::byte_set::ByteSet;
@@ -57,5 +57,29 @@ pub fn without(alloc: Global, count: usize, pieces: &[Piece]) -> Result<Vec<Piec
     }
     let mut kept = Vec::new(alloc);
     kept.extend_from_slice(left)?;
+    Ok(kept)
+}
+
+/// So many of the first bytes of the pieces. Where a piece that may have any bytes comes before that, it and what follows it become one
+/// such piece. It fails only for want of memory.
+pub fn front(alloc: Global, count: usize, pieces: &[Piece]) -> Result<Vec<Piece>, NoMemory>
+    ensures { IfOk result (λ first. shown_all first.items ≡ front count (shown_all pieces.now)) }
+{
+    let mut kept = Vec::new(alloc);
+    let mut left = pieces;
+    let mut count = count;
+    while count > 0 {
+        let Some((first, rest)) = left.split_first() else {
+            break;
+        };
+        if let Piece::AnyOf(_) = first {
+            let all = any_of(alloc, left)?;
+            kept.extend_from_slice(&all)?;
+            return Ok(kept);
+        }
+        kept.push(*first)?;
+        left = rest;
+        count -= 1;
+    }
     Ok(kept)
 }

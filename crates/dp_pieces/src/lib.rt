@@ -10,7 +10,7 @@ mod reader;
 mod shapes;
 mod trims;
 
-pub use arguments::{shapes_of, without};
+pub use arguments::{front, shapes_of, without};
 pub use byte_set::ByteSet;
 pub use cuts::{Cutting, are_clean, cut_known, cut_last, cut_level, cut_pieces, first_part};
 pub use piece::{Piece, add_pieces};
