@@ -4,9 +4,8 @@ ghost use Rattle.dp_pieces.specs.Arguments.{shapes_of};
 ghost use Rattle.dp_pieces.specs.Pieces.{front, made, pieces_set, without};
 ghost use Rattle.dp_pieces.specs.Shown.{shown_all};
 
-use crate::byte_set::ByteSet;
 use crate::cuts::first_part;
-use crate::piece::{Piece, add_pieces};
+use crate::piece::{Piece, bytes_of};
 use crate::trims::trimmed;
 use dp_conf::NoMemory;
 use std::alloc::Global;
@@ -30,10 +29,8 @@ pub fn shapes_of(alloc: Global, pieces: &[Piece]) -> Result<Vec<Vec<Piece>>, NoM
 fn any_of(alloc: Global, pieces: &[Piece]) -> Result<Vec<Piece>, NoMemory>
     ensures { IfOk result (λ all. shown_all all.items ≡ made (pieces_set (shown_all pieces.now))) }
 {
-    let mut set = ByteSet::none();
-    add_pieces(&mut set, pieces);
     let mut all = Vec::new(alloc);
-    all.push(Piece::AnyOf(set))?;
+    all.push(Piece::AnyOf(bytes_of(pieces)))?;
     Ok(all)
 }
 

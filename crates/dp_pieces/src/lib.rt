@@ -13,8 +13,7 @@ mod trims;
 pub use arguments::{front, shapes_of, without};
 pub use byte_set::ByteSet;
 pub use cuts::{Cutting, are_clean, cut_known, cut_last, cut_level, cut_pieces, first_part};
-pub use piece::{Piece, add_pieces};
+pub use piece::{Piece, add_pieces, bytes_of};
 pub use reader::{NamedPieces, read_pieces};
 pub use shapes::{covers, is_within, matched, may_match};
 pub use trims::trimmed;
-

@@ -44,3 +44,12 @@ pub fn add_pieces(set: &mut ByteSet, pieces: &[Piece])
         add_piece(set, piece);
     }
 }
+
+/// The bytes of pieces.
+pub fn bytes_of(pieces: &[Piece]) -> ByteSet
+    ensures { (b : ℕ) → set_by result b ≡ pieces_set (shown_all pieces.now) b }
+{
+    let mut set = ByteSet::none();
+    add_pieces(&mut set, pieces);
+    set
+}

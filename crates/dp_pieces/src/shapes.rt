@@ -3,7 +3,7 @@ ghost use Rattle.std.specs.Prelude.{◌≡◌, ◌≤◌, ℕ, List, true, [], �
 ghost use Rattle.dp_pattern.specs.Kept.{parts_meaning};
 ghost use Rattle.dp_pattern.specs.Matches.{FitsTail, Matches};
 ghost use Rattle.dp_pattern.specs.Walk.{classes_of, tail_of};
-ghost use Rattle.dp_pieces.specs.Bytes.{IsPart, Within, both, either, none};
+ghost use Rattle.dp_pieces.specs.Bytes.{IsPart, Within, both, none};
 ghost use Rattle.dp_pieces.specs.Met.{matched, met_classes, met_tail};
 ghost use Rattle.dp_pieces.specs.Pieces.{Fits, bytes_in, exactly, made, piece_set, pieces_set};
 ghost use Rattle.dp_pieces.specs.Sets.{set_by};
@@ -11,59 +11,16 @@ ghost use Rattle.dp_pieces.specs.ShapeSteps.{AlwaysFits, AlwaysTakes, AlwaysTake
 ghost use Rattle.dp_pieces.specs.Shown.{shown, shown_all};
 
 use crate::byte_set::ByteSet;
-use crate::piece::Piece;
+use crate::piece::{Piece, bytes_of};
 use dp_conf::NoMemory;
 use dp_pattern::{Class, Name, Parts, Tail};
 use std::alloc::Global;
 
-/// Puts the bytes of a piece in the set.
-fn add_piece(set: &mut ByteSet, piece: &Piece)
-    ensures { (b : ℕ) → set_by set.new b ≡ either (set_by set.old) (piece_set (shown piece.now)) b }
-{
-    match piece {
-        Piece::Known(byte) => set.put(*byte),
-        Piece::OneOf(bytes) | Piece::AnyOf(bytes) => set.add(bytes),
-    }
-}
-
-/// The bytes of pieces.
-fn set_of(pieces: &[Piece]) -> ByteSet
-    ensures { (b : ℕ) → set_by result b ≡ pieces_set (shown_all pieces.now) b }
-{
-    let mut set = ByteSet::none();
-    for piece in pieces {
-        add_piece(&mut set, piece);
-    }
-    set
-}
-
-/// The same set.
-fn copy_set(set: &ByteSet) -> ByteSet
-    ensures { (b : ℕ) → set_by result b ≡ set_by set.now b }
-{
-    let mut copy = ByteSet::none();
-    copy.add(set);
-    copy
-}
-
-/// The same piece.
-fn copy_piece(piece: &Piece) -> Piece
-    ensures { shown result ≡ shown piece.now }
-{
-    match piece {
-        Piece::Known(byte) => Piece::Known(*byte),
-        Piece::OneOf(set) => Piece::OneOf(copy_set(set)),
-        Piece::AnyOf(set) => Piece::AnyOf(copy_set(set)),
-    }
-}
-
-/// The same pieces after others.
-fn push_copies(pieces: &mut Vec<Piece>, more: &[Piece]) -> Result<(), NoMemory>
+/// Pieces after others.
+fn push_all(pieces: &mut Vec<Piece>, more: &[Piece]) -> Result<(), NoMemory>
     ensures { OnOk result (shown_all pieces.new.items ≡ shown_all pieces.old.items ++ shown_all more.now) }
 {
-    for piece in more {
-        pieces.push(copy_piece(piece))?;
-    }
+    pieces.extend_from_slice(more)?;
     Ok(())
 }
 
@@ -133,7 +90,7 @@ fn push_any(
     }
     match tail {
         Tail::End => (),
-        Tail::Dot | Tail::Bang => pieces.push(Piece::AnyOf(copy_set(set)))?,
+        Tail::Dot | Tail::Bang => pieces.push(Piece::AnyOf(*set))?,
     }
     Ok(())
 }
@@ -167,7 +124,7 @@ fn push_met(
             return Ok(());
         };
         let Some(one) = meet_one(piece, class) else {
-            push_any(met, &set_of(rest), left, tail)?;
+            push_any(met, &bytes_of(rest), left, tail)?;
             return Ok(());
         };
         met.push(one)?;
@@ -176,7 +133,7 @@ fn push_met(
     }
     match tail {
         Tail::End => Ok(()),
-        Tail::Dot | Tail::Bang => push_copies(met, rest),
+        Tail::Dot | Tail::Bang => push_all(met, rest),
     }
 }
 
@@ -195,8 +152,8 @@ pub fn matched(alloc: Global, pieces: &[Piece], name: &Name) -> Result<Vec<Piece
     ensures { IfOk result (λ met. shown_all met.items ≡ matched (shown_all pieces.now) name.now) }
 {
     let mut met = Vec::new(alloc);
-    if set_of(pieces).has(b'-') {
-        push_copies(&mut met, pieces)?;
+    if bytes_of(pieces).has(b'-') {
+        push_all(&mut met, pieces)?;
         return Ok(met);
     }
     match name.parts() {
@@ -330,7 +287,7 @@ fn may_meet(pieces: &[Piece], parts: Parts<'_>) -> bool
             return false;
         };
         if is_any(piece) {
-            return may_hold(&set_of(left), least_of(left), rest);
+            return may_hold(&bytes_of(left), least_of(left), rest);
         }
         if !may_be(piece, place) {
             return false;
@@ -338,7 +295,7 @@ fn may_meet(pieces: &[Piece], parts: Parts<'_>) -> bool
         left = later;
         rest = after;
     }
-    may_follow(&set_of(left), least_of(left), tail_of(rest))
+    may_follow(&bytes_of(left), least_of(left), tail_of(rest))
 }
 
 /// Whether a text of this shape may match the name of an extension: a false says that none does. A shape that may have a dash is looked
@@ -346,7 +303,7 @@ fn may_meet(pieces: &[Piece], parts: Parts<'_>) -> bool
 pub fn may_match(pieces: &[Piece], name: &Name) -> bool
     ensures { IsFalse result → (text : List ℕ) → Fits (shown_all pieces.now) text → Matches name.now text → ⊥ }
 {
-    let set = set_of(pieces);
+    let set = bytes_of(pieces);
     if set.has(b'-') {
         return may_hold(&set, 0, name.parts());
     }
@@ -412,7 +369,7 @@ fn all_meet(pieces: &[Piece], parts: Parts<'_>) -> bool
             return false;
         };
         if is_any(piece) {
-            return all_hold(&set_of(left), least_of(left), rest);
+            return all_hold(&bytes_of(left), least_of(left), rest);
         }
         if !all_be(piece, place) {
             return false;
@@ -420,7 +377,7 @@ fn all_meet(pieces: &[Piece], parts: Parts<'_>) -> bool
         left = later;
         rest = after;
     }
-    all_follow(&set_of(left), least_of(left), tail_of(rest))
+    all_follow(&bytes_of(left), least_of(left), tail_of(rest))
 }
 
 /// Whether each text of this shape matches the name of an extension, as far as is seen: a true says that each does. Of a shape that may
@@ -428,7 +385,7 @@ fn all_meet(pieces: &[Piece], parts: Parts<'_>) -> bool
 pub fn covers(pieces: &[Piece], name: &Name) -> bool
     ensures { IsTrue result → (text : List ℕ) → Fits (shown_all pieces.now) text → Matches name.now text }
 {
-    !set_of(pieces).has(b'-') && all_meet(pieces, name.parts())
+    !bytes_of(pieces).has(b'-') && all_meet(pieces, name.parts())
 }
 
 /// Whether the first pieces of two shapes are so that each text of the one is one of the other, where it is so for the pieces after them.
@@ -463,7 +420,7 @@ pub fn is_within(pieces: &[Piece], other: &[Piece]) -> bool
     while let Some((wide, more)) = right.split_first() {
         let more = skip_nothing(more);
         if let Some(set) = only_set(wide, more) {
-            return set_of(left).is_part(set);
+            return bytes_of(left).is_part(set);
         }
         let Some((piece, later)) = skip_nothing(left).split_first() else {
             return false;

@@ -1,13 +1,10 @@
-use Rattle.std.proofs.Common.{◌||◌, ◌++◌, ◌∷◌, [], ap, ◌∙◌}
-use Rattle.dp_pieces.specs.Pieces.{AnyOf, pieces_set}
-use Rattle.dp_pieces.specs.Sets.{set_by}
+use Rattle.std.proofs.Common.{◌++◌, ◌∷◌, [], ap, ◌∙◌}
+use Rattle.dp_pieces.specs.Pieces.{AnyOf}
 use Rattle.dp_pieces.specs.Shown.{shown_all}
 use Rattle.dp_pieces.specs.declared.piece.Piece.TheVariants.{AnyOf as kept}
-use Rattle.dp_pieces.proofs.BlankLemmas.{none-has}
 use Rattle.dp_pieces.proofs.arguments.any_of.Goals as goal
 
 pub returns : goal.returns
 returns c =
-    ap shown_all (c.in_ok-push.ensures.items ∙ ap (λ items. items ++ kept c.add_pieces.new.set ∷ []) c.new-all.ensures.items)
-    ∙ (λ i. AnyOf (λ b. (c.add_pieces.ensures b ∙ (ap (λ has. set_by has b || pieces_set (shown_all c.args.pieces.now) b) c.none-set.ensures
-    ∙ ap (λ t. t || pieces_set (shown_all c.args.pieces.now) b) (none-has 256 b))) i) ∷ [])
+    ap shown_all (c.in_ok-push.ensures.items ∙ ap (λ items. items ++ kept c.bytes_of.result ∷ []) c.new-all.ensures.items)
+    ∙ (λ i. AnyOf (λ b. c.bytes_of.ensures b i) ∷ [])

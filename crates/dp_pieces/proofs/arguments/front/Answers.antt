@@ -1,4 +1,4 @@
-use Rattle.std.proofs.Common.{◌≡◌, ◌++◌, sym, ap, ◌∙◌}
+use Rattle.std.proofs.Common.{◌++◌, ap, ◌∙◌}
 use Rattle.dp_pieces.specs.Shown.{shown_all}
 use Rattle.dp_pieces.proofs.PartLemmas.{front-any, front-push, shown-after}
 use Rattle.dp_pieces.proofs.arguments.front.Goals as goal

@@ -9,8 +9,8 @@ use Rattle.dp_pieces.proofs.shapes.all_meet.Goals as goal
 
 pub returns-then-is_any : goal.returns-then-is_any
 returns-then-is_any c =
-    λ is. c.loop-place.invariant.takes (always-within (shown_all c.loop-place.left.now) (set_by c.set_of.result) c.least_of.result (classes_of (parts_meaning c.loop-place.rest))
-    (tail_of (parts_meaning c.loop-place.rest)) c.set_of.ensures c.least_of.ensures (c.all_hold.ensures is))
+    λ is. c.loop-place.invariant.takes (always-within (shown_all c.loop-place.left.now) (set_by c.bytes_of.result) c.least_of.result (classes_of (parts_meaning c.loop-place.rest))
+    (tail_of (parts_meaning c.loop-place.rest)) c.bytes_of.ensures c.least_of.ensures (c.all_hold.ensures is))
 
 pub loop-place-preserved : goal.loop-place-preserved
 loop-place-preserved c = record {
@@ -23,7 +23,7 @@ loop-place-preserved c = record {
 
 pub returns : goal.returns
 returns c =
-    λ is. c.loop-place.invariant.takes (always-within (shown_all c.loop-place.left.now) (set_by c.set_of-2.result) c.least_of-2.result (classes_of (parts_meaning c.loop-place.rest))
-    (tail_of (parts_meaning c.loop-place.rest)) c.set_of-2.ensures c.least_of-2.ensures
-    (always-end (set_by c.set_of-2.result) c.least_of-2.result (classes_of (parts_meaning c.loop-place.rest)) (tail_of (parts_meaning c.loop-place.rest)) c.tail_of.result
+    λ is. c.loop-place.invariant.takes (always-within (shown_all c.loop-place.left.now) (set_by c.bytes_of-2.result) c.least_of-2.result (classes_of (parts_meaning c.loop-place.rest))
+    (tail_of (parts_meaning c.loop-place.rest)) c.bytes_of-2.ensures c.least_of-2.ensures
+    (always-end (set_by c.bytes_of-2.result) c.least_of-2.result (classes_of (parts_meaning c.loop-place.rest)) (tail_of (parts_meaning c.loop-place.rest)) c.tail_of.result
     c.in_default.ensures c.tail_of.ensures (c.all_follow.ensures is)))

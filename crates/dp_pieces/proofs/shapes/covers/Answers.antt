@@ -13,5 +13,5 @@ all_meet-requires c = subst (λ n. AreAllBytes (classes_of n)) (sym c.parts.ensu
 
 pub returns-then-not-has : goal.returns-then-not-has
 returns-then-not-has c =
-    λ is. covered (shown_all c.args.pieces.now) (set_by c.set_of.result) c.args.name.now (parts_meaning c.parts.result) c.set_of.ensures (sym c.has.ensures ∙ c.if-not-has.true)
+    λ is. covered (shown_all c.args.pieces.now) (set_by c.bytes_of.result) c.args.name.now (parts_meaning c.parts.result) c.bytes_of.ensures (sym c.has.ensures ∙ c.if-not-has.true)
     c.parts.ensures.value (c.all_meet.ensures is)

@@ -10,8 +10,8 @@ loop-wide-init c = λ always text fits. c.skip_nothing-right.ensures.same.0 text
 pub returns-in-Some-only_set : goal.returns-in-Some-only_set
 returns-in-Some-only_set c =
     λ is. c.loop-wide.invariant (fits-any (shown c.in-Some.wide.now) (shown_all c.skip_nothing-more.result.now) (shown_all c.loop-wide.left.now) (shown_all c.loop-wide.right.now)
-    (shown_all c.in-Some.more.now) (set_by c.set_of.result) (set_by c.in-Some-only_set.set.now) (ap shown_all c.in-Some.ensures.cases.0) c.skip_nothing-more.ensures.same.0
-    c.in-Some-only_set.ensures c.set_of.ensures (c.is_part.ensures.part is))
+    (shown_all c.in-Some.more.now) (set_by c.bytes_of.result) (set_by c.in-Some-only_set.set.now) (ap shown_all c.in-Some.ensures.cases.0) c.skip_nothing-more.ensures.same.0
+    c.in-Some-only_set.ensures c.bytes_of.ensures (c.is_part.ensures.part is))
 
 pub loop-wide-preserved : goal.loop-wide-preserved
 loop-wide-preserved c =

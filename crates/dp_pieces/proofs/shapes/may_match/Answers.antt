@@ -16,9 +16,9 @@ may_meet-requires c = subst (λ n. AreAllBytes (classes_of n)) (sym c.parts-2.en
 
 pub returns-then-has : goal.returns-then-has
 returns-then-has c =
-    λ is. unmatched-dashed (shown_all c.args.pieces.now) (set_by c.set_of-set.result) c.args.name.now (parts_meaning c.parts.result) c.set_of-set.ensures c.parts.ensures.value (c.may_hold.ensures is)
+    λ is. unmatched-dashed (shown_all c.args.pieces.now) (set_by c.bytes_of-set.result) c.args.name.now (parts_meaning c.parts.result) c.bytes_of-set.ensures c.parts.ensures.value (c.may_hold.ensures is)
 
 pub returns : goal.returns
 returns c =
-    λ is. unmatched (shown_all c.args.pieces.now) (set_by c.set_of-set.result) c.args.name.now (parts_meaning c.parts-2.result) c.set_of-set.ensures (sym c.has.ensures ∙ c.if-has.false)
+    λ is. unmatched (shown_all c.args.pieces.now) (set_by c.bytes_of-set.result) c.args.name.now (parts_meaning c.parts-2.result) c.bytes_of-set.ensures (sym c.has.ensures ∙ c.if-has.false)
     c.parts-2.ensures.value (c.may_meet.ensures is)

@@ -14,8 +14,8 @@ returns-in_default-split_first c =
 
 pub returns-then-is_any : goal.returns-then-is_any
 returns-then-is_any c =
-    λ is. c.loop-place.invariant.misses (misses-within (shown_all c.loop-place.left.now) (set_by c.set_of.result) c.least_of.result (classes_of (parts_meaning c.loop-place.rest))
-    (tail_of (parts_meaning c.loop-place.rest)) c.set_of.ensures c.least_of.ensures (c.may_hold.ensures is))
+    λ is. c.loop-place.invariant.misses (misses-within (shown_all c.loop-place.left.now) (set_by c.bytes_of.result) c.least_of.result (classes_of (parts_meaning c.loop-place.rest))
+    (tail_of (parts_meaning c.loop-place.rest)) c.bytes_of.ensures c.least_of.ensures (c.may_hold.ensures is))
 
 pub returns-then-not-may_be : goal.returns-then-not-may_be
 returns-then-not-may_be c =
@@ -35,7 +35,7 @@ loop-place-preserved c = record {
 
 pub returns : goal.returns
 returns c =
-    λ is. c.loop-place.invariant.misses (misses-within (shown_all c.loop-place.left.now) (set_by c.set_of-2.result) c.least_of-2.result (classes_of (parts_meaning c.loop-place.rest))
-    (tail_of (parts_meaning c.loop-place.rest)) c.set_of-2.ensures c.least_of-2.ensures
-    (misses-end (set_by c.set_of-2.result) c.least_of-2.result (classes_of (parts_meaning c.loop-place.rest)) (tail_of (parts_meaning c.loop-place.rest)) c.tail_of.result
+    λ is. c.loop-place.invariant.misses (misses-within (shown_all c.loop-place.left.now) (set_by c.bytes_of-2.result) c.least_of-2.result (classes_of (parts_meaning c.loop-place.rest))
+    (tail_of (parts_meaning c.loop-place.rest)) c.bytes_of-2.ensures c.least_of-2.ensures
+    (misses-end (set_by c.bytes_of-2.result) c.least_of-2.result (classes_of (parts_meaning c.loop-place.rest)) (tail_of (parts_meaning c.loop-place.rest)) c.tail_of.result
     c.in_default.ensures c.tail_of.ensures (c.may_follow.ensures is)))

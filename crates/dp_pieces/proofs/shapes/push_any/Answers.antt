@@ -1,4 +1,4 @@
-use Rattle.std.proofs.Common.{inl, inr, ◌≡◌, ◌∷◌, ◌++◌, ◌+◌, ap, drop, subst, arith}
+use Rattle.std.proofs.Common.{inl, inr, refl, ◌≡◌, ◌∷◌, ◌++◌, ◌+◌, ap, drop, subst, arith}
 use Rattle.std.proofs.lemmas.List.{drop_all}
 use Rattle.dp_pieces.specs.Met.{met_classes, met_tail}
 use Rattle.dp_pieces.specs.Pieces.{made}
@@ -20,6 +20,6 @@ loop-class-preserved c =
 
 pub returns-in_ok-push-in-Dot : goal.returns-in_ok-push-in-Dot
 returns-in_ok-push-in-Dot c =
-    any-end c.loop-class.pieces.items c.push-in-Dot.new.self.items (set_by c.args.set.now) c.copy_set.result _ c.args.tail
+    any-end c.loop-class.pieces.items c.push-in-Dot.new.self.items (set_by c.args.set.now) c.args.set.now _ c.args.tail
     (shown_all c.args.pieces.now.items ++ met_classes (made (set_by c.args.set.now)) c.args.classes.now c.args.tail)
-    (drop_all c.loop-class.class-index c.args.classes.now (omega arith)) (elim c.in-Dot.is [ inl is ↦ ap (met_tail (made (set_by c.args.set.now))) is | inr is ↦ ap (met_tail (made (set_by c.args.set.now))) is ]) c.copy_set.ensures c.in_ok-push-in-Dot.ensures.items c.loop-class.invariant.met
+    (drop_all c.loop-class.class-index c.args.classes.now (omega arith)) (elim c.in-Dot.is [ inl is ↦ ap (met_tail (made (set_by c.args.set.now))) is | inr is ↦ ap (met_tail (made (set_by c.args.set.now))) is ]) (λ b. refl) c.in_ok-push-in-Dot.ensures.items c.loop-class.invariant.met

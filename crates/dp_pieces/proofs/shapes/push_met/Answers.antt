@@ -9,5 +9,5 @@ returns-in_default-meet_one c =
     c.in_ok-push_any.ensures
     ∙ (ap (λ ps. shown_all c.loop-class.met.items ++ ps) (sym (
     any-met (shown c.in-Some-split_first.piece.now) (shown_all c.in-Some-split_first.later.now) (shown_all c.loop-class.rest.now) c.in-Some.class.now c.in-Some.after.now c.loop-class.left.now
-    c.args.tail (set_by c.set_of.result) c.in_default-meet_one.ensures (ap shown_all c.in-Some-split_first.ensures.cases.0) c.in-Some.ensures.cases.0 c.set_of.ensures))
+    c.args.tail (set_by c.bytes_of.result) c.in_default-meet_one.ensures (ap shown_all c.in-Some-split_first.ensures.cases.0) c.in-Some.ensures.cases.0 c.bytes_of.ensures))
     ∙ c.loop-class.invariant.met)
