@@ -1,0 +1,21 @@
+//! Pieces of texts that are not expanded yet: how they are cut and trimmed, and which names and shapes they meet.
+mod cuts;
+mod notation;
+mod shapes;
+
+use crate::pieces::cuts::{CUTS, Cuts};
+use crate::pieces::shapes::{SHAPES, Shapes};
+use dp_questions::check;
+use std::test::Fail;
+
+/// Pieces cut at a byte and into arguments, trimmed, and without their first bytes.
+#[test]
+fn pieces_are_cut(rt: HostRuntime) -> Result<(), Fail> {
+    check::<Cuts>(rt.alloc(), CUTS)
+}
+
+/// Shapes and the names of extensions that their texts may match, and shapes within others.
+#[test]
+fn shapes_meet_names(rt: HostRuntime) -> Result<(), Fail> {
+    check::<Shapes>(rt.alloc(), SHAPES)
+}
