@@ -9,7 +9,7 @@ use Rattle.dp_pieces.proofs.name_table.NameTable.hold.Goals as goal
 pub returns-clause-bytes : goal.returns-clause-bytes
 returns-clause-bytes c =
     subst (λ (t : Table). (other : List ℕ) (b : ℕ) → name_set c.insert.new.self.entries c.self.inside.shared other b
-        ≡ (name_set t.own t.shared other b || (same_text other c.args.name.now && set_by c.args.set.now b))) c.self.view_is
+    ≡ (name_set t.own t.shared other b || (same_text other c.args.name.now && set_by c.args.set.now b))) c.self.view_is
     (more-held c.self.inside.own.entries c.insert.new.self.entries c.self.inside.shared c.own_with-wider.result c.args.set.now c.extend_from_slice.new.self c.args.name.now
     c.in_ok-insert.ensures.entries
     (c.in_ok-extend_from_slice.ensures.items ∙ ap (λ items. items ++ c.args.name.now) c.new-key.ensures.items)
