@@ -11,6 +11,7 @@ pub mod TrimmedLemmas
 pub mod ArgumentLemmas
 pub mod CutLemmas
 pub mod LastLemmas
+pub mod NameTableLemmas
 pub mod PartLemmas
 pub mod RuleLemmas
 pub mod SoftLemmas

@@ -8,6 +8,7 @@ pub mod Pieces
 pub mod Sets
 pub mod ShapeSteps
 pub mod Shown
+pub mod Tables
 pub mod ShownCuts
 pub mod Texts
 pub mod Trimmed

@@ -5,8 +5,8 @@ use Rattle.dp_pattern.specs.Matches.{FitsTail}
 use Rattle.dp_pattern.specs.declared.tail.Tail.{Tail}
 use Rattle.dp_pieces.specs.Bytes.{Bytes, IsPart, Within, both, none}
 use Rattle.dp_pieces.specs.Pieces.{AnyOf, Fits, Known, OneOf, Piece, bytes_in}
-use Rattle.dp_pieces.specs.declared.shapes.Place.{Place}
-use Rattle.dp_pieces.specs.declared.shapes.Place.TheVariants.{Byte, Class}
+use Rattle.dp_pieces.specs.declared.shapes.place.Place.{Place}
+use Rattle.dp_pieces.specs.declared.shapes.place.Place.TheVariants.{Byte, Class}
 
 -- nothing above 255 is in the class
 abbrev pub AreBytes : List ℕ → Type 0
@@ -50,19 +50,21 @@ Takes (class ∷ classes) tail (digit ∷ digits) = (bytes_in class digit ≡ tr
 abbrev pub Lacks : Bytes → List ℕ → Type 0
 Lacks set class = (byte : ℕ) → set byte ≡ true → bytes_in class byte ≡ true → ⊥
 
--- no text of the pieces does so, and none of so many bytes of a set at least
+-- no text of the pieces is taken so, nor one of so many bytes of a set, or more
 abbrev pub Misses : List Piece → List (List ℕ) → Tail → Type 0
 Misses pieces classes tail = (digits : List ℕ) → Fits pieces digits → Takes classes tail digits → ⊥
 
 abbrev pub MissesWithin : Bytes → ℕ → List (List ℕ) → Tail → Type 0
-MissesWithin set least classes tail = (digits : List ℕ) → Within set digits → least ≤ length digits → Takes classes tail digits → ⊥
+MissesWithin set least classes tail =
+    (digits : List ℕ) → Within set digits → least ≤ length digits → Takes classes tail digits → ⊥
 
--- each text of the pieces does, and each of so many bytes of a set at least
+-- each text of the pieces is, and each of so many bytes of a set, or more
 abbrev pub AlwaysTakes : List Piece → List (List ℕ) → Tail → Type 0
 AlwaysTakes pieces classes tail = (digits : List ℕ) → Fits pieces digits → Takes classes tail digits
 
 abbrev pub AlwaysTakesWithin : Bytes → ℕ → List (List ℕ) → Tail → Type 0
-AlwaysTakesWithin set least classes tail = (digits : List ℕ) → Within set digits → least ≤ length digits → Takes classes tail digits
+AlwaysTakesWithin set least classes tail =
+    (digits : List ℕ) → Within set digits → least ≤ length digits → Takes classes tail digits
 
 -- each text of the one shape is one of the other
 abbrev pub AlwaysFits : List Piece → List Piece → Type 0
@@ -78,7 +80,7 @@ IsNothing (Known byte) = ⊥
 IsNothing (OneOf set) = ⊥
 IsNothing (AnyOf set) = IsPart set none
 
--- each text of the one shape is one of the other for the first pieces, where it is so for those after them
+-- each text of the one piece is one of the other, and both are one byte or both any bytes
 abbrev pub IsWithinPiece : Piece → Piece → Type 0
 IsWithinPiece (Known byte) (Known other) = byte ≡ other
 IsWithinPiece (Known byte) (OneOf wide) = wide byte ≡ true

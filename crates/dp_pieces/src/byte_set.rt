@@ -63,6 +63,15 @@ impl ByteSet {
         set
     }
 
+    /// The bytes of both sets.
+    pub fn with(&self, other: &ByteSet) -> Self
+        ensures { (b : ℕ) → set_by result b ≡ either (set_by self.now) (set_by other.now) b }
+    {
+        let mut both = *self;
+        both.add(other);
+        both
+    }
+
     /// Whether the set has a blank, a byte of 32 or less other than a line feed.
     pub fn has_blank(&self) -> bool
         ensures { result ≡ has_blank (set_by self.now) }

@@ -1,0 +1,24 @@
+use Rattle.std.proofs.Common.{sym, subst, ◌∙◌}
+use Rattle.dp_pattern.specs.Kept.{parts_meaning}
+use Rattle.dp_pattern.specs.Walk.{classes_of}
+use Rattle.dp_pieces.specs.Sets.{set_by}
+use Rattle.dp_pieces.specs.ShapeSteps.{AreAllBytes}
+use Rattle.dp_pieces.specs.Shown.{shown_all}
+use Rattle.dp_pieces.proofs.ShapeLemmas.{name-bytes}
+use Rattle.dp_pieces.proofs.TakesLemmas.{unmatched, unmatched-dashed}
+use Rattle.dp_pieces.proofs.shapes.matching.may_match.Goals as goal
+
+pub may_hold-requires : goal.may_hold-requires
+may_hold-requires c = subst (λ n. AreAllBytes (classes_of n)) (sym c.parts.ensures.value) (name-bytes c.args.name.now c.parts.ensures.named)
+
+pub may_meet-requires : goal.may_meet-requires
+may_meet-requires c = subst (λ n. AreAllBytes (classes_of n)) (sym c.parts-2.ensures.value) (name-bytes c.args.name.now c.parts-2.ensures.named)
+
+pub returns-then-has : goal.returns-then-has
+returns-then-has c =
+    λ is. unmatched-dashed (shown_all c.args.pieces.now) (set_by c.bytes_of-set.result) c.args.name.now (parts_meaning c.parts.result) c.bytes_of-set.ensures c.parts.ensures.value (c.may_hold.ensures is)
+
+pub returns : goal.returns
+returns c =
+    λ is. unmatched (shown_all c.args.pieces.now) (set_by c.bytes_of-set.result) c.args.name.now (parts_meaning c.parts-2.result) c.bytes_of-set.ensures (sym c.has.ensures ∙ c.if-has.false)
+    c.parts-2.ensures.value (c.may_meet.ensures is)

@@ -1,0 +1,55 @@
+//! How long the texts of pieces are.
+ghost use Rattle.std.specs.Prelude.{◌≡◌, ◌≤◌, IsTrue, length};
+ghost use Rattle.dp_pieces.specs.ShapeSteps.{AreTextsOf, IsNothing, is_any, least_of};
+ghost use Rattle.dp_pieces.specs.Shown.{shown, shown_all};
+
+use crate::piece::Piece;
+use crate::shapes::sets::is_none;
+
+/// Whether the piece is any bytes of a set, and not one.
+pub(crate) fn is_any(piece: &Piece) -> bool
+    ensures { result ≡ is_any (shown piece.now) }
+{
+    match piece {
+        Piece::Known(_) | Piece::OneOf(_) => false,
+        Piece::AnyOf(_) => true,
+    }
+}
+
+/// How many bytes a text of the pieces has at least.
+pub(crate) fn least_of(pieces: &[Piece]) -> usize
+    ensures { result ≡ least_of (shown_all pieces.now) }
+{
+    let mut least = 0;
+    for piece in pieces {
+        if !is_any(piece) {
+            least += 1;
+        }
+    }
+    least
+}
+
+/// Whether the piece is any bytes of the empty set.
+fn is_nothing(piece: &Piece) -> bool
+    ensures { IsTrue result → IsNothing (shown piece.now) }
+{
+    match piece {
+        Piece::Known(_) | Piece::OneOf(_) => false,
+        Piece::AnyOf(set) => is_none(set),
+    }
+}
+
+/// The pieces without the first ones that are any bytes of the empty set.
+pub(crate) fn skip_nothing(pieces: &[Piece]) -> &[Piece]
+    ensures same { AreTextsOf (shown_all result.now) (shown_all pieces.now) }
+    ensures shorter { length result.now ≤ length pieces.now }
+{
+    let mut left = pieces;
+    while let Some((piece, after)) = left.split_first() {
+        if !is_nothing(piece) {
+            break;
+        }
+        left = after;
+    }
+    left
+}

@@ -1,0 +1,107 @@
+//! Shapes met with names.
+ghost use Rattle.std.specs.Prelude.{◌≡◌, true, ◌++◌, IfOk, MatchOption, OnOk};
+ghost use Rattle.dp_pieces.specs.Met.{matched, met_classes};
+ghost use Rattle.dp_pieces.specs.Pieces.{exactly, made};
+ghost use Rattle.dp_pieces.specs.Sets.{set_by};
+ghost use Rattle.dp_pieces.specs.ShapeSteps.{AreAllBytes, AreBytes, IsMet, is_any};
+ghost use Rattle.dp_pieces.specs.Shown.{shown, shown_all};
+
+use crate::byte_set::ByteSet;
+use crate::piece::{Piece, bytes_of};
+use crate::shapes::place::{Place, meet};
+use crate::shapes::sets::push_all;
+use dp_conf::NoMemory;
+use dp_pattern::{Class, Name, Parts, Tail};
+use std::alloc::Global;
+
+/// Any bytes of a set met with the classes of a pattern, after other pieces.
+fn push_any(
+    pieces: &mut Vec<Piece>,
+    set: &ByteSet,
+    classes: &[Class],
+    tail: Tail,
+) -> Result<(), NoMemory>
+    requires { AreAllBytes classes.now }
+    ensures { OnOk result (shown_all pieces.new.items
+        ≡ shown_all pieces.old.items ++ met_classes (made (set_by set.now)) classes.now tail) }
+{
+    for class in classes {
+        pieces.push(Piece::OneOf(meet(set, Place::Class(class))))?;
+    }
+    match tail {
+        Tail::End => (),
+        Tail::Dot | Tail::Bang => pieces.push(Piece::AnyOf(*set))?,
+    }
+    Ok(())
+}
+
+/// A piece that is one byte, met with the class of this.
+fn meet_one(piece: &Piece, class: &Class) -> Option<Piece>
+    requires { AreBytes class.now }
+    ensures { MatchOption result (is_any (shown piece.now) ≡ true) (λ met. IsMet (shown piece.now) class.now (shown met)) }
+{
+    match piece {
+        Piece::Known(byte) => Some(Piece::Known(*byte)),
+        Piece::OneOf(set) => Some(Piece::OneOf(meet(set, Place::Class(class)))),
+        Piece::AnyOf(_) => None,
+    }
+}
+
+/// Pieces met with the classes of a pattern, after others.
+fn push_met(
+    met: &mut Vec<Piece>,
+    pieces: &[Piece],
+    classes: &[Class],
+    tail: Tail,
+) -> Result<(), NoMemory>
+    requires { AreAllBytes classes.now }
+    ensures { OnOk result (shown_all met.new.items
+        ≡ shown_all met.old.items ++ met_classes (shown_all pieces.now) classes.now tail) }
+{
+    let mut rest = pieces;
+    let mut left = classes;
+    while let Some((class, after)) = left.split_first() {
+        let Some((piece, later)) = rest.split_first() else {
+            return Ok(());
+        };
+        let Some(one) = meet_one(piece, class) else {
+            push_any(met, &bytes_of(rest), left, tail)?;
+            return Ok(());
+        };
+        met.push(one)?;
+        rest = later;
+        left = after;
+    }
+    match tail {
+        Tail::End => Ok(()),
+        Tail::Dot | Tail::Bang => push_all(met, rest),
+    }
+}
+
+/// The pieces of a known text, after others.
+fn push_text(pieces: &mut Vec<Piece>, text: &[u8]) -> Result<(), NoMemory>
+    ensures { OnOk result (shown_all pieces.new.items ≡ shown_all pieces.old.items ++ exactly text.now) }
+{
+    for byte in text {
+        pieces.push(Piece::Known(*byte))?;
+    }
+    Ok(())
+}
+
+/// What is known of a text of this shape that has matched the name of an extension. It fails only for want of memory.
+///
+/// Dashes do not count for a match, so a shape that may have one stays as it is.
+pub fn matched(alloc: Global, pieces: &[Piece], name: &Name) -> Result<Vec<Piece>, NoMemory>
+    ensures { IfOk result (λ met. shown_all met.items ≡ matched (shown_all pieces.now) name.now) }
+{
+    let mut met = Vec::new(alloc);
+    if bytes_of(pieces).has(b'-') {
+        push_all(&mut met, pieces)?;
+        return Ok(met);
+    }
+    match name.parts() {
+        Parts::Plain(plain) => push_text(&mut met, plain)?,
+        Parts::Pattern(classes, tail) => push_met(&mut met, pieces, classes, tail)?,
+    }
+    Ok(met)
+}

@@ -1,0 +1,58 @@
+//! Shapes whose texts are all texts of another.
+ghost use Rattle.std.specs.Prelude.{◌≡◌, ℕ, List, ◌∷◌, IfSome, IsTrue};
+ghost use Rattle.dp_pieces.specs.Pieces.{Fits, made};
+ghost use Rattle.dp_pieces.specs.Sets.{set_by};
+ghost use Rattle.dp_pieces.specs.ShapeSteps.{IsWithinPiece};
+ghost use Rattle.dp_pieces.specs.Shown.{shown, shown_all};
+
+use crate::byte_set::ByteSet;
+use crate::piece::{Piece, bytes_of};
+use crate::shapes::length::skip_nothing;
+
+/// Whether each text of the one piece is one of the other, and both are one byte or both any bytes.
+fn is_within_piece(piece: &Piece, wide: &Piece) -> bool
+    ensures { IsTrue result → IsWithinPiece (shown piece.now) (shown wide.now) }
+{
+    match (piece, wide) {
+        (Piece::Known(byte), Piece::Known(other)) => byte == other,
+        (Piece::Known(byte), Piece::OneOf(set)) => set.has(*byte),
+        (Piece::OneOf(set), Piece::OneOf(more)) => set.is_part(more),
+        (Piece::AnyOf(set), Piece::AnyOf(more)) => set.is_part(more),
+        (Piece::Known(_), Piece::AnyOf(_))
+        | (Piece::OneOf(_), Piece::Known(_) | Piece::AnyOf(_))
+        | (Piece::AnyOf(_), Piece::Known(_) | Piece::OneOf(_)) => false,
+    }
+}
+
+/// The set of a shape that is any bytes of one, by its first piece and those after it.
+fn only_set<'a>(first: &'a Piece, after: &[Piece]) -> Option<&'a ByteSet>
+    ensures { IfSome result (λ set. shown_all (first.now ∷ after.now) ≡ made (set_by set.now)) }
+{
+    match (first, after) {
+        (Piece::AnyOf(set), []) => Some(set),
+        _ => None,
+    }
+}
+
+/// Whether each text of the one shape is seen to be one of the other: a true says that each is.
+pub fn is_within(pieces: &[Piece], other: &[Piece]) -> bool
+    ensures { IsTrue result → (text : List ℕ) → Fits (shown_all pieces.now) text → Fits (shown_all other.now) text }
+{
+    let mut left = pieces;
+    let mut right = skip_nothing(other);
+    while let Some((wide, more)) = right.split_first() {
+        let more = skip_nothing(more);
+        if let Some(set) = only_set(wide, more) {
+            return bytes_of(left).is_part(set);
+        }
+        let Some((piece, later)) = skip_nothing(left).split_first() else {
+            return false;
+        };
+        if !is_within_piece(piece, wide) {
+            return false;
+        }
+        left = later;
+        right = more;
+    }
+    skip_nothing(left).is_empty()
+}
