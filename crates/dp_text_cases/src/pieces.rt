@@ -1,9 +1,11 @@
 //! Pieces of texts that are not expanded yet: how they are cut and trimmed, and which names and shapes they meet.
 mod cuts;
+mod names;
 mod notation;
 mod shapes;
 
 use crate::pieces::cuts::{CUTS, Cuts};
+use crate::pieces::names::{NAMES, Names};
 use crate::pieces::shapes::{SHAPES, Shapes};
 use dp_questions::check;
 use std::test::Fail;
@@ -18,4 +20,10 @@ fn pieces_are_cut(rt: HostRuntime) -> Result<(), Fail> {
 #[test]
 fn shapes_meet_names(rt: HostRuntime) -> Result<(), Fail> {
     check::<Shapes>(rt.alloc(), SHAPES)
+}
+
+/// Which bytes the values of names may have, by a table.
+#[test]
+fn names_have_bytes(rt: HostRuntime) -> Result<(), Fail> {
+    check::<Names>(rt.alloc(), NAMES)
 }
