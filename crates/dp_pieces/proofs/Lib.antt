@@ -3,6 +3,7 @@ pub mod NumeralLemmas
 pub mod ExpressionLemmas
 pub mod BlankLemmas
 pub mod FitsLemmas
+pub mod FittingLemmas
 pub mod TextLemmas
 pub mod ReaderLemmas
 pub mod OnWay

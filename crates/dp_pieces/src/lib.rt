@@ -17,5 +17,5 @@ pub use cuts::{Cutting, are_clean, cut_known, cut_last, cut_level, cut_pieces, f
 pub use name_table::NameTable;
 pub use piece::{Piece, add_pieces, bytes_of};
 pub use reader::{NamedPieces, read_pieces};
-pub use shapes::{covers, is_within, matched, may_match};
+pub use shapes::{covers, is_within, matched, may_fit, may_match};
 pub use trims::trimmed;

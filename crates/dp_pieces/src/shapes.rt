@@ -1,4 +1,5 @@
 //! Questions about shapes: lists of pieces that a text fits.
+mod fitting;
 mod length;
 mod matching;
 mod meeting;
@@ -6,6 +7,7 @@ mod place;
 mod sets;
 mod within;
 
+pub use fitting::may_fit;
 pub use matching::{covers, may_match};
 pub use meeting::matched;
 pub use within::is_within;

@@ -1,7 +1,7 @@
 //! Shapes and the names that their texts may match, worked out by hand from the rules.
 use crate::pieces::notation::{pieces_of, push_pieces};
 use dp_pattern::Name;
-use dp_pieces::{Piece, covers, is_within, matched, may_match};
+use dp_pieces::{Piece, covers, is_within, matched, may_fit, may_match};
 use dp_questions::{Question, text_of};
 use std::alloc::Global;
 use std::test::Fail;
@@ -17,6 +17,9 @@ impl Question for Shapes {
         if word == "within" {
             let wide = pieces_of(alloc, of)?;
             return Ok(text_of(alloc, yes_or_no(is_within(&shape, &wide)))?);
+        }
+        if word == "fit" {
+            return Ok(text_of(alloc, yes_or_no(may_fit(&shape, of.as_bytes())))?);
         }
         let Ok(name) = Name::read(alloc, of.as_bytes()) else {
             return Ok(text_of(alloc, "no name")?);
@@ -42,7 +45,8 @@ fn answer_name(alloc: Global, word: &str, name: &Name, shape: &[Piece]) -> Resul
 }
 
 /// `may` is yes where a text of the shape may match, `covers` where each does as far as is seen, `meet` is what is known of one that has
-/// matched, and `within` is yes where each text of the last shape is one of the first.
+/// matched, `fit` is
+/// yes where the text may be one of the shape, and `within` where each text of the last shape is one of the first.
 pub(super) const SHAPES: &str = r"
 # A plain name is matched by itself.
 may s|s→yes
@@ -104,6 +108,18 @@ may s|{0-9-}*→no
 covers _XX|1-2→no
 meet _XX|{0-9-}*→{-0123456789}*
 meet _XX|1-2→1-2
+# Texts that may be of a shape.
+fit s|s→yes
+fit s|{st}→yes
+fit s|{tu}→no
+fit s|→no
+fit st|s→no
+fit st|{a-z}*→yes
+fit s1|{a-z}*→no
+fit s1|{a-z}*1→yes
+fit s1|s{0-9}*→yes
+fit s|s{0-9}*→yes
+fit s|s{0-9}→no
 # Shapes within others.
 within {0-9}*|→yes
 within {0-9}*|12→yes

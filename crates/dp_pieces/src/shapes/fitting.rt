@@ -1,0 +1,54 @@
+//! Known texts and shapes.
+ghost use Rattle.std.specs.Prelude.{◌≡◌, false, IsFalse};
+ghost use Rattle.dp_pieces.specs.Bytes.{Within};
+ghost use Rattle.dp_pieces.specs.Pieces.{Fits, piece_set};
+ghost use Rattle.dp_pieces.specs.Sets.{set_by};
+ghost use Rattle.dp_pieces.specs.Shown.{shown, shown_all};
+
+use crate::byte_set::ByteSet;
+use crate::piece::{Piece, bytes_of};
+use crate::shapes::length::is_any;
+
+/// Whether the set has each byte of the text.
+fn has_all(set: &ByteSet, text: &[u8]) -> bool
+    ensures { IsFalse result → Within (set_by set.now) text.now → ⊥ }
+{
+    for byte in text {
+        if !set.has(*byte) {
+            return false;
+        }
+    }
+    true
+}
+
+/// Whether the byte is one of the piece's.
+fn has_byte(piece: &Piece, byte: u8) -> bool
+    ensures { IsFalse result → piece_set (shown piece.now) byte ≡ false }
+{
+    match piece {
+        Piece::Known(only) => byte == *only,
+        Piece::OneOf(set) | Piece::AnyOf(set) => set.has(byte),
+    }
+}
+
+/// Whether the text may be one of this shape: a false says that it is none.
+pub fn may_fit(pieces: &[Piece], text: &[u8]) -> bool
+    ensures { IsFalse result → Fits (shown_all pieces.now) text.now → ⊥ }
+{
+    let mut left = pieces;
+    let mut rest = text;
+    while let Some((piece, later)) = left.split_first() {
+        if is_any(piece) {
+            return has_all(&bytes_of(left), rest);
+        }
+        let Some((byte, after)) = rest.split_first() else {
+            return false;
+        };
+        if !has_byte(piece, *byte) {
+            return false;
+        }
+        left = later;
+        rest = after;
+    }
+    rest.is_empty()
+}
