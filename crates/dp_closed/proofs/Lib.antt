@@ -1,0 +1,3 @@
+pub mod SetLemmas
+pub mod KnownLemmas
+pub mod ReachLemmas

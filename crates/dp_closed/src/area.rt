@@ -1,0 +1,9 @@
+//! Areas of a dialplan.
+use dp_pieces::Piece;
+
+/// The shapes of the context and of the extension of a place.
+#[derive(Drop)]
+pub struct Area {
+    pub context: Vec<Piece>,
+    pub exten: Vec<Piece>,
+}

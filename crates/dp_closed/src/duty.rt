@@ -1,0 +1,58 @@
+//! What an application owes.
+ghost use Rattle.std.specs.Prelude.{◌≡◌, ◌++◌, ◌∷◌, [], OnOk};
+ghost use Rattle.dp_closed.specs.Shown.{shown_duties};
+ghost use Rattle.dp_pieces.specs.Sets.{set_by};
+ghost use Rattle.dp_pieces.specs.Shown.{shown_all};
+ghost use Rattle.dp_reach.specs.Areas.{area_at};
+ghost use Rattle.dp_reach.specs.Bounds as bounds;
+
+use crate::area::Area;
+use dp_conf::NoMemory;
+use dp_pieces::{ByteSet, Piece};
+use std::alloc::Global;
+
+/// What an application owes: that the reach has an area, that a name, each name, or the caller's number may have these bytes, and that
+/// a digit may lead out of each queue.
+#[derive(Drop)]
+pub enum Duty {
+    Leads(Area),
+    Holds(Vec<u8>, ByteSet),
+    HoldsAll(ByteSet),
+    Calls(ByteSet),
+    Waits,
+}
+
+/// Adds that the reach has the area of these shapes.
+pub(crate) fn push_area(
+    alloc: Global,
+    context: &[Piece],
+    exten: &[Piece],
+    duties: &mut Vec<Duty>,
+) -> Result<(), NoMemory>
+    ensures { OnOk result (shown_duties duties.new.items
+        ≡ shown_duties duties.old.items ++ bounds.Leads (area_at (shown_all context.now) (shown_all exten.now)) ∷ []) }
+{
+    let mut area = Area {
+        context: Vec::new(alloc),
+        exten: Vec::new(alloc),
+    };
+    area.context.extend_from_slice(context)?;
+    area.exten.extend_from_slice(exten)?;
+    duties.push(Duty::Leads(area))?;
+    Ok(())
+}
+
+/// Adds that a name may have these bytes.
+pub(crate) fn push_name(
+    alloc: Global,
+    name: &[u8],
+    set: ByteSet,
+    duties: &mut Vec<Duty>,
+) -> Result<(), NoMemory>
+    ensures { OnOk result (shown_duties duties.new.items ≡ shown_duties duties.old.items ++ bounds.Holds name.now (set_by set) ∷ []) }
+{
+    let mut kept = Vec::new(alloc);
+    kept.extend_from_slice(name)?;
+    duties.push(Duty::Holds(kept, set))?;
+    Ok(())
+}

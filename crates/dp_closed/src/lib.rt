@@ -1,0 +1,18 @@
+//! What each application owes, by the pieces of its arguments.
+#![tactic(auto)]
+
+mod area;
+mod duty;
+mod reach;
+mod rows;
+mod sets;
+mod settings;
+mod shapes;
+mod subroutines;
+mod targets;
+mod waiting;
+
+pub use area::Area;
+pub use duty::Duty;
+pub use reach::Reach;
+pub use rows::duties;

@@ -1,0 +1,60 @@
+//! Where the channels of a claim may be.
+ghost use Rattle.std.specs.Prelude.{◌≡◌, ℕ, List, IsTrue};
+ghost use Rattle.dp_closed.specs.Reach.{FitsAny, areas_in, shapes_at};
+ghost use Rattle.dp_pieces.specs.Pieces.{Fits};
+ghost use Rattle.dp_pieces.specs.Shown.{shown_all};
+ghost use Rattle.dp_reach.specs.Areas.{Includes, area_at};
+
+use dp_pieces::{Piece, is_within, may_fit};
+use dp_plan::Dialplan;
+
+/// The shapes of the extensions that channels may have in each context, by the contexts' numbers.
+#[derive(Drop)]
+pub struct Reach {
+    pub shapes: Vec<Vec<Vec<Piece>>>,
+}
+
+/// Whether each text of the shape is seen to be one of these shapes.
+fn has_shape(shapes: &[Vec<Piece>], exten: &[Piece]) -> bool
+    ensures { IsTrue result → (text : List ℕ) → Fits (shown_all exten.now) text → FitsAny shapes.now text }
+{
+    for shape in shapes {
+        if is_within(exten, shape) {
+            return true;
+        }
+    }
+    false
+}
+
+impl Reach {
+    /// Whether each extension of the shape is seen to be one of the context of this number.
+    pub fn has(&self, number: usize, exten: &[Piece]) -> bool
+        ensures { IsTrue result → (text : List ℕ) → Fits (shown_all exten.now) text → FitsAny (shapes_at self.now.shapes.items number) text }
+    {
+        match self.shapes.get(number) {
+            Some(shapes) => has_shape(shapes, exten),
+            None => false,
+        }
+    }
+
+    /// Whether the context of this number and name has each extension of the shape, where it may be one of the contexts.
+    fn has_in(&self, number: usize, name: &[u8], context: &[Piece], exten: &[Piece]) -> bool
+        ensures { IsTrue result → Fits (shown_all context.now) name.now
+            → (text : List ℕ) → Fits (shown_all exten.now) text → FitsAny (shapes_at self.now.shapes.items number) text }
+    {
+        !may_fit(context, name) || self.has(number, exten)
+    }
+
+    /// Whether each place of these shapes is seen to be in the reach, over the contexts of a dialplan. A place in a context that the
+    /// dialplan lacks is in it, since nothing is found there.
+    pub fn includes(&self, plan: &Dialplan, context: &[Piece], exten: &[Piece]) -> bool
+        ensures { IsTrue result → Includes plan.now (areas_in plan.now.contexts self.now.shapes.items) (area_at (shown_all context.now) (shown_all exten.now)) }
+    {
+        for (number, own) in plan.contexts().iter().enumerate() {
+            if !self.has_in(number, own.name().bytes(), context, exten) {
+                return false;
+            }
+        }
+        true
+    }
+}

@@ -1,0 +1,181 @@
+//! The table of what applications owe, by their names.
+ghost use Rattle.std.specs.Prelude.{◌≡◌, ◌++◌, IfOk, OnOk, map};
+ghost use Rattle.dp_closed.specs.Rows as rows;
+ghost use Rattle.dp_closed.specs.Shown.{shown_area, shown_duties, shown_duty};
+ghost use Rattle.dp_pieces.specs.Shown.{shown_all};
+ghost use Rattle.dp_reach.specs.Standard.{standard_duties};
+
+use crate::area::Area;
+use crate::duty::Duty;
+use crate::settings::push_set;
+use crate::subroutines::{push_gosub, push_gosub_if};
+use crate::targets::{push_goto_if, push_targets};
+use crate::waiting::{
+    push_add, push_dial, push_digits, push_pause, push_queue, push_remove, push_return,
+    push_unpause,
+};
+use dp_conf::{NoMemory, same_word};
+use dp_pieces::Piece;
+use std::alloc::Global;
+
+/// A row of the table: the application that owes so.
+#[derive(Clone, Copy)]
+pub(crate) enum Row {
+    Nothing,
+    Goto,
+    Set,
+    GotoIf,
+    Gosub,
+    GosubIf,
+    Return,
+    Digits,
+    Dial,
+    Queue,
+    Add,
+    Remove,
+    Pause,
+    Unpause,
+}
+
+/// The row of an application that changes the members of a queue.
+fn member_row(application: &[u8]) -> Row
+    ensures { rows.shown_row result ≡ rows.member_duties application.now }
+{
+    if same_word(application, b"AddQueueMember") {
+        return Row::Add;
+    }
+    if same_word(application, b"RemoveQueueMember") {
+        return Row::Remove;
+    }
+    if same_word(application, b"PauseQueueMember") {
+        return Row::Pause;
+    }
+    if same_word(application, b"UnpauseQueueMember") {
+        return Row::Unpause;
+    }
+    Row::Nothing
+}
+
+/// The row of an application that waits, or of one of those above.
+fn waiting_row(application: &[u8]) -> Row
+    ensures { rows.shown_row result ≡ rows.waiting_duties application.now }
+{
+    if same_word(application, b"Wait") {
+        return Row::Nothing;
+    }
+    if same_word(application, b"WaitExten") {
+        return Row::Digits;
+    }
+    if same_word(application, b"Background") {
+        return Row::Digits;
+    }
+    if same_word(application, b"Dial") {
+        return Row::Dial;
+    }
+    if same_word(application, b"Queue") {
+        return Row::Queue;
+    }
+    member_row(application)
+}
+
+/// The row of an application that answers, ends the call, or plays or prints nothing here, or of one of those above.
+fn silent_row(application: &[u8]) -> Row
+    ensures { rows.shown_row result ≡ rows.silent_duties application.now }
+{
+    if same_word(application, b"Answer") {
+        return Row::Nothing;
+    }
+    if same_word(application, b"Hangup") {
+        return Row::Nothing;
+    }
+    if same_word(application, b"Verbose") {
+        return Row::Nothing;
+    }
+    if same_word(application, b"Playback") {
+        return Row::Nothing;
+    }
+    waiting_row(application)
+}
+
+/// The row of an application that enters or leaves subroutines, or of one of those above.
+fn calling_row(application: &[u8]) -> Row
+    ensures { rows.shown_row result ≡ rows.calling_duties application.now }
+{
+    if same_word(application, b"Gosub") {
+        return Row::Gosub;
+    }
+    if same_word(application, b"GosubIf") {
+        return Row::GosubIf;
+    }
+    if same_word(application, b"Return") {
+        return Row::Return;
+    }
+    if same_word(application, b"StackPop") {
+        return Row::Nothing;
+    }
+    silent_row(application)
+}
+
+/// The row of an application, by its name in any ASCII case. A name that the table lacks owes nothing.
+#[tactic(auto, unfolding(dp_reach::specs::Standard::standard_duties))]
+fn row_of(application: &[u8]) -> Row
+    ensures { rows.shown_row result ≡ standard_duties application.now }
+{
+    if same_word(application, b"NoOp") {
+        return Row::Nothing;
+    }
+    if same_word(application, b"Goto") {
+        return Row::Goto;
+    }
+    if same_word(application, b"Set") {
+        return Row::Set;
+    }
+    if same_word(application, b"GotoIf") {
+        return Row::GotoIf;
+    }
+    calling_row(application)
+}
+
+/// Adds what a row owes.
+fn push_row(
+    alloc: Global,
+    row: Row,
+    area: &Area,
+    pieces: &[Piece],
+    duties: &mut Vec<Duty>,
+) -> Result<(), NoMemory>
+    ensures { OnOk result (shown_duties duties.new.items
+        ≡ shown_duties duties.old.items ++ rows.shown_row row (shown_area area.now) (shown_all pieces.now)) }
+{
+    match row {
+        Row::Nothing => Ok(()),
+        Row::Goto => push_targets(alloc, area, pieces, duties),
+        Row::Set => push_set(alloc, pieces, duties),
+        Row::GotoIf => push_goto_if(alloc, area, pieces, duties),
+        Row::Gosub => push_gosub(alloc, area, pieces, duties),
+        Row::GosubIf => push_gosub_if(alloc, area, pieces, duties),
+        Row::Return => push_return(alloc, pieces, duties),
+        Row::Digits => push_digits(alloc, area, duties),
+        Row::Dial => push_dial(alloc, duties),
+        Row::Queue => push_queue(alloc, duties),
+        Row::Add => push_add(alloc, duties),
+        Row::Remove => push_remove(alloc, duties),
+        Row::Pause => push_pause(alloc, duties),
+        Row::Unpause => push_unpause(alloc, duties),
+    }
+}
+
+/// What an application owes from an area, by its name in any ASCII case and the pieces of its arguments. It fails only for want of
+/// memory.
+pub fn duties(
+    alloc: Global,
+    application: &[u8],
+    area: &Area,
+    pieces: &[Piece],
+) -> Result<Vec<Duty>, NoMemory>
+    ensures { IfOk result (λ duties. map shown_duty duties.items ≡ standard_duties application.now (shown_area area.now) (shown_all pieces.now)) }
+{
+    let mut duties = Vec::new(alloc);
+    push_row(alloc, row_of(application), area, pieces, &mut duties)?;
+    Ok(duties)
+}

@@ -1,0 +1,160 @@
+//! What `Set` owes.
+ghost use Rattle.std.specs.Prelude.{◌≡◌, ◌++◌, ◌∷◌, [], IfOk, OnOk, length};
+ghost use Rattle.std.specs.Option.{option_map};
+ghost use Rattle.dp_closed.specs.Shown.{shown_duties};
+ghost use Rattle.dp_closed.specs.Steps as steps;
+ghost use Rattle.dp_conf.specs.Blanks as blanks;
+ghost use Rattle.dp_conf.specs.Cut.{cut_once};
+ghost use Rattle.dp_flow.specs.Settings as flow;
+ghost use Rattle.dp_pieces.specs.Cuts.{cut_known};
+ghost use Rattle.dp_pieces.specs.Pieces.{pieces_set};
+ghost use Rattle.dp_pieces.specs.Sets.{set_by};
+ghost use Rattle.dp_pieces.specs.Shown.{shown, shown_all};
+ghost use Rattle.dp_reach.specs.Settings as spec;
+
+use crate::duty::{Duty, push_name};
+use crate::sets::set_of;
+use dp_conf::{NoMemory, before_last, cut_once, is_blank, trim};
+use dp_pieces::{ByteSet, Piece, cut_known};
+use std::alloc::Global;
+
+/// Adds the byte of a piece, where it is known.
+fn push_known(text: &mut Vec<u8>, piece: &Piece) -> Result<(), NoMemory>
+    ensures { OnOk result (text.new.items ≡ text.old.items ++ steps.known_bytes (shown piece.now ∷ [])) }
+{
+    match piece {
+        Piece::Known(byte) => {
+            text.push(*byte)?;
+            Ok(())
+        }
+        Piece::OneOf(_) | Piece::AnyOf(_) => Ok(()),
+    }
+}
+
+/// The bytes that are known.
+fn known_bytes(alloc: Global, pieces: &[Piece]) -> Result<Vec<u8>, NoMemory>
+    ensures { IfOk result (λ text. text.items ≡ steps.known_bytes (shown_all pieces.now)) }
+{
+    let mut text = Vec::new(alloc);
+    for piece in pieces {
+        push_known(&mut text, piece)?;
+    }
+    Ok(text)
+}
+
+/// The text from its first byte that is no blank.
+fn trim_start(text: &[u8]) -> &[u8]
+    ensures { result.now ≡ blanks.trim_start text.now }
+{
+    let mut left = text;
+    while let Some((first, rest)) = left.split_first() {
+        if !is_blank(*first) {
+            break;
+        }
+        left = rest;
+    }
+    left
+}
+
+/// The argument of a function by what stands after its `(`: the `)` has to be the last byte.
+fn argument_of(after: &[u8]) -> Option<&[u8]>
+    ensures { option_map (λ argument. argument.now) result ≡ flow.argument_of after.now }
+{
+    let argument = before_last(after, b')')?;
+    if argument.len() + 1 == after.len() {
+        Some(argument)
+    } else {
+        None
+    }
+}
+
+/// Adds what is owed where a function of an argument is set to a value of these bytes.
+fn push_function(
+    alloc: Global,
+    function: &[u8],
+    argument: &[u8],
+    set: ByteSet,
+    duties: &mut Vec<Duty>,
+) -> Result<(), NoMemory>
+    ensures { OnOk result (shown_duties duties.new.items
+        ≡ shown_duties duties.old.items ++ spec.function_duties function.now argument.now (set_by set)) }
+{
+    if function == b"GLOBAL".as_slice() || function == b"LOCAL".as_slice() {
+        return push_name(alloc, argument, set, duties);
+    }
+    if function == b"CALLERID".as_slice() && argument == b"num".as_slice() {
+        duties.push(Duty::Calls(set))?;
+    }
+    Ok(())
+}
+
+/// Adds what is owed where a name is set to a value of these bytes: a variable or a function.
+fn push_setting(
+    alloc: Global,
+    name: &[u8],
+    set: ByteSet,
+    duties: &mut Vec<Duty>,
+) -> Result<(), NoMemory>
+    ensures { OnOk result (shown_duties duties.new.items
+        ≡ shown_duties duties.old.items ++ spec.name_duties name.now (cut_once 40 name.now) (set_by set)) }
+{
+    match cut_once(name, b'(') {
+        None => push_name(alloc, name, set, duties),
+        Some((function, after)) => match argument_of(after) {
+            None => Ok(()),
+            Some(argument) => push_function(alloc, function, argument, set, duties),
+        },
+    }
+}
+
+/// Adds what is owed where a function is set of which no argument is known.
+fn push_any_argument(function: &[u8], set: ByteSet, duties: &mut Vec<Duty>) -> Result<(), NoMemory>
+    ensures { OnOk result (shown_duties duties.new.items
+        ≡ shown_duties duties.old.items ++ spec.any_argument_duties function.now (set_by set)) }
+{
+    if function == b"GLOBAL".as_slice() || function == b"LOCAL".as_slice() {
+        duties.push(Duty::HoldsAll(set))?;
+        return Ok(());
+    }
+    if function == b"CALLERID".as_slice() {
+        duties.push(Duty::Calls(set))?;
+    }
+    Ok(())
+}
+
+/// Adds what is owed where no name is known before the first `=`: the name of a function may be.
+fn push_unknown(alloc: Global, pieces: &[Piece], duties: &mut Vec<Duty>) -> Result<(), NoMemory>
+    ensures { OnOk result (shown_duties duties.new.items ≡ shown_duties duties.old.items
+        ++ spec.unknown_duties (pieces_set (shown_all pieces.now)) (cut_known 40 (shown_all pieces.now))) }
+{
+    let set = set_of(pieces);
+    match cut_known(pieces, b'(') {
+        None => {
+            duties.push(Duty::HoldsAll(set))?;
+            duties.push(Duty::Calls(set))?;
+            Ok(())
+        }
+        Some((function, _)) => {
+            let function = known_bytes(alloc, function)?;
+            push_any_argument(trim_start(&function), set, duties)
+        }
+    }
+}
+
+/// Adds what `Set` owes.
+pub(crate) fn push_set(
+    alloc: Global,
+    pieces: &[Piece],
+    duties: &mut Vec<Duty>,
+) -> Result<(), NoMemory>
+    ensures { OnOk result (shown_duties duties.new.items
+        ≡ shown_duties duties.old.items ++ spec.set_duties steps.any_area (shown_all pieces.now)) }
+{
+    match cut_known(pieces, b'=') {
+        None => push_unknown(alloc, pieces, duties),
+        Some((name, value)) => {
+            let name = known_bytes(alloc, name)?;
+            push_setting(alloc, trim(&name), set_of(value), duties)
+        }
+    }
+}
