@@ -1,10 +1,12 @@
 //! Pieces of texts that are not expanded yet: how they are cut and trimmed, and which names and shapes they meet.
 mod cuts;
+mod duties;
 mod names;
 mod notation;
 mod shapes;
 
 use crate::pieces::cuts::{CUTS, Cuts};
+use crate::pieces::duties::{DUTIES, Duties, REACHED, Reached};
 use crate::pieces::names::{NAMES, Names};
 use crate::pieces::shapes::{SHAPES, Shapes};
 use dp_questions::check;
@@ -26,4 +28,11 @@ fn shapes_meet_names(rt: HostRuntime) -> Result<(), Fail> {
 #[test]
 fn names_have_bytes(rt: HostRuntime) -> Result<(), Fail> {
     check::<Names>(rt.alloc(), NAMES)
+}
+
+/// What each application owes by the pieces of its arguments, and which places a reach has.
+#[test]
+fn duties_are_these(rt: HostRuntime) -> Result<(), Fail> {
+    check::<Duties>(rt.alloc(), DUTIES)?;
+    check::<Reached>(rt.alloc(), REACHED)
 }

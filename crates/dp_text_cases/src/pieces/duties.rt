@@ -1,0 +1,164 @@
+//! What applications owe by the pieces of their arguments, and what a reach has, worked out by hand from the rules.
+use crate::pieces::notation::{pieces_of, push_pieces};
+use dp_closed::{Area, Duty, Reach, duties};
+use dp_pieces::{ByteSet, Piece};
+use dp_plan::Dialplan;
+use dp_questions::{Question, text_of};
+use std::alloc::Global;
+use std::test::Fail;
+
+/// An application, then the pieces of its arguments after a bar. The channel is in `from`, at an extension of digits.
+pub(super) struct Duties;
+
+impl Question for Duties {
+    fn answer(alloc: Global, asked: &str) -> Result<String, Fail> {
+        let (application, notation) = asked.split_once('|').ok_or("no arguments")?;
+        let area = Area {
+            context: pieces_of(alloc, "from")?,
+            exten: pieces_of(alloc, "{0-9}*")?,
+        };
+        let arguments = pieces_of(alloc, notation)?;
+        let owed = duties(alloc, application.as_bytes(), &area, &arguments)?;
+        let mut out = String::new(alloc);
+        for duty in &owed {
+            if !out.is_empty() {
+                out.push_str(" ; ")?;
+            }
+            push_duty(&mut out, duty)?;
+        }
+        Ok(out)
+    }
+}
+
+fn push_set(out: &mut String, of: &str, set: &ByteSet) -> Result<(), Fail> {
+    write!(out, "{of} ")?;
+    push_pieces(out, &[Piece::OneOf(*set)])?;
+    Ok(())
+}
+
+fn push_duty(out: &mut String, duty: &Duty) -> Result<(), Fail> {
+    match duty {
+        Duty::Leads(area) => {
+            out.push_str("to ")?;
+            push_pieces(out, &area.context)?;
+            out.push(',')?;
+            push_pieces(out, &area.exten)?;
+        }
+        Duty::Holds(name, set) => {
+            for byte in name {
+                out.push(char::from(*byte))?;
+            }
+            push_set(out, "", set)?;
+        }
+        Duty::HoldsAll(set) => push_set(out, "each", set)?,
+        Duty::Calls(set) => push_set(out, "caller", set)?,
+        Duty::Waits => out.push_str("waits")?,
+    }
+    Ok(())
+}
+
+/// Where each leads, and which names may have which bytes.
+pub(super) const DUTIES: &str = r"
+NoOp|x→
+Nothing|x→
+Hangup|→
+# A target: its parts, an empty one the channel's own.
+Goto|5→to from,{0123456789}*
+goto|s,1→to from,s
+Goto|out,s,1→to out,s
+Goto|,s,1→to from,s
+Goto| out , s ,1→to out,s
+Goto|out,,1→to out,{0123456789}*
+Goto|a,b,c,d→
+Goto|out,1{0-9}*,1→to out,1{0123456789}*
+Goto|out,{ab}*,1→to out,{ab}* ; to out,{0123456789}*
+Goto|{ab}*,s,1→to {ab}*,s ; to from,s
+Goto|x{,}→to {,x}*,{,x}* ; to {,x}*,{0123456789}* ; to from,{,x}* ; to from,{0123456789}*
+# The sides of a choice.
+GotoIf|a?2:s,3→to from,{0123456789}* ; to from,s
+GotoIf|a?out,s,3→to out,s
+GotoIf|a→
+GotoIf|{?}a→to {?a}*,{?a}* ; to {?a}*,{0123456789}* ; to from,{?a}* ; to from,{0123456789}*
+# A subroutine: its target and its arguments.
+Gosub|sub,s,1→to sub,s
+Gosub|sub,s,1(a,{0-9}*)→to sub,s ; ARG1 {a} ; ARG2 {0123456789}
+Gosub|sub,s,1({,})→to sub,s ; each {(),1bsu}
+GosubIf|x?sub,1(a)→to from,sub ; ARG1 {a}
+Return|ab→GOSUB_RETVAL {ab}
+StackPop|→
+# A name and its value.
+Set|X=ab→X {ab}
+Set|X=→X {}
+Set| X =a→X {a}
+Set|X={0-9}*→X {0123456789}
+Set|X=a{=}→X {=a}
+Set|GLOBAL(X)=a→X {a}
+Set|LOCAL(X)=a→X {a}
+Set|CALLERID(num)=1→caller {1}
+Set|CALLERID(name)=1→
+Set|DB(x)=1→
+Set|DB(x/{0-9}*)=1→
+Set|GLOBAL({ab})=1→each {()1=ABGLOab}
+Set|CALLERID({ab})=1→caller {()1=ACDEILRab}
+Set|{ab}=1→each {1=ab} ; caller {1=ab}
+# Digits, and what is told.
+WaitExten|→to from,{#*0123456789ABCD}* ; to from,t
+Background|x→to from,{#*0123456789ABCD}* ; to from,t
+Dial|x→DIALSTATUS {ACHILNUV}
+Queue|x→waits ; QUEUESTATUS {KNOUW} ; QUEUESTATUS {EIJMNOPTY} ; QUEUESTATUS {FLU}
+AddQueueMember|x→AQMSTATUS {CEHNOQSU} ; AQMSTATUS {ABDELMRY} ; AQMSTATUS {ADE}
+RemoveQueueMember|x→RQMSTATUS {CEHNOQSU} ; RQMSTATUS {EINOQTU} ; RQMSTATUS {ACDIMNOTY} ; RQMSTATUS {DEMORV}
+PauseQueueMember|x→PQMSTATUS {ADEPSU} ; PQMSTATUS {DFNOTU}
+UnpauseQueueMember|x→UPQMSTATUS {ADENPSU} ; UPQMSTATUS {DFNOTU}
+";
+
+/// Two contexts.
+const PLAN: &[u8] = b"[a]\nexten => s,1,NoOp()\n[b]\nexten => s,1,NoOp()\n";
+
+/// The reach that has digits and `s` in `a`, and `s` in `b`.
+fn reach_of(alloc: Global) -> Result<Reach, Fail> {
+    let mut a = Vec::new(alloc);
+    a.push(pieces_of(alloc, "{0-9}*")?)?;
+    a.push(pieces_of(alloc, "s")?)?;
+    let mut b = Vec::new(alloc);
+    b.push(pieces_of(alloc, "s")?)?;
+    let mut shapes = Vec::new(alloc);
+    shapes.push(a)?;
+    shapes.push(b)?;
+    Ok(Reach { shapes })
+}
+
+/// Whether that reach has the places of a context's shape and, after a bar, an extension's.
+pub(super) struct Reached;
+
+impl Question for Reached {
+    fn answer(alloc: Global, asked: &str) -> Result<String, Fail> {
+        let (context, exten) = asked.split_once('|').ok_or("no extension")?;
+        let Ok((plan, _)) = Dialplan::load(alloc, PLAN) else {
+            return Ok(text_of(alloc, "no dialplan")?);
+        };
+        let reach = reach_of(alloc)?;
+        let is = reach.includes(
+            &plan,
+            &pieces_of(alloc, context)?,
+            &pieces_of(alloc, exten)?,
+        );
+        Ok(text_of(alloc, if is { "yes" } else { "no" })?)
+    }
+}
+
+/// A context that the dialplan lacks is in each reach.
+pub(super) const REACHED: &str = r"
+a|s→yes
+a|12→yes
+a|x→no
+a|{0-9}{0-9}*→yes
+b|s→yes
+b|12→no
+c|x→yes
+{ab}*|s→yes
+{ab}*|12→no
+{a}*|{0-9}→yes
+{xy}*|z→yes
+{abx}|12→no
+";
