@@ -1,3 +1,4 @@
 pub mod SetLemmas
 pub mod KnownLemmas
 pub mod ReachLemmas
+pub mod FoundLemmas

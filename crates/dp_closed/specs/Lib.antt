@@ -1,3 +1,4 @@
+pub mod Found
 pub mod Reach
 pub mod Rows
 pub mod Shown

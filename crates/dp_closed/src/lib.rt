@@ -3,6 +3,7 @@
 
 mod area;
 mod duty;
+mod finding;
 mod reach;
 mod rows;
 mod sets;
@@ -14,5 +15,6 @@ mod waiting;
 
 pub use area::Area;
 pub use duty::Duty;
+pub use finding::found_shape;
 pub use reach::Reach;
 pub use rows::duties;

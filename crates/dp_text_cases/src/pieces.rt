@@ -6,7 +6,7 @@ mod notation;
 mod shapes;
 
 use crate::pieces::cuts::{CUTS, Cuts};
-use crate::pieces::duties::{DUTIES, Duties, REACHED, Reached};
+use crate::pieces::duties::{DUTIES, Duties, FOUND, Found, REACHED, Reached};
 use crate::pieces::names::{NAMES, Names};
 use crate::pieces::shapes::{SHAPES, Shapes};
 use dp_questions::check;
@@ -30,9 +30,10 @@ fn names_have_bytes(rt: HostRuntime) -> Result<(), Fail> {
     check::<Names>(rt.alloc(), NAMES)
 }
 
-/// What each application owes by the pieces of its arguments, and which places a reach has.
+/// What each application owes by the pieces of its arguments, which places a reach has, and what is found.
 #[test]
 fn duties_are_these(rt: HostRuntime) -> Result<(), Fail> {
     check::<Duties>(rt.alloc(), DUTIES)?;
-    check::<Reached>(rt.alloc(), REACHED)
+    check::<Reached>(rt.alloc(), REACHED)?;
+    check::<Found>(rt.alloc(), FOUND)
 }

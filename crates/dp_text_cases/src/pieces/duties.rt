@@ -1,6 +1,7 @@
 //! What applications owe by the pieces of their arguments, and what a reach has, worked out by hand from the rules.
 use crate::pieces::notation::{pieces_of, push_pieces};
-use dp_closed::{Area, Duty, Reach, duties};
+use dp_closed::{Area, Duty, Reach, duties, found_shape};
+use dp_conf::read_number;
 use dp_pieces::{ByteSet, Piece};
 use dp_plan::Dialplan;
 use dp_questions::{Question, text_of};
@@ -161,4 +162,53 @@ c|x→yes
 {a}*|{0-9}→yes
 {xy}*|z→yes
 {abx}|12→no
+";
+
+/// A context of names of which some are better than others.
+const NAMES: &[u8] =
+    b"[c]\nexten => 100,1,NoOp()\nexten => _1X.,1,NoOp()\nexten => _X.,1,NoOp()\nexten => _X.,2,NoOp()\nexten => s,1,NoOp()\n";
+
+/// What is known of the extensions of a shape, after a bar, by which the entry of a number is found there.
+pub(super) struct Found;
+
+fn answer_found(
+    alloc: Global,
+    plan: &Dialplan,
+    number: usize,
+    exten: &[Piece],
+) -> Result<String, Fail> {
+    let context = plan.contexts().first().ok_or("no context")?;
+    let entry = context.entries().get(number).ok_or("no entry")?;
+    let mut out = String::new(alloc);
+    match found_shape(alloc, context.entries(), entry, exten)? {
+        Some(met) => push_pieces(&mut out, &met)?,
+        None => out.push_str("none")?,
+    }
+    Ok(out)
+}
+
+impl Question for Found {
+    fn answer(alloc: Global, asked: &str) -> Result<String, Fail> {
+        let (number, exten) = asked.split_once('|').ok_or("no extension")?;
+        let Ok((plan, _)) = Dialplan::load(alloc, NAMES) else {
+            return Ok(text_of(alloc, "no dialplan")?);
+        };
+        let number = read_number(number.as_bytes()).unwrap_or(0) as usize;
+        answer_found(alloc, &plan, number, &pieces_of(alloc, exten)?)
+    }
+}
+
+/// A better name of the same priority hides an entry where it covers all that the entry's name may match.
+pub(super) const FOUND: &str = r"
+0|100→100
+0|{0-9}*→100
+0|200→none
+1|100→none
+1|1{0-9}{0-9}*→1{0123456789}{0123456789}*
+1|2{0-9}{0-9}*→none
+2|1{0-9}{0-9}→none
+2|{0-9}{0-9}{0-9}*→{0123456789}{0123456789}{0123456789}*
+3|1{0-9}{0-9}→1{0123456789}{0123456789}
+4|{0-9}*→none
+4|{a-z}*→s
 ";

@@ -1,0 +1,32 @@
+-- An entry that another hides is not found.
+use Rattle.std.proofs.Common.{◌≡◌, ℕ, List, Option, Some, None, slice_get, refl, sym, ap, ◌∙◌, subst}
+use Rattle.std.specs.Option.{option_and_then, option_map}
+use Rattle.dp_pieces.specs.Met.{matched}
+use Rattle.dp_pieces.specs.Pieces.{Fits, Piece}
+use Rattle.dp_pieces.proofs.MetLemmas.{fits-matched}
+use Rattle.dp_plan.specs.Contexts.{PlanContext}
+use Rattle.dp_plan.specs.Lookup.{entry_at}
+use Rattle.dp_plan.specs.Plan.{PlanOf}
+use Rattle.dp_plan.specs.declared.entry.Entry.{Entry}
+use Rattle.dp_closed.specs.Found.{Hides, IsUnfound}
+
+-- an entry of a context, by its number
+there-at : (plan : PlanOf) (context k : ℕ) (entries : List Entry) (other : Entry) → option_map (λ (c : PlanContext). c.entries) (slice_get plan.contexts context) ≡ Some entries
+    → slice_get entries k ≡ Some other → entry_at plan (record { context = context; entry = k }) ≡ Some other
+there-at plan context k entries other at here = by (slice_get plan.contexts context) at
+  where
+    by : (o : Option PlanContext) → option_map (λ (c : PlanContext). c.entries) o ≡ Some entries → option_and_then (λ (c : PlanContext). slice_get c.entries k) o ≡ Some other
+    by None is = absurd cc
+    by (Some c) is = let same : c.entries ≡ entries = cc in ap (λ es. slice_get es k) same ∙ here
+
+pub hidden-unfound : (entries : List Entry) (entry other : Entry) (k : ℕ) (exten met : List Piece) → met ≡ matched exten entry.name → slice_get entries k ≡ Some other → Hides met entry other
+    → IsUnfound entries entry exten
+hidden-unfound entries entry other k exten met is here hides plan context id at may = may.shown (record {
+  other = record { context = id.context; entry = k };
+  better = other;
+  there = there-at plan id.context k entries other at here;
+  context = refl;
+  priority = hides.priority;
+  less = hides.less;
+  covers = λ text fits matching. hides.covers text (subst (λ ps. Fits ps text) (sym is) (fits-matched exten entry.name text fits matching));
+})

@@ -1,0 +1,23 @@
+-- Entries that are not found from an area, by the entries of their context.
+use Rattle.std.specs.Prelude.{◌≡◌, ℕ, List, Some, slice_get}
+use Rattle.std.specs.declared.cmp.Ordering.TheVariants.{Less}
+use Rattle.std.specs.Option.{option_map}
+use Rattle.dp_pattern.specs.Matches.{Matches}
+use Rattle.dp_pattern.specs.Order.{name_cmp}
+use Rattle.dp_pieces.specs.Pieces.{Fits, Piece}
+use Rattle.dp_plan.specs.Plan.{PlanOf}
+use Rattle.dp_plan.specs.declared.entry.Entry.{Entry}
+use Rattle.dp_plan.specs.declared.entry.EntryId.{EntryId}
+use Rattle.dp_reach.specs.Areas.{area_at}
+use Rattle.dp_reach.specs.Finding.{MayFind}
+
+-- the other entry has the same priority and a better name, which each text of the shape matches
+pub record Hides (met : List Piece) (entry other : Entry) : Type 0 where
+  pub priority : other.priority ≡ entry.priority
+  pub less : name_cmp other.name entry.name ≡ Less
+  pub covers : (text : List ℕ) → Fits met text → Matches other.name text
+
+-- whatever dialplan has these entries in a context, the entry is not found there at an extension of the shape
+abbrev pub IsUnfound : List Entry → Entry → List Piece → Type 0
+IsUnfound entries entry exten = (plan : PlanOf) (context : List Piece) (id : EntryId)
+    → option_map (λ c. c.entries) (slice_get plan.contexts id.context) ≡ Some entries → MayFind plan (area_at context exten) id entry → ⊥
