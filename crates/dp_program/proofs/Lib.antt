@@ -1,3 +1,4 @@
+mod ChecksLemmas
 mod EntriesLemmas
 mod ReadsLemmas
 mod RunLemmas

@@ -1,3 +1,4 @@
+pub mod Checks
 pub mod Entries
 pub mod Faulted
 pub mod Files

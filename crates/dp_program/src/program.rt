@@ -6,11 +6,10 @@ ghost use Rattle.dp_program.specs.Files.{source};
 ghost use Rattle.dp_program.specs.Requests.{asked, joined};
 ghost use Rattle.dp_program.specs.Serves as spec;
 
+use crate::checks::{serve_check, serve_check_both, serve_check_queues};
 use crate::faulted::Faulted;
 use crate::files::ReadFiles;
-use crate::reports::{
-    serve_audit, serve_check, serve_explain, serve_list, serve_match, serve_match_all,
-};
+use crate::reports::{serve_audit, serve_explain, serve_list, serve_match, serve_match_all};
 use crate::request::Request;
 use crate::runs::{serve_debug, serve_joined, serve_run};
 use dp_conf::{ReadTold, WriteTold};
@@ -18,8 +17,8 @@ use std::alloc::Global;
 use std::sync::Wait;
 use std::thread::Threads;
 
-/// Does what was asked for, and gives the status: the files are read first, and then their texts. A fault is answered with the line of
-/// the file where it stands. With `explains` the notes of `check` have their explanations below them.
+/// Does what was asked for, and gives the status: the files are read first, and then their texts. A fault is answered with the place
+/// where it stands: the line of a file, or the file that could not be read. With `explains` the notes of `check` have their explanations below them.
 ///
 /// `rt` is for the threads of a run that asks for them.
 pub fn serve<'a, F: ReadFiles, I: ReadTold, W: WriteTold, R: Threads + Wait + Sync>(
@@ -42,6 +41,10 @@ pub fn serve<'a, F: ReadFiles, I: ReadTold, W: WriteTold, R: Threads + Wait + Sy
     match request {
         Request::Joined => serve_joined(alloc, input, output),
         Request::Check { file } => serve_check(files, alloc, file, explains, output),
+        Request::CheckQueues { queues } => serve_check_queues(files, alloc, queues, output),
+        Request::CheckBoth { files: paths } => {
+            serve_check_both(files, alloc, paths, explains, output)
+        }
         Request::Listing { file } => serve_list(files, alloc, file, output),
         Request::Audit { file } => serve_audit(files, alloc, file, output),
         Request::Match { lookup, all: false } => serve_match(files, alloc, lookup, output),

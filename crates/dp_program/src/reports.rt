@@ -1,9 +1,9 @@
-//! What the requests do that report on a dialplan, or on a fault.
-ghost use Rattle.std.specs.Prelude.{◌≡◌, ◌||◌, None, false, true};
+//! What the requests do that list, audit or ask a dialplan, or report on a fault.
+ghost use Rattle.std.specs.Prelude.{◌≡◌, ◌||◌, false, true};
 ghost use Rattle.dp_commands.specs.Faults.{is_write_failed};
 ghost use Rattle.dp_commands.specs.Report.{Reports, list_of};
 ghost use Rattle.dp_program.specs.Entries.{entry_of};
-ghost use Rattle.dp_program.specs.Faulted.{StandsIn, unplaced};
+ghost use Rattle.dp_program.specs.Faulted.{StandsIn, in_none, unplaced};
 ghost use Rattle.dp_program.specs.Requests.{lookup_of};
 ghost use Rattle.dp_program.specs.Serves as spec;
 
@@ -11,44 +11,10 @@ use crate::entries::FaultNumber;
 use crate::faulted::{Faulted, placed, placed_nowhere};
 use crate::files::ReadFiles;
 use crate::request::Lookup;
-use dp_commands::{PbxFault, audit, check, check_explained, list_plan, match_all, match_one};
+use crate::texts::read_text;
+use dp_commands::{PbxFault, audit, list_plan, match_all, match_one};
 use dp_conf::WriteTold;
 use std::alloc::Global;
-
-/// Reports on a dialplan by the path of its file and its text, and explains its notes where that is asked for.
-fn check_by<W: WriteTold>(
-    alloc: Global,
-    path: &str,
-    plan: &[u8],
-    explains: bool,
-    output: &mut W,
-) -> Result<u8, PbxFault>
-    ensures reports { Reports (W.contents output.old) (W.contents output.new)
-        (spec.check_by explains path.now plan.now) result }
-    ensures told { W.has_failed output.new ≡ (W.has_failed output.old || is_write_failed result) }
-{
-    if explains {
-        check_explained(alloc, path, plan, output)
-    } else {
-        check(alloc, plan, output)
-    }
-}
-
-/// Reports on the dialplan of a file.
-pub(crate) fn serve_check<'a, F: ReadFiles, W: WriteTold>(
-    files: &F,
-    alloc: Global,
-    file: &'a str,
-    explains: bool,
-    output: &mut W,
-) -> Result<u8, Faulted<'a>>
-    ensures serves { spec.ReportsOn file.now (F.source_at files.now file.now) (spec.check_by explains file.now)
-        (W.contents output.old) (W.contents output.new) result }
-    ensures told { W.has_failed output.new ≡ (W.has_failed output.old || is_write_failed (unplaced result)) }
-{
-    let plan = files.read_file(alloc, file)?;
-    placed(file, &plan, check_by(alloc, file, &plan, explains, output))
-}
 
 /// Audits the dialplan of a file.
 pub(crate) fn serve_audit<'a, F: ReadFiles, W: WriteTold>(
@@ -61,7 +27,7 @@ pub(crate) fn serve_audit<'a, F: ReadFiles, W: WriteTold>(
         (W.contents output.new) result }
     ensures told { W.has_failed output.new ≡ (W.has_failed output.old || is_write_failed (unplaced result)) }
 {
-    let plan = files.read_file(alloc, file)?;
+    let plan = read_text(files, alloc, file)?;
     placed(file, &plan, audit(alloc, &plan, output))
 }
 
@@ -76,7 +42,7 @@ pub(crate) fn serve_list<'a, F: ReadFiles, W: WriteTold>(
         (W.contents output.new) result }
     ensures told { W.has_failed output.new ≡ (W.has_failed output.old || is_write_failed (unplaced result)) }
 {
-    let plan = files.read_file(alloc, file)?;
+    let plan = read_text(files, alloc, file)?;
     placed(file, &plan, list_plan(alloc, &plan, output))
 }
 
@@ -113,7 +79,7 @@ pub(crate) fn serve_match<'a, F: ReadFiles, W: WriteTold>(
         (W.contents output.old) (W.contents output.new) result }
     ensures told { W.has_failed output.new ≡ (W.has_failed output.old || is_write_failed (unplaced result)) }
 {
-    let plan = files.read_file(alloc, lookup.file)?;
+    let plan = read_text(files, alloc, lookup.file)?;
     placed(lookup.file, &plan, find_one(alloc, &plan, lookup, output))
 }
 
@@ -150,7 +116,7 @@ pub(crate) fn serve_match_all<'a, F: ReadFiles, W: WriteTold>(
         (W.contents output.old) (W.contents output.new) result }
     ensures told { W.has_failed output.new ≡ (W.has_failed output.old || is_write_failed (unplaced result)) }
 {
-    let plan = files.read_file(alloc, lookup.file)?;
+    let plan = read_text(files, alloc, lookup.file)?;
     placed(lookup.file, &plan, find_all(alloc, &plan, lookup, output))
 }
 
@@ -169,7 +135,7 @@ pub(crate) fn serve_explain<'a, W: WriteTold>(
     output: &mut W,
 ) -> Result<u8, Faulted<'a>>
     ensures serves { Reports (W.contents output.old) (W.contents output.new) (Ok (entry_of fault)) (unplaced result) }
-    ensures stands { StandsIn (λ _. None) result }
+    ensures stands { StandsIn (λ _. in_none) result }
     ensures told { W.has_failed output.new ≡ (W.has_failed output.old || is_write_failed (unplaced result)) }
 {
     placed_nowhere(write_entry(fault, output))
