@@ -181,6 +181,13 @@ exten => s,0,NoOp()
 $ pbx check faulty.conf
 fault 20 BadPriority line 2
 ? 1
+$ pbx check --queues sample/queues.conf sample/menu.conf
+ok 1 contexts 9 entries
+ok 1 queues
+? 0
+$ pbx check --queues sample/queues.conf
+ok 1 queues
+? 0
 $ pbx list sample/extensions.conf
 [globals]
 DESK => 100
@@ -378,6 +385,7 @@ ok 1 contexts 4 entries
 ? 0
 $ pbx run --explain missing.conf missing.script
 fault 7 ReadFailed
+  missing.conf
   a file could not be opened or read
 ? 1
 @ joined.text

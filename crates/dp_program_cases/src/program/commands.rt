@@ -26,6 +26,25 @@ check @sample/extensions.conf→1→→fault 7 ReadFailed¶
 check @xxxxxxxxxxxxxxxxxxxxxxxxxxxxxxxxxxxxxxxxxxxxxxxxxxxxxxxxxxxxxxxxxxxxxxxxxxxxxxxxxxxxxxxxxxxxxxxxxxxxxxxxxxxxxxxxxxxxxxxxxxxxxxxxxxxxxxxxxxxxxxxxxxxxxxxxxxxxxxxxxxxxxxxxxxxxxxxxxxxxxxxxxxxxxxxxxxxxxxxxxxxxxxxxxxxxxxxxxxxxxxxxxxxxxxxxxxxxxxxxxxxxxxxxxxxxxxxx→1→→fault 7 ReadFailed¶
 check ''→1→→fault 7 ReadFailed¶
 check @long→1→→fault 8 TooLong¶
+# Queues alone: no section `[general]` is one.
+check --queues @help→0→ok 1 queues¶→
+check --queues @queues→0→ok 2 queues¶→
+check --queues @empty→0→ok 0 queues¶→
+check --queues @strategy→1→→fault 30 BadStrategy line 2¶
+check --queues @faulty→1→→fault 4 NoEquals line 2¶
+check --queues @missing→1→→fault 7 ReadFailed¶
+check --queues @long→1→→fault 8 TooLong¶
+# A dialplan and queues: the queues are told last.
+check --queues @help @usual→0→note 13 UnknownContext¶ok 1 contexts 4 entries¶ok 1 queues¶→
+check @empty --queues @queues→0→ok 0 contexts 0 entries¶ok 2 queues¶→
+# Both files are read before their texts, the dialplan first, and so come the faults of their texts. Nothing else is printed.
+check --queues @strategy @usual→1→→fault 30 BadStrategy line 2¶
+check --queues @help @priority→1→→fault 20 BadPriority line 2¶
+check --queues @strategy @priority→1→→fault 20 BadPriority line 2¶
+check --queues @missing @long→1→→fault 8 TooLong¶
+check --queues @long @missing→1→→fault 7 ReadFailed¶
+check --queues @long @faulty→1→→fault 8 TooLong¶
+check --queues @strategy @missing→1→→fault 7 ReadFailed¶
 ";
 
 /// `list`.
@@ -142,6 +161,10 @@ run --explain --queues @strategy @first @first.script→1→→fault 30 BadStrat
 run --explain --queues @faulty @first @first.script→1→→fault 4 NoEquals line 2¶  @faulty:2¶  abc¶  a line of a section with no `=`¶
 run --explain --threads 2 --queues @odd @first @faulty.script→1→→fault 4 NoEquals line 2¶  @odd:2¶  a\\x09b\\x7f\\xc3\\xa9 c\\x0d¶  a line of a section with no `=`¶
 debug --explain --break main,s,1 --queues @faulty @first @faulty.script→1→→fault 4 NoEquals line 2¶  @faulty:2¶  abc¶  a line of a section with no `=`¶
+check --explain --queues @strategy→1→→fault 30 BadStrategy line 2¶  @strategy:2¶  strategy = best¶  a strategy that is none¶
+check --explain --queues @strategy @first→1→→fault 30 BadStrategy line 2¶  @strategy:2¶  strategy = best¶  a strategy that is none¶
+check --explain --queues @faulty @first→1→→fault 4 NoEquals line 2¶  @faulty:2¶  abc¶  a line of a section with no `=`¶
+check --explain --queues @odd @faulty→1→→fault 4 NoEquals line 2¶  @faulty:2¶  abc¶  a line of a section with no `=`¶
 # In a script. The second dialplan has no fault of its own.
 run --explain @first @faulty.script→1→→fault 70 BadScript line 2¶  @faulty.script:2¶  jump 1¶  a line of the script that begins with another word than those of scripts, that has too few or too many words, or of which CH or COUNT is no number or too great, or STATUS none of its five; or `reload` where there is no second dialplan¶
 run --explain --queues @help --reload @faulty @first @faulty.script→1→→fault 70 BadScript line 2¶  @faulty.script:2¶  jump 1¶  a line of the script that begins with another word than those of scripts, that has too few or too many words, or of which CH or COUNT is no number or too great, or STATUS none of its five; or `reload` where there is no second dialplan¶
@@ -150,13 +173,29 @@ debug --explain --break main,s,1 @first @faulty.script→1→→fault 70 BadScri
 check --explain @odd→1→→fault 4 NoEquals line 2¶  @odd:2¶  a\\x09b\\x7f\\xc3\\xa9 c\\x0d¶  a line of a section with no `=`¶
 check --explain @wide→1→→fault 4 NoEquals line 2¶  @wide:2¶  xxxxxxxxxxxxxxxxxxxxxxxxxxxxxxxxxxxxxxxxxxxxxxxxxxxxxxxxxxxxxxxxxxxxxxxxxxxxxxxxxxxxxxxxxxxxxxxxxxxxxxxxxxxxxxxxxxxxxxxxxxxxxxxxxxxxxxxxxxxxxxxxxxxxxxxxxxxxxxxxxxxxxxxxxxxxxxxxxxxxxxxxxxxxxxxxxxxxxxxx¶  a line of a section with no `=`¶
 check --explain @marked→1→→fault 3 BadHeader line 1¶  @marked:1¶  \\xef\\xbb\\xbf[main¶  a header with no `]`, with an empty name, or with text after the `]`¶
-# Faults that stand in no line.
-check --explain @missing→1→→fault 7 ReadFailed¶  a file could not be opened or read¶
-check --explain @long→1→→fault 8 TooLong¶  a file has more than 16,777,216 bytes¶
-run --explain --queues @missing @first @first.script→1→→fault 7 ReadFailed¶  a file could not be opened or read¶
+# Of a file that could not be read stands its path: of the first of all.
+check --explain @missing→1→→fault 7 ReadFailed¶  @missing¶  a file could not be opened or read¶
+check --explain @long→1→→fault 8 TooLong¶  @long¶  a file has more than 16,777,216 bytes¶
+check --explain --queues @long→1→→fault 8 TooLong¶  @long¶  a file has more than 16,777,216 bytes¶
+check --explain --queues @missing @long→1→→fault 8 TooLong¶  @long¶  a file has more than 16,777,216 bytes¶
+check --explain --queues @missing @faulty→1→→fault 7 ReadFailed¶  @missing¶  a file could not be opened or read¶
+list --explain @folder→1→→fault 7 ReadFailed¶  @folder¶  a file could not be opened or read¶
+match --explain @missing main s→1→→fault 7 ReadFailed¶  @missing¶  a file could not be opened or read¶
+match --all --explain @missing main s→1→→fault 7 ReadFailed¶  @missing¶  a file could not be opened or read¶
+audit --explain @missing→1→→fault 7 ReadFailed¶  @missing¶  a file could not be opened or read¶
+run --explain --queues @missing @first @first.script→1→→fault 7 ReadFailed¶  @missing¶  a file could not be opened or read¶
+run --explain @missing @folder→1→→fault 7 ReadFailed¶  @missing¶  a file could not be opened or read¶
+run --explain --queues @missing --reload @folder @first @folder→1→→fault 7 ReadFailed¶  @missing¶  a file could not be opened or read¶
+run --explain --queues @help --reload @long @first @missing→1→→fault 8 TooLong¶  @long¶  a file has more than 16,777,216 bytes¶
+run --explain --queues @help --reload @missing @faulty @folder→1→→fault 7 ReadFailed¶  @missing¶  a file could not be opened or read¶
+run --explain --queues @help --reload @changed @faulty @folder→1→→fault 7 ReadFailed¶  @folder¶  a file could not be opened or read¶
+run --explain --threads 2 @first @missing→1→→fault 7 ReadFailed¶  @missing¶  a file could not be opened or read¶
+debug --explain --break main,s --reload @missing @first @first.script→1→→fault 7 ReadFailed¶  @missing¶  a file could not be opened or read¶
+# Faults that stand in no file.
 debug --explain --break main,s @faulty @faulty.script→1→→fault 71 BadBreak¶  a break of `debug` that has not three parts, or of which the priority is no number from 1 to 2,147,483,647¶
 # Notes.
 check --explain @usual→0→note 13 UnknownContext¶  @usual:13¶  include => out¶  there is no context of this name; the include is kept, and finds nothing¶ok 1 contexts 4 entries¶→
+check --explain --queues @help @usual→0→note 13 UnknownContext¶  @usual:13¶  include => out¶  there is no context of this name; the include is kept, and finds nothing¶ok 1 contexts 4 entries¶ok 1 queues¶→
 check @notes --explain→0→note 2 UnknownKey¶  @notes:2¶  =x¶  a context has no such key, or a key in `[globals]` is empty, whatever its value is; this line is dropped¶note 5 DoublePriority¶  @notes:5¶  exten => s,1,Hangup()¶  an earlier line of the context that is kept has the extension and the priority; this line is dropped¶note 7 DoubleLabel¶  @notes:7¶  exten => s,3(x),NoOp()¶  an earlier line of the context and the extension that is kept has the label; this line is dropped¶note 8 UnknownContext¶  @notes:8¶  include => nowhere¶  there is no context of this name; the include is kept, and finds nothing¶note 9 UnknownKey¶  @notes:9¶  colour = red¶  a context has no such key, or a key in `[globals]` is empty, whatever its value is; this line is dropped¶ok 1 contexts 2 entries¶→
 # Where there is neither a fault nor a note, and of a refused event, there is nothing more.
 check --explain @sections→0→ok 3 contexts 2 entries¶→
