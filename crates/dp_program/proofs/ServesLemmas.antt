@@ -12,11 +12,13 @@ use Rattle.dp_commands.specs.declared.fault.PbxFault.TheVariants.{Coded, NoMemor
 use Rattle.dp_program.specs.Checks.{both_report}
 use Rattle.dp_program.specs.Faulted.{StandsIn, in_none, nowhere, place_by, place_in_file, place_in_files, place_in_two, place_of, place_of_report, place_of_run, place_of_two, place_unread, unplaced, unread_fault, unread_path, unread_place}
 use Rattle.dp_program.specs.Files.{Source, Reads}
-use Rattle.dp_program.specs.Requests.{RequestOf, joined, check, check_queues, check_both, listing, auditing, matching, explaining, run, debug}
-use Rattle.dp_program.specs.Serves.{AuditsFile, ChecksBoth, DebugsFiles, ReportsOn, Runs, RunsFiles, Serves, SharesSome, debug_of_texts, run_of_texts}
+use Rattle.dp_program.specs.Hints.{Tells, audit_hint_of, match_hint_of, status_in}
+use Rattle.dp_program.specs.Requests.{RequestOf, LookupOf, joined, check, check_queues, check_both, listing, auditing, matching, explaining, run, debug}
+use Rattle.dp_program.specs.Serves.{AuditsFile, ChecksBoth, DebugsFiles, LooksUp, ReportsOn, Runs, RunsFiles, Serves, SharesSome, debug_of_texts, look_up, run_of_texts}
 use Rattle.dp_program.specs.Texts.{OfRun, ReadsTexts, all_texts, sources_of}
 use Rattle.dp_program.specs.declared.faulted.Faulted.{Faulted}
 use Rattle.dp_program.specs.declared.faulted.Unread.{Unread}
+use Rattle.dp_program.specs.declared.hints.Served.{Served}
 use Rattle.dp_program.proofs.ReadsLemmas.{IsUnread, by_reason, Reads-any, Reads-weaker, ReadsTexts-any, ReadsTexts-weaker}
 
 -- where memory is refused before anything was written
@@ -24,7 +26,7 @@ pub reports_lacks : (old : Option (List ℕ)) (given : Result (List ℕ) PbxFaul
 reports_lacks old (Ok text) = Appends-nil old
 reports_lacks old (Err fault) = Appends-nil old
 
-audits_lacks : (old : Option (List ℕ)) (given : Result Audited PbxFault) → WritesAudit old old given (Err NoMemory)
+pub audits_lacks : (old : Option (List ℕ)) (given : Result Audited PbxFault) → WritesAudit old old given (Err NoMemory)
 audits_lacks old (Ok report) = Appends-nil old
 audits_lacks old (Err fault) = Appends-nil old
 
@@ -126,10 +128,23 @@ report_refused path file report old unread at reads =
 pub audit_refused : (path : List ℕ) (file : Source) (old : Option (List ℕ)) (unread : Unread) → unread.path.now ≡ path
     → Reads file (λ text. Refuses (reason_of unread.fault) text) → AuditsFile path file old old (Err (unread_fault unread))
 audit_refused path file old unread at reads =
-    Reads-weaker (λ text. Refuses (reason_of unread.fault) text) (λ text. WritesAudit old old (text >>= audit_of) (Err unread.fault) × (place_of (place_unread unread unread.fault) ≡ place_of_report path text unread.fault))
+    Reads-weaker (λ text. Refuses (reason_of unread.fault) text)
+    (λ text. WritesAudit old old (text >>= audit_of) (Err unread.fault) × (place_of (place_unread unread unread.fault) ≡ place_of_report path text unread.fault) × Unit {0})
     (λ text refused. (
       audits_refused old unread.fault text refused,
       unread_stands unread unread.fault ∙ (ap (λ path. unread_place path unread.fault) at ∙ refused_report_place path unread.fault text refused),
+      tt,
+    )) reads
+
+pub look_up_refused : (lookup : LookupOf) (file : Source) (all explains : Bool) (old : Option (List ℕ)) (unread : Unread) → unread.path.now ≡ lookup.file
+    → Reads file (λ text. Refuses (reason_of unread.fault) text) → LooksUp lookup file all explains old old (Err (unread_fault unread))
+look_up_refused lookup file all explains old unread at reads =
+    Reads-weaker (λ text. Refuses (reason_of unread.fault) text)
+    (λ text. Reports old old (text >>= look_up lookup all) (Err unread.fault) × (place_of (place_unread unread unread.fault) ≡ place_of_report lookup.file text unread.fault) × Unit {0})
+    (λ text refused. (
+      reports_refused old (look_up lookup all) unread.fault text refused,
+      unread_stands unread unread.fault ∙ (ap (λ path. unread_place path unread.fault) at ∙ refused_report_place lookup.file unread.fault text refused),
+      tt,
     )) reads
 
 -- where it is read: what is reported on, and what the fault stands in, is the text that was read
@@ -144,15 +159,35 @@ report_read path file report old new read given asked given-is asked-is result a
       subst (λ (text : List ℕ). StandsIn (place_in_file path text) answered) asked-is stands,
     )) reads
 
+-- the same, with what is told beside it
+tells_same : (hint : Result (List ℕ) PbxFault) (given : Result Served PbxFault) (answered : Result Served Faulted) → unplaced answered ≡ given → Tells hint given → Tells hint answered
+tells_same hint given (Ok served) same tells = subst (λ given. Tells hint given) (sym same) tells
+tells_same hint given (Err faulted) same tells = tt
+
 pub audit_read : (path : List ℕ) (file : Source) (old new : Option (List ℕ)) (read given asked : List ℕ)
-    → given ≡ read → asked ≡ read → (result : Result ℕ PbxFault) (answered : Result ℕ Faulted) → Reads file (λ text. text ≡ Ok read)
-    → unplaced answered ≡ result → WritesAudit old new (audit_of given) result → StandsIn (place_in_file path asked) answered
-    → AuditsFile path file old new answered
-audit_read path file old new read given asked given-is asked-is result answered reads same audits stands =
-    Reads-weaker (λ text. text ≡ Ok read) (λ text. WritesAudit old new (text >>= audit_of) (unplaced answered) × StandsIn (place_of_report path text) answered)
-    (λ text is. subst (λ (text : Result (List ℕ) PbxFault). WritesAudit old new (text >>= audit_of) (unplaced answered) × StandsIn (place_of_report path text) answered) (sym is) (
-      subst (λ result. WritesAudit old new (audit_of read) result) (sym same) (subst (λ (text : List ℕ). WritesAudit old new (audit_of text) result) given-is audits),
+    → given ≡ read → asked ≡ read → (result : Result Served PbxFault) (answered : Result Served Faulted) → Reads file (λ text. text ≡ Ok read)
+    → unplaced answered ≡ result → WritesAudit old new (audit_of given) (status_in result) → StandsIn (place_in_file path asked) answered
+    → Tells (audit_hint_of path given) result → AuditsFile path file old new answered
+audit_read path file old new read given asked given-is asked-is result answered reads same audits stands tells =
+    Reads-weaker (λ text. text ≡ Ok read)
+    (λ text. WritesAudit old new (text >>= audit_of) (status_in (unplaced answered)) × StandsIn (place_of_report path text) answered × Tells (text >>= audit_hint_of path) answered)
+    (λ text is. subst (λ (text : Result (List ℕ) PbxFault). WritesAudit old new (text >>= audit_of) (status_in (unplaced answered)) × StandsIn (place_of_report path text) answered × Tells (text >>= audit_hint_of path) answered) (sym is) (
+      subst (λ result. WritesAudit old new (audit_of read) (status_in result)) (sym same) (subst (λ (text : List ℕ). WritesAudit old new (audit_of text) (status_in result)) given-is audits),
       subst (λ (text : List ℕ). StandsIn (place_in_file path text) answered) asked-is stands,
+      tells_same (audit_hint_of path read) result answered same (subst (λ (text : List ℕ). Tells (audit_hint_of path text) result) given-is tells),
+    )) reads
+
+pub look_up_read : (lookup : LookupOf) (file : Source) (all explains : Bool) (old new : Option (List ℕ)) (read given asked : List ℕ)
+    → given ≡ read → asked ≡ read → (result : Result Served PbxFault) (answered : Result Served Faulted) → Reads file (λ text. text ≡ Ok read)
+    → unplaced answered ≡ result → Reports old new (look_up lookup all given) (status_in result) → StandsIn (place_in_file lookup.file asked) answered
+    → Tells (match_hint_of lookup explains given) result → LooksUp lookup file all explains old new answered
+look_up_read lookup file all explains old new read given asked given-is asked-is result answered reads same reports stands tells =
+    Reads-weaker (λ text. text ≡ Ok read)
+    (λ text. Reports old new (text >>= look_up lookup all) (status_in (unplaced answered)) × StandsIn (place_of_report lookup.file text) answered × Tells (text >>= match_hint_of lookup explains) answered)
+    (λ text is. subst (λ (text : Result (List ℕ) PbxFault). Reports old new (text >>= look_up lookup all) (status_in (unplaced answered)) × StandsIn (place_of_report lookup.file text) answered × Tells (text >>= match_hint_of lookup explains) answered) (sym is) (
+      subst (λ result. Reports old new (look_up lookup all read) (status_in result)) (sym same) (subst (λ (text : List ℕ). Reports old new (look_up lookup all text) (status_in result)) given-is reports),
+      subst (λ (text : List ℕ). StandsIn (place_in_file lookup.file text) answered) asked-is stands,
+      tells_same (match_hint_of lookup explains read) result answered same (subst (λ (text : List ℕ). Tells (match_hint_of lookup explains text) result) given-is tells),
     )) reads
 
 -- what a check of two files writes and answers, by what reading them came to
@@ -237,18 +272,22 @@ debug_run_read paths sources held old new texts result answered reads same debug
 
 -- a request may find no memory before it does anything
 pub Serves-lacks : (files : List ℕ → Source) (input : Source) (want : RequestOf) (explains : Bool) (old : Option (List ℕ)) → Serves files input want explains old old (Err (nowhere NoMemory))
-Serves-lacks files input joined explains old = (Reads-any input _ (λ text. writes_lacks old _), refl)
-Serves-lacks files input (check file) explains old = Reads-any (files file) _ (λ text. (reports_lacks old _, lacks_report_place file text))
-Serves-lacks files input (check_queues queues) explains old = Reads-any (files queues) _ (λ text. (reports_lacks old _, lacks_report_place queues text))
+Serves-lacks files input joined explains old = ((Reads-any input _ (λ text. writes_lacks old _), refl), tt)
+Serves-lacks files input (check file) explains old = (Reads-any (files file) _ (λ text. (reports_lacks old _, lacks_report_place file text)), tt)
+Serves-lacks files input (check_queues queues) explains old = (Reads-any (files queues) _ (λ text. (reports_lacks old _, lacks_report_place queues text)), tt)
 Serves-lacks files input (check_both file queues) explains old =
-    Reads-any (files file) _ (λ plan. Reads-any (files queues) _ (λ held. (reports_lacks old _, lacks_two_place file queues plan held)))
-Serves-lacks files input (listing file) explains old = Reads-any (files file) _ (λ text. (reports_lacks old _, lacks_report_place file text))
-Serves-lacks files input (auditing file) explains old = Reads-any (files file) _ (λ text. (audits_lacks old _, lacks_report_place file text))
-Serves-lacks files input (matching lookup all) explains old = Reads-any (files lookup.file) _ (λ text. (reports_lacks old _, lacks_report_place lookup.file text))
-Serves-lacks files input (explaining fault) explains old = (Appends-nil old, refl)
-Serves-lacks files input (run paths threads) explains old =
-    ReadsTexts-any (sources_of files paths) (λ read. Runs threads old old (all_texts read >>= run_of_texts) (Err NoMemory) × (in_none ≡ place_of_run paths read NoMemory))
-    (λ read. (runs_lacks threads old (all_texts read >>= run_of_texts), lacks_place_by paths (unread_path paths read) (all_texts read)))
-Serves-lacks files input (debug paths held) explains old =
-    ReadsTexts-any (sources_of files paths) (λ read. WritesDebug old old (all_texts read >>= debug_of_texts held) (Err NoMemory) × (in_none ≡ place_of_run paths read NoMemory))
-    (λ read. (debug_lacks old (all_texts read >>= debug_of_texts held), lacks_place_by paths (unread_path paths read) (all_texts read)))
+    (Reads-any (files file) _ (λ plan. Reads-any (files queues) _ (λ held. (reports_lacks old _, lacks_two_place file queues plan held))), tt)
+Serves-lacks files input (listing file) explains old = (Reads-any (files file) _ (λ text. (reports_lacks old _, lacks_report_place file text)), tt)
+Serves-lacks files input (auditing file) explains old = Reads-any (files file) _ (λ text. (audits_lacks old _, lacks_report_place file text, tt))
+Serves-lacks files input (matching lookup all) explains old = Reads-any (files lookup.file) _ (λ text. (reports_lacks old _, lacks_report_place lookup.file text, tt))
+Serves-lacks files input (explaining fault) explains old = ((Appends-nil old, refl), tt)
+Serves-lacks files input (run paths threads) explains old = (
+  ReadsTexts-any (sources_of files paths) (λ read. Runs threads old old (all_texts read >>= run_of_texts) (Err NoMemory) × (in_none ≡ place_of_run paths read NoMemory))
+      (λ read. (runs_lacks threads old (all_texts read >>= run_of_texts), lacks_place_by paths (unread_path paths read) (all_texts read))),
+  tt,
+)
+Serves-lacks files input (debug paths held) explains old = (
+  ReadsTexts-any (sources_of files paths) (λ read. WritesDebug old old (all_texts read >>= debug_of_texts held) (Err NoMemory) × (in_none ≡ place_of_run paths read NoMemory))
+      (λ read. (debug_lacks old (all_texts read >>= debug_of_texts held), lacks_place_by paths (unread_path paths read) (all_texts read))),
+  tt,
+)

@@ -8,6 +8,7 @@ use Rattle.dp_commands.specs.declared.fault.PbxFault.TheVariants.{Coded, NoMemor
 use Rattle.dp_program.specs.Entries.{said_of}
 use Rattle.dp_program.specs.Faulted.{PlaceOf, in_line, in_file, in_none, place_of}
 use Rattle.dp_program.specs.declared.faulted.Faulted.{Faulted}
+use Rattle.dp_program.specs.declared.hints.Served.{Served}
 
 -- the status of what was answered: that of an answer, and 1 of a fault
 abbrev pub status_after : {F : Type 0} → Result ℕ F → ℕ
@@ -34,7 +35,7 @@ abbrev pub fault_text : Bool → Faulted → List ℕ
 fault_text false faulted = fault_line faulted.fault
 fault_text true faulted = fault_line faulted.fault ++ explanation faulted.fault (place_of faulted.place)
 
--- what is printed beside the status: nothing with an answer, and the text of a fault
-abbrev pub Prints : Option (List ℕ) → Option (List ℕ) → Bool → Result ℕ Faulted → Type 0
-Prints old new explains (Ok status) = Appends old new []
+-- what is printed beside the status: with an answer what is told beside it, and the text of a fault
+abbrev pub Prints : Option (List ℕ) → Option (List ℕ) → Bool → Result Served Faulted → Type 0
+Prints old new explains (Ok served) = Appends old new served.hint.items
 Prints old new explains (Err faulted) = Appends old new (fault_text explains faulted)

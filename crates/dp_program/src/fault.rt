@@ -7,10 +7,12 @@ ghost use Rattle.dp_commands.specs.Explained.{line_text, sentence_text, shown_te
 ghost use Rattle.dp_program.specs.Entries.{kind_of, said_of};
 ghost use Rattle.dp_program.specs.Entries as spec_entries;
 ghost use Rattle.dp_program.specs.Faulted.{place_of};
+ghost use Rattle.dp_program.specs.Hints.{status_in};
 ghost use Rattle.dp_program.specs.Status as spec;
 
 use crate::entries::{kind_of, sentence_of};
 use crate::faulted::{Faulted, Place};
+use crate::hints::Served;
 use dp_commands::{Code, FileLine, PbxFault};
 use dp_conf::{WriteFailed, WriteTold};
 use dp_plan::{PlanKind, Word};
@@ -194,14 +196,21 @@ fn print_faulted<E: WriteTold>(
     print_explanation(errors, faulted)
 }
 
-/// The status of what was answered, where a fault is printed, with its explanation where that is asked for. No memory is asked for.
-pub fn finish<E: WriteTold>(errors: &mut E, explains: bool, answered: Result<u8, Faulted<'_>>) -> u8
-    ensures status { result ≡ spec.status_after answered.entry }
+/// The status of what was answered. What is told beside it is printed, and a fault is, with its explanation where that is asked for. No memory is asked for.
+pub fn finish<E: WriteTold>(
+    errors: &mut E,
+    explains: bool,
+    answered: Result<Served, Faulted<'_>>,
+) -> u8
+    ensures status { result ≡ spec.status_after (status_in answered.entry) }
     ensures prints { E.has_failed errors.new ≡ false
         → spec.Prints (E.contents errors.old) (E.contents errors.new) explains answered.entry }
 {
     match answered {
-        Ok(status) => status,
+        Ok(served) => {
+            let _ = errors.write_told(&served.hint);
+            served.status
+        }
         Err(faulted) => {
             let _ = print_faulted(errors, explains, &faulted);
             1

@@ -89,16 +89,16 @@ fn place_in_file<'a>(path: &'a str, text: &[u8], fault: PbxFault) -> Place<'a>
 }
 
 /// What was answered over the text of a file, with the place of its fault.
-pub(crate) fn placed<'a>(
+pub(crate) fn placed<'a, T>(
     path: &'a str,
     text: &[u8],
-    answered: Result<u8, PbxFault>,
-) -> Result<u8, Faulted<'a>>
+    answered: Result<T, PbxFault>,
+) -> Result<T, Faulted<'a>>
     ensures same { spec.unplaced result ≡ answered }
     ensures stands { spec.StandsIn (spec.place_in_file path.now text.now) result }
 {
     match answered {
-        Ok(status) => Ok(status),
+        Ok(answer) => Ok(answer),
         Err(fault) => Err(Faulted {
             fault,
             place: place_in_file(path, text, fault),
