@@ -68,6 +68,7 @@ marked→\u{feff}[main¶
 notes→[globals]¶=x¶[main]¶exten => s,1,NoOp()¶exten => s,1,Hangup()¶exten => s,2(x),NoOp()¶exten => s,3(x),NoOp()¶include => nowhere¶colour = red¶
 sections→[a]¶exten => 1,1,A¶[b]¶[a]¶exten => 2,1,A¶include => b¶[c]¶include => a¶include => b¶
 empty→
+near→[min]¶exten => s,1,NoOp()¶[mien]¶[mainn]¶[ax]¶[mmmmmmmmmmmmmmmmmmmmmmmmmmmmmmmmmmmmmmmmmmmmmmmmmmmmmmmmmmmmmmmmmmmmmmmmmmmmmmmmm]¶
 dashed→[-in-]¶exten => 1,1,NoOp¶
 ";
 

@@ -221,6 +221,16 @@ rest,_X.,1 NoOp
 $ pbx match sample/extensions.conf phones 1
 none
 ? 0
+$ pbx match --explain sample/extensions.conf phone 100
+none
+pbx: sample/extensions.conf has no context `phone`
+  nearest: phones
+  nearest: rest
+? 0
+$ pbx match sample/queues.conf phones 100
+none
+pbx: sample/queues.conf has no entry: is it a dialplan?
+? 0
 $ pbx match --all sample/extensions.conf phones 100
 phones,100,1 NoOp
 phones,100,1 NoOp: answers

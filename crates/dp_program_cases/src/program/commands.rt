@@ -65,9 +65,9 @@ match @usual main 5551234 4→0→main,_NXXXXXX,4 Hangup¶→
 match @usual main 5551234 5→0→none¶→
 match @usual main 1551234→0→none¶→
 # The context that is included is none, and names have their case.
-match @usual out 5551234→0→none¶→
-match @usual Main 5551234→0→none¶→
-match @usual '' ''→0→none¶→
+match @usual out 5551234→0→none¶→pbx: @usual has no context `out`¶
+match @usual Main 5551234→0→none¶→pbx: @usual has no context `Main`¶
+match @usual '' ''→0→none¶→pbx: @usual has no context ``¶
 # The most specific name answers, in its one spelling.
 match @classes main 45→0→main,_[01234]X,1 NoOp¶→
 match @specific main 123→0→main,123,1 NoOp¶→
@@ -95,7 +95,13 @@ match @faulty main s→1→→fault 4 NoEquals line 2¶
 match @missing main s→1→→fault 7 ReadFailed¶
 match @folder main s→1→→fault 7 ReadFailed¶
 match @long main s→1→→fault 8 TooLong¶
-match @empty main s→0→none¶→
+match @empty main s→0→none¶→pbx: @empty has no context: is it a dialplan?¶
+# Nor where no context has an entry or an include, as in a file of queues. An include alone is enough.
+match @help main s→0→none¶→pbx: @help has no entry: is it a dialplan?¶
+match @help help s→0→none¶→pbx: @help has no entry: is it a dialplan?¶
+match --all @queues main s→0→none¶→pbx: @queues has no entry: is it a dialplan?¶
+match @cycle c 77→0→none¶→pbx: @cycle has no context `c`¶
+match --all @specific mian 123→0→none¶→pbx: @specific has no context `mian`¶
 # All that match.
 match --all @specific main 123→0→main,123,1 NoOp¶main,123,1 NoOp: answers¶main,_1XX,1 NoOp: less specific¶main,_X.,1 NoOp: less specific¶→
 match @priorities main 123 2 --all→0→main,_X.,2 NoOp¶main,123,2: no such priority¶main,_X.,2 NoOp: answers¶→
@@ -109,12 +115,13 @@ match --all @missing main s→1→→fault 7 ReadFailed¶
 const AUDITS: &str = "\
 audit @cycle→1→Cycle a¶Cycle b¶ok 2 findings¶→
 audit @first→0→ok 0 findings¶→
-audit @empty→0→ok 0 findings¶→
+audit @empty→0→ok 0 findings¶→pbx: @empty has no context: is it a dialplan?¶
+audit @help→0→ok 0 findings¶→pbx: @help has no entry: is it a dialplan?¶
 audit @faulty→1→→fault 4 NoEquals line 2¶
 audit @missing→1→→fault 7 ReadFailed¶
 audit @long→1→→fault 8 TooLong¶
 # It reads no input.
-audit @empty←[main]¶abc¶→0→ok 0 findings¶→
+audit @empty←[main]¶abc¶→0→ok 0 findings¶→pbx: @empty has no context: is it a dialplan?¶
 ";
 
 /// `explain`.
@@ -203,6 +210,16 @@ list --explain @cycle→0→[a]¶include => b¶[b]¶include => a¶→
 audit --explain @cycle→1→Cycle a¶Cycle b¶ok 2 findings¶→
 run --explain @notes @empty→0→→
 run --explain @first @refused.script→1→refused 40 NoChannel¶started 1¶ran 1 main,100,1 NoOp -> ready main,100,2¶→
+# The nearest names of contexts: at most three, the nearest first, and of those that are as near the first of the file. One that has
+# more than 80 bytes is compared with none.
+match --explain @near main s→0→none¶→pbx: @near has no context `main`¶  nearest: min¶  nearest: mainn¶  nearest: mien¶
+match --explain @near X s→0→none¶→pbx: @near has no context `X`¶  nearest: ax¶  nearest: min¶  nearest: mien¶
+match --all --explain @sections d 1→0→none¶→pbx: @sections has no context `d`¶  nearest: a¶  nearest: b¶  nearest: c¶
+match --explain @specific '' 123→0→none¶→pbx: @specific has no context ``¶  nearest: main¶
+match --explain @near mmmmmmmmmmmmmmmmmmmmmmmmmmmmmmmmmmmmmmmmmmmmmmmmmmmmmmmmmmmmmmmmmmmmmmmmmmmmmmmm s→0→none¶→pbx: @near has no context `mmmmmmmmmmmmmmmmmmmmmmmmmmmmmmmmmmmmmmmmmmmmmmmmmmmmmmmmmmmmmmmmmmmmmmmmmmmmmmmm`¶  nearest: min¶  nearest: mien¶  nearest: mainn¶
+match --explain @near xxxxxxxxxxxxxxxxxxxxxxxxxxxxxxxxxxxxxxxxxxxxxxxxxxxxxxxxxxxxxxxxxxxxxxxxxxxxxxxxx s→0→none¶→pbx: @near has no context `xxxxxxxxxxxxxxxxxxxxxxxxxxxxxxxxxxxxxxxxxxxxxxxxxxxxxxxxxxxxxxxxxxxxxxxxxxxxxxxxx`¶
+match --explain @empty main s→0→none¶→pbx: @empty has no context: is it a dialplan?¶
+match --explain @specific main 1→0→none¶→
 explain --explain 4→0→4 NoEquals¶a line of a section with no `=`¶example: `abc`¶→
 ";
 
