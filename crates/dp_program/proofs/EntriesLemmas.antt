@@ -6,7 +6,6 @@ use Rattle.dp_board.specs.declared.fault.SettleFault.TheVariants.{SeatMissing, D
 use Rattle.dp_commands.specs.Codes.{code_name, code_number}
 use Rattle.dp_commands.specs.declared.fault.Code.{Code}
 use Rattle.dp_commands.specs.declared.fault.Code.TheVariants.{Line, Name, Plan, QueueLine, Queue, ReadFailed, TooLong, WriteFailed, Settle, BadScript, BadBreak}
-use Rattle.dp_conf.specs.declared.fault.LineKind.{LineKind}
 use Rattle.dp_conf.specs.declared.fault.LineKind.TheVariants.{BlockComment, NoSection, BadHeader, NoEquals, Directive, Template}
 use Rattle.dp_machine.specs.Codes.{refusal_code, refusal_name}
 use Rattle.dp_machine.specs.declared.refusal.Refusal.{Refusal}

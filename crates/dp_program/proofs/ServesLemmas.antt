@@ -1,5 +1,5 @@
 -- What a request writes and answers where it is refused: nothing, and the fault.
-use Rattle.std.proofs.Common.{◌≡◌, ℕ, Bool, List, max, Option, Some, None, Result, Ok, Err, refl, sym, subst, inl, arith}
+use Rattle.std.proofs.Common.{◌≡◌, ℕ, Bool, List, max, Option, Some, None, Result, Ok, Err, refl, sym, ap, ◌∙◌, subst, inl, arith}
 use Rattle.std.proofs.KnownBytes.{Appends-nil}
 use Rattle.dp_conf.specs.Answers.{Refuses, ◌>>=◌}
 use Rattle.dp_commands.specs.Audit.{Audited, WritesAudit, audit_of}
@@ -8,21 +8,25 @@ use Rattle.dp_commands.specs.Faults.{reason_of}
 use Rattle.dp_commands.specs.Report.{Reports}
 use Rattle.dp_commands.specs.Run.{Run, Writes}
 use Rattle.dp_commands.specs.declared.fault.PbxFault.{PbxFault}
-use Rattle.dp_commands.specs.declared.fault.PbxFault.TheVariants.{NoMemory}
-use Rattle.dp_program.specs.Faulted.{StandsIn, line_in_file, line_in_files, line_of_report, line_of_run, nowhere, unplaced}
+use Rattle.dp_commands.specs.declared.fault.PbxFault.TheVariants.{Coded, NoMemory}
+use Rattle.dp_program.specs.Checks.{both_report}
+use Rattle.dp_program.specs.Faulted.{StandsIn, in_none, nowhere, place_by, place_in_file, place_in_files, place_in_two, place_of, place_of_report, place_of_run, place_of_two, place_unread, unplaced, unread_fault, unread_path, unread_place}
 use Rattle.dp_program.specs.Files.{Source, Reads}
-use Rattle.dp_program.specs.Requests.{RequestOf, joined, check, listing, auditing, matching, explaining, run, debug}
-use Rattle.dp_program.specs.Serves.{AuditsFile, DebugsFiles, ReportsOn, Runs, RunsFiles, Serves, SharesSome, debug_of_texts, run_of_texts}
-use Rattle.dp_program.specs.Texts.{OfRun, ReadsTexts, sources_of}
+use Rattle.dp_program.specs.Hints.{Tells, audit_hint_of, match_hint_of, status_in}
+use Rattle.dp_program.specs.Requests.{RequestOf, LookupOf, joined, check, check_queues, check_both, listing, auditing, matching, explaining, run, debug}
+use Rattle.dp_program.specs.Serves.{AuditsFile, ChecksBoth, DebugsFiles, LooksUp, ReportsOn, Runs, RunsFiles, Serves, SharesSome, debug_of_texts, look_up, run_of_texts}
+use Rattle.dp_program.specs.Texts.{OfRun, ReadsTexts, all_texts, sources_of}
 use Rattle.dp_program.specs.declared.faulted.Faulted.{Faulted}
-use Rattle.dp_program.proofs.ReadsLemmas.{by_reason, Reads-any, Reads-weaker, ReadsTexts-any, ReadsTexts-weaker}
+use Rattle.dp_program.specs.declared.faulted.Unread.{Unread}
+use Rattle.dp_program.specs.declared.hints.Served.{Served}
+use Rattle.dp_program.proofs.ReadsLemmas.{IsUnread, by_reason, Reads-any, Reads-weaker, ReadsTexts-any, ReadsTexts-weaker}
 
 -- where memory is refused before anything was written
-reports_lacks : (old : Option (List ℕ)) (given : Result (List ℕ) PbxFault) → Reports old old given (Err NoMemory)
+pub reports_lacks : (old : Option (List ℕ)) (given : Result (List ℕ) PbxFault) → Reports old old given (Err NoMemory)
 reports_lacks old (Ok text) = Appends-nil old
 reports_lacks old (Err fault) = Appends-nil old
 
-audits_lacks : (old : Option (List ℕ)) (given : Result Audited PbxFault) → WritesAudit old old given (Err NoMemory)
+pub audits_lacks : (old : Option (List ℕ)) (given : Result Audited PbxFault) → WritesAudit old old given (Err NoMemory)
 audits_lacks old (Ok report) = Appends-nil old
 audits_lacks old (Err fault) = Appends-nil old
 
@@ -73,103 +77,217 @@ pub runs_refused : {X : Type 0} (threads : Option ℕ) (old : Option (List ℕ))
 runs_refused None old next = writes_refused old next
 runs_refused (Some threads) old next = shares_refused (max 1 threads) old next
 
--- want of memory stands in no line of a file
-lacks_report_line : (path : List ℕ) (text : Result (List ℕ) PbxFault) → None ≡ line_of_report path text NoMemory
-lacks_report_line path (Ok text) = refl
-lacks_report_line path (Err unread) = refl
+-- want of memory stands in no file
+lacks_report_place : (path : List ℕ) (text : Result (List ℕ) PbxFault) → in_none ≡ place_of_report path text NoMemory
+lacks_report_place path (Ok text) = refl
+lacks_report_place path (Err unread) = refl
 
-lacks_run_line : (paths : OfRun (List ℕ)) (texts : Result (OfRun (List ℕ)) PbxFault) → None ≡ line_of_run paths texts NoMemory
-lacks_run_line paths (Ok texts) = refl
-lacks_run_line paths (Err unread) = refl
+lacks_place_by : (paths : OfRun (List ℕ)) (unread : List ℕ) (texts : Result (OfRun (List ℕ)) PbxFault) → in_none ≡ place_by paths unread texts NoMemory
+lacks_place_by paths unread (Ok texts) = refl
+lacks_place_by paths unread (Err first) = refl
 
--- nor does the fault of a file that was not read
-refused_report_line : (path : List ℕ) (fault : PbxFault) (text : Result (List ℕ) PbxFault) → Refuses (reason_of fault) text → None ≡ line_of_report path text fault
-refused_report_line path = by_reason (λ fault text. None ≡ line_of_report path text fault) (λ code line. refl) (lacks_report_line path)
+lacks_two_place : (path queues_path : List ℕ) (plan queues : Result (List ℕ) PbxFault) → in_none ≡ place_of_two path queues_path plan queues NoMemory
+lacks_two_place path queues_path (Ok plan) (Ok queues) = refl
+lacks_two_place path queues_path (Ok plan) (Err unread) = refl
+lacks_two_place path queues_path (Err unread) queues = refl
 
-refused_run_line : (paths : OfRun (List ℕ)) (fault : PbxFault) (texts : Result (OfRun (List ℕ)) PbxFault) → Refuses (reason_of fault) texts → None ≡ line_of_run paths texts fault
-refused_run_line paths = by_reason (λ fault texts. None ≡ line_of_run paths texts fault) (λ code line. refl) (lacks_run_line paths)
+-- the place of a file that could not be read
+pub unread_stands : (unread : Unread) (fault : PbxFault) → place_of (place_unread unread fault) ≡ unread_place unread.path.now fault
+unread_stands unread (Coded code line) = refl
+unread_stands unread NoMemory = refl
+
+-- is where the fault of a report stands
+refused_report_place : (path : List ℕ) (fault : PbxFault) (text : Result (List ℕ) PbxFault) → Refuses (reason_of fault) text → unread_place path fault ≡ place_of_report path text fault
+refused_report_place path = by_reason (λ fault text. unread_place path fault ≡ place_of_report path text fault) (λ code line. refl) (lacks_report_place path)
+
+-- of a run
+refused_place_by : (paths : OfRun (List ℕ)) (unread : List ℕ) (fault : PbxFault) (texts : Result (OfRun (List ℕ)) PbxFault) → Refuses (reason_of fault) texts → unread_place unread fault ≡ place_by paths unread texts fault
+refused_place_by paths unread = by_reason (λ fault texts. unread_place unread fault ≡ place_by paths unread texts fault) (λ code line. refl) (lacks_place_by paths unread)
+
+-- and of a check of two files, of which the first or the second could not be read
+refused_first_place : (path queues_path : List ℕ) (queues : Result (List ℕ) PbxFault) (fault : PbxFault) (plan : Result (List ℕ) PbxFault)
+    → Refuses (reason_of fault) plan → unread_place path fault ≡ place_of_two path queues_path plan queues fault
+refused_first_place path queues_path queues =
+    by_reason (λ fault plan. unread_place path fault ≡ place_of_two path queues_path plan queues fault) (λ code line. refl) (λ plan. lacks_two_place path queues_path plan queues)
+
+refused_second_place : (path queues_path read : List ℕ) (fault : PbxFault) (queues : Result (List ℕ) PbxFault)
+    → Refuses (reason_of fault) queues → unread_place queues_path fault ≡ place_of_two path queues_path (Ok read) queues fault
+refused_second_place path queues_path read =
+    by_reason (λ fault queues. unread_place queues_path fault ≡ place_of_two path queues_path (Ok read) queues fault) (λ code line. refl) (lacks_two_place path queues_path (Ok read))
 
 -- where the file of a report is refused
-pub report_refused : (path : List ℕ) (file : Source) (report : List ℕ → Result (List ℕ) PbxFault) (old : Option (List ℕ)) (fault : PbxFault)
-    → Reads file (λ text. Refuses (reason_of fault) text) → ReportsOn path file report old old (Err (nowhere fault))
-report_refused path file report old fault reads =
-    Reads-weaker (λ text. Refuses (reason_of fault) text) (λ text. Reports old old (text >>= report) (Err fault) × (None ≡ line_of_report path text fault))
-    (λ text refused. (reports_refused old report fault text refused, refused_report_line path fault text refused)) reads
+pub report_refused : (path : List ℕ) (file : Source) (report : List ℕ → Result (List ℕ) PbxFault) (old : Option (List ℕ)) (unread : Unread) → unread.path.now ≡ path
+    → Reads file (λ text. Refuses (reason_of unread.fault) text) → ReportsOn path file report old old (Err (unread_fault unread))
+report_refused path file report old unread at reads =
+    Reads-weaker (λ text. Refuses (reason_of unread.fault) text) (λ text. Reports old old (text >>= report) (Err unread.fault) × (place_of (place_unread unread unread.fault) ≡ place_of_report path text unread.fault))
+    (λ text refused. (
+      reports_refused old report unread.fault text refused,
+      unread_stands unread unread.fault ∙ (ap (λ path. unread_place path unread.fault) at ∙ refused_report_place path unread.fault text refused),
+    )) reads
 
-pub audit_refused : (path : List ℕ) (file : Source) (old : Option (List ℕ)) (fault : PbxFault)
-    → Reads file (λ text. Refuses (reason_of fault) text) → AuditsFile path file old old (Err (nowhere fault))
-audit_refused path file old fault reads =
-    Reads-weaker (λ text. Refuses (reason_of fault) text) (λ text. WritesAudit old old (text >>= audit_of) (Err fault) × (None ≡ line_of_report path text fault))
-    (λ text refused. (audits_refused old fault text refused, refused_report_line path fault text refused)) reads
+pub audit_refused : (path : List ℕ) (file : Source) (old : Option (List ℕ)) (unread : Unread) → unread.path.now ≡ path
+    → Reads file (λ text. Refuses (reason_of unread.fault) text) → AuditsFile path file old old (Err (unread_fault unread))
+audit_refused path file old unread at reads =
+    Reads-weaker (λ text. Refuses (reason_of unread.fault) text)
+    (λ text. WritesAudit old old (text >>= audit_of) (Err unread.fault) × (place_of (place_unread unread unread.fault) ≡ place_of_report path text unread.fault) × Unit {0})
+    (λ text refused. (
+      audits_refused old unread.fault text refused,
+      unread_stands unread unread.fault ∙ (ap (λ path. unread_place path unread.fault) at ∙ refused_report_place path unread.fault text refused),
+      tt,
+    )) reads
+
+pub look_up_refused : (lookup : LookupOf) (file : Source) (all explains : Bool) (old : Option (List ℕ)) (unread : Unread) → unread.path.now ≡ lookup.file
+    → Reads file (λ text. Refuses (reason_of unread.fault) text) → LooksUp lookup file all explains old old (Err (unread_fault unread))
+look_up_refused lookup file all explains old unread at reads =
+    Reads-weaker (λ text. Refuses (reason_of unread.fault) text)
+    (λ text. Reports old old (text >>= look_up lookup all) (Err unread.fault) × (place_of (place_unread unread unread.fault) ≡ place_of_report lookup.file text unread.fault) × Unit {0})
+    (λ text refused. (
+      reports_refused old (look_up lookup all) unread.fault text refused,
+      unread_stands unread unread.fault ∙ (ap (λ path. unread_place path unread.fault) at ∙ refused_report_place lookup.file unread.fault text refused),
+      tt,
+    )) reads
 
 -- where it is read: what is reported on, and what the fault stands in, is the text that was read
 pub report_read : (path : List ℕ) (file : Source) (report : List ℕ → Result (List ℕ) PbxFault) (old new : Option (List ℕ)) (read given asked : List ℕ)
     → given ≡ read → asked ≡ read → (result : Result ℕ PbxFault) (answered : Result ℕ Faulted) → Reads file (λ text. text ≡ Ok read)
-    → unplaced answered ≡ result → Reports old new (report given) result → StandsIn (line_in_file path asked) answered
+    → unplaced answered ≡ result → Reports old new (report given) result → StandsIn (place_in_file path asked) answered
     → ReportsOn path file report old new answered
 report_read path file report old new read given asked given-is asked-is result answered reads same reports stands =
-    Reads-weaker (λ text. text ≡ Ok read) (λ text. Reports old new (text >>= report) (unplaced answered) × StandsIn (line_of_report path text) answered)
-    (λ text is. subst (λ (text : Result (List ℕ) PbxFault). Reports old new (text >>= report) (unplaced answered) × StandsIn (line_of_report path text) answered) (sym is) (
+    Reads-weaker (λ text. text ≡ Ok read) (λ text. Reports old new (text >>= report) (unplaced answered) × StandsIn (place_of_report path text) answered)
+    (λ text is. subst (λ (text : Result (List ℕ) PbxFault). Reports old new (text >>= report) (unplaced answered) × StandsIn (place_of_report path text) answered) (sym is) (
       subst (λ result. Reports old new (report read) result) (sym same) (subst (λ (text : List ℕ). Reports old new (report text) result) given-is reports),
-      subst (λ (text : List ℕ). StandsIn (line_in_file path text) answered) asked-is stands,
+      subst (λ (text : List ℕ). StandsIn (place_in_file path text) answered) asked-is stands,
     )) reads
+
+-- the same, with what is told beside it
+tells_same : (hint : Result (List ℕ) PbxFault) (given : Result Served PbxFault) (answered : Result Served Faulted) → unplaced answered ≡ given → Tells hint given → Tells hint answered
+tells_same hint given (Ok served) same tells = subst (λ given. Tells hint given) (sym same) tells
+tells_same hint given (Err faulted) same tells = tt
 
 pub audit_read : (path : List ℕ) (file : Source) (old new : Option (List ℕ)) (read given asked : List ℕ)
-    → given ≡ read → asked ≡ read → (result : Result ℕ PbxFault) (answered : Result ℕ Faulted) → Reads file (λ text. text ≡ Ok read)
-    → unplaced answered ≡ result → WritesAudit old new (audit_of given) result → StandsIn (line_in_file path asked) answered
-    → AuditsFile path file old new answered
-audit_read path file old new read given asked given-is asked-is result answered reads same audits stands =
-    Reads-weaker (λ text. text ≡ Ok read) (λ text. WritesAudit old new (text >>= audit_of) (unplaced answered) × StandsIn (line_of_report path text) answered)
-    (λ text is. subst (λ (text : Result (List ℕ) PbxFault). WritesAudit old new (text >>= audit_of) (unplaced answered) × StandsIn (line_of_report path text) answered) (sym is) (
-      subst (λ result. WritesAudit old new (audit_of read) result) (sym same) (subst (λ (text : List ℕ). WritesAudit old new (audit_of text) result) given-is audits),
-      subst (λ (text : List ℕ). StandsIn (line_in_file path text) answered) asked-is stands,
+    → given ≡ read → asked ≡ read → (result : Result Served PbxFault) (answered : Result Served Faulted) → Reads file (λ text. text ≡ Ok read)
+    → unplaced answered ≡ result → WritesAudit old new (audit_of given) (status_in result) → StandsIn (place_in_file path asked) answered
+    → Tells (audit_hint_of path given) result → AuditsFile path file old new answered
+audit_read path file old new read given asked given-is asked-is result answered reads same audits stands tells =
+    Reads-weaker (λ text. text ≡ Ok read)
+    (λ text. WritesAudit old new (text >>= audit_of) (status_in (unplaced answered)) × StandsIn (place_of_report path text) answered × Tells (text >>= audit_hint_of path) answered)
+    (λ text is. subst (λ (text : Result (List ℕ) PbxFault). WritesAudit old new (text >>= audit_of) (status_in (unplaced answered)) × StandsIn (place_of_report path text) answered × Tells (text >>= audit_hint_of path) answered) (sym is) (
+      subst (λ result. WritesAudit old new (audit_of read) (status_in result)) (sym same) (subst (λ (text : List ℕ). WritesAudit old new (audit_of text) (status_in result)) given-is audits),
+      subst (λ (text : List ℕ). StandsIn (place_in_file path text) answered) asked-is stands,
+      tells_same (audit_hint_of path read) result answered same (subst (λ (text : List ℕ). Tells (audit_hint_of path text) result) given-is tells),
     )) reads
 
--- where a file of a run is refused
-pub run_refused : (paths : OfRun (List ℕ)) (sources : OfRun Source) (threads : Option ℕ) (old : Option (List ℕ)) (fault : PbxFault)
-    → ReadsTexts sources (λ texts. Refuses (reason_of fault) texts) → RunsFiles paths sources threads old old (Err (nowhere fault))
-run_refused paths sources threads old fault reads =
-    ReadsTexts-weaker sources (λ texts. Refuses (reason_of fault) texts)
-    (λ texts. Runs threads old old (texts >>= run_of_texts) (Err fault) × (None ≡ line_of_run paths texts fault))
-    (λ texts refused. (runs_refused threads old run_of_texts fault texts refused, refused_run_line paths fault texts refused)) reads
+pub look_up_read : (lookup : LookupOf) (file : Source) (all explains : Bool) (old new : Option (List ℕ)) (read given asked : List ℕ)
+    → given ≡ read → asked ≡ read → (result : Result Served PbxFault) (answered : Result Served Faulted) → Reads file (λ text. text ≡ Ok read)
+    → unplaced answered ≡ result → Reports old new (look_up lookup all given) (status_in result) → StandsIn (place_in_file lookup.file asked) answered
+    → Tells (match_hint_of lookup explains given) result → LooksUp lookup file all explains old new answered
+look_up_read lookup file all explains old new read given asked given-is asked-is result answered reads same reports stands tells =
+    Reads-weaker (λ text. text ≡ Ok read)
+    (λ text. Reports old new (text >>= look_up lookup all) (status_in (unplaced answered)) × StandsIn (place_of_report lookup.file text) answered × Tells (text >>= match_hint_of lookup explains) answered)
+    (λ text is. subst (λ (text : Result (List ℕ) PbxFault). Reports old new (text >>= look_up lookup all) (status_in (unplaced answered)) × StandsIn (place_of_report lookup.file text) answered × Tells (text >>= match_hint_of lookup explains) answered) (sym is) (
+      subst (λ result. Reports old new (look_up lookup all read) (status_in result)) (sym same) (subst (λ (text : List ℕ). Reports old new (look_up lookup all text) (status_in result)) given-is reports),
+      subst (λ (text : List ℕ). StandsIn (place_in_file lookup.file text) answered) asked-is stands,
+      tells_same (match_hint_of lookup explains read) result answered same (subst (λ (text : List ℕ). Tells (match_hint_of lookup explains text) result) given-is tells),
+    )) reads
 
-pub debug_run_refused : (paths : OfRun (List ℕ)) (sources : OfRun Source) (held : List ℕ) (old : Option (List ℕ)) (fault : PbxFault)
-    → ReadsTexts sources (λ texts. Refuses (reason_of fault) texts) → DebugsFiles paths sources held old old (Err (nowhere fault))
-debug_run_refused paths sources held old fault reads =
-    ReadsTexts-weaker sources (λ texts. Refuses (reason_of fault) texts)
-    (λ texts. WritesDebug old old (texts >>= debug_of_texts held) (Err fault) × (None ≡ line_of_run paths texts fault))
-    (λ texts refused. (debug_refused old (debug_of_texts held) fault texts refused, refused_run_line paths fault texts refused)) reads
+-- what a check of two files writes and answers, by what reading them came to
+abbrev Checked : List ℕ → List ℕ → Bool → Option (List ℕ) → Option (List ℕ) → Result ℕ Faulted → Result (List ℕ) PbxFault → Result (List ℕ) PbxFault → Type 0
+Checked path queues_path explains old new answered plan queues =
+    Reports old new (plan >>= λ plan. queues >>= λ queues. both_report explains path plan queues) (unplaced answered)
+    × StandsIn (place_of_two path queues_path plan queues) answered
+
+-- where the dialplan of a check of both is refused
+pub both_refused_plan : (files : List ℕ → Source) (path queues_path : List ℕ) (explains : Bool) (old : Option (List ℕ)) (unread : Unread) → unread.path.now ≡ path
+    → Reads (files path) (λ text. Refuses (reason_of unread.fault) text) → ChecksBoth files path queues_path explains old old (Err (unread_fault unread))
+both_refused_plan files path queues_path explains old unread at reads =
+    Reads-weaker (λ text. Refuses (reason_of unread.fault) text) (λ plan. Reads (files queues_path) (Checked path queues_path explains old old (Err (unread_fault unread)) plan))
+    (λ plan refused. Reads-any (files queues_path) _ (λ queues. (
+      reports_refused old (λ plan. queues >>= λ queues. both_report explains path plan queues) unread.fault plan refused,
+      unread_stands unread unread.fault ∙ (ap (λ path. unread_place path unread.fault) at ∙ refused_first_place path queues_path queues unread.fault plan refused),
+    ))) reads
+
+-- where its queues are, after the dialplan
+pub both_refused_queues : (files : List ℕ → Source) (path queues_path : List ℕ) (explains : Bool) (old : Option (List ℕ)) (read : List ℕ) (unread : Unread) → unread.path.now ≡ queues_path
+    → Reads (files path) (λ text. text ≡ Ok read) → Reads (files queues_path) (λ text. Refuses (reason_of unread.fault) text)
+    → ChecksBoth files path queues_path explains old old (Err (unread_fault unread))
+both_refused_queues files path queues_path explains old read unread at is reads =
+    Reads-weaker (λ text. text ≡ Ok read) (λ plan. Reads (files queues_path) (Checked path queues_path explains old old (Err (unread_fault unread)) plan))
+    (λ plan plan_is. Reads-weaker (λ text. Refuses (reason_of unread.fault) text) (Checked path queues_path explains old old (Err (unread_fault unread)) plan)
+    (λ queues refused. subst (λ plan. Checked path queues_path explains old old (Err (unread_fault unread)) plan queues) (sym plan_is) (
+      reports_refused old (both_report explains path read) unread.fault queues refused,
+      unread_stands unread unread.fault ∙ (ap (λ path. unread_place path unread.fault) at ∙ refused_second_place path queues_path read unread.fault queues refused),
+    )) reads) is
+
+-- where both files are read
+pub both_read : (files : List ℕ → Source) (path queues_path : List ℕ) (explains : Bool) (old new : Option (List ℕ)) (read held : List ℕ)
+    (result : Result ℕ PbxFault) (answered : Result ℕ Faulted) → Reads (files path) (λ text. text ≡ Ok read) → Reads (files queues_path) (λ text. text ≡ Ok held)
+    → unplaced answered ≡ result → Reports old new (both_report explains path read held) result → StandsIn (place_in_two (path, read) (queues_path, held)) answered
+    → ChecksBoth files path queues_path explains old new answered
+both_read files path queues_path explains old new read held result answered is are same reports stands =
+    Reads-weaker (λ text. text ≡ Ok read) (λ plan. Reads (files queues_path) (Checked path queues_path explains old new answered plan))
+    (λ plan plan_is. Reads-weaker (λ text. text ≡ Ok held) (Checked path queues_path explains old new answered plan)
+    (λ queues queues_is. subst (λ plan. Checked path queues_path explains old new answered plan queues) (sym plan_is)
+    (subst (λ queues. Checked path queues_path explains old new answered (Ok read) queues) (sym queues_is)
+    (subst (λ result. Reports old new (both_report explains path read held) result) (sym same) reports, stands))) are) is
+
+-- where a file of a run is refused
+pub run_refused : (paths : OfRun (List ℕ)) (sources : OfRun Source) (threads : Option ℕ) (old : Option (List ℕ)) (unread : Unread)
+    → ReadsTexts sources (IsUnread paths unread.path.now unread.fault) → RunsFiles paths sources threads old old (Err (unread_fault unread))
+run_refused paths sources threads old unread reads =
+    ReadsTexts-weaker sources (IsUnread paths unread.path.now unread.fault)
+    (λ read. Runs threads old old (all_texts read >>= run_of_texts) (Err unread.fault) × (place_of (place_unread unread unread.fault) ≡ place_of_run paths read unread.fault))
+    (λ read is. (
+      runs_refused threads old run_of_texts unread.fault (all_texts read) is.0,
+      unread_stands unread unread.fault ∙ (is.1 ∙ refused_place_by paths (unread_path paths read) unread.fault (all_texts read) is.0),
+    )) reads
+
+pub debug_run_refused : (paths : OfRun (List ℕ)) (sources : OfRun Source) (held : List ℕ) (old : Option (List ℕ)) (unread : Unread)
+    → ReadsTexts sources (IsUnread paths unread.path.now unread.fault) → DebugsFiles paths sources held old old (Err (unread_fault unread))
+debug_run_refused paths sources held old unread reads =
+    ReadsTexts-weaker sources (IsUnread paths unread.path.now unread.fault)
+    (λ read. WritesDebug old old (all_texts read >>= debug_of_texts held) (Err unread.fault) × (place_of (place_unread unread unread.fault) ≡ place_of_run paths read unread.fault))
+    (λ read is. (
+      debug_refused old (debug_of_texts held) unread.fault (all_texts read) is.0,
+      unread_stands unread unread.fault ∙ (is.1 ∙ refused_place_by paths (unread_path paths read) unread.fault (all_texts read) is.0),
+    )) reads
 
 -- where all files of a run are read
-pub run_read : (paths : OfRun (List ℕ)) (sources : OfRun Source) (threads : Option ℕ) (old new : Option (List ℕ)) (read : OfRun (List ℕ))
-    (result : Result ℕ PbxFault) (answered : Result ℕ Faulted) → ReadsTexts sources (λ texts. texts ≡ Ok read) → unplaced answered ≡ result
-    → Runs threads old new (run_of_texts read) result → StandsIn (line_in_files paths read) answered → RunsFiles paths sources threads old new answered
-run_read paths sources threads old new read result answered reads same runs stands =
-    ReadsTexts-weaker sources (λ texts. texts ≡ Ok read)
-    (λ texts. Runs threads old new (texts >>= run_of_texts) (unplaced answered) × StandsIn (line_of_run paths texts) answered)
-    (λ texts is. subst (λ (texts : Result (OfRun (List ℕ)) PbxFault). Runs threads old new (texts >>= run_of_texts) (unplaced answered) × StandsIn (line_of_run paths texts) answered) (sym is)
-    (subst (λ result. Runs threads old new (run_of_texts read) result) (sym same) runs, stands)) reads
+pub run_read : (paths : OfRun (List ℕ)) (sources : OfRun Source) (threads : Option ℕ) (old new : Option (List ℕ)) (texts : OfRun (List ℕ))
+    (result : Result ℕ PbxFault) (answered : Result ℕ Faulted) → ReadsTexts sources (λ read. (all_texts read ≡ Ok texts) × Unit {0}) → unplaced answered ≡ result
+    → Runs threads old new (run_of_texts texts) result → StandsIn (place_in_files paths texts) answered → RunsFiles paths sources threads old new answered
+run_read paths sources threads old new texts result answered reads same runs stands =
+    ReadsTexts-weaker sources (λ read. (all_texts read ≡ Ok texts) × Unit {0})
+    (λ read. Runs threads old new (all_texts read >>= run_of_texts) (unplaced answered) × StandsIn (place_of_run paths read) answered)
+    (λ read is. subst (λ (joined : Result (OfRun (List ℕ)) PbxFault). Runs threads old new (joined >>= run_of_texts) (unplaced answered) × StandsIn (place_by paths (unread_path paths read) joined) answered) (sym is.0)
+    (subst (λ result. Runs threads old new (run_of_texts texts) result) (sym same) runs, stands)) reads
 
-pub debug_run_read : (paths : OfRun (List ℕ)) (sources : OfRun Source) (held : List ℕ) (old new : Option (List ℕ)) (read : OfRun (List ℕ))
-    (result : Result ℕ PbxFault) (answered : Result ℕ Faulted) → ReadsTexts sources (λ texts. texts ≡ Ok read) → unplaced answered ≡ result
-    → WritesDebug old new (debug_of_texts held read) result → StandsIn (line_in_files paths read) answered → DebugsFiles paths sources held old new answered
-debug_run_read paths sources held old new read result answered reads same debugs stands =
-    ReadsTexts-weaker sources (λ texts. texts ≡ Ok read)
-    (λ texts. WritesDebug old new (texts >>= debug_of_texts held) (unplaced answered) × StandsIn (line_of_run paths texts) answered)
-    (λ texts is. subst (λ (texts : Result (OfRun (List ℕ)) PbxFault). WritesDebug old new (texts >>= debug_of_texts held) (unplaced answered) × StandsIn (line_of_run paths texts) answered) (sym is)
-    (subst (λ result. WritesDebug old new (debug_of_texts held read) result) (sym same) debugs, stands)) reads
+pub debug_run_read : (paths : OfRun (List ℕ)) (sources : OfRun Source) (held : List ℕ) (old new : Option (List ℕ)) (texts : OfRun (List ℕ))
+    (result : Result ℕ PbxFault) (answered : Result ℕ Faulted) → ReadsTexts sources (λ read. (all_texts read ≡ Ok texts) × Unit {0}) → unplaced answered ≡ result
+    → WritesDebug old new (debug_of_texts held texts) result → StandsIn (place_in_files paths texts) answered → DebugsFiles paths sources held old new answered
+debug_run_read paths sources held old new texts result answered reads same debugs stands =
+    ReadsTexts-weaker sources (λ read. (all_texts read ≡ Ok texts) × Unit {0})
+    (λ read. WritesDebug old new (all_texts read >>= debug_of_texts held) (unplaced answered) × StandsIn (place_of_run paths read) answered)
+    (λ read is. subst (λ (joined : Result (OfRun (List ℕ)) PbxFault). WritesDebug old new (joined >>= debug_of_texts held) (unplaced answered) × StandsIn (place_by paths (unread_path paths read) joined) answered) (sym is.0)
+    (subst (λ result. WritesDebug old new (debug_of_texts held texts) result) (sym same) debugs, stands)) reads
 
 -- a request may find no memory before it does anything
 pub Serves-lacks : (files : List ℕ → Source) (input : Source) (want : RequestOf) (explains : Bool) (old : Option (List ℕ)) → Serves files input want explains old old (Err (nowhere NoMemory))
-Serves-lacks files input joined explains old = (Reads-any input _ (λ text. writes_lacks old _), refl)
-Serves-lacks files input (check file) explains old = Reads-any (files file) _ (λ text. (reports_lacks old _, lacks_report_line file text))
-Serves-lacks files input (listing file) explains old = Reads-any (files file) _ (λ text. (reports_lacks old _, lacks_report_line file text))
-Serves-lacks files input (auditing file) explains old = Reads-any (files file) _ (λ text. (audits_lacks old _, lacks_report_line file text))
-Serves-lacks files input (matching lookup all) explains old = Reads-any (files lookup.file) _ (λ text. (reports_lacks old _, lacks_report_line lookup.file text))
-Serves-lacks files input (explaining fault) explains old = (Appends-nil old, refl)
-Serves-lacks files input (run paths threads) explains old =
-    ReadsTexts-any (sources_of files paths) (λ texts. Runs threads old old (texts >>= run_of_texts) (Err NoMemory) × (None ≡ line_of_run paths texts NoMemory))
-    (λ texts. (runs_lacks threads old (texts >>= run_of_texts), lacks_run_line paths texts))
-Serves-lacks files input (debug paths held) explains old =
-    ReadsTexts-any (sources_of files paths) (λ texts. WritesDebug old old (texts >>= debug_of_texts held) (Err NoMemory) × (None ≡ line_of_run paths texts NoMemory))
-    (λ texts. (debug_lacks old (texts >>= debug_of_texts held), lacks_run_line paths texts))
+Serves-lacks files input joined explains old = ((Reads-any input _ (λ text. writes_lacks old _), refl), tt)
+Serves-lacks files input (check file) explains old = (Reads-any (files file) _ (λ text. (reports_lacks old _, lacks_report_place file text)), tt)
+Serves-lacks files input (check_queues queues) explains old = (Reads-any (files queues) _ (λ text. (reports_lacks old _, lacks_report_place queues text)), tt)
+Serves-lacks files input (check_both file queues) explains old =
+    (Reads-any (files file) _ (λ plan. Reads-any (files queues) _ (λ held. (reports_lacks old _, lacks_two_place file queues plan held))), tt)
+Serves-lacks files input (listing file) explains old = (Reads-any (files file) _ (λ text. (reports_lacks old _, lacks_report_place file text)), tt)
+Serves-lacks files input (auditing file) explains old = Reads-any (files file) _ (λ text. (audits_lacks old _, lacks_report_place file text, tt))
+Serves-lacks files input (matching lookup all) explains old = Reads-any (files lookup.file) _ (λ text. (reports_lacks old _, lacks_report_place lookup.file text, tt))
+Serves-lacks files input (explaining fault) explains old = ((Appends-nil old, refl), tt)
+Serves-lacks files input (run paths threads) explains old = (
+  ReadsTexts-any (sources_of files paths) (λ read. Runs threads old old (all_texts read >>= run_of_texts) (Err NoMemory) × (in_none ≡ place_of_run paths read NoMemory))
+      (λ read. (runs_lacks threads old (all_texts read >>= run_of_texts), lacks_place_by paths (unread_path paths read) (all_texts read))),
+  tt,
+)
+Serves-lacks files input (debug paths held) explains old = (
+  ReadsTexts-any (sources_of files paths) (λ read. WritesDebug old old (all_texts read >>= debug_of_texts held) (Err NoMemory) × (in_none ≡ place_of_run paths read NoMemory))
+      (λ read. (debug_lacks old (all_texts read >>= debug_of_texts held), lacks_place_by paths (unread_path paths read) (all_texts read))),
+  tt,
+)

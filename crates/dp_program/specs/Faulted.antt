@@ -1,36 +1,69 @@
--- The line of a file where a fault stands.
-use Rattle.std.specs.Prelude.{◌≡◌, ℕ, List, Option, Some, None, Result, Ok, Err, IfErr}
-use Rattle.std.specs.Option.{option_map}
+-- Where a fault stands: in a line of a file, or in a file that could not be read.
+use Rattle.std.specs.Prelude.{◌≡◌, ℕ, List, [], Option, Some, None, Result, Ok, Err, IfErr, unwrap_or}
 use Rattle.dp_commands.specs.Explained.{LineOfFile, line_at}
+use Rattle.dp_commands.specs.Faults.{reason_of}
 use Rattle.dp_commands.specs.declared.fault.Code.{Code}
 use Rattle.dp_commands.specs.declared.fault.Code.TheVariants.{Line, Name, Plan, QueueLine, Queue, ReadFailed, TooLong, WriteFailed, Settle, BadScript, BadBreak}
 use Rattle.dp_commands.specs.declared.fault.PbxFault.{PbxFault}
 use Rattle.dp_commands.specs.declared.fault.PbxFault.TheVariants.{Coded, NoMemory}
-use Rattle.dp_program.specs.Texts.{OfRun}
+use Rattle.dp_program.specs.Texts.{OfRun, all_texts, some_text}
 use Rattle.dp_program.specs.declared.faulted.Faulted.{Faulted}
+use Rattle.dp_program.specs.declared.faulted.Place.{Place}
+use Rattle.dp_program.specs.declared.faulted.Place.TheVariants.{InLine, InFile, Nowhere}
+use Rattle.dp_program.specs.declared.faulted.Unread.{Unread}
 
--- a fault that stands in no line of a file
+-- where a fault stands: in a line of a file that was read, in a file that could not be read, or in none
+pub data PlaceOf : Type 0 where
+  in_line : LineOfFile → PlaceOf
+  in_file : List ℕ → PlaceOf
+  in_none : PlaceOf
+
+abbrev pub place_of : Place → PlaceOf
+place_of (InLine line) = in_line line
+place_of (InFile path) = in_file path.now
+place_of Nowhere = in_none
+
+-- a fault that stands in no file
 abbrev pub nowhere : PbxFault → Faulted
-nowhere fault = record { fault = fault; line = None }
+nowhere fault = record { fault = fault; place = Nowhere }
 
--- what was answered, without the line of its fault
+-- why a file could not be read, where memory is not the reason
+abbrev pub unread_reason : Unread → Option PbxFault
+unread_reason unread = reason_of unread.fault
+
+-- where the fault of a file stands that could not be read: in the file; want of memory stands in none
+abbrev pub place_unread : Unread → PbxFault → Place
+place_unread unread (Coded code line) = InFile unread.path
+place_unread unread NoMemory = Nowhere
+
+-- the fault of a file that could not be read
+abbrev pub unread_fault : Unread → Faulted
+unread_fault unread = record { fault = unread.fault; place = place_unread unread unread.fault }
+
+-- what was answered, without the place of its fault
 abbrev pub unplaced : {X : Type 0} → Result X Faulted → Result X PbxFault
 unplaced (Ok x) = Ok x
 unplaced (Err faulted) = Err faulted.fault
 
--- the fault that was answered, if one was, stands in this line
-abbrev pub StandsIn : {X : Type 0} → (PbxFault → Option LineOfFile) → Result X Faulted → Type 0
-StandsIn line_of answered = IfErr answered (λ faulted. faulted.line ≡ line_of faulted.fault)
+-- the fault that was answered, if one was, stands in this place
+abbrev pub StandsIn : {X : Type 0} → (PbxFault → PlaceOf) → Result X Faulted → Type 0
+StandsIn place_by answered = IfErr answered (λ faulted. place_of faulted.place ≡ place_by faulted.fault)
 
--- the line where a fault of the text of a file stands
-abbrev pub line_in_file : List ℕ → List ℕ → PbxFault → Option LineOfFile
-line_in_file path text (Coded code line) = option_map (λ number. line_at path text number) line
-line_in_file path text NoMemory = None
+-- where a fault of the text of a file stands
+abbrev pub place_in_file : List ℕ → List ℕ → PbxFault → PlaceOf
+place_in_file path text (Coded code (Some number)) = in_line (line_at path text number)
+place_in_file path text (Coded code None) = in_none
+place_in_file path text NoMemory = in_none
 
--- the same by what reading the file came to: a file that was not read has no line
-abbrev pub line_of_report : List ℕ → Result (List ℕ) PbxFault → PbxFault → Option LineOfFile
-line_of_report path (Ok text) fault = line_in_file path text fault
-line_of_report path (Err unread) fault = None
+-- where the fault of a file of a path stands that could not be read
+abbrev pub unread_place : List ℕ → PbxFault → PlaceOf
+unread_place path (Coded code line) = in_file path
+unread_place path NoMemory = in_none
+
+-- where a fault stands, by what reading the file came to
+abbrev pub place_of_report : List ℕ → Result (List ℕ) PbxFault → PbxFault → PlaceOf
+place_of_report path (Ok text) fault = place_in_file path text fault
+place_of_report path (Err unread) fault = unread_place path fault
 
 -- a file of a run that may not be named, by its path and its text
 abbrev pub named_file : Option (List ℕ) → Option (List ℕ) → Option (List ℕ × List ℕ)
@@ -52,17 +85,57 @@ file_of paths texts (Settle fault) = None
 file_of paths texts BadScript = Some (paths.script, texts.script)
 file_of paths texts BadBreak = None
 
--- the line where a fault of a file stands, if it is of one
-abbrev pub line_in : Option (List ℕ × List ℕ) → PbxFault → Option LineOfFile
-line_in None fault = None
-line_in (Some file) fault = line_in_file file.0 file.1 fault
+-- where a fault of a file stands, if it is of one
+abbrev pub place_in : Option (List ℕ × List ℕ) → PbxFault → PlaceOf
+place_in None fault = in_none
+place_in (Some file) fault = place_in_file file.0 file.1 fault
 
--- the line where a fault of the texts of a run stands
-abbrev pub line_in_files : OfRun (List ℕ) → OfRun (List ℕ) → PbxFault → Option LineOfFile
-line_in_files paths texts (Coded code line) = line_in (file_of paths texts code) (Coded code line)
-line_in_files paths texts NoMemory = None
+-- where a fault of the texts of a run stands
+abbrev pub place_in_files : OfRun (List ℕ) → OfRun (List ℕ) → PbxFault → PlaceOf
+place_in_files paths texts (Coded code line) = place_in (file_of paths texts code) (Coded code line)
+place_in_files paths texts NoMemory = in_none
 
--- the same by what reading the files came to
-abbrev pub line_of_run : OfRun (List ℕ) → Result (OfRun (List ℕ)) PbxFault → PbxFault → Option LineOfFile
-line_of_run paths (Ok texts) fault = line_in_files paths texts fault
-line_of_run paths (Err unread) fault = None
+-- a path where its file was not read, and else the one that comes later
+abbrev pub unread_or : {X : Type 0} → Result X PbxFault → List ℕ → List ℕ → List ℕ
+unread_or (Ok x) path later = later
+unread_or (Err unread) path later = path
+
+-- the path of the first file that was not read: the dialplan's, the queues', the second dialplan's, the script's
+abbrev pub unread_path : OfRun (List ℕ) → OfRun (Result (List ℕ) PbxFault) → List ℕ
+unread_path paths read =
+    unread_or read.plan paths.plan (unread_or (some_text read.queues) (unwrap_or paths.queues [])
+    (unread_or (some_text read.second_plan) (unwrap_or paths.second_plan []) paths.script))
+
+-- where a fault stands, by the texts of a run or else by the path of the first file that was not read
+abbrev pub place_by : OfRun (List ℕ) → List ℕ → Result (OfRun (List ℕ)) PbxFault → PbxFault → PlaceOf
+place_by paths unread (Ok texts) fault = place_in_files paths texts fault
+place_by paths unread (Err first) fault = unread_place unread fault
+
+-- the same by what reading each file came to
+abbrev pub place_of_run : OfRun (List ℕ) → OfRun (Result (List ℕ) PbxFault) → PbxFault → PlaceOf
+place_of_run paths read fault = place_by paths (unread_path paths read) (all_texts read) fault
+
+-- the file of two, a dialplan's and one of queues, of which a code is, each by its path and its text
+abbrev pub file_of_two : List ℕ × List ℕ → List ℕ × List ℕ → Code → Option (List ℕ × List ℕ)
+file_of_two plan queues (Line kind) = Some plan
+file_of_two plan queues (Name fault) = Some plan
+file_of_two plan queues (Plan kind) = Some plan
+file_of_two plan queues (QueueLine kind) = Some queues
+file_of_two plan queues (Queue kind) = Some queues
+file_of_two plan queues ReadFailed = None
+file_of_two plan queues TooLong = None
+file_of_two plan queues WriteFailed = None
+file_of_two plan queues (Settle fault) = None
+file_of_two plan queues BadScript = None
+file_of_two plan queues BadBreak = None
+
+-- where a fault of the texts of a dialplan and of queues stands
+abbrev pub place_in_two : List ℕ × List ℕ → List ℕ × List ℕ → PbxFault → PlaceOf
+place_in_two plan queues (Coded code line) = place_in (file_of_two plan queues code) (Coded code line)
+place_in_two plan queues NoMemory = in_none
+
+-- the same by the paths of both files, and by what reading them came to
+abbrev pub place_of_two : List ℕ → List ℕ → Result (List ℕ) PbxFault → Result (List ℕ) PbxFault → PbxFault → PlaceOf
+place_of_two path queues_path (Ok plan) (Ok queues) fault = place_in_two (path, plan) (queues_path, queues) fault
+place_of_two path queues_path (Ok plan) (Err unread) fault = unread_place queues_path fault
+place_of_two path queues_path (Err unread) queues fault = unread_place path fault

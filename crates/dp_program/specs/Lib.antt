@@ -1,6 +1,9 @@
+pub mod Checks
 pub mod Entries
 pub mod Faulted
 pub mod Files
+pub mod Hints
+pub mod Nearest
 pub mod Requests
 pub mod Serves
 pub mod Status

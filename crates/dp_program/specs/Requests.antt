@@ -3,7 +3,7 @@ use Rattle.std.specs.Prelude.{ℕ, Bool, List, Option}
 use Rattle.dp_program.specs.Texts.{OfRun, paths_of}
 use Rattle.dp_program.specs.declared.request.Lookup.{Lookup}
 use Rattle.dp_program.specs.declared.request.Request.{Request}
-use Rattle.dp_program.specs.declared.request.Request.TheVariants.{Joined, Check, Listing, Audit, Match, Explain, Run, Debug}
+use Rattle.dp_program.specs.declared.request.Request.TheVariants.{Joined, Check, CheckQueues, CheckBoth, Listing, Audit, Match, Explain, Run, Debug}
 
 -- what is looked up in the dialplan of a file, with its texts
 pub record LookupOf : Type 0 where
@@ -19,6 +19,8 @@ lookup_of lookup = record { file = lookup.file.now; context = lookup.context.now
 pub data RequestOf : Type 0 where
   joined : RequestOf
   check : List ℕ → RequestOf
+  check_queues : List ℕ → RequestOf
+  check_both : List ℕ → List ℕ → RequestOf
   listing : List ℕ → RequestOf
   auditing : List ℕ → RequestOf
   matching : LookupOf → Bool → RequestOf
@@ -30,6 +32,8 @@ pub data RequestOf : Type 0 where
 abbrev pub asked : Request → RequestOf
 asked Joined = joined
 asked (Check file) = check file.now
+asked (CheckQueues queues) = check_queues queues.now
+asked (CheckBoth files) = check_both files.plan.now files.queues.now
 asked (Listing file) = listing file.now
 asked (Audit file) = auditing file.now
 asked (Match lookup all) = matching (lookup_of lookup) all

@@ -1,43 +1,50 @@
 -- What a request writes and answers, by what is known of the files and of the input that it reads.
-use Rattle.std.specs.Prelude.{ℕ, Bool, true, false, List, max, Option, Some, None, Result, Ok, Err, if◌then◌else◌}
+use Rattle.std.specs.Prelude.{ℕ, Bool, true, false, List, max, Option, Some, None, Result, Ok, Err}
 use Rattle.dp_board.specs.Log.{Log}
 use Rattle.dp_conf.specs.Answers.{◌>>=◌}
 use Rattle.dp_commands.specs.Audit.{WritesAudit, audit_of}
 use Rattle.dp_commands.specs.Candidates.{match_all_of}
 use Rattle.dp_commands.specs.Debug.{DebugRun, WritesDebug, debug_of}
 use Rattle.dp_commands.specs.Joined.{joined_run}
-use Rattle.dp_commands.specs.Report.{Reports, check_explained_of, check_of, list_of, match_of}
+use Rattle.dp_commands.specs.Report.{Reports, list_of, match_of}
 use Rattle.dp_commands.specs.Run.{Run, Writes, run_of}
 use Rattle.dp_commands.specs.Threads.{Shares}
 use Rattle.dp_commands.specs.declared.fault.PbxFault.{PbxFault}
+use Rattle.dp_program.specs.Checks.{both_report, check_by, queues_report}
 use Rattle.dp_program.specs.Entries.{entry_of}
-use Rattle.dp_program.specs.Faulted.{StandsIn, line_of_report, line_of_run, unplaced}
+use Rattle.dp_program.specs.Faulted.{StandsIn, in_none, place_of_report, place_of_run, place_of_two, unplaced}
 use Rattle.dp_program.specs.Files.{Source, Reads, has_read_failed}
-use Rattle.dp_program.specs.Requests.{RequestOf, LookupOf, joined, check, listing, auditing, matching, explaining, run, debug}
-use Rattle.dp_program.specs.Texts.{OfRun, ReadsTexts, sources_of}
+use Rattle.dp_program.specs.Hints.{Tells, TellsNothing, audit_hint_of, match_hint_of, status_in}
+use Rattle.dp_program.specs.Requests.{RequestOf, LookupOf, joined, check, check_queues, check_both, listing, auditing, matching, explaining, run, debug}
+use Rattle.dp_program.specs.Texts.{OfRun, ReadsTexts, all_texts, sources_of}
 use Rattle.dp_program.specs.declared.faulted.Faulted.{Faulted}
+use Rattle.dp_program.specs.declared.hints.Served.{Served}
 
 -- what a report on the text of the file of a path writes and answers, and where its fault stands
 abbrev pub ReportsOn : List ℕ → Source → (List ℕ → Result (List ℕ) PbxFault) → Option (List ℕ) → Option (List ℕ) → Result ℕ Faulted → Type 0
 ReportsOn path file report old new answered =
-    Reads file (λ text. Reports old new (text >>= report) (unplaced answered) × StandsIn (line_of_report path text) answered)
+    Reads file (λ text. Reports old new (text >>= report) (unplaced answered) × StandsIn (place_of_report path text) answered)
 
--- the same of an audit of the dialplan of a file
-abbrev pub AuditsFile : List ℕ → Source → Option (List ℕ) → Option (List ℕ) → Result ℕ Faulted → Type 0
+-- the same of an audit of the dialplan of a file, and what is told beside it
+abbrev pub AuditsFile : List ℕ → Source → Option (List ℕ) → Option (List ℕ) → Result Served Faulted → Type 0
 AuditsFile path file old new answered =
-    Reads file (λ text. WritesAudit old new (text >>= audit_of) (unplaced answered) × StandsIn (line_of_report path text) answered)
+    Reads file (λ text. WritesAudit old new (text >>= audit_of) (status_in (unplaced answered)) × StandsIn (place_of_report path text) answered
+    × Tells (text >>= audit_hint_of path) answered)
 
 -- what a run of a joined text writes and answers, but for where its fault stands
 abbrev pub RunsInput : Source → Option (List ℕ) → Option (List ℕ) → Result ℕ PbxFault → Type 0
 RunsInput input old new result = Reads input (λ text. Writes old new (text >>= joined_run) result)
 
--- the same; its fault stands in no line of a file
+-- the same; its fault stands in no file
 abbrev pub RunsJoined : Source → Option (List ℕ) → Option (List ℕ) → Result ℕ Faulted → Type 0
-RunsJoined input old new answered = RunsInput input old new (unplaced answered) × StandsIn (λ _. None) answered
+RunsJoined input old new answered = RunsInput input old new (unplaced answered) × StandsIn (λ _. in_none) answered
 
--- what is reported of a dialplan by the path of its file and its text, where its notes are explained or not
-abbrev pub check_by : Bool → List ℕ → List ℕ → Result (List ℕ) PbxFault
-check_by explains path plan = if explains then check_explained_of path plan else check_of plan
+-- what a check of the dialplan of a path and of the queues of another writes and answers, and where its fault stands
+abbrev pub ChecksBoth : (List ℕ → Source) → List ℕ → List ℕ → Bool → Option (List ℕ) → Option (List ℕ) → Result ℕ Faulted → Type 0
+ChecksBoth files path queues_path explains old new answered =
+    Reads (files path) (λ plan. Reads (files queues_path) (λ queues.
+    Reports old new (plan >>= λ plan. queues >>= λ queues. both_report explains path plan queues) (unplaced answered)
+    × StandsIn (place_of_two path queues_path plan queues) answered))
 
 -- the status of a run in threads that has some history
 pub record EndsWith (count : ℕ) (old new : Option (List ℕ)) (ran : Result Run PbxFault) (status : ℕ) : Type 0 where
@@ -59,6 +66,12 @@ abbrev pub look_up : LookupOf → Bool → List ℕ → Result (List ℕ) PbxFau
 look_up lookup false plan = match_of plan lookup.context lookup.text lookup.priority
 look_up lookup true plan = match_all_of plan lookup.context lookup.text lookup.priority
 
+-- what a look-up in the dialplan of its file writes and answers, where its fault stands, and what is told beside it
+abbrev pub LooksUp : LookupOf → Source → Bool → Bool → Option (List ℕ) → Option (List ℕ) → Result Served Faulted → Type 0
+LooksUp lookup file all explains old new answered =
+    Reads file (λ text. Reports old new (text >>= look_up lookup all) (status_in (unplaced answered)) × StandsIn (place_of_report lookup.file text) answered
+    × Tells (text >>= match_hint_of lookup explains) answered)
+
 -- the run of the texts of its files
 abbrev pub run_of_texts : OfRun (List ℕ) → Result Run PbxFault
 run_of_texts texts = run_of texts.plan texts.queues texts.second_plan texts.script
@@ -70,29 +83,40 @@ debug_of_texts held texts = debug_of texts.plan texts.queues texts.second_plan t
 -- what a run over the files of paths writes and answers, and where its fault stands
 abbrev pub RunsFiles : OfRun (List ℕ) → OfRun Source → Option ℕ → Option (List ℕ) → Option (List ℕ) → Result ℕ Faulted → Type 0
 RunsFiles paths sources threads old new answered =
-    ReadsTexts sources (λ texts. Runs threads old new (texts >>= run_of_texts) (unplaced answered) × StandsIn (line_of_run paths texts) answered)
+    ReadsTexts sources (λ read. Runs threads old new (all_texts read >>= run_of_texts) (unplaced answered) × StandsIn (place_of_run paths read) answered)
 
 -- the same of a debugged run
 abbrev pub DebugsFiles : OfRun (List ℕ) → OfRun Source → List ℕ → Option (List ℕ) → Option (List ℕ) → Result ℕ Faulted → Type 0
 DebugsFiles paths sources held old new answered =
-    ReadsTexts sources (λ texts. WritesDebug old new (texts >>= debug_of_texts held) (unplaced answered) × StandsIn (line_of_run paths texts) answered)
+    ReadsTexts sources (λ read. WritesDebug old new (all_texts read >>= debug_of_texts held) (unplaced answered) × StandsIn (place_of_run paths read) answered)
+
+-- what the entry of a fault writes and answers
+abbrev pub WritesEntry : ℕ → Option (List ℕ) → Option (List ℕ) → Result ℕ Faulted → Type 0
+WritesEntry fault old new answered = Reports old new (Ok (entry_of fault)) (unplaced answered) × StandsIn (λ _. in_none) answered
+
+-- what a request writes and answers beside which nothing is told
+abbrev pub Quietly : (Result ℕ Faulted → Type 0) → Result Served Faulted → Type 0
+Quietly serves answered = serves (status_in answered) × TellsNothing answered
 
 -- what a request writes and answers, by the files of its paths and the input, and by whether it explains what it prints
-abbrev pub Serves : (List ℕ → Source) → Source → RequestOf → Bool → Option (List ℕ) → Option (List ℕ) → Result ℕ Faulted → Type 0
-Serves files input joined explains old new answered = RunsJoined input old new answered
-Serves files input (check file) explains old new answered = ReportsOn file (files file) (check_by explains file) old new answered
-Serves files input (listing file) explains old new answered = ReportsOn file (files file) list_of old new answered
+abbrev pub Serves : (List ℕ → Source) → Source → RequestOf → Bool → Option (List ℕ) → Option (List ℕ) → Result Served Faulted → Type 0
+Serves files input joined explains old new answered = Quietly (RunsJoined input old new) answered
+Serves files input (check file) explains old new answered = Quietly (ReportsOn file (files file) (check_by explains file) old new) answered
+Serves files input (check_queues queues) explains old new answered = Quietly (ReportsOn queues (files queues) queues_report old new) answered
+Serves files input (check_both file queues) explains old new answered = Quietly (ChecksBoth files file queues explains old new) answered
+Serves files input (listing file) explains old new answered = Quietly (ReportsOn file (files file) list_of old new) answered
 Serves files input (auditing file) explains old new answered = AuditsFile file (files file) old new answered
-Serves files input (matching lookup all) explains old new answered = ReportsOn lookup.file (files lookup.file) (look_up lookup all) old new answered
-Serves files input (explaining fault) explains old new answered =
-    Reports old new (Ok (entry_of fault)) (unplaced answered) × StandsIn (λ _. None) answered
-Serves files input (run paths threads) explains old new answered = RunsFiles paths (sources_of files paths) threads old new answered
-Serves files input (debug paths held) explains old new answered = DebugsFiles paths (sources_of files paths) held old new answered
+Serves files input (matching lookup all) explains old new answered = LooksUp lookup (files lookup.file) all explains old new answered
+Serves files input (explaining fault) explains old new answered = Quietly (WritesEntry fault old new) answered
+Serves files input (run paths threads) explains old new answered = Quietly (RunsFiles paths (sources_of files paths) threads old new) answered
+Serves files input (debug paths held) explains old new answered = Quietly (DebugsFiles paths (sources_of files paths) held old new) answered
 
 -- whether a read of the input failed, by what was answered: only a request without a command reads it
-abbrev pub fails_on_input : RequestOf → Result ℕ PbxFault → Bool
+abbrev pub fails_on_input : {X : Type 0} → RequestOf → Result X PbxFault → Bool
 fails_on_input joined result = has_read_failed result
 fails_on_input (check file) result = false
+fails_on_input (check_queues queues) result = false
+fails_on_input (check_both file queues) result = false
 fails_on_input (listing file) result = false
 fails_on_input (auditing file) result = false
 fails_on_input (matching lookup all) result = false

@@ -41,20 +41,24 @@ texts_of texts = record {
   script = texts.script.items;
 }
 
+-- what reading a file came to, where there is one
+abbrev pub some_text : Option (Result (List ℕ) PbxFault) → Result (Option (List ℕ)) PbxFault
+some_text None = Ok None
+some_text (Some text) = text >>= λ text. Ok (Some text)
+
 -- the texts, or the first fault: the dialplan's, the queues', the second dialplan's, the script's
-abbrev pub all_texts : Result (List ℕ) PbxFault → Result (Option (List ℕ)) PbxFault → Result (Option (List ℕ)) PbxFault → Result (List ℕ) PbxFault
-    → Result (OfRun (List ℕ)) PbxFault
-all_texts plan queues second_plan script =
-    plan >>= λ plan. queues >>= λ queues. second_plan >>= λ second_plan. script >>= λ script.
+abbrev pub all_texts : OfRun (Result (List ℕ) PbxFault) → Result (OfRun (List ℕ)) PbxFault
+all_texts read =
+    read.plan >>= λ plan. some_text read.queues >>= λ queues. some_text read.second_plan >>= λ second_plan. read.script >>= λ script.
     Ok (record { plan = plan; queues = queues; second_plan = second_plan; script = script })
 
 -- something holds of what reading a source came to, where there is one
-abbrev pub ReadsSome : Option Source → (Result (Option (List ℕ)) PbxFault → Type 0) → Type 0
-ReadsSome None P = P (Ok None)
-ReadsSome (Some source) P = Reads source (λ text. P (text >>= λ text. Ok (Some text)))
+abbrev pub ReadsSome : Option Source → (Option (Result (List ℕ) PbxFault) → Type 0) → Type 0
+ReadsSome None P = P None
+ReadsSome (Some source) P = Reads source (λ text. P (Some text))
 
--- something holds of what reading the files of a run came to
-abbrev pub ReadsTexts : OfRun Source → (Result (OfRun (List ℕ)) PbxFault → Type 0) → Type 0
+-- something holds of what reading each file of a run came to
+abbrev pub ReadsTexts : OfRun Source → (OfRun (Result (List ℕ) PbxFault) → Type 0) → Type 0
 ReadsTexts sources P =
     Reads sources.plan (λ plan. ReadsSome sources.queues (λ queues. ReadsSome sources.second_plan (λ second_plan. Reads sources.script (λ script.
-    P (all_texts plan queues second_plan script)))))
+    P (record { plan = plan; queues = queues; second_plan = second_plan; script = script })))))

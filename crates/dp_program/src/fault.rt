@@ -1,16 +1,18 @@
 //! What is printed of a fault, and the status after it.
 ghost use Rattle.std.specs.Prelude.{◌≡◌, ◌||◌, ◌++◌, OnOk, decimal, codes, false, true};
-ghost use Rattle.std.specs.Option.{option_copied};
 ghost use Rattle.std.specs.Result.{is_err};
 ghost use Rattle.std.specs.Io.KnownBytes.{Appends};
 ghost use Rattle.dp_commands.specs.Codes.{code_text, fault_line};
 ghost use Rattle.dp_commands.specs.Explained.{line_text, sentence_text, shown_text, where_text};
 ghost use Rattle.dp_program.specs.Entries.{kind_of, said_of};
 ghost use Rattle.dp_program.specs.Entries as spec_entries;
+ghost use Rattle.dp_program.specs.Faulted.{place_of};
+ghost use Rattle.dp_program.specs.Hints.{status_in};
 ghost use Rattle.dp_program.specs.Status as spec;
 
 use crate::entries::{kind_of, sentence_of};
-use crate::faulted::Faulted;
+use crate::faulted::{Faulted, Place};
+use crate::hints::Served;
 use dp_commands::{Code, FileLine, PbxFault};
 use dp_conf::{WriteFailed, WriteTold};
 use dp_plan::{PlanKind, Word};
@@ -99,15 +101,26 @@ fn print_line<E: WriteTold>(errors: &mut E, line: &FileLine<'_>) -> Result<(), W
     print_shown(errors, line)
 }
 
-/// Prints the line where a fault stands, if it stands in one.
-fn print_place<E: WriteTold>(errors: &mut E, line: Option<&FileLine<'_>>) -> Result<(), WriteFailed>
-    ensures ok { OnOk result (Appends (E.contents errors.old) (E.contents errors.new)
-        (spec.place_text (option_copied line.entry))) }
+/// Prints the path of a file.
+fn print_file<E: WriteTold>(errors: &mut E, path: &str) -> Result<(), WriteFailed>
+    ensures ok { OnOk result (Appends (E.contents errors.old) (E.contents errors.new) (spec.file_text path.now)) }
     ensures told { E.has_failed errors.new ≡ (E.has_failed errors.old || is_err result) }
 {
-    match line {
-        Some(line) => print_line(errors, line),
-        None => Ok(()),
+    errors.write_told(b"  ")?;
+    errors.write_told(path.as_bytes())?;
+    errors.write_told(b"\n")
+}
+
+/// Prints where a fault stands.
+fn print_place<E: WriteTold>(errors: &mut E, place: &Place<'_>) -> Result<(), WriteFailed>
+    ensures ok { OnOk result (Appends (E.contents errors.old) (E.contents errors.new)
+        (spec.place_text (place_of place.now))) }
+    ensures told { E.has_failed errors.new ≡ (E.has_failed errors.old || is_err result) }
+{
+    match place {
+        Place::InLine(line) => print_line(errors, line),
+        Place::InFile(path) => print_file(errors, path),
+        Place::Nowhere => Ok(()),
     }
 }
 
@@ -154,12 +167,12 @@ fn print_sentence<E: WriteTold>(errors: &mut E, code: Code) -> Result<(), WriteF
 /// Prints the explanation of a fault.
 fn print_explanation<E: WriteTold>(errors: &mut E, faulted: &Faulted<'_>) -> Result<(), WriteFailed>
     ensures ok { OnOk result (Appends (E.contents errors.old) (E.contents errors.new)
-        (spec.explanation faulted.now.fault faulted.now.line)) }
+        (spec.explanation faulted.now.fault (place_of faulted.now.place))) }
     ensures told { E.has_failed errors.new ≡ (E.has_failed errors.old || is_err result) }
 {
     match faulted.fault {
         PbxFault::Coded { code, line: _ } => {
-            print_place(errors, faulted.line.as_ref())?;
+            print_place(errors, &faulted.place)?;
             print_sentence(errors, code)
         }
         PbxFault::NoMemory => Ok(()),
@@ -183,14 +196,21 @@ fn print_faulted<E: WriteTold>(
     print_explanation(errors, faulted)
 }
 
-/// The status of what was answered, where a fault is printed, with its explanation where that is asked for. No memory is asked for.
-pub fn finish<E: WriteTold>(errors: &mut E, explains: bool, answered: Result<u8, Faulted<'_>>) -> u8
-    ensures status { result ≡ spec.status_after answered.entry }
+/// The status of what was answered. What is told beside it is printed, and a fault is, with its explanation where that is asked for. No memory is asked for.
+pub fn finish<E: WriteTold>(
+    errors: &mut E,
+    explains: bool,
+    answered: Result<Served, Faulted<'_>>,
+) -> u8
+    ensures status { result ≡ spec.status_after (status_in answered.entry) }
     ensures prints { E.has_failed errors.new ≡ false
         → spec.Prints (E.contents errors.old) (E.contents errors.new) explains answered.entry }
 {
     match answered {
-        Ok(status) => status,
+        Ok(served) => {
+            let _ = errors.write_told(&served.hint);
+            served.status
+        }
         Err(faulted) => {
             let _ = print_faulted(errors, explains, &faulted);
             1

@@ -1,18 +1,29 @@
-//! Faults with the line of a file where they stand.
-ghost use Rattle.std.specs.Prelude.{◌≡◌, None};
+//! Faults with the place where they stand.
+ghost use Rattle.std.specs.Prelude.{◌≡◌};
 ghost use Rattle.std.specs.Option.{option_map};
 ghost use Rattle.dp_program.specs.Faulted as spec;
 ghost use Rattle.dp_program.specs.Texts.{paths_of, texts_of};
 
 use crate::request::RunFiles;
-use crate::texts::Texts;
+use crate::texts::{FileText, Texts};
 use dp_commands::{Code, FileLine, PbxFault};
 
-/// A fault, and the line of a file where it stands, if it stands in one that was read.
+/// Where a fault stands.
+#[derive(Debug, Drop)]
+pub enum Place<'a> {
+    /// In a line of a file that was read.
+    InLine(FileLine<'a>),
+    /// In the file of this path, which could not be read.
+    InFile(&'a str),
+    /// In no file.
+    Nowhere,
+}
+
+/// A fault, and where it stands.
 #[derive(Debug, Drop)]
 pub struct Faulted<'a> {
     pub fault: PbxFault,
-    pub line: Option<FileLine<'a>>,
+    pub place: Place<'a>,
 }
 
 impl<'a> From<PbxFault> for Faulted<'a> {
@@ -22,102 +33,173 @@ impl<'a> From<PbxFault> for Faulted<'a> {
     ghost from_gives = { λ fault faulted. faulted ≡ nowhere fault };
 
     fn from(fault: PbxFault) -> Self {
-        Faulted { fault, line: None }
+        Faulted {
+            fault,
+            place: Place::Nowhere,
+        }
     }
 }
 
-/// The line where a fault of the text of a file stands.
-fn line_in_file<'a>(path: &'a str, text: &[u8], fault: PbxFault) -> Option<FileLine<'a>>
-    ensures { result ≡ spec.line_in_file path.now text.now fault }
+/// Why the file of a path could not be read.
+#[derive(Clone, Copy, Debug)]
+pub(crate) struct Unread<'a> {
+    pub(crate) path: &'a str,
+    pub(crate) fault: PbxFault,
+}
+
+/// Where the fault of a file stands that could not be read.
+fn place_unread<'a>(unread: Unread<'a>) -> Place<'a>
+    ensures { result ≡ spec.place_unread unread.entry unread.entry.fault }
+{
+    match unread.fault {
+        PbxFault::Coded { code: _, line: _ } => Place::InFile(unread.path),
+        PbxFault::NoMemory => Place::Nowhere,
+    }
+}
+
+impl<'a> From<Unread<'a>> for Faulted<'a> {
+    ghost use Rattle.std.specs.Prelude.{◌≡◌};
+    ghost use Rattle.dp_program.specs.Faulted.{unread_fault};
+
+    ghost from_gives = { λ unread faulted. faulted ≡ unread_fault unread };
+
+    fn from(unread: Unread<'a>) -> Self {
+        Faulted {
+            fault: unread.fault,
+            place: place_unread(unread),
+        }
+    }
+}
+
+/// Where a fault of the text of a file stands.
+fn place_in_file<'a>(path: &'a str, text: &[u8], fault: PbxFault) -> Place<'a>
+    ensures { spec.place_of result ≡ spec.place_in_file path.now text.now fault }
 {
     match fault {
         PbxFault::Coded {
             code: _,
             line: Some(number),
-        } => Some(FileLine::at(path, text, number)),
+        } => Place::InLine(FileLine::at(path, text, number)),
         PbxFault::Coded {
             code: _,
             line: None,
-        } => None,
-        PbxFault::NoMemory => None,
+        } => Place::Nowhere,
+        PbxFault::NoMemory => Place::Nowhere,
     }
 }
 
-/// What was answered over the text of a file, with the line where its fault stands.
-pub(crate) fn placed<'a>(
+/// What was answered over the text of a file, with the place of its fault.
+pub(crate) fn placed<'a, T>(
     path: &'a str,
     text: &[u8],
-    answered: Result<u8, PbxFault>,
-) -> Result<u8, Faulted<'a>>
+    answered: Result<T, PbxFault>,
+) -> Result<T, Faulted<'a>>
     ensures same { spec.unplaced result ≡ answered }
-    ensures stands { spec.StandsIn (spec.line_in_file path.now text.now) result }
+    ensures stands { spec.StandsIn (spec.place_in_file path.now text.now) result }
 {
     match answered {
-        Ok(status) => Ok(status),
+        Ok(answer) => Ok(answer),
         Err(fault) => Err(Faulted {
             fault,
-            line: line_in_file(path, text, fault),
+            place: place_in_file(path, text, fault),
         }),
     }
 }
 
-/// The line where a fault of a file stands that may not be named.
-fn line_in_named<'a>(
-    path: Option<&'a str>,
-    text: Option<&[u8]>,
-    fault: PbxFault,
-) -> Option<FileLine<'a>>
-    ensures { result ≡ spec.line_in (spec.named_file (option_map (λ path. path.now) path.entry)
+/// Where a fault of a file stands that may not be named.
+fn place_in_named<'a>(path: Option<&'a str>, text: Option<&[u8]>, fault: PbxFault) -> Place<'a>
+    ensures { spec.place_of result ≡ spec.place_in (spec.named_file (option_map (λ path. path.now) path.entry)
         (option_map (λ text. text.now) text.entry)) fault }
 {
     match (path, text) {
-        (Some(path), Some(text)) => line_in_file(path, text, fault),
-        _ => None,
+        (Some(path), Some(text)) => place_in_file(path, text, fault),
+        _ => Place::Nowhere,
     }
 }
 
-/// The line where a fault of the texts of a run stands.
-fn line_in_files<'a>(run: &RunFiles<'a>, texts: &Texts, fault: PbxFault) -> Option<FileLine<'a>>
-    ensures { result ≡ spec.line_in_files (paths_of run.now) (texts_of texts.now) fault }
+/// Where a fault of the texts of a run stands.
+fn place_in_files<'a>(run: &RunFiles<'a>, texts: &Texts, fault: PbxFault) -> Place<'a>
+    ensures { spec.place_of result ≡ spec.place_in_files (paths_of run.now) (texts_of texts.now) fault }
 {
     let PbxFault::Coded { code, line: _ } = fault else {
-        return None;
+        return Place::Nowhere;
     };
     match code {
         Code::Line(_) | Code::Name(_) | Code::Plan(_) => {
-            line_in_file(run.plan, &texts.plan, fault)
+            place_in_file(run.plan, &texts.plan, fault)
         }
         Code::QueueLine(_) | Code::Queue(_) => {
-            line_in_named(run.queues, texts.queues.as_deref(), fault)
+            place_in_named(run.queues, texts.queues.as_deref(), fault)
         }
-        Code::BadScript => line_in_file(run.script, &texts.script, fault),
+        Code::BadScript => place_in_file(run.script, &texts.script, fault),
         Code::ReadFailed | Code::TooLong | Code::WriteFailed | Code::Settle(_) | Code::BadBreak =>
-            None,
+            Place::Nowhere,
     }
 }
 
-/// What was answered over the texts of a run, with the line where its fault stands.
+/// What was answered over the texts of a run, with the place of its fault.
 pub(crate) fn placed_in_run<'a>(
     run: &RunFiles<'a>,
     texts: &Texts,
     answered: Result<u8, PbxFault>,
 ) -> Result<u8, Faulted<'a>>
     ensures same { spec.unplaced result ≡ answered }
-    ensures stands { spec.StandsIn (spec.line_in_files (paths_of run.now) (texts_of texts.now)) result }
+    ensures stands { spec.StandsIn (spec.place_in_files (paths_of run.now) (texts_of texts.now)) result }
 {
     match answered {
         Ok(status) => Ok(status),
         Err(fault) => Err(Faulted {
             fault,
-            line: line_in_files(run, texts, fault),
+            place: place_in_files(run, texts, fault),
         }),
     }
 }
 
-/// What was answered where a fault stands in no line of a file.
+/// Where a fault of the texts of a dialplan and of queues stands.
+fn place_in_two<'a>(plan: &FileText<'a>, queues: &FileText<'a>, fault: PbxFault) -> Place<'a>
+    ensures { spec.place_of result ≡ spec.place_in_two (plan.now.path.now, plan.now.text.items)
+        (queues.now.path.now, queues.now.text.items) fault }
+{
+    let PbxFault::Coded { code, line: _ } = fault else {
+        return Place::Nowhere;
+    };
+    match code {
+        Code::Line(_) | Code::Name(_) | Code::Plan(_) => {
+            place_in_file(plan.path, &plan.text, fault)
+        }
+        Code::QueueLine(_) | Code::Queue(_) => place_in_file(queues.path, &queues.text, fault),
+        Code::ReadFailed
+        | Code::TooLong
+        | Code::WriteFailed
+        | Code::Settle(_)
+        | Code::BadScript
+        | Code::BadBreak => Place::Nowhere,
+    }
+}
+
+/// What was answered over the texts of a dialplan and of queues, with the place of its fault.
+pub(crate) fn placed_in_two<'a>(
+    plan: &FileText<'a>,
+    queues: &FileText<'a>,
+    answered: Result<u8, PbxFault>,
+) -> Result<u8, Faulted<'a>>
+    ensures same { spec.unplaced result ≡ answered }
+    ensures stands { spec.StandsIn (spec.place_in_two (plan.now.path.now, plan.now.text.items)
+        (queues.now.path.now, queues.now.text.items)) result }
+{
+    match answered {
+        Ok(status) => Ok(status),
+        Err(fault) => Err(Faulted {
+            fault,
+            place: place_in_two(plan, queues, fault),
+        }),
+    }
+}
+
+/// What was answered where a fault stands in no file.
 pub(crate) fn placed_nowhere<'a>(answered: Result<u8, PbxFault>) -> Result<u8, Faulted<'a>>
     ensures same { spec.unplaced result ≡ answered }
-    ensures stands { spec.StandsIn (λ _. None) result }
+    ensures stands { spec.StandsIn (λ _. spec.in_none) result }
 {
     match answered {
         Ok(status) => Ok(status),

@@ -1,10 +1,13 @@
 //! What the program `pbx` does with a request, over files, an input and outputs that the caller gives.
 #![tactic(auto)]
 
+mod checks;
 mod entries;
 mod fault;
 mod faulted;
 mod files;
+mod hints;
+mod nearest;
 mod program;
 mod reports;
 mod request;
@@ -14,7 +17,8 @@ mod texts;
 pub use dp_commands::{Code, FileLine, PbxFault};
 pub use entries::{FaultNumber, entries_are_headed};
 pub use fault::{finish, print_fault};
-pub use faulted::Faulted;
+pub use faulted::{Faulted, Place};
 pub use files::ReadFiles;
+pub use hints::Served;
 pub use program::serve;
-pub use request::{Lookup, Request, RunFiles};
+pub use request::{CheckFiles, Lookup, Request, RunFiles};

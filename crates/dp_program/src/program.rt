@@ -6,11 +6,11 @@ ghost use Rattle.dp_program.specs.Files.{source};
 ghost use Rattle.dp_program.specs.Requests.{asked, joined};
 ghost use Rattle.dp_program.specs.Serves as spec;
 
+use crate::checks::{serve_check, serve_check_both, serve_check_queues};
 use crate::faulted::Faulted;
 use crate::files::ReadFiles;
-use crate::reports::{
-    serve_audit, serve_check, serve_explain, serve_list, serve_match, serve_match_all,
-};
+use crate::hints::{Served, unhinted};
+use crate::reports::{Manner, serve_audit, serve_explain, serve_list, serve_match};
 use crate::request::Request;
 use crate::runs::{serve_debug, serve_joined, serve_run};
 use dp_conf::{ReadTold, WriteTold};
@@ -18,8 +18,8 @@ use std::alloc::Global;
 use std::sync::Wait;
 use std::thread::Threads;
 
-/// Does what was asked for, and gives the status: the files are read first, and then their texts. A fault is answered with the line of
-/// the file where it stands. With `explains` the notes of `check` have their explanations below them.
+/// Does what was asked for, and gives the status and what is told beside it: the files are read first, and then their texts. A fault is answered with the place
+/// where it stands: the line of a file, or the file that could not be read. With `explains` the notes of `check` have their explanations below them.
 ///
 /// `rt` is for the threads of a run that asks for them.
 pub fn serve<'a, F: ReadFiles, I: ReadTold, W: WriteTold, R: Threads + Wait + Sync>(
@@ -30,7 +30,7 @@ pub fn serve<'a, F: ReadFiles, I: ReadTold, W: WriteTold, R: Threads + Wait + Sy
     explains: bool,
     input: &mut I,
     output: &mut W,
-) -> Result<u8, Faulted<'a>>
+) -> Result<Served, Faulted<'a>>
     ensures serves { spec.Serves (F.source_at files.now) (source (I.remaining input.old) (I.has_failed input.new))
         (asked request.now) explains
         (W.contents output.old) (W.contents output.new) result }
@@ -40,17 +40,35 @@ pub fn serve<'a, F: ReadFiles, I: ReadTold, W: WriteTold, R: Threads + Wait + Sy
     ensures unread { asked request.now ≢ joined → input.new ≡ input.old }
 {
     match request {
-        Request::Joined => serve_joined(alloc, input, output),
-        Request::Check { file } => serve_check(files, alloc, file, explains, output),
-        Request::Listing { file } => serve_list(files, alloc, file, output),
+        Request::Joined => unhinted(alloc, serve_joined(alloc, input, output)),
+        Request::Check { file } => {
+            unhinted(alloc, serve_check(files, alloc, file, explains, output))
+        }
+        Request::CheckQueues { queues } => {
+            unhinted(alloc, serve_check_queues(files, alloc, queues, output))
+        }
+        Request::CheckBoth { files: paths } => {
+            unhinted(
+                alloc,
+                serve_check_both(files, alloc, paths, explains, output),
+            )
+        }
+        Request::Listing { file } => unhinted(alloc, serve_list(files, alloc, file, output)),
         Request::Audit { file } => serve_audit(files, alloc, file, output),
-        Request::Match { lookup, all: false } => serve_match(files, alloc, lookup, output),
-        Request::Match { lookup, all: true } => serve_match_all(files, alloc, lookup, output),
-        Request::Explain { fault } => serve_explain(*fault, output),
+        Request::Match { lookup, all } => {
+            let manner = Manner {
+                all: *all,
+                explains,
+            };
+            serve_match(files, alloc, lookup, manner, output)
+        }
+        Request::Explain { fault } => unhinted(alloc, serve_explain(*fault, output)),
         Request::Run {
             files: run,
             threads,
-        } => serve_run(rt, files, alloc, run, *threads, output),
-        Request::Debug { files: run, held } => serve_debug(files, alloc, run, held, output),
+        } => unhinted(alloc, serve_run(rt, files, alloc, run, *threads, output)),
+        Request::Debug { files: run, held } => {
+            unhinted(alloc, serve_debug(files, alloc, run, held, output))
+        }
     }
 }

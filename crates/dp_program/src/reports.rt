@@ -1,53 +1,39 @@
-//! What the requests do that report on a dialplan, or on a fault.
-ghost use Rattle.std.specs.Prelude.{◌≡◌, ◌||◌, None, false, true};
+//! What the requests do that list, audit or ask a dialplan, or report on a fault.
+ghost use Rattle.std.specs.Prelude.{◌≡◌, ◌||◌};
+ghost use Rattle.dp_commands.specs.Audit.{WritesAudit, audit_of};
 ghost use Rattle.dp_commands.specs.Faults.{is_write_failed};
 ghost use Rattle.dp_commands.specs.Report.{Reports, list_of};
 ghost use Rattle.dp_program.specs.Entries.{entry_of};
-ghost use Rattle.dp_program.specs.Faulted.{StandsIn, unplaced};
+ghost use Rattle.dp_program.specs.Faulted.{unplaced};
+ghost use Rattle.dp_program.specs.Hints.{Tells, audit_hint_of, match_hint_of, status_in};
 ghost use Rattle.dp_program.specs.Requests.{lookup_of};
 ghost use Rattle.dp_program.specs.Serves as spec;
 
 use crate::entries::FaultNumber;
 use crate::faulted::{Faulted, placed, placed_nowhere};
 use crate::files::ReadFiles;
+use crate::hints::{Served, audit_hint, match_hint};
 use crate::request::Lookup;
-use dp_commands::{PbxFault, audit, check, check_explained, list_plan, match_all, match_one};
+use crate::texts::read_text;
+use dp_commands::{PbxFault, audit, list_plan, match_all, match_one};
 use dp_conf::WriteTold;
 use std::alloc::Global;
 
-/// Reports on a dialplan by the path of its file and its text, and explains its notes where that is asked for.
-fn check_by<W: WriteTold>(
+/// Audits a dialplan, and tells where it may be none.
+#[tactic(auto, using(crate::proofs::HintsLemmas::audit_hint_refused))]
+fn audit_told<W: WriteTold>(
     alloc: Global,
-    path: &str,
+    file: &str,
     plan: &[u8],
-    explains: bool,
     output: &mut W,
-) -> Result<u8, PbxFault>
-    ensures reports { Reports (W.contents output.old) (W.contents output.new)
-        (spec.check_by explains path.now plan.now) result }
+) -> Result<Served, PbxFault>
+    ensures audits { WritesAudit (W.contents output.old) (W.contents output.new) (audit_of plan.now) (status_in result) }
+    ensures tells { Tells (audit_hint_of file.now plan.now) result }
     ensures told { W.has_failed output.new ≡ (W.has_failed output.old || is_write_failed result) }
 {
-    if explains {
-        check_explained(alloc, path, plan, output)
-    } else {
-        check(alloc, plan, output)
-    }
-}
-
-/// Reports on the dialplan of a file.
-pub(crate) fn serve_check<'a, F: ReadFiles, W: WriteTold>(
-    files: &F,
-    alloc: Global,
-    file: &'a str,
-    explains: bool,
-    output: &mut W,
-) -> Result<u8, Faulted<'a>>
-    ensures serves { spec.ReportsOn file.now (F.source_at files.now file.now) (spec.check_by explains file.now)
-        (W.contents output.old) (W.contents output.new) result }
-    ensures told { W.has_failed output.new ≡ (W.has_failed output.old || is_write_failed (unplaced result)) }
-{
-    let plan = files.read_file(alloc, file)?;
-    placed(file, &plan, check_by(alloc, file, &plan, explains, output))
+    let hint = audit_hint(alloc, file, plan)?;
+    let status = audit(alloc, plan, output)?;
+    Ok(Served { status, hint })
 }
 
 /// Audits the dialplan of a file.
@@ -56,13 +42,13 @@ pub(crate) fn serve_audit<'a, F: ReadFiles, W: WriteTold>(
     alloc: Global,
     file: &'a str,
     output: &mut W,
-) -> Result<u8, Faulted<'a>>
+) -> Result<Served, Faulted<'a>>
     ensures serves { spec.AuditsFile file.now (F.source_at files.now file.now) (W.contents output.old)
         (W.contents output.new) result }
     ensures told { W.has_failed output.new ≡ (W.has_failed output.old || is_write_failed (unplaced result)) }
 {
-    let plan = files.read_file(alloc, file)?;
-    placed(file, &plan, audit(alloc, &plan, output))
+    let plan = read_text(files, alloc, file)?;
+    placed(file, &plan, audit_told(alloc, file, &plan, output))
 }
 
 /// Lists the dialplan of a file.
@@ -76,82 +62,75 @@ pub(crate) fn serve_list<'a, F: ReadFiles, W: WriteTold>(
         (W.contents output.new) result }
     ensures told { W.has_failed output.new ≡ (W.has_failed output.old || is_write_failed (unplaced result)) }
 {
-    let plan = files.read_file(alloc, file)?;
+    let plan = read_text(files, alloc, file)?;
     placed(file, &plan, list_plan(alloc, &plan, output))
 }
 
-/// Reports which entry of a dialplan answers.
-fn find_one<W: WriteTold>(
+/// Reports which entry of a dialplan answers, and where all are asked for what becomes of each extension that matches.
+fn look_up<W: WriteTold>(
     alloc: Global,
     plan: &[u8],
     lookup: &Lookup<'_>,
+    all: bool,
     output: &mut W,
 ) -> Result<u8, PbxFault>
     ensures reports { Reports (W.contents output.old) (W.contents output.new)
-        (spec.look_up (lookup_of lookup.now) false plan.now) result }
+        (spec.look_up (lookup_of lookup.now) all plan.now) result }
     ensures told { W.has_failed output.new ≡ (W.has_failed output.old || is_write_failed result) }
 {
-    match_one(
-        alloc,
-        plan,
-        lookup.context.as_bytes(),
-        lookup.text.as_bytes(),
-        lookup.priority,
-        output,
-    )
+    let context = lookup.context.as_bytes();
+    let text = lookup.text.as_bytes();
+    if all {
+        match_all(alloc, plan, context, text, lookup.priority, output)
+    } else {
+        match_one(alloc, plan, context, text, lookup.priority, output)
+    }
 }
 
-/// Reports which entry of the dialplan of a file answers.
+/// How a look-up is done: whether all extensions that match are told, and whether names are told for one that is not there.
+#[derive(Clone, Copy)]
+pub(crate) struct Manner {
+    pub(crate) all: bool,
+    pub(crate) explains: bool,
+}
+
+/// Reports likewise, and tells where the dialplan may be none, or has no context of the name.
+#[tactic(auto, using(crate::proofs::HintsLemmas::match_hint_refused))]
+fn look_up_told<W: WriteTold>(
+    alloc: Global,
+    plan: &[u8],
+    lookup: &Lookup<'_>,
+    manner: Manner,
+    output: &mut W,
+) -> Result<Served, PbxFault>
+    ensures reports { Reports (W.contents output.old) (W.contents output.new)
+        (spec.look_up (lookup_of lookup.now) manner.all plan.now) (status_in result) }
+    ensures tells { Tells (match_hint_of (lookup_of lookup.now) manner.explains plan.now) result }
+    ensures told { W.has_failed output.new ≡ (W.has_failed output.old || is_write_failed result) }
+{
+    let hint = match_hint(alloc, lookup, manner.explains, plan)?;
+    let status = look_up(alloc, plan, lookup, manner.all, output)?;
+    Ok(Served { status, hint })
+}
+
+/// Looks up in the dialplan of a file.
 pub(crate) fn serve_match<'a, F: ReadFiles, W: WriteTold>(
     files: &F,
     alloc: Global,
     lookup: &Lookup<'a>,
+    manner: Manner,
     output: &mut W,
-) -> Result<u8, Faulted<'a>>
-    ensures serves { spec.ReportsOn lookup.now.file.now (F.source_at files.now lookup.now.file.now)
-        (spec.look_up (lookup_of lookup.now) false)
+) -> Result<Served, Faulted<'a>>
+    ensures serves { spec.LooksUp (lookup_of lookup.now) (F.source_at files.now lookup.now.file.now) manner.all manner.explains
         (W.contents output.old) (W.contents output.new) result }
     ensures told { W.has_failed output.new ≡ (W.has_failed output.old || is_write_failed (unplaced result)) }
 {
-    let plan = files.read_file(alloc, lookup.file)?;
-    placed(lookup.file, &plan, find_one(alloc, &plan, lookup, output))
-}
-
-/// Reports the same, and what becomes of each extension of the dialplan that matches.
-fn find_all<W: WriteTold>(
-    alloc: Global,
-    plan: &[u8],
-    lookup: &Lookup<'_>,
-    output: &mut W,
-) -> Result<u8, PbxFault>
-    ensures reports { Reports (W.contents output.old) (W.contents output.new)
-        (spec.look_up (lookup_of lookup.now) true plan.now) result }
-    ensures told { W.has_failed output.new ≡ (W.has_failed output.old || is_write_failed result) }
-{
-    match_all(
-        alloc,
-        plan,
-        lookup.context.as_bytes(),
-        lookup.text.as_bytes(),
-        lookup.priority,
-        output,
+    let plan = read_text(files, alloc, lookup.file)?;
+    placed(
+        lookup.file,
+        &plan,
+        look_up_told(alloc, &plan, lookup, manner, output),
     )
-}
-
-/// Reports on the dialplan of a file which entry answers, and what becomes of each extension that matches.
-pub(crate) fn serve_match_all<'a, F: ReadFiles, W: WriteTold>(
-    files: &F,
-    alloc: Global,
-    lookup: &Lookup<'a>,
-    output: &mut W,
-) -> Result<u8, Faulted<'a>>
-    ensures serves { spec.ReportsOn lookup.now.file.now (F.source_at files.now lookup.now.file.now)
-        (spec.look_up (lookup_of lookup.now) true)
-        (W.contents output.old) (W.contents output.new) result }
-    ensures told { W.has_failed output.new ≡ (W.has_failed output.old || is_write_failed (unplaced result)) }
-{
-    let plan = files.read_file(alloc, lookup.file)?;
-    placed(lookup.file, &plan, find_all(alloc, &plan, lookup, output))
 }
 
 /// Writes the manual's entry of a fault.
@@ -168,8 +147,7 @@ pub(crate) fn serve_explain<'a, W: WriteTold>(
     fault: FaultNumber,
     output: &mut W,
 ) -> Result<u8, Faulted<'a>>
-    ensures serves { Reports (W.contents output.old) (W.contents output.new) (Ok (entry_of fault)) (unplaced result) }
-    ensures stands { StandsIn (λ _. None) result }
+    ensures serves { spec.WritesEntry fault (W.contents output.old) (W.contents output.new) result }
     ensures told { W.has_failed output.new ≡ (W.has_failed output.old || is_write_failed (unplaced result)) }
 {
     placed_nowhere(write_entry(fault, output))

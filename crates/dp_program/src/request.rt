@@ -15,6 +15,15 @@ pub struct Lookup<'a> {
     pub priority: Priority,
 }
 
+/// The files of a check of a dialplan and of queues, by their paths.
+#[derive(Clone, Copy, Debug, PartialEq, Eq)]
+pub struct CheckFiles<'a> {
+    /// The dialplan.
+    pub plan: &'a str,
+    /// The queues.
+    pub queues: &'a str,
+}
+
 /// The files of a run, by their paths.
 #[derive(Clone, Copy, Debug, PartialEq, Eq)]
 pub struct RunFiles<'a> {
@@ -36,6 +45,14 @@ pub enum Request<'a> {
     /// `check FILE`: to load a dialplan.
     Check {
         file: &'a str,
+    },
+    /// `check --queues QUEUES`: to load a file of queues.
+    CheckQueues {
+        queues: &'a str,
+    },
+    /// `check --queues QUEUES FILE`: to load a dialplan and a file of queues.
+    CheckBoth {
+        files: CheckFiles<'a>,
     },
     /// `list FILE`: to list a dialplan in its canonical text.
     Listing {

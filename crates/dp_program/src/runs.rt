@@ -45,7 +45,7 @@ fn run_input<I: ReadTold, W: WriteTold>(
     run_joined(alloc, &text, output)
 }
 
-/// Runs the joined text of the input. A fault of it stands in no line of a file.
+/// Runs the joined text of the input. A fault of it stands in no file.
 pub(crate) fn serve_joined<'a, I: ReadTold, W: WriteTold>(
     alloc: Global,
     input: &mut I,

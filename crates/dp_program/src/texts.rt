@@ -1,15 +1,22 @@
-//! The texts of the files of a run.
-ghost use Rattle.std.specs.Prelude.{◌≡◌, IfErr, true};
+//! The texts of files that are named.
+ghost use Rattle.std.specs.Prelude.{◌≡◌, [], IfErr, true, unwrap_or};
 ghost use Rattle.std.specs.Option.{option_map};
 ghost use Rattle.dp_conf.specs.Answers.{Answers};
-ghost use Rattle.dp_commands.specs.Faults.{reason_of};
-ghost use Rattle.dp_program.specs.Files.{is_read_fault};
+ghost use Rattle.dp_program.specs.Faulted.{unread_path, unread_place, unread_reason};
+ghost use Rattle.dp_program.specs.Files.{Reads, is_read_fault};
 ghost use Rattle.dp_program.specs.Texts as spec;
 
+use crate::faulted::Unread;
 use crate::files::ReadFiles;
 use crate::request::RunFiles;
-use dp_commands::PbxFault;
 use std::alloc::Global;
+
+/// The text of a file, with its path.
+#[derive(Drop)]
+pub(crate) struct FileText<'a> {
+    pub(crate) path: &'a str,
+    pub(crate) text: Vec<u8>,
+}
 
 /// The texts of the files of a run: its dialplan, its queues and its second dialplan, where files of them are named, and its script.
 #[derive(Drop)]
@@ -20,38 +27,58 @@ pub(crate) struct Texts {
     pub(crate) script: Vec<u8>,
 }
 
-/// All bytes of a file, where one is named.
-fn read_named<F: ReadFiles>(
+/// All bytes of the file of a path.
+pub(crate) fn read_text<'a, F: ReadFiles>(
     files: &F,
     alloc: Global,
-    path: Option<&str>,
-) -> Result<Option<Vec<u8>>, PbxFault>
+    path: &'a str,
+) -> Result<Vec<u8>, Unread<'a>>
+    ensures read { Reads (F.source_at files.now path.now)
+        (λ text. Answers (λ read. read.items) unread_reason result text) }
+    ensures path { IfErr result (λ unread. unread.path.now ≡ path.now) }
+    ensures fault { IfErr result (λ unread. is_read_fault unread.fault ≡ true) }
+{
+    match files.read_file(alloc, path) {
+        Ok(text) => Ok(text),
+        Err(fault) => Err(Unread { path, fault }),
+    }
+}
+
+/// All bytes of a file, where one is named.
+fn read_named<'a, F: ReadFiles>(
+    files: &F,
+    alloc: Global,
+    path: Option<&'a str>,
+) -> Result<Option<Vec<u8>>, Unread<'a>>
     ensures read { spec.ReadsSome (option_map (F.source_at files.now) (option_map (λ path. path.now) path.entry))
-        (λ text. Answers (λ read. option_map (λ text. text.items) read) reason_of result text) }
-    ensures fault { IfErr result (λ fault. is_read_fault fault ≡ true) }
+        (λ text. Answers (λ read. option_map (λ text. text.items) read) unread_reason result (spec.some_text text)) }
+    ensures path { IfErr result (λ unread. unread.path.now ≡ unwrap_or (option_map (λ path. path.now) path.entry) []) }
+    ensures fault { IfErr result (λ unread. is_read_fault unread.fault ≡ true) }
 {
     let Some(path) = path else {
         return Ok(None);
     };
-    let text = files.read_file(alloc, path)?;
+    let text = read_text(files, alloc, path)?;
     Ok(Some(text))
 }
 
 /// The texts of the files of a run: the dialplan is read first, then the queues, then the second dialplan, then the script, up to
 /// the first that has a fault.
-pub(crate) fn read_texts<F: ReadFiles>(
+pub(crate) fn read_texts<'a, F: ReadFiles>(
     files: &F,
     alloc: Global,
-    run: &RunFiles<'_>,
-) -> Result<Texts, PbxFault>
+    run: &RunFiles<'a>,
+) -> Result<Texts, Unread<'a>>
     ensures read { spec.ReadsTexts (spec.sources_of (F.source_at files.now) (spec.paths_of run.now))
-        (λ texts. Answers spec.texts_of reason_of result texts) }
-    ensures fault { IfErr result (λ fault. is_read_fault fault ≡ true) }
+        (λ read. Answers spec.texts_of unread_reason result (spec.all_texts read)
+        × IfErr result (λ unread. unread_place unread.path.now unread.fault
+        ≡ unread_place (unread_path (spec.paths_of run.now) read) unread.fault)) }
+    ensures fault { IfErr result (λ unread. is_read_fault unread.fault ≡ true) }
 {
-    let plan = files.read_file(alloc, run.plan)?;
+    let plan = read_text(files, alloc, run.plan)?;
     let queues = read_named(files, alloc, run.queues)?;
     let second_plan = read_named(files, alloc, run.second_plan)?;
-    let script = files.read_file(alloc, run.script)?;
+    let script = read_text(files, alloc, run.script)?;
     Ok(Texts {
         plan,
         queues,

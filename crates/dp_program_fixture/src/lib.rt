@@ -34,6 +34,7 @@ first→[main]¶exten => 100,1,NoOp(hello)¶exten => 100,2,Goto(200,1)¶exten =>
 first.script→start main 100¶step 1 3¶
 refused.script→step 1¶start main 100¶step 1¶
 help→[help]¶member => Agent/1¶
+queues→[general]¶persistentmembers = yes¶[sales]¶member => Line/1¶[support]¶
 callers→[main]¶exten => s,1,Queue(help,,,,30)¶exten => s,2,Hangup()¶
 callers.script→start main s¶step 1¶timeout 1¶step 1¶
 pair→[main]¶exten => s,1,NoOp()¶
@@ -67,6 +68,7 @@ marked→\u{feff}[main¶
 notes→[globals]¶=x¶[main]¶exten => s,1,NoOp()¶exten => s,1,Hangup()¶exten => s,2(x),NoOp()¶exten => s,3(x),NoOp()¶include => nowhere¶colour = red¶
 sections→[a]¶exten => 1,1,A¶[b]¶[a]¶exten => 2,1,A¶include => b¶[c]¶include => a¶include => b¶
 empty→
+near→[min]¶exten => s,1,NoOp()¶[mien]¶[mainn]¶[ax]¶[mmmmmmmmmmmmmmmmmmmmmmmmmmmmmmmmmmmmmmmmmmmmmmmmmmmmmmmmmmmmmmmmmmmmmmmmmmmmmmmmm]¶
 dashed→[-in-]¶exten => 1,1,NoOp¶
 ";
 

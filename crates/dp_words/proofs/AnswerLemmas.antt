@@ -14,6 +14,7 @@ use Rattle.dp_program.specs.Files.{Source}
 use Rattle.dp_program.specs.Requests.{RequestOf}
 use Rattle.dp_program.specs.Serves.{Serves}
 use Rattle.dp_program.specs.Status.{Prints, status_after}
+use Rattle.dp_program.specs.declared.hints.Served.{Served}
 use Rattle.dp_program.proofs.ServesLemmas.{Serves-lacks}
 use Rattle.dp_words.specs.Status.{Explains, Fulfils, RefusesAs, Sink, explained_status}
 
@@ -60,7 +61,7 @@ fulfils_lacks files input want explains output output_after errors errors_after 
     record {
       answered = Err (nowhere NoMemory);
       serves = subst (λ (after : Sink). Serves files input want explains output.contents after.contents (Err (nowhere NoMemory))) (sym same) (Serves-lacks files input want explains output.contents);
-      written = subst (λ (after : Sink). after.failed ≡ (output.failed || is_write_failed {X = ℕ} (Err NoMemory))) (sym same) (or_false output.failed);
+      written = subst (λ (after : Sink). after.failed ≡ (output.failed || is_write_failed {X = Served} (Err NoMemory))) (sym same) (or_false output.failed);
       told = subst (λ (answered : Result ℕ PbxFault). status ≡ status_after answered) is refused.told;
       printed = λ fine. prints_lacks explains errors.contents errors_after.contents (printed fine);
     }

@@ -10,12 +10,16 @@ use Rattle.dp_conf.specs.Words.{same_text}
 use Rattle.dp_commands.specs.Script.{number_within}
 use Rattle.dp_conf.specs.Numbers.{most_priority}
 use Rattle.dp_program.specs.Entries.{fault_named, fault_numbered}
-use Rattle.dp_program.specs.Requests.{RequestOf, joined, check, listing, auditing, matching, explaining, run, debug}
+use Rattle.dp_program.specs.Requests.{RequestOf, joined, check, check_queues, check_both, listing, auditing, matching, explaining, run, debug}
 use Rattle.dp_program.specs.Texts.{OfRun}
 
 -- a word that has to be given
 abbrev pub required_word : List ℕ → Rule
 required_word name = record (new_rule name) { required = true }
+
+-- a word that may be left out
+abbrev pub free_word : List ℕ → Rule
+free_word name = new_rule name
 
 -- a word that may be left out, with what stands for it then
 abbrev pub word_or : List ℕ → List ℕ → Rule
@@ -45,10 +49,14 @@ with_explain app = with_rule app (flag (codes "explain") (codes "explain"))
 abbrev pub file_app : List ℕ → App
 file_app name = with_explain (with_rule (new_app name) file_word)
 
+-- a command with the word of a file of queues
+abbrev pub with_queues : App → App
+with_queues app = with_rule app (named_word (codes "QUEUES") (codes "queues"))
+
 -- a command with the words of the files that a run may have: those of its queues and of its second dialplan
 abbrev pub with_more_files : App → App
 with_more_files app =
-    with_rule (with_rule app (named_word (codes "QUEUES") (codes "queues"))) (named_word (codes "DIALPLAN") (codes "reload"))
+    with_rule (with_queues app) (named_word (codes "DIALPLAN") (codes "reload"))
 
 -- a command with the words of the files that a run has: those of its dialplan and of its script
 abbrev pub with_files : App → App
@@ -60,9 +68,9 @@ with_lookup app =
     with_rule (with_rule (with_rule app (required_word (codes "CONTEXT"))) (required_word (codes "TEXT")))
     (word_or (codes "PRIORITY") (codes "1"))
 
--- `check [--explain] FILE`
+-- `check [--queues QUEUES] [--explain] [FILE]`
 abbrev pub check_app : App
-check_app = file_app (codes "check")
+check_app = with_explain (with_rule (with_queues (new_app (codes "check"))) (free_word (codes "FILE")))
 
 -- `list [--explain] FILE`
 abbrev pub list_app : App
@@ -135,9 +143,16 @@ fault_in word = or_next (option_and_then fault_numbered (number_within most_code
 abbrev pub is_set : List ℕ → List Row → Bool
 is_set name words = option_map_or (λ value. same_text value (codes "true")) (first_of name words) false
 
--- what `check` asks for, by its words
+-- what `check` asks for, by the file of its dialplan and that of its queues; with neither it asks for nothing
+abbrev pub checked : Option (List ℕ) → Option (List ℕ) → Option RequestOf
+checked None None = None
+checked None (Some queues) = Some (check_queues queues)
+checked (Some file) None = Some (check file)
+checked (Some file) (Some queues) = Some (check_both file queues)
+
+-- the same, by its words
 abbrev pub check_asked : List Row → Option RequestOf
-check_asked words = option_map check (first_of (codes "FILE") words)
+check_asked words = checked (first_of (codes "FILE") words) (first_of (codes "QUEUES") words)
 
 -- what `list` asks for, by its words
 abbrev pub list_asked : List Row → Option RequestOf

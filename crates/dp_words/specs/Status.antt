@@ -11,10 +11,12 @@ use Rattle.dp_commands.specs.declared.fault.PbxFault.{PbxFault}
 use Rattle.dp_commands.specs.declared.fault.PbxFault.TheVariants.{Coded, NoMemory}
 use Rattle.dp_program.specs.Faulted.{unplaced}
 use Rattle.dp_program.specs.Files.{Source}
+use Rattle.dp_program.specs.Hints.{status_in}
 use Rattle.dp_program.specs.Requests.{RequestOf}
 use Rattle.dp_program.specs.Serves.{Serves}
 use Rattle.dp_program.specs.Status.{Prints, status_after}
 use Rattle.dp_program.specs.declared.faulted.Faulted.{Faulted}
+use Rattle.dp_program.specs.declared.hints.Served.{Served}
 
 -- the status where the words are no request: 0 where help was asked for, and 2 of a mistake
 abbrev pub explained_status : ErrorKind → ℕ
@@ -30,14 +32,14 @@ pub record Sink : Type 0 where
 abbrev pub sink : Option (List ℕ) → Bool → Sink
 sink contents failed = record { contents = contents; failed = failed }
 
--- what the program writes and answers where its words ask for something: what the request does, with its status, and with the
--- text of its fault on the errors; `explains` says whether the fault and the notes of `check` are explained
+-- what the program writes and answers where its words ask for something: what the request does, with its status, and with what
+-- is told beside it or the text of its fault on the errors; `explains` says whether the fault and the notes of `check` are explained
 pub record Fulfils (files : List ℕ → Source) (input : Source) (want : RequestOf) (explains : Bool)
     (output output_after errors errors_after : Sink) (status : ℕ) : Type 0 where
-  pub answered : Result ℕ Faulted
+  pub answered : Result Served Faulted
   pub serves : Serves files input want explains output.contents output_after.contents answered
   pub written : output_after.failed ≡ (output.failed || is_write_failed (unplaced answered))
-  pub told : status ≡ status_after answered
+  pub told : status ≡ status_after (status_in answered)
   pub printed : errors_after.failed ≡ false → Prints errors.contents errors_after.contents explains answered
 
 -- what stands in place of a request, by its kind, comes to the kind's status; else memory was refused, or help was not written

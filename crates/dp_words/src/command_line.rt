@@ -16,12 +16,14 @@ ghost use Rattle.dp_program.specs.Texts.{paths_of};
 ghost use Rattle.dp_words.specs.CommandLine as spec;
 ghost use Rattle.dp_words.specs.Refusals as refusals;
 
-use crate::commands::{explain_command, match_command, pbx_command, run_command};
+use crate::commands::{
+    check_of_dialplan, explain_command, match_command, pbx_command, run_command,
+};
 use clap::error::ErrorKind;
 use clap::{ArgMatches, Command, Error};
 use dp_commands::number_within;
 use dp_plan::{MOST_PRIORITY, NoMemory, Priority};
-use dp_program::{FaultNumber, Lookup, Request, RunFiles};
+use dp_program::{CheckFiles, FaultNumber, Lookup, Request, RunFiles};
 use std::alloc::Global;
 
 /// What a command line asks for.
@@ -147,13 +149,18 @@ fn is_set(given: &ArgMatches<'_>, name: &str) -> bool
     }
 }
 
-/// What the words of `check` ask for.
+/// What the words of `check` ask for, or None where they name no file.
 fn check_request<'a>(given: &ArgMatches<'a>) -> Option<Request<'a>>
     ensures { option_map asked result ≡ spec.check_asked (rows_of (found_of given.now)) }
 {
-    Some(Request::Check {
-        file: word_of(given, "FILE")?,
-    })
+    match (word_of(given, "FILE"), word_of(given, "QUEUES")) {
+        (None, None) => None,
+        (None, Some(queues)) => Some(Request::CheckQueues { queues }),
+        (Some(file), None) => Some(Request::Check { file }),
+        (Some(plan), Some(queues)) => Some(Request::CheckBoth {
+            files: CheckFiles { plan, queues },
+        }),
+    }
 }
 
 /// What the words of `list` ask for.
@@ -310,15 +317,16 @@ fn request_of<'a>(alloc: Global, matches: &ArgMatches<'a>) -> Result<Option<Requ
     }
 }
 
-/// The refusal of a command line that lacks a word that is required.
-fn refuse_missing(alloc: Global) -> Result<Error, NoMemory>
+/// The refusal of a command line that lacks a word that is required. Of each command but `check` the definition of its words refuses it
+/// before, so that it is told of the dialplan that `check` lacks where it has no queues either.
+fn refuse_missing(alloc: Global, explains: bool) -> Result<Error, NoMemory>
     ensures { IfOk result (λ error. kind_of error ≡ MissingRequiredArgument) }
 {
     refuse(
-        pbx_command(alloc),
-        "pbx",
+        check_of_dialplan(alloc, explains),
+        "pbx check",
         ErrorKind::MissingRequiredArgument,
-        "one or more required arguments were not provided",
+        "the following required arguments were not provided:\n  <FILE>",
     )
 }
 
@@ -348,6 +356,6 @@ pub fn read_words<'a>(alloc: Global, words: &'a [String]) -> Result<Invocation<'
     let explains = explains(&matches);
     match request_of(alloc, &matches)? {
         Some(request) => Ok(Invocation { request, explains }),
-        None => Err(refuse_missing(alloc)?),
+        None => Err(refuse_missing(alloc, explains)?),
     }
 }

@@ -47,6 +47,14 @@ fn required_word<'a>(alloc: Global, name: &'a str, help: &'a str) -> Arg<'a>
     Arg::new(alloc, name).required(true).help(help)
 }
 
+/// A word that may be left out.
+fn free_word<'a>(alloc: Global, name: &'a str, help: &'a str) -> Arg<'a>
+    ensures rule { rule_of result ≡ spec.free_word name.now }
+    ensures local { result.global ≡ false }
+{
+    Arg::new(alloc, name).help(help)
+}
+
 /// A word that may be left out, with what stands for it then.
 fn optional_word<'a>(alloc: Global, name: &'a str, help: &'a str, default: &'a str) -> Arg<'a>
     ensures rule { rule_of result ≡ spec.word_or name.now default.now }
@@ -135,6 +143,18 @@ fn with_files<'a>(
     with_word(with, script)
 }
 
+/// The command with the word of a file of queues.
+fn with_queues<'a>(
+    alloc: Global,
+    command: Result<Command<'a>, NoMemory>,
+    help: &'a str,
+) -> Result<Command<'a>, NoMemory>
+    ensures { (app : App) → Makes app command.entry → Makes (spec.with_queues app) result }
+{
+    let queues = named_word(alloc, "QUEUES", "queues", help);
+    with_word(command, queues)
+}
+
 /// The command with the words of the files that a run may have: those of its queues and of its second dialplan.
 fn with_more_files<'a>(
     alloc: Global,
@@ -142,13 +162,11 @@ fn with_more_files<'a>(
 ) -> Result<Command<'a>, NoMemory>
     ensures { (app : App) → Makes app command.entry → Makes (spec.with_more_files app) result }
 {
-    let queues = named_word(
+    let with = with_queues(
         alloc,
-        "QUEUES",
-        "queues",
+        command,
         "The queues, as queues.conf; without it there are none",
     );
-    let with = with_word(command, queues);
     let second_plan = named_word(
         alloc,
         "DIALPLAN",
@@ -185,12 +203,36 @@ fn with_command<'a>(
 fn check_command<'a>(alloc: Global) -> Result<Command<'a>, NoMemory>
     ensures { Makes spec.check_app result }
 {
-    file_command(
+    let check = described(
         alloc,
         "check",
-        "Load a dialplan, and print its notes and its counts",
+        "Load a dialplan, queues or both, and print notes and counts",
         CHECK_NOTES,
-    )
+    );
+    let check = with_queues(alloc, check, "The queues, as queues.conf");
+    let file = free_word(alloc, "FILE", "The dialplan, as extensions.conf");
+    let check = with_word(check, file);
+    with_explain(alloc, check)
+}
+
+/// The command `check` as it is told where no file is given: with a dialplan, and with the flag `--explain` where that is.
+pub(crate) fn check_of_dialplan<'a>(
+    alloc: Global,
+    explains: bool,
+) -> Result<Command<'a>, NoMemory> {
+    let check = Ok(Command::new(alloc, "check"));
+    let check = with_dialplan(alloc, check);
+    if explains {
+        with_word(
+            check,
+            Arg::new(alloc, "explain")
+                .long("explain")
+                .required(true)
+                .action(ArgAction::SetTrue),
+        )
+    } else {
+        check
+    }
 }
 
 /// The command `audit`.

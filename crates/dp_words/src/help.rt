@@ -22,13 +22,16 @@ Status: 0; 1 where a fault was printed, an event was refused or an audit found s
 
 /// What the help of `check` says below its words.
 pub(crate) const CHECK_NOTES: &str = "\
-Prints `note LINE KIND` for each line that is dropped and for each include that finds nothing, and then the counts.
-A dialplan that does not load has its first fault on standard error, with its line, and the status 1.
+Prints `note LINE KIND` for each line that is dropped and for each include that finds nothing, and then the counts. With
+--queues a line with the count of queues follows; without FILE it stands alone. A file that does not load has its first fault
+on standard error, with its line, and the status 1.
 
 Example:
   $ pbx check extensions.conf
   note 13 UnknownContext
-  ok 1 contexts 4 entries";
+  ok 1 contexts 4 entries
+  $ pbx check --queues queues.conf
+  ok 2 queues";
 
 /// What the help of `list` says below its words.
 pub(crate) const LIST_NOTES: &str = "\

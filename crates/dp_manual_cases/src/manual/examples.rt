@@ -181,6 +181,13 @@ exten => s,0,NoOp()
 $ pbx check faulty.conf
 fault 20 BadPriority line 2
 ? 1
+$ pbx check --queues sample/queues.conf sample/menu.conf
+ok 1 contexts 9 entries
+ok 1 queues
+? 0
+$ pbx check --queues sample/queues.conf
+ok 1 queues
+? 0
 $ pbx list sample/extensions.conf
 [globals]
 DESK => 100
@@ -213,6 +220,16 @@ rest,_X.,1 NoOp
 ? 0
 $ pbx match sample/extensions.conf phones 1
 none
+? 0
+$ pbx match --explain sample/extensions.conf phone 100
+none
+pbx: sample/extensions.conf has no context `phone`
+  nearest: phones
+  nearest: rest
+? 0
+$ pbx match sample/queues.conf phones 100
+none
+pbx: sample/queues.conf has no entry: is it a dialplan?
 ? 0
 $ pbx match --all sample/extensions.conf phones 100
 phones,100,1 NoOp
@@ -378,6 +395,7 @@ ok 1 contexts 4 entries
 ? 0
 $ pbx run --explain missing.conf missing.script
 fault 7 ReadFailed
+  missing.conf
   a file could not be opened or read
 ? 1
 @ joined.text

@@ -26,6 +26,25 @@ check @sample/extensions.conf→1→→fault 7 ReadFailed¶
 check @xxxxxxxxxxxxxxxxxxxxxxxxxxxxxxxxxxxxxxxxxxxxxxxxxxxxxxxxxxxxxxxxxxxxxxxxxxxxxxxxxxxxxxxxxxxxxxxxxxxxxxxxxxxxxxxxxxxxxxxxxxxxxxxxxxxxxxxxxxxxxxxxxxxxxxxxxxxxxxxxxxxxxxxxxxxxxxxxxxxxxxxxxxxxxxxxxxxxxxxxxxxxxxxxxxxxxxxxxxxxxxxxxxxxxxxxxxxxxxxxxxxxxxxxxxxxxxxx→1→→fault 7 ReadFailed¶
 check ''→1→→fault 7 ReadFailed¶
 check @long→1→→fault 8 TooLong¶
+# Queues alone: no section `[general]` is one.
+check --queues @help→0→ok 1 queues¶→
+check --queues @queues→0→ok 2 queues¶→
+check --queues @empty→0→ok 0 queues¶→
+check --queues @strategy→1→→fault 30 BadStrategy line 2¶
+check --queues @faulty→1→→fault 4 NoEquals line 2¶
+check --queues @missing→1→→fault 7 ReadFailed¶
+check --queues @long→1→→fault 8 TooLong¶
+# A dialplan and queues: the queues are told last.
+check --queues @help @usual→0→note 13 UnknownContext¶ok 1 contexts 4 entries¶ok 1 queues¶→
+check @empty --queues @queues→0→ok 0 contexts 0 entries¶ok 2 queues¶→
+# Both files are read before their texts, the dialplan first, and so come the faults of their texts. Nothing else is printed.
+check --queues @strategy @usual→1→→fault 30 BadStrategy line 2¶
+check --queues @help @priority→1→→fault 20 BadPriority line 2¶
+check --queues @strategy @priority→1→→fault 20 BadPriority line 2¶
+check --queues @missing @long→1→→fault 8 TooLong¶
+check --queues @long @missing→1→→fault 7 ReadFailed¶
+check --queues @long @faulty→1→→fault 8 TooLong¶
+check --queues @strategy @missing→1→→fault 7 ReadFailed¶
 ";
 
 /// `list`.
@@ -46,9 +65,9 @@ match @usual main 5551234 4→0→main,_NXXXXXX,4 Hangup¶→
 match @usual main 5551234 5→0→none¶→
 match @usual main 1551234→0→none¶→
 # The context that is included is none, and names have their case.
-match @usual out 5551234→0→none¶→
-match @usual Main 5551234→0→none¶→
-match @usual '' ''→0→none¶→
+match @usual out 5551234→0→none¶→pbx: @usual has no context `out`¶
+match @usual Main 5551234→0→none¶→pbx: @usual has no context `Main`¶
+match @usual '' ''→0→none¶→pbx: @usual has no context ``¶
 # The most specific name answers, in its one spelling.
 match @classes main 45→0→main,_[01234]X,1 NoOp¶→
 match @specific main 123→0→main,123,1 NoOp¶→
@@ -76,7 +95,13 @@ match @faulty main s→1→→fault 4 NoEquals line 2¶
 match @missing main s→1→→fault 7 ReadFailed¶
 match @folder main s→1→→fault 7 ReadFailed¶
 match @long main s→1→→fault 8 TooLong¶
-match @empty main s→0→none¶→
+match @empty main s→0→none¶→pbx: @empty has no context: is it a dialplan?¶
+# Nor where no context has an entry or an include, as in a file of queues. An include alone is enough.
+match @help main s→0→none¶→pbx: @help has no entry: is it a dialplan?¶
+match @help help s→0→none¶→pbx: @help has no entry: is it a dialplan?¶
+match --all @queues main s→0→none¶→pbx: @queues has no entry: is it a dialplan?¶
+match @cycle c 77→0→none¶→pbx: @cycle has no context `c`¶
+match --all @specific mian 123→0→none¶→pbx: @specific has no context `mian`¶
 # All that match.
 match --all @specific main 123→0→main,123,1 NoOp¶main,123,1 NoOp: answers¶main,_1XX,1 NoOp: less specific¶main,_X.,1 NoOp: less specific¶→
 match @priorities main 123 2 --all→0→main,_X.,2 NoOp¶main,123,2: no such priority¶main,_X.,2 NoOp: answers¶→
@@ -90,12 +115,13 @@ match --all @missing main s→1→→fault 7 ReadFailed¶
 const AUDITS: &str = "\
 audit @cycle→1→Cycle a¶Cycle b¶ok 2 findings¶→
 audit @first→0→ok 0 findings¶→
-audit @empty→0→ok 0 findings¶→
+audit @empty→0→ok 0 findings¶→pbx: @empty has no context: is it a dialplan?¶
+audit @help→0→ok 0 findings¶→pbx: @help has no entry: is it a dialplan?¶
 audit @faulty→1→→fault 4 NoEquals line 2¶
 audit @missing→1→→fault 7 ReadFailed¶
 audit @long→1→→fault 8 TooLong¶
 # It reads no input.
-audit @empty←[main]¶abc¶→0→ok 0 findings¶→
+audit @empty←[main]¶abc¶→0→ok 0 findings¶→pbx: @empty has no context: is it a dialplan?¶
 ";
 
 /// `explain`.
@@ -142,6 +168,10 @@ run --explain --queues @strategy @first @first.script→1→→fault 30 BadStrat
 run --explain --queues @faulty @first @first.script→1→→fault 4 NoEquals line 2¶  @faulty:2¶  abc¶  a line of a section with no `=`¶
 run --explain --threads 2 --queues @odd @first @faulty.script→1→→fault 4 NoEquals line 2¶  @odd:2¶  a\\x09b\\x7f\\xc3\\xa9 c\\x0d¶  a line of a section with no `=`¶
 debug --explain --break main,s,1 --queues @faulty @first @faulty.script→1→→fault 4 NoEquals line 2¶  @faulty:2¶  abc¶  a line of a section with no `=`¶
+check --explain --queues @strategy→1→→fault 30 BadStrategy line 2¶  @strategy:2¶  strategy = best¶  a strategy that is none¶
+check --explain --queues @strategy @first→1→→fault 30 BadStrategy line 2¶  @strategy:2¶  strategy = best¶  a strategy that is none¶
+check --explain --queues @faulty @first→1→→fault 4 NoEquals line 2¶  @faulty:2¶  abc¶  a line of a section with no `=`¶
+check --explain --queues @odd @faulty→1→→fault 4 NoEquals line 2¶  @faulty:2¶  abc¶  a line of a section with no `=`¶
 # In a script. The second dialplan has no fault of its own.
 run --explain @first @faulty.script→1→→fault 70 BadScript line 2¶  @faulty.script:2¶  jump 1¶  a line of the script that begins with another word than those of scripts, that has too few or too many words, or of which CH or COUNT is no number or too great, or STATUS none of its five; or `reload` where there is no second dialplan¶
 run --explain --queues @help --reload @faulty @first @faulty.script→1→→fault 70 BadScript line 2¶  @faulty.script:2¶  jump 1¶  a line of the script that begins with another word than those of scripts, that has too few or too many words, or of which CH or COUNT is no number or too great, or STATUS none of its five; or `reload` where there is no second dialplan¶
@@ -150,13 +180,29 @@ debug --explain --break main,s,1 @first @faulty.script→1→→fault 70 BadScri
 check --explain @odd→1→→fault 4 NoEquals line 2¶  @odd:2¶  a\\x09b\\x7f\\xc3\\xa9 c\\x0d¶  a line of a section with no `=`¶
 check --explain @wide→1→→fault 4 NoEquals line 2¶  @wide:2¶  xxxxxxxxxxxxxxxxxxxxxxxxxxxxxxxxxxxxxxxxxxxxxxxxxxxxxxxxxxxxxxxxxxxxxxxxxxxxxxxxxxxxxxxxxxxxxxxxxxxxxxxxxxxxxxxxxxxxxxxxxxxxxxxxxxxxxxxxxxxxxxxxxxxxxxxxxxxxxxxxxxxxxxxxxxxxxxxxxxxxxxxxxxxxxxxxxxxxxxxx¶  a line of a section with no `=`¶
 check --explain @marked→1→→fault 3 BadHeader line 1¶  @marked:1¶  \\xef\\xbb\\xbf[main¶  a header with no `]`, with an empty name, or with text after the `]`¶
-# Faults that stand in no line.
-check --explain @missing→1→→fault 7 ReadFailed¶  a file could not be opened or read¶
-check --explain @long→1→→fault 8 TooLong¶  a file has more than 16,777,216 bytes¶
-run --explain --queues @missing @first @first.script→1→→fault 7 ReadFailed¶  a file could not be opened or read¶
+# Of a file that could not be read stands its path: of the first of all.
+check --explain @missing→1→→fault 7 ReadFailed¶  @missing¶  a file could not be opened or read¶
+check --explain @long→1→→fault 8 TooLong¶  @long¶  a file has more than 16,777,216 bytes¶
+check --explain --queues @long→1→→fault 8 TooLong¶  @long¶  a file has more than 16,777,216 bytes¶
+check --explain --queues @missing @long→1→→fault 8 TooLong¶  @long¶  a file has more than 16,777,216 bytes¶
+check --explain --queues @missing @faulty→1→→fault 7 ReadFailed¶  @missing¶  a file could not be opened or read¶
+list --explain @folder→1→→fault 7 ReadFailed¶  @folder¶  a file could not be opened or read¶
+match --explain @missing main s→1→→fault 7 ReadFailed¶  @missing¶  a file could not be opened or read¶
+match --all --explain @missing main s→1→→fault 7 ReadFailed¶  @missing¶  a file could not be opened or read¶
+audit --explain @missing→1→→fault 7 ReadFailed¶  @missing¶  a file could not be opened or read¶
+run --explain --queues @missing @first @first.script→1→→fault 7 ReadFailed¶  @missing¶  a file could not be opened or read¶
+run --explain @missing @folder→1→→fault 7 ReadFailed¶  @missing¶  a file could not be opened or read¶
+run --explain --queues @missing --reload @folder @first @folder→1→→fault 7 ReadFailed¶  @missing¶  a file could not be opened or read¶
+run --explain --queues @help --reload @long @first @missing→1→→fault 8 TooLong¶  @long¶  a file has more than 16,777,216 bytes¶
+run --explain --queues @help --reload @missing @faulty @folder→1→→fault 7 ReadFailed¶  @missing¶  a file could not be opened or read¶
+run --explain --queues @help --reload @changed @faulty @folder→1→→fault 7 ReadFailed¶  @folder¶  a file could not be opened or read¶
+run --explain --threads 2 @first @missing→1→→fault 7 ReadFailed¶  @missing¶  a file could not be opened or read¶
+debug --explain --break main,s --reload @missing @first @first.script→1→→fault 7 ReadFailed¶  @missing¶  a file could not be opened or read¶
+# Faults that stand in no file.
 debug --explain --break main,s @faulty @faulty.script→1→→fault 71 BadBreak¶  a break of `debug` that has not three parts, or of which the priority is no number from 1 to 2,147,483,647¶
 # Notes.
 check --explain @usual→0→note 13 UnknownContext¶  @usual:13¶  include => out¶  there is no context of this name; the include is kept, and finds nothing¶ok 1 contexts 4 entries¶→
+check --explain --queues @help @usual→0→note 13 UnknownContext¶  @usual:13¶  include => out¶  there is no context of this name; the include is kept, and finds nothing¶ok 1 contexts 4 entries¶ok 1 queues¶→
 check @notes --explain→0→note 2 UnknownKey¶  @notes:2¶  =x¶  a context has no such key, or a key in `[globals]` is empty, whatever its value is; this line is dropped¶note 5 DoublePriority¶  @notes:5¶  exten => s,1,Hangup()¶  an earlier line of the context that is kept has the extension and the priority; this line is dropped¶note 7 DoubleLabel¶  @notes:7¶  exten => s,3(x),NoOp()¶  an earlier line of the context and the extension that is kept has the label; this line is dropped¶note 8 UnknownContext¶  @notes:8¶  include => nowhere¶  there is no context of this name; the include is kept, and finds nothing¶note 9 UnknownKey¶  @notes:9¶  colour = red¶  a context has no such key, or a key in `[globals]` is empty, whatever its value is; this line is dropped¶ok 1 contexts 2 entries¶→
 # Where there is neither a fault nor a note, and of a refused event, there is nothing more.
 check --explain @sections→0→ok 3 contexts 2 entries¶→
@@ -164,6 +210,16 @@ list --explain @cycle→0→[a]¶include => b¶[b]¶include => a¶→
 audit --explain @cycle→1→Cycle a¶Cycle b¶ok 2 findings¶→
 run --explain @notes @empty→0→→
 run --explain @first @refused.script→1→refused 40 NoChannel¶started 1¶ran 1 main,100,1 NoOp -> ready main,100,2¶→
+# The nearest names of contexts: at most three, the nearest first, and of those that are as near the first of the file. One that has
+# more than 80 bytes is compared with none.
+match --explain @near main s→0→none¶→pbx: @near has no context `main`¶  nearest: min¶  nearest: mainn¶  nearest: mien¶
+match --explain @near X s→0→none¶→pbx: @near has no context `X`¶  nearest: ax¶  nearest: min¶  nearest: mien¶
+match --all --explain @sections d 1→0→none¶→pbx: @sections has no context `d`¶  nearest: a¶  nearest: b¶  nearest: c¶
+match --explain @specific '' 123→0→none¶→pbx: @specific has no context ``¶  nearest: main¶
+match --explain @near mmmmmmmmmmmmmmmmmmmmmmmmmmmmmmmmmmmmmmmmmmmmmmmmmmmmmmmmmmmmmmmmmmmmmmmmmmmmmmmm s→0→none¶→pbx: @near has no context `mmmmmmmmmmmmmmmmmmmmmmmmmmmmmmmmmmmmmmmmmmmmmmmmmmmmmmmmmmmmmmmmmmmmmmmmmmmmmmmm`¶  nearest: min¶  nearest: mien¶  nearest: mainn¶
+match --explain @near xxxxxxxxxxxxxxxxxxxxxxxxxxxxxxxxxxxxxxxxxxxxxxxxxxxxxxxxxxxxxxxxxxxxxxxxxxxxxxxxx s→0→none¶→pbx: @near has no context `xxxxxxxxxxxxxxxxxxxxxxxxxxxxxxxxxxxxxxxxxxxxxxxxxxxxxxxxxxxxxxxxxxxxxxxxxxxxxxxxx`¶
+match --explain @empty main s→0→none¶→pbx: @empty has no context: is it a dialplan?¶
+match --explain @specific main 1→0→none¶→
 explain --explain 4→0→4 NoEquals¶a line of a section with no `=`¶example: `abc`¶→
 ";
 

@@ -11,9 +11,13 @@ chekc @usual→unrecognized subcommand 'chekc'¶¶  tip: a similar subcommand ex
 dial→unrecognized subcommand 'dial'→pbx [COMMAND]
 --loud→unexpected argument '--loud' found→pbx [COMMAND]
 check→the following required arguments were not provided:¶  <FILE>→pbx check <FILE>
-check @usual more→unexpected argument 'more' found→pbx check [OPTIONS] <FILE>
-check --loud x→unexpected argument '--loud' found¶¶  tip: to pass '--loud' as a value, use '-- --loud'→pbx check [OPTIONS] <FILE>
-check --reload @usual @usual→unexpected argument '--reload' found¶¶  tip: to pass '--reload' as a value, use '-- --reload'→pbx check [OPTIONS] <FILE>
+check --explain→the following required arguments were not provided:¶  <FILE>→pbx check --explain <FILE>
+check --→the following required arguments were not provided:¶  <FILE>→pbx check <FILE>
+check --queues @help --queues @help→the argument '--queues <QUEUES>' cannot be used multiple times→pbx check [OPTIONS] [FILE]
+check --queues @help a b→unexpected argument 'b' found→pbx check [OPTIONS] [FILE]
+check @usual more→unexpected argument 'more' found→pbx check [OPTIONS] [FILE]
+check --loud x→unexpected argument '--loud' found¶¶  tip: to pass '--loud' as a value, use '-- --loud'→pbx check [OPTIONS] [FILE]
+check --reload @usual @usual→unexpected argument '--reload' found¶¶  tip: to pass '--reload' as a value, use '-- --reload'→pbx check [OPTIONS] [FILE]
 match @usual→the following required arguments were not provided:¶  <CONTEXT>¶  <TEXT>→pbx match <FILE> <CONTEXT> <TEXT> [PRIORITY]
 match @usual main 1 2 3→unexpected argument '3' found→pbx match [OPTIONS] <FILE> <CONTEXT> <TEXT> [PRIORITY]
 match @usual main -5→unexpected argument '-5' found¶¶  tip: to pass '-5' as a value, use '-- -5'→pbx match [OPTIONS] <FILE> <CONTEXT> <TEXT> [PRIORITY]
@@ -47,7 +51,7 @@ run --threads=two @missing @missing→invalid value 'two' for '--threads <N>': t
 run --threads 2 @missing→the following required arguments were not provided:¶  <SCRIPT>→pbx run --threads <N> <FILE> <SCRIPT>
 debug @missing @missing→the following required arguments were not provided:¶  --break <CONTEXT,EXTEN,PRIORITY>→pbx debug --break <CONTEXT,EXTEN,PRIORITY> <FILE> <SCRIPT>
 debug --break main,s,1 a b c→unexpected argument 'c' found→pbx debug [OPTIONS] --break <CONTEXT,EXTEN,PRIORITY> <FILE> <SCRIPT>
-check --version→unexpected argument '--version' found¶¶  tip: to pass '--version' as a value, use '-- --version'→pbx check [OPTIONS] <FILE>
+check --version→unexpected argument '--version' found¶¶  tip: to pass '--version' as a value, use '-- --version'→pbx check [OPTIONS] [FILE]
 help dial→unrecognized subcommand 'dial'→pbx [COMMAND]
 ";
 
@@ -85,7 +89,7 @@ Say which priority of an Asterisk dialplan answers a call, and run calls through
 Usage: pbx [COMMAND]
 
 Commands:
-  check    Load a dialplan, and print its notes and its counts
+  check    Load a dialplan, queues or both, and print notes and counts
   list     Print a dialplan in its canonical text
   match    Print which entry of a dialplan answers a call
   run      Run a script of events on a dialplan, and print the trace
@@ -116,24 +120,28 @@ Status: 0; 1 where a fault was printed, an event was refused or an audit found s
 
 /// What is printed where help with `check` is asked for.
 const CHECK_HELP: &str = "\
-Load a dialplan, and print its notes and its counts
+Load a dialplan, queues or both, and print notes and counts
 
-Usage: pbx check [OPTIONS] <FILE>
+Usage: pbx check [OPTIONS] [FILE]
 
 Arguments:
-  <FILE>  The dialplan, as extensions.conf
+  [FILE]  The dialplan, as extensions.conf
 
 Options:
-      --explain  Print below each fault, and below each note of `check`, where it stands and what the manual says of it
-  -h, --help     Print help
+      --queues <QUEUES>  The queues, as queues.conf
+      --explain          Print below each fault, and below each note of `check`, where it stands and what the manual says of it
+  -h, --help             Print help
 
-Prints `note LINE KIND` for each line that is dropped and for each include that finds nothing, and then the counts.
-A dialplan that does not load has its first fault on standard error, with its line, and the status 1.
+Prints `note LINE KIND` for each line that is dropped and for each include that finds nothing, and then the counts. With
+--queues a line with the count of queues follows; without FILE it stands alone. A file that does not load has its first fault
+on standard error, with its line, and the status 1.
 
 Example:
   $ pbx check extensions.conf
   note 13 UnknownContext
   ok 1 contexts 4 entries
+  $ pbx check --queues queues.conf
+  ok 2 queues
 ";
 
 /// What is printed where help with `list` is asked for.

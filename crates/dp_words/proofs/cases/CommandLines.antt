@@ -4,7 +4,7 @@ use Rattle.clap.proofs.OnLiterals.{clap_on_literals}
 use Rattle.clap.specs.Faults.{fault_of}
 use Rattle.clap.specs.declared.error.kind.ErrorKind.TheVariants as kind
 use Rattle.dp_program.specs.Entries.{found_entry, found_number}
-use Rattle.dp_program.specs.Requests.{joined, check, listing, auditing, matching, explaining, run, debug}
+use Rattle.dp_program.specs.Requests.{joined, check, check_queues, check_both, listing, auditing, matching, explaining, run, debug}
 use Rattle.dp_words.specs.CommandLine.{pbx_app, asked_of, explains_of}
 use Rattle.dp_words.specs.Refusals.{refusals_of}
 
@@ -15,6 +15,14 @@ no_command = refl
 checked : asked_of (codes "pbx" ∷ codes "check" ∷ codes "a.conf" ∷ []) ≡ Some (check (codes "a.conf"))
 unfolding clap_on_literals asked_of
 checked = refl
+
+checked_queues : asked_of (codes "pbx" ∷ codes "check" ∷ codes "--queues" ∷ codes "q.conf" ∷ []) ≡ Some (check_queues (codes "q.conf"))
+unfolding clap_on_literals asked_of
+checked_queues = refl
+
+checked_both : asked_of (codes "pbx" ∷ codes "check" ∷ codes "a.conf" ∷ codes "--queues" ∷ codes "q.conf" ∷ []) ≡ Some (check_both (codes "a.conf") (codes "q.conf"))
+unfolding clap_on_literals asked_of
+checked_both = refl
 
 listed : asked_of (codes "pbx" ∷ codes "list" ∷ codes "a.conf" ∷ []) ≡ Some (listing (codes "a.conf"))
 unfolding clap_on_literals asked_of
@@ -153,6 +161,10 @@ version = refl
 no_version_of_a_command : fault_of pbx_app (codes "pbx" ∷ codes "check" ∷ codes "--version" ∷ []) ≡ kind.UnknownArgument ∷ []
 unfolding clap_on_literals
 no_version_of_a_command = refl
+
+nothing_to_check : refusals_of (codes "pbx" ∷ codes "check" ∷ codes "--explain" ∷ []) ≡ kind.MissingRequiredArgument ∷ []
+unfolding clap_on_literals refusals_of
+nothing_to_check = refl
 
 -- words that are refused for their number alone
 no_priority : refusals_of (codes "pbx" ∷ codes "match" ∷ codes "a.conf" ∷ codes "main" ∷ codes "5" ∷ codes "0" ∷ []) ≡ kind.ValueValidation ∷ []

@@ -6,7 +6,7 @@ use Rattle.dp_program.proofs.reports.serve_list.Goals as goal
 pub returns-in_err-plan-clause-serves : goal.returns-in_err-plan-clause-serves
 returns-in_err-plan-clause-serves g c =
     let p = err_from_is_err_and c.from_residual.result c.from_residual.ensures.1 in
-    rw (p.1, p.2) (report_refused c.args.file.now (g.F.ReadFiles.source_at c.args.files.now c.args.file.now) list_of (g.W.WriteTold.contents c.args.output.now) _ c.in_err-plan.ensures.read)
+    rw (p.1, p.2) (report_refused c.args.file.now (g.F.ReadFiles.source_at c.args.files.now c.args.file.now) list_of (g.W.WriteTold.contents c.args.output.now) _ c.in_err-plan.ensures.path c.in_err-plan.ensures.read)
 
 -- the text that was read is the one that is reported on
 pub returns-clause-serves : goal.returns-clause-serves

@@ -1,18 +1,17 @@
-use Rattle.std.proofs.Common.{false}
 use Rattle.std.proofs.lemmas.Result.{err_from_is_err_and}
 use Rattle.dp_program.specs.Requests.{lookup_of}
-use Rattle.dp_program.specs.Serves.{look_up}
-use Rattle.dp_program.proofs.ServesLemmas.{report_read, report_refused}
+use Rattle.dp_program.proofs.ServesLemmas.{look_up_read, look_up_refused}
 use Rattle.dp_program.proofs.reports.serve_match.Goals as goal
 
 pub returns-in_err-plan-clause-serves : goal.returns-in_err-plan-clause-serves
 returns-in_err-plan-clause-serves g c =
     let p = err_from_is_err_and c.from_residual.result c.from_residual.ensures.1 in
-    rw (p.1, p.2) (report_refused c.args.lookup.now.file.now (g.F.ReadFiles.source_at c.args.files.now c.args.lookup.now.file.now) (look_up (lookup_of c.args.lookup.now) false) (g.W.WriteTold.contents c.args.output.now) _ c.in_err-plan.ensures.read)
+    rw (p.1, p.2) (look_up_refused (lookup_of c.args.lookup.now) (g.F.ReadFiles.source_at c.args.files.now c.args.lookup.now.file.now) c.args.manner.all c.args.manner.explains (g.W.WriteTold.contents c.args.output.now) _
+    c.in_err-plan.ensures.path c.in_err-plan.ensures.read)
 
--- the text that was read is the one that is reported on
+-- the text that was read is the one in which is looked up
 pub returns-clause-serves : goal.returns-clause-serves
 returns-clause-serves g c =
-    report_read c.args.lookup.now.file.now (g.F.ReadFiles.source_at c.args.files.now c.args.lookup.now.file.now) (look_up (lookup_of c.args.lookup.now) false) (g.W.WriteTold.contents c.args.output.now) (g.W.WriteTold.contents c.find_one.new.output) c.in_ok-plan.plan.items
-    c.deref-2.result.now c.deref.result.now c.deref-2.ensures.value c.deref.ensures.value
-    c.find_one.result c.placed.result c.in_ok-plan.ensures.read c.placed.ensures.same c.find_one.ensures.reports c.placed.ensures.stands
+    look_up_read (lookup_of c.args.lookup.now) (g.F.ReadFiles.source_at c.args.files.now c.args.lookup.now.file.now) c.args.manner.all c.args.manner.explains (g.W.WriteTold.contents c.args.output.now)
+    (g.W.WriteTold.contents c.look_up_told.new.output) c.in_ok-plan.plan.items c.deref-2.result.now c.deref.result.now c.deref-2.ensures.value c.deref.ensures.value
+    c.look_up_told.result c.placed.result c.in_ok-plan.ensures.read c.placed.ensures.same c.look_up_told.ensures.reports c.placed.ensures.stands c.look_up_told.ensures.tells

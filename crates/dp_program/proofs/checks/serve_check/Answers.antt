@@ -1,12 +1,13 @@
 use Rattle.std.proofs.lemmas.Result.{err_from_is_err_and}
-use Rattle.dp_program.specs.Serves.{check_by}
+use Rattle.dp_program.specs.Checks.{check_by}
 use Rattle.dp_program.proofs.ServesLemmas.{report_read, report_refused}
-use Rattle.dp_program.proofs.reports.serve_check.Goals as goal
+use Rattle.dp_program.proofs.checks.serve_check.Goals as goal
 
 pub returns-in_err-plan-clause-serves : goal.returns-in_err-plan-clause-serves
 returns-in_err-plan-clause-serves g c =
     let p = err_from_is_err_and c.from_residual.result c.from_residual.ensures.1 in
-    rw (p.1, p.2) (report_refused c.args.file.now (g.F.ReadFiles.source_at c.args.files.now c.args.file.now) (check_by c.args.explains c.args.file.now) (g.W.WriteTold.contents c.args.output.now) _ c.in_err-plan.ensures.read)
+    rw (p.1, p.2) (report_refused c.args.file.now (g.F.ReadFiles.source_at c.args.files.now c.args.file.now) (check_by c.args.explains c.args.file.now) (g.W.WriteTold.contents c.args.output.now) _
+    c.in_err-plan.ensures.path c.in_err-plan.ensures.read)
 
 -- the text that was read is the one that is reported on
 pub returns-clause-serves : goal.returns-clause-serves

@@ -1,0 +1,178 @@
+//! What the requests do that check a dialplan, a file of queues, or both.
+ghost use Rattle.std.specs.Prelude.{◌≡◌, ◌||◌, List, ℕ, Result, IfOk, false};
+ghost use Rattle.dp_conf.specs.Answers.{Answers, Refuses};
+ghost use Rattle.dp_commands.specs.Faults.{is_write_failed, is_write_fault, reason_of};
+ghost use Rattle.dp_commands.specs.Report.{Reports};
+ghost use Rattle.dp_commands.specs.declared.fault.PbxFault.{PbxFault};
+ghost use Rattle.dp_program.specs.Checks as spec;
+ghost use Rattle.dp_program.specs.Faulted.{unplaced};
+ghost use Rattle.dp_program.specs.Serves.{ChecksBoth, ReportsOn};
+
+use crate::faulted::{Faulted, placed, placed_in_two};
+use crate::files::ReadFiles;
+use crate::request::CheckFiles;
+use crate::texts::{FileText, read_text};
+use dp_commands::{PbxFault, check, check_explained};
+use dp_conf::WriteTold;
+use dp_plan::{Dialplan, NoMemory};
+use dp_queue::Queues;
+use itoa::Buffer;
+use std::alloc::Global;
+
+/// Reports on a dialplan by the path of its file and its text, and explains its notes where that is asked for.
+fn check_by<W: WriteTold>(
+    alloc: Global,
+    path: &str,
+    plan: &[u8],
+    explains: bool,
+    output: &mut W,
+) -> Result<u8, PbxFault>
+    ensures reports { Reports (W.contents output.old) (W.contents output.new)
+        (spec.check_by explains path.now plan.now) result }
+    ensures told { W.has_failed output.new ≡ (W.has_failed output.old || is_write_failed result) }
+{
+    if explains {
+        check_explained(alloc, path, plan, output)
+    } else {
+        check(alloc, plan, output)
+    }
+}
+
+/// Reports on the dialplan of a file.
+pub(crate) fn serve_check<'a, F: ReadFiles, W: WriteTold>(
+    files: &F,
+    alloc: Global,
+    file: &'a str,
+    explains: bool,
+    output: &mut W,
+) -> Result<u8, Faulted<'a>>
+    ensures serves { ReportsOn file.now (F.source_at files.now file.now) (spec.check_by explains file.now)
+        (W.contents output.old) (W.contents output.new) result }
+    ensures told { W.has_failed output.new ≡ (W.has_failed output.old || is_write_failed (unplaced result)) }
+{
+    let plan = read_text(files, alloc, file)?;
+    placed(file, &plan, check_by(alloc, file, &plan, explains, output))
+}
+
+/// The line that so many queues were loaded.
+fn queues_line(alloc: Global, count: usize) -> Result<Vec<u8>, NoMemory>
+    ensures { IfOk result (λ line. line.items ≡ spec.queues_line count) }
+{
+    let mut line = Vec::new(alloc);
+    let mut buffer = Buffer::new();
+    line.extend_from_slice(b"ok ")?;
+    line.extend_from_slice(buffer.format(count).as_bytes())?;
+    line.extend_from_slice(b" queues\n")?;
+    Ok(line)
+}
+
+/// What is reported of the text of a file of queues, or its fault.
+#[tactic(auto, unfolding(crate::specs::Checks::queues_report))]
+fn queues_report(alloc: Global, text: &[u8]) -> Result<Vec<u8>, PbxFault>
+    ensures line { Answers (λ line. line.items) reason_of result (spec.queues_report text.now) }
+    ensures quiet { is_write_failed result ≡ false }
+{
+    let queues = Queues::load(alloc, text)?;
+    let line = queues_line(alloc, queues.queues().len())?;
+    Ok(line)
+}
+
+/// Reports on the text of a file of queues.
+fn check_queues<W: WriteTold>(alloc: Global, queues: &[u8], output: &mut W) -> Result<u8, PbxFault>
+    ensures reports { Reports (W.contents output.old) (W.contents output.new) (spec.queues_report queues.now) result }
+    ensures told { W.has_failed output.new ≡ (W.has_failed output.old || is_write_failed result) }
+{
+    let line = queues_report(alloc, queues)?;
+    output.write_told(&line)?;
+    Ok(0)
+}
+
+/// Reports on the queues of a file.
+pub(crate) fn serve_check_queues<'a, F: ReadFiles, W: WriteTold>(
+    files: &F,
+    alloc: Global,
+    file: &'a str,
+    output: &mut W,
+) -> Result<u8, Faulted<'a>>
+    ensures serves { ReportsOn file.now (F.source_at files.now file.now) spec.queues_report
+        (W.contents output.old) (W.contents output.new) result }
+    ensures told { W.has_failed output.new ≡ (W.has_failed output.old || is_write_failed (unplaced result)) }
+{
+    let queues = read_text(files, alloc, file)?;
+    placed(file, &queues, check_queues(alloc, &queues, output))
+}
+
+/// Reports on a dialplan, and then writes a line.
+#[tactic(auto, using(crate::proofs::ChecksLemmas::line_refused, crate::proofs::ChecksLemmas::line_written, crate::proofs::ChecksLemmas::line_failed))]
+fn check_before<W: WriteTold>(
+    alloc: Global,
+    plan: &FileText<'_>,
+    explains: bool,
+    line: &[u8],
+    output: &mut W,
+) -> Result<u8, PbxFault>
+    ensures reports { Reports (W.contents output.old) (W.contents output.new)
+        (spec.with_line line.now (spec.check_by explains plan.now.path.now plan.now.text.items)) result }
+    ensures told { W.has_failed output.new ≡ (W.has_failed output.old || is_write_failed result) }
+{
+    check_by(alloc, plan.path, &plan.text, explains, output)?;
+    output.write_told(line)?;
+    Ok(0)
+}
+
+/// The fault of a dialplan's text, or where it has none the fault that comes after it.
+fn first_fault(alloc: Global, plan: &[u8], later: PbxFault) -> PbxFault
+    ensures first { (given : Result (List ℕ) PbxFault) → Refuses (reason_of later) given
+        → Refuses (reason_of result) (spec.after_plan plan.now given) }
+    ensures quiet { is_write_fault later ≡ false → is_write_fault result ≡ false }
+{
+    match Dialplan::load(alloc, plan) {
+        Ok(_) => later,
+        Err(fault) => PbxFault::from(fault),
+    }
+}
+
+/// Reports on the texts of a dialplan and of queues. Nothing is written where one of them has a fault.
+#[tactic(auto, using(crate::proofs::ChecksLemmas::both_refused, crate::proofs::ChecksLemmas::both_written))]
+fn check_both<W: WriteTold>(
+    alloc: Global,
+    plan: &FileText<'_>,
+    queues: &FileText<'_>,
+    explains: bool,
+    output: &mut W,
+) -> Result<u8, PbxFault>
+    ensures reports { Reports (W.contents output.old) (W.contents output.new)
+        (spec.both_report explains plan.now.path.now plan.now.text.items queues.now.text.items) result }
+    ensures told { W.has_failed output.new ≡ (W.has_failed output.old || is_write_failed result) }
+{
+    match queues_report(alloc, &queues.text) {
+        Ok(line) => check_before(alloc, plan, explains, &line, output),
+        Err(fault) => Err(first_fault(alloc, &plan.text, fault)),
+    }
+}
+
+/// Reports on the dialplan of a file and on the queues of another.
+pub(crate) fn serve_check_both<'a, F: ReadFiles, W: WriteTold>(
+    files: &F,
+    alloc: Global,
+    paths: &CheckFiles<'a>,
+    explains: bool,
+    output: &mut W,
+) -> Result<u8, Faulted<'a>>
+    ensures serves { ChecksBoth (F.source_at files.now) paths.now.plan.now paths.now.queues.now explains
+        (W.contents output.old) (W.contents output.new) result }
+    ensures told { W.has_failed output.new ≡ (W.has_failed output.old || is_write_failed (unplaced result)) }
+{
+    let plan = read_text(files, alloc, paths.plan)?;
+    let queues = read_text(files, alloc, paths.queues)?;
+    let plan = FileText {
+        path: paths.plan,
+        text: plan,
+    };
+    let queues = FileText {
+        path: paths.queues,
+        text: queues,
+    };
+    let answered = check_both(alloc, &plan, &queues, explains, output);
+    placed_in_two(&plan, &queues, answered)
+}

@@ -1,0 +1,182 @@
+//! What is told beside an answer about a dialplan that has no entry, or not the context that was named.
+ghost use Rattle.std.specs.Prelude.{◌≡◌, ◌++◌, OnOk, IfOk, false};
+ghost use Rattle.dp_conf.specs.Answers.{Answers};
+ghost use Rattle.dp_commands.specs.Faults.{is_write_failed, reason_of};
+ghost use Rattle.dp_plan.specs.Lookup.{number_of};
+ghost use Rattle.dp_program.specs.Faulted.{unplaced};
+ghost use Rattle.dp_program.specs.Files.{has_read_failed};
+ghost use Rattle.dp_program.specs.Hints as spec;
+ghost use Rattle.dp_program.specs.Requests.{lookup_of};
+
+use crate::faulted::Faulted;
+use crate::nearest::push_nearest;
+use crate::request::Lookup;
+use dp_commands::PbxFault;
+use dp_plan::{Dialplan, NoMemory, Text};
+use std::alloc::Global;
+
+/// What a request came to that has no fault.
+#[derive(Debug, Drop)]
+pub struct Served {
+    /// The status.
+    pub status: u8,
+    /// What is told beside what was written; it may be nothing.
+    pub hint: Vec<u8>,
+}
+
+/// What was answered, with nothing told beside it.
+pub(crate) fn unhinted<'a>(
+    alloc: Global,
+    answered: Result<u8, Faulted<'a>>,
+) -> Result<Served, Faulted<'a>>
+    ensures same { spec.status_in result ≡ answered.entry }
+    ensures nothing { spec.TellsNothing result }
+    ensures told { is_write_failed (unplaced result) ≡ is_write_failed (unplaced answered.entry) }
+    ensures heard { has_read_failed (unplaced result) ≡ has_read_failed (unplaced answered.entry) }
+{
+    match answered {
+        Ok(status) => Ok(Served {
+            status,
+            hint: Vec::new(alloc),
+        }),
+        Err(faulted) => Err(faulted),
+    }
+}
+
+/// Whether no context has an entry or an include.
+fn is_bare(plan: &Dialplan) -> bool
+    ensures { result ≡ spec.is_bare plan.now }
+{
+    plan.contexts().iter().all(|context| context.entries().len() == 0
+        && context.includes().len() == 0)
+}
+
+/// What a dialplan lacks of which no context has any of both: contexts, or entries.
+fn lacking(plan: &Dialplan) -> &'static [u8]
+    ensures { result.now ≡ spec.lacking plan.now }
+{
+    if plan.contexts().len() == 0 {
+        b"context"
+    } else {
+        b"entry"
+    }
+}
+
+/// Adds the line that a file may be no dialplan, by what it lacks.
+fn push_bare_line(hint: &mut Vec<u8>, file: &str, lack: &[u8]) -> Result<(), NoMemory>
+    ensures { OnOk result (hint.new.items ≡ hint.old.items ++ spec.bare_line file.now lack.now) }
+{
+    hint.extend_from_slice(b"pbx: ")?;
+    hint.extend_from_slice(file.as_bytes())?;
+    hint.extend_from_slice(b" has no ")?;
+    hint.extend_from_slice(lack)?;
+    hint.extend_from_slice(b": is it a dialplan?\n")?;
+    Ok(())
+}
+
+/// Adds the line that a file has no context of a name.
+fn push_unknown_context(hint: &mut Vec<u8>, lookup: &Lookup<'_>) -> Result<(), NoMemory>
+    ensures { OnOk result (hint.new.items
+        ≡ hint.old.items ++ spec.unknown_context lookup.now.file.now lookup.now.context.now) }
+{
+    hint.extend_from_slice(b"pbx: ")?;
+    hint.extend_from_slice(lookup.file.as_bytes())?;
+    hint.extend_from_slice(b" has no context `")?;
+    hint.extend_from_slice(lookup.context.as_bytes())?;
+    hint.extend_from_slice(b"`\n")?;
+    Ok(())
+}
+
+/// Adds the lines of the nearest names, where they are asked for.
+fn push_near_lines(
+    alloc: Global,
+    hint: &mut Vec<u8>,
+    explains: bool,
+    name: &str,
+    plan: &Dialplan,
+) -> Result<(), NoMemory>
+    ensures { OnOk result (hint.new.items ≡ hint.old.items ++ spec.near_lines explains name.now plan.now) }
+{
+    if !explains {
+        return Ok(());
+    }
+    push_nearest(alloc, hint, name.as_bytes(), plan)
+}
+
+/// Adds what is told of the context of a look-up.
+fn push_told(
+    alloc: Global,
+    hint: &mut Vec<u8>,
+    lookup: &Lookup<'_>,
+    explains: bool,
+    plan: &Dialplan,
+) -> Result<(), NoMemory>
+    ensures { OnOk result (hint.new.items ≡ hint.old.items ++ spec.told_of (lookup_of lookup.now) explains plan.now
+        (number_of plan.now lookup.now.context.now)) }
+{
+    let context = Text::copy_of(alloc, lookup.context.as_bytes())?;
+    match plan.number_of(&context) {
+        Some(_) => Ok(()),
+        None => {
+            push_unknown_context(hint, lookup)?;
+            push_near_lines(alloc, hint, explains, lookup.context, plan)
+        }
+    }
+}
+
+/// What is told of a dialplan that is audited.
+fn audit_told(alloc: Global, file: &str, plan: &Dialplan) -> Result<Vec<u8>, NoMemory>
+    ensures { IfOk result (λ hint. hint.items ≡ spec.audit_hint file.now plan.now) }
+{
+    let mut hint = Vec::new(alloc);
+    if is_bare(plan) {
+        push_bare_line(&mut hint, file, lacking(plan))?;
+    }
+    Ok(hint)
+}
+
+/// What is told of a dialplan in which something is looked up.
+fn match_told(
+    alloc: Global,
+    lookup: &Lookup<'_>,
+    explains: bool,
+    plan: &Dialplan,
+) -> Result<Vec<u8>, NoMemory>
+    ensures { IfOk result (λ hint. hint.items ≡ spec.match_hint (lookup_of lookup.now) explains plan.now) }
+{
+    let mut hint = Vec::new(alloc);
+    if is_bare(plan) {
+        push_bare_line(&mut hint, lookup.file, lacking(plan))?;
+    } else {
+        push_told(alloc, &mut hint, lookup, explains, plan)?;
+    }
+    Ok(hint)
+}
+
+/// What is told of the text of a dialplan that is audited, or its fault.
+#[tactic(auto, unfolding(crate::specs::Hints::audit_hint_of))]
+pub(crate) fn audit_hint(alloc: Global, file: &str, text: &[u8]) -> Result<Vec<u8>, PbxFault>
+    ensures hint { Answers (λ hint. hint.items) reason_of result (spec.audit_hint_of file.now text.now) }
+    ensures quiet { is_write_failed result ≡ false }
+{
+    let (plan, _) = Dialplan::load(alloc, text)?;
+    let hint = audit_told(alloc, file, &plan)?;
+    Ok(hint)
+}
+
+/// What is told of the text of a dialplan in which something is looked up, or its fault.
+#[tactic(auto, unfolding(crate::specs::Hints::match_hint_of))]
+pub(crate) fn match_hint(
+    alloc: Global,
+    lookup: &Lookup<'_>,
+    explains: bool,
+    text: &[u8],
+) -> Result<Vec<u8>, PbxFault>
+    ensures hint { Answers (λ hint. hint.items) reason_of result
+        (spec.match_hint_of (lookup_of lookup.now) explains text.now) }
+    ensures quiet { is_write_failed result ≡ false }
+{
+    let (plan, _) = Dialplan::load(alloc, text)?;
+    let hint = match_told(alloc, lookup, explains, &plan)?;
+    Ok(hint)
+}
