@@ -2,3 +2,4 @@ pub mod SetLemmas
 pub mod KnownLemmas
 pub mod ReachLemmas
 pub mod FoundLemmas
+pub mod ClaimLemmas

@@ -2,6 +2,7 @@
 #![tactic(auto)]
 
 mod area;
+mod claim;
 mod duty;
 mod finding;
 mod reach;
@@ -14,6 +15,7 @@ mod targets;
 mod waiting;
 
 pub use area::Area;
+pub use claim::Claim;
 pub use duty::Duty;
 pub use finding::found_shape;
 pub use reach::Reach;

@@ -6,7 +6,7 @@ mod notation;
 mod shapes;
 
 use crate::pieces::cuts::{CUTS, Cuts};
-use crate::pieces::duties::{DUTIES, Duties, FOUND, Found, REACHED, Reached};
+use crate::pieces::duties::{CLAIMED, Claimed, DUTIES, Duties, FOUND, Found, REACHED, Reached};
 use crate::pieces::names::{NAMES, Names};
 use crate::pieces::shapes::{SHAPES, Shapes};
 use dp_questions::check;
@@ -35,5 +35,6 @@ fn names_have_bytes(rt: HostRuntime) -> Result<(), Fail> {
 fn duties_are_these(rt: HostRuntime) -> Result<(), Fail> {
     check::<Duties>(rt.alloc(), DUTIES)?;
     check::<Reached>(rt.alloc(), REACHED)?;
-    check::<Found>(rt.alloc(), FOUND)
+    check::<Found>(rt.alloc(), FOUND)?;
+    check::<Claimed>(rt.alloc(), CLAIMED)
 }

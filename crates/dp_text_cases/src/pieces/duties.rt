@@ -1,8 +1,8 @@
 //! What applications owe by the pieces of their arguments, and what a reach has, worked out by hand from the rules.
 use crate::pieces::notation::{pieces_of, push_pieces};
-use dp_closed::{Area, Duty, Reach, duties, found_shape};
+use dp_closed::{Area, Claim, Duty, Reach, duties, found_shape};
 use dp_conf::read_number;
-use dp_pieces::{ByteSet, Piece};
+use dp_pieces::{ByteSet, NameTable, Piece};
 use dp_plan::Dialplan;
 use dp_questions::{Question, text_of};
 use std::alloc::Global;
@@ -162,6 +162,96 @@ c|x→yes
 {a}*|{0-9}→yes
 {xy}*|z→yes
 {abx}|12→no
+";
+
+/// Whether a claim of that reach meets what is asked: what an application owes in `a`, at an extension of digits, or, after `way`, that a
+/// digit leads out of a queue of this context.
+pub(super) struct Claimed;
+
+/// The set of the bytes of a text.
+fn set_of(text: &[u8]) -> ByteSet {
+    let mut set = ByteSet::none();
+    for byte in text {
+        set.put(*byte);
+    }
+    set
+}
+
+/// The table in which `X` has `a` and `b`, each name what a subroutine's call has, and the caller's number `1` and `2`.
+fn table_of(alloc: Global) -> Result<NameTable, Fail> {
+    let mut names = NameTable::new(alloc);
+    names.hold(alloc, b"X", &set_of(b"ab"))?;
+    names.hold_everywhere(&set_of(b"zbs,1()"));
+    names.hold_caller(&set_of(b"12"));
+    Ok(names)
+}
+
+fn owed_in_a(alloc: Global, application: &str, arguments: &[Piece]) -> Result<Vec<Duty>, Fail> {
+    let area = Area {
+        context: pieces_of(alloc, "a")?,
+        exten: pieces_of(alloc, "{0-9}*")?,
+    };
+    Ok(duties(alloc, application.as_bytes(), &area, arguments)?)
+}
+
+fn is_met(alloc: Global, claim: Claim<'_>, asked: &str) -> Result<bool, Fail> {
+    let (application, notation) = asked.split_once('|').ok_or("no arguments")?;
+    if application == "way" {
+        return Ok(claim.meets(&Duty::Waits));
+    }
+    let owed = owed_in_a(alloc, application, &pieces_of(alloc, notation)?)?;
+    Ok(claim.meets_all(&owed))
+}
+
+/// The contexts of the ways out that are asked after.
+fn ways_of(alloc: Global, asked: &str) -> Result<Vec<Vec<Piece>>, Fail> {
+    let mut ways = Vec::new(alloc);
+    if let Some(("way", name)) = asked.split_once('|') {
+        ways.push(pieces_of(alloc, name)?)?;
+    }
+    Ok(ways)
+}
+
+impl Question for Claimed {
+    fn answer(alloc: Global, asked: &str) -> Result<String, Fail> {
+        let Ok((plan, _)) = Dialplan::load(alloc, PLAN) else {
+            return Ok(text_of(alloc, "no dialplan")?);
+        };
+        let names = table_of(alloc)?;
+        let reach = reach_of(alloc)?;
+        let ways = ways_of(alloc, asked)?;
+        let claim = Claim {
+            plan: &plan,
+            names: &names,
+            reach: &reach,
+            ways: &ways,
+        };
+        let is = is_met(alloc, claim, asked)?;
+        Ok(text_of(alloc, if is { "yes" } else { "no" })?)
+    }
+}
+
+/// What is met, and what is not.
+pub(super) const CLAIMED: &str = r"
+NoOp|x→yes
+Goto|s,1→yes
+Goto|5→yes
+Goto|b,s,1→yes
+Goto|b,1,1→no
+Goto|c,1,1→yes
+Goto|{ab}*,s,1→yes
+Set|X=ab→yes
+Set|X=az→yes
+Set|X=c→no
+Set|Y=z→yes
+Set|Y=a→no
+Set|CALLERID(num)=1→yes
+Set|CALLERID(num)=3→no
+Gosub|b,s,1({,})→yes
+Gosub|b,s,1({,x})→no
+WaitExten|→no
+way|c→yes
+way|a→no
 ";
 
 /// A context of names of which some are better than others.

@@ -1,0 +1,83 @@
+//! What is claimed of a dialplan, and whether a duty is met in it.
+ghost use Rattle.std.specs.Prelude.{ℕ, List, [], ◌∷◌, IsTrue};
+ghost use Rattle.dp_closed.specs.Claimed.{AreWays, claimed};
+ghost use Rattle.dp_closed.specs.Reach.{areas_in};
+ghost use Rattle.dp_closed.specs.Shown.{shown_duties, shown_duty};
+ghost use Rattle.dp_pieces.specs.Pieces.{OneOf};
+ghost use Rattle.dp_pieces.specs.Shown.{shown_all};
+ghost use Rattle.dp_machine.specs.Events.{is_digit};
+ghost use Rattle.dp_queue.specs.declared.settings.Settings.{Settings};
+ghost use Rattle.dp_reach.specs.Areas.{Includes, area_at};
+ghost use Rattle.dp_reach.specs.Bounds.{Meets, MeetsAll};
+ghost use Rattle.dp_reach.specs.Holding.{LeadsOut};
+
+use crate::duty::Duty;
+use crate::reach::Reach;
+use crate::sets::digit_set;
+use dp_pieces::{NameTable, Piece};
+use dp_plan::Dialplan;
+
+/// What is claimed of a dialplan: which bytes names may have, at which extensions of each context channels may be, and which contexts
+/// have the ways out of the queues, each as the pieces of its name.
+#[derive(Clone, Copy)]
+pub struct Claim<'a> {
+    pub plan: &'a Dialplan,
+    pub names: &'a NameTable,
+    pub reach: &'a Reach,
+    pub ways: &'a [Vec<Piece>],
+}
+
+impl Claim<'_> {
+    /// Whether each digit in the context of these pieces is seen to be in the reach.
+    fn has_way(self, context: &[Piece]) -> bool
+        ensures { IsTrue result → Includes self.entry.plan.now (areas_in self.entry.plan.now.contexts self.entry.reach.now.shapes.items)
+            (area_at (shown_all context.now) (OneOf is_digit ∷ [])) }
+    {
+        self.reach
+            .includes(self.plan, context, &[Piece::OneOf(digit_set())])
+    }
+
+    /// Whether each digit is seen to lead into the reach out of each queue, and in the context of no name, which the ways out of a queue
+    /// have that has no context.
+    fn has_ways(self) -> bool
+        ensures { IsTrue result → (settings : List Settings) → AreWays settings self.entry.ways.now → (queue : ℕ)
+            → LeadsOut (claimed self.entry settings) queue }
+    {
+        if !self.has_way(&[]) {
+            return false;
+        }
+        for way in self.ways {
+            if !self.has_way(way) {
+                return false;
+            }
+        }
+        true
+    }
+
+    /// Whether the duty is seen to be met.
+    pub fn meets(self, duty: &Duty) -> bool
+        ensures { IsTrue result → (settings : List Settings) → AreWays settings self.entry.ways.now
+            → Meets (claimed self.entry settings) (shown_duty duty.now) }
+    {
+        match duty {
+            Duty::Leads(area) => self.reach.includes(self.plan, &area.context, &area.exten),
+            Duty::Holds(name, set) => self.names.has(name, set),
+            Duty::HoldsAll(set) => self.names.has_everywhere(set),
+            Duty::Calls(set) => set.is_part(self.names.caller()),
+            Duty::Waits => self.has_ways(),
+        }
+    }
+
+    /// Whether each of these duties is seen to be met.
+    pub fn meets_all(self, duties: &[Duty]) -> bool
+        ensures { IsTrue result → (settings : List Settings) → AreWays settings self.entry.ways.now
+            → MeetsAll (claimed self.entry settings) (shown_duties duties.now) }
+    {
+        for duty in duties {
+            if !self.meets(duty) {
+                return false;
+            }
+        }
+        true
+    }
+}
