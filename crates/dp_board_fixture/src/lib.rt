@@ -10,9 +10,10 @@ use dp_board::{Entry, Gate};
 use dp_machine::Reply;
 pub use owned::{Exchange, Retry, SeatReply, attend, give, machine_of, settle};
 use std::sync::atomic::{AtomicU64, Ordering};
+use std::thread::yield_now;
 
-/// For how many turns of a loop a gate waits. A turn is one load: ten million of them are over before another thread has begun.
-const MOST_TURNS: u32 = 1_000_000_000;
+/// For how many turns of a loop a gate waits. A turn lets another thread run: ten million loads alone are over before one has begun.
+const MOST_TURNS: u32 = 10_000_000;
 
 /// Waits until a count has come so far, and marks a failure where that takes too long.
 pub fn hold_until(count: &AtomicU64, wanted: u64, marks: &AtomicU64) {
@@ -20,6 +21,7 @@ pub fn hold_until(count: &AtomicU64, wanted: u64, marks: &AtomicU64) {
         if count.load(Ordering::SeqCst) >= wanted {
             return;
         }
+        yield_now();
     }
     marks.store(1, Ordering::SeqCst);
 }
