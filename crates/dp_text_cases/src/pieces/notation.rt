@@ -11,57 +11,103 @@ fn put_range(set: &mut ByteSet, low: u8, high: u8) {
     }
 }
 
-/// The set of the bytes between braces.
-fn set_of(text: &[u8]) -> ByteSet {
-    let mut set = ByteSet::none();
-    let mut left = text;
-    while let Some((first, rest)) = left.split_first() {
-        left = match rest {
-            [b'-', high, more @ ..] => {
-                put_range(&mut set, *first, *high);
-                more
-            }
-            _ => {
-                set.put(*first);
-                rest
-            }
-        };
-    }
-    set
+/// Where the reading of a notation is: in no braces, in braces, or behind their end.
+#[derive(Clone, Copy)]
+enum State {
+    Text,
+    Set,
+    Closed,
 }
 
-/// The bytes up to the `}`, and those after it; without one, all of them.
-fn until_end(text: &[u8]) -> (&[u8], &[u8]) {
-    for (at, byte) in text.iter().enumerate() {
-        if *byte == b'}' {
-            return (&text[..at], &text[at + 1..]);
+/// The pieces so far, the set in braces, the byte from which a range may go on, and whether a dash follows it.
+#[derive(Drop)]
+struct Notation {
+    pieces: Vec<Piece>,
+    state: State,
+    set: ByteSet,
+    low: Option<u8>,
+    is_range: bool,
+}
+
+impl Notation {
+    /// Reads a byte in no braces.
+    fn take_text(&mut self, byte: u8) -> Result<(), AllocError> {
+        if byte == b'{' {
+            self.state = State::Set;
+            self.set = ByteSet::none();
+            self.low = None;
+            self.is_range = false;
+            return Ok(());
+        }
+        self.state = State::Text;
+        self.pieces.push(Piece::Known(byte))?;
+        Ok(())
+    }
+
+    /// Puts a byte in the set, or the range that ends with it.
+    fn put(&mut self, byte: u8) {
+        match (self.low, self.is_range) {
+            (Some(low), true) => {
+                put_range(&mut self.set, low, byte);
+                self.low = None;
+                self.is_range = false;
+            }
+            (Some(_), false) if byte == b'-' => self.is_range = true,
+            _ => {
+                self.set.put(byte);
+                self.low = Some(byte);
+            }
         }
     }
-    (text, &[])
-}
 
-/// The piece of the bytes after a `{`, and what stands after it.
-fn braced(text: &[u8]) -> (Piece, &[u8]) {
-    let (set, rest) = until_end(text);
-    match rest.split_first() {
-        Some((b'*', more)) => (Piece::AnyOf(set_of(set)), more),
-        _ => (Piece::OneOf(set_of(set)), rest),
+    /// Reads a byte in braces. A dash at their end is one of the set.
+    fn take_set(&mut self, byte: u8) -> Result<(), AllocError> {
+        if byte != b'}' {
+            self.put(byte);
+            return Ok(());
+        }
+        if self.is_range {
+            self.set.put(b'-');
+        }
+        self.state = State::Closed;
+        self.pieces.push(Piece::OneOf(self.set))?;
+        Ok(())
+    }
+
+    /// Reads the byte behind the end of braces: `*` makes one byte any bytes.
+    fn take_closed(&mut self, byte: u8) -> Result<(), AllocError> {
+        if byte != b'*' {
+            return self.take_text(byte);
+        }
+        self.state = State::Text;
+        let _one = self.pieces.pop();
+        self.pieces.push(Piece::AnyOf(self.set))?;
+        Ok(())
+    }
+
+    /// Reads a byte.
+    fn take(&mut self, byte: u8) -> Result<(), AllocError> {
+        match self.state {
+            State::Text => self.take_text(byte),
+            State::Set => self.take_set(byte),
+            State::Closed => self.take_closed(byte),
+        }
     }
 }
 
 /// The pieces of a notation, in which bytes have the escapes of `bytes_of`.
 pub(super) fn pieces_of(alloc: Global, notation: &str) -> Result<Vec<Piece>, AllocError> {
-    let text = bytes_of(alloc, notation)?;
-    let mut pieces = Vec::new(alloc);
-    let mut left: &[u8] = &text;
-    while let Some((first, rest)) = left.split_first() {
-        let (piece, more) = match first {
-            b'{' => braced(rest),
-            byte => (Piece::Known(*byte), rest),
-        };
-        pieces.push(piece)?;
-        left = more;
+    let mut reading = Notation {
+        pieces: Vec::new(alloc),
+        state: State::Text,
+        set: ByteSet::none(),
+        low: None,
+        is_range: false,
+    };
+    for byte in &bytes_of(alloc, notation)? {
+        reading.take(*byte)?;
     }
+    let Notation { pieces, .. } = reading;
     Ok(pieces)
 }
 
