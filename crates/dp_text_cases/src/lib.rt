@@ -9,5 +9,3 @@ mod conf;
 mod expr;
 #[cfg(test)]
 mod pattern;
-#[cfg(test)]
-mod pieces;
