@@ -1,11 +1,8 @@
 //! What `Set` owes.
-ghost use Rattle.std.specs.Prelude.{◌≡◌, ◌++◌, ◌∷◌, [], IfOk, OnOk, length};
-ghost use Rattle.std.specs.Option.{option_map};
+ghost use Rattle.std.specs.Prelude.{◌≡◌, ◌++◌, ◌∷◌, [], IfOk, OnOk};
 ghost use Rattle.dp_closed.specs.Shown.{shown_duties};
 ghost use Rattle.dp_closed.specs.Steps as steps;
-ghost use Rattle.dp_conf.specs.Blanks as blanks;
 ghost use Rattle.dp_conf.specs.Cut.{cut_once};
-ghost use Rattle.dp_flow.specs.Settings as flow;
 ghost use Rattle.dp_pieces.specs.Cuts.{cut_known};
 ghost use Rattle.dp_pieces.specs.Pieces.{pieces_set};
 ghost use Rattle.dp_pieces.specs.Sets.{set_by};
@@ -14,7 +11,8 @@ ghost use Rattle.dp_reach.specs.Settings as spec;
 
 use crate::duty::{Duty, push_name};
 use crate::sets::set_of;
-use dp_conf::{NoMemory, before_last, cut_once, is_blank, trim};
+use dp_conf::{NoMemory, cut_once, trim, trim_start};
+use dp_flow::argument_of;
 use dp_pieces::{ByteSet, Piece, cut_known};
 use std::alloc::Global;
 
@@ -40,32 +38,6 @@ fn known_bytes(alloc: Global, pieces: &[Piece]) -> Result<Vec<u8>, NoMemory>
         push_known(&mut text, piece)?;
     }
     Ok(text)
-}
-
-/// The text from its first byte that is no blank.
-fn trim_start(text: &[u8]) -> &[u8]
-    ensures { result.now ≡ blanks.trim_start text.now }
-{
-    let mut left = text;
-    while let Some((first, rest)) = left.split_first() {
-        if !is_blank(*first) {
-            break;
-        }
-        left = rest;
-    }
-    left
-}
-
-/// The argument of a function by what stands after its `(`: the `)` has to be the last byte.
-fn argument_of(after: &[u8]) -> Option<&[u8]>
-    ensures { option_map (λ argument. argument.now) result ≡ flow.argument_of after.now }
-{
-    let argument = before_last(after, b')')?;
-    if argument.len() + 1 == after.len() {
-        Some(argument)
-    } else {
-        None
-    }
 }
 
 /// Adds what is owed where a function of an argument is set to a value of these bytes.

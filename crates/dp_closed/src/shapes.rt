@@ -32,14 +32,14 @@ fn may_be_empty(pieces: &[Piece]) -> bool
 }
 
 /// What a part of a target may be: itself, or the channel's own where it is empty.
-pub(crate) fn or_own<'a>(own: &'a [Piece], part: &'a [Piece]) -> Shapes<'a>
-    ensures { shown_shapes result ≡ areas.or_own (shown_all own.now) (shown_all part.now) }
+pub(crate) fn or_own<'a>(held: &'a [Piece], part: &'a [Piece]) -> Shapes<'a>
+    ensures { shown_shapes result ≡ areas.or_own (shown_all held.now) (shown_all part.now) }
 {
     if part.is_empty() {
-        return Shapes::One(own);
+        return Shapes::One(held);
     }
     if may_be_empty(part) {
-        return Shapes::Two(part, own);
+        return Shapes::Two(part, held);
     }
     Shapes::One(part)
 }

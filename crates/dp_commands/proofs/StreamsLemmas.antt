@@ -6,7 +6,7 @@ use Rattle.std.proofs.lemmas.List.Sums.{fold-append}
 use Rattle.std.proofs.Math.Bool.{or-false}
 use Rattle.std.proofs.Math.Seq.{take-append-add, take-length}
 use Rattle.dp_conf.specs.Fronts.{IsFront, AppendsFront}
-use Rattle.dp_conf.proofs.ToldLemmas.{IsFront-append, IsFront-more}
+use Rattle.dp_conf.proofs.ToldLemmas.{AppendsFront-more, IsFront-append, IsFront-more, IsFront-trans}
 use Rattle.dp_commands.specs.Block.{Flows}
 use Rattle.dp_commands.specs.Faults.{is_write_failed, is_write_fault}
 use Rattle.dp_commands.specs.Run.{Ends, Writes, run_on, status_by, fails_at_the_end}
@@ -20,18 +20,6 @@ use Rattle.dp_commands.specs.declared.script.Turn.{Turn}
 or-assoc : (a b c : Bool) → ((a || b) || c) ≡ (a || (b || c))
 or-assoc true b c = refl
 or-assoc false b c = refl
-
--- a front of a front
-IsFront-trans : (xs ys zs : List ℕ) → IsFront xs ys → IsFront ys zs → IsFront xs zs
-IsFront-trans [] ys zs h k = refl
-IsFront-trans (x ∷ xs) [] zs h k = absurd cc
-IsFront-trans (x ∷ xs) (y ∷ ys) [] h k = absurd cc
-IsFront-trans (x ∷ xs) (y ∷ ys) (z ∷ zs) h k =
-    let first : y ≡ x = cc in
-    let second : z ≡ y = cc in
-    let front : take (length xs) ys ≡ xs = cc in
-    let back : take (length ys) zs ≡ ys = cc in
-    ap (λ n. n ∷ take (length xs) zs) (second ∙ first) ∙ ap (λ (t : List ℕ). x ∷ t) (IsFront-trans xs ys zs front back)
 
 IsFront-refl : (xs : List ℕ) → IsFront xs xs
 IsFront-refl xs = ap (λ (t : List ℕ). take (length xs) t) (sym (append-nil xs)) ∙ IsFront-append xs []
@@ -78,14 +66,6 @@ Flows-fails (Some xs) (Some ys) (Some zs) a b first second p q =
       subst Q (sym (append_assoc ys b second) ∙ (ap (λ (t : List ℕ). t ++ second) p.0
           ∙ (append_assoc xs (a ++ first) second ∙ ap (λ (t : List ℕ). xs ++ t) (append_assoc a first second)))) q.1,
     )
-
--- a failed write before what was to be written
-pub AppendsFront-more : (old new : Option (List ℕ)) (first second : List ℕ) → AppendsFront old new first → AppendsFront old new (first ++ second)
-AppendsFront-more None new first second failed = tt
-AppendsFront-more (Some xs) None first second failed = failed
-AppendsFront-more (Some xs) (Some zs) first second failed =
-    let Q : List ℕ → Type 0 = λ t. IsFront zs t in
-    (failed.0, subst Q (append_assoc xs first second) (IsFront-more zs (xs ++ first) second failed.1))
 
 -- a failed write with nothing after it
 AppendsFront-kept : (c d e : Option (List ℕ)) (bytes : List ℕ) → AppendsFront c d bytes → Keeps d e → AppendsFront c e bytes

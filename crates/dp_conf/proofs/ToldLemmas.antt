@@ -25,6 +25,26 @@ IsFront-more (x ∷ xs) (y ∷ ys) zs h =
     let tails : take (length xs) ys ≡ xs = cc in
     ap (λ n. n ∷ take (length xs) (ys ++ zs)) heads ∙ ap (λ (t : List ℕ). x ∷ t) (IsFront-more xs ys zs tails)
 
+-- a front of a front
+pub IsFront-trans : (xs ys zs : List ℕ) → IsFront xs ys → IsFront ys zs → IsFront xs zs
+IsFront-trans [] ys zs h k = refl
+IsFront-trans (x ∷ xs) [] zs h k = absurd cc
+IsFront-trans (x ∷ xs) (y ∷ ys) [] h k = absurd cc
+IsFront-trans (x ∷ xs) (y ∷ ys) (z ∷ zs) h k =
+    let first : y ≡ x = cc in
+    let second : z ≡ y = cc in
+    let front : take (length xs) ys ≡ xs = cc in
+    let back : take (length ys) zs ≡ ys = cc in
+    ap (λ n. n ∷ take (length xs) zs) (second ∙ first) ∙ ap (λ (t : List ℕ). x ∷ t) (IsFront-trans xs ys zs front back)
+
+-- a failed write before what was to be written
+pub AppendsFront-more : (old new : Option (List ℕ)) (first second : List ℕ) → AppendsFront old new first → AppendsFront old new (first ++ second)
+AppendsFront-more None new first second failed = tt
+AppendsFront-more (Some xs) None first second failed = failed
+AppendsFront-more (Some xs) (Some zs) first second failed =
+    let Q : List ℕ → Type 0 = λ t. IsFront zs t in
+    (failed.0, subst Q (append_assoc xs first second) (IsFront-more zs (xs ++ first) second failed.1))
+
 pub GoesOn-start : (old : Option (List ℕ)) (bytes : List ℕ) → GoesOn old old bytes bytes
 GoesOn-start None bytes = tt
 GoesOn-start (Some xs) bytes = (refl, ap (λ (t : List ℕ). take (length xs) t) (sym (append-nil xs)) ∙ IsFront-append xs [])

@@ -26,7 +26,7 @@ pub fn trim(text: &[u8]) -> &[u8]
 
 /// The text from its first byte that is no blank.
 #[inline(always)]
-pub(crate) fn trim_start(text: &[u8]) -> &[u8]
+pub fn trim_start(text: &[u8]) -> &[u8]
     ensures { result.now ≡ blanks.trim_start text.now }
 {
     let mut left = text;

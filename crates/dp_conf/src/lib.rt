@@ -19,6 +19,7 @@ mod words;
 pub use conf_line::{ConfLine, read_lines};
 pub use cut::{
     before_last, cut_once, cut_outside, first_argument, first_part, is_blank, split_args, trim,
+    trim_start,
 };
 pub use escaping::{escape, push_escaped};
 pub use fault::{ConfFault, LineKind, ReadFault, WriteFailed};

@@ -16,5 +16,5 @@ pub use gosub::{Gosub, GosubIf, Return, StackPop};
 pub use jump::{Goto, GotoIf};
 pub use noop::NoOp;
 pub use plain::{Answer, Hangup, Playback, Verbose};
-pub use setting::Set;
+pub use setting::{Set, argument_of};
 pub use waiting::{Background, Wait, WaitExten};

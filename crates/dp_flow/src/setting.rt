@@ -8,8 +8,8 @@ use dp_app::{Application, Cell, Move, Touch};
 use dp_conf::{NoMemory, Text, before_last, cut_once, trim};
 use std::alloc::Global;
 
-/// The argument of a function by what stands after its `(`: the `)` has to be the last byte.
-fn argument_of(after: &[u8]) -> Option<&[u8]>
+/// The argument of a function that is set, by what stands after its `(`: the `)` has to be the last byte.
+pub fn argument_of(after: &[u8]) -> Option<&[u8]>
     ensures { option_map (λ argument. argument.now) result ≡ spec.argument_of after.now }
 {
     let argument = before_last(after, b')')?;

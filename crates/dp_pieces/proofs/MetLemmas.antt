@@ -68,7 +68,7 @@ fits-met pieces (Pattern classes tail) text clean fits matching =
     fits-classes pieces classes tail text matching.begin matching.rest (sym clean ∙ matching.whole) matching.members matching.ending fits
 
 -- a text of a set without the dash has none
-no-dashes : (set : Bytes) (text : List ℕ) → set 45 ≡ false → Within set text → undashed text ≡ text
+pub no-dashes : (set : Bytes) (text : List ℕ) → set 45 ≡ false → Within set text → undashed text ≡ text
 no-dashes set [] lacks within = refl
 no-dashes set (byte ∷ text) lacks within = by (is_dash byte) refl (no-dashes set text lacks within.1)
   where

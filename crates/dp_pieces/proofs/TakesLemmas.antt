@@ -14,6 +14,7 @@ use Rattle.dp_pieces.specs.Shown.{shown_all}
 use Rattle.dp_pieces.specs.declared.piece.Piece.{Piece as Kept}
 use Rattle.dp_pieces.specs.ShapeSteps.{AlwaysTakes, AlwaysTakesWithin, Lacks, Misses, MissesWithin, Takes, is_any, least_of}
 use Rattle.dp_pieces.proofs.FitsLemmas.{fits-set}
+use Rattle.dp_pieces.proofs.MetLemmas.{no-dashes}
 
 -- ---- a name takes a text without its dashes where they match
 
@@ -72,15 +73,6 @@ name-takes : (name : Meaning) (text : List ℕ) → Takes (classes_of name) (tai
 unfolding Matches
 name-takes (Plain plain) text takes = singles-take plain (undashed text) takes
 name-takes (Pattern classes tail) text takes = takes-pattern classes tail (undashed text) takes
-
--- a text of a set without the dash has none
-clean : (set : Bytes) (text : List ℕ) → set 45 ≡ false → Within set text → undashed text ≡ text
-clean set [] lacks within = refl
-clean set (byte ∷ text) lacks within = by (is_dash byte) refl (clean set text lacks within.1)
-  where
-    by : (dash : Bool) → is_dash byte ≡ dash → undashed text ≡ text → (if not dash then byte ∷ undashed text else undashed text) ≡ byte ∷ text
-    by true is rest = let no : true ≡ false = sym within.0 ∙ (ap set (eqb-true byte 45 is) ∙ lacks) in absurd cc
-    by false is rest = ap (λ t. byte ∷ t) rest
 
 -- dashes that are left out are no bytes more
 within-undashed : (set : Bytes) (text : List ℕ) → Within set text → Within set (undashed text)
@@ -178,7 +170,7 @@ pub covered : (pieces : List Piece) (set : Bytes) (name found : Meaning) → ((b
 covered pieces set name found same dashless is always text fits =
     name-takes name text
     (subst (λ n. Takes (classes_of n) (tail_of n) (undashed text)) is
-    (subst (Takes (classes_of found) (tail_of found)) (sym (clean (pieces_set pieces) text (sym (same 45) ∙ dashless) (fits-set pieces text fits))) (always text fits)))
+    (subst (Takes (classes_of found) (tail_of found)) (sym (no-dashes (pieces_set pieces) text (sym (same 45) ∙ dashless) (fits-set pieces text fits))) (always text fits)))
 
 -- a shape that may have dashes, by its set
 pub unmatched-dashed : (pieces : List Piece) (set : Bytes) (name found : Meaning) → ((byte : ℕ) → set byte ≡ pieces_set pieces byte) → found ≡ name
@@ -191,5 +183,5 @@ pub unmatched : (pieces : List Piece) (set : Bytes) (name found : Meaning) → (
     → Misses pieces (classes_of found) (tail_of found) → (text : List ℕ) → Fits pieces text → Matches name text → ⊥
 unmatched pieces set name found same dashless is misses text fits matching =
     misses text fits
-    (subst (Takes (classes_of found) (tail_of found)) (clean (pieces_set pieces) text (sym (same 45) ∙ dashless) (fits-set pieces text fits))
+    (subst (Takes (classes_of found) (tail_of found)) (no-dashes (pieces_set pieces) text (sym (same 45) ∙ dashless) (fits-set pieces text fits))
     (subst (λ n. Takes (classes_of n) (tail_of n) (undashed text)) (sym is) (takes-name name text matching)))

@@ -48,8 +48,8 @@ impl NameTable {
         ensures { (b : ℕ) → set_by result b ≡ (names_in self.now).bytes name.now b }
     {
         let mut set = self.shared;
-        if let Some(own) = self.own.get(name) {
-            set.add(own);
+        if let Some(more) = self.own.get(name) {
+            set.add(more);
         }
         set
     }
@@ -87,7 +87,7 @@ impl NameTable {
         ensures { (b : ℕ) → set_by result b ≡ either (own_set self.now.own name.now) (set_by set.now) b }
     {
         match self.own.get(name) {
-            Some(own) => own.with(set),
+            Some(more) => more.with(set),
             None => *set,
         }
     }

@@ -5,7 +5,7 @@ use Rattle.std.proofs.lemmas.List.{append_assoc}
 use Rattle.std.specs.Io.KnownBytes.{Appends}
 use Rattle.dp_conf.specs.Answers.{Refuses, ◌>>=◌}
 use Rattle.dp_conf.specs.Fronts.{AppendsFront, IsFront}
-use Rattle.dp_conf.proofs.ToldLemmas.{IsFront-append, IsFront-more}
+use Rattle.dp_conf.proofs.ToldLemmas.{AppendsFront-more, IsFront-append, IsFront-more, IsFront-trans}
 use Rattle.dp_plan.specs.Loaded.{loaded}
 use Rattle.dp_plan.specs.declared.fault.LoadFault.{LoadFault}
 use Rattle.dp_commands.specs.Faults.{fault_of_load, reason_of}
@@ -17,26 +17,6 @@ use Rattle.dp_commands.specs.declared.fault.PbxFault.TheVariants.{Coded, NoMemor
 use Rattle.dp_program.specs.Checks.{after_plan, both_report, check_by, queues_report, with_line}
 use Rattle.dp_program.proofs.ReadsLemmas.{Refuses-next, by_reason}
 use Rattle.dp_program.proofs.ServesLemmas.{reports_lacks}
-
--- a front of a front
-IsFront-trans : (xs ys zs : List ℕ) → IsFront xs ys → IsFront ys zs → IsFront xs zs
-IsFront-trans [] ys zs h k = refl
-IsFront-trans (x ∷ xs) [] zs h k = absurd cc
-IsFront-trans (x ∷ xs) (y ∷ ys) [] h k = absurd cc
-IsFront-trans (x ∷ xs) (y ∷ ys) (z ∷ zs) h k =
-    let first : y ≡ x = cc in
-    let second : z ≡ y = cc in
-    let front : take (length xs) ys ≡ xs = cc in
-    let back : take (length ys) zs ≡ ys = cc in
-    ap (λ n. n ∷ take (length xs) zs) (second ∙ first) ∙ ap (λ (t : List ℕ). x ∷ t) (IsFront-trans xs ys zs front back)
-
--- a failed write before more that was to be written
-front_more : (old new : Option (List ℕ)) (first second : List ℕ) → AppendsFront old new first → AppendsFront old new (first ++ second)
-front_more None new first second failed = tt
-front_more (Some xs) None first second failed = failed
-front_more (Some xs) (Some zs) first second failed =
-    let Q : List ℕ → Type 0 = λ t. IsFront zs t in
-    (failed.0, subst Q (append_assoc xs first second) (IsFront-more zs (xs ++ first) second failed.1))
 
 -- a write, and a failed one after it
 front_after : (old mid new : Option (List ℕ)) (first second : List ℕ) → Appends old mid first → AppendsFront mid new second → AppendsFront old new (first ++ second)
@@ -60,7 +40,7 @@ appends_after (Some xs) (Some ys) (Some zs) first second wrote more =
 
 -- where the report is refused
 pub line_refused : (old new : Option (List ℕ)) (line : List ℕ) (given : Result (List ℕ) PbxFault) (fault : PbxFault) → Reports old new given (Err fault) → Reports old new (with_line line given) (Err fault)
-line_refused old new line (Ok said) (Coded code at) reports = (front_more old new said line reports.0, reports.1, reports.2)
+line_refused old new line (Ok said) (Coded code at) reports = (AppendsFront-more old new said line reports.0, reports.1, reports.2)
 line_refused old new line (Ok said) NoMemory reports = reports
 line_refused old new line (Err first) (Coded code at) reports = reports
 line_refused old new line (Err first) NoMemory reports = reports

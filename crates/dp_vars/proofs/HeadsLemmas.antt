@@ -9,7 +9,7 @@ use Rattle.std.proofs.lemmas.List.{drop-drop, drop-take, drop_all, take_min, dro
 use Rattle.dp_conf.specs.Cut.{before_last, cut_once}
 use Rattle.dp_conf.specs.Levels.{cut_after, cut_outside, stands_outside}
 use Rattle.dp_conf.specs.declared.groups.GroupKind.TheVariants.{Braces}
-use Rattle.dp_vars.specs.steps.Far.{asked_at_most}
+use Rattle.dp_vars.specs.Far.{asked_at_most}
 use Rattle.dp_vars.specs.Heads.{head_seen, part_seen}
 use Rattle.dp_vars.specs.Parts.{asked_of, part}
 use Rattle.dp_vars.specs.Sights.{Sight}

@@ -5,7 +5,7 @@ use Rattle.dp_vars.specs.declared.part.Reach.{Reach}
 use Rattle.dp_vars.specs.declared.part.Reach.TheVariants.{Ahead, Back}
 use Rattle.dp_vars.specs.declared.part.Selection.{Selection}
 use Rattle.dp_vars.specs.declared.part.Selection.TheVariants.{Whole, Part, Nothing}
-use Rattle.dp_vars.specs.steps.Far.{at_most, asked_at_most}
+use Rattle.dp_vars.specs.Far.{at_most, asked_at_most}
 use Rattle.dp_vars.specs.Parts.{part_from, start_of, end_of, part}
 
 pub part_from-at_most : (offset : Option Reach) (size : Option (Option Reach))

@@ -1,5 +1,6 @@
 pub mod Bindings
 pub mod Expanding
+pub mod Far
 pub mod Heads
 pub mod Openings
 pub mod Parts

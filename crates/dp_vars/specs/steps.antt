@@ -1,3 +1,2 @@
 -- What private functions say of their steps. No public clause rests on it.
-pub mod Far
 pub mod Shown

@@ -6,20 +6,20 @@
 ghost use Rattle.std.specs.Prelude.{◌≡◌, ◌≤◌, Some};
 ghost use Rattle.std.specs.Option.{option_map};
 ghost use Rattle.dp_vars.specs.Parts as parts;
-ghost use Rattle.dp_vars.specs.steps.Far as far;
+ghost use Rattle.dp_vars.specs.Far as far;
 
 use dp_conf::{cut_once, read_number};
 
 /// How far a part reaches: so many bytes ahead, or so many back from the end.
 #[derive(Clone, Copy)]
-pub(crate) enum Reach {
+pub enum Reach {
     Ahead(usize),
     Back(usize),
 }
 
 /// What is asked for of a value.
 #[derive(Clone, Copy)]
-pub(crate) enum Selection {
+pub enum Selection {
     Whole,
     Part(Reach, Option<Reach>),
     Nothing,
@@ -94,8 +94,9 @@ fn part_from(offset: Option<Reach>, length: Option<Option<Reach>>) -> Selection
     }
 }
 
-/// What is asked for by what stands after the first `:`.
-pub(crate) fn read_asked(tail: &[u8]) -> Selection
+/// What is asked for by what stands after the first `:`: an offset, or an offset, a `:` and a length. A number above the greatest of 64
+/// bits counts as that one.
+pub fn read_asked(tail: &[u8]) -> Selection
     ensures { result ≡ far.asked_at_most (parts.asked_of (Some tail.now)) }
 {
     match cut_once(tail, b':') {

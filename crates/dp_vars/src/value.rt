@@ -34,7 +34,7 @@ pub(crate) enum Given {
 
 /// A function that has a value.
 #[derive(Clone, Copy)]
-pub(crate) enum Function {
+pub enum Function {
     Global,
     Local,
     Len,
@@ -124,8 +124,8 @@ fn caller<'a>(channel: Option<ChannelSeen<'a>>, argument: &[u8]) -> &'a [u8]
     }
 }
 
-/// The function of a name.
-pub(crate) fn function_of(name: &[u8]) -> Option<Function>
+/// The function of a name, or None where a function of this name is always empty.
+pub fn function_of(name: &[u8]) -> Option<Function>
     ensures { result ≡ values.function_of name.now }
 {
     if name == b"GLOBAL".as_slice() {

@@ -1,5 +1,5 @@
 use Rattle.std.proofs.Common.{ap, ◌∙◌, sym}
-use Rattle.dp_vars.specs.steps.Far.{asked_at_most}
+use Rattle.dp_vars.specs.Far.{asked_at_most}
 use Rattle.dp_vars.specs.Parts.{part_from, offset_of, length_of, part_of_cut}
 use Rattle.dp_vars.proofs.PartsLemmas.{part_from-at_most}
 use Rattle.dp_vars.proofs.part.read_asked.Goals as goal
