@@ -20,3 +20,5 @@ pub mod MetLemmas
 pub mod ShapeLemmas
 pub mod TakesLemmas
 pub mod AlwaysFitsLemmas
+pub mod FarLemmas
+pub mod SetLemmas

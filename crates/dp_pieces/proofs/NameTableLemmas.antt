@@ -1,14 +1,16 @@
 -- Tables of names: an empty one, and one in which a name gets more bytes.
-use Rattle.std.proofs.Common.{◌≡◌, ℕ, Bool, true, false, cond, ◌&&◌, ◌||◌, if◌then◌else◌, List, [], ◌∷◌, Option, Some, length, unwrap_or, refl, sym, ap, ◌∙◌, arith}
+use Rattle.std.proofs.Common.{◌≡◌, ℕ, suc, Bool, true, false, cond, ◌&&◌, ◌||◌, if◌then◌else◌, List, [], ◌∷◌, Option, Some, length, unwrap_or, refl, sym, ap, ◌∙◌, arith}
 use Rattle.indexmap.specs.IndexMap.{insert_entry}
 use Rattle.std.specs.Cmp.Lexicographic.{bytes_decides}
 use Rattle.std.specs.Global.{Vec}
 use Rattle.std.specs.Map.{lookup}
 use Rattle.dp_conf.specs.Words.{same_text}
-use Rattle.dp_pieces.specs.Bytes.{either}
-use Rattle.std.specs.Prelude.{replicate}
+use Rattle.dp_pieces.specs.Bytes.{Bytes, IsPart, digits, either}
+use Rattle.std.specs.Prelude.{replicate, slice_get}
 use Rattle.dp_pieces.specs.Sets.{set_by}
-use Rattle.dp_pieces.specs.Tables.{Entries, name_set, own_set}
+use Rattle.dp_pieces.specs.Names.{IsWhole}
+use Rattle.dp_pieces.specs.Pieces.{pieces_set}
+use Rattle.dp_pieces.specs.Tables.{Entries, Table, name_set, names_in, own_set}
 use Rattle.dp_pieces.proofs.BlankLemmas.{none-has}
 
 pub none-named : (entries : Entries) (shared : List Bool) → entries ≡ [] → shared ≡ replicate 256 false → (name : List ℕ) (b : ℕ) → name_set entries shared name b ≡ false
@@ -94,3 +96,34 @@ more-held old new shared wider set key name inserted is grown other b =
         ap (λ t. set_by shared b || t) (grown b ∙ ap (λ t. own_set old t b || set_by set b) (sym (is-same other name same)))
         ∙ or-assoc (set_by shared b) (own_set old other b) (set_by set b)
     by false differs = or-false (set_by shared b || own_set old other b)
+
+-- the own sets of all names, by those of the entries
+pub own-part : (entries : Entries) (all : Bytes) → ((k : ℕ) (entry : Vec ℕ × List Bool) → slice_get entries k ≡ Some entry → IsPart (set_by entry.1) all)
+    → (name : List ℕ) → IsPart (own_set entries name) all
+own-part [] all each name b has = absurd (let no : false ≡ true = has in let bottom : ⊥ = cc in bottom)
+own-part (entry ∷ entries) all each name b has = by (same_text name entry.0.items) refl (own-part entries all (λ k. each (suc k)) name b)
+  where
+    by : (same : Bool) → same_text name entry.0.items ≡ same → (own_set entries name b ≡ true → all b ≡ true) → all b ≡ true
+    by true is later = each 0 entry refl b (sym (ap (λ t. set_by (unwrap_or (if t then Some entry.1 else look-up name entries) []) b) is) ∙ has)
+    by false is later = later (sym (ap (λ t. set_by (unwrap_or (if t then Some entry.1 else look-up name entries) []) b) is) ∙ has)
+
+-- the bytes of each name are among those of all
+pub name-part : (entries : Entries) (shared : List Bool) (all : Bytes) → IsPart (set_by shared) all → ((name : List ℕ) → IsPart (own_set entries name) all)
+    → (name : List ℕ) → IsPart (name_set entries shared name) all
+name-part entries shared all common each name b has = by (set_by shared b) refl
+  where
+    by : (here : Bool) → set_by shared b ≡ here → all b ≡ true
+    by true is = common b is
+    by false is = each name b (sym (ap (λ t. t || own_set entries name b) is) ∙ has)
+
+-- a table is whole where its sets and the digits are part of all
+pub whole : (table : Table) → ((name : List ℕ) → IsPart (name_set table.own table.shared name) (set_by table.all)) → IsPart (set_by table.caller) (set_by table.all)
+    → IsPart digits (set_by table.all) → IsWhole (names_in table)
+unfolding pieces_set
+whole table named called counted = record {
+  bytes = named;
+  exten = λ b has. absurd (let no : false ≡ true = has in let bottom : ⊥ = cc in bottom);
+  context = λ b has. absurd (let no : false ≡ true = has in let bottom : ⊥ = cc in bottom);
+  caller = called;
+  digits = counted;
+}

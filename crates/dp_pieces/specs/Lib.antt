@@ -4,6 +4,7 @@ pub mod Cuts
 pub mod Fitting
 pub mod Met
 pub mod Names
+pub mod NamesAt
 pub mod Pieces
 pub mod Sets
 pub mod ShapeSteps

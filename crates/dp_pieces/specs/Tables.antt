@@ -6,6 +6,7 @@ use Rattle.std.specs.Option.{unwrap_or}
 use Rattle.dp_conf.specs.Words.{same_text}
 use Rattle.dp_pieces.specs.Bytes.{Bytes, either}
 use Rattle.dp_pieces.specs.Names.{Names}
+use Rattle.dp_pieces.specs.Pieces.{Piece}
 use Rattle.dp_pieces.specs.Sets.{set_by}
 
 -- the entries of a table: names with their own sets
@@ -27,12 +28,16 @@ pub record Table : Type 0 where
   pub caller : List Bool
   pub all : List Bool
 
--- what is known of names by a table, where no channel is and so no extension and no context
-abbrev pub names_in : Table → Names
-names_in table = record {
+-- what is known of names by a table, where the channel's own context and extension have these shapes
+abbrev pub names_by : Table → List Piece → List Piece → Names
+names_by table context exten = record {
   bytes = λ name. name_set table.own table.shared name;
-  exten = [];
-  context = [];
+  exten = exten;
+  context = context;
   caller = set_by table.caller;
   all = set_by table.all;
 }
+
+-- the same where no channel is, and so no context and no extension
+abbrev pub names_in : Table → Names
+names_in table = names_by table [] []

@@ -11,9 +11,13 @@ use Rattle.dp_pieces.specs.Names.{Names, any_argument_set, body_by}
 use Rattle.dp_pieces.specs.Pieces.{Known, Piece, bytes_in, known, made, pieces_set}
 use Rattle.dp_vars.specs.Values.{function_of}
 
--- a text in braces that is known as far as its first `(`: a function whose argument is not known
+-- the bytes of a text in braces that is known as far as its first `(`: a function whose argument is not known
+abbrev pub begun_set : Names → List ℕ → Bytes
+begun_set names name = if bytes_in name 58 then names.all else any_argument_set names (function_of name)
+
+-- and its pieces
 abbrev pub called_pieces : Names → List ℕ → List Piece
-called_pieces names name = made (if bytes_in name 58 then names.all else any_argument_set names (function_of name))
+called_pieces names name = made (begun_set names name)
 
 -- a text in braces that is not known may name anything, or is known in part
 abbrev pub unknown_pieces : Names → Option (List ℕ × List Piece) → List Piece

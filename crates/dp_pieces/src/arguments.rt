@@ -5,7 +5,7 @@ ghost use Rattle.dp_pieces.specs.Pieces.{front, made, pieces_set, without};
 ghost use Rattle.dp_pieces.specs.Shown.{shown_all};
 
 use crate::cuts::first_part;
-use crate::piece::{Piece, bytes_of};
+use crate::piece::{Piece, any_bytes, bytes_of};
 use crate::trims::trimmed;
 use dp_conf::NoMemory;
 use std::alloc::Global;
@@ -26,11 +26,10 @@ pub fn shapes_of(alloc: Global, pieces: &[Piece]) -> Result<Vec<Vec<Piece>>, NoM
 }
 
 /// Any bytes of these pieces, as one piece.
-fn any_of(alloc: Global, pieces: &[Piece]) -> Result<Vec<Piece>, NoMemory>
+pub(crate) fn any_of(alloc: Global, pieces: &[Piece]) -> Result<Vec<Piece>, NoMemory>
     ensures { IfOk result (λ all. shown_all all.items ≡ made (pieces_set (shown_all pieces.now))) }
 {
-    let mut all = Vec::new(alloc);
-    all.push(Piece::AnyOf(bytes_of(pieces)))?;
+    let all = any_bytes(alloc, bytes_of(pieces))?;
     Ok(all)
 }
 

@@ -1,7 +1,7 @@
 //! Sets of bytes.
 ghost use Rattle.dp_conf.specs.Blanks.{is_blank as blank};
 ghost use Rattle.std.specs.Prelude.{◌≡◌, ℕ, true, false, ◌&&◌, ◌||◌, ◌==◌, IsFalse, IsTrue, replicate};
-ghost use Rattle.dp_pieces.specs.Bytes.{IsPart, either, has_blank};
+ghost use Rattle.dp_pieces.specs.Bytes.{IsPart, digits, either, has_blank};
 ghost use Rattle.dp_pieces.specs.Sets.{set_by};
 
 use dp_conf::is_blank;
@@ -60,6 +60,17 @@ impl ByteSet {
     {
         let mut set = ByteSet::none();
         set.put(byte);
+        set
+    }
+
+    /// The set of the digits.
+    pub fn digits() -> Self
+        ensures { (b : ℕ) → set_by result b ≡ digits b }
+    {
+        let mut set = ByteSet::none();
+        for digit in 48..58 {
+            set.put(digit);
+        }
         set
     }
 

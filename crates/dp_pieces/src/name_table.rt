@@ -1,7 +1,8 @@
 //! What is known of the values of names, in a table.
 ghost use Rattle.std.specs.Prelude.{◌≡◌, ℕ, List, false, ◌&&◌, ◌||◌, OnErr, OnOk, IsTrue};
 ghost use Rattle.dp_conf.specs.Words.{same_text};
-ghost use Rattle.dp_pieces.specs.Bytes.{IsPart, either};
+ghost use Rattle.dp_pieces.specs.Bytes.{IsPart, digits, either};
+ghost use Rattle.dp_pieces.specs.Names.{IsWhole};
 ghost use Rattle.dp_pieces.specs.Sets.{set_by};
 ghost use Rattle.dp_pieces.specs.Tables.{names_in, own_set};
 
@@ -66,6 +67,44 @@ impl NameTable {
         ensures { set_by result.now ≡ (names_in self.now).all }
     {
         &self.all
+    }
+
+    /// Whether any value may have the bytes that each name has of its own.
+    fn has_own(&self) -> bool
+        ensures { IsTrue result → (name : List ℕ) → IsPart (own_set self.now.own name) (set_by self.now.all) }
+    {
+        let entries = self.own.as_slice();
+        for at in 0..entries.len() {
+            if let Some((_, set)) = entries.get_index(at) {
+                if !set.is_part(&self.all) {
+                    return false;
+                }
+            }
+        }
+        true
+    }
+
+    /// Whether any value may have the bytes of each name.
+    fn has_names(&self) -> bool
+        ensures { IsTrue result → (name : List ℕ) → IsPart ((names_in self.now).bytes name) (names_in self.now).all }
+    {
+        self.shared.is_part(&self.all) && self.has_own()
+    }
+
+    /// Whether any value may have the bytes of the caller's number, and the digits.
+    fn has_numbers(&self) -> bool
+        ensures caller { IsTrue result → IsPart (names_in self.now).caller (names_in self.now).all }
+        ensures digits { IsTrue result → IsPart digits (names_in self.now).all }
+    {
+        self.caller.is_part(&self.all) && ByteSet::digits().is_part(&self.all)
+    }
+
+    /// Whether any value may have the bytes of each name, those of the caller's number, and the digits. A table has no digits at first:
+    /// `hold_anywhere` gives them.
+    pub fn is_whole(&self) -> bool
+        ensures { IsTrue result → IsWhole (names_in self.now) }
+    {
+        self.has_names() && self.has_numbers()
     }
 
     /// Whether the values of the name may have all bytes of the set.

@@ -1,10 +1,12 @@
 //! Pieces of a text of which parts are unknown.
-ghost use Rattle.std.specs.Prelude.{◌≡◌, ◌||◌, ℕ};
-ghost use Rattle.dp_pieces.specs.Pieces.{byte_of, piece_set, pieces_set};
+ghost use Rattle.std.specs.Prelude.{◌≡◌, ◌||◌, ℕ, IfOk, MatchOption, None, Some};
+ghost use Rattle.dp_pieces.specs.Pieces.{byte_of, known, made, piece_set, pieces_set};
 ghost use Rattle.dp_pieces.specs.Sets.{set_by};
 ghost use Rattle.dp_pieces.specs.Shown.{shown, shown_all};
 
 use crate::byte_set::ByteSet;
+use dp_conf::NoMemory;
+use std::alloc::Global;
 
 /// A piece of a text: a byte that stands there, one byte of a set, or any bytes of a set.
 #[derive(Clone, Copy)]
@@ -52,4 +54,38 @@ pub fn bytes_of(pieces: &[Piece]) -> ByteSet
     let mut set = ByteSet::none();
     add_pieces(&mut set, pieces);
     set
+}
+
+/// Any bytes of the set, as one piece.
+pub(crate) fn any_bytes(alloc: Global, set: ByteSet) -> Result<Vec<Piece>, NoMemory>
+    ensures { IfOk result (λ all. shown_all all.items ≡ made (set_by set)) }
+{
+    let mut all = Vec::new(alloc);
+    all.push(Piece::AnyOf(set))?;
+    Ok(all)
+}
+
+/// The same pieces.
+pub(crate) fn copy_of(alloc: Global, pieces: &[Piece]) -> Result<Vec<Piece>, NoMemory>
+    ensures { IfOk result (λ copy. shown_all copy.items ≡ shown_all pieces.now) }
+{
+    let mut copy = Vec::new(alloc);
+    copy.extend_from_slice(pieces)?;
+    Ok(copy)
+}
+
+/// The text of pieces that are all known, or None where some piece is not.
+pub(crate) fn known_text(alloc: Global, pieces: &[Piece]) -> Result<Option<Vec<u8>>, NoMemory>
+    ensures { IfOk result (λ text. MatchOption text (known (shown_all pieces.now) ≡ None) (λ bytes. known (shown_all pieces.now) ≡ Some bytes.items)) }
+{
+    let mut text = Vec::new(alloc);
+    let mut left = pieces;
+    while let Some((first, rest)) = left.split_first() {
+        let Some(byte) = first.byte() else {
+            return Ok(None);
+        };
+        text.push(byte)?;
+        left = rest;
+    }
+    Ok(Some(text))
 }

@@ -1,0 +1,38 @@
+-- Pieces that are made of equal sets, the set of the digits, and the text of known pieces.
+use Rattle.std.proofs.Common.{◌≡◌, ℕ, ◌&&◌, Bool, true, false, List, [], ◌∷◌, Some, None, unwrap_or, refl, sym, ap, ◌∙◌, arith}
+use Rattle.std.specs.Option.{option_map}
+use Rattle.std.specs.Prelude.{nat_le, nat_lt, replicate}
+use Rattle.std.proofs.lemmas.Bool.{leb-true, ltb-true}
+use Rattle.dp_pieces.specs.Bytes.{Bytes}
+use Rattle.dp_pieces.specs.Sets.{set_by}
+use Rattle.dp_pieces.proofs.BlankLemmas.{none-has}
+use Rattle.dp_pieces.specs.Pieces.{AnyOf, Piece, exactly, known, made}
+
+-- any bytes of sets with the same bytes
+pub made-same : (set other : Bytes) → ((b : ℕ) → set b ≡ other b) → made set ≡ made other
+made-same set other same = λ i. AnyOf (λ b. same b i) ∷ []
+
+-- pieces of a known text are all known
+pub known-exactly : (text : List ℕ) → known (exactly text) ≡ Some text
+known-exactly [] = refl
+known-exactly (byte ∷ text) = ap (option_map (λ bytes. byte ∷ bytes)) (known-exactly text)
+
+-- a table that has no byte
+pub none-set : (has : List Bool) → has ≡ replicate 256 false → (b : ℕ) → set_by has b ≡ false
+none-set has none b = ap (λ t. set_by t b) none ∙ none-has 256 b
+
+-- no byte is a digit below the first
+pub no-digit : (b : ℕ) → false ≡ (nat_le 48 b && nat_lt b 48)
+no-digit b = by (nat_le 48 b) (nat_lt b 48) refl refl
+  where
+    by : (from below : Bool) → nat_le 48 b ≡ from → nat_lt b 48 ≡ below → false ≡ (from && below)
+    by false below x y = refl
+    by true false x y = refl
+    by true true x y = absurd (omega (arith, leb-true 48 b x, ltb-true b 48 y))
+
+-- a text by its pieces, which are all known
+pub text-exactly : (pieces : List Piece) (text name : List ℕ) → known pieces ≡ Some text → pieces ≡ exactly name → text ≡ name
+text-exactly pieces text name is same = ap (λ t. unwrap_or t []) (sym is ∙ (ap known same ∙ known-exactly name))
+
+pub never-unknown : (pieces : List Piece) (name : List ℕ) → known pieces ≡ None → pieces ≡ exactly name → ⊥
+never-unknown pieces name is same = let no : None ≡ Some name = sym is ∙ (ap known same ∙ known-exactly name) in let bottom : ⊥ = cc in bottom
