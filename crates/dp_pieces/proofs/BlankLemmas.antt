@@ -1,7 +1,9 @@
 -- Sets that have blanks, and the set of one byte.
-use Rattle.std.proofs.Common.{◌≡◌, ℕ, zero, suc, ◌<◌, ◌==◌, Bool, true, false, ◌&&◌, ◌||◌, refl, ap, ◌∙◌, subst, arith}
+use Rattle.std.proofs.Common.{◌≡◌, ℕ, zero, suc, ◌<◌, ◌/◌, ◌%◌, ◌==◌, slice_index, Bool, true, false, ◌&&◌, ◌||◌, refl, ap, ◌∙◌, subst, arith}
 use borrow.Author.Tests.{eqb-true, eqb-false}
+use Rattle.std.specs.Int.{bit_at}
 use Rattle.std.specs.Prelude.{replicate}
+use Rattle.std.proofs.lemmas.Nat.Bits.{bit_at-zero}
 use Rattle.dp_conf.specs.Blanks.{is_blank}
 use Rattle.dp_pieces.specs.Bytes.{Bytes, has_blank_below}
 use Rattle.dp_pieces.specs.Sets.{set_by}
@@ -25,14 +27,17 @@ below-found (suc count) byte set less here = by (byte == count) refl (λ below. 
     by true same later = either-left (is_blank count && set count) (has_blank_below count set) (subst (λ b. (is_blank b && set b) ≡ true) (eqb-true byte count same) here)
     by false other later = let far = eqb-false byte count other in either-right (is_blank count && set count) (has_blank_below count set) (later (omega (arith, less, far)))
 
--- a table of bytes that has none
-pub none-has : (size byte : ℕ) → set_by (replicate size false) byte ≡ false
-none-has zero byte = refl
-none-has (suc size) zero = refl
-none-has (suc size) (suc byte) = none-has size byte
+-- words that are all zero have no bit
+no-word : (size k : ℕ) → slice_index (replicate size 0) k ≡ 0
+no-word zero k = refl
+no-word (suc size) zero = refl
+no-word (suc size) (suc k) = no-word size k
 
-pub only-one : (byte b : ℕ) → (b == byte || set_by (replicate 256 false) b) ≡ (b == byte)
-only-one byte b = ap (λ t. b == byte || t) (none-has 256 b) ∙ last (b == byte)
+pub none-has : (size byte : ℕ) → set_by (replicate size 0) byte ≡ false
+none-has size byte = ap (λ word. bit_at word (byte % 64) == 1) (no-word size (byte / 64)) ∙ ap (λ bit. bit == 1) (bit_at-zero (byte % 64))
+
+pub only-one : (byte b : ℕ) → (b == byte || set_by (replicate 4 0) b) ≡ (b == byte)
+only-one byte b = ap (λ t. b == byte || t) (none-has 4 b) ∙ last (b == byte)
   where
     last : (t : Bool) → (t || false) ≡ t
     last true = refl

@@ -1,4 +1,5 @@
 pub mod WithinLemmas
+mod BitLemmas
 pub mod NumeralLemmas
 pub mod ExpressionLemmas
 pub mod BlankLemmas

@@ -13,9 +13,9 @@ use Rattle.dp_pieces.specs.Pieces.{pieces_set}
 use Rattle.dp_pieces.specs.Tables.{Entries, Table, name_set, names_in, own_set}
 use Rattle.dp_pieces.proofs.BlankLemmas.{none-has}
 
-pub none-named : (entries : Entries) (shared : List Bool) → entries ≡ [] → shared ≡ replicate 256 false → (name : List ℕ) (b : ℕ) → name_set entries shared name b ≡ false
+pub none-named : (entries : Entries) (shared : List ℕ) → entries ≡ [] → shared ≡ replicate 4 0 → (name : List ℕ) (b : ℕ) → name_set entries shared name b ≡ false
 none-named entries shared none is name b =
-    (λ i. name_set (none i) (is i) name b) ∙ (ap (λ t. t || false) (none-has 256 b))
+    (λ i. name_set (none i) (is i) name b) ∙ (ap (λ t. t || false) (none-has 4 b))
 
 pub no-entries : (entries : Entries) → length entries ≡ 0 → entries ≡ []
 no-entries [] is = refl
@@ -29,15 +29,15 @@ is-same : (x y : List ℕ) → same_text x y ≡ true → x ≡ y
 is-same x y is = (bytes_decides x y).0 is
 
 -- what a key is looked up as after an insertion
-abbrev look-up : List ℕ → Entries → Option (List Bool)
+abbrev look-up : List ℕ → Entries → Option (List ℕ)
 look-up name entries = lookup (λ key. same_text name key.items) entries
 
-after-insert : (entries : Entries) (key : Vec ℕ) (value : List Bool) (other : List ℕ)
+after-insert : (entries : Entries) (key : Vec ℕ) (value : List ℕ) (other : List ℕ)
     → look-up other (insert_entry same-key entries key value) ≡ (if same_text other key.items then Some value else look-up other entries)
 after-insert [] key value other = refl
 after-insert (entry ∷ entries) key value other = by (same_text key.items entry.0.items) refl (after-insert entries key value other)
   where
-    Rest : Option (List Bool)
+    Rest : Option (List ℕ)
     Rest = look-up other (insert_entry same-key entries key value)
 
     -- the same key
@@ -74,12 +74,12 @@ after-insert (entry ∷ entries) key value other = by (same_text key.items entry
     by false differs rest = there differs rest
 
 -- a name that gets more bytes
-pub more-held : (old new : Entries) (shared wider set : List Bool) (key : Vec ℕ) (name : List ℕ) → new ≡ insert_entry same-key old key wider → key.items ≡ name
+pub more-held : (old new : Entries) (shared wider set : List ℕ) (key : Vec ℕ) (name : List ℕ) → new ≡ insert_entry same-key old key wider → key.items ≡ name
     → ((b : ℕ) → set_by wider b ≡ either (own_set old name) (set_by set) b)
     → (other : List ℕ) (b : ℕ) → name_set new shared other b ≡ (name_set old shared other b || (same_text other name && set_by set b))
 more-held old new shared wider set key name inserted is grown other b =
     ap (λ entries. set_by shared b || own_set entries other b) inserted
-    ∙ (ap (λ (o : Option (List Bool)). set_by shared b || set_by (unwrap_or o []) b) (after-insert old key wider other ∙ ap (λ t. if same_text other t then Some wider else look-up other old) is)
+    ∙ (ap (λ (o : Option (List ℕ)). set_by shared b || set_by (unwrap_or o []) b) (after-insert old key wider other ∙ ap (λ t. if same_text other t then Some wider else look-up other old) is)
     ∙ by (same_text other name) refl)
   where
     or-assoc : (x y z : Bool) → (x || (y || z)) ≡ ((x || y) || z)
@@ -98,7 +98,7 @@ more-held old new shared wider set key name inserted is grown other b =
     by false differs = or-false (set_by shared b || own_set old other b)
 
 -- the own sets of all names, by those of the entries
-pub own-part : (entries : Entries) (all : Bytes) → ((k : ℕ) (entry : Vec ℕ × List Bool) → slice_get entries k ≡ Some entry → IsPart (set_by entry.1) all)
+pub own-part : (entries : Entries) (all : Bytes) → ((k : ℕ) (entry : Vec ℕ × List ℕ) → slice_get entries k ≡ Some entry → IsPart (set_by entry.1) all)
     → (name : List ℕ) → IsPart (own_set entries name) all
 own-part [] all each name b has = absurd (let no : false ≡ true = has in let bottom : ⊥ = cc in bottom)
 own-part (entry ∷ entries) all each name b has = by (same_text name entry.0.items) refl (own-part entries all (λ k. each (suc k)) name b)
@@ -108,7 +108,7 @@ own-part (entry ∷ entries) all each name b has = by (same_text name entry.0.it
     by false is later = later (sym (ap (λ t. set_by (unwrap_or (if t then Some entry.1 else look-up name entries) []) b) is) ∙ has)
 
 -- the bytes of each name are among those of all
-pub name-part : (entries : Entries) (shared : List Bool) (all : Bytes) → IsPart (set_by shared) all → ((name : List ℕ) → IsPart (own_set entries name) all)
+pub name-part : (entries : Entries) (shared : List ℕ) (all : Bytes) → IsPart (set_by shared) all → ((name : List ℕ) → IsPart (own_set entries name) all)
     → (name : List ℕ) → IsPart (name_set entries shared name) all
 name-part entries shared all common each name b has = by (set_by shared b) refl
   where

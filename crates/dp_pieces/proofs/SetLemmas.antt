@@ -18,8 +18,8 @@ known-exactly [] = refl
 known-exactly (byte ∷ text) = ap (option_map (λ bytes. byte ∷ bytes)) (known-exactly text)
 
 -- a table that has no byte
-pub none-set : (has : List Bool) → has ≡ replicate 256 false → (b : ℕ) → set_by has b ≡ false
-none-set has none b = ap (λ t. set_by t b) none ∙ none-has 256 b
+pub none-set : (has : List ℕ) → has ≡ replicate 4 0 → (b : ℕ) → set_by has b ≡ false
+none-set has none b = ap (λ t. set_by t b) none ∙ none-has 4 b
 
 -- no byte is a digit below the first
 pub no-digit : (b : ℕ) → false ≡ (nat_le 48 b && nat_lt b 48)

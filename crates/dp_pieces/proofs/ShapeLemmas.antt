@@ -17,12 +17,6 @@ use Rattle.dp_pieces.specs.Shown.{shown, shown_all}
 use Rattle.dp_pieces.specs.declared.piece.Piece.{Piece as Kept}
 use Rattle.dp_pieces.specs.declared.piece.Piece.TheVariants as kept
 
--- the empty set has no byte
-pub empty-set : (n byte : ℕ) → set_by (replicate n false) byte ≡ false
-empty-set zero byte = refl
-empty-set (suc n) zero = refl
-empty-set (suc n) (suc byte) = empty-set n byte
-
 -- the element at the place of a loop, and those after it
 pub next-dropped : {A : Type 0} (xs : List A) (i : ℕ) (x : A) → i < length xs → x ≡ get_or xs i x → drop i xs ≡ x ∷ drop (i + 1) xs
 next-dropped xs i x within is = drop-cons xs i x within ∙ (λ j. sym is j ∷ drop (sym (add-one i) j) xs)
@@ -62,7 +56,7 @@ made-met : (set : Bytes) (class : List ℕ) (classes : List (List ℕ)) (tail : 
 made-met set class classes tail = ap (λ s. OneOf (both s (bytes_in class)) ∷ met_classes (made s) classes tail) (made-set set)
 
 -- any bytes of a set, met with one class more
-pub any-step : (old new : List Kept) (set : Bytes) (met : List Bool) (class : List ℕ) (left later : List (List ℕ)) (tail : Tail) (all : List Piece)
+pub any-step : (old new : List Kept) (set : Bytes) (met : List ℕ) (class : List ℕ) (left later : List (List ℕ)) (tail : Tail) (all : List Piece)
     → left ≡ class ∷ later → ((byte : ℕ) → set_by met byte ≡ both set (bytes_in class) byte) → new ≡ old ++ kept.OneOf met ∷ []
     → shown_all old ++ met_classes (made set) left tail ≡ all → shown_all new ++ met_classes (made set) later tail ≡ all
 any-step old new set met class left later tail all is same pushed so_far =
@@ -73,7 +67,7 @@ any-step old new set met class left later tail all is same pushed so_far =
     ∙ (ap (λ cs. shown_all old ++ met_classes (made set) cs tail) (sym is) ∙ so_far))))
 
 -- no class is left, and any bytes may follow
-pub any-end : (old new : List Kept) (set : Bytes) (copy : List Bool) (left : List (List ℕ)) (tail : Tail) (all : List Piece)
+pub any-end : (old new : List Kept) (set : Bytes) (copy : List ℕ) (left : List (List ℕ)) (tail : Tail) (all : List Piece)
     → left ≡ [] → met_tail (made set) tail ≡ made set → ((byte : ℕ) → set_by copy byte ≡ set byte) → new ≡ old ++ kept.AnyOf copy ∷ []
     → shown_all old ++ met_classes (made set) left tail ≡ all → shown_all new ≡ all
 any-end old new set copy left tail all is follows same pushed so_far =

@@ -1,8 +1,8 @@
--- Sets of bytes by a table of what they have.
-use Rattle.std.specs.Prelude.{Bool, false, List, slice_get}
-use Rattle.std.specs.Option.{unwrap_or}
+-- Sets of bytes by four words, of which each has the bits of 64 bytes.
+use Rattle.std.specs.Prelude.{ℕ, ◌/◌, ◌%◌, ◌==◌, List, slice_index}
+use Rattle.std.specs.Int.{bit_at}
 use Rattle.dp_pieces.specs.Bytes.{Bytes}
 
--- the bytes of a table
-abbrev pub set_by : List Bool → Bytes
-set_by has byte = unwrap_or (slice_get has byte) false
+-- the bytes whose bits are set, counted from the lowest bit of the first word
+abbrev pub set_by : List ℕ → Bytes
+set_by words byte = bit_at (slice_index words (byte / 64)) (byte % 64) == 1

@@ -1,5 +1,5 @@
 -- What is known of the values of names, by a table of sets.
-use Rattle.std.specs.Prelude.{ℕ, List, [], Bool}
+use Rattle.std.specs.Prelude.{ℕ, List, []}
 use Rattle.std.specs.Global.{Vec}
 use Rattle.std.specs.Map.{lookup}
 use Rattle.std.specs.Option.{unwrap_or}
@@ -11,22 +11,22 @@ use Rattle.dp_pieces.specs.Sets.{set_by}
 
 -- the entries of a table: names with their own sets
 abbrev pub Entries : Type 0
-Entries = List (Vec ℕ × List Bool)
+Entries = List (Vec ℕ × List ℕ)
 
 -- the own set of a name; a name that has none has no byte of its own
 abbrev pub own_set : Entries → List ℕ → Bytes
 own_set entries name = set_by (unwrap_or (lookup (λ key. same_text name key.items) entries) [])
 
 -- the bytes of a name: its own, and those that each name has
-abbrev pub name_set : Entries → List Bool → List ℕ → Bytes
+abbrev pub name_set : Entries → List ℕ → List ℕ → Bytes
 name_set entries shared name = either (set_by shared) (own_set entries name)
 
 -- a table: the sets of names, those that each name has, those of the caller's number, and those of any of these
 pub record Table : Type 0 where
   pub own : Entries
-  pub shared : List Bool
-  pub caller : List Bool
-  pub all : List Bool
+  pub shared : List ℕ
+  pub caller : List ℕ
+  pub all : List ℕ
 
 -- what is known of names by a table, where the channel's own context and extension have these shapes
 abbrev pub names_by : Table → List Piece → List Piece → Names

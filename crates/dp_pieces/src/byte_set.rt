@@ -1,56 +1,90 @@
 //! Sets of bytes.
 ghost use Rattle.dp_conf.specs.Blanks.{is_blank as blank};
-ghost use Rattle.std.specs.Prelude.{◌≡◌, ℕ, true, false, ◌&&◌, ◌||◌, ◌==◌, IsFalse, IsTrue, replicate};
+ghost use Rattle.std.specs.Prelude.{◌≡◌, ◌<◌, ℕ, true, false, ◌&&◌, ◌||◌, ◌==◌, IsFalse, IsTrue, replicate};
+ghost use Rattle.std.specs.Int.{bit_at};
 ghost use Rattle.dp_pieces.specs.Bytes.{IsPart, digits, either, has_blank};
 ghost use Rattle.dp_pieces.specs.Sets.{set_by};
 
 use dp_conf::is_blank;
 use std::marker::Model;
 
-/// A set of bytes.
+/// Bit k of a word.
+fn has_bit(word: u64, k: u8) -> bool
+    requires { k < 64 }
+    ensures { result ≡ (bit_at word k == 1) }
+{
+    (word >> k) & 1 == 1
+}
+
+/// The word with bit k set.
+fn with_bit(word: u64, k: u8) -> u64
+    requires { k < 64 }
+    ensures set { bit_at result k ≡ 1 }
+    ensures others { (i : ℕ) → (i ≡ k → ⊥) → bit_at result i ≡ bit_at word i }
+{
+    word | (1 << k)
+}
+
+/// The word with the bits of both.
+fn with_bits(word: u64, other: u64) -> u64
+    ensures { (i : ℕ) → (bit_at result i == 1) ≡ (bit_at word i == 1 || bit_at other i == 1) }
+{
+    word | other
+}
+
+/// Whether the other word has each bit of the word.
+fn are_bits_of(word: u64, other: u64) -> bool
+    ensures part { IsTrue result → (i : ℕ) → (bit_at word i == 1) ≡ true → (bit_at other i == 1) ≡ true }
+    ensures no_part { IsFalse result → ((i : ℕ) → i < 64 → (bit_at word i == 1) ≡ true → (bit_at other i == 1) ≡ true) → ⊥ }
+{
+    word | other == other
+}
+
+/// A set of bytes. Byte b has bit b % 64 of word b / 64.
 #[derive(Clone, Copy)]
 pub struct ByteSet {
-    has: [bool; 256],
+    words: [u64; 4],
 }
 
 impl Model for ByteSet {
-    ghost use Rattle.std.specs.Prelude.{Bool, List};
+    ghost use Rattle.std.specs.Prelude.{ℕ, List};
 
-    ghost Value = { List Bool };
+    ghost Value = { List ℕ };
 
-    ghost view = { λ s. s.has };
+    ghost view = { λ s. s.words };
 
-    ghost inverse = { λ has. record { has = has } };
+    ghost inverse = { λ words. record { words = words } };
 }
 
 impl ByteSet {
     /// The empty set.
     pub fn none() -> Self
-        ensures { result ≡ replicate 256 false }
+        ensures { result ≡ replicate 4 0 }
     {
-        ByteSet { has: [false; 256] }
+        ByteSet { words: [0; 4] }
     }
 
     /// Whether the set has the byte.
     pub fn has(&self, byte: u8) -> bool
         ensures { result ≡ set_by self.now byte }
     {
-        self.has[byte as usize]
+        has_bit(self.words[usize::from(byte / 64)], byte % 64)
     }
 
     /// Puts a byte in the set.
     pub fn put(&mut self, byte: u8)
         ensures { (b : ℕ) → set_by self.new b ≡ (b == byte || set_by self.old b) }
     {
-        self.has[byte as usize] = true;
+        let place = usize::from(byte / 64);
+        self.words[place] = with_bit(self.words[place], byte % 64);
     }
 
     /// Puts all bytes of the other set in this one.
     pub fn add(&mut self, other: &ByteSet)
         ensures { (b : ℕ) → set_by self.new b ≡ either (set_by self.old) (set_by other.now) b }
     {
-        for i in 0..256 {
-            self.has[i] = self.has[i] || other.has[i];
+        for i in 0..4 {
+            self.words[i] = with_bits(self.words[i], other.words[i]);
         }
     }
 
@@ -107,8 +141,8 @@ impl ByteSet {
         ensures part { IsTrue result → IsPart (set_by self.now) (set_by other.now) }
         ensures no_part { IsFalse result → IsPart (set_by self.now) (set_by other.now) → ⊥ }
     {
-        for i in 0..256 {
-            if self.has[i] && !other.has[i] {
+        for i in 0..4 {
+            if !are_bits_of(self.words[i], other.words[i]) {
                 return false;
             }
         }

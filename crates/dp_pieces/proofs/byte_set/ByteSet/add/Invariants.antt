@@ -1,10 +1,10 @@
-use Rattle.std.proofs.Common.{◌≡◌, ℕ, ◌<◌, ◌≤◌}
+use Rattle.std.proofs.Common.{◌≡◌, ℕ, ◌<◌, ◌≤◌, ◌/◌}
 use Rattle.dp_pieces.specs.Bytes.{either}
 use Rattle.dp_pieces.specs.Sets.{set_by}
 use Rattle.dp_pieces.proofs.byte_set.ByteSet.add.Given as goal
 
 abbrev pub invariant-loop-i : goal.invariant-loop-i
 invariant-loop-i l = record {
-  below : (k : ℕ) → k < l.i → set_by l.self-inside.has k ≡ either (set_by l.initial.self-inside.has) (set_by l.other-inside.has) k;
-  above : (k : ℕ) → l.i ≤ k → set_by l.self-inside.has k ≡ set_by l.initial.self-inside.has k;
+  below : (b : ℕ) → b / 64 < l.i → set_by l.self-inside.words b ≡ either (set_by l.initial.self-inside.words) (set_by l.other-inside.words) b;
+  above : (b : ℕ) → l.i ≤ b / 64 → set_by l.self-inside.words b ≡ set_by l.initial.self-inside.words b;
 }

@@ -8,7 +8,7 @@ pub returns-clause-bytes : goal.returns-clause-bytes
 returns-clause-bytes c = none-named c.new.result.entries c.none.result (no-entries c.new.result.entries c.new.ensures.len) c.none.ensures
 
 pub returns-clause-caller : goal.returns-clause-caller
-returns-clause-caller c = λ b. ap (λ has. set_by has b) c.none-2.ensures ∙ none-has 256 b
+returns-clause-caller c = λ b. ap (λ has. set_by has b) c.none-2.ensures ∙ none-has 4 b
 
 pub returns-clause-all : goal.returns-clause-all
-returns-clause-all c = λ b. ap (λ has. set_by has b) c.none-3.ensures ∙ none-has 256 b
+returns-clause-all c = λ b. ap (λ has. set_by has b) c.none-3.ensures ∙ none-has 4 b
