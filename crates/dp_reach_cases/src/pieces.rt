@@ -1,14 +1,16 @@
-//! Pieces of texts that are not expanded yet: how they are cut and trimmed, and which names and shapes they meet.
+//! Pieces of texts that are not expanded yet: how they are read, cut and trimmed, and which names and shapes they meet.
 mod cuts;
 mod duties;
 mod names;
 mod notation;
 mod shapes;
+mod texts;
 
 use crate::pieces::cuts::{CUTS, Cuts};
 use crate::pieces::duties::{CLAIMED, Claimed, DUTIES, Duties, FOUND, Found, REACHED, Reached};
 use crate::pieces::names::{NAMES, Names};
 use crate::pieces::shapes::{SHAPES, Shapes};
+use crate::pieces::texts::{TEXTS, Texts};
 use dp_questions::check;
 use std::test::Fail;
 
@@ -28,6 +30,12 @@ fn shapes_meet_names(rt: HostRuntime) -> Result<(), Fail> {
 #[test]
 fn names_have_bytes(rt: HostRuntime) -> Result<(), Fail> {
     check::<Names>(rt.alloc(), NAMES)
+}
+
+/// Texts read as pieces, by what is known of names.
+#[test]
+fn texts_are_read(rt: HostRuntime) -> Result<(), Fail> {
+    check::<Texts>(rt.alloc(), TEXTS)
 }
 
 /// What each application owes by the pieces of its arguments, which places a reach has, and what is found.

@@ -6,7 +6,7 @@ use std::alloc::Global;
 use std::test::Fail;
 
 /// The set of the bytes of a text.
-fn set_of(text: &str) -> ByteSet {
+pub(super) fn set_of(text: &str) -> ByteSet {
     let mut set = ByteSet::none();
     for byte in text.as_bytes() {
         set.put(*byte);
@@ -39,6 +39,7 @@ fn answer_of(alloc: Global, table: &NameTable, asked: &str) -> Result<String, Fa
         Some((name, bytes)) => {
             out.push_str(yes_or_no(table.has(name.as_bytes(), &set_of(bytes))))?;
         }
+        None if asked == "whole?" => out.push_str(yes_or_no(table.is_whole()))?,
         None => {
             let set = match asked {
                 "caller" => *table.caller(),
@@ -51,8 +52,8 @@ fn answer_of(alloc: Global, table: &NameTable, asked: &str) -> Result<String, Fa
     Ok(out)
 }
 
-/// Steps with blanks between them, then what is asked after a bar: the bytes of a name, of the caller's number or of any, or whether
-/// a name may have some.
+/// Steps with blanks between them, then what is asked after a bar: the bytes of a name, of the caller's number or of any, whether a
+/// name may have some, or whether any value may have all of them and the digits.
 pub(super) struct Names;
 
 impl Question for Names {
@@ -96,4 +97,9 @@ X=ab *=c|Y=a→no
 X=ab *=c|*=c→yes
 X=ab *=c|*=a→no
 X=ab|X=→yes
+|whole?→no
+any=0123456789|whole?→yes
+any=012345678|whole?→no
+X=0123456789|whole?→yes
+X=ab Y=c *=d caller=12 any=0123456789|whole?→yes
 ";
