@@ -1,5 +1,5 @@
 -- Words bit by bit.
-use Rattle.std.proofs.Common.{◌≡◌, ℕ, zero, suc, ◌<◌, ◌+◌, ◌*◌, ◌/◌, ◌%◌, ◌^◌, max, bit_or, slice_index, List, ◌==◌, Bool, true, false, ◌||◌, refl, sym, ap, ◌∙◌, subst, arith}
+use Rattle.std.proofs.Common.{◌≡◌, ℕ, zero, suc, ◌<◌, ◌+◌, ◌*◌, ◌/◌, ◌%◌, ◌^◌, max, bit_or, slice_index, List, ◌==◌, true, false, ◌||◌, refl, sym, ap, ◌∙◌, arith}
 use borrow.Author.Tests.{eqb-true}
 use Rattle.std.proofs.lemmas.Nat.{or_lt}
 use Rattle.std.proofs.lemmas.Nat.Bits.{bit_at-lt, bit_at_or, same_from_bits_below}
@@ -42,6 +42,7 @@ part-adds-none word other small little part = same_from_bits_below 64 (bit_or wo
 
 -- a byte by its word and its bit
 pub bit-at-place : (words : List ℕ) (k i : ℕ) → i < 64 → set_by words (64 * k + i) ≡ (bit_at (slice_index words k) i == 1)
+unfolding set_by
 bit-at-place words k i below =
     let place : (64 * k + i) / 64 ≡ k = omega arith in
     let bit : (64 * k + i) % 64 ≡ i = omega arith in

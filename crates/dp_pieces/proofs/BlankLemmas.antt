@@ -1,5 +1,5 @@
 -- Sets that have blanks, and the set of one byte.
-use Rattle.std.proofs.Common.{◌≡◌, ℕ, zero, suc, ◌<◌, ◌/◌, ◌%◌, ◌==◌, slice_index, Bool, true, false, ◌&&◌, ◌||◌, refl, ap, ◌∙◌, subst, arith}
+use Rattle.std.proofs.Common.{◌≡◌, ℕ, zero, suc, ◌<◌, ◌/◌, ◌%◌, ◌==◌, slice_index, [], Bool, true, false, ◌&&◌, ◌||◌, refl, ap, ◌∙◌, subst, arith}
 use borrow.Author.Tests.{eqb-true, eqb-false}
 use Rattle.std.specs.Int.{bit_at}
 use Rattle.std.specs.Prelude.{replicate}
@@ -34,7 +34,12 @@ no-word (suc size) zero = refl
 no-word (suc size) (suc k) = no-word size k
 
 pub none-has : (size byte : ℕ) → set_by (replicate size 0) byte ≡ false
+unfolding set_by
 none-has size byte = ap (λ word. bit_at word (byte % 64) == 1) (no-word size (byte / 64)) ∙ ap (λ bit. bit == 1) (bit_at-zero (byte % 64))
+
+-- no words
+pub no_bytes : (byte : ℕ) → set_by [] byte ≡ false
+no_bytes byte = none-has 0 byte
 
 pub only-one : (byte b : ℕ) → (b == byte || set_by (replicate 4 0) b) ≡ (b == byte)
 only-one byte b = ap (λ t. b == byte || t) (none-has 4 b) ∙ last (b == byte)

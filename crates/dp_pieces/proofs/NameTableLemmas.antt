@@ -11,11 +11,11 @@ use Rattle.dp_pieces.specs.Sets.{set_by}
 use Rattle.dp_pieces.specs.Names.{IsWhole}
 use Rattle.dp_pieces.specs.Pieces.{pieces_set}
 use Rattle.dp_pieces.specs.Tables.{Entries, Table, name_set, names_in, own_set}
-use Rattle.dp_pieces.proofs.BlankLemmas.{none-has}
+use Rattle.dp_pieces.proofs.BlankLemmas.{no_bytes, none-has}
 
 pub none-named : (entries : Entries) (shared : List ℕ) → entries ≡ [] → shared ≡ replicate 4 0 → (name : List ℕ) (b : ℕ) → name_set entries shared name b ≡ false
 none-named entries shared none is name b =
-    (λ i. name_set (none i) (is i) name b) ∙ (ap (λ t. t || false) (none-has 4 b))
+    (λ i. name_set (none i) (is i) name b) ∙ (λ i. none-has 4 b i || no_bytes b i)
 
 pub no-entries : (entries : Entries) → length entries ≡ 0 → entries ≡ []
 no-entries [] is = refl
@@ -100,7 +100,7 @@ more-held old new shared wider set key name inserted is grown other b =
 -- the own sets of all names, by those of the entries
 pub own-part : (entries : Entries) (all : Bytes) → ((k : ℕ) (entry : Vec ℕ × List ℕ) → slice_get entries k ≡ Some entry → IsPart (set_by entry.1) all)
     → (name : List ℕ) → IsPart (own_set entries name) all
-own-part [] all each name b has = absurd (let no : false ≡ true = has in let bottom : ⊥ = cc in bottom)
+own-part [] all each name b has = absurd (let no : false ≡ true = sym (no_bytes b) ∙ has in let bottom : ⊥ = cc in bottom)
 own-part (entry ∷ entries) all each name b has = by (same_text name entry.0.items) refl (own-part entries all (λ k. each (suc k)) name b)
   where
     by : (same : Bool) → same_text name entry.0.items ≡ same → (own_set entries name b ≡ true → all b ≡ true) → all b ≡ true

@@ -4,5 +4,5 @@ use Rattle.std.specs.Int.{bit_at}
 use Rattle.dp_pieces.specs.Bytes.{Bytes}
 
 -- the bytes whose bits are set, counted from the lowest bit of the first word
-abbrev pub set_by : List ℕ → Bytes
+unfoldable pub set_by : List ℕ → Bytes
 set_by words byte = bit_at (slice_index words (byte / 64)) (byte % 64) == 1

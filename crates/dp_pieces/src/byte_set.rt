@@ -65,6 +65,7 @@ impl ByteSet {
     }
 
     /// Whether the set has the byte.
+    #[tactic(auto, unfolding(crate::specs::Sets::set_by))]
     pub fn has(&self, byte: u8) -> bool
         ensures { result ≡ set_by self.now byte }
     {
@@ -72,6 +73,7 @@ impl ByteSet {
     }
 
     /// Puts a byte in the set.
+    #[tactic(auto, unfolding(crate::specs::Sets::set_by))]
     pub fn put(&mut self, byte: u8)
         ensures { (b : ℕ) → set_by self.new b ≡ (b == byte || set_by self.old b) }
     {
@@ -80,6 +82,7 @@ impl ByteSet {
     }
 
     /// Puts all bytes of the other set in this one.
+    #[tactic(auto, unfolding(crate::specs::Sets::set_by))]
     pub fn add(&mut self, other: &ByteSet)
         ensures { (b : ℕ) → set_by self.new b ≡ either (set_by self.old) (set_by other.now) b }
     {
@@ -137,6 +140,7 @@ impl ByteSet {
     }
 
     /// Whether each byte of the set is in the other.
+    #[tactic(auto, unfolding(crate::specs::Sets::set_by))]
     pub fn is_part(&self, other: &ByteSet) -> bool
         ensures part { IsTrue result → IsPart (set_by self.now) (set_by other.now) }
         ensures no_part { IsFalse result → IsPart (set_by self.now) (set_by other.now) → ⊥ }

@@ -45,6 +45,7 @@ impl NameTable {
     }
 
     /// The bytes that the values of the name may have.
+    #[tactic(auto, using(crate::proofs::BlankLemmas::no_bytes))]
     pub fn bytes(&self, name: &[u8]) -> ByteSet
         ensures { (b : ℕ) → set_by result b ≡ (names_in self.now).bytes name.now b }
     {
@@ -122,6 +123,7 @@ impl NameTable {
     }
 
     /// The set's bytes, and those that the name has as its own.
+    #[tactic(auto, using(crate::proofs::BlankLemmas::no_bytes))]
     fn own_with(&self, name: &[u8], set: &ByteSet) -> ByteSet
         ensures { (b : ℕ) → set_by result b ≡ either (own_set self.now.own name.now) (set_by set.now) b }
     {

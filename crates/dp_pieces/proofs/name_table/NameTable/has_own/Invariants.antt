@@ -1,4 +1,4 @@
-use Rattle.std.proofs.Common.{◌≡◌, ℕ, ◌<◌, List, Bool, Some, slice_get, Vec, Global}
+use Rattle.std.proofs.Common.{◌≡◌, ℕ, ◌<◌, List, Some, slice_get, Vec, Global}
 use Rattle.dp_pieces.specs.Bytes.{IsPart}
 use Rattle.dp_pieces.specs.Sets.{set_by}
 use Rattle.dp_pieces.proofs.name_table.NameTable.has_own.Given as goal
