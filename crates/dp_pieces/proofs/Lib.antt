@@ -1,5 +1,6 @@
 pub mod WithinLemmas
 mod BitLemmas
+mod EndLemmas
 pub mod NumeralLemmas
 pub mod ExpressionLemmas
 pub mod BlankLemmas

@@ -1,5 +1,5 @@
 //! Known texts and shapes.
-ghost use Rattle.std.specs.Prelude.{◌≡◌, false, IsFalse};
+ghost use Rattle.std.specs.Prelude.{◌≡◌, false, IsFalse, IsTrue};
 ghost use Rattle.dp_pieces.specs.Bytes.{Within};
 ghost use Rattle.dp_pieces.specs.Pieces.{Fits, piece_set};
 ghost use Rattle.dp_pieces.specs.Sets.{set_by};
@@ -31,10 +31,30 @@ fn has_byte(piece: &Piece, byte: u8) -> bool
     }
 }
 
+/// Whether the last byte of the shape is known, and the text ends with another. Names of contexts often begin alike, so this tells most
+/// of them apart at once.
+fn ends_apart(pieces: &[Piece], text: &[u8]) -> bool
+    ensures { IsTrue result → Fits (shown_all pieces.now) text.now → ⊥ }
+{
+    let Some((piece, _)) = pieces.split_last() else {
+        return false;
+    };
+    let Some((last, _)) = text.split_last() else {
+        return false;
+    };
+    match piece {
+        Piece::Known(byte) => *byte != *last,
+        Piece::OneOf(_) | Piece::AnyOf(_) => false,
+    }
+}
+
 /// Whether the text may be one of this shape: a false says that it is none.
 pub fn may_fit(pieces: &[Piece], text: &[u8]) -> bool
     ensures { IsFalse result → Fits (shown_all pieces.now) text.now → ⊥ }
 {
+    if ends_apart(pieces, text) {
+        return false;
+    }
     let mut left = pieces;
     let mut rest = text;
     while let Some((piece, later)) = left.split_first() {
