@@ -1,3 +1,4 @@
+pub mod Answers
 pub mod Claimed
 pub mod Found
 pub mod Reach

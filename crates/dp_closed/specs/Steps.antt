@@ -1,12 +1,34 @@
 -- What private functions say of their steps. No public clause rests on it.
 use Rattle.std.specs.Global.{Vec}
-use Rattle.std.specs.Prelude.{ℕ, List, [], ◌∷◌, map}
+use Rattle.std.specs.List.{AllByRecursion}
+use Rattle.std.specs.Prelude.{ℕ, Bool, List, [], ◌∷◌, codes, map, option_map}
+use Rattle.dp_closed.specs.Answers.{answers_in, shown_outside}
+use Rattle.dp_closed.specs.Claimed.{AreWays, claimed}
+use Rattle.dp_closed.specs.Reach.{areas_in}
+use Rattle.dp_closed.specs.declared.audit.Audit.{Audit}
+use Rattle.dp_closed.specs.declared.closed.Checker.{Checker}
 use Rattle.dp_closed.specs.declared.shapes.Shapes.{Shapes}
 use Rattle.dp_closed.specs.declared.shapes.Shapes.TheVariants.{Nothing, One, Two}
+use Rattle.dp_machine.specs.Codes.{status_name}
+use Rattle.dp_machine.specs.declared.dial_status.DialStatus.{DialStatus}
+use Rattle.dp_pieces.specs.Bytes.{IsPart, Within, digits}
+use Rattle.dp_pieces.specs.Names.{Names}
 use Rattle.dp_pieces.specs.Pieces as spec
 use Rattle.dp_pieces.specs.Shown.{shown_all}
+use Rattle.dp_pieces.specs.Sets.{set_by}
+use Rattle.dp_pieces.specs.Tables.{names_in}
+use Rattle.dp_pieces.specs.Texts.{text_set}
 use Rattle.dp_pieces.specs.declared.piece.Piece.{Piece}
-use Rattle.dp_reach.specs.Areas.{Area, area_at}
+use Rattle.dp_plan.specs.declared.entry.Entry.{Entry}
+use Rattle.dp_plan.specs.declared.entry.EntryId.{EntryId}
+use Rattle.dp_queue.specs.declared.settings.Settings.{Settings}
+use Rattle.dp_plan.specs.declared.plan.GlobalVariable.{GlobalVariable}
+use Rattle.dp_reach.specs.Areas.{Area, Includes, area_at, area_matched}
+use Rattle.dp_reach.specs.Audits.{entrance, names_outside}
+use Rattle.dp_reach.specs.Closed.{IsAreaClosed, IsEntry}
+use Rattle.dp_reach.specs.Finding.{MayFind}
+use Rattle.dp_reach.specs.Holding.{Claim}
+use Rattle.dp_reach.specs.Standard.{standard_duties}
 
 -- the shapes as a list
 abbrev pub shown_shapes : Shapes → List (List spec.Piece)
@@ -28,3 +50,49 @@ known_bytes (spec.AnyOf set ∷ pieces) = known_bytes pieces
 -- an area, where it does not count which
 abbrev pub any_area : Area
 any_area = area_at [] []
+
+-- the entries that are answered
+abbrev pub answers_of : Checker → EntryId → Bool
+answers_of checker = answers_in (option_map (λ marks. marks.now) checker.answers)
+
+-- it holds of the claim and of these entries, whatever settings of queues have these ways out
+abbrev pub Closes : Checker → (Claim → (EntryId → Bool) → Type 0) → Type 0
+Closes checker holds = (settings : List Settings) → AreWays settings checker.claim.ways.now → holds (claimed checker.claim settings) (answers_of checker)
+
+-- an entry is closed, where it may be found from the area
+abbrev pub IsEntryIn : Claim → (EntryId → Bool) → Area → EntryId → Type 0
+IsEntryIn claim answers area id = (entry : Entry) → MayFind claim.plan area id entry → IsEntry standard_duties claim answers (area_matched area entry.name) id entry
+
+-- each area of the context of a name and of these shapes is closed
+abbrev pub AreShapesClosed : Checker → List ℕ → List (Vec Piece) → Type 0
+AreShapesClosed checker name shapes = AllByRecursion
+    (λ shape. Closes checker (λ claim answers. IsAreaClosed standard_duties claim answers (area_at (spec.exactly name) (shown_all shape.items)))) shapes
+
+-- the parts of what the machine gives names in each area alike
+pub record IsSelfNamed (names : Names) : Type 0 where
+  pub priority : IsPart digits (names.bytes (codes "PRIORITY"))
+  pub number : IsPart digits (names.bytes (codes "CHANNEL"))
+  pub channel : Within (names.bytes (codes "CHANNEL")) (codes "Channel/")
+
+pub record IsQueueNamed (names : Names) : Type 0 where
+  pub timeout : Within (names.bytes (codes "QUEUESTATUS")) (codes "TIMEOUT")
+  pub leave : Within (names.bytes (codes "QUEUESTATUS")) (codes "LEAVEEMPTY")
+  pub talked : Within (names.bytes (codes "QUEUESTATUS")) (codes "CONTINUE")
+
+pub record IsDialNamed (names : Names) : Type 0 where
+  pub status : (status : DialStatus) → Within (names.bytes (codes "DIALSTATUS")) (status_name status)
+  pub unanswered : Within (names.bytes (codes "DIALSTATUS")) (codes "NOANSWER")
+  pub cancelled : Within (names.bytes (codes "DIALSTATUS")) (codes "CANCEL")
+
+-- the name of a global may have the bytes of its value
+abbrev pub IsGlobalHeld : Names → GlobalVariable → Type 0
+IsGlobalHeld names variable = IsPart (text_set (names_outside names) variable.value) (names.bytes variable.name)
+
+-- calls come in into their reach, and the names may have their numbers and the values of globals
+pub record IsEntered (audit : Audit) : Type 0 where
+  pub calls : AllByRecursion (λ name. Includes audit.wide.plan.now (areas_in audit.wide.plan.now.contexts audit.wide.reach.now.shapes.items)
+      (entrance (shown_outside audit.outside.now) name)) (shown_outside audit.outside.now).contexts
+  pub call : Includes audit.wide.plan.now (areas_in audit.wide.plan.now.contexts audit.reach.now.shapes.items)
+      (entrance (shown_outside audit.outside.now) audit.context.now)
+  pub caller : IsPart (set_by audit.outside.now.caller) (names_in audit.wide.names.now).caller
+  pub globals : AllByRecursion (IsGlobalHeld (names_in audit.wide.names.now)) audit.wide.plan.now.globals

@@ -1,10 +1,15 @@
-//! What each application owes, by the pieces of its arguments.
+//! What each application owes, by the pieces of its arguments, and whether a claim of where channels may be is closed.
 #![tactic(auto)]
 
 mod area;
+mod audit;
 mod claim;
+mod closed;
 mod duty;
 mod finding;
+mod marks;
+mod named;
+mod outside;
 mod reach;
 mod rows;
 mod sets;
@@ -15,8 +20,11 @@ mod targets;
 mod waiting;
 
 pub use area::Area;
+pub use audit::Audit;
 pub use claim::Claim;
 pub use duty::Duty;
 pub use finding::found_shape;
+pub use marks::Marks;
+pub use outside::Outside;
 pub use reach::Reach;
 pub use rows::duties;

@@ -27,6 +27,16 @@ fn has_shape(shapes: &[Vec<Piece>], exten: &[Piece]) -> bool
 }
 
 impl Reach {
+    /// The shapes of the extensions that channels may have in the context of a number.
+    pub fn shapes_at(&self, number: usize) -> &[Vec<Piece>]
+        ensures { result.now ≡ shapes_at self.now.shapes.items number }
+    {
+        match self.shapes.get(number) {
+            Some(shapes) => shapes,
+            None => &[],
+        }
+    }
+
     /// Whether each extension of the shape is seen to be one of the context of this number.
     pub fn has(&self, number: usize, exten: &[Piece]) -> bool
         ensures { IsTrue result → (text : List ℕ) → Fits (shown_all exten.now) text → FitsAny (shapes_at self.now.shapes.items number) text }

@@ -175,7 +175,7 @@ module _ (touches : List ℕ → Touch) (rows : Rows) (lawful : IsLawful touches
       by true reply = comes-more w.channels (opened context exten caller) number here (let e : length w.channels + 1 ≡ number = cc in e)
       by false reply = absurd cc
 
-  pub runs-only : RunsOnly rows outside context claim answers
+  pub runs-only : RunsOnly rows outside context claim.plan claim.settings answers
   runs-only queues before later exten caller number settings all reply =
       let w : World = world_after rows (opening claim.plan queues) before in
       let first = each-front (IsFromOutside outside) before (Start context exten caller ∷ later) all in

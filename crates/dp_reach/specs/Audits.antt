@@ -1,9 +1,11 @@
 -- What an audit claims: from where calls come in, and what they may run.
 use Rattle.std.specs.Prelude.{◌≡◌, ℕ, Bool, List, [], ◌∷◌, ◌++◌, map, ◌⊎◌}
 use Rattle.std.specs.List.{AllByRecursion}
+use Rattle.dp_plan.specs.Plan.{PlanOf}
 use Rattle.dp_plan.specs.declared.entry.EntryId.{EntryId}
 use Rattle.dp_plan.specs.declared.plan.GlobalVariable.{GlobalVariable}
 use Rattle.dp_queue.specs.Queues.{QueuesOf}
+use Rattle.dp_queue.specs.declared.settings.Settings.{Settings}
 use Rattle.dp_app.specs.Rows.{Rows}
 use Rattle.dp_machine.specs.Events.{event_row}
 use Rattle.dp_machine.specs.Replay.{final_world, world_after}
@@ -63,10 +65,10 @@ pub record IsAudit (duties : List ℕ → Duties) (outside : Outside) (context :
   pub caller : IsPart outside.caller claim.names.caller
   pub globals : AllByRecursion (λ (variable : GlobalVariable). IsPart (text_set (names_outside claim.names) variable.value) (claim.names.bytes variable.name)) claim.plan.globals
 
--- in a run from the beginning, a call that comes in at the context runs none but these entries
-abbrev pub RunsOnly : Rows → Outside → List ℕ → Claim → (EntryId → Bool) → Type 0
-RunsOnly rows outside context claim answers = (queues : QueuesOf) (before later : List Event) (exten caller : List ℕ) (number : ℕ)
-    → map (λ queue. queue.settings) queues.queues ≡ claim.settings
+-- in a run of the dialplan and queues of these settings from the beginning, a call that comes in at the context runs none but these entries
+abbrev pub RunsOnly : Rows → Outside → List ℕ → PlanOf → List Settings → (EntryId → Bool) → Type 0
+RunsOnly rows outside context plan settings answers = (queues : QueuesOf) (before later : List Event) (exten caller : List ℕ) (number : ℕ)
+    → map (λ queue. queue.settings) queues.queues ≡ settings
     → AllByRecursion (IsFromOutside outside) (before ++ Start context exten caller ∷ later)
-    → (event_row rows (world_after rows (opening claim.plan queues) before) (Start context exten caller)).1 ≡ Started number
-    → RunsWithin rows answers number (final_world rows (world_after rows (opening claim.plan queues) before) (Start context exten caller)) later
+    → (event_row rows (world_after rows (opening plan queues) before) (Start context exten caller)).1 ≡ Started number
+    → RunsWithin rows answers number (final_world rows (world_after rows (opening plan queues) before) (Start context exten caller)) later

@@ -48,5 +48,5 @@ pub fn finding()
 pub fn audit<T: AppTable>()
     ensures { (duties : List ℕ → Duties) (outside : Outside) (context : List ℕ) (claim : Claim) (others : EntryId → Bool) (reach : List Area)
         (answers : EntryId → Bool) → AreBounded duties T.rows → IsAudit duties outside context claim others reach answers
-        → RunsOnly T.rows outside context claim answers }
+        → RunsOnly T.rows outside context claim.plan claim.settings answers }
 {}

@@ -1,0 +1,40 @@
+-- Calls that come in into a reach.
+use Rattle.std.proofs.Common.{List, map}
+use Rattle.std.specs.Global.{Vec}
+use Rattle.std.specs.List.{AllByRecursion}
+use Rattle.std.specs.Prelude.{ℕ, Bool, true}
+use Rattle.dp_closed.specs.Answers.{shown_outside}
+use Rattle.dp_closed.specs.Claimed.{claimed}
+use Rattle.dp_closed.specs.Reach.{areas_in}
+use Rattle.dp_closed.specs.Steps.{IsEntered}
+use Rattle.dp_closed.specs.declared.audit.Audit.{Audit}
+use Rattle.dp_closed.specs.declared.claim.Claim.{Claim}
+use Rattle.dp_plan.specs.declared.entry.EntryId.{EntryId}
+use Rattle.dp_queue.specs.declared.settings.Settings.{Settings}
+use Rattle.dp_reach.specs.Areas.{Includes}
+use Rattle.dp_reach.specs.Audits.{RunsOnly, entrance}
+use Rattle.dp_reach.specs.Closed.{IsClosed}
+use Rattle.dp_reach.specs.Standard.{standard_duties}
+use Rattle.dp_reach.proofs.AuditLemmas.{runs-only}
+use Rattle.dp_reach.proofs.StandardRows.{standard-bounded}
+use Rattle.dp_table.specs.Standard.{standard_lawful, standard_rows, standard_touches}
+
+-- each call that comes in at one of these contexts is in the reach of all
+abbrev pub IsCallIn : Audit → List ℕ → Type 0
+IsCallIn audit name = Includes audit.wide.plan.now (areas_in audit.wide.plan.now.contexts audit.wide.reach.now.shapes.items) (entrance (shown_outside audit.outside.now) name)
+
+abbrev pub AreCallsIn : Audit → List (Vec ℕ) → Type 0
+AreCallsIn audit names = AllByRecursion (IsCallIn audit) (map (λ (name : Vec ℕ). name.items) names)
+
+-- the claim of the calls that come in at the context
+abbrev pub narrow_of : Audit → Claim
+narrow_of audit = record { plan = audit.wide.plan; names = audit.wide.names; reach = audit.reach; ways = audit.wide.ways }
+
+-- a closed audit is right of every run over this program's table
+pub runs-entered : (audit : Audit) (settings : List Settings) (answers : EntryId → Bool) → IsEntered audit
+    → IsClosed standard_duties (claimed audit.wide settings) (λ id. true) → IsClosed standard_duties (claimed (narrow_of audit) settings) answers
+    → RunsOnly standard_rows (shown_outside audit.outside.now) audit.context.now audit.wide.plan.now settings answers
+runs-entered audit settings answers entered all own =
+    runs-only standard_touches standard_rows standard_lawful standard_duties standard-bounded (shown_outside audit.outside.now) audit.context.now (claimed audit.wide settings) (λ id. true)
+    (areas_in audit.wide.plan.now.contexts audit.reach.now.shapes.items) answers
+    (record { all = all; own = own; calls = entered.calls; call = entered.call; caller = entered.caller; globals = entered.globals })

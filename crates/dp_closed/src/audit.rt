@@ -1,0 +1,137 @@
+//! What is claimed of the calls that come in at a context, and whether it is seen to be right of every run.
+ghost use Rattle.std.specs.Prelude.{ℕ, List, [], ◌∷◌, IfOk, IsTrue, map, option_map, true};
+ghost use Rattle.std.specs.List.{AllByRecursion};
+ghost use Rattle.dp_closed.specs.Answers.{answers_in, shown_outside};
+ghost use Rattle.dp_closed.specs.Claimed.{AreWays, claimed};
+ghost use Rattle.dp_closed.specs.Reach.{areas_in};
+ghost use Rattle.dp_closed.specs.Steps.{IsEntered, IsGlobalHeld};
+ghost use Rattle.dp_pieces.specs.Tables.{names_in};
+ghost use Rattle.dp_queue.specs.declared.settings.Settings.{Settings};
+ghost use Rattle.dp_reach.specs.Areas.{Includes};
+ghost use Rattle.dp_reach.specs.Audits.{IsAudit, RunsOnly, entrance};
+ghost use Rattle.dp_reach.specs.Standard.{standard_duties};
+ghost use Rattle.dp_table.specs.Standard.{standard_rows};
+
+use crate::claim::Claim;
+use crate::closed::exact_pieces;
+use crate::marks::Marks;
+use crate::outside::Outside;
+use crate::reach::Reach;
+use crate::sets::set_of;
+use dp_conf::NoMemory;
+use dp_pieces::{NamesAt, Piece, read_pieces};
+use dp_plan::{Dialplan, GlobalVariable};
+use std::alloc::Global;
+
+/// A claim of all calls, and of those that come in at a context: where their channels may be.
+#[derive(Clone, Copy)]
+pub struct Audit<'a> {
+    pub wide: Claim<'a>,
+    pub reach: &'a Reach,
+    pub outside: &'a Outside,
+    pub context: &'a [u8],
+}
+
+/// Whether each extension that may come in at the context of this name is seen to be in the reach.
+fn has_entrance(
+    alloc: Global,
+    reach: &Reach,
+    plan: &Dialplan,
+    outside: &Outside,
+    name: &[u8],
+) -> Result<bool, NoMemory>
+    ensures { IfOk result (λ yes. IsTrue yes
+        → Includes plan.now (areas_in plan.now.contexts reach.now.shapes.items) (entrance (shown_outside outside.now) name.now)) }
+{
+    let context = exact_pieces(alloc, name)?;
+    Ok(reach.includes(plan, &context, &[Piece::AnyOf(outside.exten)]))
+}
+
+impl Audit<'_> {
+    /// Whether each call that comes in is seen to be in the reach of all.
+    fn has_calls(self, alloc: Global) -> Result<bool, NoMemory>
+        ensures { IfOk result (λ yes. IsTrue yes
+            → AllByRecursion (λ name. Includes self.entry.wide.plan.now (areas_in self.entry.wide.plan.now.contexts self.entry.wide.reach.now.shapes.items)
+            (entrance (shown_outside self.entry.outside.now) name)) (map (λ name. name.items) self.entry.outside.now.contexts.items)) }
+    {
+        for name in &self.outside.contexts {
+            if !has_entrance(alloc, self.wide.reach, self.wide.plan, self.outside, name)? {
+                return Ok(false);
+            }
+        }
+        Ok(true)
+    }
+
+    /// Whether a global's name may have the bytes of its value.
+    fn has_global(self, alloc: Global, global: &GlobalVariable) -> Result<bool, NoMemory>
+        ensures { IfOk result (λ yes. IsTrue yes → IsGlobalHeld (names_in self.entry.wide.names.now) global.now) }
+    {
+        let names = NamesAt {
+            table: self.wide.names,
+            context: &[],
+            exten: &[],
+        };
+        let pieces = read_pieces(alloc, &names, global.value.bytes())?;
+        Ok(self.wide.names.has(global.name.bytes(), &set_of(&pieces)))
+    }
+
+    /// Whether each global's name may have the bytes of its value.
+    fn has_globals(self, alloc: Global) -> Result<bool, NoMemory>
+        ensures { IfOk result (λ yes. IsTrue yes → AllByRecursion (IsGlobalHeld (names_in self.entry.wide.names.now)) self.entry.wide.plan.now.globals) }
+    {
+        for global in self.wide.plan.globals() {
+            if !self.has_global(alloc, global)? {
+                return Ok(false);
+            }
+        }
+        Ok(true)
+    }
+
+    /// Whether all calls, and those of the context, are seen to come in into their reach, with numbers and globals that the names
+    /// may have.
+    fn is_entered(self, alloc: Global) -> Result<bool, NoMemory>
+        ensures { IfOk result (λ yes. IsTrue yes → IsEntered self.entry) }
+    {
+        if !self.has_calls(alloc)? {
+            return Ok(false);
+        }
+        if !has_entrance(
+            alloc,
+            self.reach,
+            self.wide.plan,
+            self.outside,
+            self.context,
+        )? {
+            return Ok(false);
+        }
+        if !self.outside.caller.is_part(self.wide.names.caller()) {
+            return Ok(false);
+        }
+        self.has_globals(alloc)
+    }
+
+    /// Whether the audit is seen to be closed, with the entries that are answered: those that are marked, or without marks all. Then
+    /// a call that comes in at the context runs none but these, in every run. It fails only for want of memory.
+    pub fn is_closed(self, alloc: Global, answers: Option<&Marks>) -> Result<bool, NoMemory>
+        ensures closed { IfOk result (λ yes. IsTrue yes → (settings : List Settings) → AreWays settings self.entry.wide.ways.now
+            → IsAudit standard_duties (shown_outside self.entry.outside.now) self.entry.context.now (claimed self.entry.wide settings) (λ id. true)
+            (areas_in self.entry.wide.plan.now.contexts self.entry.reach.now.shapes.items) (answers_in (option_map (λ marks. marks.now) answers.entry))) }
+        ensures runs { IfOk result (λ yes. IsTrue yes → (settings : List Settings) → AreWays settings self.entry.wide.ways.now
+            → RunsOnly standard_rows (shown_outside self.entry.outside.now) self.entry.context.now self.entry.wide.plan.now settings
+            (answers_in (option_map (λ marks. marks.now) answers.entry))) }
+    {
+        if !self.is_entered(alloc)? {
+            return Ok(false);
+        }
+        if !self.wide.is_closed(alloc, None)? {
+            return Ok(false);
+        }
+        let narrow = Claim {
+            plan: self.wide.plan,
+            names: self.wide.names,
+            reach: self.reach,
+            ways: self.wide.ways,
+        };
+        narrow.is_closed(alloc, answers)
+    }
+}

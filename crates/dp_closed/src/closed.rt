@@ -1,0 +1,258 @@
+//! Whether a claim is closed.
+ghost use Rattle.std.specs.Prelude.{◌≡◌, ◌≤◌, ℕ, List, [], ◌∷◌, IfOk, IsTrue, option_map, slice_get, true};
+ghost use Rattle.std.specs.List.{AllByRecursion};
+ghost use Rattle.std.specs.Option.{option_map_or};
+ghost use Rattle.dp_closed.specs.Answers.{answers_in};
+ghost use Rattle.dp_closed.specs.Claimed.{AreWays, claimed};
+ghost use Rattle.dp_closed.specs.Reach.{areas_in, shapes_at};
+ghost use Rattle.dp_closed.specs.Shown.{shown_area};
+ghost use Rattle.dp_closed.specs.Steps.{AreShapesClosed, Closes, IsEntryIn, answers_of};
+ghost use Rattle.dp_lookup.specs.SearchOrder.{context_count, has, search_order};
+ghost use Rattle.dp_pieces.specs.Pieces.{Known, exactly};
+ghost use Rattle.dp_pieces.specs.Shown.{shown_all};
+ghost use Rattle.dp_plan.specs.declared.entry.EntryId.{EntryId};
+ghost use Rattle.dp_queue.specs.declared.settings.Settings.{Settings};
+ghost use Rattle.dp_reach.specs.Areas.{Includes, area_at};
+ghost use Rattle.dp_reach.specs.Closed.{IsAreaClosed, IsClosed, IsEntry};
+ghost use Rattle.dp_reach.specs.Standard.{standard_duties};
+
+use crate::area::Area;
+use crate::claim::Claim;
+use crate::finding::found_shape;
+use crate::marks::Marks;
+use crate::rows::duties;
+use dp_conf::{NoMemory, Text};
+use dp_lookup::SearchOrder;
+use dp_pieces::{NamesAt, Piece, read_pieces};
+use dp_plan::{Dialplan, Entry, EntryId};
+use std::alloc::Global;
+
+/// Checks a claim, with the entries that are answered: those that are marked, or without marks all.
+#[derive(Clone, Copy)]
+pub(crate) struct Checker<'a> {
+    claim: Claim<'a>,
+    answers: Option<&'a Marks>,
+}
+
+/// The entries of the context of a number.
+fn entries_at(plan: &Dialplan, number: usize) -> &[Entry]
+    ensures { result.now ≡ option_map_or (λ context. context.entries) (slice_get plan.now.contexts number) [] }
+{
+    match plan.contexts().get(number) {
+        Some(context) => context.entries(),
+        None => &[],
+    }
+}
+
+/// The pieces of a known text.
+pub(crate) fn exact_pieces(alloc: Global, text: &[u8]) -> Result<Vec<Piece>, NoMemory>
+    ensures { IfOk result (λ pieces. shown_all pieces.items ≡ exactly text.now) }
+{
+    let mut pieces = Vec::new(alloc);
+    for byte in text {
+        pieces.push(Piece::Known(*byte))?;
+    }
+    Ok(pieces)
+}
+
+/// The area of the context of a name and an extension of a shape.
+fn area_in(alloc: Global, name: &[u8], shape: &[Piece]) -> Result<Area, NoMemory>
+    ensures { IfOk result (λ area. shown_area area ≡ area_at (exactly name.now) (shown_all shape.now)) }
+{
+    let context = exact_pieces(alloc, name)?;
+    let mut exten = Vec::new(alloc);
+    exten.extend_from_slice(shape)?;
+    Ok(Area { context, exten })
+}
+
+/// The area of a context and an extension of a shape.
+fn area_beside(alloc: Global, context: &[Piece], exten: Vec<Piece>) -> Result<Area, NoMemory>
+    ensures { IfOk result (λ area. shown_area area ≡ area_at (shown_all context.now) (shown_all exten.items)) }
+{
+    let mut kept = Vec::new(alloc);
+    kept.extend_from_slice(context)?;
+    Ok(Area {
+        context: kept,
+        exten,
+    })
+}
+
+impl Claim<'_> {
+    /// Whether the extension of one byte is seen to be in the reach, in the context of these pieces.
+    fn has_letter(self, context: &[Piece], letter: u8) -> bool
+        ensures { IsTrue result → Includes self.entry.plan.now (areas_in self.entry.plan.now.contexts self.entry.reach.now.shapes.items)
+            (area_at (shown_all context.now) (Known letter ∷ [])) }
+    {
+        self.reach
+            .includes(self.plan, context, &[Piece::Known(letter)])
+    }
+
+    /// Whether the claim is seen to be closed, with the entries that are answered: those that are marked, or without marks all. It
+    /// fails only for want of memory.
+    pub fn is_closed(self, alloc: Global, answers: Option<&Marks>) -> Result<bool, NoMemory>
+        ensures { IfOk result (λ yes. IsTrue yes → (settings : List Settings) → AreWays settings self.entry.ways.now
+            → IsClosed standard_duties (claimed self.entry settings) (answers_in (option_map (λ marks. marks.now) answers.entry))) }
+    {
+        if !self.is_named() {
+            return Ok(false);
+        }
+        let checker = Checker {
+            claim: self,
+            answers,
+        };
+        checker.has_contexts(alloc)
+    }
+}
+
+impl Checker<'_> {
+    /// Whether the entry is answered.
+    fn is_answered(self, id: EntryId) -> bool
+        ensures { result ≡ answers_of self.entry id }
+    {
+        match self.answers {
+            Some(marks) => marks.has(id),
+            None => true,
+        }
+    }
+
+    /// Whether an entry that runs in the area is answered, and all that it owes is met.
+    fn has_met(
+        self,
+        alloc: Global,
+        area: &Area,
+        id: EntryId,
+        entry: &Entry,
+    ) -> Result<bool, NoMemory>
+        ensures { IfOk result (λ yes. IsTrue yes
+            → Closes self.entry (λ claim answers. IsEntry standard_duties claim answers (shown_area area.now) id entry.now)) }
+    {
+        if !self.is_answered(id) {
+            return Ok(false);
+        }
+        let names = NamesAt {
+            table: self.claim.names,
+            context: &area.context,
+            exten: &area.exten,
+        };
+        let pieces = read_pieces(alloc, &names, entry.arguments.bytes())?;
+        let owed = duties(alloc, entry.application.bytes(), area, &pieces)?;
+        Ok(self.claim.meets_all(&owed))
+    }
+
+    /// Whether an entry is seen to be closed, where it may be found from the area.
+    fn has_entry(self, alloc: Global, area: &Area, id: EntryId) -> Result<bool, NoMemory>
+        ensures { IfOk result (λ yes. IsTrue yes → Closes self.entry (λ claim answers. IsEntryIn claim answers (shown_area area.now) id)) }
+    {
+        let Some(entry) = self.claim.plan.entry(id) else {
+            return Ok(true);
+        };
+        let entries = entries_at(self.claim.plan, id.context);
+        let found = found_shape(alloc, entries, entry, &area.exten)?;
+        let Some(exten) = found else {
+            return Ok(true);
+        };
+        let met = area_beside(alloc, &area.context, exten)?;
+        self.has_met(alloc, &met, id, entry)
+    }
+
+    /// The same of each entry of the context of a number.
+    fn has_entries(self, alloc: Global, area: &Area, number: usize) -> Result<bool, NoMemory>
+        ensures { IfOk result (λ yes. IsTrue yes → Closes self.entry (λ claim answers. (entry : ℕ)
+            → IsEntryIn claim answers (shown_area area.now) (record { context = number; entry = entry }))) }
+    {
+        let count = entries_at(self.claim.plan, number).len();
+        for entry in 0..count {
+            let id = EntryId {
+                context: number,
+                entry,
+            };
+            if !self.has_entry(alloc, area, id)? {
+                return Ok(false);
+            }
+        }
+        Ok(true)
+    }
+
+    /// The same of each entry of the contexts of a search order.
+    fn has_order(self, alloc: Global, area: &Area, order: &[usize]) -> Result<bool, NoMemory>
+        ensures { IfOk result (λ yes. IsTrue yes → Closes self.entry (λ claim answers. (id : EntryId)
+            → has order.now id.context ≡ true → IsEntryIn claim answers (shown_area area.now) id)) }
+    {
+        for number in order {
+            if !self.has_entries(alloc, area, *number)? {
+                return Ok(false);
+            }
+        }
+        Ok(true)
+    }
+
+    /// Whether an area is seen to be closed, by the search order of its context.
+    fn has_area(self, alloc: Global, area: &Area, order: &[usize]) -> Result<bool, NoMemory>
+        ensures { IfOk result (λ yes. IsTrue yes → (name : List ℕ) → shown_all area.now.context.items ≡ exactly name
+            → order.now ≡ search_order self.entry.claim.plan.now name
+            → Closes self.entry (λ claim answers. IsAreaClosed standard_duties claim answers (shown_area area.now))) }
+    {
+        if !self.claim.is_area_named(&area.context, &area.exten) {
+            return Ok(false);
+        }
+        if !self.claim.has_letter(&area.context, b'h') {
+            return Ok(false);
+        }
+        if !self.claim.has_letter(&area.context, b'i') {
+            return Ok(false);
+        }
+        self.has_order(alloc, area, order)
+    }
+
+    /// The same of each area of the context of a name and of these shapes.
+    fn has_shapes(
+        self,
+        alloc: Global,
+        name: &Text,
+        order: &[usize],
+        shapes: &[Vec<Piece>],
+    ) -> Result<bool, NoMemory>
+        ensures { IfOk result (λ yes. IsTrue yes → order.now ≡ search_order self.entry.claim.plan.now name.now
+            → AreShapesClosed self.entry name.now shapes.now) }
+    {
+        for shape in shapes {
+            let area = area_in(alloc, name.bytes(), shape)?;
+            if !self.has_area(alloc, &area, order)? {
+                return Ok(false);
+            }
+        }
+        Ok(true)
+    }
+
+    /// The same of each area of the reach in the context of a number and a name. The order has room for every context.
+    fn has_areas(
+        self,
+        alloc: Global,
+        number: usize,
+        name: &Text,
+        order: &mut SearchOrder,
+    ) -> Result<bool, NoMemory>
+        requires { context_count self.claim.plan.now ≤ order.old.room }
+        ensures room { order.new.room ≡ order.old.room }
+        ensures closed { IfOk result (λ yes. IsTrue yes
+            → AreShapesClosed self.entry name.now (shapes_at self.entry.claim.reach.now.shapes.items number)) }
+    {
+        order.fill(self.claim.plan, name);
+        let shapes = self.claim.reach.shapes_at(number);
+        self.has_shapes(alloc, name, order.contexts(), shapes)
+    }
+
+    /// The same of each area of the reach.
+    fn has_contexts(self, alloc: Global) -> Result<bool, NoMemory>
+        ensures { IfOk result (λ yes. IsTrue yes → Closes self.entry (λ claim answers. AllByRecursion (IsAreaClosed standard_duties claim answers) claim.reach)) }
+    {
+        let plan = self.claim.plan;
+        let mut order = SearchOrder::room(alloc, plan)?;
+        for (number, context) in plan.contexts().iter().enumerate() {
+            if !self.has_areas(alloc, number, context.name(), &mut order)? {
+                return Ok(false);
+            }
+        }
+        Ok(true)
+    }
+}

@@ -1,0 +1,10 @@
+//! What may come in from outside.
+use dp_pieces::ByteSet;
+
+/// What may come in: the bytes of an extension and of a caller's number, and the names of contexts.
+#[derive(Drop)]
+pub struct Outside {
+    pub exten: ByteSet,
+    pub caller: ByteSet,
+    pub contexts: Vec<Vec<u8>>,
+}
