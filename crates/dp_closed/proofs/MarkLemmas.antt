@@ -12,13 +12,14 @@ use Rattle.dp_plan.specs.Plan.{PlanOf}
 use Rattle.dp_plan.specs.declared.entry.Entry.{Entry}
 use Rattle.dp_plan.specs.declared.entry.EntryId.{EntryId}
 
--- no number is none but none
+-- a number after another is not zero
 not-none : (e : ℕ) → (suc e == zero) ≡ false
 not-none e = grind arith
 
 none-first : (e : ℕ) → (zero == suc e) ≡ false
 none-first e = grind arith
 
+-- two numbers are the same where those after them are
 eq-more : (a b : ℕ) → (suc a == suc b) ≡ (a == b)
 eq-more a b = grind arith
 

@@ -51,7 +51,7 @@ known_bytes (spec.AnyOf set ∷ pieces) = known_bytes pieces
 abbrev pub any_area : Area
 any_area = area_at [] []
 
--- the entries that are answered
+-- the entries that a checker takes for answered
 abbrev pub answers_of : Checker → EntryId → Bool
 answers_of checker = answers_in (option_map (λ marks. marks.now) checker.answers)
 
@@ -68,17 +68,19 @@ abbrev pub AreShapesClosed : Checker → List ℕ → List (Vec Piece) → Type 
 AreShapesClosed checker name shapes = AllByRecursion
     (λ shape. Closes checker (λ claim answers. IsAreaClosed standard_duties claim answers (area_at (spec.exactly name) (shown_all shape.items)))) shapes
 
--- the parts of what the machine gives names in each area alike
+-- the names have what the machine gives each channel
 pub record IsSelfNamed (names : Names) : Type 0 where
   pub priority : IsPart digits (names.bytes (codes "PRIORITY"))
   pub number : IsPart digits (names.bytes (codes "CHANNEL"))
   pub channel : Within (names.bytes (codes "CHANNEL")) (codes "Channel/")
 
+-- and what it gives a call that leaves a queue
 pub record IsQueueNamed (names : Names) : Type 0 where
   pub timeout : Within (names.bytes (codes "QUEUESTATUS")) (codes "TIMEOUT")
   pub leave : Within (names.bytes (codes "QUEUESTATUS")) (codes "LEAVEEMPTY")
   pub talked : Within (names.bytes (codes "QUEUESTATUS")) (codes "CONTINUE")
 
+-- and what it gives a call to devices that is over
 pub record IsDialNamed (names : Names) : Type 0 where
   pub status : (status : DialStatus) → Within (names.bytes (codes "DIALSTATUS")) (status_name status)
   pub unanswered : Within (names.bytes (codes "DIALSTATUS")) (codes "NOANSWER")
