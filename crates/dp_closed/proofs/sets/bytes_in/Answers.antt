@@ -7,7 +7,7 @@ use Rattle.dp_closed.proofs.SetLemmas.{text-end}
 use Rattle.dp_closed.proofs.sets.bytes_in.Goals as goal
 
 pub loop-byte-init : goal.loop-byte-init
-loop-byte-init c = λ b. ap (λ t. t || bytes_in c.args.text.now b) (ap (λ has. set_by has b) c.none-set.ensures ∙ none-has 256 b)
+loop-byte-init c = λ b. ap (λ t. t || bytes_in c.args.text.now b) (ap (λ has. set_by has b) c.none-set.ensures ∙ none-has 4 b)
 
 pub returns : goal.returns
 returns c =

@@ -8,4 +8,4 @@ use Rattle.dp_closed.proofs.sets.set_of.Goals as goal
 pub returns : goal.returns
 returns c = λ i b.
     (c.add_pieces.ensures b ∙ (ap (λ has. set_by has b || pieces_set (shown_all c.args.pieces.now) b) c.none-set.ensures
-    ∙ ap (λ t. t || pieces_set (shown_all c.args.pieces.now) b) (none-has 256 b))) i
+    ∙ ap (λ t. t || pieces_set (shown_all c.args.pieces.now) b) (none-has 4 b))) i
