@@ -17,7 +17,7 @@ use dp_pieces::{ByteSet, Piece};
 
 impl Claim<'_> {
     /// Whether the names may have what the machine gives them in an area of these pieces.
-    pub fn is_area_named(self, context: &[Piece], exten: &[Piece]) -> bool
+    pub(crate) fn is_area_named(self, context: &[Piece], exten: &[Piece]) -> bool
         ensures { IsTrue result → (settings : List Settings) → IsNamed (claimed self.entry settings) (area_at (shown_all context.now) (shown_all exten.now)) }
     {
         let dialled = set_of(exten);
@@ -85,7 +85,7 @@ impl Claim<'_> {
     }
 
     /// Whether the names may have what the machine gives them in each area alike.
-    pub fn is_named(self) -> bool
+    pub(crate) fn is_named(self) -> bool
         ensures { IsTrue result → (settings : List Settings) → AreNamed (claimed self.entry settings) }
     {
         self.names.is_whole()

@@ -32,11 +32,11 @@ fn load_queues(alloc: Global, text: Option<&[u8]>) -> Result<Queues, PbxFault>
     Ok(queues)
 }
 
-/// The dialplan of a run and its queues. Their drop is one function, so that it is proved once, and not on each way out of all that
+/// A dialplan and its queues. Their drop is one function, so that it is proved once, and not on each way out of all that
 /// hold them.
-struct Files {
-    plan: Dialplan,
-    queues: Queues,
+pub struct Files {
+    pub plan: Dialplan,
+    pub queues: Queues,
 }
 
 impl Drop for Files {
@@ -60,8 +60,9 @@ impl Files {
     }
 }
 
-/// What the files of a run say: the dialplan is read first, then the queues.
-fn read_files(alloc: Global, plan: &[u8], queues: Option<&[u8]>) -> Result<Files, PbxFault>
+/// What the texts of a dialplan and of its queues say: the dialplan is read first, then the queues; without a text there are none. The
+/// error is the first fault.
+pub fn read_files(alloc: Global, plan: &[u8], queues: Option<&[u8]>) -> Result<Files, PbxFault>
     ensures files { Answers (λ files. record { plan = files.plan; queues = files.queues }) reason_of result
         (spec.files_of plan.now (option_map (λ text. text.now) queues.entry)) }
     ensures rest { IfOk result (λ files. IsAtRest files.queues) }

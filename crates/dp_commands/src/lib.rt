@@ -18,6 +18,7 @@ mod taker;
 mod threads;
 mod trace;
 
+pub use begun::{Files, read_files};
 pub use candidates::match_all;
 pub use debug::debug_script;
 pub use explained::{FileLine, line_in};
