@@ -1,4 +1,5 @@
 //! Pieces of texts that are not expanded yet: how they are read, cut and trimmed, and which names and shapes they meet.
+mod answers;
 mod cuts;
 mod duties;
 mod names;
@@ -6,6 +7,7 @@ mod notation;
 mod shapes;
 mod texts;
 
+use crate::pieces::answers::{ANSWERS, Answers};
 use crate::pieces::cuts::{CUTS, Cuts};
 use crate::pieces::duties::{CLAIMED, Claimed, DUTIES, Duties, FOUND, Found, REACHED, Reached};
 use crate::pieces::names::{NAMES, Names};
@@ -45,4 +47,10 @@ fn duties_are_these(rt: HostRuntime) -> Result<(), Fail> {
     check::<Reached>(rt.alloc(), REACHED)?;
     check::<Found>(rt.alloc(), FOUND)?;
     check::<Claimed>(rt.alloc(), CLAIMED)
+}
+
+/// Which entries a call may run, or whether it may reach a context.
+#[test]
+fn answers_are_these(rt: HostRuntime) -> Result<(), Fail> {
+    check::<Answers>(rt.alloc(), ANSWERS)
 }

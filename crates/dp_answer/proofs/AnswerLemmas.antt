@@ -1,0 +1,64 @@
+-- What is told of answers, and what is proved of them.
+use Rattle.std.proofs.Common.{◌≡◌, ℕ, Bool, true, false, List, ◌++◌, Option, Some, None, IsTrue, refl, sym, ap, subst, ◌∙◌}
+use Rattle.std.specs.Global.{Vec}
+use Rattle.std.specs.Option.{option_map_or}
+use Rattle.dp_answer.specs.Asks.{AskOf, is_lacking, outside_of}
+use Rattle.dp_answer.specs.Reports.{IsReport, IsReportBy, IsRight, ReportOf, Told, answer_status, answer_text, has_answer, may_reach, nothing_told, status_by, verdict}
+use Rattle.dp_answer.specs.Steps.{IsTold, answers_by}
+use Rattle.dp_closed.specs.Answers.{answers_in}
+use Rattle.dp_plan.specs.Lookup.{number_of}
+use Rattle.dp_plan.specs.Plan.{PlanOf}
+use Rattle.dp_queue.specs.declared.settings.Settings.{Settings}
+use Rattle.dp_reach.specs.Audits.{Outside, RunsOnly}
+use Rattle.dp_table.specs.Standard.{standard_rows}
+
+-- where no answer is proved each entry is told, and none but these runs
+pub runs-told : (outside : Outside) (context : List ℕ) (plan : PlanOf) (settings : List Settings) (is_proved : Bool) (marks : List (Vec Bool))
+    → (IsTrue is_proved → RunsOnly standard_rows outside context plan settings (answers_in (Some marks)))
+    → RunsOnly standard_rows outside context plan settings (answers_in (answers_by is_proved marks))
+runs-told outside context plan settings true marks proved = proved refl
+runs-told outside context plan settings false marks proved = λ queues before later exten caller number same from started b l id split ran. refl
+
+-- a report that tells answers of which that is proved is right
+pub right-told : (plan : PlanOf) (settings : List Settings) (ask : AskOf) (report : ReportOf) (outside : Outside) (marks : Option (List (Vec Bool)))
+    → outside ≡ outside_of plan ask → RunsOnly standard_rows outside ask.context plan settings (answers_in marks)
+    → IsTold plan marks ask.target report → IsRight plan settings ask report
+right-told plan settings ask report outside marks same runs told = record {
+  marks = marks;
+  runs = subst (λ (o : Outside). RunsOnly standard_rows o ask.context plan settings (answers_in marks)) same runs;
+  told = told.told;
+  text = told.text;
+  status = told.status;
+}
+
+-- a report on all entries tells the answers
+pub told-all : (plan : PlanOf) (marks found : Option (List (Vec Bool))) (target : Option (List ℕ)) (told : Told) (report : ReportOf)
+    → target ≡ None → marks ≡ found → report.text ≡ answer_text plan (answers_in marks) None told → report.status ≡ 0 → IsTold plan found target report
+told-all plan marks found target told report lone same text status = record {
+  told = told;
+  text = text ∙ (ap (λ m. answer_text plan (answers_in m) None told) same ∙ ap (λ t. answer_text plan (answers_in found) t told) (sym lone));
+  status = status ∙ ap (answer_status plan (answers_in found)) (sym lone);
+}
+
+-- and so does one on a context that is named
+pub told-target : (plan : PlanOf) (marks found : Option (List (Vec Bool))) (target : Option (List ℕ)) (name : List ℕ) (number : Option ℕ) (reached : Bool)
+    (told : Told) (report : ReportOf)
+    → target ≡ Some name → marks ≡ found → number ≡ number_of plan name → reached ≡ option_map_or (has_answer plan (answers_in marks)) number false
+    → report.text ≡ told.head ++ verdict name reached ++ told.tail → report.status ≡ status_by reached → IsTold plan found target report
+told-target plan marks found target name number reached told report named same numbered reaches text status =
+    let right : reached ≡ may_reach plan (answers_in found) name =
+    reaches ∙ (ap (λ n. option_map_or (has_answer plan (answers_in marks)) n false) numbered ∙ ap (λ m. may_reach plan (answers_in m) name) same) in
+    record {
+      told = told;
+      text = text ∙ (ap (λ r. told.head ++ verdict name r ++ told.tail) right ∙ ap (λ t. answer_text plan (answers_in found) t told) (sym named));
+      status = status ∙ (ap status_by right ∙ ap (answer_status plan (answers_in found)) (sym named));
+    }
+
+-- a report where a name is lacking, and where none is
+pub lacking-report : (plan : PlanOf) (settings : List Settings) (ask : AskOf) (report : ReportOf)
+    → is_lacking plan ask ≡ true → report ≡ nothing_told → IsReport plan settings ask report
+lacking-report plan settings ask report lacks nothing = subst (λ b. IsReportBy b plan settings ask report) (sym lacks) nothing
+
+pub right-report : (plan : PlanOf) (settings : List Settings) (ask : AskOf) (report : ReportOf)
+    → is_lacking plan ask ≡ false → IsRight plan settings ask report → IsReport plan settings ask report
+right-report plan settings ask report lacks right = subst (λ b. IsReportBy b plan settings ask report) (sym lacks) right

@@ -1,0 +1,3 @@
+mod AnswerLemmas
+mod RangeLemmas
+mod ReportLemmas

@@ -1,0 +1,5 @@
+pub mod Asks
+pub mod RangeSteps
+pub mod Ranges
+pub mod Reports
+pub mod Steps

@@ -1,0 +1,114 @@
+-- What is told of the calls that come in at a context: each entry that one may run stands there, and of a context it is told whether
+-- one may run an entry of it. How a call gets there is told besides, and nothing is claimed of that.
+use Rattle.std.specs.Prelude.{◌≡◌, ℕ, Bool, true, false, List, [], ◌∷◌, ◌++◌, length, slice_get, Option, Some, None, codes, decimal, if◌then◌else◌}
+use Rattle.std.specs.Global.{Vec}
+use Rattle.std.specs.List.{flat_map, list_any, range_with_len}
+use Rattle.std.specs.Option.{option_map_or}
+use Rattle.dp_answer.specs.Asks.{AskOf, is_lacking, outside_of}
+use Rattle.dp_closed.specs.Answers.{answers_in}
+use Rattle.dp_pattern.specs.Spelling.{spelling}
+use Rattle.dp_plan.specs.Lookup.{entry_at, number_of}
+use Rattle.dp_plan.specs.Plan.{PlanOf}
+use Rattle.dp_plan.specs.declared.entry.Entry.{Entry}
+use Rattle.dp_plan.specs.declared.entry.EntryId.{EntryId}
+use Rattle.dp_queue.specs.declared.settings.Settings.{Settings}
+use Rattle.dp_reach.specs.Audits.{RunsOnly}
+use Rattle.dp_table.specs.Standard.{standard_rows}
+
+-- the name of the context of a number
+abbrev pub name_at : PlanOf → ℕ → List ℕ
+name_at plan number = option_map_or (λ context. context.name) (slice_get plan.contexts number) []
+
+-- how many entries the context of a number has
+abbrev pub count_at : PlanOf → ℕ → ℕ
+count_at plan number = option_map_or (λ context. length context.entries) (slice_get plan.contexts number) 0
+
+-- an entry, `CONTEXT,NAME,PRIORITY APPLICATION(ARGUMENTS)`
+abbrev pub entry_by : List ℕ → Option Entry → List ℕ
+entry_by context None = []
+entry_by context (Some entry) =
+    context ++ codes "," ++ spelling entry.name ++ codes "," ++ decimal entry.priority ++ codes " " ++ entry.application ++ codes "("
+    ++ entry.arguments ++ codes ")"
+
+abbrev pub entry_text : PlanOf → EntryId → List ℕ
+entry_text plan id = entry_by (name_at plan id.context) (entry_at plan id)
+
+-- the entry of these numbers
+abbrev pub id_at : ℕ → ℕ → EntryId
+id_at context entry = record { context = context; entry = entry }
+
+-- the line of an entry that is among the answers
+abbrev pub line_of : PlanOf → (EntryId → Bool) → EntryId → List ℕ
+line_of plan answers id = if answers id then entry_text plan id ++ 10 ∷ [] else []
+
+-- those of the context of a number
+abbrev pub lines_of : PlanOf → (EntryId → Bool) → ℕ → List ℕ
+lines_of plan answers number = flat_map (λ entry. line_of plan answers (id_at number entry)) (range_with_len 0 (count_at plan number))
+
+-- what is told besides: before the answer, for each context how a call gets there, and after the answer
+pub record Told : Type 0 where
+  pub head : List ℕ
+  pub chains : List (Vec ℕ)
+  pub tail : List ℕ
+
+-- how a call gets to the context of a number
+abbrev pub chain_at : List (Vec ℕ) → ℕ → List ℕ
+chain_at chains number = option_map_or (λ chain. chain.items) (slice_get chains number) []
+
+-- all entries that a call may run, by contexts
+abbrev pub all_lines : PlanOf → (EntryId → Bool) → List (Vec ℕ) → List ℕ
+all_lines plan answers chains =
+    flat_map (λ number. lines_of plan answers number ++ chain_at chains number) (range_with_len 0 (length plan.contexts))
+
+-- an entry of the context of a number is among the answers
+abbrev pub has_answer : PlanOf → (EntryId → Bool) → ℕ → Bool
+has_answer plan answers number = list_any (λ entry. answers (id_at number entry)) (range_with_len 0 (count_at plan number))
+
+-- an entry of the context of a name is
+abbrev pub may_reach : PlanOf → (EntryId → Bool) → List ℕ → Bool
+may_reach plan answers name = option_map_or (has_answer plan answers) (number_of plan name) false
+
+-- what is told of a context that a call may reach, or never reaches
+abbrev pub verdict : List ℕ → Bool → List ℕ
+verdict name true = codes "may reach: "
+verdict name false = codes "unreachable: " ++ name ++ codes "\n"
+
+-- what is told, by what stands besides
+abbrev pub answer_text : PlanOf → (EntryId → Bool) → Option (List ℕ) → Told → List ℕ
+answer_text plan answers None told = told.head ++ all_lines plan answers told.chains ++ told.tail
+answer_text plan answers (Some target) told = told.head ++ verdict target (may_reach plan answers target) ++ told.tail
+
+-- the status: 1 where a call may reach the context that is named
+abbrev pub status_by : Bool → ℕ
+status_by true = 1
+status_by false = 0
+
+abbrev pub answer_status : PlanOf → (EntryId → Bool) → Option (List ℕ) → ℕ
+answer_status plan answers None = 0
+answer_status plan answers (Some target) = status_by (may_reach plan answers target)
+
+-- a report: its text and its status
+pub record ReportOf : Type 0 where
+  pub text : List ℕ
+  pub status : ℕ
+
+-- a report is right: in each run of the dialplan with queues of these settings, in which calls come in as it is asked and no other
+-- dialplan is loaded, a call that comes in at the context runs none but the entries that are answered, and it is told of these
+pub record IsRight (plan : PlanOf) (settings : List Settings) (ask : AskOf) (report : ReportOf) : Type 0 where
+  pub marks : Option (List (Vec Bool))
+  pub runs : RunsOnly standard_rows (outside_of plan ask) ask.context plan settings (answers_in marks)
+  pub told : Told
+  pub text : report.text ≡ answer_text plan (answers_in marks) ask.target told
+  pub status : report.status ≡ answer_status plan (answers_in marks) ask.target
+
+-- nothing is told of names that the dialplan lacks, with the status 1
+abbrev pub nothing_told : ReportOf
+nothing_told = record { text = []; status = 1 }
+
+-- a report, by whether the dialplan lacks a name that is asked of
+abbrev pub IsReportBy : Bool → PlanOf → List Settings → AskOf → ReportOf → Type 0
+IsReportBy true plan settings ask report = report ≡ nothing_told
+IsReportBy false plan settings ask report = IsRight plan settings ask report
+
+abbrev pub IsReport : PlanOf → List Settings → AskOf → ReportOf → Type 0
+IsReport plan settings ask report = IsReportBy (is_lacking plan ask) plan settings ask report

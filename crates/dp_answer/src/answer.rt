@@ -1,0 +1,128 @@
+//! The answer: which entries a call may run, and how a call gets to them.
+ghost use Rattle.std.specs.Prelude.{◌≡◌, false, IfOk, IsTrue};
+ghost use Rattle.dp_answer.specs.Steps.{IsProvedBy};
+
+use crate::names::opening_names;
+use crate::route::Cause;
+use crate::search::{Search, pieces_in};
+use crate::told::Found;
+use dp_closed::{Audit, Claim, Outside, Reach};
+use dp_conf::NoMemory;
+use dp_pieces::{NameTable, Piece};
+use dp_plan::Dialplan;
+use std::alloc::Global;
+
+/// What is asked: of calls that the outside allows, what one may run that comes in at the context.
+#[derive(Clone, Copy)]
+pub(crate) struct Question<'a> {
+    pub(crate) plan: &'a Dialplan,
+    /// The contexts of the ways out of the queues, each as the pieces of its name.
+    pub(crate) ways: &'a [Vec<Piece>],
+    pub(crate) outside: &'a Outside,
+    pub(crate) context: &'a [u8],
+}
+
+/// Lets calls come in at each of these contexts.
+fn enter_all(
+    alloc: Global,
+    search: &mut Search<'_>,
+    contexts: &[Vec<u8>],
+    exten: &[Piece],
+) -> Result<(), NoMemory> {
+    for start in contexts {
+        let name = pieces_in(alloc, start)?;
+        search.lead(alloc, &name, exten, Cause::Entrance)?;
+    }
+    Ok(())
+}
+
+/// What was found for calls of each context where they come in: what names may have, and the areas. None where there were too many.
+fn find_all(alloc: Global, question: Question<'_>) -> Result<Option<(NameTable, Reach)>, NoMemory> {
+    let names = opening_names(alloc, &question.outside.caller)?;
+    let mut search = Search::new(alloc, question.plan, question.ways, names)?;
+    let any = [Piece::AnyOf(question.outside.exten)];
+    enter_all(alloc, &mut search, &question.outside.contexts, &any)?;
+    let is_whole = search.go(alloc)?;
+    let found = search.into_parts();
+    Ok(if is_whole { Some(found) } else { None })
+}
+
+/// What was found for a call of the context alone, and whether that was all.
+fn find_one<'a>(
+    alloc: Global,
+    question: Question<'a>,
+    names: NameTable,
+) -> Result<(Search<'a>, bool), NoMemory> {
+    let mut search = Search::new(alloc, question.plan, question.ways, names)?;
+    let any = [Piece::AnyOf(question.outside.exten)];
+    let name = pieces_in(alloc, question.context)?;
+    search.lead(alloc, &name, &any, Cause::Entrance)?;
+    let is_whole = search.go(alloc)?;
+    Ok((search, is_whole))
+}
+
+/// Whether what was found is proved, with the areas of all calls.
+fn is_proved(
+    alloc: Global,
+    question: Question<'_>,
+    search: &Search<'_>,
+    reach: &Reach,
+) -> Result<bool, NoMemory>
+    ensures { IfOk result (λ yes. IsTrue yes → IsProvedBy question.entry search.now.marks) }
+{
+    let audit = Audit {
+        wide: Claim {
+            plan: question.plan,
+            names: &search.names,
+            reach,
+            ways: question.ways,
+        },
+        reach: &search.reach,
+        outside: question.outside,
+        context: question.context,
+    };
+    audit.is_closed(alloc, Some(&search.marks))
+}
+
+/// Nothing found, and nothing proved.
+fn unproved<'a>(alloc: Global, question: Question<'a>) -> Result<Found<'a>, NoMemory>
+    ensures { IfOk result (λ found. found.is_proved ≡ false) }
+{
+    let names = opening_names(alloc, &question.outside.caller)?;
+    let search = Search::new(alloc, question.plan, question.ways, names)?;
+    Ok(Found {
+        search,
+        is_proved: false,
+    })
+}
+
+/// Whether all was found and that is proved.
+fn is_found(
+    alloc: Global,
+    question: Question<'_>,
+    found: &(Search<'_>, bool),
+    reach: &Reach,
+) -> Result<bool, NoMemory>
+    ensures { IfOk result (λ yes. IsTrue yes → IsProvedBy question.entry found.now.0.marks) }
+{
+    let (search, is_whole) = found;
+    if !*is_whole {
+        return Ok(false);
+    }
+    let is_proved = is_proved(alloc, question, search, reach)?;
+    Ok(is_proved)
+}
+
+/// Which entries a call may run, and whether that is proved.
+pub(crate) fn answer<'a>(alloc: Global, question: Question<'a>) -> Result<Found<'a>, NoMemory>
+    ensures { IfOk result (λ found. IsTrue found.is_proved → IsProvedBy question.entry found.search.marks) }
+{
+    let Some((names, reach)) = find_all(alloc, question)? else {
+        let found = unproved(alloc, question)?;
+        return Ok(found);
+    };
+    let found = find_one(alloc, question, names)?;
+    let is_proved = is_found(alloc, question, &found, &reach)?;
+    let (search, _is_whole) = found;
+    Ok(Found { search, is_proved })
+}

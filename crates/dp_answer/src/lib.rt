@@ -1,0 +1,20 @@
+//! Which entries a call may run that comes in at a context: the search for them, what is proved of them, and how they are told.
+#![tactic(auto)]
+
+mod answer;
+mod ask;
+mod asked;
+mod chain;
+mod jumps;
+mod names;
+mod orders;
+mod ranges;
+mod report;
+mod route;
+mod search;
+mod text;
+mod told;
+mod ways;
+
+pub use ask::Ask;
+pub use report::{Report, report_on};

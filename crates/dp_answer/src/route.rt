@@ -1,0 +1,24 @@
+//! How a call gets to an area.
+use dp_pieces::Piece;
+use dp_plan::EntryId;
+
+/// An area that a call may be in: the number of its context and the shape of its extension, and how the call gets there.
+#[derive(Drop)]
+pub struct Route {
+    pub context: usize,
+    pub exten: Vec<Piece>,
+    pub cause: Cause,
+}
+
+/// How a call gets to an area.
+#[derive(Clone, Copy, Debug, PartialEq, Eq)]
+pub enum Cause {
+    /// A call comes in.
+    Entrance,
+    /// The entry runs in the area of the route of this number.
+    Jump(usize, EntryId),
+    /// The call ends in the area of the route of this number.
+    End(usize),
+    /// In the area of the route of this number digits are dialled that no extension matches.
+    Invalid(usize),
+}

@@ -1,0 +1,493 @@
+//! The search for what a call may run. Nothing is claimed of what it finds.
+ghost use Rattle.std.specs.Prelude.{◌≡◌, IfOk};
+ghost use Rattle.dp_pieces.specs.Pieces.{exactly};
+ghost use Rattle.dp_pieces.specs.Shown.{shown_all};
+
+use crate::names::{TELEPHONE_DIGITS, set_in};
+use crate::orders::Orders;
+use crate::route::{Cause, Route};
+use dp_closed::{Area, Duty, Marks, Reach, duties, found_shape};
+use dp_conf::NoMemory;
+use dp_pieces::{ByteSet, NameTable, NamesAt, Piece, add_pieces, bytes_of, may_fit, read_pieces};
+use dp_plan::{Dialplan, Entry, EntryId, Text};
+use dp_vars::has_opening;
+use std::alloc::Global;
+
+/// The most areas that a search has.
+pub(crate) const MOST_AREAS: usize = 10_000;
+
+/// The most shapes of a context that stand beside one another; where there would be more, one shape has all their bytes.
+const MOST_SHAPES: usize = 8;
+
+/// The most times that a search goes through its areas.
+const MOST_ROUNDS: usize = 100;
+
+/// A search: what names may have, the areas found so far, and how a call gets to each.
+#[derive(Drop)]
+pub(crate) struct Search<'a> {
+    pub(crate) plan: &'a Dialplan,
+    pub(crate) ways: &'a [Vec<Piece>],
+    pub(crate) names: NameTable,
+    pub(crate) reach: Reach,
+    pub(crate) routes: Vec<Route>,
+    /// The entries that were found.
+    pub(crate) marks: Marks,
+    /// By contexts, where an entry of it was found first.
+    pub(crate) firsts: Vec<Option<First>>,
+    /// The entries that may jump to contexts of which the name is not known.
+    pub(crate) computed: Marks,
+    /// Whether a name has more bytes than before.
+    pub(crate) has_grown: bool,
+}
+
+/// Where an entry of a context was found first.
+#[derive(Clone, Copy)]
+pub(crate) struct First {
+    pub(crate) route: usize,
+    pub(crate) entry: EntryId,
+}
+
+/// For each context of the dialplan that none of its entries was found.
+fn no_firsts(alloc: Global, plan: &Dialplan) -> Result<Vec<Option<First>>, NoMemory> {
+    let mut firsts = Vec::new(alloc);
+    for _context in plan.contexts() {
+        firsts.push(None)?;
+    }
+    Ok(firsts)
+}
+
+/// The pieces of a text.
+pub(crate) fn pieces_in(alloc: Global, text: &[u8]) -> Result<Vec<Piece>, NoMemory>
+    ensures { IfOk result (λ pieces. shown_all pieces.items ≡ exactly text.now) }
+{
+    let mut pieces = Vec::new(alloc);
+    for byte in text {
+        pieces.push(Piece::Known(*byte))?;
+    }
+    Ok(pieces)
+}
+
+/// A copy of pieces.
+pub(crate) fn copy_of(alloc: Global, pieces: &[Piece]) -> Result<Vec<Piece>, NoMemory> {
+    let mut copy = Vec::new(alloc);
+    copy.extend_from_slice(pieces)?;
+    Ok(copy)
+}
+
+/// No shapes in each context of the dialplan.
+fn no_shapes(alloc: Global, plan: &Dialplan) -> Result<Reach, NoMemory> {
+    let mut shapes = Vec::new(alloc);
+    for _context in plan.contexts() {
+        shapes.push(Vec::new(alloc))?;
+    }
+    Ok(Reach { shapes })
+}
+
+/// The text of pieces that are all known.
+fn text_of(alloc: Global, pieces: &[Piece]) -> Result<Option<Text>, NoMemory> {
+    let mut bytes = Vec::new(alloc);
+    for piece in pieces {
+        let Some(byte) = piece.byte() else {
+            return Ok(None);
+        };
+        bytes.push(byte)?;
+    }
+    Ok(Some(Text::new(bytes)))
+}
+
+impl<'a> Search<'a> {
+    /// A search that has found nothing.
+    pub(crate) fn new(
+        alloc: Global,
+        plan: &'a Dialplan,
+        ways: &'a [Vec<Piece>],
+        names: NameTable,
+    ) -> Result<Self, NoMemory> {
+        let reach = no_shapes(alloc, plan)?;
+        let marks = Marks::none(alloc, plan)?;
+        let firsts = no_firsts(alloc, plan)?;
+        let computed = Marks::none(alloc, plan)?;
+        Ok(Search {
+            plan,
+            ways,
+            names,
+            reach,
+            routes: Vec::new(alloc),
+            marks,
+            firsts,
+            computed,
+            has_grown: false,
+        })
+    }
+
+    /// What names may have, and the areas.
+    pub(crate) fn into_parts(self) -> (NameTable, Reach) {
+        let Search {
+            plan: _,
+            ways: _,
+            names,
+            reach,
+            routes: _,
+            marks: _,
+            firsts: _,
+            computed: _,
+            has_grown: _,
+        } = self;
+        (names, reach)
+    }
+
+    /// Any bytes of the shapes of a context and of this one.
+    fn widened(
+        &self,
+        alloc: Global,
+        context: usize,
+        exten: &[Piece],
+    ) -> Result<Vec<Piece>, NoMemory> {
+        let mut set = bytes_of(exten);
+        if let Some(shapes) = self.reach.shapes.get(context) {
+            for shape in shapes {
+                add_pieces(&mut set, shape);
+            }
+        }
+        let mut any = Vec::new(alloc);
+        any.push(Piece::AnyOf(set))?;
+        Ok(any)
+    }
+
+    /// Adds an area, in a context of this number.
+    fn push(
+        &mut self,
+        alloc: Global,
+        context: usize,
+        exten: &[Piece],
+        cause: Cause,
+    ) -> Result<(), NoMemory> {
+        let is_full = match self.reach.shapes.get(context) {
+            Some(shapes) => shapes.len() >= MOST_SHAPES,
+            None => true,
+        };
+        let exten = if is_full {
+            self.widened(alloc, context, exten)?
+        } else {
+            copy_of(alloc, exten)?
+        };
+        let shape = copy_of(alloc, &exten)?;
+        if let Some(shapes) = self.reach.shapes.get_mut(context) {
+            if is_full {
+                shapes.clear();
+            }
+            shapes.push(shape)?;
+        }
+        self.routes.push(Route {
+            context,
+            exten,
+            cause,
+        })?;
+        Ok(())
+    }
+
+    /// Adds an area, where its context has this number and it is not there yet.
+    fn lead_to(
+        &mut self,
+        alloc: Global,
+        context: usize,
+        exten: &[Piece],
+        cause: Cause,
+    ) -> Result<(), NoMemory> {
+        if self.reach.has(context, exten) {
+            return Ok(());
+        }
+        self.push(alloc, context, exten, cause)
+    }
+
+    /// Adds the areas of each context whose name may fit.
+    fn lead_to_all(
+        &mut self,
+        alloc: Global,
+        context: &[Piece],
+        exten: &[Piece],
+        cause: Cause,
+    ) -> Result<(), NoMemory> {
+        let plan = self.plan;
+        if let Cause::Jump(_, entry) = cause {
+            self.computed.mark(entry);
+        }
+        for (number, each) in plan.contexts().iter().enumerate() {
+            if may_fit(context, each.name().bytes()) {
+                self.lead_to(alloc, number, exten, cause)?;
+            }
+        }
+        Ok(())
+    }
+
+    /// Adds the areas of these shapes.
+    pub(crate) fn lead(
+        &mut self,
+        alloc: Global,
+        context: &[Piece],
+        exten: &[Piece],
+        cause: Cause,
+    ) -> Result<(), NoMemory> {
+        match text_of(alloc, context)? {
+            Some(name) => match self.plan.number_of(&name) {
+                Some(number) => self.lead_to(alloc, number, exten, cause),
+                None => Ok(()),
+            },
+            None => self.lead_to_all(alloc, context, exten, cause),
+        }
+    }
+
+    /// Lets digits lead out of each queue.
+    fn lead_out(&mut self, alloc: Global, cause: Cause) -> Result<(), NoMemory> {
+        let digit = [Piece::OneOf(set_in(TELEPHONE_DIGITS))];
+        let ways = self.ways;
+        self.lead(alloc, &[], &digit, cause)?;
+        for way in ways {
+            self.lead(alloc, way, &digit, cause)?;
+        }
+        Ok(())
+    }
+
+    /// Lets a name have these bytes.
+    fn hold(&mut self, alloc: Global, name: &[u8], set: &ByteSet) -> Result<(), NoMemory> {
+        if !self.names.has(name, set) {
+            self.names.hold(alloc, name, set)?;
+            self.has_grown = true;
+        }
+        Ok(())
+    }
+
+    /// Lets any value have these bytes.
+    fn hold_anywhere(&mut self, set: &ByteSet) {
+        if !set.is_part(self.names.all()) {
+            self.names.hold_anywhere(set);
+            self.has_grown = true;
+        }
+    }
+
+    /// Lets each name have these bytes.
+    fn hold_everywhere(&mut self, set: &ByteSet) {
+        if !self.names.has_everywhere(set) {
+            self.names.hold_everywhere(set);
+            self.has_grown = true;
+        }
+    }
+
+    /// Lets the caller's number have these bytes.
+    fn hold_caller(&mut self, set: &ByteSet) {
+        if !set.is_part(self.names.caller()) {
+            self.names.hold_caller(set);
+            self.has_grown = true;
+        }
+    }
+
+    /// Does what a duty asks for.
+    fn meet(&mut self, alloc: Global, duty: &Duty, cause: Cause) -> Result<(), NoMemory> {
+        match duty {
+            Duty::Leads(area) => self.lead(alloc, &area.context, &area.exten, cause),
+            Duty::Holds(name, set) => self.hold(alloc, name, set),
+            Duty::HoldsAll(set) => {
+                self.hold_everywhere(set);
+                Ok(())
+            }
+            Duty::Calls(set) => {
+                self.hold_caller(set);
+                Ok(())
+            }
+            Duty::Waits => self.lead_out(alloc, cause),
+        }
+    }
+
+    /// Does what the duties ask for.
+    fn meet_all(&mut self, alloc: Global, duties: &[Duty], cause: Cause) -> Result<(), NoMemory> {
+        for duty in duties {
+            self.meet(alloc, duty, cause)?;
+        }
+        Ok(())
+    }
+
+    /// What an entry owes that is found in an area.
+    pub(crate) fn owed(
+        &self,
+        alloc: Global,
+        entry: &Entry,
+        area: &Area,
+    ) -> Result<Vec<Duty>, NoMemory> {
+        let names = NamesAt {
+            table: &self.names,
+            context: &area.context,
+            exten: &area.exten,
+        };
+        let pieces = read_pieces(alloc, &names, entry.arguments.bytes())?;
+        duties(alloc, entry.application.bytes(), area, &pieces)
+    }
+
+    /// Notes that an entry is found from the area of a route.
+    fn note(&mut self, route: usize, id: EntryId) {
+        self.marks.mark(id);
+        if let Some(first) = self.firsts.get_mut(id.context) {
+            if first.is_none() {
+                *first = Some(First { route, entry: id });
+            }
+        }
+    }
+
+    /// Goes through an entry of an area. In a later round one whose arguments have no group owes nothing new.
+    fn take_entry(
+        &mut self,
+        alloc: Global,
+        seen: &Seen,
+        entries: &[Entry],
+        id: EntryId,
+        exten: &[Piece],
+    ) -> Result<(), NoMemory> {
+        let Some(entry) = entries.get(id.entry) else {
+            return Ok(());
+        };
+        if seen.is_again && !has_opening(entry.arguments.bytes()) {
+            return Ok(());
+        }
+        let Some(met) = found_shape(alloc, entries, entry, exten)? else {
+            return Ok(());
+        };
+        self.note(seen.route, id);
+        let area = Area {
+            context: copy_of(alloc, &seen.name)?,
+            exten: met,
+        };
+        let duties = self.owed(alloc, entry, &area)?;
+        self.meet_all(alloc, &duties, Cause::Jump(seen.route, id))
+    }
+
+    /// Goes through the entries of a context that is searched from an area.
+    fn take_context(
+        &mut self,
+        alloc: Global,
+        seen: &Seen,
+        number: usize,
+        exten: &[Piece],
+    ) -> Result<(), NoMemory> {
+        let plan = self.plan;
+        let Some(context) = plan.contexts().get(number) else {
+            return Ok(());
+        };
+        let entries = context.entries();
+        for entry in 0..entries.len() {
+            let id = EntryId {
+                context: number,
+                entry,
+            };
+            self.take_entry(alloc, seen, entries, id, exten)?;
+        }
+        Ok(())
+    }
+
+    /// Goes through what a call may do in an area besides the entries.
+    fn take_area(&mut self, alloc: Global, seen: &Seen, exten: &[Piece]) -> Result<(), NoMemory> {
+        let set = bytes_of(exten);
+        self.hold(alloc, b"INVALID_EXTEN", &set)?;
+        self.hold_anywhere(&set);
+        self.hold_anywhere(&bytes_of(&seen.name));
+        self.lead_to(
+            alloc,
+            seen.context,
+            &[Piece::Known(b'h')],
+            Cause::End(seen.route),
+        )?;
+        self.lead_to(
+            alloc,
+            seen.context,
+            &[Piece::Known(b'i')],
+            Cause::Invalid(seen.route),
+        )
+    }
+
+    /// Goes through the area of a route.
+    fn take_route(
+        &mut self,
+        alloc: Global,
+        order: &mut Orders<'_>,
+        route: usize,
+        is_again: bool,
+    ) -> Result<(), NoMemory> {
+        let plan = self.plan;
+        let Some(taken) = self.routes.get(route) else {
+            return Ok(());
+        };
+        let number = taken.context;
+        let exten = copy_of(alloc, &taken.exten)?;
+        let Some(context) = plan.contexts().get(number) else {
+            return Ok(());
+        };
+        let seen = Seen {
+            route,
+            context: number,
+            name: pieces_in(alloc, context.name().bytes())?,
+            is_again,
+        };
+        self.take_area(alloc, &seen, &exten)?;
+        order.fill(context.name());
+        for searched in order.contexts() {
+            self.take_context(alloc, &seen, *searched, &exten)?;
+        }
+        Ok(())
+    }
+
+    /// Lets the name of each global have the bytes of its value.
+    fn take_globals(&mut self, alloc: Global) -> Result<(), NoMemory> {
+        let plan = self.plan;
+        for global in plan.globals() {
+            let names = NamesAt {
+                table: &self.names,
+                context: &[],
+                exten: &[],
+            };
+            let pieces = read_pieces(alloc, &names, global.value.bytes())?;
+            self.hold(alloc, global.name.bytes(), &bytes_of(&pieces))?;
+        }
+        Ok(())
+    }
+
+    /// Goes through all areas once, those that it finds on the way too. It answers whether there are not too many.
+    fn take_routes(
+        &mut self,
+        alloc: Global,
+        order: &mut Orders<'_>,
+        before: usize,
+    ) -> Result<bool, NoMemory> {
+        for route in 0..MOST_AREAS {
+            if route >= self.routes.len() {
+                return Ok(true);
+            }
+            self.take_route(alloc, order, route, route < before)?;
+        }
+        Ok(self.routes.len() <= MOST_AREAS)
+    }
+
+    /// Goes on until nothing more is found. It answers whether that came within the bounds.
+    pub(crate) fn go(&mut self, alloc: Global) -> Result<bool, NoMemory> {
+        let mut order = Orders::room(alloc, self.plan)?;
+        let mut before = 0;
+        for _ in 0..MOST_ROUNDS {
+            self.has_grown = false;
+            self.take_globals(alloc)?;
+            if !self.take_routes(alloc, &mut order, before)? {
+                return Ok(false);
+            }
+            if !self.has_grown {
+                return Ok(true);
+            }
+            before = self.routes.len();
+        }
+        Ok(false)
+    }
+}
+
+/// The area that is gone through: its route, its context, and whether it was gone through before.
+#[derive(Drop)]
+struct Seen {
+    route: usize,
+    context: usize,
+    name: Vec<Piece>,
+    is_again: bool,
+}
