@@ -1,9 +1,10 @@
 -- What is told of answers, and what is proved of them.
 use Rattle.std.proofs.Common.{◌≡◌, ℕ, Bool, true, false, List, ◌++◌, Option, Some, None, IsTrue, refl, sym, ap, subst, ◌∙◌}
+use Rattle.std.specs.Prelude.{is_some}
 use Rattle.std.specs.Global.{Vec}
 use Rattle.std.specs.Option.{option_map_or}
-use Rattle.dp_answer.specs.Asks.{AskOf, is_lacking, outside_of}
-use Rattle.dp_answer.specs.Reports.{IsReport, IsReportBy, IsRight, ReportOf, Told, answer_status, answer_text, has_answer, may_reach, nothing_told, status_by, verdict}
+use Rattle.dp_answer.specs.Asks.{AskOf, is_lacking, outside_of, starts_of}
+use Rattle.dp_answer.specs.Reports.{IsReport, IsReportBy, IsRight, ReportOf, Told, answer_text, assumed, has_answer, head_text, may_reach, nothing_told, status_by, unproved, verdict}
 use Rattle.dp_answer.specs.Steps.{IsTold, answers_by}
 use Rattle.dp_closed.specs.Answers.{answers_in}
 use Rattle.dp_plan.specs.Lookup.{number_of}
@@ -19,39 +20,49 @@ pub runs-told : (outside : Outside) (context : List ℕ) (plan : PlanOf) (settin
 runs-told outside context plan settings true marks proved = proved refl
 runs-told outside context plan settings false marks proved = λ queues before later exten caller number same from started b l id split ran. refl
 
+-- where no proof was found there are no marks
+found-marks : (is_proved : Bool) (marks : List (Vec Bool)) → is_some (answers_by is_proved marks) ≡ is_proved
+found-marks true marks = refl
+found-marks false marks = refl
+
 -- a report that tells answers of which that is proved is right
-pub right-told : (plan : PlanOf) (settings : List Settings) (ask : AskOf) (report : ReportOf) (outside : Outside) (marks : Option (List (Vec Bool)))
-    → outside ≡ outside_of plan ask → RunsOnly standard_rows outside ask.context plan settings (answers_in marks)
-    → IsTold plan marks ask.target report → IsRight plan settings ask report
-right-told plan settings ask report outside marks same runs told = record {
-  marks = marks;
-  runs = subst (λ (o : Outside). RunsOnly standard_rows o ask.context plan settings (answers_in marks)) same runs;
-  told = told.told;
-  text = told.text;
-  status = told.status;
-}
+pub right-told : (plan : PlanOf) (settings : List Settings) (ask : AskOf) (report : ReportOf) (outside : Outside) (is_proved : Bool) (marks : List (Vec Bool))
+    → outside ≡ outside_of plan ask → RunsOnly standard_rows outside ask.context plan settings (answers_in (answers_by is_proved marks))
+    → IsTold plan (assumed ask outside.contexts ++ unproved is_proved) (answers_by is_proved marks) ask.target report → IsRight plan settings ask report
+right-told plan settings ask report outside is_proved marks same runs told =
+    let answers : Option (List (Vec Bool)) = answers_by is_proved marks in
+    let head : assumed ask outside.contexts ++ unproved is_proved ≡ head_text plan ask answers =
+    ap (λ (o : Outside). assumed ask o.contexts ++ unproved is_proved) same
+    ∙ ap (λ b. assumed ask (starts_of plan ask) ++ unproved b) (sym (found-marks is_proved marks)) in
+    record {
+      marks = answers;
+      runs = subst (λ (o : Outside). RunsOnly standard_rows o ask.context plan settings (answers_in answers)) same runs;
+      told = told.told;
+      text = told.text ∙ ap (λ h. h ++ answer_text plan (answers_in answers) ask.target told.told) head;
+      status = told.status;
+    }
 
 -- a report on all entries tells the answers
-pub told-all : (plan : PlanOf) (marks found : Option (List (Vec Bool))) (target : Option (List ℕ)) (told : Told) (report : ReportOf)
-    → target ≡ None → marks ≡ found → report.text ≡ answer_text plan (answers_in marks) None told → report.status ≡ 0 → IsTold plan found target report
-told-all plan marks found target told report lone same text status = record {
+pub told-all : (plan : PlanOf) (head : List ℕ) (marks found : Option (List (Vec Bool))) (told : Told) (report : ReportOf)
+    → marks ≡ found → report.text ≡ head ++ answer_text plan (answers_in marks) None told → report.status ≡ 0 → IsTold plan head found None report
+told-all plan head marks found told report same text status = record {
   told = told;
-  text = text ∙ (ap (λ m. answer_text plan (answers_in m) None told) same ∙ ap (λ t. answer_text plan (answers_in found) t told) (sym lone));
-  status = status ∙ ap (answer_status plan (answers_in found)) (sym lone);
+  text = text ∙ ap (λ m. head ++ answer_text plan (answers_in m) None told) same;
+  status = status;
 }
 
 -- and so does one on a context that is named
-pub told-target : (plan : PlanOf) (marks found : Option (List (Vec Bool))) (target : Option (List ℕ)) (name : List ℕ) (number : Option ℕ) (reached : Bool)
+pub told-target : (plan : PlanOf) (head : List ℕ) (marks found : Option (List (Vec Bool))) (name : List ℕ) (number : Option ℕ) (reached : Bool)
     (told : Told) (report : ReportOf)
-    → target ≡ Some name → marks ≡ found → number ≡ number_of plan name → reached ≡ option_map_or (has_answer plan (answers_in marks)) number false
-    → report.text ≡ told.head ++ verdict name reached ++ told.tail → report.status ≡ status_by reached → IsTold plan found target report
-told-target plan marks found target name number reached told report named same numbered reaches text status =
+    → marks ≡ found → number ≡ number_of plan name → reached ≡ option_map_or (has_answer plan (answers_in marks)) number false
+    → report.text ≡ head ++ (verdict name reached ++ told.tail) → report.status ≡ status_by reached → IsTold plan head found (Some name) report
+told-target plan head marks found name number reached told report same numbered reaches text status =
     let right : reached ≡ may_reach plan (answers_in found) name =
     reaches ∙ (ap (λ n. option_map_or (has_answer plan (answers_in marks)) n false) numbered ∙ ap (λ m. may_reach plan (answers_in m) name) same) in
     record {
       told = told;
-      text = text ∙ (ap (λ r. told.head ++ verdict name r ++ told.tail) right ∙ ap (λ t. answer_text plan (answers_in found) t told) (sym named));
-      status = status ∙ (ap status_by right ∙ ap (answer_status plan (answers_in found)) (sym named));
+      text = text ∙ ap (λ r. head ++ (verdict name r ++ told.tail)) right;
+      status = status ∙ ap status_by right;
     }
 
 -- a report where a name is lacking, and where none is

@@ -1,3 +1,4 @@
 mod AnswerLemmas
+mod HeadLemmas
 mod RangeLemmas
 mod ReportLemmas

@@ -1,10 +1,10 @@
--- What is told of the calls that come in at a context: each entry that one may run stands there, and of a context it is told whether
--- one may run an entry of it. How a call gets there is told besides, and nothing is claimed of that.
-use Rattle.std.specs.Prelude.{◌≡◌, ℕ, Bool, true, false, List, [], ◌∷◌, ◌++◌, length, slice_get, Option, Some, None, codes, decimal, if◌then◌else◌}
+-- What is told of the calls that come in at a context: what is assumed stands first, each entry that one may run stands there, and of a
+-- context it is told whether one may run an entry of it. How a call gets there is told besides, and nothing is claimed of that.
+use Rattle.std.specs.Prelude.{◌≡◌, ℕ, Bool, true, false, List, [], ◌∷◌, ◌++◌, length, slice_get, Option, Some, None, is_some, unwrap_or, codes, decimal, if◌then◌else◌}
 use Rattle.std.specs.Global.{Vec}
 use Rattle.std.specs.List.{flat_map, list_any, range_with_len}
 use Rattle.std.specs.Option.{option_map_or}
-use Rattle.dp_answer.specs.Asks.{AskOf, is_lacking, outside_of}
+use Rattle.dp_answer.specs.Asks.{AskOf, is_lacking, outside_of, starts_of, usual_caller, usual_exten}
 use Rattle.dp_closed.specs.Answers.{answers_in}
 use Rattle.dp_pattern.specs.Spelling.{spelling}
 use Rattle.dp_plan.specs.Lookup.{entry_at, number_of}
@@ -45,9 +45,37 @@ line_of plan answers id = if answers id then entry_text plan id ++ 10 ∷ [] els
 abbrev pub lines_of : PlanOf → (EntryId → Bool) → ℕ → List ℕ
 lines_of plan answers number = flat_map (λ entry. line_of plan answers (id_at number entry)) (range_with_len 0 (count_at plan number))
 
--- what is told besides: before the answer, for each context how a call gets there, and after the answer
+-- a name of a context where calls come in
+abbrev pub start_text : List ℕ → List ℕ
+start_text name = codes " " ++ name
+
+-- where calls come in: at these contexts, where any are given
+abbrev pub entrances : Option (List ℕ) → List (List ℕ) → List ℕ
+entrances None starts = codes " every context"
+entrances (Some given) starts = flat_map start_text starts
+
+-- a text, and the bytes that are given or else the usual ones
+abbrev pub bytes_text : List ℕ → Option (List ℕ) → List ℕ → List ℕ
+bytes_text text given usual = text ++ unwrap_or given usual
+
+-- what is assumed: the bytes of extensions and of callers' numbers as they are given, and where calls come in
+abbrev pub assumed : AskOf → List (List ℕ) → List ℕ
+assumed ask starts =
+    bytes_text (codes "assumed: extensions of {") ask.exten usual_exten
+    ++ (bytes_text (codes "}*, callers' numbers of {") ask.caller usual_caller
+    ++ (codes "}*, calls come in at" ++ (entrances ask.starts starts ++ codes "\n")))
+
+-- that no proof was found, where none was
+abbrev pub unproved : Bool → List ℕ
+unproved true = []
+unproved false = codes "no proof was found within the bounds: a call may run each entry\n"
+
+-- what is told before an answer; where no proof was found, each entry is among the answers
+abbrev pub head_text : PlanOf → AskOf → Option (List (Vec Bool)) → List ℕ
+head_text plan ask marks = assumed ask (starts_of plan ask) ++ unproved (is_some marks)
+
+-- what is told besides: for each context how a call gets there, and what follows the answer
 pub record Told : Type 0 where
-  pub head : List ℕ
   pub chains : List (Vec ℕ)
   pub tail : List ℕ
 
@@ -73,10 +101,10 @@ abbrev pub verdict : List ℕ → Bool → List ℕ
 verdict name true = codes "may reach: "
 verdict name false = codes "unreachable: " ++ name ++ codes "\n"
 
--- what is told, by what stands besides
+-- what is told of the answers, by what stands besides
 abbrev pub answer_text : PlanOf → (EntryId → Bool) → Option (List ℕ) → Told → List ℕ
-answer_text plan answers None told = told.head ++ all_lines plan answers told.chains ++ told.tail
-answer_text plan answers (Some target) told = told.head ++ verdict target (may_reach plan answers target) ++ told.tail
+answer_text plan answers None told = all_lines plan answers told.chains ++ told.tail
+answer_text plan answers (Some target) told = verdict target (may_reach plan answers target) ++ told.tail
 
 -- the status: 1 where a call may reach the context that is named
 abbrev pub status_by : Bool → ℕ
@@ -92,13 +120,13 @@ pub record ReportOf : Type 0 where
   pub text : List ℕ
   pub status : ℕ
 
--- a report is right: in each run of the dialplan with queues of these settings, in which calls come in as it is asked and no other
+-- a report is right: it begins with what is assumed, in each run of the dialplan with queues of these settings, in which calls come in as it is asked and no other
 -- dialplan is loaded, a call that comes in at the context runs none but the entries that are answered, and it is told of these
 pub record IsRight (plan : PlanOf) (settings : List Settings) (ask : AskOf) (report : ReportOf) : Type 0 where
   pub marks : Option (List (Vec Bool))
   pub runs : RunsOnly standard_rows (outside_of plan ask) ask.context plan settings (answers_in marks)
   pub told : Told
-  pub text : report.text ≡ answer_text plan (answers_in marks) ask.target told
+  pub text : report.text ≡ head_text plan ask marks ++ answer_text plan (answers_in marks) ask.target told
   pub status : report.status ≡ answer_status plan (answers_in marks) ask.target
 
 -- nothing is told of names that the dialplan lacks, with the status 1

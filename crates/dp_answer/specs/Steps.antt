@@ -1,11 +1,10 @@
 -- What private functions say of their steps. No public clause rests on it.
-use Rattle.std.specs.Prelude.{◌≡◌, ℕ, Bool, true, false, List, Option, Some, None}
+use Rattle.std.specs.Prelude.{◌≡◌, ℕ, Bool, true, false, List, ◌++◌, Option, Some, None}
 use Rattle.std.specs.Global.{Vec}
 use Rattle.dp_answer.specs.Reports.{ReportOf, Told, answer_status, answer_text}
 use Rattle.dp_answer.specs.declared.answer.Question.{Question}
 use Rattle.dp_answer.specs.declared.report.Report.{Report}
 use Rattle.dp_answer.specs.declared.told.Found.{Found}
-use Rattle.dp_answer.specs.declared.told.Told.{Told as KeptTold}
 use Rattle.dp_closed.specs.Answers.{answers_in, shown_outside}
 use Rattle.dp_closed.specs.Claimed.{AreWays}
 use Rattle.dp_plan.specs.Plan.{PlanOf}
@@ -26,16 +25,12 @@ answers_by false marks = None
 abbrev pub answers_of : Found → Option (List (Vec Bool))
 answers_of found = answers_by found.is_proved found.search.marks
 
--- what is told besides, by its texts
-abbrev pub shown_told : KeptTold → Told
-shown_told told = record { head = told.head.items; chains = told.chains.items; tail = told.tail.items }
-
 -- a report by its text and status
 abbrev pub shown_report : Report → ReportOf
 shown_report report = record { text = report.text.items; status = report.status }
 
--- the report tells these answers
-pub record IsTold (plan : PlanOf) (marks : Option (List (Vec Bool))) (target : Option (List ℕ)) (report : ReportOf) : Type 0 where
+-- the report tells these answers behind a text
+pub record IsTold (plan : PlanOf) (head : List ℕ) (marks : Option (List (Vec Bool))) (target : Option (List ℕ)) (report : ReportOf) : Type 0 where
   pub told : Told
-  pub text : report.text ≡ answer_text plan (answers_in marks) target told
+  pub text : report.text ≡ head ++ answer_text plan (answers_in marks) target told
   pub status : report.status ≡ answer_status plan (answers_in marks) target

@@ -14,10 +14,10 @@ use dp_plan::{Dialplan, Text};
 use std::alloc::Global;
 
 /// The bytes of a dialled extension, unless others are given.
-const USUAL_EXTEN: &[u8] = b"0-9A-Za-z*#+_.";
+pub(crate) const USUAL_EXTEN: &[u8] = b"0-9A-Za-z*#+_.";
 
 /// The bytes of a caller's number, unless others are given.
-const USUAL_CALLER: &[u8] = b"0-9+";
+pub(crate) const USUAL_CALLER: &[u8] = b"0-9+";
 
 /// Adds a copy of a name.
 fn push_name(alloc: Global, names: &mut Vec<Vec<u8>>, name: &[u8]) -> Result<(), NoMemory>
@@ -62,7 +62,7 @@ fn starts_of(alloc: Global, plan: &Dialplan, ask: &Ask<'_>) -> Result<Vec<Vec<u8
 }
 
 /// The bytes that are given, else the usual ones.
-fn given_or<'a>(given: Option<&'a [u8]>, usual: &'a [u8]) -> &'a [u8]
+pub(crate) fn given_or<'a>(given: Option<&'a [u8]>, usual: &'a [u8]) -> &'a [u8]
     ensures { result.now ≡ unwrap_or (option_map (λ text. text.now) given.entry) usual.now }
 {
     match given {

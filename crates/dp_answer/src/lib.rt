@@ -5,6 +5,7 @@ mod answer;
 mod ask;
 mod asked;
 mod chain;
+mod head;
 mod jumps;
 mod names;
 mod orders;

@@ -1,18 +1,19 @@
 //! What is told of the calls that come in at a context.
-ghost use Rattle.std.specs.Prelude.{◌≡◌, ◌++◌, None, false, IfOk, OnOk, map, option_map};
+ghost use Rattle.std.specs.Prelude.{◌≡◌, ◌++◌, None, Some, false, IfOk, OnOk, map, option_map};
 ghost use Rattle.std.specs.Option.{option_map_or};
 ghost use Rattle.dp_answer.specs.Asks.{ask_of};
 ghost use Rattle.dp_answer.specs.Reports as spec;
-ghost use Rattle.dp_answer.specs.Steps.{IsTold, answers_of, shown_report, shown_told};
+ghost use Rattle.dp_answer.specs.Steps.{IsTold, answers_of, shown_report};
 ghost use Rattle.dp_closed.specs.Answers.{answers_in};
 
 use crate::answer::{Question, answer};
 use crate::ask::Ask;
 use crate::asked::{is_lacking, outside_of};
+use crate::head::push_head;
 use crate::text::push_entry;
 use crate::told::{Found, Told, told_of_all, told_of_target};
 use crate::ways::ways_of;
-use dp_closed::{Marks, Outside};
+use dp_closed::Marks;
 use dp_conf::NoMemory;
 use dp_plan::{Dialplan, EntryId, Text};
 use dp_queue::Queues;
@@ -146,38 +147,59 @@ fn may_reach(plan: &Dialplan, answers: Option<&Marks>, number: Option<usize>) ->
     }
 }
 
-/// The report on all entries that a call may run.
-fn report_all(
-    alloc: Global,
+/// Adds all answers, and what is told besides.
+fn push_answers(
+    out: &mut Vec<u8>,
     plan: &Dialplan,
     answers: Option<&Marks>,
     told: &Told,
-) -> Result<Report, NoMemory>
-    ensures text { IfOk result (λ report. report.text.items
-        ≡ spec.answer_text plan.now (answers_in (option_map (λ marks. marks.now) answers.entry)) None (shown_told told.now)) }
-    ensures status { IfOk result (λ report. report.status ≡ 0) }
+) -> Result<(), NoMemory>
+    ensures { OnOk result (out.new.items ≡ out.old.items
+        ++ (spec.all_lines plan.now (answers_in (option_map (λ marks. marks.now) answers.entry)) told.now.chains.items ++ told.now.tail.items)) }
 {
-    let mut text = Vec::new(alloc);
-    text.extend_from_slice(&told.head)?;
-    push_all(&mut text, plan, answers, &told.chains)?;
-    text.extend_from_slice(&told.tail)?;
+    push_all(out, plan, answers, &told.chains)?;
+    out.extend_from_slice(&told.tail)?;
+    Ok(())
+}
+
+/// Adds what is told of a context that a call may reach or not, and what is told besides.
+fn push_target(out: &mut Vec<u8>, name: &[u8], may_reach: bool, tail: &[u8]) -> Result<(), NoMemory>
+    ensures { OnOk result (out.new.items ≡ out.old.items ++ (spec.verdict name.now may_reach ++ tail.now)) }
+{
+    push_verdict(out, name, may_reach)?;
+    out.extend_from_slice(tail)?;
+    Ok(())
+}
+
+/// The report on all entries that a call may run, whose text begins so.
+fn report_all(
+    alloc: Global,
+    mut text: Vec<u8>,
+    plan: &Dialplan,
+    found: &Found<'_>,
+) -> Result<Report, NoMemory>
+    ensures { IfOk result (λ report. IsTold plan.now text.items (answers_of found.now) None (shown_report report)) }
+{
+    let told = told_of_all(alloc, found)?;
+    push_answers(&mut text, plan, found.answers(), &told)?;
     Ok(Report { text, status: 0 })
 }
 
-/// The report on a context that a call may reach or not.
+/// The report on a context that a call may reach or not, whose text begins so.
 fn report_target(
     alloc: Global,
+    mut text: Vec<u8>,
+    plan: &Dialplan,
     name: &[u8],
-    may_reach: bool,
-    told: &Told,
+    found: &Found<'_>,
 ) -> Result<Report, NoMemory>
-    ensures text { IfOk result (λ report. report.text.items ≡ told.now.head.items ++ spec.verdict name.now may_reach ++ told.now.tail.items) }
-    ensures status { IfOk result (λ report. report.status ≡ spec.status_by may_reach) }
+    ensures { IfOk result (λ report. IsTold plan.now text.items (answers_of found.now) (Some name.now) (shown_report report)) }
 {
-    let mut text = Vec::new(alloc);
-    text.extend_from_slice(&told.head)?;
-    push_verdict(&mut text, name, may_reach)?;
-    text.extend_from_slice(&told.tail)?;
+    let target = Text::copy_of(alloc, name)?;
+    let number = plan.number_of(&target);
+    let tail = told_of_target(alloc, found, number)?;
+    let may_reach = may_reach(plan, found.answers(), number);
+    push_target(&mut text, name, may_reach, &tail)?;
     Ok(Report {
         text,
         status: u8::from(may_reach),
@@ -190,25 +212,17 @@ fn report_found(
     plan: &Dialplan,
     ask: &Ask<'_>,
     found: &Found<'_>,
-    outside: &Outside,
+    starts: &[Vec<u8>],
 ) -> Result<Report, NoMemory>
-    ensures { IfOk result (λ report. IsTold plan.now (answers_of found.now) (ask_of ask.now).target (shown_report report)) }
+    ensures { IfOk result (λ report. IsTold plan.now
+        (spec.assumed (ask_of ask.now) (map (λ name. name.items) starts.now) ++ spec.unproved found.now.is_proved)
+        (answers_of found.now) (ask_of ask.now).target (shown_report report)) }
 {
-    let is_everywhere = ask.starts.is_none();
+    let mut text = Vec::new(alloc);
+    push_head(&mut text, ask, starts, found.is_proved)?;
     match ask.target {
-        None => {
-            let told = told_of_all(alloc, found, outside, is_everywhere)?;
-            let report = report_all(alloc, plan, found.answers(), &told)?;
-            Ok(report)
-        }
-        Some(name) => {
-            let target = Text::copy_of(alloc, name)?;
-            let number = plan.number_of(&target);
-            let told = told_of_target(alloc, found, outside, is_everywhere, number)?;
-            let may_reach = may_reach(plan, found.answers(), number);
-            let report = report_target(alloc, name, may_reach, &told)?;
-            Ok(report)
-        }
+        None => report_all(alloc, text, plan, found),
+        Some(name) => report_target(alloc, text, plan, name, found),
     }
 }
 
@@ -241,6 +255,6 @@ pub fn report_on(
         context: ask.context,
     };
     let found = answer(alloc, question)?;
-    let report = report_found(alloc, plan, ask, &found, &outside)?;
+    let report = report_found(alloc, plan, ask, &found, &outside.contexts)?;
     Ok(report)
 }

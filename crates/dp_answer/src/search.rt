@@ -6,7 +6,7 @@ ghost use Rattle.dp_pieces.specs.Shown.{shown_all};
 use crate::names::{TELEPHONE_DIGITS, set_in};
 use crate::orders::Orders;
 use crate::route::{Cause, Route};
-use dp_closed::{Area, Duty, Marks, Reach, duties, found_shape};
+use dp_closed::{Area, Duty, Marks, Reach, found_shape, owed};
 use dp_conf::NoMemory;
 use dp_pieces::{ByteSet, NameTable, NamesAt, Piece, add_pieces, bytes_of, may_fit, read_pieces};
 use dp_plan::{Dialplan, Entry, EntryId, Text};
@@ -318,8 +318,13 @@ impl<'a> Search<'a> {
             context: &area.context,
             exten: &area.exten,
         };
-        let pieces = read_pieces(alloc, &names, entry.arguments.bytes())?;
-        duties(alloc, entry.application.bytes(), area, &pieces)
+        owed(
+            alloc,
+            &names,
+            area,
+            entry.application.bytes(),
+            entry.arguments.bytes(),
+        )
     }
 
     /// Notes that an entry is found from the area of a route.

@@ -19,16 +19,26 @@ pub(crate) fn push_number(out: &mut Vec<u8>, number: u64) -> Result<(), NoMemory
     Ok(())
 }
 
-/// The byte at a place of the order in which a set is printed: digits, letters, and then all others from the lowest.
+/// The byte at a place of the order in which a set is printed: digits, letters, those that may be dialled besides, and then all others from
+/// the lowest.
 fn printed_at(place: u8) -> u8 {
     match place {
         0..10 => b'0' + place,
         10..36 => b'A' + (place - 10),
         36..62 => b'a' + (place - 36),
-        62..110 => place - 62,
-        110..117 => b':' + (place - 110),
-        117..123 => b'[' + (place - 117),
-        123..=255 => b'{' + (place - 123),
+        62 => b'*',
+        63 => b'#',
+        64 => b'+',
+        65 => b'_',
+        66 => b'.',
+        67..102 => place - 67,
+        102..108 => b'$' + (place - 102),
+        108..110 => b',' + (place - 108),
+        110 => b'/',
+        111..118 => b':' + (place - 111),
+        118..122 => b'[' + (place - 118),
+        122 => b'`',
+        123..=255 => place,
     }
 }
 
@@ -74,8 +84,8 @@ fn push_run(out: &mut Vec<u8>, run: Option<Run>) -> Result<(), NoMemory> {
     push_byte(out, run.last)
 }
 
-/// Adds a set of bytes in braces, as `{0-9A-D#*}`.
-pub(crate) fn push_set(out: &mut Vec<u8>, set: &ByteSet) -> Result<(), NoMemory> {
+/// Adds a set of bytes in braces, as `{0-9A-D*#}`.
+fn push_set(out: &mut Vec<u8>, set: &ByteSet) -> Result<(), NoMemory> {
     let mut run: Option<Run> = None;
     out.push(b'{')?;
     for place in 0..=255u8 {

@@ -1,22 +1,20 @@
-//! What is told besides of an answer: what is assumed, how a call gets to each context, and what an engineer may have to mend. Nothing
-//! is claimed of it.
+//! What is told besides of an answer: how a call gets to each context, and what an engineer may have to mend. Nothing is claimed of it.
 ghost use Rattle.std.specs.Prelude.{◌≡◌, option_map};
 ghost use Rattle.dp_answer.specs.Steps.{answers_of};
 
 use crate::chain::push_chain;
 use crate::jumps::jumps_to;
 use crate::search::{First, Search};
-use crate::text::{context_name, example, push_entry, push_number, push_set};
-use dp_closed::{Marks, Outside, found_shape};
+use crate::text::{context_name, example, push_entry, push_number};
+use dp_closed::{Marks, found_shape};
 use dp_conf::NoMemory;
 use dp_plan::{Dialplan, Entry, EntryId};
 use dp_table::has_application;
 use std::alloc::Global;
 
-/// What is told before an answer, for each context how a call gets there, and after the answer.
+/// For each context how a call gets there, and what is told after the answer.
 #[derive(Drop)]
 pub(crate) struct Told {
-    pub(crate) head: Vec<u8>,
     pub(crate) chains: Vec<Vec<u8>>,
     pub(crate) tail: Vec<u8>,
 }
@@ -48,48 +46,6 @@ impl Found<'_> {
     fn plan(&self) -> &Dialplan {
         self.search.plan
     }
-}
-
-/// Adds the names of the contexts where calls come in.
-fn push_starts(out: &mut Vec<u8>, outside: &Outside) -> Result<(), NoMemory> {
-    for context in &outside.contexts {
-        out.push(b' ')?;
-        out.extend_from_slice(context)?;
-    }
-    Ok(())
-}
-
-/// Adds what of the outside is assumed.
-fn push_outside(out: &mut Vec<u8>, outside: &Outside, is_everywhere: bool) -> Result<(), NoMemory> {
-    out.extend_from_slice(b"assumed: extensions of ")?;
-    push_set(out, &outside.exten)?;
-    out.extend_from_slice(b"*, callers' numbers of ")?;
-    push_set(out, &outside.caller)?;
-    out.extend_from_slice(b"*, calls come in at")?;
-    if is_everywhere {
-        out.extend_from_slice(b" every context")?;
-    } else {
-        push_starts(out, outside)?;
-    }
-    out.push(b'\n')?;
-    Ok(())
-}
-
-/// What is told before an answer.
-fn head_of(
-    alloc: Global,
-    found: &Found<'_>,
-    outside: &Outside,
-    is_everywhere: bool,
-) -> Result<Vec<u8>, NoMemory> {
-    let mut head = Vec::new(alloc);
-    push_outside(&mut head, outside, is_everywhere)?;
-    if !found.is_proved {
-        head.extend_from_slice(
-            b"no proof was found within the bounds: a call may run each entry\n",
-        )?;
-    }
-    Ok(head)
 }
 
 /// How a call gets to a context of which an entry was found, where one was.
@@ -252,18 +208,12 @@ fn push_remarks(out: &mut Vec<u8>, found: &Found<'_>) -> Result<(), NoMemory> {
 }
 
 /// What is told besides of all entries that a call may run.
-pub(crate) fn told_of_all(
-    alloc: Global,
-    found: &Found<'_>,
-    outside: &Outside,
-    is_everywhere: bool,
-) -> Result<Told, NoMemory> {
-    let head = head_of(alloc, found, outside, is_everywhere)?;
+pub(crate) fn told_of_all(alloc: Global, found: &Found<'_>) -> Result<Told, NoMemory> {
     let chains = chains_of(alloc, &found.search)?;
     let mut tail = Vec::new(alloc);
     push_remarks(&mut tail, found)?;
     push_counts(&mut tail, found)?;
-    Ok(Told { head, chains, tail })
+    Ok(Told { chains, tail })
 }
 
 /// Adds an extension with which an entry is found from an area, where the area gives one.
@@ -345,19 +295,12 @@ fn push_reached(
 pub(crate) fn told_of_target(
     alloc: Global,
     found: &Found<'_>,
-    outside: &Outside,
-    is_everywhere: bool,
     target: Option<usize>,
-) -> Result<Told, NoMemory> {
-    let head = head_of(alloc, found, outside, is_everywhere)?;
+) -> Result<Vec<u8>, NoMemory> {
     let mut tail = Vec::new(alloc);
     if let Some(target) = target {
         push_reached(alloc, &mut tail, found, target)?;
     }
     push_remarks(&mut tail, found)?;
-    Ok(Told {
-        head,
-        chains: Vec::new(alloc),
-        tail,
-    })
+    Ok(tail)
 }

@@ -1,7 +1,9 @@
 -- The parts of the table of duties. No public clause rests on it.
-use Rattle.std.specs.Prelude.{ℕ, List, codes}
+use Rattle.std.specs.Prelude.{◌≡◌, ℕ, List, codes}
 use Rattle.dp_closed.specs.declared.rows.Row as rust
 use Rattle.dp_closed.specs.declared.rows.Row.TheVariants.{Nothing, Goto, Set, GotoIf, Gosub, GosubIf, Return, Digits, Dial, Queue, Add, Remove, Pause, Unpause}
+use Rattle.dp_pieces.specs.Pieces.{Piece}
+use Rattle.dp_reach.specs.Areas.{Area}
 use Rattle.dp_reach.specs.Bounds.{Duties, add_duties, dial_duties, digits_duties, gosub_duties, gosub_if_duties, goto_duties, goto_if_duties, nothing_owed, pause_duties, queue_duties, remove_duties, return_duties, unpause_duties}
 use Rattle.dp_reach.specs.Settings.{set_duties}
 use Rattle.dp_reach.specs.Standard.{no_names, with_duties}
@@ -22,6 +24,13 @@ shown_row Add = add_duties
 shown_row Remove = remove_duties
 shown_row Pause = pause_duties
 shown_row Unpause = unpause_duties
+
+-- what is owed is the same for these pieces, and for any
+abbrev pub IsOwedAlike : Duties → List Piece → List Piece → Type 0
+IsOwedAlike duties pieces other = (area : Area) → duties area pieces ≡ duties area other
+
+abbrev pub IsSteady : Duties → Type 0
+IsSteady duties = (pieces other : List Piece) → IsOwedAlike duties pieces other
 
 -- the rows on members
 abbrev pub member_duties : List ℕ → Duties

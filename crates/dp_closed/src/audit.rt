@@ -44,7 +44,7 @@ fn has_entrance(
         → Includes plan.now (areas_in plan.now.contexts reach.now.shapes.items) (entrance (shown_outside outside.now) name.now)) }
 {
     let context = exact_pieces(alloc, name)?;
-    Ok(reach.includes(plan, &context, &[Piece::AnyOf(outside.exten)]))
+    reach.includes(alloc, plan, &context, &[Piece::AnyOf(outside.exten)])
 }
 
 impl Audit<'_> {

@@ -1,5 +1,5 @@
 //! What is claimed of a dialplan, and whether a duty is met in it.
-ghost use Rattle.std.specs.Prelude.{ℕ, List, [], ◌∷◌, IsTrue};
+ghost use Rattle.std.specs.Prelude.{ℕ, List, [], ◌∷◌, IfOk, IsTrue};
 ghost use Rattle.dp_closed.specs.Claimed.{AreWays, claimed};
 ghost use Rattle.dp_closed.specs.Reach.{areas_in};
 ghost use Rattle.dp_closed.specs.Shown.{shown_duties, shown_duty};
@@ -14,8 +14,10 @@ ghost use Rattle.dp_reach.specs.Holding.{LeadsOut};
 use crate::duty::Duty;
 use crate::reach::Reach;
 use crate::sets::digit_set;
+use dp_conf::NoMemory;
 use dp_pieces::{NameTable, Piece};
 use dp_plan::Dialplan;
+use std::alloc::Global;
 
 /// What is claimed of a dialplan: which bytes names may have, at which extensions of each context channels may be, and which contexts
 /// have the ways out of the queues, each as the pieces of its name.
@@ -29,55 +31,58 @@ pub struct Claim<'a> {
 
 impl Claim<'_> {
     /// Whether each digit in the context of these pieces is seen to be in the reach.
-    fn has_way(self, context: &[Piece]) -> bool
-        ensures { IsTrue result → Includes self.entry.plan.now (areas_in self.entry.plan.now.contexts self.entry.reach.now.shapes.items)
-            (area_at (shown_all context.now) (OneOf is_digit ∷ [])) }
+    fn has_way(self, alloc: Global, context: &[Piece]) -> Result<bool, NoMemory>
+        ensures { IfOk result (λ yes. IsTrue yes
+            → Includes self.entry.plan.now (areas_in self.entry.plan.now.contexts self.entry.reach.now.shapes.items)
+            (area_at (shown_all context.now) (OneOf is_digit ∷ []))) }
     {
         self.reach
-            .includes(self.plan, context, &[Piece::OneOf(digit_set())])
+            .includes(alloc, self.plan, context, &[Piece::OneOf(digit_set())])
     }
 
     /// Whether each digit is seen to lead into the reach out of each queue, and in the context of no name, which the ways out of a queue
     /// have that has no context.
-    fn has_ways(self) -> bool
-        ensures { IsTrue result → (settings : List Settings) → AreWays settings self.entry.ways.now → (queue : ℕ)
-            → LeadsOut (claimed self.entry settings) queue }
+    fn has_ways(self, alloc: Global) -> Result<bool, NoMemory>
+        ensures { IfOk result (λ yes. IsTrue yes → (settings : List Settings) → AreWays settings self.entry.ways.now → (queue : ℕ)
+            → LeadsOut (claimed self.entry settings) queue) }
     {
-        if !self.has_way(&[]) {
-            return false;
+        if !self.has_way(alloc, &[])? {
+            return Ok(false);
         }
         for way in self.ways {
-            if !self.has_way(way) {
-                return false;
+            if !self.has_way(alloc, way)? {
+                return Ok(false);
             }
         }
-        true
+        Ok(true)
     }
 
-    /// Whether the duty is seen to be met.
-    pub fn meets(self, duty: &Duty) -> bool
-        ensures { IsTrue result → (settings : List Settings) → AreWays settings self.entry.ways.now
-            → Meets (claimed self.entry settings) (shown_duty duty.now) }
+    /// Whether the duty is seen to be met. It fails only for want of memory.
+    pub fn meets(self, alloc: Global, duty: &Duty) -> Result<bool, NoMemory>
+        ensures { IfOk result (λ yes. IsTrue yes → (settings : List Settings) → AreWays settings self.entry.ways.now
+            → Meets (claimed self.entry settings) (shown_duty duty.now)) }
     {
         match duty {
-            Duty::Leads(area) => self.reach.includes(self.plan, &area.context, &area.exten),
-            Duty::Holds(name, set) => self.names.has(name, set),
-            Duty::HoldsAll(set) => self.names.has_everywhere(set),
-            Duty::Calls(set) => set.is_part(self.names.caller()),
-            Duty::Waits => self.has_ways(),
+            Duty::Leads(area) => self
+                .reach
+                .includes(alloc, self.plan, &area.context, &area.exten),
+            Duty::Holds(name, set) => Ok(self.names.has(name, set)),
+            Duty::HoldsAll(set) => Ok(self.names.has_everywhere(set)),
+            Duty::Calls(set) => Ok(set.is_part(self.names.caller())),
+            Duty::Waits => self.has_ways(alloc),
         }
     }
 
-    /// Whether each of these duties is seen to be met.
-    pub fn meets_all(self, duties: &[Duty]) -> bool
-        ensures { IsTrue result → (settings : List Settings) → AreWays settings self.entry.ways.now
-            → MeetsAll (claimed self.entry settings) (shown_duties duties.now) }
+    /// Whether each of these duties is seen to be met. It fails only for want of memory.
+    pub fn meets_all(self, alloc: Global, duties: &[Duty]) -> Result<bool, NoMemory>
+        ensures { IfOk result (λ yes. IsTrue yes → (settings : List Settings) → AreWays settings self.entry.ways.now
+            → MeetsAll (claimed self.entry settings) (shown_duties duties.now)) }
     {
         for duty in duties {
-            if !self.meets(duty) {
-                return false;
+            if !self.meets(alloc, duty)? {
+                return Ok(false);
             }
         }
-        true
+        Ok(true)
     }
 }

@@ -20,10 +20,10 @@ use crate::area::Area;
 use crate::claim::Claim;
 use crate::finding::found_shape;
 use crate::marks::Marks;
-use crate::rows::duties;
+use crate::rows::owed;
 use dp_conf::{NoMemory, Text};
 use dp_lookup::SearchOrder;
-use dp_pieces::{NamesAt, Piece, read_pieces};
+use dp_pieces::{NamesAt, Piece};
 use dp_plan::{Dialplan, Entry, EntryId};
 use std::alloc::Global;
 
@@ -79,12 +79,13 @@ fn area_beside(alloc: Global, context: &[Piece], exten: Vec<Piece>) -> Result<Ar
 
 impl Claim<'_> {
     /// Whether the extension of one byte is seen to be in the reach, in the context of these pieces.
-    fn has_letter(self, context: &[Piece], letter: u8) -> bool
-        ensures { IsTrue result → Includes self.entry.plan.now (areas_in self.entry.plan.now.contexts self.entry.reach.now.shapes.items)
-            (area_at (shown_all context.now) (Known letter ∷ [])) }
+    fn has_letter(self, alloc: Global, context: &[Piece], letter: u8) -> Result<bool, NoMemory>
+        ensures { IfOk result (λ yes. IsTrue yes
+            → Includes self.entry.plan.now (areas_in self.entry.plan.now.contexts self.entry.reach.now.shapes.items)
+            (area_at (shown_all context.now) (Known letter ∷ []))) }
     {
         self.reach
-            .includes(self.plan, context, &[Piece::Known(letter)])
+            .includes(alloc, self.plan, context, &[Piece::Known(letter)])
     }
 
     /// Whether the claim is seen to be closed, with the entries that are answered: those that are marked, or without marks all. It
@@ -134,9 +135,14 @@ impl Checker<'_> {
             context: &area.context,
             exten: &area.exten,
         };
-        let pieces = read_pieces(alloc, &names, entry.arguments.bytes())?;
-        let owed = duties(alloc, entry.application.bytes(), area, &pieces)?;
-        Ok(self.claim.meets_all(&owed))
+        let owed = owed(
+            alloc,
+            &names,
+            area,
+            entry.application.bytes(),
+            entry.arguments.bytes(),
+        )?;
+        self.claim.meets_all(alloc, &owed)
     }
 
     /// Whether an entry is seen to be closed, where it may be found from the area.
@@ -195,10 +201,10 @@ impl Checker<'_> {
         if !self.claim.is_area_named(&area.context, &area.exten) {
             return Ok(false);
         }
-        if !self.claim.has_letter(&area.context, b'h') {
+        if !self.claim.has_letter(alloc, &area.context, b'h')? {
             return Ok(false);
         }
-        if !self.claim.has_letter(&area.context, b'i') {
+        if !self.claim.has_letter(alloc, &area.context, b'i')? {
             return Ok(false);
         }
         self.has_order(alloc, area, order)

@@ -27,4 +27,4 @@ pub use finding::found_shape;
 pub use marks::Marks;
 pub use outside::Outside;
 pub use reach::Reach;
-pub use rows::duties;
+pub use rows::{duties, owed};

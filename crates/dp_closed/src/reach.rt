@@ -1,12 +1,15 @@
 //! Where the channels of a claim may be.
-ghost use Rattle.std.specs.Prelude.{◌≡◌, ℕ, List, IsTrue};
+ghost use Rattle.std.specs.Prelude.{◌≡◌, ℕ, List, Some, IfOk, IsTrue};
 ghost use Rattle.dp_closed.specs.Reach.{FitsAny, areas_in, shapes_at};
 ghost use Rattle.dp_pieces.specs.Pieces.{Fits};
 ghost use Rattle.dp_pieces.specs.Shown.{shown_all};
+ghost use Rattle.dp_plan.specs.Lookup.{number_of};
 ghost use Rattle.dp_reach.specs.Areas.{Includes, area_at};
 
-use dp_pieces::{Piece, is_within, may_fit};
+use dp_conf::{NoMemory, Text};
+use dp_pieces::{Piece, is_within, known_text, may_fit};
 use dp_plan::Dialplan;
+use std::alloc::Global;
 
 /// The shapes of the extensions that channels may have in each context, by the contexts' numbers.
 #[derive(Drop)]
@@ -55,9 +58,8 @@ impl Reach {
         !may_fit(context, name) || self.has(number, exten)
     }
 
-    /// Whether each place of these shapes is seen to be in the reach, over the contexts of a dialplan. A place in a context that the
-    /// dialplan lacks is in it, since nothing is found there.
-    pub fn includes(&self, plan: &Dialplan, context: &[Piece], exten: &[Piece]) -> bool
+    /// Whether each place of these shapes is seen to be in the reach, where the context may be any of the dialplan's.
+    fn has_all(&self, plan: &Dialplan, context: &[Piece], exten: &[Piece]) -> bool
         ensures { IsTrue result → Includes plan.now (areas_in plan.now.contexts self.now.shapes.items) (area_at (shown_all context.now) (shown_all exten.now)) }
     {
         for (number, own) in plan.contexts().iter().enumerate() {
@@ -66,5 +68,36 @@ impl Reach {
             }
         }
         true
+    }
+
+    /// Whether the context of this name has each extension of the shape, where the dialplan has such a context.
+    fn has_known(&self, plan: &Dialplan, name: &Text, exten: &[Piece]) -> bool
+        ensures { IsTrue result → (number : ℕ) → number_of plan.now name.now ≡ Some number
+            → (text : List ℕ) → Fits (shown_all exten.now) text → FitsAny (shapes_at self.now.shapes.items number) text }
+    {
+        match plan.number_of(name) {
+            Some(number) => self.has(number, exten),
+            None => true,
+        }
+    }
+
+    /// Whether each place of these shapes is seen to be in the reach, over the contexts of a dialplan. A place in a context that the
+    /// dialplan lacks is in it, since nothing is found there. It fails only for want of memory.
+    pub fn includes(
+        &self,
+        alloc: Global,
+        plan: &Dialplan,
+        context: &[Piece],
+        exten: &[Piece],
+    ) -> Result<bool, NoMemory>
+        ensures { IfOk result (λ yes. IsTrue yes
+            → Includes plan.now (areas_in plan.now.contexts self.now.shapes.items) (area_at (shown_all context.now) (shown_all exten.now))) }
+    {
+        let known = known_text(alloc, context)?;
+        let Some(bytes) = known else {
+            return Ok(self.has_all(plan, context, exten));
+        };
+        let name = Text::new(bytes);
+        Ok(self.has_known(plan, &name, exten))
     }
 }

@@ -1,8 +1,9 @@
 //! The table of what applications owe, by their names.
-ghost use Rattle.std.specs.Prelude.{◌≡◌, ◌++◌, IfOk, OnOk, map};
+ghost use Rattle.std.specs.Prelude.{◌≡◌, ◌++◌, IfOk, IsFalse, OnOk, map};
 ghost use Rattle.dp_closed.specs.Rows as rows;
 ghost use Rattle.dp_closed.specs.Shown.{shown_area, shown_duties, shown_duty};
 ghost use Rattle.dp_pieces.specs.Shown.{shown_all};
+ghost use Rattle.dp_pieces.specs.Texts.{text_pieces};
 ghost use Rattle.dp_reach.specs.Standard.{standard_duties};
 
 use crate::area::Area;
@@ -15,7 +16,7 @@ use crate::waiting::{
     push_unpause,
 };
 use dp_conf::{NoMemory, same_word};
-use dp_pieces::Piece;
+use dp_pieces::{NamedPieces, Piece, read_pieces};
 use std::alloc::Global;
 
 /// A row of the table: the application that owes so.
@@ -177,5 +178,63 @@ pub fn duties(
 {
     let mut duties = Vec::new(alloc);
     push_row(alloc, row_of(application), area, pieces, &mut duties)?;
+    Ok(duties)
+}
+
+impl Row {
+    /// Whether what the row owes may depend on the arguments.
+    fn asks_arguments(self) -> bool
+        ensures { IsFalse result → rows.IsSteady (rows.shown_row self) }
+    {
+        match self {
+            Row::Goto => true,
+            Row::Set => true,
+            Row::GotoIf => true,
+            Row::Gosub => true,
+            Row::GosubIf => true,
+            Row::Return => true,
+            Row::Nothing => false,
+            Row::Digits => false,
+            Row::Dial => false,
+            Row::Queue => false,
+            Row::Add => false,
+            Row::Remove => false,
+            Row::Pause => false,
+            Row::Unpause => false,
+        }
+    }
+
+    /// The pieces of arguments, where what the row owes may depend on them.
+    fn pieces_of<N: NamedPieces>(
+        self,
+        alloc: Global,
+        names: &N,
+        arguments: &[u8],
+    ) -> Result<Vec<Piece>, NoMemory>
+        ensures { IfOk result (λ pieces. rows.IsOwedAlike (rows.shown_row self) (shown_all pieces.items) (text_pieces (N.names names.now) arguments.now)) }
+    {
+        if self.asks_arguments() {
+            return read_pieces(alloc, names, arguments);
+        }
+        Ok(Vec::new(alloc))
+    }
+}
+
+/// What an application owes from an area, by its name in any ASCII case and its arguments as they stand in the dialplan, which are read
+/// only where what it owes depends on them. It fails only for want of memory.
+pub fn owed<N: NamedPieces>(
+    alloc: Global,
+    names: &N,
+    area: &Area,
+    application: &[u8],
+    arguments: &[u8],
+) -> Result<Vec<Duty>, NoMemory>
+    ensures { IfOk result (λ duties. map shown_duty duties.items
+        ≡ standard_duties application.now (shown_area area.now) (text_pieces (N.names names.now) arguments.now)) }
+{
+    let row = row_of(application);
+    let pieces = row.pieces_of(alloc, names, arguments)?;
+    let mut duties = Vec::new(alloc);
+    push_row(alloc, row, area, &pieces, &mut duties)?;
     Ok(duties)
 }

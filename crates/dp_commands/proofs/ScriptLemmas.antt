@@ -1,5 +1,5 @@
 -- The readings of a script's lines, by the number of lines before them.
-use Rattle.std.proofs.Common.{◌≡◌, ℕ, ◌+◌, List, [], ◌∷◌, ◌++◌, Option, Result, Ok, Bor, ◌<◌, ◌≤◌, length, refl, ap, ◌∙◌}
+use Rattle.std.proofs.Common.{◌≡◌, ℕ, ◌+◌, List, [], ◌∷◌, ◌++◌, Option, Result, Ok, Bor, length, refl, ap, ◌∙◌}
 use Rattle.std.proofs.lemmas.List.{length-append}
 use Rattle.dp_conf.specs.Answers.{with_front, all_of, each_after}
 use Rattle.dp_conf.specs.Lines.{parts_of}

@@ -6,7 +6,7 @@ use Rattle.std.proofs.lemmas.List.Sums.{fold-append}
 use Rattle.std.proofs.Math.Bool.{or-false}
 use Rattle.std.proofs.Math.Seq.{take-append-add, take-length}
 use Rattle.dp_conf.specs.Fronts.{IsFront, AppendsFront}
-use Rattle.dp_conf.proofs.ToldLemmas.{AppendsFront-more, IsFront-append, IsFront-more, IsFront-trans}
+use Rattle.dp_conf.proofs.ToldLemmas.{AppendsFront-more, IsFront-append, IsFront-trans}
 use Rattle.dp_commands.specs.Block.{Flows}
 use Rattle.dp_commands.specs.Faults.{is_write_failed, is_write_fault}
 use Rattle.dp_commands.specs.Run.{Ends, Writes, run_on, status_by, fails_at_the_end}

@@ -74,9 +74,10 @@ class_by-only p a below one has = only (class_by p) one (is_one_of-class_by p a 
         by_test false e h = absurd (true≢false (sym h ∙ ap (λ t. t || false) e))
     only (x ∷ y ∷ xs) one h = absurd (omega arith)
 
--- where the first word alone has bits, and none before the 48th, its members are those of a mask
-pub class_by-mask : (words : List ℕ) → slice_index words 0 < 2 ^ 64 → slice_index words 0 % 2 ^ 48 ≡ 0 → slice_index words 1 ≡ 0 → slice_index words 2 ≡ 0 → slice_index words 3 ≡ 0 → members_of words ≡ class_by (has_digit (slice_index words 0 / 2 ^ 48))
-class_by-mask words fits low second third fourth = class_by-same (has_bit words) (has_digit mask) (λ b below. by_place b below (b / 64) refl)
+-- where the first word alone has bits, and none before the 48th, they are those of a mask
+pub has_bit-mask : (words : List ℕ) → slice_index words 0 < 2 ^ 64 → slice_index words 0 % 2 ^ 48 ≡ 0 → slice_index words 1 ≡ 0 → slice_index words 2 ≡ 0 → slice_index words 3 ≡ 0
+    → (b : ℕ) → b < 256 → has_bit words b ≡ has_digit (slice_index words 0 / 2 ^ 48) b
+has_bit-mask words fits low second third fourth = λ b below. by_place b below (b / 64) refl
   where
     first : ℕ
     first = slice_index words 0
@@ -113,3 +114,14 @@ class_by-mask words fits low second third fourth = class_by-same (has_bit words)
     by_place b below (suc (suc zero)) e = no_bit 2 b e (omega arith) third
     by_place b below (suc (suc (suc zero))) e = no_bit 3 b e (omega arith) fourth
     by_place b below (suc (suc (suc (suc k)))) e = absurd (omega arith)
+
+-- and so are the members
+pub class_by-mask : (words : List ℕ) → slice_index words 0 < 2 ^ 64 → slice_index words 0 % 2 ^ 48 ≡ 0 → slice_index words 1 ≡ 0 → slice_index words 2 ≡ 0 → slice_index words 3 ≡ 0 → members_of words ≡ class_by (has_digit (slice_index words 0 / 2 ^ 48))
+class_by-mask words fits low second third fourth =
+    class_by-same (has_bit words) (has_digit (slice_index words 0 / 2 ^ 48)) (has_bit-mask words fits low second third fourth)
+
+-- a mask as the high bits of the first word
+pub bits-of-mask : (word mask : ℕ) → mask < 2 ^ 16 → word ≡ mask * 2 ^ 48 → (b : ℕ) → b < 256 → has_bit (word ∷ 0 ∷ 0 ∷ 0 ∷ []) b ≡ has_digit mask b
+bits-of-mask word mask fits is b below =
+    let half : word / 2 ^ 48 ≡ mask = omega arith in
+    has_bit-mask (word ∷ 0 ∷ 0 ∷ 0 ∷ []) (omega arith) (omega arith) refl refl refl b below ∙ ap (λ m. has_digit m b) half

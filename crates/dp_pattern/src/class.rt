@@ -53,6 +53,13 @@ impl Class {
         self.members.has(byte)
     }
 
+    /// The members as one bit for each byte: byte b has bit b % 64 of word b / 64.
+    pub fn words(&self) -> [u64; 4]
+        ensures { (b : ℕ) → b < 256 → has_bit result b ≡ is_one_of self.now b }
+    {
+        self.members.words()
+    }
+
     /// The one member, where the class is kept as a byte.
     pub(crate) fn only(&self) -> Option<u8>
         ensures { IfSome result (λ byte. self.now ≡ byte ∷ []) }

@@ -6,7 +6,7 @@ ghost use Rattle.dp_pattern.specs.Classes.{class_by, has_bit, has_digit, has_mem
 ghost use Rattle.dp_pattern.specs.Order.{class_cmp};
 ghost use Rattle.dp_pattern.specs.Spelling.{class_spelling};
 
-use crate::words::{bit_of, has, push_members, push_word, size};
+use crate::words::{add, bit_of, has, push_members, push_word, size};
 use std::alloc::{AllocError, Global};
 use std::cmp::Ordering;
 
@@ -40,6 +40,22 @@ fn mask_of(words: &[u64; 4]) -> Option<u16>
         [first, 0, 0, 0] if first % (1 << 48) == 0 => Some((first >> 48) as u16),
         _ => None,
     }
+}
+
+// The words of one byte.
+fn words_of_byte(byte: u8) -> [u64; 4]
+    ensures { (b : ℕ) → b < 256 → has_bit result b ≡ (byte == b) }
+{
+    let mut words = [0; 4];
+    add(&mut words, byte);
+    words
+}
+
+// The words of a mask.
+fn words_of_mask(mask: u16) -> [u64; 4]
+    ensures { (b : ℕ) → b < 256 → has_bit result b ≡ has_digit mask b }
+{
+    [u64::from(mask) << 48, 0, 0, 0]
 }
 
 // The letter of the class that has these digits, where it has one.
@@ -133,6 +149,17 @@ impl Members {
             Members::Byte(only) => *only == byte,
             Members::Digits(mask) => has_digit(*mask, byte),
             Members::Words(words) => has(words, usize::from(byte)),
+        }
+    }
+
+    /// The members as one bit for each byte.
+    pub(crate) fn words(&self) -> [u64; 4]
+        ensures { (b : ℕ) → b < 256 → has_bit result b ≡ has_member self.now b }
+    {
+        match self {
+            Members::Byte(byte) => words_of_byte(*byte),
+            Members::Digits(mask) => words_of_mask(*mask),
+            Members::Words(words) => **words,
         }
     }
 

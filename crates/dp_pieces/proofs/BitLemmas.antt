@@ -1,9 +1,10 @@
 -- Words bit by bit.
-use Rattle.std.proofs.Common.{◌≡◌, ℕ, zero, suc, ◌<◌, ◌+◌, ◌*◌, ◌/◌, ◌%◌, ◌^◌, max, bit_or, slice_index, List, ◌==◌, true, false, ◌||◌, refl, sym, ap, ◌∙◌, arith}
+use Rattle.std.proofs.Common.{◌≡◌, ℕ, zero, suc, ◌<◌, ◌+◌, ◌*◌, ◌/◌, ◌%◌, ◌^◌, max, min, bit_or, slice_index, List, ◌==◌, true, false, ◌||◌, ◌&&◌, refl, sym, ap, ◌∙◌, arith}
 use borrow.Author.Tests.{eqb-true}
 use Rattle.std.proofs.lemmas.Nat.{or_lt}
-use Rattle.std.proofs.lemmas.Nat.Bits.{bit_at-lt, bit_at_or, same_from_bits_below}
+use Rattle.std.proofs.lemmas.Nat.Bits.{bit_at-lt, bit_at_and, bit_at_or, same_from_bits_below}
 use Rattle.std.specs.Int.{bit_at}
+use Rattle.std.specs.Int.Bits.{bit_and}
 use Rattle.dp_pieces.specs.Sets.{set_by}
 
 -- the greater of two bits is set where one of them is
@@ -19,6 +20,20 @@ greater (suc (suc x)) y a b = absurd (omega (arith, a))
 pub either-bit : (word other i : ℕ) → (bit_at (bit_or word other) i == 1) ≡ (bit_at word i == 1 || bit_at other i == 1)
 either-bit word other i =
     ap (λ n. n == 1) (bit_at_or word other i) ∙ greater (bit_at word i) (bit_at other i) (bit_at-lt word i) (bit_at-lt other i)
+
+-- the lesser of two bits is set where both are
+lesser : (x y : ℕ) → x < 2 → y < 2 → (min x y == 1) ≡ (x == 1 && y == 1)
+lesser zero zero a b = refl
+lesser zero (suc zero) a b = refl
+lesser zero (suc (suc y)) a b = absurd (omega (arith, b))
+lesser (suc zero) zero a b = refl
+lesser (suc zero) (suc zero) a b = refl
+lesser (suc zero) (suc (suc y)) a b = absurd (omega (arith, b))
+lesser (suc (suc x)) y a b = absurd (omega (arith, a))
+
+pub shared-bit : (word other i : ℕ) → (bit_at (bit_and word other) i == 1) ≡ (bit_at word i == 1 && bit_at other i == 1)
+shared-bit word other i =
+    ap (λ n. n == 1) (bit_at_and word other i) ∙ lesser (bit_at word i) (bit_at other i) (bit_at-lt word i) (bit_at-lt other i)
 
 -- a word that adds no bit to another
 pub bit-of-part : (word other : ℕ) → (bit_or word other == other) ≡ true → (i : ℕ) → (bit_at word i == 1) ≡ true → (bit_at other i == 1) ≡ true

@@ -21,6 +21,7 @@ pub mod SoftLemmas
 pub mod MetLemmas
 pub mod ShapeLemmas
 pub mod TakesLemmas
+mod WordLemmas
 pub mod AlwaysFitsLemmas
 pub mod FarLemmas
 pub mod SetLemmas

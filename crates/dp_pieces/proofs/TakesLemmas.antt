@@ -27,7 +27,7 @@ flip a b = by (a == b) refl (b == a) refl
     by false x true y = sym x ∙ eq-eqb a b (sym (eqb-true b a y))
     by false x false y = refl
 
-flipped : (class : List ℕ) (byte : ℕ) → bytes_in class byte ≡ is_one_of class byte
+pub flipped : (class : List ℕ) (byte : ℕ) → bytes_in class byte ≡ is_one_of class byte
 flipped [] byte = refl
 flipped (c ∷ class) byte = λ i. flip c byte i || flipped class byte i
 

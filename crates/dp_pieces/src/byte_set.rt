@@ -2,7 +2,7 @@
 ghost use Rattle.dp_conf.specs.Blanks.{is_blank as blank};
 ghost use Rattle.std.specs.Prelude.{◌≡◌, ◌<◌, ℕ, true, false, ◌&&◌, ◌||◌, ◌==◌, IsFalse, IsTrue, replicate};
 ghost use Rattle.std.specs.Int.{bit_at};
-ghost use Rattle.dp_pieces.specs.Bytes.{IsPart, digits, either, has_blank};
+ghost use Rattle.dp_pieces.specs.Bytes.{IsPart, both, digits, either, has_blank};
 ghost use Rattle.dp_pieces.specs.Sets.{set_by};
 
 use dp_conf::is_blank;
@@ -30,6 +30,13 @@ fn with_bits(word: u64, other: u64) -> u64
     ensures { (i : ℕ) → (bit_at result i == 1) ≡ (bit_at word i == 1 || bit_at other i == 1) }
 {
     word | other
+}
+
+/// The word with the bits that both have.
+fn shared_bits(word: u64, other: u64) -> u64
+    ensures { (i : ℕ) → (bit_at result i == 1) ≡ (bit_at word i == 1 && bit_at other i == 1) }
+{
+    word & other
 }
 
 /// Whether the other word has each bit of the word.
@@ -64,6 +71,13 @@ impl ByteSet {
         ByteSet { words: [0; 4] }
     }
 
+    /// The set of these words.
+    pub(crate) fn of_words(words: [u64; 4]) -> Self
+        ensures { result ≡ words }
+    {
+        ByteSet { words }
+    }
+
     /// Whether the set has the byte.
     #[tactic(auto, unfolding(crate::specs::Sets::set_by))]
     pub fn has(&self, byte: u8) -> bool
@@ -89,6 +103,25 @@ impl ByteSet {
         for i in 0..4 {
             self.words[i] = with_bits(self.words[i], other.words[i]);
         }
+    }
+
+    /// Keeps the bytes that the other set has too.
+    #[tactic(auto, unfolding(crate::specs::Sets::set_by))]
+    fn keep(&mut self, other: &ByteSet)
+        ensures { (b : ℕ) → set_by self.new b ≡ both (set_by self.old) (set_by other.now) b }
+    {
+        for i in 0..4 {
+            self.words[i] = shared_bits(self.words[i], other.words[i]);
+        }
+    }
+
+    /// The bytes that both sets have.
+    pub(crate) fn shared(&self, other: &ByteSet) -> Self
+        ensures { (b : ℕ) → set_by result b ≡ both (set_by self.now) (set_by other.now) b }
+    {
+        let mut shared = *self;
+        shared.keep(other);
+        shared
     }
 
     /// The set of one byte.

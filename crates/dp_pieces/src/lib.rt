@@ -18,7 +18,7 @@ pub use byte_set::ByteSet;
 pub use cuts::{Cutting, are_clean, cut_known, cut_last, cut_level, cut_pieces, first_part};
 pub use name_table::NameTable;
 pub use names_at::NamesAt;
-pub use piece::{Piece, add_pieces, bytes_of};
+pub use piece::{Piece, add_pieces, bytes_of, known_text};
 pub use reader::{NamedPieces, read_pieces};
 pub use shapes::{covers, is_within, matched, may_fit, may_match};
 pub use trims::trimmed;

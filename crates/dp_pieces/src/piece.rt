@@ -74,8 +74,8 @@ pub(crate) fn copy_of(alloc: Global, pieces: &[Piece]) -> Result<Vec<Piece>, NoM
     Ok(copy)
 }
 
-/// The text of pieces that are all known, or None where some piece is not.
-pub(crate) fn known_text(alloc: Global, pieces: &[Piece]) -> Result<Option<Vec<u8>>, NoMemory>
+/// The text of pieces that are all known, or None where some piece is not. It fails only for want of memory.
+pub fn known_text(alloc: Global, pieces: &[Piece]) -> Result<Option<Vec<u8>>, NoMemory>
     ensures { IfOk result (λ text. MatchOption text (known (shown_all pieces.now) ≡ None) (λ bytes. known (shown_all pieces.now) ≡ Some bytes.items)) }
 {
     let mut text = Vec::new(alloc);

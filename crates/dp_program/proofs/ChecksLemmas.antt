@@ -1,11 +1,11 @@
 -- What a check of a dialplan and of queues writes.
-use Rattle.std.proofs.Common.{◌≡◌, ℕ, Bool, true, false, List, [], ◌∷◌, ◌++◌, Option, Some, None, Result, Ok, Err, length, take, refl, sym, ap, ◌∙◌, subst}
+use Rattle.std.proofs.Common.{◌≡◌, ℕ, Bool, true, false, List, ◌++◌, Option, Some, None, Result, Ok, Err, refl, sym, ap, ◌∙◌, subst}
 use Rattle.std.proofs.KnownBytes.{Appends-nil}
 use Rattle.std.proofs.lemmas.List.{append_assoc}
 use Rattle.std.specs.Io.KnownBytes.{Appends}
 use Rattle.dp_conf.specs.Answers.{Refuses, ◌>>=◌}
 use Rattle.dp_conf.specs.Fronts.{AppendsFront, IsFront}
-use Rattle.dp_conf.proofs.ToldLemmas.{AppendsFront-more, IsFront-append, IsFront-more, IsFront-trans}
+use Rattle.dp_conf.proofs.ToldLemmas.{AppendsFront-more, IsFront-append, IsFront-trans}
 use Rattle.dp_plan.specs.Loaded.{loaded}
 use Rattle.dp_plan.specs.declared.fault.LoadFault.{LoadFault}
 use Rattle.dp_commands.specs.Faults.{fault_of_load, reason_of}

@@ -1,25 +1,27 @@
 -- What a request writes and answers where it is refused: nothing, and the fault.
 use Rattle.std.proofs.Common.{◌≡◌, ℕ, Bool, List, max, Option, Some, None, Result, Ok, Err, refl, sym, ap, ◌∙◌, subst, inl, arith}
+use Rattle.std.specs.Option.{option_map}
 use Rattle.std.proofs.KnownBytes.{Appends-nil}
 use Rattle.dp_conf.specs.Answers.{Refuses, ◌>>=◌}
 use Rattle.dp_commands.specs.Audit.{Audited, WritesAudit, audit_of}
 use Rattle.dp_commands.specs.Debug.{DebugRun, WritesDebug}
 use Rattle.dp_commands.specs.Faults.{reason_of}
 use Rattle.dp_commands.specs.Report.{Reports}
-use Rattle.dp_commands.specs.Run.{Run, Writes}
+use Rattle.dp_commands.specs.Run.{Files, Run, Writes, files_of}
 use Rattle.dp_commands.specs.declared.fault.PbxFault.{PbxFault}
 use Rattle.dp_commands.specs.declared.fault.PbxFault.TheVariants.{Coded, NoMemory}
 use Rattle.dp_program.specs.Checks.{both_report}
 use Rattle.dp_program.specs.Faulted.{StandsIn, in_none, nowhere, place_by, place_in_file, place_in_files, place_in_two, place_of, place_of_report, place_of_run, place_of_two, place_unread, unplaced, unread_fault, unread_path, unread_place}
 use Rattle.dp_program.specs.Files.{Source, Reads}
 use Rattle.dp_program.specs.Hints.{Tells, audit_hint_of, match_hint_of, status_in}
-use Rattle.dp_program.specs.Requests.{RequestOf, LookupOf, joined, check, check_queues, check_both, listing, auditing, matching, explaining, run, debug}
+use Rattle.dp_program.specs.Reaches.{Reaches, place_of_files}
+use Rattle.dp_program.specs.Requests.{RequestOf, LookupOf, QuestionOf, joined, check, check_queues, check_both, listing, auditing, matching, explaining, run, debug, reaching}
 use Rattle.dp_program.specs.Serves.{AuditsFile, ChecksBoth, DebugsFiles, LooksUp, ReportsOn, Runs, RunsFiles, Serves, SharesSome, debug_of_texts, look_up, run_of_texts}
-use Rattle.dp_program.specs.Texts.{OfRun, ReadsTexts, all_texts, sources_of}
+use Rattle.dp_program.specs.Texts.{OfRun, ReadsTexts, all_texts, some_text, sources_of}
 use Rattle.dp_program.specs.declared.faulted.Faulted.{Faulted}
 use Rattle.dp_program.specs.declared.faulted.Unread.{Unread}
 use Rattle.dp_program.specs.declared.hints.Served.{Served}
-use Rattle.dp_program.proofs.ReadsLemmas.{IsUnread, by_reason, Reads-any, Reads-weaker, ReadsTexts-any, ReadsTexts-weaker}
+use Rattle.dp_program.proofs.ReadsLemmas.{IsUnread, by_reason, Reads-any, Reads-weaker, ReadsSome-any, ReadsTexts-any, ReadsTexts-weaker}
 
 -- where memory is refused before anything was written
 pub reports_lacks : (old : Option (List ℕ)) (given : Result (List ℕ) PbxFault) → Reports old old given (Err NoMemory)
@@ -45,6 +47,10 @@ shares_lacks count old (Err fault) = Appends-nil old
 runs_lacks : (threads : Option ℕ) (old : Option (List ℕ)) (given : Result Run PbxFault) → Runs threads old old given (Err NoMemory)
 runs_lacks None old given = writes_lacks old given
 runs_lacks (Some threads) old given = shares_lacks (max 1 threads) old given
+
+pub reaches_lacks : (question : QuestionOf) (explains : Bool) (old : Option (List ℕ)) (given : Result Files PbxFault) → Reaches question explains given old old (Err NoMemory)
+reaches_lacks question explains old (Ok files) = Appends-nil old
+reaches_lacks question explains old (Err fault) = Appends-nil old
 
 -- where a text is refused
 pub reports_refused : (old : Option (List ℕ)) (report : List ℕ → Result (List ℕ) PbxFault) (fault : PbxFault) (text : Result (List ℕ) PbxFault)
@@ -91,13 +97,19 @@ lacks_two_place path queues_path (Ok plan) (Ok queues) = refl
 lacks_two_place path queues_path (Ok plan) (Err unread) = refl
 lacks_two_place path queues_path (Err unread) queues = refl
 
+pub lacks_files_place : (path : List ℕ) (queues_path : Option (List ℕ)) (plan : Result (List ℕ) PbxFault) (queues : Option (Result (List ℕ) PbxFault))
+    → in_none ≡ place_of_files path queues_path plan queues NoMemory
+lacks_files_place path None plan queues = lacks_report_place path plan
+lacks_files_place path (Some queues_path) plan None = lacks_report_place path plan
+lacks_files_place path (Some queues_path) plan (Some queues) = lacks_two_place path queues_path plan queues
+
 -- the place of a file that could not be read
 pub unread_stands : (unread : Unread) (fault : PbxFault) → place_of (place_unread unread fault) ≡ unread_place unread.path.now fault
 unread_stands unread (Coded code line) = refl
 unread_stands unread NoMemory = refl
 
 -- is where the fault of a report stands
-refused_report_place : (path : List ℕ) (fault : PbxFault) (text : Result (List ℕ) PbxFault) → Refuses (reason_of fault) text → unread_place path fault ≡ place_of_report path text fault
+pub refused_report_place : (path : List ℕ) (fault : PbxFault) (text : Result (List ℕ) PbxFault) → Refuses (reason_of fault) text → unread_place path fault ≡ place_of_report path text fault
 refused_report_place path = by_reason (λ fault text. unread_place path fault ≡ place_of_report path text fault) (λ code line. refl) (lacks_report_place path)
 
 -- of a run
@@ -105,12 +117,12 @@ refused_place_by : (paths : OfRun (List ℕ)) (unread : List ℕ) (fault : PbxFa
 refused_place_by paths unread = by_reason (λ fault texts. unread_place unread fault ≡ place_by paths unread texts fault) (λ code line. refl) (lacks_place_by paths unread)
 
 -- and of a check of two files, of which the first or the second could not be read
-refused_first_place : (path queues_path : List ℕ) (queues : Result (List ℕ) PbxFault) (fault : PbxFault) (plan : Result (List ℕ) PbxFault)
+pub refused_first_place : (path queues_path : List ℕ) (queues : Result (List ℕ) PbxFault) (fault : PbxFault) (plan : Result (List ℕ) PbxFault)
     → Refuses (reason_of fault) plan → unread_place path fault ≡ place_of_two path queues_path plan queues fault
 refused_first_place path queues_path queues =
     by_reason (λ fault plan. unread_place path fault ≡ place_of_two path queues_path plan queues fault) (λ code line. refl) (λ plan. lacks_two_place path queues_path plan queues)
 
-refused_second_place : (path queues_path read : List ℕ) (fault : PbxFault) (queues : Result (List ℕ) PbxFault)
+pub refused_second_place : (path queues_path read : List ℕ) (fault : PbxFault) (queues : Result (List ℕ) PbxFault)
     → Refuses (reason_of fault) queues → unread_place queues_path fault ≡ place_of_two path queues_path (Ok read) queues fault
 refused_second_place path queues_path read =
     by_reason (λ fault queues. unread_place queues_path fault ≡ place_of_two path queues_path (Ok read) queues fault) (λ code line. refl) (lacks_two_place path queues_path (Ok read))
@@ -291,3 +303,8 @@ Serves-lacks files input (debug paths held) explains old = (
       (λ read. (debug_lacks old (all_texts read >>= debug_of_texts held), lacks_place_by paths (unread_path paths read) (all_texts read))),
   tt,
 )
+Serves-lacks files input (reaching question) explains old =
+    Reads-any (files question.file) _ (λ plan. ReadsSome-any (option_map files question.queues) _ (λ queues. (
+      reaches_lacks question explains old (plan >>= λ plan. some_text queues >>= λ queues. files_of plan queues),
+      lacks_files_place question.file question.queues plan queues,
+    )))

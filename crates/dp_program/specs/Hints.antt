@@ -35,10 +35,14 @@ near_line name = codes "  nearest: " ++ name ++ codes "\n"
 abbrev pub near_lines : Bool → List ℕ → PlanOf → List ℕ
 near_lines explains name plan = if explains then flat_map near_line (nearest_of name (map (λ context. context.name) plan.contexts)) else []
 
+-- what is told of a name of a context of a file, by the context's number
+abbrev pub name_told : List ℕ → List ℕ → Bool → PlanOf → Option ℕ → List ℕ
+name_told file name explains plan (Some number) = []
+name_told file name explains plan None = unknown_context file name ++ near_lines explains name plan
+
 -- what is told of the context of a look-up, by its number
 abbrev pub told_of : LookupOf → Bool → PlanOf → Option ℕ → List ℕ
-told_of lookup explains plan (Some number) = []
-told_of lookup explains plan None = unknown_context lookup.file lookup.context ++ near_lines explains lookup.context plan
+told_of lookup explains plan number = name_told lookup.file lookup.context explains plan number
 
 -- what is told of a dialplan that is audited
 abbrev pub audit_hint : List ℕ → PlanOf → List ℕ

@@ -4,6 +4,7 @@ pub mod Faulted
 pub mod Files
 pub mod Hints
 pub mod Nearest
+pub mod Reaches
 pub mod Requests
 pub mod Serves
 pub mod Status

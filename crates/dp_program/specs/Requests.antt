@@ -1,9 +1,12 @@
 -- Requests, with the texts of their words.
 use Rattle.std.specs.Prelude.{ℕ, Bool, List, Option}
+use Rattle.std.specs.Option.{option_map}
+use Rattle.dp_answer.specs.Asks.{AskOf}
 use Rattle.dp_program.specs.Texts.{OfRun, paths_of}
 use Rattle.dp_program.specs.declared.request.Lookup.{Lookup}
+use Rattle.dp_program.specs.declared.request.ReachQuestion.{ReachQuestion}
 use Rattle.dp_program.specs.declared.request.Request.{Request}
-use Rattle.dp_program.specs.declared.request.Request.TheVariants.{Joined, Check, CheckQueues, CheckBoth, Listing, Audit, Match, Explain, Run, Debug}
+use Rattle.dp_program.specs.declared.request.Request.TheVariants.{Joined, Check, CheckQueues, CheckBoth, Listing, Audit, Match, Explain, Run, Debug, Reach}
 
 -- what is looked up in the dialplan of a file, with its texts
 pub record LookupOf : Type 0 where
@@ -14,6 +17,28 @@ pub record LookupOf : Type 0 where
 
 abbrev pub lookup_of : Lookup → LookupOf
 lookup_of lookup = record { file = lookup.file.now; context = lookup.context.now; text = lookup.text.now; priority = lookup.priority }
+
+-- a question about the calls that come in at a context: its files, and what is asked of them
+pub record QuestionOf : Type 0 where
+  pub file : List ℕ
+  pub queues : Option (List ℕ)
+  pub ask : AskOf
+
+abbrev pub asked_in : ReachQuestion → AskOf
+asked_in question = record {
+  context = question.context.now;
+  target = option_map (λ word. word.now) question.target;
+  starts = option_map (λ word. word.now) question.starts;
+  exten = option_map (λ word. word.now) question.exten;
+  caller = option_map (λ word. word.now) question.caller;
+}
+
+abbrev pub question_of : ReachQuestion → QuestionOf
+question_of question = record {
+  file = question.file.now;
+  queues = option_map (λ path. path.now) question.queues;
+  ask = asked_in question;
+}
 
 -- what the program is asked for, with its texts
 pub data RequestOf : Type 0 where
@@ -27,6 +52,7 @@ pub data RequestOf : Type 0 where
   explaining : ℕ → RequestOf
   run : OfRun (List ℕ) → Option ℕ → RequestOf
   debug : OfRun (List ℕ) → List ℕ → RequestOf
+  reaching : QuestionOf → RequestOf
 
 -- what a request asks for
 abbrev pub asked : Request → RequestOf
@@ -40,3 +66,4 @@ asked (Match lookup all) = matching (lookup_of lookup) all
 asked (Explain fault) = explaining fault
 asked (Run files threads) = run (paths_of files) threads
 asked (Debug files held) = debug (paths_of files) held.now
+asked (Reach question) = reaching (question_of question)

@@ -15,7 +15,8 @@ use Rattle.dp_program.specs.Entries.{entry_of}
 use Rattle.dp_program.specs.Faulted.{StandsIn, in_none, place_of_report, place_of_run, place_of_two, unplaced}
 use Rattle.dp_program.specs.Files.{Source, Reads, has_read_failed}
 use Rattle.dp_program.specs.Hints.{Tells, TellsNothing, audit_hint_of, match_hint_of, status_in}
-use Rattle.dp_program.specs.Requests.{RequestOf, LookupOf, joined, check, check_queues, check_both, listing, auditing, matching, explaining, run, debug}
+use Rattle.dp_program.specs.Reaches.{ReachesFiles}
+use Rattle.dp_program.specs.Requests.{RequestOf, LookupOf, joined, check, check_queues, check_both, listing, auditing, matching, explaining, run, debug, reaching}
 use Rattle.dp_program.specs.Texts.{OfRun, ReadsTexts, all_texts, sources_of}
 use Rattle.dp_program.specs.declared.faulted.Faulted.{Faulted}
 use Rattle.dp_program.specs.declared.hints.Served.{Served}
@@ -110,6 +111,7 @@ Serves files input (matching lookup all) explains old new answered = LooksUp loo
 Serves files input (explaining fault) explains old new answered = Quietly (WritesEntry fault old new) answered
 Serves files input (run paths threads) explains old new answered = Quietly (RunsFiles paths (sources_of files paths) threads old new) answered
 Serves files input (debug paths held) explains old new answered = Quietly (DebugsFiles paths (sources_of files paths) held old new) answered
+Serves files input (reaching question) explains old new answered = ReachesFiles files question explains old new answered
 
 -- whether a read of the input failed, by what was answered: only a request without a command reads it
 abbrev pub fails_on_input : {X : Type 0} → RequestOf → Result X PbxFault → Bool
@@ -123,3 +125,4 @@ fails_on_input (matching lookup all) result = false
 fails_on_input (explaining fault) result = false
 fails_on_input (run paths threads) result = false
 fails_on_input (debug paths held) result = false
+fails_on_input (reaching question) result = false

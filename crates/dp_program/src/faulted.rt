@@ -178,17 +178,17 @@ fn place_in_two<'a>(plan: &FileText<'a>, queues: &FileText<'a>, fault: PbxFault)
 }
 
 /// What was answered over the texts of a dialplan and of queues, with the place of its fault.
-pub(crate) fn placed_in_two<'a>(
+pub(crate) fn placed_in_two<'a, T>(
     plan: &FileText<'a>,
     queues: &FileText<'a>,
-    answered: Result<u8, PbxFault>,
-) -> Result<u8, Faulted<'a>>
+    answered: Result<T, PbxFault>,
+) -> Result<T, Faulted<'a>>
     ensures same { spec.unplaced result ≡ answered }
     ensures stands { spec.StandsIn (spec.place_in_two (plan.now.path.now, plan.now.text.items)
         (queues.now.path.now, queues.now.text.items)) result }
 {
     match answered {
-        Ok(status) => Ok(status),
+        Ok(answer) => Ok(answer),
         Err(fault) => Err(Faulted {
             fault,
             place: place_in_two(plan, queues, fault),

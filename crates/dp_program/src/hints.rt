@@ -44,7 +44,7 @@ pub(crate) fn unhinted<'a>(
 }
 
 /// Whether no context has an entry or an include.
-fn is_bare(plan: &Dialplan) -> bool
+pub(crate) fn is_bare(plan: &Dialplan) -> bool
     ensures { result ≡ spec.is_bare plan.now }
 {
     plan.contexts().iter().all(|context| context.entries().len() == 0
@@ -52,7 +52,7 @@ fn is_bare(plan: &Dialplan) -> bool
 }
 
 /// What a dialplan lacks of which no context has any of both: contexts, or entries.
-fn lacking(plan: &Dialplan) -> &'static [u8]
+pub(crate) fn lacking(plan: &Dialplan) -> &'static [u8]
     ensures { result.now ≡ spec.lacking plan.now }
 {
     if plan.contexts().len() == 0 {
@@ -63,7 +63,7 @@ fn lacking(plan: &Dialplan) -> &'static [u8]
 }
 
 /// Adds the line that a file may be no dialplan, by what it lacks.
-fn push_bare_line(hint: &mut Vec<u8>, file: &str, lack: &[u8]) -> Result<(), NoMemory>
+pub(crate) fn push_bare_line(hint: &mut Vec<u8>, file: &str, lack: &[u8]) -> Result<(), NoMemory>
     ensures { OnOk result (hint.new.items ≡ hint.old.items ++ spec.bare_line file.now lack.now) }
 {
     hint.extend_from_slice(b"pbx: ")?;
@@ -75,14 +75,13 @@ fn push_bare_line(hint: &mut Vec<u8>, file: &str, lack: &[u8]) -> Result<(), NoM
 }
 
 /// Adds the line that a file has no context of a name.
-fn push_unknown_context(hint: &mut Vec<u8>, lookup: &Lookup<'_>) -> Result<(), NoMemory>
-    ensures { OnOk result (hint.new.items
-        ≡ hint.old.items ++ spec.unknown_context lookup.now.file.now lookup.now.context.now) }
+fn push_unknown_context(hint: &mut Vec<u8>, file: &str, name: &[u8]) -> Result<(), NoMemory>
+    ensures { OnOk result (hint.new.items ≡ hint.old.items ++ spec.unknown_context file.now name.now) }
 {
     hint.extend_from_slice(b"pbx: ")?;
-    hint.extend_from_slice(lookup.file.as_bytes())?;
+    hint.extend_from_slice(file.as_bytes())?;
     hint.extend_from_slice(b" has no context `")?;
-    hint.extend_from_slice(lookup.context.as_bytes())?;
+    hint.extend_from_slice(name)?;
     hint.extend_from_slice(b"`\n")?;
     Ok(())
 }
@@ -92,7 +91,7 @@ fn push_near_lines(
     alloc: Global,
     hint: &mut Vec<u8>,
     explains: bool,
-    name: &str,
+    name: &[u8],
     plan: &Dialplan,
 ) -> Result<(), NoMemory>
     ensures { OnOk result (hint.new.items ≡ hint.old.items ++ spec.near_lines explains name.now plan.now) }
@@ -100,26 +99,33 @@ fn push_near_lines(
     if !explains {
         return Ok(());
     }
-    push_nearest(alloc, hint, name.as_bytes(), plan)
+    push_nearest(alloc, hint, name, plan)
 }
 
-/// Adds what is told of the context of a look-up.
-fn push_told(
+/// A dialplan with the path of its file, and whether names are told that are near to one that it lacks.
+#[derive(Clone, Copy)]
+pub(crate) struct Told<'a> {
+    pub(crate) file: &'a str,
+    pub(crate) plan: &'a Dialplan,
+    pub(crate) explains: bool,
+}
+
+/// Adds what is told of the name of a context.
+pub(crate) fn push_told(
     alloc: Global,
     hint: &mut Vec<u8>,
-    lookup: &Lookup<'_>,
-    explains: bool,
-    plan: &Dialplan,
+    told: Told<'_>,
+    name: &[u8],
 ) -> Result<(), NoMemory>
-    ensures { OnOk result (hint.new.items ≡ hint.old.items ++ spec.told_of (lookup_of lookup.now) explains plan.now
-        (number_of plan.now lookup.now.context.now)) }
+    ensures { OnOk result (hint.new.items ≡ hint.old.items ++ spec.name_told told.entry.file.now name.now told.entry.explains told.entry.plan.now
+        (number_of told.entry.plan.now name.now)) }
 {
-    let context = Text::copy_of(alloc, lookup.context.as_bytes())?;
-    match plan.number_of(&context) {
+    let context = Text::copy_of(alloc, name)?;
+    match told.plan.number_of(&context) {
         Some(_) => Ok(()),
         None => {
-            push_unknown_context(hint, lookup)?;
-            push_near_lines(alloc, hint, explains, lookup.context, plan)
+            push_unknown_context(hint, told.file, name)?;
+            push_near_lines(alloc, hint, told.explains, name, told.plan)
         }
     }
 }
@@ -148,7 +154,12 @@ fn match_told(
     if is_bare(plan) {
         push_bare_line(&mut hint, lookup.file, lacking(plan))?;
     } else {
-        push_told(alloc, &mut hint, lookup, explains, plan)?;
+        let told = Told {
+            file: lookup.file,
+            plan,
+            explains,
+        };
+        push_told(alloc, &mut hint, told, lookup.context.as_bytes())?;
     }
     Ok(hint)
 }

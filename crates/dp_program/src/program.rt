@@ -10,6 +10,7 @@ use crate::checks::{serve_check, serve_check_both, serve_check_queues};
 use crate::faulted::Faulted;
 use crate::files::ReadFiles;
 use crate::hints::{Served, unhinted};
+use crate::reaches::serve_reach;
 use crate::reports::{Manner, serve_audit, serve_explain, serve_list, serve_match};
 use crate::request::Request;
 use crate::runs::{serve_debug, serve_joined, serve_run};
@@ -70,5 +71,6 @@ pub fn serve<'a, F: ReadFiles, I: ReadTold, W: WriteTold, R: Threads + Wait + Sy
         Request::Debug { files: run, held } => {
             unhinted(alloc, serve_debug(files, alloc, run, held, output))
         }
+        Request::Reach { question } => serve_reach(files, alloc, question, explains, output),
     }
 }

@@ -24,6 +24,25 @@ pub struct CheckFiles<'a> {
     pub queues: &'a str,
 }
 
+/// What is asked about the calls that come in at a context of a dialplan, by words.
+#[derive(Clone, Copy, Debug, PartialEq, Eq)]
+pub struct ReachQuestion<'a> {
+    /// The file of the dialplan.
+    pub file: &'a str,
+    /// The file of the queues; without it there are none.
+    pub queues: Option<&'a str>,
+    /// The name of the context where the call comes in.
+    pub context: &'a str,
+    /// The name of a context of which it is asked whether the call may reach it; without it all that it may run is told.
+    pub target: Option<&'a str>,
+    /// The names of the contexts where other calls come in, parted by commas; without them, each of the dialplan.
+    pub starts: Option<&'a str>,
+    /// The bytes of a dialled extension, as ranges.
+    pub exten: Option<&'a str>,
+    /// The bytes of a caller's number, as ranges.
+    pub caller: Option<&'a str>,
+}
+
 /// The files of a run, by their paths.
 #[derive(Clone, Copy, Debug, PartialEq, Eq)]
 pub struct RunFiles<'a> {
@@ -83,5 +102,10 @@ pub enum Request<'a> {
     Debug {
         files: RunFiles<'a>,
         held: &'a str,
+    },
+    /// `reach [--queues QUEUES] [--start CONTEXTS] [--exten BYTES] [--caller BYTES] [--to CONTEXT] FILE CONTEXT`: to tell what a call
+    /// may run that comes in at a context, or whether it may reach another.
+    Reach {
+        question: ReachQuestion<'a>,
     },
 }

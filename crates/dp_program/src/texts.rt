@@ -45,7 +45,7 @@ pub(crate) fn read_text<'a, F: ReadFiles>(
 }
 
 /// All bytes of a file, where one is named.
-fn read_named<'a, F: ReadFiles>(
+pub(crate) fn read_named<'a, F: ReadFiles>(
     files: &F,
     alloc: Global,
     path: Option<&'a str>,

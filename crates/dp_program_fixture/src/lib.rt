@@ -28,6 +28,14 @@ specific→[main]¶exten => _X.,1,NoOp()¶exten => _1XX,1,NoOp()¶exten => 123,1
 priorities→[main]¶exten => 123,1,NoOp(one)¶exten => _X.,1,NoOp(other)¶exten => _X.,2,NoOp(two)¶
 cycle→[a]¶include => b¶[b]¶include => a¶
 chain→[main]¶exten => _1XX,1,NoOp()¶include => late¶[late]¶exten => 123,1,Hangup()¶exten => 123,2,Hangup()¶include => main¶
+# Calls that come in, and where they may get: a shut door, a jump to any context, a way out of a queue, the extensions h and i, and the
+# sample of routes with a line more.
+doors→[outside]¶exten => s,1,Goto(hall,${EXTEN},1)¶[hall]¶exten => s,1,Hangup()¶exten => 9,1,Goto(safe,s,1)¶[safe]¶exten => s,1,NoOp(no way)¶
+jumps→[in]¶exten => _X.,1,Set(where=${EXTEN})¶ same => n,Goto(${where},s,1)¶[desk]¶exten => s,1,Macro(ring)¶[7]¶exten => s,1,Hangup()¶
+ways→[main]¶exten => s,1,Queue(help)¶[out]¶exten => 1,1,Hangup()¶
+wayout→[help]¶context = out¶
+ends→[in]¶exten => s,1,Goto(main,s,1)¶[main]¶exten => s,1,WaitExten(5)¶exten => h,1,Goto(late,s,1)¶exten => i,1,Goto(lost,s,1)¶[late]¶exten => s,1,NoOp()¶[lost]¶exten => s,1,NoOp()¶
+opened→[globals]¶CARRIER=PJSIP/carrier¶RECEPTION=200¶[from-carrier]¶exten => _X.,1,Set(CALLERNUMBER=${CALLERID(num)})¶ same => n,Goto(reception,s,1)¶exten => _+X.,1,Goto(reception,s,1)¶[reception]¶exten => s,1,Answer()¶ same => n,Set(tries=0)¶ same => n(menu),Background(welcome)¶ same => n,WaitExten(5)¶exten => 1,1,Gosub(ring,s,1(${RECEPTION},20))¶ same => n,Goto(desk,1)¶exten => 2,1,Goto(internal,210,1)¶exten => i,1,Set(tries=$[${tries} + 1])¶ same => n,GotoIf($[${tries} < 2]?s,menu)¶ same => n,Goto(desk,1)¶exten => t,1,Goto(desk,1)¶exten => desk,1,Dial(PJSIP/${RECEPTION},30)¶ same => n,Hangup()¶exten => h,1,NoOp(${CALLERNUMBER} left)¶include => lobby-features¶[lobby-features]¶exten => *60,1,Answer()¶ same => n,Playback(opening-hours)¶ same => n,Hangup()¶exten => _*2XX,1,Goto(internal,${EXTEN:1},1)¶exten => _**X.,1,Goto(from-staff,${EXTEN:2},1)¶[from-lobby]¶include => internal¶include => lobby-features¶[internal]¶exten => _[23]XX,1,Gosub(ring,s,1(${EXTEN},20))¶ same => n,GotoIf($[\"${DIALSTATUS}\" = \"BUSY\"]?busy)¶ same => n,Playback(not-there)¶ same => n,Hangup()¶ same => n(busy),Playback(busy)¶ same => n,Hangup()¶[ring]¶exten => s,1,Dial(PJSIP/${ARG1},${ARG2})¶ same => n,Return()¶[from-staff]¶include => internal¶include => national¶include => international¶[national]¶exten => _0ZX.,1,Dial(${CARRIER}/${EXTEN},60)¶ same => n,Hangup()¶[international]¶exten => _00ZX.,1,Set(CALLERID(num)=+4989123450)¶ same => n,Dial(${CARRIER}/${EXTEN},60)¶ same => n,Hangup()¶
 labels→[main]¶exten => s,1,Goto(x)¶exten => s,n(x),Hangup()¶
 labels.script→start main s¶step 1 2¶
 first→[main]¶exten => 100,1,NoOp(hello)¶exten => 100,2,Goto(200,1)¶exten => 200,1,Hangup()¶

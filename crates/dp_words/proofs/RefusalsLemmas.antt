@@ -7,7 +7,7 @@ use Rattle.clap.specs.declared.error.kind.ErrorKind.{ErrorKind}
 use Rattle.clap.specs.declared.error.kind.ErrorKind.TheVariants.{OutOfMemory}
 use Rattle.dp_conf.specs.Words.{same_text}
 use Rattle.dp_program.specs.Requests.{RequestOf, explaining}
-use Rattle.dp_words.specs.CommandLine.{asked_by, audit_asked, check_asked, command_asked, debug_asked, explain_asked, fault_in, list_asked, match_asked, match_at, priority_in, run_asked, run_by, run_in, threads_in}
+use Rattle.dp_words.specs.CommandLine.{asked_by, audit_asked, check_asked, command_asked, debug_asked, explain_asked, fault_in, list_asked, match_asked, match_at, priority_in, reach_asked, run_asked, run_by, run_in, threads_in}
 use Rattle.dp_words.specs.Refusals.{command_kinds, kinds_by, number_kinds, unless_number}
 
 -- one of the first kinds is one of all
@@ -53,7 +53,8 @@ command_numbers name words =
     (either (same_text name (codes "run")) (run_asked words) _ _ _ (run_numbers words (first_of (codes "N") words))
     (either (same_text name (codes "debug")) (debug_asked words) _ [] _ (λ some. refl)
     (either (same_text name (codes "audit")) (audit_asked words) _ [] _ (λ some. refl)
-    (either (same_text name (codes "explain")) (explain_asked words) _ _ [] (explain_numbers (first_of (codes "CODE") words)) (λ some. refl)))))))
+    (either (same_text name (codes "reach")) (reach_asked words) _ [] _ (λ some. refl)
+    (either (same_text name (codes "explain")) (explain_asked words) _ _ [] (explain_numbers (first_of (codes "CODE") words)) (λ some. refl))))))))
 
 -- words that ask for something have no number out of its range
 pub asked_numbers : (command : Option (List ℕ × List Row)) → is_some (asked_by command) ≡ true → kinds_by command ≡ []

@@ -10,7 +10,7 @@ use Rattle.dp_conf.specs.Words.{same_text}
 use Rattle.dp_commands.specs.Script.{number_within}
 use Rattle.dp_conf.specs.Numbers.{most_priority}
 use Rattle.dp_program.specs.Entries.{fault_named, fault_numbered}
-use Rattle.dp_program.specs.Requests.{RequestOf, joined, check, check_queues, check_both, listing, auditing, matching, explaining, run, debug}
+use Rattle.dp_program.specs.Requests.{RequestOf, joined, check, check_queues, check_both, listing, auditing, matching, explaining, run, debug, reaching, QuestionOf}
 use Rattle.dp_program.specs.Texts.{OfRun}
 
 -- a word that has to be given
@@ -100,6 +100,18 @@ debug_app =
     with_explain (with_files (with_rule (with_more_files (new_app (codes "debug")))
     (required_named_word (codes "CONTEXT,EXTEN,PRIORITY") (codes "break"))))
 
+-- the words of what may come in: the contexts where calls do, and the bytes of extensions and of callers' numbers
+abbrev pub with_outside : App → App
+with_outside app =
+    with_rule (with_rule (with_rule app (named_word (codes "CONTEXTS") (codes "start"))) (named_word (codes "BYTES") (codes "exten")))
+    (named_word (codes "NUMBERS") (codes "caller"))
+
+-- `reach [--queues QUEUES] [--start CONTEXTS] [--exten BYTES] [--caller NUMBERS] [--to TARGET] [--explain] FILE CONTEXT`
+abbrev pub reach_app : App
+reach_app =
+    with_explain (with_rule (with_rule (with_rule (with_outside (with_queues (new_app (codes "reach")))) (named_word (codes "TARGET") (codes "to")))
+    file_word) (required_word (codes "CONTEXT")))
+
 -- a command that says its version after `--version` or `-V`
 abbrev pub with_version : App → App
 with_version app = on_top (λ shape. record shape { has_version = true }) app
@@ -111,8 +123,8 @@ bare_app = with_version (new_app (codes "pbx"))
 -- the program's commands
 abbrev pub pbx_app : App
 pbx_app =
-    with_subcommand (with_subcommand (with_subcommand (with_subcommand (with_subcommand (with_subcommand (with_subcommand bare_app
-    check_app.top) list_app.top) match_app.top) run_app.top) debug_app.top) audit_app.top) explain_app.top
+    with_subcommand (with_subcommand (with_subcommand (with_subcommand (with_subcommand (with_subcommand (with_subcommand (with_subcommand bare_app
+    check_app.top) list_app.top) match_app.top) run_app.top) debug_app.top) audit_app.top) reach_app.top) explain_app.top
 
 -- the priority that a word writes: digits, and a number from 1 to the greatest priority
 abbrev pub priority_in : List ℕ → Option ℕ
@@ -203,6 +215,26 @@ abbrev pub debug_asked : List Row → Option RequestOf
 debug_asked words =
     option_and_then (λ paths. option_map (debug paths) (first_of (codes "CONTEXT,EXTEN,PRIORITY") words)) (run_paths words)
 
+-- what `reach` asks of a file and a context, by its other words
+abbrev pub reach_at : List Row → List ℕ → List ℕ → QuestionOf
+reach_at words file context = record {
+  file = file;
+  queues = first_of (codes "QUEUES") words;
+  ask = record {
+    context = context;
+    target = first_of (codes "TARGET") words;
+    starts = first_of (codes "CONTEXTS") words;
+    exten = first_of (codes "BYTES") words;
+    caller = first_of (codes "NUMBERS") words;
+  };
+}
+
+-- what `reach` asks for, by its words
+abbrev pub reach_asked : List Row → Option RequestOf
+reach_asked words =
+    option_and_then (λ file. option_map (λ context. reaching (reach_at words file context)) (first_of (codes "CONTEXT") words))
+    (first_of (codes "FILE") words)
+
 -- what a command of a name asks for, by its words
 abbrev pub command_asked : List ℕ → List Row → Option RequestOf
 command_asked name words =
@@ -212,6 +244,7 @@ command_asked name words =
     else if same_text name (codes "run") then run_asked words
     else if same_text name (codes "debug") then debug_asked words
     else if same_text name (codes "audit") then audit_asked words
+    else if same_text name (codes "reach") then reach_asked words
     else if same_text name (codes "explain") then explain_asked words
     else None
 

@@ -29,6 +29,7 @@ command_kinds name words =
     else if same_text name (codes "run") then number_kinds threads_in (first_of (codes "N") words)
     else if same_text name (codes "debug") then []
     else if same_text name (codes "audit") then []
+    else if same_text name (codes "reach") then []
     else if same_text name (codes "explain") then number_kinds fault_in (first_of (codes "CODE") words)
     else []
 

@@ -23,7 +23,7 @@ use clap::error::ErrorKind;
 use clap::{ArgMatches, Command, Error};
 use dp_commands::number_within;
 use dp_plan::{MOST_PRIORITY, NoMemory, Priority};
-use dp_program::{CheckFiles, FaultNumber, Lookup, Request, RunFiles};
+use dp_program::{CheckFiles, FaultNumber, Lookup, ReachQuestion, Request, RunFiles};
 use std::alloc::Global;
 
 /// What a command line asks for.
@@ -274,6 +274,22 @@ fn debug_request<'a>(given: &ArgMatches<'a>) -> Option<Request<'a>>
     })
 }
 
+/// What the words of `reach` ask for.
+fn reach_request<'a>(given: &ArgMatches<'a>) -> Option<Request<'a>>
+    ensures { option_map asked result ≡ spec.reach_asked (rows_of (found_of given.now)) }
+{
+    let question = ReachQuestion {
+        file: word_of(given, "FILE")?,
+        queues: word_of(given, "QUEUES"),
+        context: word_of(given, "CONTEXT")?,
+        target: word_of(given, "TARGET"),
+        starts: word_of(given, "CONTEXTS"),
+        exten: word_of(given, "BYTES"),
+        caller: word_of(given, "NUMBERS"),
+    };
+    Some(Request::Reach { question })
+}
+
 /// What the words of a command ask for, or None where one that is required is missing.
 fn command_request<'a>(
     alloc: Global,
@@ -291,6 +307,7 @@ fn command_request<'a>(
         "run" => run_request(alloc, given),
         "debug" => Ok(debug_request(given)),
         "audit" => Ok(audit_request(given)),
+        "reach" => Ok(reach_request(given)),
         "explain" => explain_request(alloc, given),
         _ => Ok(None),
     }

@@ -9,7 +9,7 @@ ghost use Rattle.dp_words.specs.steps.Made.{Makes};
 
 use crate::help::{
     AUDIT_NOTES, CHECK_NOTES, DEBUG_NOTES, EXPLAIN_NOTES, LIST_NOTES, MATCH_NOTES, PBX_NOTES,
-    RUN_NOTES, VERSION,
+    REACH_NOTES, RUN_NOTES, VERSION,
 };
 use clap::{Arg, ArgAction, Command};
 use dp_plan::NoMemory;
@@ -364,6 +364,65 @@ fn debug_command<'a>(alloc: Global) -> Result<Command<'a>, NoMemory>
     with_explain(alloc, debug)
 }
 
+/// The command with the words of what may come in.
+fn with_outside<'a>(
+    alloc: Global,
+    command: Result<Command<'a>, NoMemory>,
+) -> Result<Command<'a>, NoMemory>
+    ensures { (app : App) → Makes app command.entry → Makes (spec.with_outside app) result }
+{
+    let starts = named_word(
+        alloc,
+        "CONTEXTS",
+        "start",
+        "The contexts where other calls come in, separated by commas; without it every context",
+    );
+    let with = with_word(command, starts);
+    let exten = named_word(
+        alloc,
+        "BYTES",
+        "exten",
+        "What may be dialled, as 0-9*#; without it 0-9A-Za-z*#+_.",
+    );
+    let with = with_word(with, exten);
+    let caller = named_word(
+        alloc,
+        "NUMBERS",
+        "caller",
+        "What a caller's number may have; without it 0-9+",
+    );
+    with_word(with, caller)
+}
+
+/// The command `reach`.
+fn reach_command<'a>(alloc: Global) -> Result<Command<'a>, NoMemory>
+    ensures { Makes spec.reach_app result }
+{
+    let reach = described(
+        alloc,
+        "reach",
+        "Prove which entries a call from a context can never run",
+        REACH_NOTES,
+    );
+    let reach = with_queues(
+        alloc,
+        reach,
+        "The queues, as queues.conf; without it there are none",
+    );
+    let reach = with_outside(alloc, reach);
+    let target = named_word(
+        alloc,
+        "TARGET",
+        "to",
+        "Say of this context alone whether the call may reach it",
+    );
+    let reach = with_word(reach, target);
+    let reach = with_dialplan(alloc, reach);
+    let context = required_word(alloc, "CONTEXT", "The context where the call comes in");
+    let reach = with_word(reach, context);
+    with_explain(alloc, reach)
+}
+
 /// The program's own part of its commands.
 fn bare_command<'a>(alloc: Global) -> Result<Command<'a>, NoMemory>
     ensures { Makes spec.bare_app result }
@@ -389,5 +448,6 @@ pub(crate) fn pbx_command<'a>(alloc: Global) -> Result<Command<'a>, NoMemory>
     let pbx = with_command(pbx, run_command(alloc));
     let pbx = with_command(pbx, debug_command(alloc));
     let pbx = with_command(pbx, audit_command(alloc));
+    let pbx = with_command(pbx, reach_command(alloc));
     with_command(pbx, explain_command(alloc))
 }

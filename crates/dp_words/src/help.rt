@@ -15,10 +15,12 @@ Examples:
   pbx run extensions.conf calls.script
   pbx debug --break main,100,2 extensions.conf calls.script
   pbx audit extensions.conf
+  pbx reach extensions.conf from-carrier --to international
   pbx explain 20
   pbx < joined.conf
 
-Status: 0; 1 where a fault was printed, an event was refused or an audit found something; 2 where the command line was refused.";
+Status: 0; 1 where a fault was printed, an event was refused, an audit found something or a context may be reached; 2 where the
+command line was refused.";
 
 /// What the help of `check` says below its words.
 pub(crate) const CHECK_NOTES: &str = "\
@@ -75,6 +77,20 @@ Example:
   Gap sales,s,1 2
   NoApplication sales,s,3 Voicemail
   ok 2 findings";
+
+/// What the help of `reach` says below its words.
+pub(crate) const REACH_NOTES: &str = "\
+Prints each entry that a call from CONTEXT may run, whatever is dialled, pressed, answered, waited for or done by other calls, and below
+the entries of each context how a call gets there. It is proved that such a call runs no other entry. Conditions are not followed, so
+an entry that is printed may never run.
+
+With --to, prints `unreachable: TARGET`, with the status 0, or `may reach: ENTRY` with the way there and each jump that lets a call
+in, with the status 1.
+
+Example:
+  $ pbx reach extensions.conf from-carrier --to international
+  assumed: extensions of {0-9A-Za-z*#+_.}*, callers' numbers of {0-9+}*, calls come in at every context
+  unreachable: international";
 
 /// What the help of `explain` says below its words.
 pub(crate) const EXPLAIN_NOTES: &str = "\

@@ -60,19 +60,23 @@ pub(crate) fn tail_of(parts: Parts<'_>) -> Tail
     }
 }
 
+/// The set of the bytes that may stand at the place.
+fn set_at(place: Place<'_>) -> ByteSet
+    requires { AreBytes (class_at place) }
+    ensures { (b : ℕ) → set_by result b ≡ bytes_in (class_at place.entry) b }
+{
+    match place {
+        Place::Byte(only) => ByteSet::of(only),
+        Place::Class(class) => ByteSet::of_words(class.words()),
+    }
+}
+
 /// The bytes of the set that may stand at the place.
 pub(crate) fn meet(set: &ByteSet, place: Place<'_>) -> ByteSet
     requires { AreBytes (class_at place) }
     ensures { (b : ℕ) → set_by result b ≡ both (set_by set.now) (bytes_in (class_at place.entry)) b }
 {
-    let mut met = ByteSet::none();
-    for i in 0..256usize {
-        let byte = i as u8;
-        if set.has(byte) && place.has(byte) {
-            met.put(byte);
-        }
-    }
-    met
+    set.shared(&set_at(place))
 }
 
 /// Whether a byte of the set may stand at the place.

@@ -57,6 +57,40 @@ list @missing→1→→fault 7 ReadFailed¶
 list @long→1→→fault 8 TooLong¶
 ";
 
+/// `reach`.
+const REACHES: &str = "\
+# Each entry that a call may run, by contexts, with the way there.
+reach @doors outside→0→assumed: extensions of {0-9A-Za-z*#+_.}*, callers' numbers of {0-9+}*, calls come in at every context¶outside,s,1 Goto(hall,${EXTEN},1)¶  outside,{0-9A-Za-z*#+_.}*  a call comes in¶hall,s,1 Hangup()¶  outside,{0-9A-Za-z*#+_.}*  a call comes in¶  outside,s,1 Goto(hall,${EXTEN},1) -> hall,s¶ok 2 of 4 entries in 2 of 3 contexts¶→
+reach @empty main→1→→pbx: @empty has no context: is it a dialplan?¶
+# One context: no way there, a way, and what may come in.
+reach @doors outside --to safe→0→assumed: extensions of {0-9A-Za-z*#+_.}*, callers' numbers of {0-9+}*, calls come in at every context¶unreachable: safe¶→
+reach @doors hall --to safe→1→assumed: extensions of {0-9A-Za-z*#+_.}*, callers' numbers of {0-9+}*, calls come in at every context¶may reach: safe,s,1 NoOp(no way)  e.g. extension s¶  hall,{0-9A-Za-z*#+_.}*  a call comes in¶  hall,9,1 Goto(safe,s,1) -> safe,s¶every jump that lets a call in there:¶  hall,9,1 Goto(safe,s,1)¶→
+reach @doors safe --to safe→1→assumed: extensions of {0-9A-Za-z*#+_.}*, callers' numbers of {0-9+}*, calls come in at every context¶may reach: safe,s,1 NoOp(no way)  e.g. extension s¶  safe,{0-9A-Za-z*#+_.}*  a call comes in¶→
+reach @doors outside --to safe --start hall --exten 0-9 --caller 7→0→assumed: extensions of {0-9}*, callers' numbers of {7}*, calls come in at outside hall¶unreachable: safe¶→
+reach @doors hall --to safe --exten 0-8a-cx→0→assumed: extensions of {0-8a-cx}*, callers' numbers of {0-9+}*, calls come in at every context¶unreachable: safe¶→
+reach @doors outside --to hall --exten=s-→1→assumed: extensions of {s-}*, callers' numbers of {0-9+}*, calls come in at every context¶may reach: hall,s,1 Hangup()  e.g. extension s¶  outside,{s-}*  a call comes in¶  outside,s,1 Goto(hall,${EXTEN},1) -> hall,{s-}*¶every jump that lets a call in there:¶  outside,s,1 Goto(hall,${EXTEN},1)¶→
+# A jump to a context that is computed, and an application that is not there.
+reach @jumps in --exten 0-9→0→assumed: extensions of {0-9}*, callers' numbers of {0-9+}*, calls come in at every context¶in,_X.,1 Set(where=${EXTEN})¶in,_X.,2 Goto(${where},s,1)¶  in,{0-9}*  a call comes in¶7,s,1 Hangup()¶  in,{0-9}*  a call comes in¶  in,_X.,2 Goto(${where},s,1) -> 7,s¶may lead to any context: in,_X.,2 Goto(${where},s,1)¶ok 3 of 4 entries in 2 of 3 contexts¶→
+reach @jumps in --to desk→1→assumed: extensions of {0-9A-Za-z*#+_.}*, callers' numbers of {0-9+}*, calls come in at every context¶may reach: desk,s,1 Macro(ring)  e.g. extension s¶  in,{0-9A-Za-z*#+_.}*  a call comes in¶  in,_X.,2 Goto(${where},s,1) -> desk,s¶every jump that lets a call in there:¶  in,_X.,2 Goto(${where},s,1)¶may lead to any context: in,_X.,2 Goto(${where},s,1)¶no such application: desk,s,1 Macro(ring)¶of what an exchange does that has this application, nothing is claimed¶→
+# A way out of a queue, where it has one.
+reach @ways main --to out→0→assumed: extensions of {0-9A-Za-z*#+_.}*, callers' numbers of {0-9+}*, calls come in at every context¶unreachable: out¶→
+reach --queues @wayout @ways main --to out→1→assumed: extensions of {0-9A-Za-z*#+_.}*, callers' numbers of {0-9+}*, calls come in at every context¶may reach: out,1,1 Hangup()  e.g. extension 1¶  main,{0-9A-Za-z*#+_.}*  a call comes in¶  main,s,1 Queue(help) -> out,{0-9A-D*#}¶every jump that lets a call in there:¶  main,s,1 Queue(help)¶→
+# A call ends at the extension `h`, and digits that match nothing lead to `i`.
+reach @ends in --to late→1→assumed: extensions of {0-9A-Za-z*#+_.}*, callers' numbers of {0-9+}*, calls come in at every context¶may reach: late,s,1 NoOp()  e.g. extension s¶  in,{0-9A-Za-z*#+_.}*  a call comes in¶  in,s,1 Goto(main,s,1) -> main,s¶  the call ends -> main,h¶  main,h,1 Goto(late,s,1) -> late,s¶every jump that lets a call in there:¶  main,h,1 Goto(late,s,1)¶→
+reach @ends in --to lost→1→assumed: extensions of {0-9A-Za-z*#+_.}*, callers' numbers of {0-9+}*, calls come in at every context¶may reach: lost,s,1 NoOp()  e.g. extension s¶  in,{0-9A-Za-z*#+_.}*  a call comes in¶  in,s,1 Goto(main,s,1) -> main,s¶  no extension matches -> main,i¶  main,i,1 Goto(lost,s,1) -> lost,s¶every jump that lets a call in there:¶  main,i,1 Goto(lost,s,1)¶→
+# A line more in the sample of routes opens a way of four places.
+reach @opened from-carrier --to international→1→assumed: extensions of {0-9A-Za-z*#+_.}*, callers' numbers of {0-9+}*, calls come in at every context¶may reach: international,_00ZX.,1 Set(CALLERID(num)=+4989123450)  e.g. extension 00111¶  from-carrier,{0-9A-Za-z*#+_.}*  a call comes in¶  from-carrier,_X.,2 Goto(reception,s,1) -> reception,s¶  reception,s,3 Background(welcome) -> reception,{0-9A-D*#}*¶  lobby-features,_**X.,1 Goto(from-staff,${EXTEN:2},1) -> from-staff,{0-9}{0-9A-D*#}*¶every jump that lets a call in there:¶  lobby-features,_**X.,1 Goto(from-staff,${EXTEN:2},1)¶→
+# Names of contexts that are not there, and files with a fault.
+reach @doors kitchen→1→→pbx: @doors has no context `kitchen`¶
+reach @doors outside --to kitchen --start a,hall→1→→pbx: @doors has no context `kitchen`¶pbx: @doors has no context `a`¶
+reach @doors hal --explain→1→→pbx: @doors has no context `hal`¶  nearest: hall¶  nearest: safe¶  nearest: outside¶
+reach @faulty main→1→→fault 4 NoEquals line 2¶
+reach @missing main→1→→fault 7 ReadFailed¶
+reach --queues @missing @doors outside→1→→fault 7 ReadFailed¶
+reach --queues @strategy @doors outside→1→→fault 30 BadStrategy line 2¶
+reach --queues @strategy @priority main→1→→fault 20 BadPriority line 2¶
+";
+
 /// `match`.
 const MATCHES: &str = "\
 match @usual main 5551234→0→main,_NXXXXXX,1 Answer¶→
@@ -377,10 +411,11 @@ check @empty←[main]¶exten => 100,1,NoOp(hello)¶exten => 100,2,Goto(200,1)¶e
 ";
 
 /// All the tables.
-const TABLES: [&str; 11] = [
+const TABLES: [&str; 12] = [
     CHECKS,
     LISTS,
     MATCHES,
+    REACHES,
     AUDITS,
     EXPLAINS,
     EXPLAINED,

@@ -32,6 +32,10 @@ match @usual main 5 --all --all→the argument '--all' cannot be used multiple t
 match --all=1 @usual main 5→unexpected value '1' for '--all' found; no more were expected→pbx match --all <FILE> <CONTEXT> <TEXT> [PRIORITY]
 audit→the following required arguments were not provided:¶  <FILE>→pbx audit <FILE>
 audit a b→unexpected argument 'b' found→pbx audit [OPTIONS] <FILE>
+reach @doors→the following required arguments were not provided:¶  <CONTEXT>→pbx reach <FILE> <CONTEXT>
+reach --to safe→the following required arguments were not provided:¶  <FILE>¶  <CONTEXT>→pbx reach --to <TARGET> <FILE> <CONTEXT>
+reach a b c→unexpected argument 'c' found→pbx reach [OPTIONS] <FILE> <CONTEXT>
+reach a b --to x --to y→the argument '--to <TARGET>' cannot be used multiple times→pbx reach [OPTIONS] <FILE> <CONTEXT>
 explain→the following required arguments were not provided:¶  <CODE>→pbx explain <CODE>
 explain 20 21→unexpected argument '21' found→pbx explain [OPTIONS] <CODE>
 explain 0→invalid value '0' for '<CODE>': neither the number of a fault nor the name of just one→pbx explain [OPTIONS] <CODE>
@@ -95,6 +99,7 @@ Commands:
   run      Run a script of events on a dialplan, and print the trace
   debug    Run a script of events on a dialplan, and halt before the steps at a place
   audit    Print what the writer of a dialplan may not have meant
+  reach    Prove which entries a call from a context can never run
   explain  Print what the manual says of a fault
   help     Print this message or the help of the given subcommand(s)
 
@@ -112,10 +117,12 @@ Examples:
   pbx run extensions.conf calls.script
   pbx debug --break main,100,2 extensions.conf calls.script
   pbx audit extensions.conf
+  pbx reach extensions.conf from-carrier --to international
   pbx explain 20
   pbx < joined.conf
 
-Status: 0; 1 where a fault was printed, an event was refused or an audit found something; 2 where the command line was refused.
+Status: 0; 1 where a fault was printed, an event was refused, an audit found something or a context may be reached; 2 where the
+command line was refused.
 ";
 
 /// What is printed where help with `check` is asked for.
@@ -227,6 +234,38 @@ Example:
   ok 2 findings
 ";
 
+/// What is printed where help with `reach` is asked for.
+const REACH_HELP: &str = "\
+Prove which entries a call from a context can never run
+
+Usage: pbx reach [OPTIONS] <FILE> <CONTEXT>
+
+Arguments:
+  <FILE>     The dialplan, as extensions.conf
+  <CONTEXT>  The context where the call comes in
+
+Options:
+      --queues <QUEUES>   The queues, as queues.conf; without it there are none
+      --start <CONTEXTS>  The contexts where other calls come in, separated by commas; without it every context
+      --exten <BYTES>     What may be dialled, as 0-9*#; without it 0-9A-Za-z*#+_.
+      --caller <NUMBERS>  What a caller's number may have; without it 0-9+
+      --to <TARGET>       Say of this context alone whether the call may reach it
+      --explain           Print below each fault, and below each note of `check`, where it stands and what the manual says of it
+  -h, --help              Print help
+
+Prints each entry that a call from CONTEXT may run, whatever is dialled, pressed, answered, waited for or done by other calls, and below
+the entries of each context how a call gets there. It is proved that such a call runs no other entry. Conditions are not followed, so
+an entry that is printed may never run.
+
+With --to, prints `unreachable: TARGET`, with the status 0, or `may reach: ENTRY` with the way there and each jump that lets a call
+in, with the status 1.
+
+Example:
+  $ pbx reach extensions.conf from-carrier --to international
+  assumed: extensions of {0-9A-Za-z*#+_.}*, callers' numbers of {0-9+}*, calls come in at every context
+  unreachable: international
+";
+
 /// What is printed where help with `explain` is asked for.
 const EXPLAIN_HELP: &str = "\
 Print what the manual says of a fault
@@ -332,7 +371,7 @@ Example:
 const VERSION: &str = "pbx 0.1.0 logic dac8208d650f15bf\n";
 
 /// Command lines that ask for help or for the version, and what is printed.
-const HELPS: [(&str, &str); 14] = [
+const HELPS: [(&str, &str); 15] = [
     ("help", PBX_HELP),
     ("-h", PBX_HELP),
     ("--help", PBX_HELP),
@@ -344,6 +383,7 @@ const HELPS: [(&str, &str); 14] = [
     ("run --help", RUN_HELP),
     ("debug --help", DEBUG_HELP),
     ("audit --help", AUDIT_HELP),
+    ("help reach", REACH_HELP),
     ("help explain", EXPLAIN_HELP),
     ("--version", VERSION),
     ("-V", VERSION),

@@ -140,10 +140,11 @@ impl Question for Reached {
         };
         let reach = reach_of(alloc)?;
         let is = reach.includes(
+            alloc,
             &plan,
             &pieces_of(alloc, context)?,
             &pieces_of(alloc, exten)?,
-        );
+        )?;
         Ok(text_of(alloc, if is { "yes" } else { "no" })?)
     }
 }
@@ -197,10 +198,10 @@ fn owed_in_a(alloc: Global, application: &str, arguments: &[Piece]) -> Result<Ve
 fn is_met(alloc: Global, claim: Claim<'_>, asked: &str) -> Result<bool, Fail> {
     let (application, notation) = asked.split_once('|').ok_or("no arguments")?;
     if application == "way" {
-        return Ok(claim.meets(&Duty::Waits));
+        return Ok(claim.meets(alloc, &Duty::Waits)?);
     }
     let owed = owed_in_a(alloc, application, &pieces_of(alloc, notation)?)?;
-    Ok(claim.meets_all(&owed))
+    Ok(claim.meets_all(alloc, &owed)?)
 }
 
 /// The contexts of the ways out that are asked after.

@@ -1,4 +1,4 @@
-use Rattle.std.proofs.Common.{◌≡◌, ℕ, List, map, Bor, Result, Ok, sym, ap, ◌∙◌}
+use Rattle.std.proofs.Common.{ℕ, List, map, Bor, Result, Ok, sym, ap, ◌∙◌}
 use Rattle.dp_conf.specs.Answers.{◌>>=◌}
 use Rattle.dp_conf.specs.Lines.{parts_of}
 use Rattle.dp_plan.specs.Plan.{PlanOf}

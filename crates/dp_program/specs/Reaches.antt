@@ -1,0 +1,83 @@
+-- What a question about the calls that come in at a context writes and answers.
+use Rattle.std.specs.Prelude.{◌≡◌, ℕ, Bool, List, [], ◌++◌, map, Option, Some, None, Result, Ok, Err, if◌then◌else◌}
+use Rattle.std.specs.Io.KnownBytes.{Appends}
+use Rattle.std.specs.List.{flat_map}
+use Rattle.std.specs.Option.{option_map, option_map_or}
+use Rattle.dp_answer.specs.Asks.{AskOf, target_names}
+use Rattle.dp_answer.specs.Reports.{IsReport}
+use Rattle.dp_conf.specs.Answers.{◌>>=◌}
+use Rattle.dp_conf.specs.Fronts.{AppendsFront}
+use Rattle.dp_conf.specs.Levels.{arguments_of}
+use Rattle.dp_plan.specs.Lookup.{number_of}
+use Rattle.dp_plan.specs.Plan.{PlanOf}
+use Rattle.dp_commands.specs.Run.{Files, files_of}
+use Rattle.dp_commands.specs.declared.fault.Code.TheVariants.{WriteFailed}
+use Rattle.dp_commands.specs.declared.fault.PbxFault.{PbxFault}
+use Rattle.dp_commands.specs.declared.fault.PbxFault.TheVariants.{Coded, NoMemory}
+use Rattle.dp_program.specs.Faulted.{PlaceOf, StandsIn, place_in_file, place_in_two, place_of_report, place_of_two, unplaced}
+use Rattle.dp_program.specs.Files.{Reads, Source}
+use Rattle.dp_program.specs.Hints.{bare_line, is_bare, lacking, name_told}
+use Rattle.dp_program.specs.Requests.{QuestionOf}
+use Rattle.dp_program.specs.Texts.{ReadsSome, some_text}
+use Rattle.dp_program.specs.declared.faulted.Faulted.{Faulted}
+use Rattle.dp_program.specs.declared.hints.Served.{Served}
+
+-- what is told of the name of a context of a file
+abbrev pub told_of_name : List ℕ → Bool → PlanOf → List ℕ → List ℕ
+told_of_name file explains plan name = name_told file name explains plan (number_of plan name)
+
+-- what is told beside the report on a file's dialplan: that the file may be no dialplan, or which of the contexts that are named it lacks,
+-- in the order of the context, the target, and those where other calls come in
+abbrev pub hint_of : List ℕ → AskOf → Bool → PlanOf → List ℕ
+hint_of file ask explains plan =
+    if is_bare plan then bare_line file (lacking plan)
+    else told_of_name file explains plan ask.context ++ flat_map (told_of_name file explains plan) (target_names ask.target)
+    ++ flat_map (told_of_name file explains plan) (option_map_or arguments_of ask.starts [])
+
+-- the report of these files is right, and this is what is told beside it
+pub record IsAnswered (question : QuestionOf) (explains : Bool) (files : Files) (text : List ℕ) (status : ℕ) (hint : List ℕ) : Type 0 where
+  pub report : IsReport files.plan (map (λ queue. queue.settings) files.queues.queues) question.ask (record { text = text; status = status })
+  pub told : hint ≡ hint_of question.file question.ask explains files.plan
+
+-- all of a right report was written
+pub record WritesReport (question : QuestionOf) (explains : Bool) (files : Files) (old new : Option (List ℕ)) (served : Served) : Type 0 where
+  pub text : List ℕ
+  pub answered : IsAnswered question explains files text served.status served.hint.items
+  pub written : Appends old new text
+
+-- a write of a right report failed
+pub record WritesFront (question : QuestionOf) (explains : Bool) (files : Files) (old new : Option (List ℕ)) : Type 0 where
+  pub text : List ℕ
+  pub status : ℕ
+  pub hint : List ℕ
+  pub answered : IsAnswered question explains files text status hint
+  pub written : AppendsFront old new text
+
+-- what a question writes and answers, by its files or the first fault of their texts
+abbrev pub Reaches : QuestionOf → Bool → Result Files PbxFault → Option (List ℕ) → Option (List ℕ) → Result Served PbxFault → Type 0
+Reaches question explains (Ok files) old new (Ok served) = WritesReport question explains files old new served
+Reaches question explains (Ok files) old new (Err (Coded code line)) =
+    WritesFront question explains files old new × (code ≡ WriteFailed) × (line ≡ None)
+Reaches question explains (Ok files) old new (Err NoMemory) = Appends old new []
+Reaches question explains (Err fault) old new (Ok served) = ⊥
+Reaches question explains (Err fault) old new (Err (Coded code line)) = Appends old new [] × (fault ≡ Coded code line)
+Reaches question explains (Err fault) old new (Err NoMemory) = Appends old new []
+
+-- where a fault stands, by what reading the dialplan and the queues, where they are named, came to
+abbrev pub place_of_files : List ℕ → Option (List ℕ) → Result (List ℕ) PbxFault → Option (Result (List ℕ) PbxFault) → PbxFault → PlaceOf
+place_of_files path None plan queues fault = place_of_report path plan fault
+place_of_files path (Some queues_path) plan None fault = place_of_report path plan fault
+place_of_files path (Some queues_path) plan (Some queues) fault = place_of_two path queues_path plan queues fault
+
+-- where a fault of the texts of these files stands
+abbrev pub place_over : List ℕ → Option (List ℕ) → List ℕ → Option (List ℕ) → PbxFault → PlaceOf
+place_over path None plan queues fault = place_in_file path plan fault
+place_over path (Some queues_path) plan None fault = place_in_file path plan fault
+place_over path (Some queues_path) plan (Some queues) fault = place_in_two (path, plan) (queues_path, queues) fault
+
+-- the same over the files of its paths, and where its fault stands
+abbrev pub ReachesFiles : (List ℕ → Source) → QuestionOf → Bool → Option (List ℕ) → Option (List ℕ) → Result Served Faulted → Type 0
+ReachesFiles files question explains old new answered =
+    Reads (files question.file) (λ plan. ReadsSome (option_map files question.queues) (λ queues.
+    Reaches question explains (plan >>= λ plan. some_text queues >>= λ queues. files_of plan queues) old new (unplaced answered)
+    × StandsIn (place_of_files question.file question.queues plan queues) answered))

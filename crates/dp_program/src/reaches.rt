@@ -1,0 +1,227 @@
+//! What the request does that asks what a call may run.
+ghost use Rattle.std.specs.Prelude.{◌≡◌, ◌++◌, ◌||◌, [], false, IfOk, OnOk, map};
+ghost use Rattle.std.specs.List.{flat_map};
+ghost use Rattle.std.specs.Option.{option_map, option_map_or};
+ghost use Rattle.dp_answer.specs.Asks.{ask_of as ask_texts, target_names};
+ghost use Rattle.dp_conf.specs.Answers.{Answers};
+ghost use Rattle.dp_commands.specs.Faults.{is_write_failed, reason_of};
+ghost use Rattle.dp_commands.specs.Run.{files_of};
+ghost use Rattle.dp_program.specs.Faulted.{StandsIn, unplaced};
+ghost use Rattle.dp_conf.specs.Levels.{arguments_of};
+ghost use Rattle.dp_program.specs.Reaches as spec;
+ghost use Rattle.dp_program.specs.Reaches.{ReachesFiles};
+ghost use Rattle.dp_program.specs.Requests.{question_of};
+
+use crate::faulted::{Faulted, placed, placed_in_two};
+use crate::files::ReadFiles;
+use crate::hints::{Served, Told, is_bare, lacking, push_bare_line, push_told};
+use crate::request::ReachQuestion;
+use crate::texts::{FileText, read_named, read_text};
+use dp_answer::{Ask, Report, report_on};
+use dp_commands::{Files, PbxFault, read_files};
+use dp_conf::{WriteTold, split_args};
+use dp_plan::NoMemory;
+use std::alloc::Global;
+
+/// The bytes of a word that may not be given.
+fn bytes_of(word: Option<&str>) -> Option<&[u8]>
+    ensures { option_map (λ bytes. bytes.now) result ≡ option_map (λ word. word.now) word.entry }
+{
+    match word {
+        Some(word) => Some(word.as_bytes()),
+        None => None,
+    }
+}
+
+/// What is asked of the dialplan.
+fn ask_of<'a>(question: &ReachQuestion<'a>) -> Ask<'a>
+    ensures { ask_texts result ≡ (question_of question.now).ask }
+{
+    Ask {
+        context: question.context.as_bytes(),
+        target: bytes_of(question.target),
+        starts: bytes_of(question.starts),
+        exten: bytes_of(question.exten),
+        caller: bytes_of(question.caller),
+    }
+}
+
+/// Adds what is told of the names of contexts.
+fn push_names_told(
+    alloc: Global,
+    hint: &mut Vec<u8>,
+    told: Told<'_>,
+    names: &[&[u8]],
+) -> Result<(), NoMemory>
+    ensures { OnOk result (hint.new.items
+        ≡ hint.old.items ++ flat_map (spec.told_of_name told.entry.file.now told.entry.explains told.entry.plan.now) (map (λ name. name.now) names.now)) }
+{
+    for name in names {
+        push_told(alloc, hint, told, name)?;
+    }
+    Ok(())
+}
+
+/// Adds what is told of the target, where one is named.
+fn push_target_told(
+    alloc: Global,
+    hint: &mut Vec<u8>,
+    told: Told<'_>,
+    target: Option<&[u8]>,
+) -> Result<(), NoMemory>
+    ensures { OnOk result (hint.new.items ≡ hint.old.items
+        ++ flat_map (spec.told_of_name told.entry.file.now told.entry.explains told.entry.plan.now)
+        (target_names (option_map (λ name. name.now) target.entry))) }
+{
+    match target {
+        Some(target) => push_told(alloc, hint, told, target),
+        None => Ok(()),
+    }
+}
+
+/// Adds what is told of the contexts where other calls come in, where these are named.
+fn push_starts_told(
+    alloc: Global,
+    hint: &mut Vec<u8>,
+    told: Told<'_>,
+    starts: Option<&[u8]>,
+) -> Result<(), NoMemory>
+    ensures { OnOk result (hint.new.items ≡ hint.old.items
+        ++ flat_map (spec.told_of_name told.entry.file.now told.entry.explains told.entry.plan.now)
+        (option_map_or arguments_of (option_map (λ names. names.now) starts.entry) [])) }
+{
+    match starts {
+        Some(starts) => {
+            let names = split_args(alloc, starts)?;
+            push_names_told(alloc, hint, told, &names)
+        }
+        None => Ok(()),
+    }
+}
+
+/// What is told beside a report.
+fn hint_of(alloc: Global, ask: &Ask<'_>, told: Told<'_>) -> Result<Vec<u8>, NoMemory>
+    ensures { IfOk result (λ hint. hint.items
+        ≡ spec.hint_of told.entry.file.now (ask_texts ask.now) told.entry.explains told.entry.plan.now) }
+{
+    let mut hint = Vec::new(alloc);
+    if is_bare(told.plan) {
+        push_bare_line(&mut hint, told.file, lacking(told.plan))?;
+        return Ok(hint);
+    }
+    push_told(alloc, &mut hint, told, ask.context)?;
+    push_target_told(alloc, &mut hint, told, ask.target)?;
+    push_starts_told(alloc, &mut hint, told, ask.starts)?;
+    Ok(hint)
+}
+
+/// A report, and what is told beside it.
+#[derive(Drop)]
+struct HintedReport {
+    report: Report,
+    hint: Vec<u8>,
+}
+
+/// What is reported of a dialplan and queues, and what is told beside it.
+fn hinted_report(
+    alloc: Global,
+    question: &ReachQuestion<'_>,
+    explains: bool,
+    files: &Files,
+) -> Result<HintedReport, NoMemory>
+    ensures { IfOk result (λ answered. spec.IsAnswered (question_of question.now) explains (record { plan = files.now.plan; queues = files.now.queues })
+        answered.report.text.items answered.report.status answered.hint.items) }
+{
+    let ask = ask_of(question);
+    let report = report_on(alloc, &files.plan, &files.queues, &ask)?;
+    let told = Told {
+        file: question.file,
+        plan: &files.plan,
+        explains,
+    };
+    let hint = hint_of(alloc, &ask, told)?;
+    Ok(HintedReport { report, hint })
+}
+
+/// The texts of the files of a question: its dialplan, and its queues where a file of them is named.
+#[derive(Drop)]
+struct ReachTexts {
+    plan: Vec<u8>,
+    queues: Option<Vec<u8>>,
+}
+
+/// What these texts say, or their first fault.
+fn files_in(alloc: Global, texts: &ReachTexts) -> Result<Files, PbxFault>
+    ensures files { Answers (λ files. record { plan = files.plan; queues = files.queues }) reason_of result
+        (files_of texts.now.plan.items (option_map (λ text. text.items) texts.now.queues)) }
+    ensures quiet { is_write_failed result ≡ false }
+{
+    read_files(alloc, &texts.plan, texts.queues.as_deref())
+}
+
+/// Writes what is reported of the texts of a dialplan and of its queues.
+#[tactic(auto, using(crate::proofs::ReachesLemmas::reaches_fault, crate::proofs::ReachesLemmas::reaches_failed, crate::proofs::ReachesLemmas::reaches_written, crate::proofs::ServesLemmas::reaches_lacks))]
+fn reach_told<W: WriteTold>(
+    alloc: Global,
+    question: &ReachQuestion<'_>,
+    explains: bool,
+    texts: &ReachTexts,
+    output: &mut W,
+) -> Result<Served, PbxFault>
+    ensures reaches { spec.Reaches (question_of question.now) explains
+        (files_of texts.now.plan.items (option_map (λ text. text.items) texts.now.queues)) (W.contents output.old) (W.contents output.new) result }
+    ensures told { W.has_failed output.new ≡ (W.has_failed output.old || is_write_failed result) }
+{
+    let files = files_in(alloc, texts)?;
+    let answered = hinted_report(alloc, question, explains, &files)?;
+    output.write_told(&answered.report.text)?;
+    let HintedReport { report, hint } = answered;
+    Ok(Served {
+        status: report.status,
+        hint,
+    })
+}
+
+/// What was answered over the texts of the files of a question, with the place of its fault.
+fn placed_over<'a>(
+    question: &ReachQuestion<'a>,
+    texts: ReachTexts,
+    answered: Result<Served, PbxFault>,
+) -> Result<Served, Faulted<'a>>
+    ensures same { unplaced result ≡ answered }
+    ensures stands { StandsIn (spec.place_over (question_of question.now).file (question_of question.now).queues texts.plan.items
+        (option_map (λ text. text.items) texts.queues)) result }
+{
+    let ReachTexts { plan, queues } = texts;
+    let Some(path) = question.queues else {
+        return placed(question.file, &plan, answered);
+    };
+    let Some(queues) = queues else {
+        return placed(question.file, &plan, answered);
+    };
+    let plan = FileText {
+        path: question.file,
+        text: plan,
+    };
+    let queues = FileText { path, text: queues };
+    placed_in_two(&plan, &queues, answered)
+}
+
+/// Tells what a call may run that comes in at a context, over the files of a question.
+pub(crate) fn serve_reach<'a, F: ReadFiles, W: WriteTold>(
+    files: &F,
+    alloc: Global,
+    question: &ReachQuestion<'a>,
+    explains: bool,
+    output: &mut W,
+) -> Result<Served, Faulted<'a>>
+    ensures serves { ReachesFiles (F.source_at files.now) (question_of question.now) explains (W.contents output.old)
+        (W.contents output.new) result }
+    ensures told { W.has_failed output.new ≡ (W.has_failed output.old || is_write_failed (unplaced result)) }
+{
+    let plan = read_text(files, alloc, question.file)?;
+    let queues = read_named(files, alloc, question.queues)?;
+    let texts = ReachTexts { plan, queues };
+    let answered = reach_told(alloc, question, explains, &texts, output);
+    placed_over(question, texts, answered)
+}
