@@ -53,6 +53,13 @@ impl ContextOrder {
         &self.order
     }
 
+    /// The number of the context that it is of, if it is of one that the dialplan has.
+    pub fn context(&self) -> Option<usize>
+        ensures { result ≡ self.now.context }
+    {
+        self.context
+    }
+
     /// Whether it is that of the context of this name, which the dialplan has. No table of names is asked.
     #[inline(always)]
     pub fn is_of(&self, plan: &Dialplan, context: &Text) -> bool

@@ -3,7 +3,7 @@ ghost use Rattle.std.specs.Prelude.{◌≡◌, IfOk, IfSome, IsSome, Some};
 ghost use Rattle.dp_lookup.specs.SearchOrder.{search_order};
 ghost use Rattle.dp_plan.specs.Lookup.{entry_at};
 ghost use Rattle.dp_machine.specs.Found as spec;
-ghost use Rattle.dp_machine.specs.steps.Tables.{AreTables};
+ghost use Rattle.dp_machine.specs.steps.Tables.{AreTables, order_now};
 ghost use Rattle.dp_machine.specs.steps.Templates.{IsOf};
 
 use crate::orders::Orders;
@@ -39,11 +39,11 @@ impl Tables {
         })
     }
 
-    /// Makes the first order that of the context of this name. It takes no memory.
+    /// Makes the order that of the context of this name. It takes no memory.
     #[inline(always)]
     fn turn_to(&mut self, plan: &Dialplan, context: &Text)
         requires { AreTables plan.now self.old }
-        ensures contexts { self.new.orders.first.order.contexts ≡ search_order plan.now context.now }
+        ensures contexts { order_now self.new.orders ≡ search_order plan.now context.now }
         ensures tables { AreTables plan.now self.new }
     {
         self.orders.turn_to(plan, context);
@@ -102,8 +102,8 @@ impl Directory {
         ensures same { self.new ≡ self.old }
     {
         self.tables.turn_to(&self.plan, context);
-        let order = self.tables.orders.first.order();
-        self.tables.trie.find(order, exten, priority)
+        let order = self.tables.orders.order();
+        self.tables.trie.find_in(order, exten, priority)
     }
 
     /// Whether an entry answers for the extension of the context at the priority.
@@ -122,8 +122,8 @@ impl Directory {
         ensures same { self.new ≡ self.old }
     {
         self.tables.turn_to(&self.plan, context);
-        let order = self.tables.orders.first.order();
-        self.tables.trie.more(order, digits)
+        let order = self.tables.orders.order();
+        self.tables.trie.more_in(order, digits)
     }
 
     /// The priority that has the label, of the extension in the context.
@@ -133,8 +133,8 @@ impl Directory {
         ensures same { self.new ≡ self.old }
     {
         self.tables.turn_to(&self.plan, context);
-        let order = self.tables.orders.first.order();
-        self.tables.trie.find_label(order, exten, label)
+        let order = self.tables.orders.order();
+        self.tables.trie.find_label_in(order, exten, label)
     }
 
     /// The entry of these numbers, which stands in the dialplan.

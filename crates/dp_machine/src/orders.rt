@@ -1,43 +1,33 @@
-//! The search orders that look-ups remember.
-ghost use Rattle.std.specs.Prelude.{◌≡◌, ◌<◌, All, IfOk};
+//! The search orders of contexts.
+ghost use Rattle.std.specs.Prelude.{◌≡◌, ◌<◌, All, IfOk, Some, slice_get};
+ghost use Rattle.std.specs.Option.{option_map};
 ghost use Rattle.dp_lookup.specs.ContextOrders.{IsOrder};
 ghost use Rattle.dp_lookup.specs.SearchOrder.{search_order};
-ghost use Rattle.dp_plan.specs.Plan.{PlanOf};
-ghost use Rattle.dp_machine.specs.steps.Tables.{AreOrders};
+ghost use Rattle.dp_machine.specs.steps.Tables.{AreOrders, order_now};
 
 use dp_lookup::ContextOrder;
 use dp_plan::{Dialplan, NoMemory, Text};
 use std::alloc::Global;
-use std::mem;
+use std::slice;
 
-/// The search orders of the contexts that were asked last, so that channels that step in turn in a few contexts fill none anew.
+/// The search orders of contexts. A context that includes nothing is its own order. Of the others those that were asked last are kept,
+/// so that channels that step in turn in a few contexts fill none anew.
 #[derive(Drop)]
 pub(crate) struct Orders {
-    /// That of the context that was asked last.
-    pub(crate) first: ContextOrder,
-    others: [ContextOrder; 3],
-    // Which of the others gives its place to an order that is not among them.
-    turn: u8,
+    // The number of the context that was asked last, where the dialplan has it.
+    asked: Option<usize>,
+    // Which of the kept orders is its own, where it includes others.
+    place: Option<usize>,
+    kept: [ContextOrder; 4],
+    // Which of them gave its place to another last.
+    turn: usize,
 }
 
-/// The number after a number of one of the others, of which the first is after the last.
-fn next_turn(turn: u8) -> u8
-    ensures { result < 3 }
+/// The place after a place of the kept orders, of which the first is after the last.
+fn next_place(place: usize) -> usize
+    ensures { result < 4 }
 {
-    match turn {
-        0 => 1,
-        1 => 2,
-        _ => 0,
-    }
-}
-
-/// Exchanges an order and the other at this place.
-fn exchange_order(first: &mut ContextOrder, others: &mut [ContextOrder; 3], place: usize)
-    requires { place < 3 }
-    ensures { (plan : PlanOf) → IsOrder plan first.old × All (IsOrder plan) others.old
-        → IsOrder plan first.new × All (IsOrder plan) others.new }
-{
-    mem::swap(first, &mut others[place]);
+    if place < 3 { place + 1 } else { 0 }
 }
 
 impl Orders {
@@ -45,48 +35,99 @@ impl Orders {
     pub(crate) fn room(alloc: Global, plan: &Dialplan) -> Result<Self, NoMemory>
         ensures { IfOk result (λ orders. AreOrders plan.now orders) }
     {
-        let first = ContextOrder::room(alloc, plan)?;
-        let others = [
+        let kept = [
+            ContextOrder::room(alloc, plan)?,
             ContextOrder::room(alloc, plan)?,
             ContextOrder::room(alloc, plan)?,
             ContextOrder::room(alloc, plan)?,
         ];
         Ok(Orders {
-            first,
-            others,
+            asked: None,
+            place: None,
+            kept,
             turn: 0,
         })
     }
 
-    /// Which of the others is that of the context of this name, or may be replaced: these in turn.
-    fn choose(&mut self, plan: &Dialplan, context: &Text) -> usize
-        ensures within { result < 3 }
+    /// The order of the context that was asked last.
+    #[inline(always)]
+    pub(crate) fn order(&self) -> &[usize]
+        ensures { result.now ≡ order_now self.now }
+    {
+        match (self.place, &self.asked) {
+            (Some(place), _) => match self.kept.get(place) {
+                Some(order) => order.order().contexts(),
+                None => &[],
+            },
+            (None, Some(number)) => slice::from_ref(number),
+            (None, None) => &[],
+        }
+    }
+
+    /// Which of the kept orders is that of the context of this number, or else may be replaced: these in turn, but not the one that was
+    /// asked last.
+    fn choose(&mut self, number: usize) -> usize
+        ensures within { result < 4 }
         ensures same { self.new ≡ record self.old { turn = self.new.turn } }
     {
         match self
-            .others
+            .kept
             .iter()
-            .position(|order| order.is_of(plan, context))
+            .position(|order| order.context() == Some(number))
         {
             Some(place) => place,
             None => {
-                self.turn = next_turn(self.turn);
-                usize::from(self.turn)
+                self.turn = next_place(self.turn);
+                if self.place == Some(self.turn) {
+                    self.turn = next_place(self.turn);
+                }
+                self.turn
             }
         }
     }
 
-    /// Makes the first order that of the context of this name. It takes no memory.
+    /// Makes one of the kept orders that of the context of this name and number, and says which.
+    fn keep(&mut self, plan: &Dialplan, context: &Text, number: usize) -> usize
+        requires { All (IsOrder plan.now) self.old.kept }
+        ensures asked { self.new.asked ≡ self.old.asked }
+        ensures order { option_map (λ held. held.order.contexts) (slice_get self.new.kept result)
+            ≡ Some (search_order plan.now context.now) }
+        ensures kept { All (IsOrder plan.now) self.new.kept }
+    {
+        let place = self.choose(number);
+        self.kept[place].turn_to(plan, context);
+        place
+    }
+
+    /// The same for a context that is not the one that was asked last.
+    fn turn_to_other(&mut self, plan: &Dialplan, context: &Text)
+        requires { AreOrders plan.now self.old }
+        ensures contexts { order_now self.new ≡ search_order plan.now context.now }
+        ensures orders { AreOrders plan.now self.new }
+    {
+        self.asked = plan.number_of(context);
+        let Some(number) = self.asked else {
+            self.place = None;
+            return;
+        };
+        if plan.includes_at(number).is_empty() {
+            self.place = None;
+            return;
+        }
+        self.place = Some(self.keep(plan, context, number));
+    }
+
+    /// Makes the order that of the context of this name. For the context that was asked last no table of names is asked. It takes no
+    /// memory.
     #[inline(always)]
     pub(crate) fn turn_to(&mut self, plan: &Dialplan, context: &Text)
         requires { AreOrders plan.now self.old }
-        ensures contexts { self.new.first.order.contexts ≡ search_order plan.now context.now }
+        ensures contexts { order_now self.new ≡ search_order plan.now context.now }
         ensures orders { AreOrders plan.now self.new }
     {
-        if !self.first.is_of(plan, context) {
-            let place = self.choose(plan, context);
-            exchange_order(&mut self.first, &mut self.others, place);
+        match self.asked {
+            Some(number) if plan.has_number(context, number) => {}
+            _ => self.turn_to_other(plan, context),
         }
-        self.first.turn_to(plan, context);
     }
 }

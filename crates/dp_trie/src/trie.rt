@@ -87,17 +87,17 @@ fn find_first(tables: &[Table], order: &[usize], question: Question, digits: &Di
 }
 
 /// The same by the text.
-fn look_up(tables: &[Table], order: &SearchOrder, question: Question, text: &[u8]) -> Counted
+fn look_up(tables: &[Table], order: &[usize], question: Question, text: &[u8]) -> Counted
     ensures hit { result.hit ≡ option_map hit_of
-        (found_first tables.now (asked (is_more question) (wants question) (undashed text.now)) order.now.contexts) }
+        (found_first tables.now (asked (is_more question) (wants question) (undashed text.now)) order.now) }
     ensures count { result.count ≡ min (entered_first tables.now (is_more question) (wants question)
-        (undashed text.now) order.now.contexts) (2 ^ 64 - 1) }
-    ensures most { result.count ≤ sum_by (nodes_at tables.now) order.now.contexts }
+        (undashed text.now) order.now) (2 ^ 64 - 1) }
+    ensures most { result.count ≤ sum_by (nodes_at tables.now) order.now }
     ensures least { MatchOption
-        (found_first tables.now (asked (is_more question) (wants question) (undashed text.now)) order.now.contexts)
+        (found_first tables.now (asked (is_more question) (wants question) (undashed text.now)) order.now)
         (Unit {0}) (λ known. class_count known.name ≤ result.count) }
 {
-    find_first(tables, order.contexts(), question, &Digits::of(text))
+    find_first(tables, order, question, &Digits::of(text))
 }
 
 /// The priority of the first entry of the context of a number that matches and has the label; none where there is no such
@@ -128,11 +128,11 @@ fn first_label(tables: &[Table], order: &[usize], label: &[u8], digits: &Digits<
 }
 
 /// The same by the text.
-fn look_up_label(tables: &[Table], order: &SearchOrder, label: &[u8], text: &[u8]) -> Option<u32>
+fn look_up_label(tables: &[Table], order: &[usize], label: &[u8], text: &[u8]) -> Option<u32>
     ensures { result ≡ option_map (λ known. known.priority)
-        (found_first tables.now (asked false (has_label label.now) (undashed text.now)) order.now.contexts) }
+        (found_first tables.now (asked false (has_label label.now) (undashed text.now)) order.now) }
 {
-    first_label(tables, order.contexts(), label, &Digits::of(text))
+    first_label(tables, order, label, &Digits::of(text))
 }
 
 impl Trie {
@@ -161,6 +161,19 @@ impl Trie {
         }
     }
 
+    /// What `find_counted` gives, in the contexts of these numbers.
+    fn counted_in(&self, contexts: &[usize], text: &[u8], priority: u32) -> (Option<EntryId>, usize)
+        ensures found { (plan : PlanOf) → Keeps plan self.now
+            → result.0 ≡ found_entry plan contexts.now text.now priority }
+        ensures count { result.1 ≡ min (entered_first self.now false (wants (Priority priority)) (undashed text.now)
+            contexts.now) (2 ^ 64 - 1) }
+        ensures most { result.1 ≤ sum_by (nodes_at self.now) contexts.now }
+        ensures least { (plan : PlanOf) → Keeps plan self.now → FindsPattern plan result.0 result.1 }
+    {
+        let found = look_up(&self.tables, contexts, Question::Priority(priority), text);
+        (found.hit, found.count)
+    }
+
     /// The entry of the order's contexts that matches the dialled text and has the priority, as `dp_lookup::find` gives
     /// it, and how many nodes were entered. Each entry into a node raises that count by one, in each of the contexts up to
     /// the one that answers. The count stays at 18,446,744,073,709,551,615 where it would be more. It takes no memory.
@@ -177,8 +190,7 @@ impl Trie {
         ensures most { result.1 ≤ sum_by (nodes_at self.now) order.now.contexts }
         ensures least { (plan : PlanOf) → Keeps plan self.now → FindsPattern plan result.0 result.1 }
     {
-        let found = look_up(&self.tables, order, Question::Priority(priority), text);
-        (found.hit, found.count)
+        self.counted_in(order.contexts(), text, priority)
     }
 
     /// The entry of the order's contexts that matches the dialled text and has the priority, as `dp_lookup::find` gives
@@ -187,7 +199,14 @@ impl Trie {
         ensures { (plan : PlanOf) → Keeps plan self.now
             → result ≡ found_entry plan order.now.contexts text.now priority }
     {
-        let (found, _count) = self.find_counted(order, text, priority);
+        self.find_in(order.contexts(), text, priority)
+    }
+
+    /// The same in the contexts of these numbers.
+    pub fn find_in(&self, contexts: &[usize], text: &[u8], priority: u32) -> Option<EntryId>
+        ensures { (plan : PlanOf) → Keeps plan self.now → result ≡ found_entry plan contexts.now text.now priority }
+    {
+        let (found, _count) = self.counted_in(contexts, text, priority);
         found
     }
 
@@ -197,7 +216,14 @@ impl Trie {
         ensures { (plan : PlanOf) → Keeps plan self.now
             → result ≡ found_label plan order.now.contexts text.now label.now }
     {
-        look_up_label(&self.tables, order, label, text)
+        self.find_label_in(order.contexts(), text, label)
+    }
+
+    /// The same in the contexts of these numbers.
+    pub fn find_label_in(&self, contexts: &[usize], text: &[u8], label: &[u8]) -> Option<u32>
+        ensures { (plan : PlanOf) → Keeps plan self.now → result ≡ found_label plan contexts.now text.now label.now }
+    {
+        look_up_label(&self.tables, contexts, label, text)
     }
 
     /// Whether some ending of one or more bytes other than `-` makes the dialled text match an entry of priority 1 whose
@@ -205,7 +231,14 @@ impl Trie {
     pub fn more(&self, order: &SearchOrder, text: &[u8]) -> bool
         ensures { (plan : PlanOf) → Keeps plan self.now → result ≡ goes_on_more plan order.now.contexts text.now }
     {
-        let found = look_up(&self.tables, order, Question::More, text);
+        self.more_in(order.contexts(), text)
+    }
+
+    /// The same in the contexts of these numbers.
+    pub fn more_in(&self, contexts: &[usize], text: &[u8]) -> bool
+        ensures { (plan : PlanOf) → Keeps plan self.now → result ≡ goes_on_more plan contexts.now text.now }
+    {
+        let found = look_up(&self.tables, contexts, Question::More, text);
         found.hit.is_some()
     }
 }

@@ -6,13 +6,13 @@ use Rattle.dp_pattern.specs.Dashes.{undashed}
 use Rattle.dp_trie.specs.Asked.{asked, has_label}
 use Rattle.dp_trie.specs.Known.{Known, KeptContext, found_first}
 use Rattle.dp_trie.proofs.KeepLemmas.{found-first, found-priority}
-use Rattle.dp_trie.proofs.trie.Trie.find_label.Goals as goal
+use Rattle.dp_trie.proofs.trie.Trie.find_label_in.Goals as goal
 
 pub returns : goal.returns
 unfolding found_label
 returns c = λ plan keeps.
     let test = asked false (has_label c.args.label.now) (undashed c.args.text.now) in
-    let order = c.args.order.now.contexts in
+    let order = c.args.contexts.now in
     c.look_up_label.ensures
     ∙ (ap (λ (kept : List KeptContext). option_map (λ (k : Known). k.priority) (found_first kept test order)) (c.deref.ensures.value ∙ c.self.view_is)
     ∙ (sym (found-priority plan c.args.self.now keeps test order)
