@@ -120,8 +120,9 @@ pub record ReportOf : Type 0 where
   pub text : List ℕ
   pub status : ℕ
 
--- a report is right: it begins with what is assumed, in each run of the dialplan with queues of these settings, in which calls come in as it is asked and no other
--- dialplan is loaded, a call that comes in at the context runs none but the entries that are answered, and it is told of these
+-- a report is right: it begins with what is assumed; in each run of the dialplan with queues of these settings, in which calls come in as
+-- it is asked and no other dialplan is loaded, a call that comes in at the context runs none but the entries that are answered; and it
+-- tells of these
 pub record IsRight (plan : PlanOf) (settings : List Settings) (ask : AskOf) (report : ReportOf) : Type 0 where
   pub marks : Option (List (Vec Bool))
   pub runs : RunsOnly standard_rows (outside_of plan ask) ask.context plan settings (answers_in marks)

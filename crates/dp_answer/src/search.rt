@@ -6,9 +6,11 @@ ghost use Rattle.dp_pieces.specs.Shown.{shown_all};
 use crate::names::{TELEPHONE_DIGITS, set_in};
 use crate::orders::Orders;
 use crate::route::{Cause, Route};
-use dp_closed::{Area, Duty, Marks, Reach, found_shape, owed};
+use dp_closed::{Area, Duty, Marks, Meeting, Reach, owed};
 use dp_conf::NoMemory;
-use dp_pieces::{ByteSet, NameTable, NamesAt, Piece, add_pieces, bytes_of, may_fit, read_pieces};
+use dp_pieces::{
+    ByteSet, NameTable, NamesAt, Piece, add_pieces, bytes_of, known_text, may_fit, read_pieces,
+};
 use dp_plan::{Dialplan, Entry, EntryId, Text};
 use dp_vars::has_opening;
 use std::alloc::Global;
@@ -81,18 +83,6 @@ fn no_shapes(alloc: Global, plan: &Dialplan) -> Result<Reach, NoMemory> {
         shapes.push(Vec::new(alloc))?;
     }
     Ok(Reach { shapes })
-}
-
-/// The text of pieces that are all known.
-fn text_of(alloc: Global, pieces: &[Piece]) -> Result<Option<Text>, NoMemory> {
-    let mut bytes = Vec::new(alloc);
-    for piece in pieces {
-        let Some(byte) = piece.byte() else {
-            return Ok(None);
-        };
-        bytes.push(byte)?;
-    }
-    Ok(Some(Text::new(bytes)))
 }
 
 impl<'a> Search<'a> {
@@ -228,8 +218,8 @@ impl<'a> Search<'a> {
         exten: &[Piece],
         cause: Cause,
     ) -> Result<(), NoMemory> {
-        match text_of(alloc, context)? {
-            Some(name) => match self.plan.number_of(&name) {
+        match known_text(alloc, context)? {
+            Some(name) => match self.plan.number_of(&Text::new(name)) {
                 Some(number) => self.lead_to(alloc, number, exten, cause),
                 None => Ok(()),
             },
@@ -337,62 +327,52 @@ impl<'a> Search<'a> {
         }
     }
 
-    /// Goes through an entry of an area. In a later round one whose arguments have no group owes nothing new.
+    /// Goes through an entry that is found at places of an area.
     fn take_entry(
         &mut self,
         alloc: Global,
-        seen: &Seen,
-        entries: &[Entry],
+        route: usize,
         id: EntryId,
-        exten: &[Piece],
+        entry: &Entry,
+        met: &Area,
     ) -> Result<(), NoMemory> {
-        let Some(entry) = entries.get(id.entry) else {
-            return Ok(());
-        };
-        if seen.is_again && !has_opening(entry.arguments.bytes()) {
-            return Ok(());
-        }
-        let Some(met) = found_shape(alloc, entries, entry, exten)? else {
-            return Ok(());
-        };
-        self.note(seen.route, id);
-        let area = Area {
-            context: copy_of(alloc, &seen.name)?,
-            exten: met,
-        };
-        let duties = self.owed(alloc, entry, &area)?;
-        self.meet_all(alloc, &duties, Cause::Jump(seen.route, id))
+        self.note(route, id);
+        let duties = self.owed(alloc, entry, met)?;
+        self.meet_all(alloc, &duties, Cause::Jump(route, id))
     }
 
-    /// Goes through the entries of a context that is searched from an area.
-    fn take_context(
-        &mut self,
-        alloc: Global,
-        seen: &Seen,
-        number: usize,
-        exten: &[Piece],
-    ) -> Result<(), NoMemory> {
+    /// Goes through the entries of a context that is searched from an area. In a later round those whose arguments have no group owe
+    /// nothing new.
+    fn take_context(&mut self, alloc: Global, seen: &Seen, number: usize) -> Result<(), NoMemory> {
         let plan = self.plan;
         let Some(context) = plan.contexts().get(number) else {
             return Ok(());
         };
         let entries = context.entries();
-        for entry in 0..entries.len() {
-            let id = EntryId {
-                context: number,
-                entry,
-            };
-            self.take_entry(alloc, seen, entries, id, exten)?;
+        let mut before = None;
+        for (place, entry) in entries.iter().enumerate() {
+            if seen.is_again && !has_opening(entry.arguments.bytes()) {
+                continue;
+            }
+            let meeting = Meeting::after(alloc, &seen.area, entry.name.name(), before)?;
+            if let Some(met) = meeting.found(entries, entry) {
+                let id = EntryId {
+                    context: number,
+                    entry: place,
+                };
+                self.take_entry(alloc, seen.route, id, entry, met)?;
+            }
+            before = Some(meeting);
         }
         Ok(())
     }
 
     /// Goes through what a call may do in an area besides the entries.
-    fn take_area(&mut self, alloc: Global, seen: &Seen, exten: &[Piece]) -> Result<(), NoMemory> {
-        let set = bytes_of(exten);
+    fn take_area(&mut self, alloc: Global, seen: &Seen) -> Result<(), NoMemory> {
+        let set = bytes_of(&seen.area.exten);
         self.hold(alloc, b"INVALID_EXTEN", &set)?;
         self.hold_anywhere(&set);
-        self.hold_anywhere(&bytes_of(&seen.name));
+        self.hold_anywhere(&bytes_of(&seen.area.context));
         self.lead_to(
             alloc,
             seen.context,
@@ -424,16 +404,20 @@ impl<'a> Search<'a> {
         let Some(context) = plan.contexts().get(number) else {
             return Ok(());
         };
+        let area = Area {
+            context: pieces_in(alloc, context.name().bytes())?,
+            exten,
+        };
         let seen = Seen {
             route,
             context: number,
-            name: pieces_in(alloc, context.name().bytes())?,
+            area,
             is_again,
         };
-        self.take_area(alloc, &seen, &exten)?;
+        self.take_area(alloc, &seen)?;
         order.fill(context.name());
         for searched in order.contexts() {
-            self.take_context(alloc, &seen, *searched, &exten)?;
+            self.take_context(alloc, &seen, *searched)?;
         }
         Ok(())
     }
@@ -488,11 +472,11 @@ impl<'a> Search<'a> {
     }
 }
 
-/// The area that is gone through: its route, its context, and whether it was gone through before.
+/// The area that is gone through: its route, the number of its context, and whether it was gone through before.
 #[derive(Drop)]
 struct Seen {
     route: usize,
     context: usize,
-    name: Vec<Piece>,
+    area: Area,
     is_again: bool,
 }

@@ -2,7 +2,7 @@
 use Rattle.std.proofs.Common.{◌≡◌, ℕ, suc, ◌<◌, ◌≤◌, ◌+◌, ◌==◌, ◌⊎◌, inl, inr, Bool, true, false, List, [], ◌∷◌, ◌++◌, drop, get_or, length, map, Option, Some, None, slice_get, refl, sym, ap, ◌∙◌, subst, arith}
 use Rattle.std.proofs.lemmas.Bool.{cases_lt}
 use Rattle.std.proofs.lemmas.List.{drop_all, drop_more}
-use Rattle.std.proofs.lemmas.Option.{slice_get_past}
+use Rattle.std.proofs.lemmas.Option.{slice_get_past, slice_get_read}
 use Rattle.std.specs.Global.{Vec}
 use Rattle.std.specs.List.{AllByRecursion}
 use Rattle.std.specs.Option.{option_and_then, option_map, option_map_or}
@@ -67,6 +67,17 @@ past-entries plan number entry = by (slice_get plan.contexts number)
     by : (o : Option PlanContext) → length (option_map_or (λ (c : PlanContext). c.entries) o []) ≤ entry → option_and_then (λ (c : PlanContext). slice_get c.entries entry) o ≡ None
     by None past = refl
     by (Some c) past = slice_get_past c.entries entry past
+
+-- an entry of a context of the dialplan, by its number
+pub there-in : (plan : PlanOf) (number place : ℕ) (entry : Entry) (entries : List Entry) → entries ≡ entries_in plan number → place < length entries
+    → entry ≡ get_or entries place entry → entry_at plan (record { context = number; entry = place }) ≡ Some entry
+there-in plan number place entry entries are within here =
+    by (slice_get plan.contexts number) (subst (λ (es : List Entry). slice_get es place ≡ Some entry) are (slice_get_read entries (length entries) place entry refl within here))
+  where
+    by : (o : Option PlanContext) → slice_get (option_map_or (λ (c : PlanContext). c.entries) o []) place ≡ Some entry
+        → option_and_then (λ (c : PlanContext). slice_get c.entries place) o ≡ Some entry
+    by None is = is
+    by (Some c) is = is
 
 -- each entry of the context of a number is closed
 abbrev pub AreEntriesIn : Claim → (EntryId → Bool) → Area → ℕ → Type 0

@@ -8,7 +8,7 @@ use Rattle.dp_plan.specs.Contexts.{PlanContext}
 use Rattle.dp_plan.specs.Lookup.{entry_at}
 use Rattle.dp_plan.specs.Plan.{PlanOf}
 use Rattle.dp_plan.specs.declared.entry.Entry.{Entry}
-use Rattle.dp_closed.specs.Found.{Hides, IsUnfound}
+use Rattle.dp_closed.specs.Found.{Hides, IsUnfound, IsUnmatched}
 
 -- an entry of a context, by its number
 there-at : (plan : PlanOf) (context k : ℕ) (entries : List Entry) (other : Entry) → option_map (λ (c : PlanContext). c.entries) (slice_get plan.contexts context) ≡ Some entries
@@ -30,3 +30,7 @@ hidden-unfound entries entry other k exten met is here hides plan context id at 
   less = hides.less;
   covers = λ text fits matching. hides.covers text (subst (λ ps. Fits ps text) (sym is) (fits-matched exten entry.name text fits matching));
 })
+
+-- an entry whose name no extension matches is not found
+pub unmatched-unfound : (entries : List Entry) (entry : Entry) (exten : List Piece) → IsUnmatched exten entry.name → IsUnfound entries entry exten
+unmatched-unfound entries entry exten none plan context id at may = none may.exten may.exten_fits may.matching

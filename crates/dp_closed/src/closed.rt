@@ -1,24 +1,27 @@
 //! Whether a claim is closed.
-ghost use Rattle.std.specs.Prelude.{◌≡◌, ◌≤◌, ℕ, List, [], ◌∷◌, IfOk, IsTrue, option_map, slice_get, true};
+ghost use Rattle.std.specs.Prelude.{◌≡◌, ◌≤◌, ℕ, List, [], ◌∷◌, IfOk, IsTrue, Some, option_map, slice_get, true};
 ghost use Rattle.std.specs.List.{AllByRecursion};
 ghost use Rattle.std.specs.Option.{option_map_or};
 ghost use Rattle.dp_closed.specs.Answers.{answers_in};
 ghost use Rattle.dp_closed.specs.Claimed.{AreWays, claimed};
+ghost use Rattle.dp_closed.specs.Found.{IsMeeting};
 ghost use Rattle.dp_closed.specs.Reach.{areas_in, shapes_at};
 ghost use Rattle.dp_closed.specs.Shown.{shown_area};
 ghost use Rattle.dp_closed.specs.Steps.{AreShapesClosed, Closes, IsEntryIn, answers_of};
 ghost use Rattle.dp_lookup.specs.SearchOrder.{context_count, has, search_order};
 ghost use Rattle.dp_pieces.specs.Pieces.{Known, exactly};
 ghost use Rattle.dp_pieces.specs.Shown.{shown_all};
+ghost use Rattle.dp_plan.specs.Lookup.{entry_at};
 ghost use Rattle.dp_plan.specs.declared.entry.EntryId.{EntryId};
 ghost use Rattle.dp_queue.specs.declared.settings.Settings.{Settings};
+ghost use Rattle.dp_reach.specs.Areas as areas;
 ghost use Rattle.dp_reach.specs.Areas.{Includes, area_at};
 ghost use Rattle.dp_reach.specs.Closed.{IsAreaClosed, IsClosed, IsEntry};
 ghost use Rattle.dp_reach.specs.Standard.{standard_duties};
 
 use crate::area::Area;
 use crate::claim::Claim;
-use crate::finding::found_shape;
+use crate::finding::Meeting;
 use crate::marks::Marks;
 use crate::rows::owed;
 use dp_conf::{NoMemory, Text};
@@ -63,18 +66,6 @@ fn area_in(alloc: Global, name: &[u8], shape: &[Piece]) -> Result<Area, NoMemory
     let mut exten = Vec::new(alloc);
     exten.extend_from_slice(shape)?;
     Ok(Area { context, exten })
-}
-
-/// The area of a context and an extension of a shape.
-fn area_beside(alloc: Global, context: &[Piece], exten: Vec<Piece>) -> Result<Area, NoMemory>
-    ensures { IfOk result (λ area. shown_area area ≡ area_at (shown_all context.now) (shown_all exten.items)) }
-{
-    let mut kept = Vec::new(alloc);
-    kept.extend_from_slice(context)?;
-    Ok(Area {
-        context: kept,
-        exten,
-    })
 }
 
 impl Claim<'_> {
@@ -145,20 +136,23 @@ impl Checker<'_> {
         self.claim.meets_all(alloc, &owed)
     }
 
-    /// Whether an entry is seen to be closed, where it may be found from the area.
-    fn has_entry(self, alloc: Global, area: &Area, id: EntryId) -> Result<bool, NoMemory>
-        ensures { IfOk result (λ yes. IsTrue yes → Closes self.entry (λ claim answers. IsEntryIn claim answers (shown_area area.now) id)) }
+    /// Whether an entry is seen to be closed, where it may be found from the area that met its name.
+    fn has_entry(
+        self,
+        alloc: Global,
+        meeting: &Meeting<'_>,
+        id: EntryId,
+        entry: &Entry,
+    ) -> Result<bool, NoMemory>
+        ensures { IfOk result (λ yes. IsTrue yes → entry_at self.entry.claim.plan.now id ≡ Some entry.now
+            → (area : areas.Area) → IsMeeting area meeting.now → entry.now.name ≡ meeting.now.name.now
+            → Closes self.entry (λ claim answers. IsEntryIn claim answers area id)) }
     {
-        let Some(entry) = self.claim.plan.entry(id) else {
-            return Ok(true);
-        };
         let entries = entries_at(self.claim.plan, id.context);
-        let found = found_shape(alloc, entries, entry, &area.exten)?;
-        let Some(exten) = found else {
+        let Some(met) = meeting.found(entries, entry) else {
             return Ok(true);
         };
-        let met = area_beside(alloc, &area.context, exten)?;
-        self.has_met(alloc, &met, id, entry)
+        self.has_met(alloc, met, id, entry)
     }
 
     /// The same of each entry of the context of a number.
@@ -166,15 +160,18 @@ impl Checker<'_> {
         ensures { IfOk result (λ yes. IsTrue yes → Closes self.entry (λ claim answers. (entry : ℕ)
             → IsEntryIn claim answers (shown_area area.now) (record { context = number; entry = entry }))) }
     {
-        let count = entries_at(self.claim.plan, number).len();
-        for entry in 0..count {
+        let entries = entries_at(self.claim.plan, number);
+        let mut before = None;
+        for (place, entry) in entries.iter().enumerate() {
+            let meeting = Meeting::after(alloc, area, entry.name.name(), before)?;
             let id = EntryId {
                 context: number,
-                entry,
+                entry: place,
             };
-            if !self.has_entry(alloc, area, id)? {
+            if !self.has_entry(alloc, &meeting, id, entry)? {
                 return Ok(false);
             }
+            before = Some(meeting);
         }
         Ok(true)
     }

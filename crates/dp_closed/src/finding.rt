@@ -1,12 +1,15 @@
 //! Which entries may be found from the places of an area.
-ghost use Rattle.std.specs.Prelude.{◌≡◌, ℕ, List, IfOk, IsTrue, MatchOption, Some, slice_get};
-ghost use Rattle.dp_closed.specs.Found.{Hides, IsUnfound};
+ghost use Rattle.std.specs.Prelude.{◌≡◌, ℕ, List, IfOk, IfSome, IsTrue, MatchOption, Some, slice_get};
+ghost use Rattle.dp_closed.specs.Found.{Hides, IsMeeting, IsUnfound, IsUnmatched};
+ghost use Rattle.dp_closed.specs.Shown.{shown_area};
 ghost use Rattle.dp_pieces.specs.Met.{matched};
 ghost use Rattle.dp_pieces.specs.Shown.{shown_all};
 ghost use Rattle.dp_plan.specs.declared.entry.Entry.{Entry};
+ghost use Rattle.dp_reach.specs.Areas as areas;
 
+use crate::area::Area;
 use dp_conf::NoMemory;
-use dp_pattern::compare;
+use dp_pattern::{Name, Parts, compare, same};
 use dp_pieces::{Piece, covers, matched, may_match};
 use dp_plan::Entry;
 use std::alloc::Global;
@@ -21,16 +24,32 @@ fn hides(other: &Entry, entry: &Entry, met: &[Piece]) -> bool
         && covers(met, other.name.name())
 }
 
-/// Whether one of these entries hides the entry.
+/// Whether one of these entries is seen to hide the entry.
 fn is_hidden(entries: &[Entry], entry: &Entry, met: &[Piece]) -> bool
     ensures { IsTrue result → (k : ℕ) × (other : Entry) × (slice_get entries.now k ≡ Some other) × Hides (shown_all met.now) entry.now other }
 {
+    // What matches a plain name matches no better one.
+    if let Parts::Plain(_) = entry.name.name().parts() {
+        return false;
+    }
     for other in entries {
         if hides(other, entry, met) {
             return true;
         }
     }
     false
+}
+
+/// What is known of the extensions of a shape that match a name, or None where none does.
+fn met_shape(alloc: Global, exten: &[Piece], name: &Name) -> Result<Option<Vec<Piece>>, NoMemory>
+    ensures { IfOk result (λ found. MatchOption found (IsUnmatched (shown_all exten.now) name.now)
+        (λ met. shown_all met.items ≡ matched (shown_all exten.now) name.now)) }
+{
+    if !may_match(exten, name) {
+        return Ok(None);
+    }
+    let met = matched(alloc, exten, name)?;
+    Ok(Some(met))
 }
 
 /// What is known of the extensions of a shape by which an entry is found in a context of these entries, or None where none is: no
@@ -44,12 +63,82 @@ pub fn found_shape(
     ensures { IfOk result (λ found. MatchOption found (IsUnfound entries.now entry.now (shown_all exten.now))
         (λ met. shown_all met.items ≡ matched (shown_all exten.now) entry.now.name)) }
 {
-    if !may_match(exten, entry.name.name()) {
+    let matching = met_shape(alloc, exten, entry.name.name())?;
+    let Some(met) = matching else {
         return Ok(None);
-    }
-    let met = matched(alloc, exten, entry.name.name())?;
+    };
     if is_hidden(entries, entry, &met) {
         return Ok(None);
     }
     Ok(Some(met))
+}
+
+/// The area of a context and an extension of a shape.
+fn area_beside(alloc: Global, context: &[Piece], exten: Vec<Piece>) -> Result<Area, NoMemory>
+    ensures { IfOk result (λ area. shown_area area ≡ areas.area_at (shown_all context.now) (shown_all exten.items)) }
+{
+    let mut kept = Vec::new(alloc);
+    kept.extend_from_slice(context)?;
+    Ok(Area {
+        context: kept,
+        exten,
+    })
+}
+
+/// The name of an extension met with an area: what is known of the places of the area whose extensions match the name, or None where
+/// none does.
+#[derive(Drop)]
+pub struct Meeting<'a> {
+    name: &'a Name,
+    met: Option<Area>,
+}
+
+impl<'a> Meeting<'a> {
+    /// The meeting of an area with a name.
+    fn new(alloc: Global, area: &Area, name: &'a Name) -> Result<Self, NoMemory>
+        ensures { IfOk result (λ meeting. IsMeeting (shown_area area.now) meeting × (meeting.name.now ≡ name.now)) }
+    {
+        let matching = met_shape(alloc, &area.exten, name)?;
+        let Some(exten) = matching else {
+            return Ok(Meeting { name, met: None });
+        };
+        let met = area_beside(alloc, &area.context, exten)?;
+        Ok(Meeting {
+            name,
+            met: Some(met),
+        })
+    }
+
+    /// The meeting of an area with a name, which is the one before it where that is of the same name: the entries of an extension mostly
+    /// stand below one another. It fails only for want of memory.
+    pub fn after(
+        alloc: Global,
+        area: &Area,
+        name: &'a Name,
+        before: Option<Meeting<'a>>,
+    ) -> Result<Self, NoMemory>
+        ensures { IfOk result (λ meeting. IfSome before.entry (IsMeeting (shown_area area.now))
+            → IsMeeting (shown_area area.now) meeting × (meeting.name.now ≡ name.now)) }
+    {
+        if let Some(meeting) = before {
+            if same(meeting.name, name) {
+                return Ok(meeting);
+            }
+        }
+        Meeting::new(alloc, area, name)
+    }
+
+    /// The places of the area at which an entry of the name is found in a context of these entries, or None where it is found at none.
+    pub fn found(&self, entries: &[Entry], entry: &Entry) -> Option<&Area>
+        ensures { (area : areas.Area) → IsMeeting area self.now → entry.now.name ≡ self.now.name.now
+            → MatchOption result (IsUnfound entries.now entry.now area.exten) (λ met. shown_area met.now ≡ areas.area_matched area entry.now.name) }
+    {
+        let Some(met) = &self.met else {
+            return None;
+        };
+        if is_hidden(entries, entry, &met.exten) {
+            return None;
+        }
+        Some(met)
+    }
 }

@@ -82,8 +82,9 @@ pub fn read_pieces<N: NamedPieces>(
 ) -> Result<Vec<Piece>, NoMemory>
     ensures { IfOk result (λ pieces. shown_all pieces.items ≡ text_pieces (N.names names.now) text.now) }
 {
+    let pieces = Vec::with_capacity(alloc, text.len())?;
     let mut reading = Reading {
-        pieces: Vec::new(alloc),
+        pieces,
         waiting: Vec::new(alloc),
     };
     let mut rest = text;

@@ -154,7 +154,7 @@ fn trimmed_end(alloc: Global, pieces: &[Piece]) -> Result<Vec<Piece>, NoMemory>
     ensures { IfOk result (λ kept. shown_all kept.items ≡ trims.trimmed_end (shown_all pieces.now)) }
 {
     let left = skip_last(pieces);
-    let mut kept = Vec::new(alloc);
+    let mut kept = Vec::with_capacity(alloc, left.len())?;
     for piece in left {
         kept.push(soften(*piece))?;
     }

@@ -3,11 +3,11 @@ ghost use Rattle.std.specs.Prelude.{◌≡◌, ◌++◌, ◌||◌, [], false, If
 ghost use Rattle.std.specs.List.{flat_map};
 ghost use Rattle.std.specs.Option.{option_map, option_map_or};
 ghost use Rattle.dp_answer.specs.Asks.{ask_of as ask_texts, target_names};
-ghost use Rattle.dp_conf.specs.Answers.{Answers};
 ghost use Rattle.dp_commands.specs.Faults.{is_write_failed, reason_of};
 ghost use Rattle.dp_commands.specs.Run.{files_of};
-ghost use Rattle.dp_program.specs.Faulted.{StandsIn, unplaced};
+ghost use Rattle.dp_conf.specs.Answers.{Answers};
 ghost use Rattle.dp_conf.specs.Levels.{arguments_of};
+ghost use Rattle.dp_program.specs.Faulted.{StandsIn, unplaced};
 ghost use Rattle.dp_program.specs.Reaches as spec;
 ghost use Rattle.dp_program.specs.Reaches.{ReachesFiles};
 ghost use Rattle.dp_program.specs.Requests.{question_of};

@@ -103,7 +103,7 @@ pub enum Request<'a> {
         files: RunFiles<'a>,
         held: &'a str,
     },
-    /// `reach [--queues QUEUES] [--start CONTEXTS] [--exten BYTES] [--caller BYTES] [--to CONTEXT] FILE CONTEXT`: to tell what a call
+    /// `reach [--queues QUEUES] [--start CONTEXTS] [--exten BYTES] [--caller NUMBERS] [--to TARGET] FILE CONTEXT`: to tell what a call
     /// may run that comes in at a context, or whether it may reach another.
     Reach {
         question: ReachQuestion<'a>,

@@ -88,13 +88,22 @@ fn push_text(pieces: &mut Vec<Piece>, text: &[u8]) -> Result<(), NoMemory>
     Ok(())
 }
 
+/// How many pieces a shape that is met with the name has at most.
+fn most_pieces(pieces: &[Piece], name: &Name) -> usize {
+    let places = match name.parts() {
+        Parts::Plain(plain) => plain.len(),
+        Parts::Pattern(classes, _) => classes.len(),
+    };
+    places.saturating_add(pieces.len())
+}
+
 /// What is known of a text of this shape that has matched the name of an extension. It fails only for want of memory.
 ///
 /// Dashes do not count for a match, so a shape that may have one stays as it is.
 pub fn matched(alloc: Global, pieces: &[Piece], name: &Name) -> Result<Vec<Piece>, NoMemory>
     ensures { IfOk result (λ met. shown_all met.items ≡ matched (shown_all pieces.now) name.now) }
 {
-    let mut met = Vec::new(alloc);
+    let mut met = Vec::with_capacity(alloc, most_pieces(pieces, name))?;
     if bytes_of(pieces).has(b'-') {
         push_all(&mut met, pieces)?;
         return Ok(met);

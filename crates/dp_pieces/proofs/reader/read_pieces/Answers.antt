@@ -8,7 +8,7 @@ use Rattle.dp_pieces.proofs.reader.read_pieces.Goals as goal
 pub loop-mark-init : goal.loop-mark-init
 loop-mark-init g c =
     subst (λ (read : Read). IsOnWay (g.N.NamedPieces.names c.args.names.now) c.args.text.now read c.args.text.now)
-    (λ i. record { pieces = shown_all (sym c.new.ensures.items i); waiting = reverse (map shown_open (sym c.new-2.ensures.items i)) })
+    (λ i. record { pieces = shown_all (sym c.in_ok-pieces.ensures.items i); waiting = reverse (map shown_open (sym c.new.ensures.items i)) })
     (on_way-first (g.N.NamedPieces.names c.args.names.now) c.args.text.now)
 
 pub loop-mark-preserved : goal.loop-mark-preserved
