@@ -4,7 +4,7 @@ use Rattle.std.specs.Prelude.{is_some}
 use Rattle.std.specs.Global.{Vec}
 use Rattle.std.specs.Option.{option_map_or}
 use Rattle.dp_answer.specs.Asks.{AskOf, is_lacking, outside_of, starts_of}
-use Rattle.dp_answer.specs.Reports.{IsReport, IsReportBy, IsRight, ReportOf, Told, answer_text, assumed, has_answer, head_text, may_reach, nothing_told, status_by, unproved, verdict}
+use Rattle.dp_answer.specs.Reports.{IsReport, IsReportBy, IsRight, ReportOf, Told, answer_text, assumptions, has_answer, head_text, may_reach, nothing_told, status_by, no_proof_line, verdict}
 use Rattle.dp_answer.specs.Steps.{IsTold, answers_by}
 use Rattle.dp_closed.specs.Answers.{answers_in}
 use Rattle.dp_plan.specs.Lookup.{number_of}
@@ -28,12 +28,12 @@ found-marks false marks = refl
 -- a report that tells answers of which that is proved is right
 pub right-told : (plan : PlanOf) (settings : List Settings) (ask : AskOf) (report : ReportOf) (outside : Outside) (is_proved : Bool) (marks : List (Vec Bool))
     → outside ≡ outside_of plan ask → RunsOnly standard_rows outside ask.context plan settings (answers_in (answers_by is_proved marks))
-    → IsTold plan (assumed ask outside.contexts ++ unproved is_proved) (answers_by is_proved marks) ask.target report → IsRight plan settings ask report
+    → IsTold plan (assumptions ask outside.contexts ++ no_proof_line is_proved) (answers_by is_proved marks) ask.target report → IsRight plan settings ask report
 right-told plan settings ask report outside is_proved marks same runs told =
     let answers : Option (List (Vec Bool)) = answers_by is_proved marks in
-    let head : assumed ask outside.contexts ++ unproved is_proved ≡ head_text plan ask answers =
-    ap (λ (o : Outside). assumed ask o.contexts ++ unproved is_proved) same
-    ∙ ap (λ b. assumed ask (starts_of plan ask) ++ unproved b) (sym (found-marks is_proved marks)) in
+    let head : assumptions ask outside.contexts ++ no_proof_line is_proved ≡ head_text plan ask answers =
+    ap (λ (o : Outside). assumptions ask o.contexts ++ no_proof_line is_proved) same
+    ∙ ap (λ b. assumptions ask (starts_of plan ask) ++ no_proof_line b) (sym (found-marks is_proved marks)) in
     record {
       marks = answers;
       runs = subst (λ (o : Outside). RunsOnly standard_rows o ask.context plan settings (answers_in answers)) same runs;

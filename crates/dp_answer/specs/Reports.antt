@@ -59,20 +59,20 @@ abbrev pub bytes_text : List ℕ → Option (List ℕ) → List ℕ → List ℕ
 bytes_text text given usual = text ++ unwrap_or given usual
 
 -- what is assumed: the bytes of extensions and of callers' numbers as they are given, and where calls come in
-abbrev pub assumed : AskOf → List (List ℕ) → List ℕ
-assumed ask starts =
+abbrev pub assumptions : AskOf → List (List ℕ) → List ℕ
+assumptions ask starts =
     bytes_text (codes "assumed: extensions of {") ask.exten usual_exten
     ++ (bytes_text (codes "}*, callers' numbers of {") ask.caller usual_caller
     ++ (codes "}*, calls come in at" ++ (entrances ask.starts starts ++ codes "\n")))
 
 -- that no proof was found, where none was
-abbrev pub unproved : Bool → List ℕ
-unproved true = []
-unproved false = codes "no proof was found within the bounds: a call may run each entry\n"
+abbrev pub no_proof_line : Bool → List ℕ
+no_proof_line true = []
+no_proof_line false = codes "no proof was found within the bounds: a call may run each entry\n"
 
 -- what is told before an answer; where no proof was found, each entry is among the answers
 abbrev pub head_text : PlanOf → AskOf → Option (List (Vec Bool)) → List ℕ
-head_text plan ask marks = assumed ask (starts_of plan ask) ++ unproved (is_some marks)
+head_text plan ask marks = assumptions ask (starts_of plan ask) ++ no_proof_line (is_some marks)
 
 -- what is told besides: for each context how a call gets there, and what follows the answer
 pub record Told : Type 0 where

@@ -2,9 +2,9 @@
 use Rattle.std.specs.Prelude.{◌≡◌, ℕ, Bool, true, false, List, ◌++◌, Option, Some, None}
 use Rattle.std.specs.Global.{Vec}
 use Rattle.dp_answer.specs.Reports.{ReportOf, Told, answer_status, answer_text}
-use Rattle.dp_answer.specs.declared.answer.Question.{Question}
+use Rattle.dp_answer.specs.declared.answer.OutsideQuestion.{OutsideQuestion}
 use Rattle.dp_answer.specs.declared.report.Report.{Report}
-use Rattle.dp_answer.specs.declared.told.Found.{Found}
+use Rattle.dp_answer.specs.declared.trails.Found.{Found}
 use Rattle.dp_closed.specs.Answers.{answers_in, shown_outside}
 use Rattle.dp_closed.specs.Claimed.{AreWays}
 use Rattle.dp_plan.specs.Plan.{PlanOf}
@@ -13,7 +13,7 @@ use Rattle.dp_reach.specs.Audits.{RunsOnly}
 use Rattle.dp_table.specs.Standard.{standard_rows}
 
 -- a call that the question is of runs none but the entries of these marks, whatever queues have the ways out of the question
-abbrev pub IsProvedBy : Question → List (Vec Bool) → Type 0
+abbrev pub IsProvedBy : OutsideQuestion → List (Vec Bool) → Type 0
 IsProvedBy question marks = (settings : List Settings) → AreWays settings question.ways.now
     → RunsOnly standard_rows (shown_outside question.outside.now) question.context.now question.plan.now settings (answers_in (Some marks))
 

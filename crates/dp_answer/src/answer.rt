@@ -5,7 +5,7 @@ ghost use Rattle.dp_answer.specs.Steps.{IsProvedBy};
 use crate::names::opening_names;
 use crate::route::Cause;
 use crate::search::{Search, pieces_in};
-use crate::told::Found;
+use crate::trails::Found;
 use dp_closed::{Audit, Claim, Outside, Reach};
 use dp_conf::NoMemory;
 use dp_pieces::{NameTable, Piece};
@@ -14,7 +14,7 @@ use std::alloc::Global;
 
 /// What is asked: of calls that the outside allows, what one may run that comes in at the context.
 #[derive(Clone, Copy)]
-pub(crate) struct Question<'a> {
+pub(crate) struct OutsideQuestion<'a> {
     pub(crate) plan: &'a Dialplan,
     /// The contexts of the ways out of the queues, each as the pieces of its name.
     pub(crate) ways: &'a [Vec<Piece>],
@@ -37,7 +37,10 @@ fn enter_all(
 }
 
 /// What was found for calls of each context where they come in: what names may have, and the areas. None where there were too many.
-fn find_all(alloc: Global, question: Question<'_>) -> Result<Option<(NameTable, Reach)>, NoMemory> {
+fn find_all(
+    alloc: Global,
+    question: OutsideQuestion<'_>,
+) -> Result<Option<(NameTable, Reach)>, NoMemory> {
     let names = opening_names(alloc, &question.outside.caller)?;
     let mut search = Search::new(alloc, question.plan, question.ways, names)?;
     let any = [Piece::AnyOf(question.outside.exten)];
@@ -50,7 +53,7 @@ fn find_all(alloc: Global, question: Question<'_>) -> Result<Option<(NameTable, 
 /// What was found for a call of the context alone, and whether that was all.
 fn find_one<'a>(
     alloc: Global,
-    question: Question<'a>,
+    question: OutsideQuestion<'a>,
     names: NameTable,
 ) -> Result<(Search<'a>, bool), NoMemory> {
     let mut search = Search::new(alloc, question.plan, question.ways, names)?;
@@ -64,7 +67,7 @@ fn find_one<'a>(
 /// Whether what was found is proved, with the areas of all calls.
 fn is_proved(
     alloc: Global,
-    question: Question<'_>,
+    question: OutsideQuestion<'_>,
     search: &Search<'_>,
     reach: &Reach,
 ) -> Result<bool, NoMemory>
@@ -85,7 +88,7 @@ fn is_proved(
 }
 
 /// Nothing found, and nothing proved.
-fn unproved<'a>(alloc: Global, question: Question<'a>) -> Result<Found<'a>, NoMemory>
+fn nothing_proved<'a>(alloc: Global, question: OutsideQuestion<'a>) -> Result<Found<'a>, NoMemory>
     ensures { IfOk result (λ found. found.is_proved ≡ false) }
 {
     let names = opening_names(alloc, &question.outside.caller)?;
@@ -99,7 +102,7 @@ fn unproved<'a>(alloc: Global, question: Question<'a>) -> Result<Found<'a>, NoMe
 /// Whether all was found and that is proved.
 fn is_found(
     alloc: Global,
-    question: Question<'_>,
+    question: OutsideQuestion<'_>,
     found: &(Search<'_>, bool),
     reach: &Reach,
 ) -> Result<bool, NoMemory>
@@ -114,11 +117,14 @@ fn is_found(
 }
 
 /// Which entries a call may run, and whether that is proved.
-pub(crate) fn answer<'a>(alloc: Global, question: Question<'a>) -> Result<Found<'a>, NoMemory>
+pub(crate) fn answer<'a>(
+    alloc: Global,
+    question: OutsideQuestion<'a>,
+) -> Result<Found<'a>, NoMemory>
     ensures { IfOk result (λ found. IsTrue found.is_proved → IsProvedBy question.entry found.search.marks) }
 {
     let Some((names, reach)) = find_all(alloc, question)? else {
-        let found = unproved(alloc, question)?;
+        let found = nothing_proved(alloc, question)?;
         return Ok(found);
     };
     let found = find_one(alloc, question, names)?;

@@ -62,7 +62,7 @@ fn push_bytes(
 
 /// Adds what of the outside is assumed: the bytes as they are given, and where calls come in.
 fn push_assumed(out: &mut Vec<u8>, ask: &Ask<'_>, starts: &[Vec<u8>]) -> Result<(), NoMemory>
-    ensures { OnOk result (out.new.items ≡ out.old.items ++ spec.assumed (ask_of ask.now) (map (λ name. name.items) starts.now)) }
+    ensures { OnOk result (out.new.items ≡ out.old.items ++ spec.assumptions (ask_of ask.now) (map (λ name. name.items) starts.now)) }
 {
     push_bytes(out, b"assumed: extensions of {", ask.exten, USUAL_EXTEN)?;
     push_bytes(out, b"}*, callers' numbers of {", ask.caller, USUAL_CALLER)?;
@@ -74,7 +74,7 @@ fn push_assumed(out: &mut Vec<u8>, ask: &Ask<'_>, starts: &[Vec<u8>]) -> Result<
 
 /// Adds that no proof was found, where none was.
 fn push_unproved(out: &mut Vec<u8>, is_proved: bool) -> Result<(), NoMemory>
-    ensures { OnOk result (out.new.items ≡ out.old.items ++ spec.unproved is_proved) }
+    ensures { OnOk result (out.new.items ≡ out.old.items ++ spec.no_proof_line is_proved) }
 {
     if is_proved {
         return Ok(());
@@ -91,7 +91,7 @@ pub(crate) fn push_head(
     is_proved: bool,
 ) -> Result<(), NoMemory>
     ensures { OnOk result (out.new.items
-        ≡ out.old.items ++ (spec.assumed (ask_of ask.now) (map (λ name. name.items) starts.now) ++ spec.unproved is_proved)) }
+        ≡ out.old.items ++ (spec.assumptions (ask_of ask.now) (map (λ name. name.items) starts.now) ++ spec.no_proof_line is_proved)) }
 {
     push_assumed(out, ask, starts)?;
     push_unproved(out, is_proved)

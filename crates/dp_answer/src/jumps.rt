@@ -1,7 +1,7 @@
 //! The jumps by which a call first gets to where an entry of a context may be found.
 use crate::names::{TELEPHONE_DIGITS, set_in};
-use crate::orders::Orders;
 use crate::search::{Search, pieces_in};
+use crate::turned_orders::TurnedOrders;
 use dp_closed::{Area, Duty, Marks, found_shape};
 use dp_conf::NoMemory;
 use dp_pieces::{Piece, may_fit};
@@ -10,7 +10,7 @@ use std::alloc::Global;
 
 /// A context to which calls may get, and which contexts search it.
 #[derive(Drop)]
-struct Target<'a> {
+struct JumpTarget<'a> {
     plan: &'a Dialplan,
     entries: &'a [Entry],
     searching: Vec<bool>,
@@ -20,7 +20,7 @@ struct Target<'a> {
 
 /// Whether each context of the dialplan searches the context of this number.
 fn searching(alloc: Global, plan: &Dialplan, target: usize) -> Result<Vec<bool>, NoMemory> {
-    let mut order = Orders::room(alloc, plan)?;
+    let mut order = TurnedOrders::room(alloc, plan)?;
     let mut searching = Vec::new(alloc);
     for context in plan.contexts() {
         order.fill(context.name());
@@ -29,7 +29,7 @@ fn searching(alloc: Global, plan: &Dialplan, target: usize) -> Result<Vec<bool>,
     Ok(searching)
 }
 
-impl Target<'_> {
+impl JumpTarget<'_> {
     /// Whether the context of this number searches the target.
     fn is_searched(&self, number: usize) -> bool {
         match self.searching.get(number) {
@@ -93,7 +93,7 @@ impl Target<'_> {
 #[derive(Drop)]
 struct Jumps<'a> {
     search: &'a Search<'a>,
-    target: Target<'a>,
+    target: JumpTarget<'a>,
     marks: Marks,
 }
 
@@ -120,7 +120,7 @@ impl Jumps<'_> {
             context: pieces_in(alloc, name)?,
             exten: met,
         };
-        let duties = self.search.owed(alloc, entry, &area)?;
+        let duties = self.search.duties_of(alloc, entry, &area)?;
         if self.target.is_led_to(alloc, &duties)? {
             self.marks.mark(id);
         }
@@ -153,7 +153,7 @@ impl Jumps<'_> {
     fn take_route(
         &mut self,
         alloc: Global,
-        order: &mut Orders<'_>,
+        order: &mut TurnedOrders<'_>,
         route: usize,
     ) -> Result<(), NoMemory> {
         let search = self.search;
@@ -187,7 +187,7 @@ pub(crate) fn jumps_to(
     };
     let mut jumps = Jumps {
         search,
-        target: Target {
+        target: JumpTarget {
             plan,
             entries,
             searching: searching(alloc, plan, target)?,
@@ -195,7 +195,7 @@ pub(crate) fn jumps_to(
         },
         marks: Marks::none(alloc, plan)?,
     };
-    let mut order = Orders::room(alloc, plan)?;
+    let mut order = TurnedOrders::room(alloc, plan)?;
     for route in 0..search.routes.len() {
         jumps.take_route(alloc, &mut order, route)?;
     }

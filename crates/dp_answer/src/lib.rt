@@ -8,13 +8,13 @@ mod chain;
 mod head;
 mod jumps;
 mod names;
-mod orders;
 mod ranges;
 mod report;
 mod route;
 mod search;
 mod text;
-mod told;
+mod trails;
+mod turned_orders;
 mod ways;
 
 pub use ask::Ask;

@@ -6,12 +6,12 @@ ghost use Rattle.dp_answer.specs.Reports as spec;
 ghost use Rattle.dp_answer.specs.Steps.{IsTold, answers_of, shown_report};
 ghost use Rattle.dp_closed.specs.Answers.{answers_in};
 
-use crate::answer::{Question, answer};
+use crate::answer::{OutsideQuestion, answer};
 use crate::ask::Ask;
 use crate::asked::{is_lacking, outside_of};
 use crate::head::push_head;
 use crate::text::push_entry;
-use crate::told::{Found, Told, told_of_all, told_of_target};
+use crate::trails::{Found, Trails, told_of_all, told_of_target};
 use crate::ways::ways_of;
 use dp_closed::Marks;
 use dp_conf::NoMemory;
@@ -152,7 +152,7 @@ fn push_answers(
     out: &mut Vec<u8>,
     plan: &Dialplan,
     answers: Option<&Marks>,
-    told: &Told,
+    told: &Trails,
 ) -> Result<(), NoMemory>
     ensures { OnOk result (out.new.items ≡ out.old.items
         ++ (spec.all_lines plan.now (answers_in (option_map (λ marks. marks.now) answers.entry)) told.now.chains.items ++ told.now.tail.items)) }
@@ -215,7 +215,7 @@ fn report_found(
     starts: &[Vec<u8>],
 ) -> Result<Report, NoMemory>
     ensures { IfOk result (λ report. IsTold plan.now
-        (spec.assumed (ask_of ask.now) (map (λ name. name.items) starts.now) ++ spec.unproved found.now.is_proved)
+        (spec.assumptions (ask_of ask.now) (map (λ name. name.items) starts.now) ++ spec.no_proof_line found.now.is_proved)
         (answers_of found.now) (ask_of ask.now).target (shown_report report)) }
 {
     let mut text = Vec::new(alloc);
@@ -248,7 +248,7 @@ pub fn report_on(
         });
     }
     let ways = ways_of(alloc, queues)?;
-    let question = Question {
+    let question = OutsideQuestion {
         plan,
         ways: &ways,
         outside: &outside,

@@ -4,9 +4,9 @@ ghost use Rattle.dp_pieces.specs.Pieces.{exactly};
 ghost use Rattle.dp_pieces.specs.Shown.{shown_all};
 
 use crate::names::{TELEPHONE_DIGITS, set_in};
-use crate::orders::Orders;
 use crate::route::{Cause, Route};
-use dp_closed::{Area, Duty, Marks, Meeting, Reach, owed};
+use crate::turned_orders::TurnedOrders;
+use dp_closed::{Area, Duty, Marks, Meeting, Reach, is_excluded, owed};
 use dp_conf::NoMemory;
 use dp_pieces::{
     ByteSet, NameTable, NamesAt, Piece, add_pieces, bytes_of, known_text, may_fit, read_pieces,
@@ -40,6 +40,10 @@ pub(crate) struct Search<'a> {
     pub(crate) computed: Marks,
     /// Whether a name has more bytes than before.
     pub(crate) has_grown: bool,
+    /// How many of the routes were gone through.
+    pub(crate) taken: usize,
+    /// How many of the first routes were gone through before a name had more bytes.
+    pub(crate) stale: usize,
 }
 
 /// Where an entry of a context was found first.
@@ -62,7 +66,7 @@ fn no_firsts(alloc: Global, plan: &Dialplan) -> Result<Vec<Option<First>>, NoMem
 pub(crate) fn pieces_in(alloc: Global, text: &[u8]) -> Result<Vec<Piece>, NoMemory>
     ensures { IfOk result (λ pieces. shown_all pieces.items ≡ exactly text.now) }
 {
-    let mut pieces = Vec::new(alloc);
+    let mut pieces = Vec::with_capacity(alloc, text.len())?;
     for byte in text {
         pieces.push(Piece::Known(*byte))?;
     }
@@ -107,6 +111,8 @@ impl<'a> Search<'a> {
             firsts,
             computed,
             has_grown: false,
+            taken: 0,
+            stale: 0,
         })
     }
 
@@ -122,12 +128,14 @@ impl<'a> Search<'a> {
             firsts: _,
             computed: _,
             has_grown: _,
+            taken: _,
+            stale: _,
         } = self;
         (names, reach)
     }
 
     /// Any bytes of the shapes of a context and of this one.
-    fn widened(
+    fn widen(
         &self,
         alloc: Global,
         context: usize,
@@ -157,7 +165,7 @@ impl<'a> Search<'a> {
             None => true,
         };
         let exten = if is_full {
-            self.widened(alloc, context, exten)?
+            self.widen(alloc, context, exten)?
         } else {
             copy_of(alloc, exten)?
         };
@@ -297,7 +305,7 @@ impl<'a> Search<'a> {
     }
 
     /// What an entry owes that is found in an area.
-    pub(crate) fn owed(
+    pub(crate) fn duties_of(
         &self,
         alloc: Global,
         entry: &Entry,
@@ -337,7 +345,7 @@ impl<'a> Search<'a> {
         met: &Area,
     ) -> Result<(), NoMemory> {
         self.note(route, id);
-        let duties = self.owed(alloc, entry, met)?;
+        let duties = self.duties_of(alloc, entry, met)?;
         self.meet_all(alloc, &duties, Cause::Jump(route, id))
     }
 
@@ -354,7 +362,10 @@ impl<'a> Search<'a> {
             if seen.is_again && !has_opening(entry.arguments.bytes()) {
                 continue;
             }
-            let meeting = Meeting::after(alloc, &seen.area, entry.name.name(), before)?;
+            if is_excluded(before.as_ref(), &entry.name) {
+                continue;
+            }
+            let meeting = Meeting::after(alloc, &seen.area, &entry.name, before)?;
             if let Some(met) = meeting.found(entries, entry) {
                 let id = EntryId {
                     context: number,
@@ -391,7 +402,7 @@ impl<'a> Search<'a> {
     fn take_route(
         &mut self,
         alloc: Global,
-        order: &mut Orders<'_>,
+        order: &mut TurnedOrders<'_>,
         route: usize,
         is_again: bool,
     ) -> Result<(), NoMemory> {
@@ -422,9 +433,10 @@ impl<'a> Search<'a> {
         Ok(())
     }
 
-    /// Lets the name of each global have the bytes of its value.
+    /// Lets the name of each global have the bytes of its value. Where a name has more bytes then, all routes have to be gone through.
     fn take_globals(&mut self, alloc: Global) -> Result<(), NoMemory> {
         let plan = self.plan;
+        self.has_grown = false;
         for global in plan.globals() {
             let names = NamesAt {
                 table: &self.names,
@@ -434,39 +446,52 @@ impl<'a> Search<'a> {
             let pieces = read_pieces(alloc, &names, global.value.bytes())?;
             self.hold(alloc, global.name.bytes(), &bytes_of(&pieces))?;
         }
+        if self.has_grown {
+            self.stale = MOST_AREAS;
+        }
         Ok(())
     }
 
-    /// Goes through all areas once, those that it finds on the way too. It answers whether there are not too many.
+    /// Goes once through each area, those that it finds on the way too, but for those that it has gone through since a name had more
+    /// bytes: these lead to nothing new. It answers whether there are not too many.
     fn take_routes(
         &mut self,
         alloc: Global,
-        order: &mut Orders<'_>,
-        before: usize,
+        order: &mut TurnedOrders<'_>,
     ) -> Result<bool, NoMemory> {
+        let mut stale = 0;
         for route in 0..MOST_AREAS {
             if route >= self.routes.len() {
-                return Ok(true);
+                break;
             }
-            self.take_route(alloc, order, route, route < before)?;
+            let is_again = route < self.taken;
+            if is_again && route >= self.stale {
+                continue;
+            }
+            self.has_grown = false;
+            self.take_route(alloc, order, route, is_again)?;
+            if self.has_grown {
+                stale = route + 1;
+                self.stale = MOST_AREAS;
+            }
         }
+        self.taken = self.routes.len();
+        self.stale = stale;
         Ok(self.routes.len() <= MOST_AREAS)
     }
 
     /// Goes on until nothing more is found. It answers whether that came within the bounds.
     pub(crate) fn go(&mut self, alloc: Global) -> Result<bool, NoMemory> {
-        let mut order = Orders::room(alloc, self.plan)?;
-        let mut before = 0;
+        let mut order = TurnedOrders::room(alloc, self.plan)?;
         for _ in 0..MOST_ROUNDS {
-            self.has_grown = false;
             self.take_globals(alloc)?;
-            if !self.take_routes(alloc, &mut order, before)? {
+            let are_globals_held = !self.has_grown;
+            if !self.take_routes(alloc, &mut order)? {
                 return Ok(false);
             }
-            if !self.has_grown {
+            if are_globals_held && self.stale == 0 {
                 return Ok(true);
             }
-            before = self.routes.len();
         }
         Ok(false)
     }

@@ -9,7 +9,7 @@ use Rattle.dp_queue.specs.Queues.{QueuesOf}
 use Rattle.dp_vars.specs.Stores.{StoreOf}
 use Rattle.dp_vars.specs.Variables.{Named}
 use Rattle.dp_app.specs.Rows.{Row, Rows}
-use Rattle.dp_app.specs.declared.cell.Cell.{Cell}
+use Rattle.dp_app.specs.Cells.{CellOf}
 use Rattle.dp_app.specs.declared.moves.Move.{Move}
 use Rattle.dp_app.specs.declared.moves.Move.TheVariants.{Next, Jump, Park, Hang}
 use Rattle.dp_app.specs.declared.phase.Phase.{Phase}
@@ -52,7 +52,7 @@ pub record KeepsQueues (touch : Touch) (before after : QueuesOf) : Type 0 where
   pub waiting : touch.waiting ≡ false → waiting_lists after ≡ waiting_lists before
 
 -- the touch law: the channel's number, its place and its closing mark are as before, and so is each part outside the touch
-pub record KeepsUntouched (touch : Touch) (before after : Cell) : Type 0 where
+pub record KeepsUntouched (touch : Touch) (before after : CellOf) : Type 0 where
   pub number : after.number ≡ before.number
   pub place : after.place ≡ before.place
   pub closing : after.is_closing ≡ before.is_closing
@@ -103,18 +103,18 @@ waiting_after lists number (Park phase) = waiting_parked lists number phase
 waiting_after lists number Hang = lists
 
 -- the row would park the channel in this phase, were it not closing
-abbrev pub WouldPark : Row → List ℕ → Cell → Phase → Type 0
+abbrev pub WouldPark : Row → List ℕ → CellOf → Phase → Type 0
 WouldPark row arguments cell phase = (row arguments (record cell { is_closing = false })).next ≡ Park phase
 
 -- the laws of a row: the touch law, the park law in two halves, and the closing law: with the closing mark the channel is parked
 -- nowhere, and where it would be parked without the mark the call ends, with nothing changed
 pub record IsLawfulRow (touch : Touch) (row : Row) : Type 0 where
-  pub keeps : (arguments : List ℕ) (cell : Cell) → KeepsUntouched touch cell (row arguments cell).cell
-  pub parks : (arguments : List ℕ) (cell : Cell) → MayGo (length cell.queues.queues) (row arguments cell).next
-  pub waits : (arguments : List ℕ) (cell : Cell) →
+  pub keeps : (arguments : List ℕ) (cell : CellOf) → KeepsUntouched touch cell (row arguments cell).cell
+  pub parks : (arguments : List ℕ) (cell : CellOf) → MayGo (length cell.queues.queues) (row arguments cell).next
+  pub waits : (arguments : List ℕ) (cell : CellOf) →
       waiting_lists (row arguments cell).cell.queues ≡ waiting_after (waiting_lists cell.queues) cell.number (row arguments cell).next
-  pub closes : (arguments : List ℕ) (cell : Cell) → cell.is_closing ≡ true → ParksNowhere (row arguments cell).next
-  pub hangs : (arguments : List ℕ) (cell : Cell) (phase : Phase) → cell.is_closing ≡ true
+  pub closes : (arguments : List ℕ) (cell : CellOf) → cell.is_closing ≡ true → ParksNowhere (row arguments cell).next
+  pub hangs : (arguments : List ℕ) (cell : CellOf) (phase : Phase) → cell.is_closing ≡ true
       → WouldPark row arguments cell phase → row arguments cell ≡ record { cell = cell; next = Hang }
 
 -- the laws of a table: of each row that it has, with the touch of its name
@@ -127,7 +127,7 @@ pub record IsBlind (touches : List ℕ → Touch) (rows : Rows) : Type 0 where
   pub touch : (name spelling : List ℕ) → same_word name spelling ≡ true → touches spelling ≡ touches name
 
 -- the channel of a cell may run an application: it stands at a priority of an entry, waits in no queue and talks with no agent
-pub record MayRun (cell : Cell) : Type 0 where
+pub record MayRun (cell : CellOf) : Type 0 where
   pub within : cell.place.priority ≤ most_priority
   pub waits_nowhere : waits_in cell.queues.queues cell.number ≡ None
   pub talks_with_nobody : is_talking cell.queues.agents cell.number ≡ false

@@ -1,7 +1,8 @@
-pub mod Extensions
+pub mod Cells
 pub mod Lawful
+pub mod Listed
 pub mod Parts
 pub mod Rows
 pub mod Tables
-pub mod Targets
 pub mod laws
+pub mod steps

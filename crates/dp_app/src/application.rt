@@ -1,12 +1,14 @@
 //! Applications, and tables of them.
-ghost use Rattle.std.specs.Prelude.{◌≡◌, ℕ, List, IfOk, OnErr, IfSome, Some};
+ghost use Rattle.std.specs.Prelude.{◌≡◌, ℕ, List, IfOk, OnErr, is_some};
+ghost use Rattle.dp_app.specs.Cells.{KeepsLoans, cell_now};
 ghost use Rattle.dp_app.specs.Lawful.{IsBlind, IsLawful, IsLawfulRow, MayRun};
-ghost use Rattle.dp_app.specs.Rows.{Row, Rows, dispatched};
-ghost use Rattle.dp_app.specs.declared.cell.Cell.{Cell};
+ghost use Rattle.dp_app.specs.Listed.{Listed, row_at};
+ghost use Rattle.dp_app.specs.Rows.{Row, Rows, after_dispatch, has_row};
 ghost use Rattle.dp_app.specs.declared.touch.Touch as touches;
 
 use crate::cell::Cell;
 use crate::moves::Move;
+use crate::number::AppNumber;
 use crate::touch::Touch;
 use dp_conf::NoMemory;
 use std::alloc::Global;
@@ -38,19 +40,10 @@ pub trait Application {
 
     /// Runs the application on its expanded arguments. After a refused growth the cell is as before.
     fn apply(alloc: Global, arguments: &[u8], cell: &mut Cell) -> Result<Move, NoMemory>
-        requires { MayRun cell.old }
-        ensures ok { IfOk result (λ going. meaning arguments.now cell.old ≡ record { cell = cell.new; next = going }) }
-        ensures err { OnErr result (cell.new ≡ cell.old) };
-
-    /// Where the application sends the channel, if it only reads its arguments and leaves every cell as it is. It is None
-    /// where a cell has to be seen, as it is unless an application says more. The error comes only where a growth was
-    /// refused.
-    fn going(_alloc: Global, _arguments: &[u8]) -> Result<Option<Move>, NoMemory>
-        ensures { IfOk result (λ found. IfSome found (λ going.
-            (cell : Cell) → meaning _arguments.now cell ≡ record { cell = cell; next = going })) }
-    {
-        Ok(None)
-    }
+        requires { MayRun (cell_now cell.old) }
+        ensures ok { IfOk result (λ going. meaning arguments.now (cell_now cell.old) ≡ record { cell = cell_now cell.new; next = going }) }
+        ensures err { OnErr result (cell_now cell.new ≡ cell_now cell.old) }
+        ensures loans { KeepsLoans cell.old cell.new };
 }
 
 /// A table of applications, each of which keeps the laws of rows. It knows no case: each spelling of a name that it has, in
@@ -66,6 +59,10 @@ pub trait AppTable {
 
     ghost blind: { IsBlind touches rows };
 
+    /// The number of the application of this name, by which `run_by_number` finds it; None where the table lacks the name.
+    fn number_of(name: &[u8]) -> Option<AppNumber>
+        ensures { is_some result ≡ has_row rows name.now };
+
     /// Runs the application of this name on its expanded arguments, or gives None where the table lacks the name. After a
     /// refused growth the cell is as before.
     fn dispatch(
@@ -74,17 +71,45 @@ pub trait AppTable {
         arguments: &[u8],
         cell: &mut Cell,
     ) -> Result<Option<Move>, NoMemory>
-        requires { MayRun cell.old }
-        ensures ok { IfOk result (λ going. dispatched (rows name.now) arguments.now cell.old ≡ (cell.new, going)) }
-        ensures err { OnErr result (cell.new ≡ cell.old) };
+        requires { MayRun (cell_now cell.old) }
+        ensures ok { IfOk result (λ going. after_dispatch (rows name.now) arguments.now (cell_now cell.old) ≡ (cell_now cell.new, going)) }
+        ensures err { OnErr result (cell_now cell.new ≡ cell_now cell.old) }
+        ensures loans { KeepsLoans cell.old cell.new };
 
-    /// Where the application of this name sends the channel, if it only reads its expanded arguments and leaves every cell
-    /// as it is. It is None where a cell has to be seen, and where the table lacks the name. The error comes only where a
-    /// growth was refused.
-    fn going(_alloc: Global, _name: &[u8], _arguments: &[u8]) -> Result<Option<Move>, NoMemory>
-        ensures { IfOk result (λ found. IfSome found (λ going.
-            (cell : Cell) → dispatched (rows _name.now) _arguments.now cell ≡ (cell, Some going))) }
+    /// The same as `dispatch`, which looks first where the number says.
+    fn run_by_number(
+        alloc: Global,
+        _number: AppNumber,
+        name: &[u8],
+        arguments: &[u8],
+        cell: &mut Cell,
+    ) -> Result<Option<Move>, NoMemory>
+        requires { MayRun (cell_now cell.old) }
+        ensures ok { IfOk result (λ going. after_dispatch (rows name.now) arguments.now (cell_now cell.old) ≡ (cell_now cell.new, going)) }
+        ensures err { OnErr result (cell_now cell.new ≡ cell_now cell.old) }
+        ensures loans { KeepsLoans cell.old cell.new }
     {
-        Ok(None)
+        Self::dispatch(alloc, name, arguments, cell)
     }
+}
+
+/// Applications in an order.
+pub trait AppList {
+    // The name and the row of each.
+    ghost listed: { List Listed };
+
+    /// Runs the application before which so many stand, if it has this name; else nothing is run. After a refused growth the cell
+    /// is as before.
+    fn run_at(
+        alloc: Global,
+        place: u16,
+        name: &[u8],
+        arguments: &[u8],
+        cell: &mut Cell,
+    ) -> Result<Option<Move>, NoMemory>
+        requires { MayRun (cell_now cell.old) }
+        ensures ok { IfOk result (λ going. after_dispatch (row_at listed place name.now) arguments.now (cell_now cell.old)
+            ≡ (cell_now cell.new, going)) }
+        ensures err { OnErr result (cell_now cell.new ≡ cell_now cell.old) }
+        ensures loans { KeepsLoans cell.old cell.new };
 }

@@ -1,25 +1,25 @@
 //! What an application sees of a machine, and may change.
-ghost use Rattle.std.specs.Prelude.{◌≡◌};
 
 use crate::place::Place;
 use dp_conf::Text;
 use dp_queue::Queues;
 use dp_vars::{Globals, Store};
 
-/// What an application sees of a machine: the channel that runs it, and what all channels share.
+/// What an application sees of a machine: the channel that runs it, and what all channels share. It owns none of it: what an
+/// application may change is lent to it, and so is the place, which it may only read.
 ///
 /// Its channel's name is `Channel/` and the number.
 #[derive(Drop)]
-pub struct Cell {
+pub struct Cell<'a> {
     /// The channel's number.
     pub number: u32,
-    pub place: Place,
+    pub place: &'a Place,
     /// Whether the channel is hung up and runs the extension `h`.
     pub is_closing: bool,
     /// The caller's number.
-    pub caller: Text,
+    pub caller: &'a mut Text,
     /// The channel's variables and frames. A frame goes back to a place.
-    pub store: Store<Place>,
-    pub globals: Globals,
-    pub queues: Queues,
+    pub store: &'a mut Store<Place>,
+    pub globals: &'a mut Globals,
+    pub queues: &'a mut Queues,
 }

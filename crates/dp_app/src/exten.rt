@@ -12,7 +12,7 @@ use std::{fmt, slice};
 
 /// How the bytes of an extension are held.
 #[derive(Drop)]
-pub(crate) enum Held {
+pub(crate) enum HeldExten {
     Text(Text),
     Byte(u8),
 }
@@ -21,7 +21,7 @@ pub(crate) enum Held {
 ///
 /// A contract sees it as its bytes. Two extensions are equal where their bytes are.
 pub struct Exten {
-    held: Held,
+    held: HeldExten,
 }
 
 impl Drop for Exten {
@@ -33,7 +33,7 @@ impl Drop for Exten {
 
 impl Model for Exten {
     ghost use Rattle.std.specs.Prelude.{ℕ, List};
-    ghost use Rattle.dp_app.specs.Extensions.{held_bytes};
+    ghost use Rattle.dp_app.specs.steps.Extensions.{held_bytes};
 
     ghost Value = { List ℕ };
 
@@ -48,7 +48,7 @@ impl Exten {
         match text.bytes() {
             [byte] => Exten::of_byte(*byte),
             _ => Exten {
-                held: Held::Text(text),
+                held: HeldExten::Text(text),
             },
         }
     }
@@ -58,7 +58,7 @@ impl Exten {
         ensures { result ≡ byte ∷ [] }
     {
         Exten {
-            held: Held::Byte(byte),
+            held: HeldExten::Byte(byte),
         }
     }
 
@@ -67,8 +67,8 @@ impl Exten {
         ensures { result.now ≡ self.now }
     {
         match &self.held {
-            Held::Text(text) => text.bytes(),
-            Held::Byte(byte) => slice::from_ref(byte),
+            HeldExten::Text(text) => text.bytes(),
+            HeldExten::Byte(byte) => slice::from_ref(byte),
         }
     }
 }
@@ -78,11 +78,11 @@ impl Clone for Exten {
 
     fn clone(&self) -> Result<Self, NoMemory> {
         match &self.held {
-            Held::Text(text) => {
+            HeldExten::Text(text) => {
                 let text = text.clone()?;
                 Ok(Exten::new(text))
             }
-            Held::Byte(byte) => Ok(Exten::of_byte(*byte)),
+            HeldExten::Byte(byte) => Ok(Exten::of_byte(*byte)),
         }
     }
 }

@@ -1,10 +1,15 @@
 //! The table of applications as a type.
-ghost use Rattle.std.specs.Prelude.{◌≡◌};
+ghost use Rattle.std.specs.Prelude.{◌≡◌, IfOk, OnErr};
+ghost use Rattle.dp_app.specs.Cells.{KeepsLoans, cell_now};
+ghost use Rattle.dp_app.specs.Lawful.{MayRun};
+ghost use Rattle.dp_app.specs.Listed.{row_if_named};
+ghost use Rattle.dp_app.specs.Rows.{after_dispatch};
 ghost use Rattle.dp_conf.specs.Words.{same_word};
 
-use crate::application::{AppTable, Application};
+use crate::application::{AppList, AppTable, Application};
 use crate::cell::Cell;
 use crate::moves::Move;
+use crate::number::AppNumber;
 use dp_conf::{NoMemory, same_word};
 use std::alloc::Global;
 use std::marker::PhantomData;
@@ -24,6 +29,27 @@ fn is_name_of<A: Application>(name: &[u8]) -> bool
     same_word(name, A::name())
 }
 
+/// Runs the application, if it has this name; else nothing is run. It is apart from the walk over a list, so that a level of the
+/// walk has no values of its own.
+fn run_if_named<A: Application>(
+    alloc: Global,
+    name: &[u8],
+    arguments: &[u8],
+    cell: &mut Cell,
+) -> Result<Option<Move>, NoMemory>
+    requires { MayRun (cell_now cell.old) }
+    ensures ok { IfOk result (λ going. after_dispatch (row_if_named A.title A.meaning name.now) arguments.now (cell_now cell.old)
+        ≡ (cell_now cell.new, going)) }
+    ensures err { OnErr result (cell_now cell.new ≡ cell_now cell.old) }
+    ensures loans { KeepsLoans cell.old cell.new }
+{
+    if !is_name_of::<A>(name) {
+        return Ok(None);
+    }
+    let going = A::apply(alloc, arguments, cell)?;
+    Ok(Some(going))
+}
+
 impl AppTable for NoApps {
     ghost use Rattle.dp_app.specs.Tables.{no_rows, no_touch, no_rows_blind, no_rows_lawful};
 
@@ -34,6 +60,10 @@ impl AppTable for NoApps {
     ghost lawful = { no_rows_lawful };
 
     ghost blind = { no_rows_blind };
+
+    fn number_of(_name: &[u8]) -> Option<AppNumber> {
+        None
+    }
 
     fn dispatch(
         _alloc: Global,
@@ -56,6 +86,14 @@ impl<A: Application, T: AppTable> AppTable for With<A, T> {
 
     ghost blind = { with_row_blind A.title A.TOUCH A.meaning T.touches T.rows T.blind };
 
+    fn number_of(name: &[u8]) -> Option<AppNumber> {
+        if is_name_of::<A>(name) {
+            return Some(AppNumber::first());
+        }
+        let number = T::number_of(name)?;
+        Some(number.after())
+    }
+
     fn dispatch(
         alloc: Global,
         name: &[u8],
@@ -68,11 +106,41 @@ impl<A: Application, T: AppTable> AppTable for With<A, T> {
         }
         T::dispatch(alloc, name, arguments, cell)
     }
+}
 
-    fn going(alloc: Global, name: &[u8], arguments: &[u8]) -> Result<Option<Move>, NoMemory> {
-        if !is_name_of::<A>(name) {
-            return T::going(alloc, name, arguments);
+impl AppList for NoApps {
+    ghost use Rattle.std.specs.Prelude.{[]};
+
+    ghost listed = { [] };
+
+    #[inline(always)]
+    fn run_at(
+        _alloc: Global,
+        _place: u16,
+        _name: &[u8],
+        _arguments: &[u8],
+        _cell: &mut Cell,
+    ) -> Result<Option<Move>, NoMemory> {
+        Ok(None)
+    }
+}
+
+impl<A: Application, T: AppList> AppList for With<A, T> {
+    ghost use Rattle.dp_app.specs.Listed.{with_listed};
+
+    ghost listed = { with_listed A.title A.meaning T.listed };
+
+    #[inline(always)]
+    fn run_at(
+        alloc: Global,
+        place: u16,
+        name: &[u8],
+        arguments: &[u8],
+        cell: &mut Cell,
+    ) -> Result<Option<Move>, NoMemory> {
+        if place > 0 {
+            return T::run_at(alloc, place - 1, name, arguments, cell);
         }
-        A::going(alloc, arguments)
+        run_if_named::<A>(alloc, name, arguments, cell)
     }
 }

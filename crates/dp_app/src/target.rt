@@ -29,7 +29,7 @@ pub struct TargetParts {
 
 impl Model for TargetParts {
     ghost use Rattle.std.specs.Prelude.{ℕ, List};
-    ghost use Rattle.dp_app.specs.Targets.{AreMany, kept_parts};
+    ghost use Rattle.dp_app.specs.steps.Targets.{AreMany, kept_parts};
 
     ghost Value = { List (List ℕ) };
 

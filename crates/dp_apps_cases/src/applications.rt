@@ -1,7 +1,7 @@
 //! Applications in a dialplan of two contexts, worked out by hand from the rules.
+use dp_case_tables::{Question, bytes_of, check, check_same};
 use dp_machine::NoMemory;
 use dp_machine_fixture::{Ask, Exchange, answer_on, call, notes_of, push_called, push_stepped};
-use dp_questions::{Question, bytes_of, check, check_same};
 use std::alloc::Global;
 use std::test::Fail;
 

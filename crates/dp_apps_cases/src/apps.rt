@@ -1,9 +1,11 @@
-//! What applications make of their arguments where no cell is seen, worked out by hand from their pages in the Asterisk
-//! documentation's application reference.
-use dp_app::{AppTable, Move, Target, TargetParts};
-use dp_conf::{NoMemory, cut_once};
-use dp_questions::{Question, bytes_of, check, push_bytes, text_of};
+//! Where applications send a channel by their arguments, worked out by hand from their pages in the Asterisk documentation's
+//! application reference.
+use dp_app::{AppTable, Cell, Exten, Move, Place, Target, TargetParts};
+use dp_case_tables::{Question, bytes_of, check, push_bytes, text_of};
+use dp_conf::{NoMemory, Text, cut_once};
+use dp_queue::Queues;
 use dp_table::StandardApps;
+use dp_vars::{Globals, Store};
 use std::alloc::Global;
 use std::test::Fail;
 
@@ -38,21 +40,22 @@ GotoIf|0?2:3→jump |3|
 GotoIf|?main,s,1:main,s,2→jump |main|s|2|
 GotoIf|0?2→next
 GotoIf|1→next
-# Those that see a cell, and a name that the table lacks.
-Set|A=1→a cell is seen
-Gosub|s,1→a cell is seen
-GosubIf|1?s,1→a cell is seen
-Return|→a cell is seen
-StackPop|→a cell is seen
-Wait|1→a cell is seen
-WaitExten|→a cell is seen
-Background|a→a cell is seen
-Queue|q→a cell is seen
-AddQueueMember|q→a cell is seen
-Dial|SIP/1→a cell is seen
-Dial|→a cell is seen
-Macro|m→a cell is seen
-|→a cell is seen
+# Those that see the cell.
+Set|A=1→next
+Gosub|s,1→jump to an entry
+GosubIf|1?s,1→jump to an entry
+Return|→hang
+StackPop|→next
+Wait|1→park
+WaitExten|→park
+Background|a→park
+Queue|q→next
+AddQueueMember|q→next
+Dial|SIP/1→park
+Dial|→next
+# Names that the table lacks.
+Macro|m→no such application
+|→no such application
 ";
 
 /// The parts of a target between bars, where there are at most three.
@@ -92,6 +95,29 @@ fn push_move(out: &mut String, going: &Move) -> Result<(), NoMemory> {
     Ok(())
 }
 
+/// Where an application sends a channel that has nothing set, where nothing is shared.
+fn going_of(alloc: Global, name: &[u8], arguments: &[u8]) -> Result<Option<Move>, NoMemory> {
+    let place = Place {
+        context: Text::copy_of(alloc, b"main")?,
+        exten: Exten::of_byte(b's'),
+        priority: 1,
+    };
+    let mut caller = Text::new(Vec::new(alloc));
+    let mut store = Store::new(alloc);
+    let mut globals = Globals::new(alloc);
+    let mut queues = Queues::none(alloc);
+    let mut cell = Cell {
+        number: 1,
+        place: &place,
+        is_closing: false,
+        caller: &mut caller,
+        store: &mut store,
+        globals: &mut globals,
+        queues: &mut queues,
+    };
+    StandardApps::dispatch(alloc, name, arguments, &mut cell)
+}
+
 /// Where a channel goes by the name of an application and its arguments.
 struct Going;
 
@@ -101,8 +127,8 @@ impl Question for Going {
         let Some((name, arguments)) = cut_once(&text, b'|') else {
             return text_of(alloc, "no bar");
         };
-        let Some(going) = StandardApps::going(alloc, name, arguments)? else {
-            return text_of(alloc, "a cell is seen");
+        let Some(going) = going_of(alloc, name, arguments)? else {
+            return text_of(alloc, "no such application");
         };
         let mut out = String::new(alloc);
         push_move(&mut out, &going)?;

@@ -1,7 +1,7 @@
 //! What `Dial` makes of its arguments, worked out by hand from the rules.
+use dp_case_tables::{Question, bytes_of, check};
 use dp_machine::{Event, NoMemory, Phase};
 use dp_machine_fixture::{Ask, Exchange, answer_on, call, push_state, push_value};
-use dp_questions::{Question, bytes_of, check};
 use std::alloc::Global;
 use std::test::Fail;
 

@@ -3,9 +3,9 @@
 ghost use Rattle.std.specs.Prelude.{IfOk};
 ghost use Rattle.dp_queue.specs.Rest.{IsAtRest};
 
+use dp_case_tables::{Question, bytes_of, check, check_that};
 use dp_machine::{Dialplan, Event, NoMemory, Queues};
 use dp_machine_fixture::{Exchange, call, push_value};
-use dp_questions::{Question, bytes_of, check, check_that};
 use dp_queue::{Added, Member, Queue};
 use std::alloc::Global;
 use std::test::Fail;

@@ -1,8 +1,8 @@
 //! A machine over a table of applications of another maker.
+use dp_case_tables::{check_same, push_bytes};
 use dp_machine::{Dialplan, Event, Machine, NoMemory, Queues};
 use dp_machine_fixture::call;
 use dp_own_table::OwnApps;
-use dp_questions::{check_same, push_bytes};
 use std::alloc::Global;
 use std::test::Fail;
 

@@ -1,7 +1,7 @@
 //! Dialplans with variables, worked out by hand from the rules.
+use dp_case_tables::{Question, check, push_bytes};
 use dp_machine::{Event, NoMemory};
 use dp_machine_fixture::{Ask, Exchange, answer_on, call, push_value, state_of};
-use dp_questions::{Question, check, push_bytes};
 use std::alloc::Global;
 use std::test::Fail;
 
@@ -133,7 +133,7 @@ impl Ask for GoneTo {
 }
 
 /// The extension to which a `Goto` of a text between `<` and `>` goes, without these two.
-fn sent(alloc: Global, globals: &str, text: &str) -> Result<String, Fail> {
+fn goto_target(alloc: Global, globals: &str, text: &str) -> Result<String, Fail> {
     let arguments = format!(in alloc; "<{text}>,1")?;
     answer_with::<GoneTo>(alloc, globals, &arguments, "")
 }
@@ -144,7 +144,7 @@ struct Arguments;
 impl Question for Arguments {
     fn answer(alloc: Global, asked: &str) -> Result<String, Fail> {
         let (globals, text) = cut(asked);
-        sent(alloc, globals, text)
+        goto_target(alloc, globals, text)
     }
 }
 
@@ -256,7 +256,7 @@ ${EXTEN:1},${PRIORITY}→ready main,00,1
 ${CHANNEL},1→ready main,Channel/1,1
 ";
 
-fn repeated(alloc: Global, openings: usize, ends: usize) -> Result<String, NoMemory> {
+fn repeat_piece(alloc: Global, openings: usize, ends: usize) -> Result<String, NoMemory> {
     let mut text = String::new(alloc);
     for _ in 0..openings {
         text.push_str("${")?;
@@ -275,7 +275,7 @@ impl Question for Nested {
         let (openings, ends) = asked.split_once(' ').ok_or("no question")?;
         let openings: usize = openings.parse().ok().ok_or("no number")?;
         let ends: usize = ends.parse().ok().ok_or("no number")?;
-        let text = repeated(alloc, openings, ends)?;
+        let text = repeat_piece(alloc, openings, ends)?;
         sizes_of(alloc, &text)
     }
 }
@@ -283,7 +283,7 @@ impl Question for Nested {
 /// The size of a text that is a global.
 fn global_size(alloc: Global, text: &str) -> Result<String, Fail> {
     let globals = format!(in alloc; "G={text}")?;
-    sent(alloc, &globals, "${LEN(${G})}")
+    goto_target(alloc, &globals, "${LEN(${G})}")
 }
 
 fn sizes(alloc: Global, arguments: &str, global: &str) -> Result<String, Fail> {
@@ -292,7 +292,7 @@ fn sizes(alloc: Global, arguments: &str, global: &str) -> Result<String, Fail> {
 }
 
 fn sizes_of(alloc: Global, text: &str) -> Result<String, Fail> {
-    let arguments = sent(alloc, "", text)?;
+    let arguments = goto_target(alloc, "", text)?;
     let global = global_size(alloc, text)?;
     sizes(alloc, &arguments, &global)
 }

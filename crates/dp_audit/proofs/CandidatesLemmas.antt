@@ -22,7 +22,7 @@ use Rattle.dp_plan.specs.declared.entry.Entry.{Entry}
 use Rattle.dp_plan.specs.declared.entry.EntryId.{EntryId}
 use Rattle.dp_lookup.specs.FoundEntry.{has_priority, matches_name, passes, found_by, found_entry}
 use Rattle.dp_lookup.proofs.RankedLemmas.{first_is_least}
-use Rattle.dp_audit.specs.Candidates.{have_one_name, to_first, extensions, first_size, is_matched, has_number, by_priority, matching_of, matching_in, ranked_of, all_matching, answer_of, same_id, judged, answers, is_answer, IsOfAnswer}
+use Rattle.dp_audit.specs.Candidates.{have_one_name, to_first, extensions, first_size, is_matched, has_number, by_priority, matching_of, matching_in, ranked_of, all_matching, answer_of, same_id, candidate_of, answers, is_answer, IsOfAnswer}
 use Rattle.dp_audit.specs.declared.candidate.Candidate.{Candidate}
 use Rattle.dp_audit.specs.declared.candidate.Matching.{Matching}
 use Rattle.dp_audit.specs.declared.candidate.Verdict.{Verdict}
@@ -221,21 +221,21 @@ same_id-itself : (a : EntryId) → same_id a a ≡ true
 same_id-itself a = λ i. eq-eqb a.context a.context refl i && eq-eqb a.entry a.entry refl i
 
 -- the first candidate that answers is that of the entry that answers
-pub answer-judged : (answer : Option EntryId) (list : List Matching) → answer_of list ≡ answer → option_map (λ (c : Candidate). c.id) (find answers (map (judged answer) list)) ≡ answer
-answer-judged answer [] e = e
-answer-judged answer (m ∷ list) e = by (cond (option_map_or (λ (found : EntryId). found.context == m.id.context) answer false) LessSpecific LaterContext) m.has_priority (answer-judged answer list) e where
+pub answer-candidate_of : (answer : Option EntryId) (list : List Matching) → answer_of list ≡ answer → option_map (λ (c : Candidate). c.id) (find answers (map (candidate_of answer) list)) ≡ answer
+answer-candidate_of answer [] e = e
+answer-candidate_of answer (m ∷ list) e = by (cond (option_map_or (λ (found : EntryId). found.context == m.id.context) answer false) LessSpecific LaterContext) m.has_priority (answer-candidate_of answer list) e where
   has_same : Some m.id ≡ answer → option_map_or (λ (found : EntryId). same_id found m.id) answer false ≡ true
   has_same e = ap (λ o. option_map_or (λ (found : EntryId). same_id found m.id) o false) (sym e) ∙ same_id-itself m.id
 
-  by : (other : Verdict) (t : Bool) → (answer_of list ≡ answer → option_map (λ (c : Candidate). c.id) (find answers (map (judged answer) list)) ≡ answer)
+  by : (other : Verdict) (t : Bool) → (answer_of list ≡ answer → option_map (λ (c : Candidate). c.id) (find answers (map (candidate_of answer) list)) ≡ answer)
       → option_map (λ (m : Matching). m.id) (cond t (Some m) (find (λ (m : Matching). m.has_priority) list)) ≡ answer
-      → option_map (λ (c : Candidate). c.id) (cond (is_answer (cond t (cond (option_map_or (λ (found : EntryId). same_id found m.id) answer false) Answers other) NoSuchPriority)) (Some (judged answer m)) (find answers (map (judged answer) list))) ≡ answer
+      → option_map (λ (c : Candidate). c.id) (cond (is_answer (cond t (cond (option_map_or (λ (found : EntryId). same_id found m.id) answer false) Answers other) NoSuchPriority)) (Some (candidate_of answer m)) (find answers (map (candidate_of answer) list))) ≡ answer
   by other false rest e = rest e
-  by other true rest e = ap (λ s. option_map (λ (c : Candidate). c.id) (cond (is_answer (cond s Answers other)) (Some (judged answer m)) (find answers (map (judged answer) list)))) (has_same e) ∙ e
+  by other true rest e = ap (λ s. option_map (λ (c : Candidate). c.id) (cond (is_answer (cond s Answers other)) (Some (candidate_of answer m)) (find answers (map (candidate_of answer) list)))) (has_same e) ∙ e
 
 -- only the entry that answers has the verdict that it does
-pub only-judged : (answer : Option EntryId) (list : List Matching) → All (IsOfAnswer answer) (map (judged answer) list)
-only-judged answer list = All-map (IsOfAnswer answer) (judged answer) list (λ k d below. only answer (get_or list k d)) where
+pub only-candidate_of : (answer : Option EntryId) (list : List Matching) → All (IsOfAnswer answer) (map (candidate_of answer) list)
+only-candidate_of answer list = All-map (IsOfAnswer answer) (candidate_of answer) list (λ k d below. only answer (get_or list k d)) where
   differ : (t : Bool) → cond t LessSpecific LaterContext ≡ Answers → ⊥
   differ true e = absurd cc
   differ false e = absurd cc
@@ -249,5 +249,5 @@ only-judged answer list = All-map (IsOfAnswer answer) (judged answer) list (λ k
   by None m true e = absurd cc
   by (Some found) m true e = found_only found m (same_id found m.id) (found.context == m.id.context) refl e
 
-  only : (answer : Option EntryId) (m : Matching) → IsOfAnswer answer (judged answer m)
+  only : (answer : Option EntryId) (m : Matching) → IsOfAnswer answer (candidate_of answer m)
   only answer m = λ e. by answer m m.has_priority e

@@ -14,7 +14,7 @@ use Rattle.dp_plan.specs.Ranking.{entry_cmp, id_cmp, ids_of, ranked_entry, AreAp
 use Rattle.dp_plan.specs.declared.entry.Entry.{Entry}
 use Rattle.dp_plan.specs.declared.entry.EntryId.{EntryId}
 use Rattle.dp_plan.proofs.RankingLemmas.{entry_cmp_total, is_before, IsRanking-sorted}
-use Rattle.dp_audit.specs.Candidates.{placed, in_order, ranked_of}
+use Rattle.dp_audit.specs.Candidates.{insert_in_order, in_order, ranked_of}
 
 Less-not_back : (o : Ordering) → o ≡ Less → ordering_reverse o ≡ Less → ⊥
 Less-not_back Less e back = absurd cc
@@ -50,23 +50,23 @@ module _ (entries : List Entry) where
   not_back : (x y : EntryId) → is_before entries x y ≡ true → is_before entries y x ≡ false
   not_back x y lt = less-false (id_cmp entries y x) (id_cmp entries x y) ((options_total entry_cmp_total).antisymm (slice_get entries y.entry) (slice_get entries x.entry)) lt
 
-  NotBefore-placed : (x id : EntryId) (ids : List EntryId) → is_before entries id x ≡ false → NotBefore x ids → NotBefore x (placed entries id ids)
-  NotBefore-placed x id [] here rest = here
-  NotBefore-placed x id (y ∷ ids) here rest = by (is_before entries id y) where
-    by : (t : Bool) → NotBefore x (cond t (id ∷ y ∷ ids) (y ∷ placed entries id ids))
+  NotBefore-insert_in_order : (x id : EntryId) (ids : List EntryId) → is_before entries id x ≡ false → NotBefore x ids → NotBefore x (insert_in_order entries id ids)
+  NotBefore-insert_in_order x id [] here rest = here
+  NotBefore-insert_in_order x id (y ∷ ids) here rest = by (is_before entries id y) where
+    by : (t : Bool) → NotBefore x (cond t (id ∷ y ∷ ids) (y ∷ insert_in_order entries id ids))
     by true = here
     by false = rest
 
-  Steps-placed : (id : EntryId) (ids : List EntryId) → Steps ids → Steps (placed entries id ids)
-  Steps-placed id [] steps = (tt, tt)
-  Steps-placed id (x ∷ ids) steps = by (is_before entries id x) refl (Steps-placed id ids steps.1) where
-    by : (t : Bool) → is_before entries id x ≡ t → Steps (placed entries id ids) → Steps (cond t (id ∷ x ∷ ids) (x ∷ placed entries id ids))
+  Steps-insert_in_order : (id : EntryId) (ids : List EntryId) → Steps ids → Steps (insert_in_order entries id ids)
+  Steps-insert_in_order id [] steps = (tt, tt)
+  Steps-insert_in_order id (x ∷ ids) steps = by (is_before entries id x) refl (Steps-insert_in_order id ids steps.1) where
+    by : (t : Bool) → is_before entries id x ≡ t → Steps (insert_in_order entries id ids) → Steps (cond t (id ∷ x ∷ ids) (x ∷ insert_in_order entries id ids))
     by true e rest = (not_back id x e, steps)
-    by false e rest = (NotBefore-placed x id ids e steps.0, rest)
+    by false e rest = (NotBefore-insert_in_order x id ids e steps.0, rest)
 
   Steps-in_order : (ids : List EntryId) → Steps (in_order entries ids)
   Steps-in_order [] = tt
-  Steps-in_order (id ∷ ids) = Steps-placed id (in_order entries ids) (Steps-in_order ids)
+  Steps-in_order (id ∷ ids) = Steps-insert_in_order id (in_order entries ids) (Steps-in_order ids)
 
   sorted_next : (ids : List EntryId) → Steps ids → (k : ℕ) (d : EntryId) → suc k < length ids → is_before entries (get_or ids (suc k) d) (get_or ids k d) ≡ false
   sorted_next [] steps k d within = absurd (omega (arith, within))
@@ -81,17 +81,17 @@ module _ (entries : List Entry) where
 
   -- ---- it has all of them
 
-  whole-placed : (id : EntryId) (ids : List EntryId) → IsPermutation (id ∷ ids) (placed entries id ids)
-  whole-placed id [] = IsPermutation-refl (id ∷ [])
-  whole-placed id (x ∷ ids) = by (is_before entries id x) (whole-placed id ids) where
-    by : (t : Bool) → IsPermutation (id ∷ ids) (placed entries id ids) → IsPermutation (id ∷ x ∷ ids) (cond t (id ∷ x ∷ ids) (x ∷ placed entries id ids))
+  whole-insert_in_order : (id : EntryId) (ids : List EntryId) → IsPermutation (id ∷ ids) (insert_in_order entries id ids)
+  whole-insert_in_order id [] = IsPermutation-refl (id ∷ [])
+  whole-insert_in_order id (x ∷ ids) = by (is_before entries id x) (whole-insert_in_order id ids) where
+    by : (t : Bool) → IsPermutation (id ∷ ids) (insert_in_order entries id ids) → IsPermutation (id ∷ x ∷ ids) (cond t (id ∷ x ∷ ids) (x ∷ insert_in_order entries id ids))
     by true rest = IsPermutation-refl (id ∷ x ∷ ids)
-    by false rest = IsPermutation-trans (id ∷ x ∷ ids) (x ∷ id ∷ ids) (x ∷ placed entries id ids) (IsPermutation-middle (id ∷ []) x ids) (IsPermutation-cons x (id ∷ ids) (placed entries id ids) rest)
+    by false rest = IsPermutation-trans (id ∷ x ∷ ids) (x ∷ id ∷ ids) (x ∷ insert_in_order entries id ids) (IsPermutation-middle (id ∷ []) x ids) (IsPermutation-cons x (id ∷ ids) (insert_in_order entries id ids) rest)
 
   whole-in_order : (ids : List EntryId) → IsPermutation ids (in_order entries ids)
   whole-in_order [] = IsPermutation-refl []
   whole-in_order (id ∷ ids) =
-      IsPermutation-trans (id ∷ ids) (id ∷ in_order entries ids) (placed entries id (in_order entries ids)) (IsPermutation-cons id ids (in_order entries ids) (whole-in_order ids)) (whole-placed id (in_order entries ids))
+      IsPermutation-trans (id ∷ ids) (id ∷ in_order entries ids) (insert_in_order entries id (in_order entries ids)) (IsPermutation-cons id ids (in_order entries ids) (whole-in_order ids)) (whole-insert_in_order id (in_order entries ids))
 
   -- the order by the definition is a ranking, where the entries are apart
   ranking-in_order : (number : ℕ) → AreApart entries → IsRanking number entries (in_order entries (ids_of number entries))

@@ -21,18 +21,18 @@ use Rattle.dp_plan.specs.declared.entry.EntryId.{EntryId}
 use Rattle.dp_audit.specs.Candidates.{same_id}
 use Rattle.dp_audit.specs.Hidden.{hidden_from, is_hidden, some_shares}
 use Rattle.dp_conf.specs.Changes.{changed_at}
-use Rattle.dp_audit.specs.steps.Hiding.{Adds, AreHidden, Grows, Notes, all_hidden, asked, for_each, for_one, is_among, is_at, no_notes, noted_at, place_of, same_place, some_at, with_number}
+use Rattle.dp_audit.specs.steps.Hiding.{Adds, AreHidden, Grows, Notes, all_hidden, numbers_asked, for_each, for_one, is_among, is_at, no_notes, noted_at, place_of, same_place, some_at, with_number}
 use Rattle.dp_audit.specs.Orders.{before, order_at}
-use Rattle.dp_audit.specs.declared.place.Place.{Place}
+use Rattle.dp_audit.specs.declared.entry_place.EntryPlace.{EntryPlace}
 use Rattle.dp_audit.proofs.OrderLemmas.{AreOnce, order_once}
 
 -- ---- places
 
-same_place_symm : (a b : Place) → same_place a b ≡ same_place b a
+same_place_symm : (a b : EntryPlace) → same_place a b ≡ same_place b a
 same_place_symm a b i = nat_list_eq_equiv.symm a.name b.name i && nat_eq_equiv.symm a.priority b.priority i
 
 -- the place is the one that was added, or is among the others
-pub place_added : (added place : Place) (among : Bool) → (if same_place added place then true else among) ≡ (among || same_place place added)
+pub place_added : (added place : EntryPlace) (among : Bool) → (if same_place added place then true else among) ≡ (among || same_place place added)
 place_added added place among = ap (λ b. if b then true else among) (same_place_symm added place) ∙ by among (same_place place added)
   where
     by : (a b : Bool) → (if b then true else a) ≡ (a || b)
@@ -101,7 +101,7 @@ pub grows_as : (a b : Notes) (f g : EntryId → List ℕ) → Grows a b f → ((
 grows_as a b f g grown same id = grown id ∙ ap (λ more. option_map (λ noted. noted ++ more) (noted_at a id)) (same id)
 
 -- a number is noted of one entry, where its place is among these
-pub grows_one : (places : List Place) (id : EntryId) (entry : Entry) (from : ℕ) (notes : Notes) → is_among places entry ≡ true
+pub grows_one : (places : List EntryPlace) (id : EntryId) (entry : Entry) (from : ℕ) (notes : Notes) → is_among places entry ≡ true
     → Grows notes (changed_at (changed_at (with_number from) id.entry) id.context notes) (for_one places id entry from)
 grows_one places id entry from notes among other =
     noted-changed (with_number from) id other notes
@@ -115,7 +115,7 @@ grows_one places id entry from notes among other =
     by false true e (Some noted) = ap Some (sym (append-nil noted))
 
 -- where its place is not among these, nothing is
-pub for_none : (places : List Place) (id : EntryId) (entry : Entry) (from : ℕ) → is_among places entry ≡ false → (other : EntryId) → for_one places id entry from other ≡ []
+pub for_none : (places : List EntryPlace) (id : EntryId) (entry : Entry) (from : ℕ) → is_among places entry ≡ false → (other : EntryId) → for_one places id entry from other ≡ []
 for_none places id entry from absent other = by (same_id other id) (is_among places entry) absent
   where
     by : (b c : Bool) → c ≡ false → (if b && c then from ∷ [] else []) ≡ []
@@ -137,7 +137,7 @@ entry_by plan number k = by (slice_get plan.contexts number)
     by None = refl
     by (Some context) = refl
 
-module _ (plan : PlanOf) (places : List Place) (number from : ℕ) where
+module _ (plan : PlanOf) (places : List EntryPlace) (number from : ℕ) where
   abbrev each : EntryId → List ℕ
   each = for_each plan (is_among places) number from
 
@@ -209,25 +209,25 @@ module _ (plan : PlanOf) (places : List Place) (number from : ℕ) where
 
 module _ (plan : PlanOf) (from : ℕ) where
   -- what is noted of the contexts of an order, after those of others
-  pub asked-push : (earlier order : List ℕ) (number : ℕ) (id : EntryId)
-      → asked plan from earlier order id ++ for_each plan (some_shares plan (earlier ++ order)) number from id
-      ≡ asked plan from earlier (order ++ number ∷ []) id
-  asked-push earlier [] number id =
+  pub numbers_asked-push : (earlier order : List ℕ) (number : ℕ) (id : EntryId)
+      → numbers_asked plan from earlier order id ++ for_each plan (some_shares plan (earlier ++ order)) number from id
+      ≡ numbers_asked plan from earlier (order ++ number ∷ []) id
+  numbers_asked-push earlier [] number id =
       ap (λ contexts. for_each plan (some_shares plan contexts) number from id) (append-nil earlier)
       ∙ sym (append-nil (for_each plan (some_shares plan earlier) number from id))
-  asked-push earlier (first ∷ order) number id =
+  numbers_asked-push earlier (first ∷ order) number id =
       let here = for_each plan (some_shares plan earlier) first from id in
       let next = earlier ++ first ∷ [] in
-      append_assoc here (asked plan from next order id) (for_each plan (some_shares plan (earlier ++ first ∷ order)) number from id)
-      ∙ ap (λ contexts. here ++ (asked plan from next order id ++ for_each plan (some_shares plan contexts) number from id)) (sym (append_assoc earlier (first ∷ []) order))
-      ∙ ap (λ xs. here ++ xs) (asked-push next order number id)
+      append_assoc here (numbers_asked plan from next order id) (for_each plan (some_shares plan (earlier ++ first ∷ order)) number from id)
+      ∙ ap (λ contexts. here ++ (numbers_asked plan from next order id ++ for_each plan (some_shares plan contexts) number from id)) (sym (append_assoc earlier (first ∷ []) order))
+      ∙ ap (λ xs. here ++ xs) (numbers_asked-push next order number id)
 
   abbrev one : Bool → List ℕ
   one is_one = if is_one then from ∷ [] else []
 
   -- an order that has each context once asks each entry once
   asked_once : (earlier order : List ℕ) (id : EntryId) → AreOnce order
-      → asked plan from earlier order id ≡ one (has order id.context && passes plan (some_shares plan (earlier ++ before id.context order)) id)
+      → numbers_asked plan from earlier order id ≡ one (has order id.context && passes plan (some_shares plan (earlier ++ before id.context order)) id)
   asked_once earlier [] id once = refl
   asked_once earlier (first ∷ order) id once =
       at_first earlier first order id once (asked_once (earlier ++ first ∷ []) order id once.1) (id.context == first) refl
@@ -237,10 +237,10 @@ module _ (plan : PlanOf) (from : ℕ) where
           one ((here || last) && passes plan (some_shares plan (earlier ++ (if here then [] else first ∷ before id.context order))) id)
 
       at_first : (earlier : List ℕ) (first : ℕ) (order : List ℕ) (id : EntryId) → AreOnce (first ∷ order)
-          → asked plan from (earlier ++ first ∷ []) order id
+          → numbers_asked plan from (earlier ++ first ∷ []) order id
           ≡ one (has order id.context && passes plan (some_shares plan ((earlier ++ first ∷ []) ++ before id.context order)) id)
           → (b : Bool) → (id.context == first) ≡ b
-          → one (b && passes plan (some_shares plan earlier) id) ++ asked plan from (earlier ++ first ∷ []) order id
+          → one (b && passes plan (some_shares plan earlier) id) ++ numbers_asked plan from (earlier ++ first ∷ []) order id
           ≡ by_first (first == id.context) (has order id.context) earlier first order id
       at_first earlier first order id once rest true here =
           let same : first ≡ id.context = sym (eqb-true id.context first here) in
@@ -258,7 +258,7 @@ module _ (plan : PlanOf) (from : ℕ) where
           ∙ sym (ap (λ b. by_first b (has order id.context) earlier first order id) apart)
 
   -- what is noted of the entries that are hidden from a context
-  pub asked_is_hidden : (id : EntryId) → asked plan from [] (order_at plan from) id ≡ one (passes plan (λ entry. is_hidden plan id entry from) id)
+  pub asked_is_hidden : (id : EntryId) → numbers_asked plan from [] (order_at plan from) id ≡ one (passes plan (λ entry. is_hidden plan id entry from) id)
   asked_is_hidden id = asked_once [] (order_at plan from) id (order_once plan from) ∙ by (entry_at plan id) (has (order_at plan from) id.context)
     where
       by : (o : Option Entry) (b : Bool) → one (b && option_map_or (some_shares plan (before id.context (order_at plan from))) o false)
@@ -271,7 +271,7 @@ module _ (plan : PlanOf) (from : ℕ) where
 -- ---- the places before a context of an order
 
 -- the places of one context more
-pub places_next : (plan : PlanOf) (order : List ℕ) (place context : ℕ) (old new : List Place) → 1 ≤ place → place < length order
+pub places_next : (plan : PlanOf) (order : List ℕ) (place context : ℕ) (old new : List EntryPlace) → 1 ≤ place → place < length order
     → context ≡ get_or order (place - 1) 0
     → Adds (some_at plan (take (place - 1) order)) [] old → Adds (λ p. list_any (is_at p) (entries_at plan context)) old new
     → Adds (some_at plan (take place order)) [] new
@@ -288,24 +288,24 @@ places_next plan order place context old new after within here before added p =
         ∙ ap (λ n. take (place - 1) order ++ n ∷ []) (sym here)
 
 -- what is noted of one context more
-pub noted_next : (plan : PlanOf) (from : ℕ) (order : List ℕ) (place number : ℕ) (places : List Place) (a b c : Notes) → place < length order
+pub noted_next : (plan : PlanOf) (from : ℕ) (order : List ℕ) (place number : ℕ) (places : List EntryPlace) (a b c : Notes) → place < length order
     → number ≡ get_or order place 0 → Adds (some_at plan (take place order)) [] places
-    → Grows a b (asked plan from [] (take place order)) → Grows b c (for_each plan (is_among places) number from)
-    → Grows a c (asked plan from [] (take (place + 1) order))
+    → Grows a b (numbers_asked plan from [] (take place order)) → Grows b c (for_each plan (is_among places) number from)
+    → Grows a c (numbers_asked plan from [] (take (place + 1) order))
 noted_next plan from order place number places a b c within here before first second =
-    grows_both a b c (asked plan from [] (take place order)) (for_each plan (is_among places) number from) (asked plan from [] (take (place + 1) order))
+    grows_both a b c (numbers_asked plan from [] (take place order)) (for_each plan (is_among places) number from) (numbers_asked plan from [] (take (place + 1) order))
     first second
     (λ id.
-    (λ i. asked plan from [] (take place order) id ++ for_each plan (λ entry. before (place_of entry) i) number from id)
-    ∙ asked-push plan from [] (take place order) number id
-    ∙ ap (λ contexts. asked plan from [] contexts id)
+    (λ i. numbers_asked plan from [] (take place order) id ++ for_each plan (λ entry. before (place_of entry) i) number from id)
+    ∙ numbers_asked-push plan from [] (take place order) number id
+    ∙ ap (λ contexts. numbers_asked plan from [] contexts id)
     (sym (take_more order place 0 within ∙ ap (λ n. take place order ++ n ∷ []) (sym here))))
 
 -- ---- all contexts
 
 -- one context more
 pub all_hidden_more : (plan : PlanOf) (count : ℕ) (id : EntryId)
-    → all_hidden plan count id ++ asked plan count [] (order_at plan count) id ≡ all_hidden plan (count + 1) id
+    → all_hidden plan count id ++ numbers_asked plan count [] (order_at plan count) id ≡ all_hidden plan (count + 1) id
 all_hidden_more plan count id =
     ap (λ xs. all_hidden plan count id ++ xs) (asked_is_hidden plan count id)
     ∙ ap (λ numbers. filter test numbers ++ (if test count then count ∷ [] else [])) (sym (map_same (range_with_len 0 count)))

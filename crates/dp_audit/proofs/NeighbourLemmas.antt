@@ -27,7 +27,7 @@ use Rattle.dp_plan.specs.Ranking.{entry_cmp, ids_of, ranked_entry, IsRanking}
 use Rattle.dp_plan.specs.declared.entry.Entry.{Entry}
 use Rattle.dp_plan.specs.declared.entry.EntryId.{EntryId}
 use Rattle.dp_audit.specs.Findings.{has_greater, has_lower}
-use Rattle.dp_audit.specs.steps.Neighbours.{are_of_one_name, is_followed, marked, IsAfter, AreAfter, AreMarks}
+use Rattle.dp_audit.specs.steps.Neighbours.{are_of_one_name, is_followed, with_mark, IsAfter, AreAfter, AreMarks}
 
 -- ---- names
 
@@ -396,7 +396,7 @@ AreAfter-none entries ids shift marks none = record {
 
 -- with the mark of one place more
 pub AreAfter-more : (entries : List Entry) (ids : List EntryId) (shift n : ℕ) (marks : List Bool) → AreAfter entries ids shift n marks
-    → AreAfter entries ids shift (n + 1) (cond (is_followed entries ids n) (marked ids (n + shift) marks) marks)
+    → AreAfter entries ids shift (n + 1) (cond (is_followed entries ids n) (with_mark ids (n + shift) marks) marks)
 AreAfter-more entries ids shift n marks are = by (is_followed entries ids n) refl (slice_get ids (n + shift)) refl
   where
     wider : (k : ℕ) → IsAfter entries ids shift n k → IsAfter entries ids shift (n + 1) k

@@ -3,10 +3,10 @@ use Rattle.std.proofs.Common.{◌≡◌, ℕ, Bool, true, false, List, [], ◌�
 use Rattle.std.specs.Option.{option_to_list}
 use Rattle.std.proofs.lemmas.List.{map-append}
 use Rattle.std.proofs.lemmas.List.Elements.{filter-append}
-use Rattle.dp_audit.specs.Targets.{kept, sides}
+use Rattle.dp_audit.specs.Targets.{if_passes, sides}
 
 -- one side
-filter_side : (test : List ℕ → Bool) (side : Option (List ℕ)) → option_to_list (kept test side) ≡ filter test (option_to_list side)
+filter_side : (test : List ℕ → Bool) (side : Option (List ℕ)) → option_to_list (if_passes test side) ≡ filter test (option_to_list side)
 filter_side test None = refl
 filter_side test (Some text) = by (test text)
   where
@@ -15,9 +15,9 @@ filter_side test (Some text) = by (test text)
     by false = refl
 
 -- both sides
-pub filter_sides : (test : List ℕ → Bool) (first second : Option (List ℕ)) → sides (kept test first) (kept test second) ≡ filter test (sides first second)
+pub filter_sides : (test : List ℕ → Bool) (first second : Option (List ℕ)) → sides (if_passes test first) (if_passes test second) ≡ filter test (sides first second)
 filter_sides test first second =
-    ap (λ xs. xs ++ option_to_list (kept test second)) (filter_side test first)
+    ap (λ xs. xs ++ option_to_list (if_passes test second)) (filter_side test first)
     ∙ ap (λ ys. filter test (option_to_list first) ++ ys) (filter_side test second)
     ∙ sym (filter-append test (option_to_list first) (option_to_list second))
 

@@ -18,15 +18,15 @@ use Rattle.dp_audit.specs.declared.candidate.Verdict.TheVariants.{Answers, LessS
 -- ---- the order of the entries of a context
 
 -- the number among others, before the first whose entry is greater than its own
-abbrev pub placed : List Entry → EntryId → List EntryId → List EntryId
-placed entries id [] = id ∷ []
-placed entries id (other ∷ ids) =
-    if is_lt (id_cmp entries id other) then id ∷ other ∷ ids else other ∷ placed entries id ids
+abbrev pub insert_in_order : List Entry → EntryId → List EntryId → List EntryId
+insert_in_order entries id [] = id ∷ []
+insert_in_order entries id (other ∷ ids) =
+    if is_lt (id_cmp entries id other) then id ∷ other ∷ ids else other ∷ insert_in_order entries id ids
 
 -- the numbers in the order of their entries: by the names, the more specific first, and then by the priorities
 abbrev pub in_order : List Entry → List EntryId → List EntryId
 in_order entries [] = []
-in_order entries (id ∷ ids) = placed entries id (in_order entries ids)
+in_order entries (id ∷ ids) = insert_in_order entries id (in_order entries ids)
 
 -- the entries of the context of a number, in the order in which a look-up asks them
 unfoldable pub ranked_of : PlanOf → ℕ → List EntryId
@@ -104,13 +104,13 @@ verdict_of answer m =
     else (if option_map_or (λ found. found.context == m.id.context) answer false then LessSpecific else LaterContext))
     else NoSuchPriority
 
-abbrev pub judged : Option EntryId → Matching → Candidate
-judged answer m = record { id = m.id; verdict = verdict_of answer m }
+abbrev pub candidate_of : Option EntryId → Matching → Candidate
+candidate_of answer m = record { id = m.id; verdict = verdict_of answer m }
 
 -- the extensions of the contexts of a search order whose name matches, and what decides about each
 unfoldable pub candidates_of : PlanOf → List ℕ → List ℕ → ℕ → List Candidate
 candidates_of plan order text priority =
-    map (judged (found_entry plan order text priority)) (all_matching plan order text priority)
+    map (candidate_of (found_entry plan order text priority)) (all_matching plan order text priority)
 
 -- ---- the candidate that answers
 

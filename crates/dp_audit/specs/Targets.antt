@@ -13,7 +13,7 @@ use Rattle.dp_plan.specs.declared.entry.Entry.{Entry}
 use Rattle.dp_vars.specs.Openings.{has_opening}
 use Rattle.dp_audit.specs.Finders.{answers, has_label}
 use Rattle.dp_audit.specs.declared.jump.Jump.{Jump}
-use Rattle.dp_audit.specs.declared.jump.Parts.{Parts}
+use Rattle.dp_audit.specs.declared.jump.JumpParts.{JumpParts}
 use Rattle.dp_audit.specs.declared.jump.Targets.{Targets}
 
 -- how the application of a name jumps, where it does
@@ -45,8 +45,8 @@ sides_of None = []
 sides_of (Some cut) = sides_by cut.1 (cut_outside 58 cut.1)
 
 -- the list of them
-abbrev pub shown : Targets → List (List ℕ)
-shown targets = sides (option_map (λ text. text.now) targets.first) (option_map (λ text. text.now) targets.second)
+abbrev pub texts_of_targets : Targets → List (List ℕ)
+texts_of_targets targets = sides (option_map (λ text. text.now) targets.first) (option_map (λ text. text.now) targets.second)
 
 -- the targets in the arguments of an application that jumps: the sides of a choice, or all of them
 abbrev pub targets_in : Jump → List ℕ → List (List ℕ)
@@ -58,7 +58,7 @@ pub record PartsOf : Type 0 where
   pub exten : List ℕ
   pub priority : List ℕ
 
-abbrev pub seen : Parts → PartsOf
+abbrev pub seen : JumpParts → PartsOf
 seen parts = record { context = parts.context.now; exten = parts.exten.now; priority = parts.priority.now }
 
 -- the last part of a target: of a subroutine's, what stands before its arguments
@@ -135,9 +135,9 @@ leads plan context name None = false
 leads plan context name (Some parts) = parts_lead plan context name parts
 
 -- what passes a test, where there is something
-abbrev pub kept : (List ℕ → Bool) → Option (List ℕ) → Option (List ℕ)
-kept test None = None
-kept test (Some text) = if test text then Some text else None
+abbrev pub if_passes : (List ℕ → Bool) → Option (List ℕ) → Option (List ℕ)
+if_passes test None = None
+if_passes test (Some text) = if test text then Some text else None
 
 -- a target that stands, and leads nowhere
 abbrev pub is_missing : PlanOf → List ℕ → Meaning → Jump → List ℕ → Bool

@@ -207,12 +207,12 @@ fn verdict_of(answer: Option<EntryId>, matching: Matching) -> Verdict
 }
 
 /// Each of these with what decides about it.
-fn judged(
+fn judge(
     alloc: Global,
     answer: Option<EntryId>,
     list: &[Matching],
 ) -> Result<Vec<Candidate>, NoMemory>
-    ensures { IfOk result (λ judged. judged.items ≡ map (spec.judged answer) list.now) }
+    ensures { IfOk result (λ judged. judged.items ≡ map (spec.candidate_of answer) list.now) }
 {
     list.iter()
         .map(|matching| Candidate {
@@ -245,7 +245,7 @@ pub fn candidates(
 {
     plan.show_entries_known();
     let list = all_matching(alloc, plan, order.contexts(), text, priority)?;
-    judged(alloc, answer_of(&list), &list)
+    judge(alloc, answer_of(&list), &list)
 }
 
 /// The order in which a look-up asks the entries of a context, in any dialplan of whose entries no two of a context have

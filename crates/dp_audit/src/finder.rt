@@ -1,42 +1,75 @@
-//! Look-ups in a dialplan through its tries.
-ghost use Rattle.std.specs.Prelude.{◌≡◌, IfOk};
-ghost use Rattle.dp_trie.specs.Known.{Keeps};
+//! Look-ups in a dialplan by the names of its contexts.
+ghost use Rattle.std.specs.Prelude.{◌≡◌, ◌<◌, [], IfOk};
+ghost use Rattle.std.specs.List.{list_any};
 ghost use Rattle.dp_audit.specs.Finders as spec;
+ghost use Rattle.dp_audit.specs.Findings.{some_first};
+ghost use Rattle.dp_audit.specs.steps.Firsts.{Adds};
+ghost use Rattle.dp_lookup.specs.SearchOrder.{context_count, has, links_at, search_order};
 
-use dp_lookup::ContextOrder;
+use crate::cycle::is_included;
+use crate::firsts::firsts_of;
+use crate::spelling::Spelling;
 use dp_plan::{Dialplan, NoMemory, Text};
-use dp_trie::Trie;
+use dp_trie::Finder;
+use indexmap::IndexSet;
 use std::alloc::Global;
 use std::marker::Model;
 
-/// The tries of a dialplan, and the search order of the context that was asked last. A contract sees it as the dialplan.
+/// A dialplan with its finder. A contract sees it as the dialplan.
 #[derive(Drop)]
-pub(crate) struct Finder<'a> {
+pub(crate) struct PlanFinder<'a> {
     plan: &'a Dialplan,
-    trie: &'a Trie,
-    order: ContextOrder,
+    finder: Finder,
 }
 
-impl<'a> Model for Finder<'a> {
+impl<'a> Model for PlanFinder<'a> {
     ghost use Rattle.dp_plan.specs.Plan.{PlanOf};
-    ghost use Rattle.dp_trie.specs.Known.{Keeps};
-    ghost use Rattle.dp_lookup.specs.ContextOrders.{IsOrder};
+    ghost use Rattle.dp_trie.specs.Finders.{IsFinder};
 
     ghost Value = { PlanOf };
 
-    ghost view = { λ finder. finder.plan.now };
+    ghost view = { λ held. held.plan.now };
 
-    ghost invariant = { λ finder. Keeps finder.plan.now finder.trie.now × IsOrder finder.plan.now finder.order };
+    ghost invariant = { λ held. IsFinder held.plan.now held.finder };
 }
 
-impl<'a> Finder<'a> {
-    /// What look-ups in the dialplan search in.
-    pub(crate) fn new(alloc: Global, plan: &'a Dialplan, trie: &'a Trie) -> Result<Self, NoMemory>
-        requires { Keeps plan.now trie.now }
-        ensures { IfOk result (λ finder. finder ≡ plan.now) }
+impl<'a> PlanFinder<'a> {
+    /// The dialplan with what look-ups in it search in.
+    pub(crate) fn new(alloc: Global, plan: &'a Dialplan) -> Result<Self, NoMemory>
+        ensures { IfOk result (λ held. held ≡ plan.now) }
     {
-        let order = ContextOrder::room(alloc, plan)?;
-        Ok(Finder { plan, trie, order })
+        let finder = Finder::build(alloc, plan)?;
+        Ok(PlanFinder { plan, finder })
+    }
+
+    /// The dialplan.
+    pub(crate) fn plan(&self) -> &'a Dialplan
+        ensures { result.now ≡ self.now }
+    {
+        self.plan
+    }
+
+    /// Whether a context of the search order of this one, which has the number, includes it.
+    pub(crate) fn is_included(&mut self, context: &Text, number: usize) -> bool
+        requires { number < context_count self.old }
+        ensures found { result ≡ list_any (λ other. has (links_at self.old other) number) (search_order self.old context.now) }
+        ensures same { self.new ≡ self.old }
+    {
+        self.finder.turn_to(self.plan, context);
+        is_included(self.plan, self.finder.order(), number)
+    }
+
+    /// The names that have priority 1 in a context of the search order of this one.
+    pub(crate) fn firsts(
+        &mut self,
+        alloc: Global,
+        context: &Text,
+    ) -> Result<IndexSet<Spelling>, NoMemory>
+        ensures firsts { IfOk result (λ names. Adds (some_first self.old (search_order self.old context.now)) [] names.keys) }
+        ensures same { self.new ≡ self.old }
+    {
+        self.finder.turn_to(self.plan, context);
+        firsts_of(alloc, self.plan, self.finder.order())
     }
 
     /// Whether an entry answers for the extension of the context at the priority.
@@ -45,10 +78,8 @@ impl<'a> Finder<'a> {
         ensures found { result ≡ spec.answers self.old context.now exten.now priority }
         ensures same { self.new ≡ self.old }
     {
-        self.order.turn_to(self.plan, context);
-        self.trie
-            .find(self.order.order(), exten, priority)
-            .is_some()
+        self.finder.turn_to(self.plan, context);
+        self.finder.find(exten, priority).is_some()
     }
 
     /// Whether the extension of the context has the label.
@@ -57,9 +88,7 @@ impl<'a> Finder<'a> {
         ensures found { result ≡ spec.has_label self.old context.now exten.now label.now }
         ensures same { self.new ≡ self.old }
     {
-        self.order.turn_to(self.plan, context);
-        self.trie
-            .find_label(self.order.order(), exten, label)
-            .is_some()
+        self.finder.turn_to(self.plan, context);
+        self.finder.find_label(exten, label).is_some()
     }
 }

@@ -1,5 +1,5 @@
 //! The audit of a loaded dialplan.
-ghost use Rattle.std.specs.Prelude.{◌≡◌, ◌≤◌, ◌<◌, ◌++◌, Some, IfOk, OnOk};
+ghost use Rattle.std.specs.Prelude.{◌≡◌, ◌<◌, ◌++◌, Some, IfOk, OnOk};
 ghost use Rattle.std.specs.List.{flat_map, range_with_len};
 ghost use Rattle.dp_audit.specs.Findings as spec;
 ghost use Rattle.dp_audit.specs.steps.Hiding.{AreHidden};
@@ -7,32 +7,26 @@ ghost use Rattle.dp_audit.specs.Labels.{IsNaming};
 ghost use Rattle.dp_audit.specs.Orders.{order_at};
 ghost use Rattle.dp_audit.specs.steps.Scene.{IsKnown, IsScene};
 ghost use Rattle.dp_audit.specs.Unset.{AreSet};
-ghost use Rattle.dp_lookup.specs.SearchOrder.{context_count};
+ghost use Rattle.dp_lookup.specs.SearchOrder.{context_count, search_order};
 ghost use Rattle.dp_plan.specs.Lookup.{entry_at};
 
-use crate::cycle::is_included;
-use crate::finder::Finder;
+use crate::finder::PlanFinder;
 use crate::finding::Finding;
-use crate::firsts::firsts_of;
 use crate::gap::{is_gap, lacks_first};
 use crate::hidden::{Hidings, push_hidden};
 use crate::labels::Naming;
 use crate::names::Names;
 use crate::neighbours::{entries_at, greater_marks, lower_marks};
-use crate::order::fill;
+use crate::order::name_at;
 use crate::scene::Scene;
 use crate::target::push_missing;
 use crate::unset::{SetNames, push_unset};
-use dp_lookup::SearchOrder;
 use dp_plan::{Dialplan, Entry, EntryId, NoMemory, Text};
-use dp_trie::Trie;
 use std::alloc::Global;
 
-/// A dialplan with its trie, and what may name its labels, what it sets and what it hides.
+/// What may name the labels of a dialplan, what it sets and what it hides.
 #[derive(Clone, Copy)]
 struct Known<'a> {
-    plan: &'a Dialplan,
-    trie: &'a Trie,
     naming: &'a Naming,
     set: &'a SetNames,
     hidden: &'a Hidings,
@@ -51,18 +45,20 @@ fn push_if(findings: &mut Vec<Finding>, is_one: bool, finding: Finding) -> Resul
 /// Adds what is found of the priorities of the entry's extension.
 fn push_of_priorities(
     findings: &mut Vec<Finding>,
+    finder: &mut PlanFinder<'_>,
     scene: &Scene<'_>,
     id: EntryId,
     entry: &Entry,
 ) -> Result<(), NoMemory>
-    requires scene { IsScene id.context scene.now }
-    requires there { entry_at scene.now.plan.now id ≡ Some entry.now }
-    ensures { OnOk result (findings.new.items
-        ≡ findings.old.items ++ spec.of_priorities scene.now.plan.now id entry.now) }
+    requires scene { IsScene finder.old id.context scene.now }
+    requires there { entry_at finder.old id ≡ Some entry.now }
+    ensures found { OnOk result (findings.new.items
+        ≡ findings.old.items ++ spec.of_priorities finder.old id entry.now) }
+    ensures same { finder.new ≡ finder.old }
 {
-    let is_gap = is_gap(scene, id, entry);
+    let is_gap = is_gap(finder, scene, id, entry);
     push_if(findings, is_gap, Finding::Gap { entry: id })?;
-    let lacks_first = lacks_first(scene, id, entry)?;
+    let lacks_first = lacks_first(finder, scene, id, entry)?;
     push_if(findings, lacks_first, Finding::NoFirst { entry: id })?;
     Ok(())
 }
@@ -71,14 +67,15 @@ fn push_of_priorities(
 fn push_of_texts<N: Names>(
     findings: &mut Vec<Finding>,
     alloc: Global,
+    finder: &PlanFinder<'_>,
     scene: &Scene<'_>,
     id: EntryId,
     entry: &Entry,
 ) -> Result<(), NoMemory>
-    requires scene { IsScene id.context scene.now }
-    requires naming { IsNaming N.known scene.now.plan.now scene.now.naming.now }
+    requires scene { IsScene finder.now id.context scene.now }
+    requires naming { IsNaming N.known finder.now scene.now.naming.now }
     ensures { OnOk result (findings.new.items
-        ≡ findings.old.items ++ spec.of_texts N.known scene.now.plan.now id entry.now) }
+        ≡ findings.old.items ++ spec.of_texts N.known finder.now id entry.now) }
 {
     push_unset(findings, alloc, scene.set, id, entry)?;
     let is_unused = scene.naming.is_unused(alloc, entry)?;
@@ -91,25 +88,24 @@ fn push_of_texts<N: Names>(
 fn push_of<N: Names>(
     findings: &mut Vec<Finding>,
     alloc: Global,
-    finder: &mut Finder<'_>,
+    finder: &mut PlanFinder<'_>,
     scene: &Scene<'_>,
     id: EntryId,
     entry: &Entry,
 ) -> Result<(), NoMemory>
-    requires scene { IsScene id.context scene.now }
-    requires there { entry_at scene.now.plan.now id ≡ Some entry.now }
-    requires naming { IsNaming N.known scene.now.plan.now scene.now.naming.now }
-    requires finds { finder.old ≡ scene.now.plan.now }
+    requires scene { IsScene finder.old id.context scene.now }
+    requires there { entry_at finder.old id ≡ Some entry.now }
+    requires naming { IsNaming N.known finder.old scene.now.naming.now }
     ensures found { OnOk result (findings.new.items
-        ≡ findings.old.items ++ spec.of_entry N.known scene.now.plan.now id entry.now) }
+        ≡ findings.old.items ++ spec.of_entry N.known finder.old id entry.now) }
     ensures same { finder.new ≡ finder.old }
 {
     let is_unknown = !N::has_application(entry.application.bytes());
     push_if(findings, is_unknown, Finding::NoApplication { entry: id })?;
     push_missing(findings, alloc, finder, scene.context, id, entry)?;
-    push_of_priorities(findings, scene, id, entry)?;
+    push_of_priorities(findings, finder, scene, id, entry)?;
     push_hidden(findings, scene.hidden, id)?;
-    push_of_texts::<N>(findings, alloc, scene, id, entry)?;
+    push_of_texts::<N>(findings, alloc, finder, scene, id, entry)?;
     Ok(())
 }
 
@@ -117,18 +113,17 @@ fn push_of<N: Names>(
 fn push_of_entry<N: Names>(
     findings: &mut Vec<Finding>,
     alloc: Global,
-    finder: &mut Finder<'_>,
+    finder: &mut PlanFinder<'_>,
     scene: &Scene<'_>,
     id: EntryId,
 ) -> Result<(), NoMemory>
-    requires scene { IsScene id.context scene.now }
-    requires naming { IsNaming N.known scene.now.plan.now scene.now.naming.now }
-    requires finds { finder.old ≡ scene.now.plan.now }
+    requires scene { IsScene finder.old id.context scene.now }
+    requires naming { IsNaming N.known finder.old scene.now.naming.now }
     ensures found { OnOk result (findings.new.items
-        ≡ findings.old.items ++ spec.findings_of_entry N.known scene.now.plan.now id) }
+        ≡ findings.old.items ++ spec.findings_of_entry N.known finder.old id) }
     ensures same { finder.new ≡ finder.old }
 {
-    match scene.plan.entry(id) {
+    match finder.plan().entry(id) {
         Some(entry) => push_of::<N>(findings, alloc, finder, scene, id, entry),
         None => Ok(()),
     }
@@ -139,18 +134,17 @@ fn push_of_entry<N: Names>(
 fn push_of_entries<N: Names>(
     findings: &mut Vec<Finding>,
     alloc: Global,
-    finder: &mut Finder<'_>,
+    finder: &mut PlanFinder<'_>,
     scene: &Scene<'_>,
     number: usize,
 ) -> Result<(), NoMemory>
-    requires scene { IsScene number scene.now }
-    requires naming { IsNaming N.known scene.now.plan.now scene.now.naming.now }
-    requires finds { finder.old ≡ scene.now.plan.now }
+    requires scene { IsScene finder.old number scene.now }
+    requires naming { IsNaming N.known finder.old scene.now.naming.now }
     ensures found { OnOk result (findings.new.items
-        ≡ findings.old.items ++ spec.findings_of_entries N.known scene.now.plan.now number) }
+        ≡ findings.old.items ++ spec.findings_of_entries N.known finder.old number) }
     ensures same { finder.new ≡ finder.old }
 {
-    for entry in 0..entries_at(scene.plan, number).len() {
+    for entry in 0..entries_at(finder.plan(), number).len() {
         let id = EntryId {
             context: number,
             entry,
@@ -160,31 +154,27 @@ fn push_of_entries<N: Names>(
     Ok(())
 }
 
-/// Adds what is found of the entries of the context of the number, of which this is the search order.
-fn push_by_order<N: Names>(
+/// Adds what is found of the entries of the context of the name and number.
+fn push_of_named<N: Names>(
     alloc: Global,
     findings: &mut Vec<Finding>,
-    finder: &mut Finder<'_>,
+    finder: &mut PlanFinder<'_>,
     known: Known<'_>,
     context: &Text,
-    order: &SearchOrder,
     number: usize,
 ) -> Result<(), NoMemory>
-    requires known { IsKnown N.known known }
-    requires finds { finder.old ≡ known.plan.now }
-    requires context { context.now ≡ spec.context_name known.plan.now number }
-    requires order { order.now.contexts ≡ order_at known.plan.now number }
+    requires known { IsKnown N.known finder.old known }
+    requires context { context.now ≡ spec.context_name finder.old number }
+    requires order { search_order finder.old context.now ≡ order_at finder.old number }
     ensures found { OnOk result (findings.new.items
-        ≡ findings.old.items ++ spec.findings_of_entries N.known known.entry.plan.now number) }
+        ≡ findings.old.items ++ spec.findings_of_entries N.known finder.old number) }
     ensures same { finder.new ≡ finder.old }
 {
-    let greater = greater_marks(alloc, known.plan, number)?;
-    let lower = lower_marks(alloc, known.plan, number)?;
-    let firsts = firsts_of(alloc, known.plan, order.contexts())?;
+    let plan = finder.plan();
+    let greater = greater_marks(alloc, plan, number)?;
+    let lower = lower_marks(alloc, plan, number)?;
+    let firsts = finder.firsts(alloc, context)?;
     let scene = Scene {
-        plan: known.plan,
-        trie: known.trie,
-        order,
         greater: &greater,
         lower: &lower,
         firsts: &firsts,
@@ -201,44 +191,36 @@ fn push_by_order<N: Names>(
 fn push_of_context<N: Names>(
     alloc: Global,
     findings: &mut Vec<Finding>,
-    finder: &mut Finder<'_>,
+    finder: &mut PlanFinder<'_>,
     known: Known<'_>,
-    order: &mut SearchOrder,
     number: usize,
 ) -> Result<(), NoMemory>
-    requires context { number < context_count known.plan.now }
-    requires known { IsKnown N.known known }
-    requires finds { finder.old ≡ known.plan.now }
-    requires room { context_count known.plan.now ≤ order.old.room }
+    requires context { number < context_count finder.old }
+    requires known { IsKnown N.known finder.old known }
     ensures found { OnOk result (findings.new.items
-        ≡ findings.old.items ++ spec.findings_of_context N.known known.entry.plan.now number) }
+        ≡ findings.old.items ++ spec.findings_of_context N.known finder.old number) }
     ensures same { finder.new ≡ finder.old }
-    ensures room { order.new.room ≡ order.old.room }
 {
-    let context = fill(known.plan, number, order);
-    let is_cycle = is_included(known.plan, order.contexts(), number);
+    let context = name_at(finder.plan(), number);
+    let is_cycle = finder.is_included(context, number);
     push_if(findings, is_cycle, Finding::Cycle { context: number })?;
-    push_by_order::<N>(alloc, findings, finder, known, context, order, number)?;
+    push_of_named::<N>(alloc, findings, finder, known, context, number)?;
     Ok(())
 }
 
 /// What is found of the contexts, in the order of the file.
 fn findings_of<N: Names>(
     alloc: Global,
-    finder: &mut Finder<'_>,
+    finder: &mut PlanFinder<'_>,
     known: Known<'_>,
-    order: &mut SearchOrder,
 ) -> Result<Vec<Finding>, NoMemory>
-    requires known { IsKnown N.known known }
-    requires finds { finder.old ≡ known.plan.now }
-    requires room { context_count known.plan.now ≤ order.old.room }
+    requires known { IsKnown N.known finder.old known }
     ensures { IfOk result (λ findings. findings.items
-        ≡ flat_map (spec.findings_of_context N.known known.entry.plan.now)
-        (range_with_len 0 (context_count known.entry.plan.now))) }
+        ≡ flat_map (spec.findings_of_context N.known finder.old) (range_with_len 0 (context_count finder.old))) }
 {
     let mut findings = Vec::new(alloc);
-    for number in 0..known.plan.contexts().len() {
-        push_of_context::<N>(alloc, &mut findings, finder, known, order, number)?;
+    for number in 0..finder.plan().contexts().len() {
+        push_of_context::<N>(alloc, &mut findings, finder, known, number)?;
     }
     Ok(findings)
 }
@@ -257,17 +239,13 @@ fn findings_by<N: Names>(
     requires hidden { AreHidden plan.now hidden.now }
     ensures { IfOk result (λ findings. findings.items ≡ spec.findings_of N.known plan.now) }
 {
-    let trie = Trie::build(alloc, plan)?;
-    let mut order = SearchOrder::room(alloc, plan)?;
-    let mut finder = Finder::new(alloc, plan, &trie)?;
+    let mut finder = PlanFinder::new(alloc, plan)?;
     let known = Known {
-        plan,
-        trie: &trie,
         naming,
         set,
         hidden,
     };
-    let findings = findings_of::<N>(alloc, &mut finder, known, &mut order)?;
+    let findings = findings_of::<N>(alloc, &mut finder, known)?;
     Ok(findings)
 }
 

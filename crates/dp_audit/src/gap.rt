@@ -5,17 +5,15 @@ ghost use Rattle.std.specs.List.{list_any};
 ghost use Rattle.dp_audit.specs.Findings as spec;
 ghost use Rattle.dp_audit.specs.steps.Firsts.{Adds};
 ghost use Rattle.dp_audit.specs.steps.Scene.{IsScene};
+ghost use Rattle.dp_lookup.specs.SearchOrder.{search_order};
 ghost use Rattle.dp_pattern.specs.Spelling.{spelling};
 ghost use Rattle.dp_plan.specs.Lookup.{entry_at};
-ghost use Rattle.dp_plan.specs.Plan.{PlanOf};
-ghost use Rattle.dp_trie.specs.Known.{Keeps};
 
+use crate::finder::PlanFinder;
 use crate::scene::Scene;
 use crate::spelling::Spelling;
-use dp_lookup::SearchOrder;
 use dp_pattern::{Name, Parts};
-use dp_plan::{Entry, EntryId, NoMemory, SharedName};
-use dp_trie::Trie;
+use dp_plan::{Entry, EntryId, NoMemory, SharedName, Text};
 use indexmap::IndexSet;
 
 /// Whether the number is marked.
@@ -29,23 +27,31 @@ fn is_marked(marks: &[bool], number: usize) -> bool
 }
 
 /// Whether the name is plain, and no entry is found for its text at the priority.
-fn lacks(trie: &Trie, order: &SearchOrder, name: &Name, priority: u32) -> bool
-    ensures { (plan : PlanOf) → Keeps plan trie.now → result ≡ spec.lacks plan order.now.contexts name.now priority }
+#[tactic(auto, unfolding(crate::specs::Finders::answers))]
+fn lacks(finder: &mut PlanFinder<'_>, context: &Text, name: &Name, priority: u32) -> bool
+    ensures lacks { result ≡ spec.lacks finder.old (search_order finder.old context.now) name.now priority }
+    ensures same { finder.new ≡ finder.old }
 {
     match name.parts() {
-        Parts::Plain(text) => trie.find(order, text, priority).is_none(),
+        Parts::Plain(text) => !finder.answers(context, text, priority),
         Parts::Pattern(_, _) => false,
     }
 }
 
 /// Whether a call that runs the entry ends at the next priority, though its extension goes on after it.
-pub(crate) fn is_gap(scene: &Scene<'_>, id: EntryId, entry: &Entry) -> bool
-    requires scene { IsScene id.context scene.now }
-    requires there { entry_at scene.now.plan.now id ≡ Some entry.now }
-    ensures { result ≡ spec.is_gap scene.now.plan.now id entry.now }
+pub(crate) fn is_gap(
+    finder: &mut PlanFinder<'_>,
+    scene: &Scene<'_>,
+    id: EntryId,
+    entry: &Entry,
+) -> bool
+    requires scene { IsScene finder.old id.context scene.now }
+    requires there { entry_at finder.old id ≡ Some entry.now }
+    ensures gap { result ≡ spec.is_gap finder.old id entry.now }
+    ensures same { finder.new ≡ finder.old }
 {
     let next = entry.priority.get() + 1;
-    is_marked(scene.greater, id.entry) && lacks(scene.trie, scene.order, entry.name.name(), next)
+    is_marked(scene.greater, id.entry) && lacks(finder, scene.context, entry.name.name(), next)
 }
 
 /// Whether the name is among these.
@@ -57,13 +63,19 @@ fn has_name(names: &IndexSet<Spelling>, name: &SharedName) -> Result<bool, NoMem
 }
 
 /// Whether no call for the name finds priority 1.
-fn lacks_beginning(scene: &Scene<'_>, name: &SharedName) -> Result<bool, NoMemory>
-    requires keeps { Keeps scene.now.plan.now scene.now.trie.now }
-    requires firsts { Adds (spec.some_first scene.now.plan.now scene.now.order.now.contexts) [] scene.now.firsts.now.keys }
-    ensures { IfOk result (λ lacks. lacks ≡ spec.lacks_beginning scene.now.plan.now scene.now.order.now.contexts name.now) }
+#[tactic(auto, unfolding(crate::specs::Finders::answers))]
+fn lacks_beginning(
+    finder: &mut PlanFinder<'_>,
+    scene: &Scene<'_>,
+    name: &SharedName,
+) -> Result<bool, NoMemory>
+    requires { Adds (spec.some_first finder.old (search_order finder.old scene.now.context.now)) [] scene.now.firsts.now.keys }
+    ensures lacks { IfOk result (λ lacks. lacks
+        ≡ spec.lacks_beginning finder.old (search_order finder.old scene.now.context.now) name.now) }
+    ensures same { finder.new ≡ finder.old }
 {
     match name.name().parts() {
-        Parts::Plain(text) => Ok(scene.trie.find(scene.order, text, 1).is_none()),
+        Parts::Plain(text) => Ok(!finder.answers(scene.context, text, 1)),
         Parts::Pattern(_, _) => {
             let is_found = has_name(scene.firsts, name)?;
             Ok(!is_found)
@@ -72,14 +84,20 @@ fn lacks_beginning(scene: &Scene<'_>, name: &SharedName) -> Result<bool, NoMemor
 }
 
 /// Whether the entry has the lowest priority of its extension, and no call for it finds priority 1.
-pub(crate) fn lacks_first(scene: &Scene<'_>, id: EntryId, entry: &Entry) -> Result<bool, NoMemory>
-    requires scene { IsScene id.context scene.now }
-    requires there { entry_at scene.now.plan.now id ≡ Some entry.now }
-    ensures { IfOk result (λ lacks. lacks ≡ spec.lacks_first scene.now.plan.now id entry.now) }
+pub(crate) fn lacks_first(
+    finder: &mut PlanFinder<'_>,
+    scene: &Scene<'_>,
+    id: EntryId,
+    entry: &Entry,
+) -> Result<bool, NoMemory>
+    requires scene { IsScene finder.old id.context scene.now }
+    requires there { entry_at finder.old id ≡ Some entry.now }
+    ensures lacks { IfOk result (λ lacks. lacks ≡ spec.lacks_first finder.old id entry.now) }
+    ensures same { finder.new ≡ finder.old }
 {
     if is_marked(scene.lower, id.entry) {
         return Ok(false);
     }
-    let lacks = lacks_beginning(scene, &entry.name)?;
+    let lacks = lacks_beginning(finder, scene, &entry.name)?;
     Ok(lacks)
 }

@@ -14,10 +14,10 @@ ghost use Rattle.dp_plan.specs.Plan.{PlanOf};
 ghost use Rattle.dp_plan.specs.declared.entry.Entry.{Entry};
 ghost use Rattle.dp_plan.specs.declared.entry.EntryId.{EntryId};
 
+use crate::entry_place::{EntryPlace, add_places, is_among};
 use crate::finding::Finding;
 use crate::neighbours::entries_at;
 use crate::order::fill;
-use crate::place::{Place, add_places, is_among};
 use dp_lookup::SearchOrder;
 use dp_plan::{Context, Dialplan, Entry, EntryId, NoMemory};
 use indexmap::IndexSet;
@@ -26,11 +26,11 @@ use std::marker::Model;
 
 /// The numbers of the contexts from which an entry is hidden. A contract sees them as a list.
 #[derive(Drop)]
-struct Numbers {
+struct ContextNumbers {
     list: Vec<usize>,
 }
 
-impl Model for Numbers {
+impl Model for ContextNumbers {
     ghost use Rattle.std.specs.Prelude.{ℕ, List};
 
     ghost Value = { List ℕ };
@@ -38,12 +38,12 @@ impl Model for Numbers {
     ghost view = { λ numbers. numbers.list.items };
 }
 
-impl Numbers {
+impl ContextNumbers {
     /// No numbers. It takes no memory.
     fn new(alloc: Global) -> Self
         ensures { result ≡ [] }
     {
-        Numbers {
+        ContextNumbers {
             list: Vec::new(alloc),
         }
     }
@@ -60,7 +60,7 @@ impl Numbers {
 /// Such numbers of each entry of a context. A contract sees them as a list of lists.
 #[derive(Drop)]
 struct EntryNumbers {
-    entries: Vec<Numbers>,
+    entries: Vec<ContextNumbers>,
 }
 
 impl Model for EntryNumbers {
@@ -78,7 +78,7 @@ impl EntryNumbers {
     {
         let mut entries = Vec::with_capacity(alloc, count)?;
         for _ in 0..count {
-            entries.push(Numbers::new(alloc))?;
+            entries.push(ContextNumbers::new(alloc))?;
         }
         Ok(EntryNumbers { entries })
     }
@@ -146,7 +146,7 @@ impl Hidings {
     /// Notes that an entry is hidden from the context of a number, where its place is among these.
     fn ask_entry(
         &mut self,
-        places: &IndexSet<Place>,
+        places: &IndexSet<EntryPlace>,
         id: EntryId,
         entry: &Entry,
         from: usize,
@@ -163,7 +163,7 @@ impl Hidings {
     fn ask_context(
         &mut self,
         plan: &Dialplan,
-        places: &IndexSet<Place>,
+        places: &IndexSet<EntryPlace>,
         number: usize,
         from: usize,
     ) -> Result<(), NoMemory>
@@ -185,7 +185,7 @@ impl Hidings {
     fn ask_next(
         &mut self,
         plan: &Dialplan,
-        places: &mut IndexSet<Place>,
+        places: &mut IndexSet<EntryPlace>,
         before: usize,
         number: usize,
         from: usize,
@@ -209,7 +209,7 @@ impl Hidings {
         order: &[usize],
         from: usize,
     ) -> Result<(), NoMemory>
-        ensures { OnOk result (spec.Grows self.old self.new (spec.asked plan.now from [] order.now)) }
+        ensures { OnOk result (spec.Grows self.old self.new (spec.numbers_asked plan.now from [] order.now)) }
     {
         let mut places = IndexSet::new(alloc);
         for place in 1..order.len() {

@@ -70,7 +70,7 @@ fn side(text: &[u8]) -> Option<&[u8]>
 
 /// The sides of a choice, by its arguments.
 fn sides_of(arguments: &[u8]) -> Targets<'_>
-    ensures { spec.shown result ≡ spec.sides_of (cuts.cut_once 63 arguments.now) }
+    ensures { spec.texts_of_targets result ≡ spec.sides_of (cuts.cut_once 63 arguments.now) }
 {
     match cut_once(arguments, b'?') {
         None => Targets {
@@ -92,7 +92,7 @@ fn sides_of(arguments: &[u8]) -> Targets<'_>
 
 /// The targets in the arguments of an application that jumps.
 pub(crate) fn targets_in(jump: Jump, arguments: &[u8]) -> Targets<'_>
-    ensures { spec.shown result ≡ spec.targets_in jump arguments.now }
+    ensures { spec.texts_of_targets result ≡ spec.targets_in jump arguments.now }
 {
     if jump.is_choice {
         return sides_of(arguments);
@@ -105,7 +105,7 @@ pub(crate) fn targets_in(jump: Jump, arguments: &[u8]) -> Targets<'_>
 
 /// A target by its parts. A part that is not given is empty.
 #[derive(Clone, Copy)]
-pub(crate) struct Parts<'a> {
+pub(crate) struct JumpParts<'a> {
     pub(crate) context: &'a [u8],
     pub(crate) exten: &'a [u8],
     pub(crate) priority: &'a [u8],
@@ -125,12 +125,12 @@ fn priority_in(jump: Jump, part: &[u8]) -> &[u8]
 }
 
 /// The parts of a target's text, where there are one to three of them.
-pub(crate) fn parts_of(jump: Jump, text: &[u8]) -> Option<Parts<'_>>
+pub(crate) fn parts_of(jump: Jump, text: &[u8]) -> Option<JumpParts<'_>>
     ensures { option_map spec.seen result ≡ spec.parts_of jump text.now }
 {
     let (first, after) = first_argument(text);
     let Some(after) = after else {
-        return Some(Parts {
+        return Some(JumpParts {
             context: b"",
             exten: b"",
             priority: priority_in(jump, trim(first)),
@@ -138,7 +138,7 @@ pub(crate) fn parts_of(jump: Jump, text: &[u8]) -> Option<Parts<'_>>
     };
     let (second, after) = first_argument(after);
     let Some(after) = after else {
-        return Some(Parts {
+        return Some(JumpParts {
             context: b"",
             exten: trim(first),
             priority: priority_in(jump, trim(second)),
@@ -146,7 +146,7 @@ pub(crate) fn parts_of(jump: Jump, text: &[u8]) -> Option<Parts<'_>>
     };
     let (third, after) = first_argument(after);
     let Some(after) = after else {
-        return Some(Parts {
+        return Some(JumpParts {
             context: trim(first),
             exten: trim(second),
             priority: priority_in(jump, trim(third)),
@@ -177,7 +177,7 @@ fn stands(text: &[u8]) -> bool
 }
 
 /// Whether each part of a target stands; of more than three parts, the whole text.
-pub(crate) fn parts_stand(text: &[u8], parts: Option<Parts<'_>>) -> bool
+pub(crate) fn parts_stand(text: &[u8], parts: Option<JumpParts<'_>>) -> bool
     ensures { result ≡ spec.parts_stand text.now (option_map spec.seen parts.entry) }
 {
     match parts {

@@ -5,7 +5,7 @@ ghost use Rattle.std.specs.Option.{option_map, option_to_list};
 ghost use Rattle.dp_plan.specs.Plan.{PlanOf};
 ghost use Rattle.dp_audit.specs.Labels as spec;
 ghost use Rattle.dp_audit.specs.Pieces as cut;
-ghost use Rattle.dp_audit.specs.Targets.{shown};
+ghost use Rattle.dp_audit.specs.Targets.{texts_of_targets};
 
 use crate::jump::{Jump, Targets, jump_of, parts_of, parts_stand, targets_in};
 use crate::names::Names;
@@ -58,7 +58,7 @@ impl Named {
         jump: Jump,
         targets: Targets<'_>,
     ) -> Result<(), NoMemory>
-        ensures { OnOk result (spec.NotesTexts jump self.old self.new (shown targets.entry)) }
+        ensures { OnOk result (spec.NotesTexts jump self.old self.new (texts_of_targets targets.entry)) }
     {
         self.note_side(alloc, jump, targets.first)?;
         self.note_side(alloc, jump, targets.second)?;

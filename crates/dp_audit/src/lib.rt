@@ -4,6 +4,7 @@
 
 mod candidate;
 mod cycle;
+mod entry_place;
 mod finder;
 mod finding;
 mod findings;
@@ -16,7 +17,6 @@ mod names;
 mod neighbours;
 mod order;
 mod pieces;
-mod place;
 mod scene;
 mod spelling;
 mod target;

@@ -40,7 +40,7 @@ fn is_followed(entries: &[Entry], ids: &[EntryId], place: usize) -> bool
 
 /// Marks the entry at the place of a ranking, where there is one.
 fn mark(ids: &[EntryId], place: usize, marks: &mut [bool])
-    ensures { marks.new ≡ spec.marked ids.now place marks.old }
+    ensures { marks.new ≡ spec.with_mark ids.now place marks.old }
 {
     if let Some(id) = ids.get(place) {
         if id.entry < marks.len() {
@@ -53,7 +53,7 @@ fn mark(ids: &[EntryId], place: usize, marks: &mut [bool])
 fn mark_after(entries: &[Entry], ids: &[EntryId], place: usize, shift: usize, marks: &mut [bool])
     requires place { place < length ids.now }
     requires near { shift ≤ 1 }
-    ensures { marks.new ≡ (if spec.is_followed entries.now ids.now place then spec.marked ids.now
+    ensures { marks.new ≡ (if spec.is_followed entries.now ids.now place then spec.with_mark ids.now
         (place + shift) marks.old else marks.old) }
 {
     if is_followed(entries, ids, place) {

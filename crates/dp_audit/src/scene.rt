@@ -3,18 +3,13 @@ use crate::hidden::Hidings;
 use crate::labels::Naming;
 use crate::spelling::Spelling;
 use crate::unset::SetNames;
-use dp_lookup::SearchOrder;
-use dp_plan::{Dialplan, Text};
-use dp_trie::Trie;
+use dp_plan::Text;
 use indexmap::IndexSet;
 
-/// A dialplan with its trie, and of one context the search order, and which of its entries have one of a greater and of a
-/// lower priority in their extension, and the names that have priority 1 in a context of the order.
+/// Of one context which of its entries have one of a greater and of a lower priority in their extension, and the names that have
+/// priority 1 in a context of its search order.
 #[derive(Clone, Copy)]
 pub(crate) struct Scene<'a> {
-    pub(crate) plan: &'a Dialplan,
-    pub(crate) trie: &'a Trie,
-    pub(crate) order: &'a SearchOrder,
     pub(crate) greater: &'a [bool],
     pub(crate) lower: &'a [bool],
     pub(crate) firsts: &'a IndexSet<Spelling>,

@@ -3,9 +3,9 @@ ghost use Rattle.std.specs.Prelude.{◌≡◌, ◌++◌, IfOk, OnOk, filter, map
 ghost use Rattle.std.specs.Option.{option_map, option_to_list};
 ghost use Rattle.dp_audit.specs.Targets as spec;
 
-use crate::finder::Finder;
+use crate::finder::PlanFinder;
 use crate::finding::Finding;
-use crate::jump::{Jump, Parts, Targets, jump_of, parts_of, parts_stand, targets_in};
+use crate::jump::{Jump, JumpParts, Targets, jump_of, parts_of, parts_stand, targets_in};
 use dp_conf::read_number;
 use dp_pattern::{Name, Parts as NameParts};
 use dp_plan::{Entry, EntryId, MOST_PRIORITY, NoMemory, Text};
@@ -25,7 +25,7 @@ fn exten_of<'a>(name: &'a Name, part: &'a [u8]) -> Option<&'a [u8]>
 }
 
 /// Whether the number is a priority at which an entry answers.
-fn number_leads(finder: &mut Finder<'_>, context: &Text, exten: &[u8], number: u64) -> bool
+fn number_leads(finder: &mut PlanFinder<'_>, context: &Text, exten: &[u8], number: u64) -> bool
     ensures leads { result ≡ spec.number_leads finder.old context.now exten.now number }
     ensures same { finder.new ≡ finder.old }
 {
@@ -38,7 +38,7 @@ fn number_leads(finder: &mut Finder<'_>, context: &Text, exten: &[u8], number: u
 }
 
 /// Whether what a text writes is found at an extension of a context: the priority of that number, else the label.
-fn priority_leads(finder: &mut Finder<'_>, context: &Text, exten: &[u8], text: &[u8]) -> bool
+fn priority_leads(finder: &mut PlanFinder<'_>, context: &Text, exten: &[u8], text: &[u8]) -> bool
     ensures leads { result ≡ spec.priority_leads finder.old context.now exten.now text.now }
     ensures same { finder.new ≡ finder.old }
 {
@@ -53,10 +53,10 @@ fn priority_leads(finder: &mut Finder<'_>, context: &Text, exten: &[u8], text: &
 
 /// Whether the priority is found at an extension of the context that is given, else of the entry's own.
 fn exten_leads(
-    finder: &mut Finder<'_>,
+    finder: &mut PlanFinder<'_>,
     alloc: Global,
     own: &Text,
-    parts: Parts<'_>,
+    parts: JumpParts<'_>,
     exten: &[u8],
 ) -> Result<bool, NoMemory>
     ensures leads { IfOk result (λ leads. leads
@@ -72,11 +72,11 @@ fn exten_leads(
 
 /// Whether the parts lead to an entry, from an entry of this name in this context.
 fn leads(
-    finder: &mut Finder<'_>,
+    finder: &mut PlanFinder<'_>,
     alloc: Global,
     own: &Text,
     name: &Name,
-    parts: Option<Parts<'_>>,
+    parts: Option<JumpParts<'_>>,
 ) -> Result<bool, NoMemory>
     ensures leads { IfOk result (λ leads. leads
         ≡ spec.leads finder.old own.now name.now (option_map spec.seen parts.entry)) }
@@ -93,7 +93,7 @@ fn leads(
 
 /// Whether a target stands, and leads nowhere.
 fn is_missing(
-    finder: &mut Finder<'_>,
+    finder: &mut PlanFinder<'_>,
     alloc: Global,
     own: &Text,
     name: &Name,
@@ -113,7 +113,7 @@ fn is_missing(
 
 /// The target, where there is one that stands and leads nowhere.
 fn keep_missing<'a>(
-    finder: &mut Finder<'_>,
+    finder: &mut PlanFinder<'_>,
     alloc: Global,
     own: &Text,
     name: &Name,
@@ -121,7 +121,7 @@ fn keep_missing<'a>(
     target: Option<&'a [u8]>,
 ) -> Result<Option<&'a [u8]>, NoMemory>
     ensures kept { IfOk result (λ kept. option_map (λ text. text.now) kept
-        ≡ spec.kept (spec.is_missing finder.old own.now name.now jump) (option_map (λ text. text.now) target.entry)) }
+        ≡ spec.if_passes (spec.is_missing finder.old own.now name.now jump) (option_map (λ text. text.now) target.entry)) }
     ensures same { finder.new ≡ finder.old }
 {
     let Some(text) = target else {
@@ -134,15 +134,15 @@ fn keep_missing<'a>(
 /// Those of the targets that stand and lead nowhere.
 #[tactic(auto, using(crate::proofs::TargetsLemmas::filter_sides))]
 fn keep_sides<'a>(
-    finder: &mut Finder<'_>,
+    finder: &mut PlanFinder<'_>,
     alloc: Global,
     own: &Text,
     name: &Name,
     jump: Jump,
     targets: Targets<'a>,
 ) -> Result<Targets<'a>, NoMemory>
-    ensures kept { IfOk result (λ kept. spec.shown kept
-        ≡ filter (spec.is_missing finder.old own.now name.now jump) (spec.shown targets.entry)) }
+    ensures kept { IfOk result (λ kept. spec.texts_of_targets kept
+        ≡ filter (spec.is_missing finder.old own.now name.now jump) (spec.texts_of_targets targets.entry)) }
     ensures same { finder.new ≡ finder.old }
 {
     let first = keep_missing(finder, alloc, own, name, jump, targets.first)?;
@@ -153,12 +153,12 @@ fn keep_sides<'a>(
 /// The targets of an entry of this context that stand and lead nowhere: at most two.
 #[tactic(auto, unfolding(crate::specs::Targets::missing_targets))]
 fn missing_targets<'a>(
-    finder: &mut Finder<'_>,
+    finder: &mut PlanFinder<'_>,
     alloc: Global,
     own: &Text,
     entry: &'a Entry,
 ) -> Result<Targets<'a>, NoMemory>
-    ensures missing { IfOk result (λ missing. spec.shown missing ≡ spec.missing_targets finder.old own.now entry.now) }
+    ensures missing { IfOk result (λ missing. spec.texts_of_targets missing ≡ spec.missing_targets finder.old own.now entry.now) }
     ensures same { finder.new ≡ finder.old }
 {
     let Some(jump) = jump_of(entry.application.bytes()) else {
@@ -197,7 +197,7 @@ fn push_targets(
     targets: Targets<'_>,
 ) -> Result<(), NoMemory>
     ensures { OnOk result (findings.new.items
-        ≡ findings.old.items ++ map (Finding.NoTarget id) (spec.shown targets.entry)) }
+        ≡ findings.old.items ++ map (Finding.NoTarget id) (spec.texts_of_targets targets.entry)) }
 {
     push_target(findings, alloc, id, targets.first)?;
     push_target(findings, alloc, id, targets.second)?;
@@ -208,7 +208,7 @@ fn push_targets(
 pub(crate) fn push_missing(
     findings: &mut Vec<Finding>,
     alloc: Global,
-    finder: &mut Finder<'_>,
+    finder: &mut PlanFinder<'_>,
     own: &Text,
     id: EntryId,
     entry: &Entry,

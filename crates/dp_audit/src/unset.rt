@@ -5,7 +5,7 @@ ghost use Rattle.std.specs.Option.{option_map, option_to_list};
 ghost use Rattle.dp_conf.specs.Blanks as blanks;
 ghost use Rattle.dp_conf.specs.Cut as cuts;
 ghost use Rattle.dp_plan.specs.Plan.{PlanOf};
-ghost use Rattle.dp_audit.specs.Targets.{shown};
+ghost use Rattle.dp_audit.specs.Targets.{texts_of_targets};
 ghost use Rattle.dp_audit.specs.Unset as spec;
 
 use crate::finding::Finding;
@@ -230,7 +230,7 @@ impl SetNames {
         jump: Jump,
         targets: Targets<'_>,
     ) -> Result<(), NoMemory>
-        ensures { OnOk result (spec.Adds self.old self.new (flat_map (spec.target_sets jump) (shown targets.entry))) }
+        ensures { OnOk result (spec.Adds self.old self.new (flat_map (spec.target_sets jump) (texts_of_targets targets.entry))) }
     {
         self.add_target(alloc, jump, targets.first)?;
         self.add_target(alloc, jump, targets.second)?;

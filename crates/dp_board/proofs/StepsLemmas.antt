@@ -11,18 +11,18 @@ use Rattle.dp_machine.specs.declared.reply.Reply.{Reply}
 use Rattle.dp_machine.specs.declared.reply.Reply.TheVariants.{Refused as refused}
 use Rattle.dp_board.specs.Sittings.{Sitting, call_of}
 use Rattle.dp_board.specs.declared.seat_call.SeatCall.{SeatCall}
-use Rattle.dp_board.specs.Attending.{IsStepOf, AddsSteps, Leaves, GoesOn, GoesOnAfter, GoesOnToLast, added, IsOver, IsEndAfter, IsEnd, IsReason, with_step, last_call}
+use Rattle.dp_board.specs.Attending.{IsStepOf, AddsSteps, Leaves, GoesOn, GoesOnAfter, GoesOnToLast, calls_since, IsOver, IsEndAfter, IsEnd, IsReason, with_step, last_call}
 use Rattle.dp_board.specs.declared.attend.Why.{Why}
 use Rattle.dp_board.specs.declared.attend.Why.TheVariants.{Ended, TurnsSpent, Refused}
 
 -- what was added to a record stands after it
-added-is : (old new : Sitting) (calls : List SeatCall) → new.told ≡ old.told ++ calls → added old new ≡ calls
-added-is old new calls told = ap (drop (length old.told)) told ∙ drop-append_seam old.told calls
+calls_since-is : (old new : Sitting) (calls : List SeatCall) → new.told ≡ old.told ++ calls → calls_since old new ≡ calls
+calls_since-is old new calls told = ap (drop (length old.told)) told ∙ drop-append_seam old.told calls
 
 -- a record with these calls after it, which are steps
 AddsSteps-of : (channel : ℕ) (old new : Sitting) (calls : List SeatCall) → new.number ≡ old.number → new.told ≡ old.told ++ calls → All (IsStepOf channel) calls → AddsSteps channel old new
 AddsSteps-of channel old new calls number told steps =
-    let is : added old new ≡ calls = added-is old new calls told in
+    let is : calls_since old new ≡ calls = calls_since-is old new calls told in
     record {
       number = number;
       told = told ∙ ap (λ l. old.told ++ l) (sym is);
@@ -34,18 +34,18 @@ pub AddsSteps-none : (channel : ℕ) (seat : Sitting) → AddsSteps channel seat
 AddsSteps-none channel seat = AddsSteps-of channel seat seat [] refl (sym (append-nil seat.told)) (All-nil (IsStepOf channel))
 
 -- the record after one step more
-told-more : (channel : ℕ) (old seat new : Sitting) (place : ℕ) (reply : Reply) → AddsSteps channel old seat → new ≡ with_step seat channel place reply → new.told ≡ old.told ++ (added old seat ++ (call_of place (step channel) reply) ∷ [])
+told-more : (channel : ℕ) (old seat new : Sitting) (place : ℕ) (reply : Reply) → AddsSteps channel old seat → new ≡ with_step seat channel place reply → new.told ≡ old.told ++ (calls_since old seat ++ (call_of place (step channel) reply) ∷ [])
 told-more channel old seat new place reply before one =
     ap (λ (s : Sitting). s.told) one
-    ∙ (ap (λ (l : List SeatCall). l ++ (call_of place (step channel) reply) ∷ []) before.told ∙ append_assoc old.told (added old seat) ((call_of place (step channel) reply) ∷ []))
+    ∙ (ap (λ (l : List SeatCall). l ++ (call_of place (step channel) reply) ∷ []) before.told ∙ append_assoc old.told (calls_since old seat) ((call_of place (step channel) reply) ∷ []))
 
 -- one step more
 pub AddsSteps-more : (channel : ℕ) (old seat new : Sitting) (place : ℕ) (reply : Reply) → AddsSteps channel old seat → new ≡ with_step seat channel place reply → AddsSteps channel old new
 AddsSteps-more channel old seat new place reply before one =
-    AddsSteps-of channel old new (added old seat ++ (call_of place (step channel) reply) ∷ [])
+    AddsSteps-of channel old new (calls_since old seat ++ (call_of place (step channel) reply) ∷ [])
     (ap (λ (s : Sitting). s.number) one ∙ before.number)
     (told-more channel old seat new place reply before one)
-    (All-push (IsStepOf channel) (added old seat) (call_of place (step channel) reply) before.steps refl)
+    (All-push (IsStepOf channel) (calls_since old seat) (call_of place (step channel) reply) before.steps refl)
 
 -- how many calls the seat was told of after one step
 pub count-more : (channel : ℕ) (seat new : Sitting) (place : ℕ) (reply : Reply) → new ≡ with_step seat channel place reply → length new.told ≡ length seat.told + 1
@@ -58,30 +58,30 @@ last-push (first ∷ []) one = refl
 last-push (first ∷ next ∷ rest) one = last-push (next ∷ rest) one
 
 -- the calls after one step more
-added-more : (channel : ℕ) (old seat new : Sitting) (place : ℕ) (reply : Reply) → AddsSteps channel old seat → new ≡ with_step seat channel place reply → added old new ≡ added old seat ++ (call_of place (step channel) reply) ∷ []
-added-more channel old seat new place reply before one =
-    added-is old new (added old seat ++ (call_of place (step channel) reply) ∷ []) (told-more channel old seat new place reply before one)
+calls_since-more : (channel : ℕ) (old seat new : Sitting) (place : ℕ) (reply : Reply) → AddsSteps channel old seat → new ≡ with_step seat channel place reply → calls_since old new ≡ calls_since old seat ++ (call_of place (step channel) reply) ∷ []
+calls_since-more channel old seat new place reply before one =
+    calls_since-is old new (calls_since old seat ++ (call_of place (step channel) reply) ∷ []) (told-more channel old seat new place reply before one)
 
-pub last-more : (channel : ℕ) (old seat new : Sitting) (place : ℕ) (reply : Reply) → AddsSteps channel old seat → new ≡ with_step seat channel place reply → last_call (added old new) ≡ Some (call_of place (step channel) reply)
+pub last-more : (channel : ℕ) (old seat new : Sitting) (place : ℕ) (reply : Reply) → AddsSteps channel old seat → new ≡ with_step seat channel place reply → last_call (calls_since old new) ≡ Some (call_of place (step channel) reply)
 last-more channel old seat new place reply before one =
-    ap last_call (added-more channel old seat new place reply before one) ∙ last-push (added old seat) (call_of place (step channel) reply)
+    ap last_call (calls_since-more channel old seat new place reply before one) ∙ last-push (calls_since old seat) (call_of place (step channel) reply)
 
 -- before the first step nothing has ended it
-pub GoesOnAfter-none : (rows : Rows) (first : World) (channel : ℕ) (seat : Sitting) → GoesOnAfter rows first channel (added seat seat)
-GoesOnAfter-none rows first channel seat = subst (GoesOnAfter rows first channel) (sym (added-is seat seat [] (sym (append-nil seat.told)))) (All-nil (GoesOn rows first channel))
+pub GoesOnAfter-none : (rows : Rows) (first : World) (channel : ℕ) (seat : Sitting) → GoesOnAfter rows first channel (calls_since seat seat)
+GoesOnAfter-none rows first channel seat = subst (GoesOnAfter rows first channel) (sym (calls_since-is seat seat [] (sym (append-nil seat.told)))) (All-nil (GoesOn rows first channel))
 
 -- nor after one step more, where that does not
-pub GoesOnAfter-more : (rows : Rows) (first : World) (channel : ℕ) (old seat new : Sitting) (place : ℕ) (reply : Reply) → AddsSteps channel old seat → new ≡ with_step seat channel place reply → GoesOnAfter rows first channel (added old seat) → GoesOn rows first channel (call_of place (step channel) reply) → GoesOnAfter rows first channel (added old new)
+pub GoesOnAfter-more : (rows : Rows) (first : World) (channel : ℕ) (old seat new : Sitting) (place : ℕ) (reply : Reply) → AddsSteps channel old seat → new ≡ with_step seat channel place reply → GoesOnAfter rows first channel (calls_since old seat) → GoesOn rows first channel (call_of place (step channel) reply) → GoesOnAfter rows first channel (calls_since old new)
 GoesOnAfter-more rows first channel old seat new place reply before one on goes =
-    subst (GoesOnAfter rows first channel) (sym (added-more channel old seat new place reply before one)) (All-push (GoesOn rows first channel) (added old seat) (call_of place (step channel) reply) on goes)
+    subst (GoesOnAfter rows first channel) (sym (calls_since-more channel old seat new place reply before one)) (All-push (GoesOn rows first channel) (calls_since old seat) (call_of place (step channel) reply) on goes)
 
 -- the last step may end it
-pub GoesOnToLast-more : (rows : Rows) (first : World) (channel : ℕ) (old seat new : Sitting) (place : ℕ) (reply : Reply) → AddsSteps channel old seat → new ≡ with_step seat channel place reply → GoesOnAfter rows first channel (added old seat) → GoesOnToLast rows first channel (added old new)
+pub GoesOnToLast-more : (rows : Rows) (first : World) (channel : ℕ) (old seat new : Sitting) (place : ℕ) (reply : Reply) → AddsSteps channel old seat → new ≡ with_step seat channel place reply → GoesOnAfter rows first channel (calls_since old seat) → GoesOnToLast rows first channel (calls_since old new)
 GoesOnToLast-more rows first channel old seat new place reply before one on =
-    let more : List SeatCall = added old seat ++ (call_of place (step channel) reply) ∷ [] in
-    let count : length more - 1 ≡ length (added old seat) = omega (arith, length-append (added old seat) ((call_of place (step channel) reply) ∷ [])) in
-    subst (GoesOnToLast rows first channel) (sym (added-more channel old seat new place reply before one))
-    (subst (GoesOnAfter rows first channel) (sym (ap (λ n. take n more) count ∙ take-append_seam (added old seat) ((call_of place (step channel) reply) ∷ []))) on)
+    let more : List SeatCall = calls_since old seat ++ (call_of place (step channel) reply) ∷ [] in
+    let count : length more - 1 ≡ length (calls_since old seat) = omega (arith, length-append (calls_since old seat) ((call_of place (step channel) reply) ∷ [])) in
+    subst (GoesOnToLast rows first channel) (sym (calls_since-more channel old seat new place reply before one))
+    (subst (GoesOnAfter rows first channel) (sym (ap (λ n. take n more) count ∙ take-append_seam (calls_since old seat) ((call_of place (step channel) reply) ∷ []))) on)
 
 -- where it goes on after all it goes on after all but the last
 pub GoesOnToLast-all : (rows : Rows) (first : World) (channel : ℕ) (given : List SeatCall) → GoesOnAfter rows first channel given → GoesOnToLast rows first channel given

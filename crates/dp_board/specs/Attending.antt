@@ -18,14 +18,14 @@ abbrev pub IsStepOf : ℕ → SeatCall → Type 0
 IsStepOf channel told = told.event ≡ step channel
 
 -- the calls that a seat was told of since
-abbrev pub added : Sitting → Sitting → List SeatCall
-added old new = drop (length old.told) new.told
+abbrev pub calls_since : Sitting → Sitting → List SeatCall
+calls_since old new = drop (length old.told) new.told
 
 -- the seat was told of some more calls, and all of them are steps of the channel
 pub record AddsSteps (channel : ℕ) (old new : Sitting) : Type 0 where
   pub number : new.number ≡ old.number
-  pub told : new.told ≡ old.told ++ added old new
-  pub steps : All (IsStepOf channel) (added old new)
+  pub told : new.told ≡ old.told ++ calls_since old new
+  pub steps : All (IsStepOf channel) (calls_since old new)
 
 -- a seat that was told of one more step of the channel
 abbrev pub with_step : Sitting → ℕ → ℕ → Reply → Sitting

@@ -122,9 +122,9 @@ impl<T: AppTable, S: Session> Board<T, S> {
         ensures steps { steps.AddsSteps channel seat.old seat.new }
         ensures bound { length seat.new.told ≤ length seat.old.told + turns }
         ensures count { IfOk result (λ attended. length seat.new.told ≡ length seat.old.told + attended.steps) }
-        ensures on { steps.GoesOnToLast T.rows S.opening channel (steps.added seat.old seat.new) }
+        ensures on { steps.GoesOnToLast T.rows S.opening channel (steps.calls_since seat.old seat.new) }
         ensures why { IfOk result (λ attended. steps.IsReason T.rows S.opening channel attended.why turns
-            (steps.added seat.old seat.new)) }
+            (steps.calls_since seat.old seat.new)) }
     {
         for turn in 0..turns {
             let (_place, _reply, end) = self.turn(rt, alloc, seat, channel, gate, turn)?;

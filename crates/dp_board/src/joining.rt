@@ -24,7 +24,7 @@ pub(crate) fn join_parts<S: Session>(
     ensures bound { all.new.parts ≤ S.parts }
 {
     while let Some(seat) = seats.pop() {
-        let (sheet, share) = seat.parted();
+        let (sheet, share) = seat.into_parts();
         all.merge(share);
         sheets.push_reserved(sheet);
     }
@@ -44,6 +44,6 @@ pub(crate) fn split_parts<S: Session>(
 {
     while let Some(sheet) = sheets.pop() {
         let share = all.split_off(1, sheet.count());
-        seats.push_reserved(sheet.seated(share));
+        seats.push_reserved(sheet.into_seat(share));
     }
 }

@@ -137,7 +137,7 @@ fn history_of<T: AppTable, S: Session>(
     let shared = board.shared.into_inner();
     let mut all = board.rest.into_inner().share;
     join_parts(seats, &mut sheets, &mut all);
-    let history = shared.closed(&mut all);
+    let history = shared.into_history(&mut all);
     split_parts(&mut sheets, seats, &mut all);
     history
 }

@@ -197,7 +197,7 @@ impl<T: AppTable, S: Session> Shared<T, S> {
     }
 
     /// The history, once all parts of the ledger are in one share: it has as many entries as the share counts calls.
-    pub(crate) fn closed(self, all: &mut Share<S>) -> History<T>
+    pub(crate) fn into_history(self, all: &mut Share<S>) -> History<T>
         requires { all.old.parts ≡ S.parts }
         ensures history { result ≡ self }
         ensures replays { log.Replays T.rows S.opening self }

@@ -35,7 +35,7 @@ impl<S: Session> Sheet<S> {
     }
 
     /// The seat again, with its part of the ledger.
-    pub(crate) fn seated(self, share: Share<S>) -> Seat<S>
+    pub(crate) fn into_seat(self, share: Share<S>) -> Seat<S>
         requires { (share.parts ≡ 1) × (share.amount ≡ length self.told) }
         ensures { result ≡ self }
     {
@@ -49,7 +49,7 @@ impl<S: Session> Sheet<S> {
 
 impl<S: Session> Seat<S> {
     /// The seat's part of the ledger, and what is left of the seat.
-    pub(crate) fn parted(self) -> (Sheet<S>, Share<S>)
+    pub(crate) fn into_parts(self) -> (Sheet<S>, Share<S>)
         ensures sheet { result.0 ≡ self }
         ensures share { (result.1.parts ≡ 1) × (result.1.amount ≡ length self.told) }
     {

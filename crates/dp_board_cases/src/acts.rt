@@ -56,14 +56,14 @@ pub(super) fn act_step<S: Session, R: Wait + Abort>(
     assert!(rt; told.is_some() && last_told(seat) == told);
 }
 
-pub(super) fn ran(entry: usize) -> Reply {
+pub(super) fn ran_entry(entry: usize) -> Reply {
     Reply::Ran(EntryId { context: 0, entry })
 }
 
 /// Whether the places are the first two, one each, and each seat's own entry of the plan ran.
 fn are_told(add: SeatReply, ask: SeatReply) -> bool {
     let places = (add.0, ask.0);
-    add.1 == ran(0) && ask.1 == ran(1) && (places == (0, 1) || places == (1, 0))
+    add.1 == ran_entry(0) && ask.1 == ran_entry(1) && (places == (0, 1) || places == (1, 0))
 }
 
 /// Whether the event is a step of this channel.

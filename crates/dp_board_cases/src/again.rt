@@ -1,5 +1,5 @@
 //! One seat acts after another, and each call that wants memory is made once more. So these cases pass whichever growth is refused.
-use crate::acts::{channel_of, ran, steps};
+use crate::acts::{channel_of, ran_entry, steps};
 use crate::gates::ENDED;
 use crate::play::{Play, perform};
 use dp_board::{Attended, Board, Gate, Seat, SeatCall, Session};
@@ -35,10 +35,10 @@ fn has_steps<S: Session>(seat: &Seat<S>, count: u64) -> bool {
     let channel = channel_of(seat);
     match seat.record() {
         [] => count == 0,
-        [first] => count == 1 && is_told(first, channel, ran(2)),
+        [first] => count == 1 && is_told(first, channel, ran_entry(2)),
         [first, second] => {
             count == 2
-                && is_told(first, channel, ran(2))
+                && is_told(first, channel, ran_entry(2))
                 && is_told(second, channel, Reply::NoEntry)
         }
         _ => false,

@@ -189,7 +189,7 @@ fn play_on<S: Session + Send + Sync, R: Threads + Wait + Abort + Sync>(
 }
 
 /// Plays so, in a session of its own.
-fn played<R: Threads + Wait + Abort + Sync>(
+fn play_in_session<R: Threads + Wait + Abort + Sync>(
     rt: &R,
     alloc: Global,
     machine: Exchange,
@@ -211,9 +211,9 @@ pub(super) fn perform<R: Threads + Wait + Abort + Sync>(
     play: Play,
 ) {
     let machine = machine_of(alloc, first, second).expect(rt, "the machine");
-    if let Some(machine) = played(rt, alloc, machine, seats, &play) {
+    if let Some(machine) = play_in_session(rt, alloc, machine, seats, &play) {
         assert!(rt; retry_of(&play) == Retry::Once);
-        let given_back = played(rt, alloc, machine, seats, &play);
+        let given_back = play_in_session(rt, alloc, machine, seats, &play);
         assert!(rt; given_back.is_none());
     }
 }

@@ -121,7 +121,7 @@ type Opened<S> = (Board<StandardApps, S>, Vec<Seat<S>>);
 type Settled<S> = Result<History<StandardApps>, Unsettled<StandardApps, S>>;
 
 /// The board and the seats that are handed back.
-fn opened<S: Session>(back: Back<StandardApps, S>) -> Option<Opened<S>> {
+fn open_of<S: Session>(back: Back<StandardApps, S>) -> Option<Opened<S>> {
     match back {
         Back::Open { board, seats } => Some((board, seats)),
         Back::Closed { .. } => None,
@@ -138,7 +138,7 @@ pub enum Retry {
 }
 
 /// Settles, and once more where memory is refused, which is fault 62 and hands all back, if that is asked for.
-fn settled<S: Session>(
+fn settle_again<S: Session>(
     alloc: Global,
     board: Board<StandardApps, S>,
     seats: Vec<Seat<S>>,
@@ -146,7 +146,7 @@ fn settled<S: Session>(
 ) -> Option<Settled<S>> {
     match board.settle(alloc, seats) {
         Err(Unsettled { fault, back }) if fault.code() == 62 && retry == Retry::Once => {
-            let (board, seats) = opened(back)?;
+            let (board, seats) = open_of(back)?;
             Some(board.settle(alloc, seats))
         }
         ended => Some(ended),
@@ -154,14 +154,14 @@ fn settled<S: Session>(
 }
 
 /// What is handed back of a board that is settled without a seat, which is fault 60.
-fn unsettled<S: Session>(
+fn settle_none<S: Session>(
     alloc: Global,
     board: Board<StandardApps, S>,
     seats: Vec<Seat<S>>,
     retry: Retry,
 ) -> Option<Opened<S>> {
-    match settled(alloc, board, seats, retry)? {
-        Err(Unsettled { fault, back }) if fault.code() == 60 => opened(back),
+    match settle_again(alloc, board, seats, retry)? {
+        Err(Unsettled { fault, back }) if fault.code() == 60 => open_of(back),
         _ => None,
     }
 }
@@ -175,7 +175,7 @@ fn settle_all<S: Session>(
 ) -> Option<Settled<S>> {
     let (board, mut seats) = opened;
     seats.push(last).ok()?;
-    settled(alloc, board, seats, retry)
+    settle_again(alloc, board, seats, retry)
 }
 
 /// Settles without the last seat, which hands all back, and then with it.
@@ -186,7 +186,7 @@ fn settle_twice<S: Session>(
     last: Seat<S>,
     retry: Retry,
 ) -> Option<Settled<S>> {
-    let opened = unsettled(alloc, board, seats, retry)?;
+    let opened = settle_none(alloc, board, seats, retry)?;
     settle_all(alloc, opened, last, retry)
 }
 
@@ -207,6 +207,6 @@ pub fn settle<S: Session>(
 ) -> Option<History<StandardApps>> {
     match seats.pop() {
         Some(last) => history_of(settle_twice(alloc, board, seats, last, retry)),
-        None => history_of(settled(alloc, board, seats, retry)),
+        None => history_of(settle_again(alloc, board, seats, retry)),
     }
 }

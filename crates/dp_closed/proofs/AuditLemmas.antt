@@ -4,7 +4,7 @@ use Rattle.std.specs.Global.{Vec}
 use Rattle.std.specs.List.{AllByRecursion}
 use Rattle.std.specs.Prelude.{ℕ, Bool, true}
 use Rattle.dp_closed.specs.Answers.{shown_outside}
-use Rattle.dp_closed.specs.Claimed.{claimed}
+use Rattle.dp_closed.specs.Claimed.{kept_claim}
 use Rattle.dp_closed.specs.Reach.{areas_in}
 use Rattle.dp_closed.specs.Steps.{IsEntered}
 use Rattle.dp_closed.specs.declared.audit.Audit.{Audit}
@@ -32,9 +32,9 @@ narrow_of audit = record { plan = audit.wide.plan; names = audit.wide.names; rea
 
 -- a closed audit is right of every run over this program's table
 pub runs-entered : (audit : Audit) (settings : List Settings) (answers : EntryId → Bool) → IsEntered audit
-    → IsClosed standard_duties (claimed audit.wide settings) (λ id. true) → IsClosed standard_duties (claimed (narrow_of audit) settings) answers
+    → IsClosed standard_duties (kept_claim audit.wide settings) (λ id. true) → IsClosed standard_duties (kept_claim (narrow_of audit) settings) answers
     → RunsOnly standard_rows (shown_outside audit.outside.now) audit.context.now audit.wide.plan.now settings answers
 runs-entered audit settings answers entered all own =
-    runs-only standard_touches standard_rows standard_lawful standard_duties standard-bounded (shown_outside audit.outside.now) audit.context.now (claimed audit.wide settings) (λ id. true)
+    runs-only standard_touches standard_rows standard_lawful standard_duties standard-bounded (shown_outside audit.outside.now) audit.context.now (kept_claim audit.wide settings) (λ id. true)
     (areas_in audit.wide.plan.now.contexts audit.reach.now.shapes.items) answers
     (record { all = all; own = own; calls = entered.calls; call = entered.call; caller = entered.caller; globals = entered.globals })

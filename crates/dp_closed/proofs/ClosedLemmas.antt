@@ -9,10 +9,10 @@ use Rattle.std.specs.Option.{option_and_then, option_map, option_map_or}
 use borrow.Author.Tests.{eqb-true}
 use Rattle.dp_lookup.specs.SearchOrder.{has, search_order}
 use Rattle.dp_pieces.specs.Bytes.{Bytes, IsPart}
-use Rattle.dp_pieces.specs.Pieces.{Fits, Piece as ShapePiece, exactly, known}
+use Rattle.dp_pieces.specs.Pieces.{Fits, Piece as ShapePiece, exactly, text_known}
 use Rattle.dp_pieces.specs.Shown.{shown_all}
 use Rattle.dp_pieces.specs.declared.piece.Piece.{Piece}
-use Rattle.dp_pieces.proofs.FitsLemmas.{fits-known}
+use Rattle.dp_pieces.proofs.FitsLemmas.{fits-text_known}
 use Rattle.dp_plan.specs.Contexts.{PlanContext}
 use Rattle.dp_plan.specs.Lookup.{entry_at}
 use Rattle.dp_plan.specs.Plan.{PlanOf}
@@ -131,15 +131,15 @@ pub all-drop : {X : Type 0} (P : X → Type 0) (xs : List X) (at : ℕ) (x : X) 
     → AllByRecursion P (drop (at + 1) xs) → AllByRecursion P (drop at xs)
 all-drop P xs at x within is here there = subst (AllByRecursion P) (sym (drop_more xs at x within)) (subst P is here, there)
 
-known-is : (text : List ℕ) → known (exactly text) ≡ Some text
-known-is [] = refl
-known-is (byte ∷ text) = ap (option_map (λ bytes. byte ∷ bytes)) (known-is text)
+text_known-is : (text : List ℕ) → text_known (exactly text) ≡ Some text
+text_known-is [] = refl
+text_known-is (byte ∷ text) = ap (option_map (λ bytes. byte ∷ bytes)) (text_known-is text)
 
 -- the contexts that are searched from an area of a known context
 pub searched-in : (plan : PlanOf) (area : Area) (name : List ℕ) (id : EntryId) (entry : Entry) → area.context ≡ exactly name → MayFind plan area id entry
     → has (search_order plan name) id.context ≡ true
 searched-in plan area name id entry is may =
-    let same : may.context ≡ name = fits-known (exactly name) may.context name (known-is name) (subst (λ (ps : List ShapePiece). Fits ps may.context) is may.context_fits) in
+    let same : may.context ≡ name = fits-text_known (exactly name) may.context name (text_known-is name) (subst (λ (ps : List ShapePiece). Fits ps may.context) is may.context_fits) in
     subst (λ (n : List ℕ). has (search_order plan n) id.context ≡ true) same may.searched
 
 -- all of two lists

@@ -1,9 +1,12 @@
 -- An entry that another hides is not found.
-use Rattle.std.proofs.Common.{◌≡◌, ℕ, List, Option, Some, None, slice_get, refl, sym, ap, ◌∙◌, subst}
+use Rattle.std.proofs.Common.{◌≡◌, ℕ, List, Ok, Option, Some, None, slice_get, refl, sym, ap, ◌∙◌, subst}
 use Rattle.std.specs.Option.{option_and_then, option_map}
-use Rattle.dp_pieces.specs.Met.{matched}
+use Rattle.dp_pattern.specs.Name.{IsName, Meaning, meaning_of}
+use Rattle.dp_pattern.specs.Spelling.{spelling}
+use Rattle.dp_pattern.proofs.SpellingLemmas.{spelled_again}
+use Rattle.dp_pieces.specs.Met.{after_match}
 use Rattle.dp_pieces.specs.Pieces.{Fits, Piece}
-use Rattle.dp_pieces.proofs.MetLemmas.{fits-matched}
+use Rattle.dp_pieces.proofs.MetLemmas.{fits-after_match}
 use Rattle.dp_plan.specs.Contexts.{PlanContext}
 use Rattle.dp_plan.specs.Lookup.{entry_at}
 use Rattle.dp_plan.specs.Plan.{PlanOf}
@@ -19,7 +22,7 @@ there-at plan context k entries other at here = by (slice_get plan.contexts cont
     by None is = absurd cc
     by (Some c) is = let same : c.entries ≡ entries = cc in ap (λ es. slice_get es k) same ∙ here
 
-pub hidden-unfound : (entries : List Entry) (entry other : Entry) (k : ℕ) (exten met : List Piece) → met ≡ matched exten entry.name → slice_get entries k ≡ Some other → Hides met entry other
+pub hidden-unfound : (entries : List Entry) (entry other : Entry) (k : ℕ) (exten met : List Piece) → met ≡ after_match exten entry.name → slice_get entries k ≡ Some other → Hides met entry other
     → IsUnfound entries entry exten
 hidden-unfound entries entry other k exten met is here hides plan context id at may = may.shown (record {
   other = record { context = id.context; entry = k };
@@ -28,8 +31,12 @@ hidden-unfound entries entry other k exten met is here hides plan context id at 
   context = refl;
   priority = hides.priority;
   less = hides.less;
-  covers = λ text fits matching. hides.covers text (subst (λ ps. Fits ps text) (sym is) (fits-matched exten entry.name text fits matching));
+  covers = λ text fits matching. hides.covers text (subst (λ ps. Fits ps text) (sym is) (fits-after_match exten entry.name text fits matching));
 })
+
+-- names of one spelling mean the same
+pub spelled-alike : (name other : Meaning) → IsName name → IsName other → spelling name ≡ spelling other → name ≡ other
+spelled-alike name other named other_named same = let read : Ok name ≡ Ok other = sym (spelled_again name named) ∙ (ap meaning_of same ∙ spelled_again other other_named) in cc
 
 -- an entry whose name no extension matches is not found
 pub unmatched-unfound : (entries : List Entry) (entry : Entry) (exten : List Piece) → IsUnmatched exten entry.name → IsUnfound entries entry exten

@@ -5,7 +5,7 @@ use Rattle.std.specs.Prelude.{is_some}
 use Rattle.std.specs.Global.{Vec}
 use Rattle.std.specs.Option.{option_and_then}
 use Rattle.dp_conf.specs.Changes.{changed_at}
-use Rattle.dp_closed.specs.Answers.{has_place, is_same, marked}
+use Rattle.dp_closed.specs.Answers.{has_place, is_same, is_marked}
 use Rattle.dp_plan.specs.Contexts.{PlanContext}
 use Rattle.dp_plan.specs.Lookup.{entry_at}
 use Rattle.dp_plan.specs.Plan.{PlanOf}
@@ -49,7 +49,7 @@ row-places (bit ∷ bits) (suc at) (suc e) = row-places bits at e
 -- the marks after one more, where there is the row of its context
 pub more-mark : (marks : List (Vec Bool)) (id other : EntryId) (row new : Vec Bool) → id.context < length marks → row ≡ get_or marks id.context row
     → new.items ≡ changed_at (λ mark. true) id.entry row.items
-    → marked (set marks id.context new) other ≡ ((is_same other id && has_place marks id) || marked marks other)
+    → is_marked (set marks id.context new) other ≡ ((is_same other id && has_place marks id) || is_marked marks other)
 more-mark marks id other row new within here is = by marks id.context other.context within here
   where
     by : (marks : List (Vec Bool)) (c o : ℕ) → c < length marks → row ≡ get_or marks c row
@@ -113,9 +113,9 @@ pub all-rows : (contexts : List PlanContext) (rows : List (List Bool)) (at : ℕ
 all-rows contexts rows at past are = sym (append-nil rows) ∙ (ap (λ cs. rows ++ map empty_row cs) (sym (drop_all at contexts past)) ∙ are)
 
 -- no entry is marked in rows with no mark
-pub none-marked : (contexts : List PlanContext) (marks : List (Vec Bool)) → map bits_of marks ≡ map empty_row contexts
-    → (id : EntryId) → marked marks id ≡ false
-none-marked contexts marks are id = by contexts marks id.context are
+pub none-is_marked : (contexts : List PlanContext) (marks : List (Vec Bool)) → map bits_of marks ≡ map empty_row contexts
+    → (id : EntryId) → is_marked marks id ≡ false
+none-is_marked contexts marks are id = by contexts marks id.context are
   where
     by : (contexts : List PlanContext) (marks : List (Vec Bool)) (c : ℕ) → map bits_of marks ≡ map empty_row contexts
         → unwrap_or (option_and_then (λ (row : Vec Bool). slice_get row.items id.entry) (slice_get marks c)) false ≡ false

@@ -9,10 +9,10 @@ use Rattle.std.specs.Global.{Vec}
 use Rattle.std.specs.Option.{option_map}
 use Rattle.dp_conf.specs.Words.{same_text}
 use Rattle.dp_app.specs.declared.place.Place.{Place}
-use Rattle.dp_pieces.specs.Pieces.{Fits, exactly, known}
+use Rattle.dp_pieces.specs.Pieces.{Fits, exactly, text_known}
 use Rattle.dp_pieces.specs.Shown.{shown_all}
 use Rattle.dp_pieces.specs.declared.piece.Piece.{Piece}
-use Rattle.dp_pieces.proofs.FitsLemmas.{fits-exactly, fits-known}
+use Rattle.dp_pieces.proofs.FitsLemmas.{fits-exactly, fits-text_known}
 use Rattle.dp_plan.specs.Contexts.{PlanContext}
 use Rattle.dp_plan.specs.Lookup.{number_of}
 use Rattle.dp_plan.specs.Plan.{PlanOf}
@@ -90,13 +90,13 @@ includes-all plan shapes context exten all place inside = by (number_of plan pla
         (all n at.own at.there (subst (Fits (shown_all context)) at.same inside.context) place.exten inside.exten))
 
 -- and where the context is known and has them
-pub includes-known : (plan : PlanOf) (shapes : List (Vec (Vec Piece))) (context exten : List Piece) (name : List ℕ) → known (shown_all context) ≡ Some name
+pub includes-text_known : (plan : PlanOf) (shapes : List (Vec (Vec Piece))) (context exten : List Piece) (name : List ℕ) → text_known (shown_all context) ≡ Some name
     → ((n : ℕ) → number_of plan name ≡ Some n → (text : List ℕ) → Fits (shown_all exten) text → FitsAny (shapes_at shapes n) text)
     → Includes plan (areas_in plan.contexts shapes) (area_at (shown_all context) (shown_all exten))
-includes-known plan shapes context exten name is has place inside = by (number_of plan place.context) refl
+includes-text_known plan shapes context exten name is has place inside = by (number_of plan place.context) refl
   where
     same : place.context ≡ name
-    same = fits-known (shown_all context) place.context name is inside.context
+    same = fits-text_known (shown_all context) place.context name is inside.context
 
     by : (o : Option ℕ) → number_of plan place.context ≡ o → Covers plan (areas_in plan.contexts shapes) place
     by None none = inl none

@@ -16,8 +16,8 @@ abbrev pub has_place : List (Vec Bool) → EntryId → Bool
 has_place marks id = is_some (mark_at marks id)
 
 -- the entry is marked; where there is no place for it, it is not
-abbrev pub marked : List (Vec Bool) → EntryId → Bool
-marked marks id = unwrap_or (mark_at marks id) false
+abbrev pub is_marked : List (Vec Bool) → EntryId → Bool
+is_marked marks id = unwrap_or (mark_at marks id) false
 
 -- both are the same entry
 abbrev pub is_same : EntryId → EntryId → Bool
@@ -26,7 +26,7 @@ is_same a b = a.context == b.context && a.entry == b.entry
 -- the entries that are answered: those that are marked; without marks, all
 abbrev pub answers_in : Option (List (Vec Bool)) → EntryId → Bool
 answers_in None id = true
-answers_in (Some marks) id = marked marks id
+answers_in (Some marks) id = is_marked marks id
 
 -- what may come in, by its sets and names
 abbrev pub shown_outside : KeptOutside → Outside

@@ -16,8 +16,8 @@ abbrev pub claim_of : PlanOf → Table → List (Vec (Vec Piece)) → List Setti
 claim_of plan names shapes settings = record { plan = plan; settings = settings; names = names_in names; reach = areas_in plan.contexts shapes }
 
 -- the same of a claim as it is kept
-abbrev pub claimed : KeptClaim → List Settings → Claim
-claimed claim settings = claim_of claim.plan.now claim.names.now claim.reach.now.shapes.items settings
+abbrev pub kept_claim : KeptClaim → List Settings → Claim
+kept_claim claim settings = claim_of claim.plan.now claim.names.now claim.reach.now.shapes.items settings
 
 -- these are the contexts of the ways out of the queues, in their order
 abbrev pub AreWays : List Settings → List (Vec Piece) → Type 0

@@ -3,7 +3,7 @@ use Rattle.std.specs.Global.{Vec}
 use Rattle.std.specs.List.{AllByRecursion}
 use Rattle.std.specs.Prelude.{ℕ, Bool, List, [], ◌∷◌, codes, map, option_map}
 use Rattle.dp_closed.specs.Answers.{answers_in, shown_outside}
-use Rattle.dp_closed.specs.Claimed.{AreWays, claimed}
+use Rattle.dp_closed.specs.Claimed.{AreWays, kept_claim}
 use Rattle.dp_closed.specs.Reach.{areas_in}
 use Rattle.dp_closed.specs.declared.audit.Audit.{Audit}
 use Rattle.dp_closed.specs.declared.closed.Checker.{Checker}
@@ -57,7 +57,7 @@ answers_of checker = answers_in (option_map (λ marks. marks.now) checker.answer
 
 -- it holds of the claim and of these entries, whatever settings of queues have these ways out
 abbrev pub Closes : Checker → (Claim → (EntryId → Bool) → Type 0) → Type 0
-Closes checker holds = (settings : List Settings) → AreWays settings checker.claim.ways.now → holds (claimed checker.claim settings) (answers_of checker)
+Closes checker holds = (settings : List Settings) → AreWays settings checker.claim.ways.now → holds (kept_claim checker.claim settings) (answers_of checker)
 
 -- an entry is closed, where it may be found from the area
 abbrev pub IsEntryIn : Claim → (EntryId → Bool) → Area → EntryId → Type 0

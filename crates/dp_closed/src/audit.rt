@@ -2,7 +2,7 @@
 ghost use Rattle.std.specs.Prelude.{ℕ, List, [], ◌∷◌, IfOk, IsTrue, map, option_map, true};
 ghost use Rattle.std.specs.List.{AllByRecursion};
 ghost use Rattle.dp_closed.specs.Answers.{answers_in, shown_outside};
-ghost use Rattle.dp_closed.specs.Claimed.{AreWays, claimed};
+ghost use Rattle.dp_closed.specs.Claimed.{AreWays, kept_claim};
 ghost use Rattle.dp_closed.specs.Reach.{areas_in};
 ghost use Rattle.dp_closed.specs.Steps.{IsEntered, IsGlobalHeld};
 ghost use Rattle.dp_pieces.specs.Tables.{names_in};
@@ -114,7 +114,7 @@ impl Audit<'_> {
     /// a call that comes in at the context runs none but these, in every run. It fails only for want of memory.
     pub fn is_closed(self, alloc: Global, answers: Option<&Marks>) -> Result<bool, NoMemory>
         ensures closed { IfOk result (λ yes. IsTrue yes → (settings : List Settings) → AreWays settings self.entry.wide.ways.now
-            → IsAudit standard_duties (shown_outside self.entry.outside.now) self.entry.context.now (claimed self.entry.wide settings) (λ id. true)
+            → IsAudit standard_duties (shown_outside self.entry.outside.now) self.entry.context.now (kept_claim self.entry.wide settings) (λ id. true)
             (areas_in self.entry.wide.plan.now.contexts self.entry.reach.now.shapes.items) (answers_in (option_map (λ marks. marks.now) answers.entry))) }
         ensures runs { IfOk result (λ yes. IsTrue yes → (settings : List Settings) → AreWays settings self.entry.wide.ways.now
             → RunsOnly standard_rows (shown_outside self.entry.outside.now) self.entry.context.now self.entry.wide.plan.now settings

@@ -1,6 +1,6 @@
 //! What is claimed of a dialplan, and whether a duty is met in it.
 ghost use Rattle.std.specs.Prelude.{ℕ, List, [], ◌∷◌, IfOk, IsTrue};
-ghost use Rattle.dp_closed.specs.Claimed.{AreWays, claimed};
+ghost use Rattle.dp_closed.specs.Claimed.{AreWays, kept_claim};
 ghost use Rattle.dp_closed.specs.Reach.{areas_in};
 ghost use Rattle.dp_closed.specs.Shown.{shown_duties, shown_duty};
 ghost use Rattle.dp_pieces.specs.Pieces.{OneOf};
@@ -44,7 +44,7 @@ impl Claim<'_> {
     /// have that has no context.
     fn has_ways(self, alloc: Global) -> Result<bool, NoMemory>
         ensures { IfOk result (λ yes. IsTrue yes → (settings : List Settings) → AreWays settings self.entry.ways.now → (queue : ℕ)
-            → LeadsOut (claimed self.entry settings) queue) }
+            → LeadsOut (kept_claim self.entry settings) queue) }
     {
         if !self.has_way(alloc, &[])? {
             return Ok(false);
@@ -60,7 +60,7 @@ impl Claim<'_> {
     /// Whether the duty is seen to be met. It fails only for want of memory.
     pub fn meets(self, alloc: Global, duty: &Duty) -> Result<bool, NoMemory>
         ensures { IfOk result (λ yes. IsTrue yes → (settings : List Settings) → AreWays settings self.entry.ways.now
-            → Meets (claimed self.entry settings) (shown_duty duty.now)) }
+            → Meets (kept_claim self.entry settings) (shown_duty duty.now)) }
     {
         match duty {
             Duty::Leads(area) => self
@@ -76,7 +76,7 @@ impl Claim<'_> {
     /// Whether each of these duties is seen to be met. It fails only for want of memory.
     pub fn meets_all(self, alloc: Global, duties: &[Duty]) -> Result<bool, NoMemory>
         ensures { IfOk result (λ yes. IsTrue yes → (settings : List Settings) → AreWays settings self.entry.ways.now
-            → MeetsAll (claimed self.entry settings) (shown_duties duties.now)) }
+            → MeetsAll (kept_claim self.entry settings) (shown_duties duties.now)) }
     {
         for duty in duties {
             if !self.meets(alloc, duty)? {

@@ -3,7 +3,7 @@ ghost use Rattle.std.specs.Prelude.{◌≡◌, ◌≤◌, ℕ, List, [], ◌∷�
 ghost use Rattle.std.specs.List.{AllByRecursion};
 ghost use Rattle.std.specs.Option.{option_map_or};
 ghost use Rattle.dp_closed.specs.Answers.{answers_in};
-ghost use Rattle.dp_closed.specs.Claimed.{AreWays, claimed};
+ghost use Rattle.dp_closed.specs.Claimed.{AreWays, kept_claim};
 ghost use Rattle.dp_closed.specs.Found.{IsMeeting};
 ghost use Rattle.dp_closed.specs.Reach.{areas_in, shapes_at};
 ghost use Rattle.dp_closed.specs.Shown.{shown_area};
@@ -21,7 +21,7 @@ ghost use Rattle.dp_reach.specs.Standard.{standard_duties};
 
 use crate::area::Area;
 use crate::claim::Claim;
-use crate::finding::Meeting;
+use crate::finding::{Meeting, is_excluded};
 use crate::marks::Marks;
 use crate::rows::owed;
 use dp_conf::{NoMemory, Text};
@@ -51,7 +51,7 @@ fn entries_at(plan: &Dialplan, number: usize) -> &[Entry]
 pub(crate) fn exact_pieces(alloc: Global, text: &[u8]) -> Result<Vec<Piece>, NoMemory>
     ensures { IfOk result (λ pieces. shown_all pieces.items ≡ exactly text.now) }
 {
-    let mut pieces = Vec::new(alloc);
+    let mut pieces = Vec::with_capacity(alloc, text.len())?;
     for byte in text {
         pieces.push(Piece::Known(*byte))?;
     }
@@ -83,7 +83,7 @@ impl Claim<'_> {
     /// fails only for want of memory.
     pub fn is_closed(self, alloc: Global, answers: Option<&Marks>) -> Result<bool, NoMemory>
         ensures { IfOk result (λ yes. IsTrue yes → (settings : List Settings) → AreWays settings self.entry.ways.now
-            → IsClosed standard_duties (claimed self.entry settings) (answers_in (option_map (λ marks. marks.now) answers.entry))) }
+            → IsClosed standard_duties (kept_claim self.entry settings) (answers_in (option_map (λ marks. marks.now) answers.entry))) }
     {
         if !self.is_named() {
             return Ok(false);
@@ -163,7 +163,10 @@ impl Checker<'_> {
         let entries = entries_at(self.claim.plan, number);
         let mut before = None;
         for (place, entry) in entries.iter().enumerate() {
-            let meeting = Meeting::after(alloc, area, entry.name.name(), before)?;
+            if is_excluded(before.as_ref(), &entry.name) {
+                continue;
+            }
+            let meeting = Meeting::after(alloc, area, &entry.name, before)?;
             let id = EntryId {
                 context: number,
                 entry: place,

@@ -1,17 +1,18 @@
 //! Which entries may be found from the places of an area.
 ghost use Rattle.std.specs.Prelude.{◌≡◌, ℕ, List, IfOk, IfSome, IsTrue, MatchOption, Some, slice_get};
+ghost use Rattle.std.specs.Option.{option_copied};
 ghost use Rattle.dp_closed.specs.Found.{Hides, IsMeeting, IsUnfound, IsUnmatched};
 ghost use Rattle.dp_closed.specs.Shown.{shown_area};
-ghost use Rattle.dp_pieces.specs.Met.{matched};
+ghost use Rattle.dp_pieces.specs.Met.{after_match};
 ghost use Rattle.dp_pieces.specs.Shown.{shown_all};
 ghost use Rattle.dp_plan.specs.declared.entry.Entry.{Entry};
 ghost use Rattle.dp_reach.specs.Areas as areas;
 
 use crate::area::Area;
 use dp_conf::NoMemory;
-use dp_pattern::{Name, Parts, compare, same};
+use dp_pattern::{Name, Parts, compare};
 use dp_pieces::{Piece, covers, matched, may_match};
-use dp_plan::Entry;
+use dp_plan::{Entry, SharedName};
 use std::alloc::Global;
 use std::cmp::Ordering;
 
@@ -20,8 +21,8 @@ fn hides(other: &Entry, entry: &Entry, met: &[Piece]) -> bool
     ensures { IsTrue result → Hides (shown_all met.now) entry.now other.now }
 {
     other.priority == entry.priority
-        && compare(other.name.name(), entry.name.name()) == Ordering::Less
         && covers(met, other.name.name())
+        && compare(other.name.name(), entry.name.name()) == Ordering::Less
 }
 
 /// Whether one of these entries is seen to hide the entry.
@@ -43,7 +44,7 @@ fn is_hidden(entries: &[Entry], entry: &Entry, met: &[Piece]) -> bool
 /// What is known of the extensions of a shape that match a name, or None where none does.
 fn met_shape(alloc: Global, exten: &[Piece], name: &Name) -> Result<Option<Vec<Piece>>, NoMemory>
     ensures { IfOk result (λ found. MatchOption found (IsUnmatched (shown_all exten.now) name.now)
-        (λ met. shown_all met.items ≡ matched (shown_all exten.now) name.now)) }
+        (λ met. shown_all met.items ≡ after_match (shown_all exten.now) name.now)) }
 {
     if !may_match(exten, name) {
         return Ok(None);
@@ -61,7 +62,7 @@ pub fn found_shape(
     exten: &[Piece],
 ) -> Result<Option<Vec<Piece>>, NoMemory>
     ensures { IfOk result (λ found. MatchOption found (IsUnfound entries.now entry.now (shown_all exten.now))
-        (λ met. shown_all met.items ≡ matched (shown_all exten.now) entry.now.name)) }
+        (λ met. shown_all met.items ≡ after_match (shown_all exten.now) entry.now.name)) }
 {
     let matching = met_shape(alloc, exten, entry.name.name())?;
     let Some(met) = matching else {
@@ -85,20 +86,31 @@ fn area_beside(alloc: Global, context: &[Piece], exten: Vec<Piece>) -> Result<Ar
     })
 }
 
+/// Whether two names mean the same, by their spellings.
+fn is_same(name: &SharedName, other: &SharedName) -> bool
+    ensures { IsTrue result → name.now ≡ other.now }
+{
+    match (name.name().parts(), other.name().parts()) {
+        (Parts::Plain(text), Parts::Plain(another)) => text == another,
+        (Parts::Pattern(_, _), Parts::Pattern(_, _)) => name.spelling() == other.spelling(),
+        _ => false,
+    }
+}
+
 /// The name of an extension met with an area: what is known of the places of the area whose extensions match the name, or None where
 /// none does.
 #[derive(Drop)]
 pub struct Meeting<'a> {
-    name: &'a Name,
+    name: &'a SharedName,
     met: Option<Area>,
 }
 
 impl<'a> Meeting<'a> {
     /// The meeting of an area with a name.
-    fn new(alloc: Global, area: &Area, name: &'a Name) -> Result<Self, NoMemory>
+    fn new(alloc: Global, area: &Area, name: &'a SharedName) -> Result<Self, NoMemory>
         ensures { IfOk result (λ meeting. IsMeeting (shown_area area.now) meeting × (meeting.name.now ≡ name.now)) }
     {
-        let matching = met_shape(alloc, &area.exten, name)?;
+        let matching = met_shape(alloc, &area.exten, name.name())?;
         let Some(exten) = matching else {
             return Ok(Meeting { name, met: None });
         };
@@ -114,18 +126,28 @@ impl<'a> Meeting<'a> {
     pub fn after(
         alloc: Global,
         area: &Area,
-        name: &'a Name,
+        name: &'a SharedName,
         before: Option<Meeting<'a>>,
     ) -> Result<Self, NoMemory>
         ensures { IfOk result (λ meeting. IfSome before.entry (IsMeeting (shown_area area.now))
             → IsMeeting (shown_area area.now) meeting × (meeting.name.now ≡ name.now)) }
     {
         if let Some(meeting) = before {
-            if same(meeting.name, name) {
+            if is_same(meeting.name, name) {
                 return Ok(meeting);
             }
         }
         Meeting::new(alloc, area, name)
+    }
+
+    /// Whether the name is that of the meeting, and no place of the area has an extension that matches it.
+    fn excludes(&self, name: &SharedName) -> bool
+        ensures { IsTrue result → (area : areas.Area) → IsMeeting area self.now → IsUnmatched area.exten name.now }
+    {
+        match &self.met {
+            None => is_same(self.name, name),
+            Some(_) => false,
+        }
     }
 
     /// The places of the area at which an entry of the name is found in a context of these entries, or None where it is found at none.
@@ -140,5 +162,16 @@ impl<'a> Meeting<'a> {
             return None;
         }
         Some(met)
+    }
+}
+
+/// Whether the meeting before is of this name, and no place of its area has an extension that matches it. An entry of the name is found at
+/// none of them then.
+pub fn is_excluded(before: Option<&Meeting<'_>>, name: &SharedName) -> bool
+    ensures { IsTrue result → (area : areas.Area) → IfSome (option_copied before.entry) (IsMeeting area) → IsUnmatched area.exten name.now }
+{
+    match before {
+        Some(meeting) => meeting.excludes(name),
+        None => false,
     }
 }

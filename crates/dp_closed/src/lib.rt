@@ -23,7 +23,7 @@ pub use area::Area;
 pub use audit::Audit;
 pub use claim::Claim;
 pub use duty::Duty;
-pub use finding::{Meeting, found_shape};
+pub use finding::{Meeting, found_shape, is_excluded};
 pub use marks::Marks;
 pub use outside::Outside;
 pub use reach::Reach;

@@ -1,6 +1,6 @@
 //! Marks on the entries of a dialplan.
 ghost use Rattle.std.specs.Prelude.{◌≡◌, ◌&&◌, ◌||◌, true, false, IfOk, is_some, length, replicate};
-ghost use Rattle.dp_closed.specs.Answers.{has_place, is_same, marked};
+ghost use Rattle.dp_closed.specs.Answers.{has_place, is_same, is_marked};
 ghost use Rattle.dp_conf.specs.Changes.{changed_at};
 ghost use Rattle.dp_plan.specs.Lookup.{entry_at};
 ghost use Rattle.dp_plan.specs.declared.entry.EntryId.{EntryId};
@@ -49,7 +49,7 @@ fn set_mark(marks: &mut Vec<bool>, number: usize)
 impl Marks {
     /// Marks for the entries of a dialplan, none of which is marked.
     pub fn none(alloc: Global, plan: &Dialplan) -> Result<Self, NoMemory>
-        ensures none { IfOk result (λ marks. (id : EntryId) → marked marks id ≡ false) }
+        ensures none { IfOk result (λ marks. (id : EntryId) → is_marked marks id ≡ false) }
         ensures places { IfOk result (λ marks. (id : EntryId) → has_place marks id ≡ is_some (entry_at plan.now id)) }
     {
         let mut rows = Vec::new(alloc);
@@ -62,7 +62,7 @@ impl Marks {
 
     /// Marks the entry, where there is a place for it. The other marks stay.
     pub fn mark(&mut self, id: EntryId)
-        ensures marks { (other : EntryId) → marked self.new other ≡ ((is_same other id && has_place self.old id) || marked self.old other) }
+        ensures marks { (other : EntryId) → is_marked self.new other ≡ ((is_same other id && has_place self.old id) || is_marked self.old other) }
         ensures places { (other : EntryId) → has_place self.new other ≡ has_place self.old other }
     {
         let Some(row) = self.rows.get_mut(id.context) else {
@@ -73,7 +73,7 @@ impl Marks {
 
     /// Whether the entry is marked.
     pub fn has(&self, id: EntryId) -> bool
-        ensures { result ≡ marked self.now id }
+        ensures { result ≡ is_marked self.now id }
     {
         let Some(row) = self.rows.get(id.context) else {
             return false;

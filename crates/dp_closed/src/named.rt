@@ -1,7 +1,7 @@
 //! Whether the names of a claim may have what the machine gives them.
 ghost use Rattle.std.specs.Prelude.{List, IsTrue, map};
 ghost use Rattle.std.specs.List.{AllByRecursion};
-ghost use Rattle.dp_closed.specs.Claimed.{claimed};
+ghost use Rattle.dp_closed.specs.Claimed.{kept_claim};
 ghost use Rattle.dp_closed.specs.Steps.{IsDialNamed, IsQueueNamed, IsSelfNamed};
 ghost use Rattle.dp_pieces.specs.Bytes.{Within};
 ghost use Rattle.dp_pieces.specs.Shown.{shown_all};
@@ -18,7 +18,7 @@ use dp_pieces::{ByteSet, Piece};
 impl Claim<'_> {
     /// Whether the names may have what the machine gives them in an area of these pieces.
     pub(crate) fn is_area_named(self, context: &[Piece], exten: &[Piece]) -> bool
-        ensures { IsTrue result → (settings : List Settings) → IsNamed (claimed self.entry settings) (area_at (shown_all context.now) (shown_all exten.now)) }
+        ensures { IsTrue result → (settings : List Settings) → IsNamed (kept_claim self.entry settings) (area_at (shown_all context.now) (shown_all exten.now)) }
     {
         let dialled = set_of(exten);
         if !dialled.is_part(self.names.all()) {
@@ -86,7 +86,7 @@ impl Claim<'_> {
 
     /// Whether the names may have what the machine gives them in each area alike.
     pub(crate) fn is_named(self) -> bool
-        ensures { IsTrue result → (settings : List Settings) → AreNamed (claimed self.entry settings) }
+        ensures { IsTrue result → (settings : List Settings) → AreNamed (kept_claim self.entry settings) }
     {
         self.names.is_whole()
             && self.is_self_named()

@@ -6,7 +6,7 @@ ghost use Rattle.dp_conf.specs.Cut.{cut_once};
 ghost use Rattle.dp_pieces.specs.Cuts.{cut_known};
 ghost use Rattle.dp_pieces.specs.Pieces.{pieces_set};
 ghost use Rattle.dp_pieces.specs.Sets.{set_by};
-ghost use Rattle.dp_pieces.specs.Shown.{shown, shown_all};
+ghost use Rattle.dp_pieces.specs.Shown.{shown_piece, shown_all};
 ghost use Rattle.dp_reach.specs.Settings as spec;
 
 use crate::duty::{Duty, push_name};
@@ -18,7 +18,7 @@ use std::alloc::Global;
 
 /// Adds the byte of a piece, where it is known.
 fn push_known(text: &mut Vec<u8>, piece: &Piece) -> Result<(), NoMemory>
-    ensures { OnOk result (text.new.items ≡ text.old.items ++ steps.known_bytes (shown piece.now ∷ [])) }
+    ensures { OnOk result (text.new.items ≡ text.old.items ++ steps.known_bytes (shown_piece piece.now ∷ [])) }
 {
     match piece {
         Piece::Known(byte) => {
@@ -33,7 +33,7 @@ fn push_known(text: &mut Vec<u8>, piece: &Piece) -> Result<(), NoMemory>
 fn known_bytes(alloc: Global, pieces: &[Piece]) -> Result<Vec<u8>, NoMemory>
     ensures { IfOk result (λ text. text.items ≡ steps.known_bytes (shown_all pieces.now)) }
 {
-    let mut text = Vec::new(alloc);
+    let mut text = Vec::with_capacity(alloc, pieces.len())?;
     for piece in pieces {
         push_known(&mut text, piece)?;
     }

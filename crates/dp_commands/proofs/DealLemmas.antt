@@ -1,53 +1,51 @@
 -- Items that are dealt to seats in turn.
-use Rattle.std.proofs.Common.{rules, ◌≡◌, ℕ, ◌+◌, ◌-◌, ◌*◌, ◌%◌, ◌/◌, ◌==◌, ◌≤◌, ◌<◌, Bool, true, false, List, [], ◌∷◌, ◌++◌, length, take, drop, get_or, zero, suc, refl, sym, ap, ◌∙◌, arith, if◌then◌else◌, All, nat_lt}
+use Rattle.std.proofs.Common.{rules, ◌≡◌, ℕ, ◌+◌, ◌%◌, ◌==◌, ◌≤◌, ◌<◌, Bool, true, false, List, [], ◌∷◌, ◌++◌, length, take, drop, get_or, zero, suc, refl, sym, ap, ◌∙◌, arith, if◌then◌else◌, All}
 use Rattle.std.proofs.lemmas.Bool.Decides.{nat_tests}
-use Rattle.std.proofs.lemmas.List.{append-nil, take_more, take-append-drop, length-append, length-map, length-take-le}
-use Rattle.std.proofs.lemmas.List.FromFn.{length-range_with_len}
-use Rattle.std.proofs.lemmas.Nat.{mod-mul-add, div-add-mod', mod_below}
+use Rattle.std.proofs.lemmas.List.{append-nil, take_more, take-append-drop, length-append, length-map}
+use Rattle.std.proofs.lemmas.Nat.{mod_below}
 use Rattle.std.proofs.Math.Seq.{take-append_seam}
-use Rattle.std.specs.List.{range_with_len}
 use Rattle.dp_board.specs.Difference.{told_from, told_of, told_to}
 use Rattle.dp_board.specs.declared.seat_call.SeatCall.{SeatCall}
 use Rattle.dp_board.specs.declared.entry.Entry.{Entry}
 use Rattle.dp_machine.specs.declared.event.Event.{Event}
-use Rattle.dp_commands.specs.Threads.{dealt_from, dealt, events_told, turn_of}
+use Rattle.dp_commands.specs.Threads.{dealt_from, items_of_seat, events_told}
 
 -- one item before what is dealt of two lists, by whether it is the seat's
-dealt-before : {X : Type 0} (own : Bool) (x : X) (all front after : List X) → all ≡ front ++ after → (if own then x ∷ all else all) ≡ (if own then x ∷ front else front) ++ after
-dealt-before {X} true x all front after parted = ap (λ (l : List X). x ∷ l) parted
-dealt-before false x all front after parted = parted
+items_of_seat-before : {X : Type 0} (own : Bool) (x : X) (all front after : List X) → all ≡ front ++ after → (if own then x ∷ all else all) ≡ (if own then x ∷ front else front) ++ after
+items_of_seat-before {X} true x all front after parted = ap (λ (l : List X). x ∷ l) parted
+items_of_seat-before false x all front after parted = parted
 
 -- what is dealt of two lists, one after the other
 pub dealt_from-append : {X : Type 0} (count seat at : ℕ) (xs ys : List X) → dealt_from count seat at (xs ++ ys) ≡ dealt_from count seat at xs ++ dealt_from count seat (at + length xs) ys
 dealt_from-append count seat at [] ys = ap (λ n. dealt_from count seat n ys) (omega arith)
 dealt_from-append count seat at (x ∷ xs) ys =
-    dealt-before (at % count == seat) x (dealt_from count seat (at + 1) (xs ++ ys)) (dealt_from count seat (at + 1) xs) (dealt_from count seat (at + length (x ∷ xs)) ys)
+    items_of_seat-before (at % count == seat) x (dealt_from count seat (at + 1) (xs ++ ys)) (dealt_from count seat (at + 1) xs) (dealt_from count seat (at + length (x ∷ xs)) ys)
     (dealt_from-append count seat (at + 1) xs ys ∙ ap (λ n. dealt_from count seat (at + 1) xs ++ dealt_from count seat n ys) (omega arith))
 
 -- one item more, by whether it is the seat's
-dealt-more : {X : Type 0} (count seat i : ℕ) (xs : List X) (x : X) → i < length xs → get_or xs i x ≡ x → dealt count seat (take (i + 1) xs) ≡ dealt count seat (take i xs) ++ (if i % count == seat then x ∷ [] else [])
-dealt-more {X} count seat i xs x within there =
-    ap (dealt count seat) (take_more xs i x within ∙ ap (λ (y : X). take i xs ++ y ∷ []) there)
+items_of_seat-more : {X : Type 0} (count seat i : ℕ) (xs : List X) (x : X) → i < length xs → get_or xs i x ≡ x → items_of_seat count seat (take (i + 1) xs) ≡ items_of_seat count seat (take i xs) ++ (if i % count == seat then x ∷ [] else [])
+items_of_seat-more {X} count seat i xs x within there =
+    ap (items_of_seat count seat) (take_more xs i x within ∙ ap (λ (y : X). take i xs ++ y ∷ []) there)
     ∙ (dealt_from-append count seat 0 (take i xs) (x ∷ [])
-    ∙ ap (λ n. dealt count seat (take i xs) ++ (if n % count == seat then x ∷ [] else [])) (search (rules, within)))
+    ∙ ap (λ n. items_of_seat count seat (take i xs) ++ (if n % count == seat then x ∷ [] else [])) (search (rules, within)))
 
 -- one item more that is the seat's
-pub dealt-own : {X : Type 0} (count seat i : ℕ) (xs : List X) (x : X) → i < length xs → get_or xs i x ≡ x → (i % count == seat) ≡ true → dealt count seat (take (i + 1) xs) ≡ dealt count seat (take i xs) ++ x ∷ []
-dealt-own {X} count seat i xs x within there own =
-    dealt-more count seat i xs x within there ∙ ap (λ (b : Bool). dealt count seat (take i xs) ++ (if b then x ∷ [] else [])) own
+pub items_of_seat-own : {X : Type 0} (count seat i : ℕ) (xs : List X) (x : X) → i < length xs → get_or xs i x ≡ x → (i % count == seat) ≡ true → items_of_seat count seat (take (i + 1) xs) ≡ items_of_seat count seat (take i xs) ++ x ∷ []
+items_of_seat-own {X} count seat i xs x within there own =
+    items_of_seat-more count seat i xs x within there ∙ ap (λ (b : Bool). items_of_seat count seat (take i xs) ++ (if b then x ∷ [] else [])) own
 
 -- one item more that is another seat's
-pub dealt-other : {X : Type 0} (count seat i : ℕ) (xs : List X) (x : X) → i < length xs → get_or xs i x ≡ x → (i % count == seat) ≡ false → dealt count seat (take (i + 1) xs) ≡ dealt count seat (take i xs)
-dealt-other {X} count seat i xs x within there other =
-    dealt-more count seat i xs x within there
-    ∙ (ap (λ (b : Bool). dealt count seat (take i xs) ++ (if b then x ∷ [] else [])) other ∙ append-nil (dealt count seat (take i xs)))
+pub items_of_seat-other : {X : Type 0} (count seat i : ℕ) (xs : List X) (x : X) → i < length xs → get_or xs i x ≡ x → (i % count == seat) ≡ false → items_of_seat count seat (take (i + 1) xs) ≡ items_of_seat count seat (take i xs)
+items_of_seat-other {X} count seat i xs x within there other =
+    items_of_seat-more count seat i xs x within there
+    ∙ (ap (λ (b : Bool). items_of_seat count seat (take i xs) ++ (if b then x ∷ [] else [])) other ∙ append-nil (items_of_seat count seat (take i xs)))
 
 -- what is dealt of a front is a front of what is dealt
-pub dealt-front : {X : Type 0} (count seat i : ℕ) (xs : List X) → dealt count seat (take i xs) ≡ take (length (dealt count seat (take i xs))) (dealt count seat xs)
-dealt-front {X} count seat i xs =
-    let front = dealt count seat (take i xs) in
+pub items_of_seat-front : {X : Type 0} (count seat i : ℕ) (xs : List X) → items_of_seat count seat (take i xs) ≡ take (length (items_of_seat count seat (take i xs))) (items_of_seat count seat xs)
+items_of_seat-front {X} count seat i xs =
+    let front = items_of_seat count seat (take i xs) in
     let after = dealt_from count seat (0 + length (take i xs)) (drop i xs) in
-    let whole : dealt count seat xs ≡ front ++ after = ap (dealt count seat) (sym (take-append-drop i xs)) ∙ dealt_from-append count seat 0 (take i xs) (drop i xs) in
+    let whole : items_of_seat count seat xs ≡ front ++ after = ap (items_of_seat count seat) (sym (take-append-drop i xs)) ∙ dealt_from-append count seat 0 (take i xs) (drop i xs) in
     sym (ap (take (length front)) whole ∙ take-append_seam front after)
 
 -- there is an item at a place
@@ -57,19 +55,19 @@ item_at (x ∷ xs) zero within = (x, refl)
 item_at (x ∷ xs) (suc i) within = item_at xs i (omega (arith, within))
 
 -- the count of what is dealt, by whether the next item is the seat's
-pub own-more : (i count seat : ℕ) (xs : List Event) → i < length xs → (i % count == seat) ≡ true → length (dealt count seat (take (i + 1) xs)) ≡ length (dealt count seat (take i xs)) + 1
+pub own-more : (i count seat : ℕ) (xs : List Event) → i < length xs → (i % count == seat) ≡ true → length (items_of_seat count seat (take (i + 1) xs)) ≡ length (items_of_seat count seat (take i xs)) + 1
 own-more i count seat xs within own =
     let at : (x : Event) × (get_or xs i x ≡ x) = item_at xs i within in
-    ap length (dealt-own count seat i xs at.0 within at.1 own) ∙ length-append (dealt count seat (take i xs)) (at.0 ∷ [])
+    ap length (items_of_seat-own count seat i xs at.0 within at.1 own) ∙ length-append (items_of_seat count seat (take i xs)) (at.0 ∷ [])
 
 -- one item more that is another seat's, whatever it is
-pub dealt-passed : (count seat i : ℕ) (xs : List Event) → i < length xs → (i % count == seat) ≡ false → dealt count seat (take (i + 1) xs) ≡ dealt count seat (take i xs)
-dealt-passed count seat i xs within other =
+pub items_of_seat-passed : (count seat i : ℕ) (xs : List Event) → i < length xs → (i % count == seat) ≡ false → items_of_seat count seat (take (i + 1) xs) ≡ items_of_seat count seat (take i xs)
+items_of_seat-passed count seat i xs within other =
     let at : (x : Event) × (get_or xs i x ≡ x) = item_at xs i within in
-    dealt-other count seat i xs at.0 within at.1 other
+    items_of_seat-other count seat i xs at.0 within at.1 other
 
-pub other-more : (i count seat : ℕ) (xs : List Event) → i < length xs → (i % count == seat) ≡ false → length (dealt count seat (take (i + 1) xs)) ≡ length (dealt count seat (take i xs))
-other-more i count seat xs within other = ap length (dealt-passed count seat i xs within other)
+pub other-more : (i count seat : ℕ) (xs : List Event) → i < length xs → (i % count == seat) ≡ false → length (items_of_seat count seat (take (i + 1) xs)) ≡ length (items_of_seat count seat (take i xs))
+other-more i count seat xs within other = ap length (items_of_seat-passed count seat i xs within other)
 
 -- what the numbers below this one give, all together
 abbrev sum_below : ℕ → (ℕ → ℕ) → ℕ
@@ -139,81 +137,10 @@ told_from-shared count place (entry ∷ entries) seated =
     ∙ omega (arith, sum_below-one count entry.seat (seated 0 entry (omega arith)), told_from-shared count (place + 1) entries (λ k d lt. seated (suc k) d (omega (arith, lt)))))
 
 -- where each seat's entries are the events that are dealt to it, there are as many entries as events
-pub calls-dealt : (count : ℕ) (events : List Event) (entries : List Entry) → 0 < count → All (λ entry. entry.seat < count) entries →
-    ((seat : ℕ) → seat < count → events_told (told_to seat entries) ≡ dealt count seat events) → length entries ≡ length events
-calls-dealt count events entries some seated in_turn =
+pub calls-items_of_seat : (count : ℕ) (events : List Event) (entries : List Entry) → 0 < count → All (λ entry. entry.seat < count) entries →
+    ((seat : ℕ) → seat < count → events_told (told_to seat entries) ≡ items_of_seat count seat events) → length entries ≡ length events
+calls-items_of_seat count events entries some seated in_turn =
     sym (told_from-shared count 0 entries seated)
-    ∙ (sum_below-same count (λ seat. length (told_to seat entries)) (λ seat. length (dealt count seat events))
+    ∙ (sum_below-same count (λ seat. length (told_to seat entries)) (λ seat. length (items_of_seat count seat events))
     (λ seat lt. sym (length-map (told_to seat entries) (λ (it : SeatCall). it.event)) ∙ ap length (in_turn seat lt))
     ∙ dealt_from-shared count 0 events some)
-
--- places, and the one after them
-range-push : (a n : ℕ) → range_with_len a (suc n) ≡ range_with_len a n ++ (a + n) ∷ []
-range-push a zero = ap (λ n. n ∷ []) (omega arith)
-range-push a (suc n) = ap (λ (ns : List ℕ). a ∷ ns) (range-push (a + 1) n ∙ ap (λ x. range_with_len (a + 1) n ++ x ∷ []) (omega arith))
-
--- as many are dealt of one list as of another of its length
-pub dealt_from-lengths : {X Y : Type 0} (count seat at : ℕ) (xs : List X) (ys : List Y) → length xs ≡ length ys → length (dealt_from count seat at xs) ≡ length (dealt_from count seat at ys)
-dealt_from-lengths count seat at [] [] same = refl
-dealt_from-lengths count seat at (x ∷ xs) [] same = absurd (omega (arith, same))
-dealt_from-lengths count seat at [] (y ∷ ys) same = absurd (omega (arith, same))
-dealt_from-lengths count seat at (x ∷ xs) (y ∷ ys) same =
-    length-before (at % count == seat) x (dealt_from count seat (at + 1) xs)
-    ∙ (ap (λ n. one_if (at % count == seat) + n) (dealt_from-lengths count seat (at + 1) xs ys (omega (arith, same)))
-    ∙ sym (length-before (at % count == seat) y (dealt_from count seat (at + 1) ys)))
-
--- how many of the places before the next one are dealt to a seat
-places-more : (count seat n : ℕ) → length (dealt count seat (range_with_len 0 (suc n))) ≡ length (dealt count seat (range_with_len 0 n)) + one_if (n % count == seat)
-places-more count seat n =
-    let front = dealt count seat (range_with_len 0 n) in
-    let here : 0 + length (range_with_len 0 n) ≡ n = omega (arith, length-range_with_len 0 n) in
-    let last : length (dealt_from count seat n ((0 + n) ∷ [])) ≡ one_if (n % count == seat) = length-before (n % count == seat) (0 + n) [] ∙ omega arith in
-    ap (λ (ns : List ℕ). length (dealt count seat ns)) (range-push 0 n)
-    ∙ (ap length (dealt_from-append count seat 0 (range_with_len 0 n) ((0 + n) ∷ []))
-    ∙ (length-append front (dealt_from count seat (0 + length (range_with_len 0 n)) ((0 + n) ∷ []))
-    ∙ (ap (λ k. length front + length (dealt_from count seat k ((0 + n) ∷ []))) here ∙ ap (λ k. length front + k) last)))
-
-seat-passed : (seat r : ℕ) → one_if (nat_lt seat r) + one_if (r == seat) ≡ one_if (nat_lt seat (suc r))
-seat-passed seat r = grind (arith, nat_tests)
-
-seat-below : (seat r : ℕ) → seat < r → one_if (nat_lt seat r) ≡ 1
-seat-below seat r lt = grind (arith, nat_tests)
-
-seat-after : (seat r : ℕ) → r ≤ seat → one_if (nat_lt seat r) ≡ 0
-seat-after seat r le = grind (arith, nat_tests)
-
--- one place more, in a row and a column
-column-more : (count seat n q r : ℕ) → r < count → n ≡ q * count + r → length (dealt count seat (range_with_len 0 n)) ≡ q + one_if (nat_lt seat r) → length (dealt count seat (range_with_len 0 (suc n))) ≡ q + one_if (nat_lt seat (suc r))
-column-more count seat n q r within is before =
-    let column : n % count ≡ r = ap (λ k. k % count) is ∙ mod-mul-add q count r within in
-    let own : one_if (n % count == seat) ≡ one_if (r == seat) = ap (λ k. one_if (k == seat)) column in
-    omega (arith, places-more count seat n, before, own, seat-passed seat r)
-
--- how many of the places before the one in a row and a column are dealt to a seat
-places-at : (count seat n q r : ℕ) → seat < count → r < count → n ≡ q * count + r → length (dealt count seat (range_with_len 0 n)) ≡ q + one_if (nat_lt seat r)
-places-at count seat zero zero r below within is = omega (arith, seat-after seat r (omega (arith, is)))
-places-at count seat zero (suc q) r below within is = absurd (omega (arith, is, below))
-places-at count seat (suc n) q (suc r) below within is =
-    let here : n ≡ q * count + r = omega (arith, is) in
-    column-more count seat n q r (omega (arith, within)) here (places-at count seat n q r below (omega (arith, within)) here)
-places-at count seat (suc n) (suc q) zero below within is =
-    let here : n ≡ q * count + (count - 1) = omega (arith, is, within) in
-    let before = column-more count seat n q (count - 1) (omega (arith, within)) here (places-at count seat n q (count - 1) below (omega (arith, within)) here) in
-    omega (arith, before, seat-below seat (suc (count - 1)) (omega (arith, below)), seat-after seat 0 (omega arith))
-places-at count seat (suc n) zero zero below within is = absurd (omega (arith, is))
-
--- as many of the places before one are its seat's as there are whole rounds of the seats
-pub turn_of-div : (count at : ℕ) → 0 < count → at / count ≡ turn_of count at
-turn_of-div count at some =
-    let column = at % count in
-    let lower : at % count < count = mod_below at count some in
-    omega (arith, places-at count (at % count) at (at / count) (at % count) lower lower (sym (div-add-mod' at count)), seat-after (at % count) (at % count) (omega arith))
-
--- a seat that was told of the events before a place that are dealt to it was told of as many as its turn there
-pub turn-told : (count number at : ℕ) (events : List Event) (told : List SeatCall) → at ≤ length events → (at % count == number) ≡ true → events_told told ≡ dealt count number (take at events) → turn_of count at ≡ length told
-turn-told count number at events told within own is =
-    let mine : at % count ≡ number = grind (arith, nat_tests) in
-    let long : length (range_with_len 0 at) ≡ length (take at events) = length-range_with_len 0 at ∙ sym (length-take-le at events within) in
-    ap (λ k. length (dealt count k (range_with_len 0 at))) mine
-    ∙ (dealt_from-lengths count number 0 (range_with_len 0 at) (take at events) long
-    ∙ (ap length (sym is) ∙ length-map told (λ (it : SeatCall). it.event)))

@@ -3,6 +3,7 @@ mod DealLemmas
 mod DebugLemmas
 mod JoinedLemmas
 mod ScriptLemmas
+mod RunnersLemmas
 mod StreamsLemmas
 mod TextsLemmas
 mod ThreadsLemmas

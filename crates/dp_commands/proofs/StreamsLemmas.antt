@@ -7,11 +7,11 @@ use Rattle.std.proofs.Math.Bool.{or-false}
 use Rattle.std.proofs.Math.Seq.{take-append-add, take-length}
 use Rattle.dp_conf.specs.Fronts.{IsFront, AppendsFront}
 use Rattle.dp_conf.proofs.ToldLemmas.{AppendsFront-more, IsFront-append, IsFront-trans}
-use Rattle.dp_commands.specs.Block.{Flows}
 use Rattle.dp_commands.specs.Faults.{is_write_failed, is_write_fault}
-use Rattle.dp_commands.specs.Run.{Ends, Writes, run_on, status_by, fails_at_the_end}
-use Rattle.dp_commands.specs.Trace.{turned, trace_of, any_refused}
-use Rattle.dp_commands.specs.Turns.{Taken, plainly, Streams, StreamsAll, FlowsFirst, WritesTurns, lines_of, state_past, refused_in, text_of}
+use Rattle.dp_commands.specs.Run.{Writes, run_on, status_by}
+use Rattle.dp_commands.specs.Trace.{after_turn, trace_of, any_refused}
+use Rattle.dp_commands.specs.Turns.{Taken, WritesTurns, lines_of, state_past, refused_in, text_of}
+use Rattle.dp_commands.specs.steps.Streams.{Ends, Flows, FlowsFirst, Streams, StreamsAll, fails_at_the_end, plainly}
 use Rattle.dp_machine.specs.World.{World}
 use Rattle.dp_commands.specs.declared.fault.PbxFault.{PbxFault}
 use Rattle.dp_commands.specs.declared.fault.PbxFault.TheVariants.{Coded, NoMemory}
@@ -230,11 +230,11 @@ module _ {S : Type 0} (step : S → Turn → Taken S) where
 module _ {P : Type 0} where
   lines_of-plainly : (p : P) (w : World) (ts : List Turn) → lines_of plainly (p, w) ts ≡ trace_of w ts
   lines_of-plainly p w [] = refl
-  lines_of-plainly p w (t ∷ ts) = ap (λ (later : List ℕ). (turned w t).line ++ later) (lines_of-plainly p (turned w t).world ts)
+  lines_of-plainly p w (t ∷ ts) = ap (λ (later : List ℕ). (after_turn w t).line ++ later) (lines_of-plainly p (after_turn w t).world ts)
 
   refused_in-plainly : (p : P) (w : World) (ts : List Turn) → refused_in plainly (p, w) ts ≡ any_refused w ts
   refused_in-plainly p w [] = refl
-  refused_in-plainly p w (t ∷ ts) = ap (λ r. (turned w t).refused || r) (refused_in-plainly p (turned w t).world ts)
+  refused_in-plainly p w (t ∷ ts) = ap (λ r. (after_turn w t).refused || r) (refused_in-plainly p (after_turn w t).world ts)
 
   text_of-plainly : (p : P) (w : World) (ts : List Turn) → text_of plainly (λ _. []) (p, w) ts ≡ trace_of w ts
   text_of-plainly p w ts = append-nil (lines_of plainly (p, w) ts) ∙ lines_of-plainly p w ts

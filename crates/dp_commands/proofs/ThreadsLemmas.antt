@@ -23,10 +23,11 @@ use Rattle.dp_machine.specs.declared.event.Event.{Event}
 use Rattle.dp_table.specs.Standard.{standard_rows}
 use Rattle.dp_conf.specs.Answers.{Refuses}
 use Rattle.dp_machine.specs.Events.{is_refused}
-use Rattle.dp_commands.proofs.DealLemmas.{calls-dealt, dealt-front}
+use Rattle.dp_commands.proofs.DealLemmas.{calls-items_of_seat, items_of_seat-front}
 use Rattle.dp_commands.specs.Faults.{reason_of}
 use Rattle.dp_commands.specs.Run.{Run, status_by}
-use Rattle.dp_commands.specs.Threads.{events_in, dealt, events_told, GaveFront, IsDealt, KeepNumbers, is_start, IsUnwritten, Shares, begun_of, is_call_refused, is_settle_fault, misses_no_seat, opened_world, settled_line, shared_in}
+use Rattle.dp_commands.specs.Threads.{events_in, items_of_seat, events_told, IsDealt, is_start, IsUnwritten, Shares, is_call_refused, is_settle_fault, misses_no_seat, opened_world, settled_line, shared_in}
+use Rattle.dp_commands.specs.steps.Deals.{GaveFront, KeepNumbers, begun_of}
 use Rattle.dp_commands.specs.declared.fault.PbxFault.{PbxFault}
 use Rattle.dp_commands.specs.declared.fault.PbxFault.TheVariants.{Coded, NoMemory}
 use Rattle.dp_commands.specs.declared.script.Turn.TheVariants.{Event as turn_event, Show}
@@ -42,11 +43,11 @@ events_in-shows zero channel name = refl
 events_in-shows (suc n) channel name = events_in-shows n channel name
 
 -- a seat that was told of the events that are dealt to it of a front gave the first so many of its events
-pub front-of : (count i : ℕ) (events : List Event) (seat : Sitting) (number : ℕ) → seat.number ≡ number → events_told seat.told ≡ dealt count number (take i events) → GaveFront count events seat
+pub front-of : (count i : ℕ) (events : List Event) (seat : Sitting) (number : ℕ) → seat.number ≡ number → events_told seat.told ≡ items_of_seat count number (take i events) → GaveFront count events seat
 front-of count i events seat number same told =
-    let own : events_told seat.told ≡ dealt count seat.number (take i events) = told ∙ ap (λ n. dealt count n (take i events)) (sym same) in
-    let many : length (dealt count seat.number (take i events)) ≡ length seat.told = ap length (sym own) ∙ length-map seat.told (λ (it : SeatCall). it.event) in
-    own ∙ (dealt-front count seat.number i events ∙ ap (λ n. take n (dealt count seat.number events)) many)
+    let own : events_told seat.told ≡ items_of_seat count seat.number (take i events) = told ∙ ap (λ n. items_of_seat count n (take i events)) (sym same) in
+    let many : length (items_of_seat count seat.number (take i events)) ≡ length seat.told = ap length (sym own) ∙ length-map seat.told (λ (it : SeatCall). it.event) in
+    own ∙ (items_of_seat-front count seat.number i events ∙ ap (λ n. take n (items_of_seat count seat.number events)) many)
 
 -- a seat of these, of this number, of which this holds
 abbrev Found : (Sitting → Type 0) → ℕ → Type 0
@@ -65,30 +66,30 @@ seat-of P number (s ∷ seats) all there =
     (λ after. seat-of P number seats (λ k d lt. all (suc k) d (omega (arith, lt))) after)
 
 -- a seat that was told of as many events as are its own was told of all of them
-told-all : (count : ℕ) (events : List Event) (seat : Sitting) → GaveFront count events seat → length (dealt count seat.number events) ≤ length seat.told → events_told seat.told ≡ dealt count seat.number events
-told-all count events seat front many = front ∙ take_all (length seat.told) (dealt count seat.number events) many
+told-all : (count : ℕ) (events : List Event) (seat : Sitting) → GaveFront count events seat → length (items_of_seat count seat.number events) ≤ length seat.told → events_told seat.told ≡ items_of_seat count seat.number events
+told-all count events seat front many = front ∙ take_all (length seat.told) (items_of_seat count seat.number events) many
 
 -- the history of seats that gave all of their events
-pub is-dealt : (first : World) (count : ℕ) (events : List Event) (seats : List Sitting) (history : Log) → 0 < count → IsSettled standard_rows first count seats history → All (GaveFront count events) seats → All (λ (seat : Sitting). length (dealt count seat.number events) ≤ length seat.told) seats → IsDealt first count events history
-is-dealt first count events seats history some settled fronts acted =
-    let P : Sitting → Type 0 = λ s. Agrees history.entries s × (events_told s.told ≡ dealt count s.number events) in
-    let in_turn : (number : ℕ) → number < count → events_told (told_to number history.entries) ≡ dealt count number events = λ number lt.
+pub is-items_of_seat : (first : World) (count : ℕ) (events : List Event) (seats : List Sitting) (history : Log) → 0 < count → IsSettled standard_rows first count seats history → All (GaveFront count events) seats → All (λ (seat : Sitting). length (items_of_seat count seat.number events) ≤ length seat.told) seats → IsDealt first count events history
+is-items_of_seat first count events seats history some settled fronts acted =
+    let P : Sitting → Type 0 = λ s. Agrees history.entries s × (events_told s.told ≡ items_of_seat count s.number events) in
+    let in_turn : (number : ℕ) → number < count → events_told (told_to number history.entries) ≡ items_of_seat count number events = λ number lt.
     let it = seat-of P number seats (λ k d within. (settled.records k d within, told-all count events (get_or seats k d) (fronts k d within) (acted k d within))) (settled.whole.present number lt) in
-    ap (λ n. events_told (told_to n history.entries)) (sym it.1) ∙ (ap events_told it.2.0 ∙ (it.2.1 ∙ ap (λ n. dealt count n events) it.1)) in
+    ap (λ n. events_told (told_to n history.entries)) (sym it.1) ∙ (ap events_told it.2.0 ∙ (it.2.1 ∙ ap (λ n. items_of_seat count n events) it.1)) in
     record {
       replays = settled.whole.replays;
       seated = settled.whole.seated;
       in_turn = in_turn;
-      calls = calls-dealt count events history.entries some settled.whole.seated in_turn;
+      calls = calls-items_of_seat count events history.entries some settled.whole.seated in_turn;
     }
 
 -- the same of what settling answers
-pub is-dealt-if : (first : World) (count many : ℕ) (events : List Event) (seats : List Sitting) (result : Result Log PbxFault) → 0 < count → IfOk result (λ history. IsSettled standard_rows first count seats history) → count ≡ many → All (GaveFront many events) seats → All (λ (seat : Sitting). length (dealt many seat.number events) ≤ length seat.told) seats → IfOk result (λ history. IsDealt first count events history)
-is-dealt-if first count many events seats (Err fault) some settled same fronts acted = tt
-is-dealt-if first count many events seats (Ok history) some settled same fronts acted =
-    is-dealt first count events seats history some settled
+pub is-items_of_seat-if : (first : World) (count many : ℕ) (events : List Event) (seats : List Sitting) (result : Result Log PbxFault) → 0 < count → IfOk result (λ history. IsSettled standard_rows first count seats history) → count ≡ many → All (GaveFront many events) seats → All (λ (seat : Sitting). length (items_of_seat many seat.number events) ≤ length seat.told) seats → IfOk result (λ history. IsDealt first count events history)
+is-items_of_seat-if first count many events seats (Err fault) some settled same fronts acted = tt
+is-items_of_seat-if first count many events seats (Ok history) some settled same fronts acted =
+    is-items_of_seat first count events seats history some settled
     (subst (λ n. All (GaveFront n events) seats) (sym same) fronts)
-    (subst (λ n. All (λ (seat : Sitting). length (dealt n seat.number events) ≤ length seat.told) seats) (sym same) acted)
+    (subst (λ n. All (λ (seat : Sitting). length (items_of_seat n seat.number events) ≤ length seat.told) seats) (sym same) acted)
 
 -- the calls that come in first are among the events
 pub calls-within : (events : List Event) (many : ℕ) → many ≡ prefix_len is_start events → many ≤ length events
@@ -120,22 +121,22 @@ shares-unwritten count calls old new (Err given) begun fault is many unwritten =
 
 -- a run that ends well
 shares-done : (count : ℕ) (old new : Option (List ℕ)) (r : Result Run PbxFault) (begun : World × List Event × Bool) (status : ℕ) (history : Log) → begun_of r ≡ Ok begun → IsDealt begun.0 count begun.1 history → Appends old new (settled_line count (length history.entries)) → status ≡ status_by (begun.2 || list_any (λ entry. is_refused entry.reply) history.entries) → Shares count old new r (Ok (status, history))
-shares-done count old new (Err given) begun status history is dealt line told = absurd (search (rules, is))
-shares-done count old new (Ok run) begun status history is dealt line told =
+shares-done count old new (Err given) begun status history is items_of_seat line told = absurd (search (rules, is))
+shares-done count old new (Ok run) begun status history is items_of_seat line told =
     let Begun : Type 0 = World × List Event × Bool in
     let same : begun ≡ (opened_world run, shared_in run, is_call_refused run) = begun-is run begun is in
     record {
-      replay = subst (λ (b : Begun). IsDealt b.0 count b.1 history) same dealt;
+      replay = subst (λ (b : Begun). IsDealt b.0 count b.1 history) same items_of_seat;
       told = told ∙ ap (λ (b : Begun). status_by (b.2 || list_any (λ entry. is_refused entry.reply) history.entries)) same;
-      line = subst (λ n. Appends old new (settled_line count n)) (dealt.calls ∙ ap (λ (b : Begun). length b.1) same) line;
+      line = subst (λ n. Appends old new (settled_line count n)) (items_of_seat.calls ∙ ap (λ (b : Begun). length b.1) same) line;
     }
 
 -- a run whose history is concluded, with its line written or not
 pub shares-concluded : (count : ℕ) (old new : Option (List ℕ)) (r : Result Run PbxFault) (begun : World × List Event × Bool) (history : Log) (result : Result (ℕ × Log) PbxFault) → begun_of r ≡ Ok begun → IsDealt begun.0 count begun.1 history → OnOk result (Appends old new (settled_line count (length history.entries))) → IfOk result (λ ran. ran.1 ≡ history) → IfOk result (λ ran. ran.0 ≡ status_by (begun.2 || list_any (λ entry. is_refused entry.reply) history.entries)) → IfErr result (IsUnwritten count (length history.entries) old new) → Shares count old new r result
-shares-concluded count old new r begun history (Err fault) is dealt line same told unwritten =
-    shares-unwritten count (length history.entries) old new r begun fault is dealt.calls unwritten
-shares-concluded count old new r begun history (Ok ran) is dealt line same told unwritten =
-    subst (λ (h : Log). Shares count old new r (Ok (ran.0, h))) (sym same) (shares-done count old new r begun ran.0 history is dealt line told)
+shares-concluded count old new r begun history (Err fault) is items_of_seat line same told unwritten =
+    shares-unwritten count (length history.entries) old new r begun fault is items_of_seat.calls unwritten
+shares-concluded count old new r begun history (Ok ran) is items_of_seat line same told unwritten =
+    subst (λ (h : Log). Shares count old new r (Ok (ran.0, h))) (sym same) (shares-done count old new r begun ran.0 history is items_of_seat line told)
 
 -- the seats of a board that opens: there are so many, and they were told of nothing
 pub fresh-many : (count : ℕ) (seats : List Sitting) → seats ≡ map unheard (range_with_len 0 count) → length seats ≡ count

@@ -6,7 +6,7 @@ use Rattle.std.specs.Option.{option_and_then, option_map_or}
 use Rattle.dp_conf.specs.Answers.{◌>>=◌}
 use Rattle.dp_conf.specs.Fronts.{AppendsFront}
 use Rattle.dp_pattern.specs.Spelling.{spelling}
-use Rattle.dp_plan.specs.Loaded.{loaded}
+use Rattle.dp_plan.specs.Loaded.{plan_and_notes}
 use Rattle.dp_plan.specs.Lookup.{entry_at}
 use Rattle.dp_plan.specs.Plan.{PlanOf}
 use Rattle.dp_plan.specs.declared.entry.Entry.{Entry}
@@ -14,7 +14,8 @@ use Rattle.dp_plan.specs.declared.entry.EntryId.{EntryId}
 use Rattle.dp_audit.specs.Findings.{context_name, findings_of}
 use Rattle.dp_audit.specs.declared.finding.Finding.{Finding}
 use Rattle.dp_audit.specs.declared.finding.Finding.TheVariants.{Cycle, NoApplication, NoTarget, Gap, NoFirst, Hidden, Unset, Unused}
-use Rattle.dp_table.specs.Names.{is_standard}
+use Rattle.dp_app.specs.Rows.{has_row}
+use Rattle.dp_table.specs.Standard.{standard_rows}
 use Rattle.dp_commands.specs.Run.{plan_fault}
 use Rattle.dp_commands.specs.Trace.{entry_text, place_text}
 use Rattle.dp_commands.specs.declared.findings.Outcome.{Outcome}
@@ -58,8 +59,8 @@ pub record Audited : Type 0 where
   pub text : List ℕ
   pub status : ℕ
 
-abbrev pub shown : Outcome → Audited
-shown report = record { text = report.text.begun; status = report.status }
+abbrev pub outcome_told : Outcome → Audited
+outcome_told report = record { text = report.text.begun; status = report.status }
 
 abbrev pub status_by : List Finding → ℕ
 status_by [] = 0
@@ -69,12 +70,12 @@ status_by (finding ∷ findings) = 1
 abbrev pub audit_text : PlanOf → List Finding → List ℕ
 audit_text plan findings = flat_map (finding_line plan) findings ++ codes "ok " ++ decimal (length findings) ++ codes " findings\n"
 
-abbrev pub audited : PlanOf → List Finding → Audited
-audited plan findings = record { text = audit_text plan findings; status = status_by findings }
+abbrev pub audit_outcome : PlanOf → List Finding → Audited
+audit_outcome plan findings = record { text = audit_text plan findings; status = status_by findings }
 
 -- the audit of the dialplan of a text, or its fault
 unfoldable pub audit_of : List ℕ → Result Audited PbxFault
-audit_of plan = plan_fault (loaded plan) >>= λ read. Ok (audited read.0 (findings_of is_standard read.0))
+audit_of plan = plan_fault (plan_and_notes plan) >>= λ read. Ok (audit_outcome read.0 (findings_of (has_row standard_rows) read.0))
 
 -- what an audit writes and answers: all of its text and its status or, where a write fails, a front
 abbrev pub WritesAudit : Option (List ℕ) → Option (List ℕ) → Result Audited PbxFault → Result ℕ PbxFault → Type 0

@@ -9,7 +9,7 @@ use Rattle.dp_conf.specs.Answers.{◌>>=◌}
 use Rattle.dp_lookup.specs.SearchOrder.{search_order}
 use Rattle.dp_pattern.specs.Spelling.{spelling}
 use Rattle.dp_plan.specs.Contexts.{PlanContext}
-use Rattle.dp_plan.specs.Loaded.{loaded}
+use Rattle.dp_plan.specs.Loaded.{plan_and_notes}
 use Rattle.dp_plan.specs.Plan.{PlanOf}
 use Rattle.dp_plan.specs.declared.entry.Entry.{Entry}
 use Rattle.dp_plan.specs.declared.entry.EntryId.{EntryId}
@@ -64,4 +64,4 @@ all_text plan context text priority =
 
 -- these lines, or the fault of the dialplan's text
 unfoldable pub match_all_of : List ℕ → List ℕ → List ℕ → ℕ → Result (List ℕ) PbxFault
-match_all_of plan context text priority = plan_fault (loaded plan) >>= λ read. Ok (all_text read.0 context text priority)
+match_all_of plan context text priority = plan_fault (plan_and_notes plan) >>= λ read. Ok (all_text read.0 context text priority)

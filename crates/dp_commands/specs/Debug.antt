@@ -13,7 +13,7 @@ use Rattle.dp_machine.specs.World.{World}
 use Rattle.dp_conf.specs.Numbers.{most_priority}
 use Rattle.dp_queue.specs.Changes.{one_more}
 use Rattle.dp_table.specs.Standard.{standard_rows}
-use Rattle.dp_commands.specs.Run.{Run, run_of}
+use Rattle.dp_commands.specs.Run.{Run}
 use Rattle.dp_commands.specs.Script.{number_within}
 use Rattle.dp_commands.specs.Trace.{event_line}
 use Rattle.dp_commands.specs.Turns.{Taken, WritesTurns}
@@ -68,14 +68,14 @@ halt_text halted taken = if halted then halt_line taken else []
 
 -- what a turn makes of a debugged run and its world. The run halts before an event before which its break holds, and goes on with
 -- that event. What is only shown is passed over
-abbrev pub debugged : Watch × World → Turn → Taken (Watch × World)
-debugged at (turn_event event) =
+abbrev pub debug_turn : Watch × World → Turn → Taken (Watch × World)
+debug_turn at (turn_event event) =
     record {
       state = (record { held = at.0.held; taken = one_more at.0.taken }, final_world standard_rows at.1 event);
       lines = halt_text (is_some (first_before at.1 event (at.0.held ∷ []))) at.0.taken ++ event_line at.1 event;
       refused = is_refused (event_row standard_rows at.1 event).1;
     }
-debugged at (Show number name) = record { state = at; lines = []; refused = false }
+debug_turn at (Show number name) = record { state = at; lines = []; refused = false }
 
 -- the last line, `end TAKEN`
 abbrev pub end_line : ℕ → List ℕ
@@ -93,11 +93,9 @@ pub record DebugRun : Type 0 where
 abbrev pub debug_on : Break → Run → DebugRun
 debug_on held run = record { held = held; run = run }
 
--- the debugged run of a dialplan, its queues, a second dialplan and a script, with the break of a text, or the first fault: the
--- break's, the dialplan's, the queues', the script's
-unfoldable pub debug_of : List ℕ → Option (List ℕ) → Option (List ℕ) → List ℕ → List ℕ → Result DebugRun PbxFault
-debug_of plan queues second_plan script held =
-    break_of held >>= λ found. run_of plan queues second_plan script >>= λ run. Ok (debug_on found run)
+-- the debugged run of a run with the break of a text, or the first fault: the break's, that of the run's texts
+unfoldable pub debug_of : Result Run PbxFault → List ℕ → Result DebugRun PbxFault
+debug_of given held = break_of held >>= λ found. given >>= λ run. Ok (debug_on found run)
 
 -- before the first event
 abbrev pub watching : DebugRun → Watch × World
@@ -105,7 +103,7 @@ watching debug = (record { held = debug.held; taken = 0 }, debug.run.world)
 
 -- what a program's debugged run writes and answers, by the run or the fault that its texts are
 abbrev pub WritesDebug : Option (List ℕ) → Option (List ℕ) → Result DebugRun PbxFault → Result ℕ PbxFault → Type 0
-WritesDebug old new (Ok debug) result = WritesTurns debugged (λ at. end_text at.0) (watching debug) debug.run.turns old new result
+WritesDebug old new (Ok debug) result = WritesTurns debug_turn (λ at. end_text at.0) (watching debug) debug.run.turns old new result
 WritesDebug old new (Err fault) (Ok status) = ⊥
 WritesDebug old new (Err fault) (Err (Coded code line)) = Appends old new [] × (fault ≡ Coded code line)
 WritesDebug old new (Err fault) (Err NoMemory) = Appends old new []

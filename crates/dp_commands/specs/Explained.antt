@@ -15,8 +15,8 @@ shown_byte byte =
     if nat_le 32 byte && nat_le byte 126 then byte ∷ [] else 92 ∷ 120 ∷ hex_digit (byte / 16) ∷ hex_digit (byte % 16) ∷ []
 
 -- what is shown of a line: its first 200 bytes
-abbrev pub shown : List ℕ → List ℕ
-shown line = flat_map shown_byte (take 200 line)
+abbrev pub line_told : List ℕ → List ℕ
+line_told line = flat_map shown_byte (take 200 line)
 
 -- the line of a number among lines, counted from 1
 abbrev pub line_among : List (List ℕ) → ℕ → List ℕ
@@ -30,7 +30,7 @@ pub record LineOfFile : Type 0 where
 
 -- a line with its bytes
 abbrev pub file_line : List ℕ → ℕ → List ℕ → LineOfFile
-file_line path number line = record { path = path; number = number; shown = shown line }
+file_line path number line = record { path = path; number = number; shown = line_told line }
 
 -- the line of a number of the text of a file
 abbrev pub line_at : List ℕ → List ℕ → ℕ → LineOfFile

@@ -10,7 +10,7 @@ use Rattle.dp_lookup.specs.FoundEntry.{found_entry}
 use Rattle.dp_lookup.specs.SearchOrder.{search_order}
 use Rattle.dp_plan.specs.Codes.{note_name}
 use Rattle.dp_plan.specs.Contexts.{PlanContext}
-use Rattle.dp_plan.specs.Loaded.{loaded}
+use Rattle.dp_plan.specs.Loaded.{plan_and_notes}
 use Rattle.dp_plan.specs.Plan.{PlanOf}
 use Rattle.dp_plan.specs.declared.entry.EntryId.{EntryId}
 use Rattle.dp_plan.specs.declared.note.Note.{Note}
@@ -40,7 +40,7 @@ check_text read = flat_map note_line read.1 ++ counts_line read.0
 
 -- what is reported of a text, or its fault
 unfoldable pub check_of : List ℕ → Result (List ℕ) PbxFault
-check_of plan = plan_fault (loaded plan) >>= λ read. Ok (check_text read)
+check_of plan = plan_fault (plan_and_notes plan) >>= λ read. Ok (check_text read)
 
 -- the line of a note and below it its explanation, by the path of the file and the lines of its text
 abbrev pub explained_note : List ℕ → List (List ℕ) → Note → List ℕ
@@ -53,11 +53,11 @@ explained_text path lines read = flat_map (explained_note path lines) read.1 ++ 
 
 -- what is reported of the text of a file where its notes are explained, or its fault
 unfoldable pub check_explained_of : List ℕ → List ℕ → Result (List ℕ) PbxFault
-check_explained_of path plan = plan_fault (loaded plan) >>= λ read. Ok (explained_text path (parts_of plan) read)
+check_explained_of path plan = plan_fault (plan_and_notes plan) >>= λ read. Ok (explained_text path (parts_of plan) read)
 
 -- the canonical listing of the dialplan of a text, or its fault
 unfoldable pub list_of : List ℕ → Result (List ℕ) PbxFault
-list_of plan = plan_fault (loaded plan) >>= λ read. Ok (listing read.0)
+list_of plan = plan_fault (plan_and_notes plan) >>= λ read. Ok (listing read.0)
 
 -- the line of an entry that was looked for, `CONTEXT,NAME,PRIORITY APP`, or `none`
 abbrev pub match_line : PlanOf → Option EntryId → List ℕ
@@ -71,7 +71,7 @@ answering plan context text priority = found_entry plan (search_order plan conte
 -- the line of the entry that answers, or the fault of the dialplan's text
 unfoldable pub match_of : List ℕ → List ℕ → List ℕ → ℕ → Result (List ℕ) PbxFault
 match_of plan context text priority =
-    plan_fault (loaded plan) >>= λ read. Ok (match_line read.0 (answering read.0 context text priority))
+    plan_fault (plan_and_notes plan) >>= λ read. Ok (match_line read.0 (answering read.0 context text priority))
 
 -- what a report writes and answers, by its text or the fault in its place: all of it or, where a write fails, a front
 abbrev pub Reports : Option (List ℕ) → Option (List ℕ) → Result (List ℕ) PbxFault → Result ℕ PbxFault → Type 0

@@ -1,16 +1,17 @@
 -- What a run writes and answers.
-use Rattle.std.specs.Prelude.{◌≡◌, ℕ, ◌≤◌, Bool, false, List, [], length, take, Option, Some, None, Result, Ok, Err, if◌then◌else◌}
-use Rattle.std.specs.Io.KnownBytes.{Appends, Keeps}
+use Rattle.std.specs.Prelude.{◌≡◌, ℕ, ◌≤◌, Bool, List, [], length, take, Option, Some, None, Result, Ok, Err, if◌then◌else◌}
+use Rattle.std.specs.Io.KnownBytes.{Appends}
+use Rattle.std.specs.Option.{option_map}
 use Rattle.dp_conf.specs.Answers.{◌>>=◌}
 use Rattle.dp_conf.specs.Fronts.{AppendsFront}
-use Rattle.dp_plan.specs.Loaded.{loaded}
+use Rattle.dp_plan.specs.Loaded.{plan_and_notes}
 use Rattle.dp_plan.specs.Plan.{PlanOf}
 use Rattle.dp_plan.specs.declared.fault.LoadFault.{LoadFault}
-use Rattle.dp_queue.specs.File.{loaded as queues_loaded}
+use Rattle.dp_queue.specs.File.{queues_in as queues_loaded}
 use Rattle.dp_queue.specs.Queues.{QueuesOf, no_queues}
 use Rattle.dp_queue.specs.declared.fault.QueueFault.{QueueFault}
 use Rattle.dp_machine.specs.World.{World, opening}
-use Rattle.dp_commands.specs.Faults.{fault_of_load, fault_of_queue, is_write_failed}
+use Rattle.dp_commands.specs.Faults.{fault_of_load, fault_of_queue}
 use Rattle.dp_commands.specs.Script.{script_of, turns_of}
 use Rattle.dp_commands.specs.Trace.{trace_of, any_refused}
 use Rattle.dp_commands.specs.declared.fault.Code.TheVariants.{WriteFailed}
@@ -18,6 +19,7 @@ use Rattle.dp_commands.specs.declared.fault.PbxFault.{PbxFault}
 use Rattle.dp_commands.specs.declared.fault.PbxFault.TheVariants.{Coded, NoMemory}
 use Rattle.dp_commands.specs.declared.script.ScriptLine.{ScriptLine}
 use Rattle.dp_commands.specs.declared.script.Turn.{Turn}
+use Rattle.dp_commands.specs.declared.texts.RunTexts.{RunTexts}
 
 -- the trace of the first so many turns was written, and nothing else
 pub record TracesFirst (w : World) (turns : List Turn) (old new : Option (List ℕ)) : Type 0 where
@@ -28,24 +30,6 @@ pub record TracesFirst (w : World) (turns : List Turn) (old new : Option (List �
 -- the status by whether a turn was refused
 abbrev pub status_by : Bool → ℕ
 status_by refused = if refused then 1 else 0
-
--- what the end of a run writes and answers, by what waits and what the run came to
-abbrev pub Ends : Option (List ℕ) → List ℕ → Option (List ℕ) → Result Bool PbxFault → Result ℕ PbxFault → Type 0
-Ends old waits new (Ok refused) (Ok status) = Appends old new waits × (status ≡ status_by refused)
-Ends old waits new (Ok refused) (Err (Coded code line)) = AppendsFront old new waits × (code ≡ WriteFailed) × (line ≡ None)
-Ends old waits new (Ok refused) (Err NoMemory) = ⊥
-Ends old waits new (Err (Coded code line)) (Ok status) = ⊥
-Ends old waits new (Err (Coded code line)) (Err (Coded other at)) = Keeps old new × (other ≡ code) × (at ≡ line)
-Ends old waits new (Err (Coded code line)) (Err NoMemory) = ⊥
-Ends old waits new (Err NoMemory) (Ok status) = ⊥
-Ends old waits new (Err NoMemory) (Err (Coded code line)) = AppendsFront old new waits × (code ≡ WriteFailed) × (line ≡ None)
-Ends old waits new (Err NoMemory) (Err NoMemory) = Appends old new waits
-
--- whether the write at the end of a run failed, by what the run came to: after a failed write there is none
-abbrev pub fails_at_the_end : Result Bool PbxFault → Result ℕ PbxFault → Bool
-fails_at_the_end (Ok refused) result = is_write_failed result
-fails_at_the_end (Err (Coded code line)) result = false
-fails_at_the_end (Err NoMemory) result = is_write_failed result
 
 -- a run: the world that it begins with, and its turns
 pub record Run : Type 0 where
@@ -77,7 +61,7 @@ pub record Files : Type 0 where
   pub queues : QueuesOf
 
 -- what the texts of a run say
-pub record RunTexts : Type 0 where
+pub record RunContents : Type 0 where
   pub plan : PlanOf
   pub queues : QueuesOf
   pub lines : List ScriptLine
@@ -85,19 +69,24 @@ pub record RunTexts : Type 0 where
 -- what the texts of a dialplan and its queues say, or the first fault: the dialplan's, the queues'
 abbrev pub files_of : List ℕ → Option (List ℕ) → Result Files PbxFault
 files_of plan queues =
-    plan_fault (loaded plan) >>= λ read. queues_of queues >>= λ held. Ok (record { plan = read.0; queues = held })
+    plan_fault (plan_and_notes plan) >>= λ read. queues_of queues >>= λ held. Ok (record { plan = read.0; queues = held })
 
 -- what the texts of a dialplan, its queues and a script say beside a second dialplan, where there is one; or the first fault: the
 -- dialplan's, the queues', the script's. That of the second dialplan is not asked
-abbrev pub all_texts_of : List ℕ → Option (List ℕ) → Option (List ℕ) → List ℕ → Result RunTexts PbxFault
-all_texts_of plan queues second_plan script =
+abbrev pub contents_of : List ℕ → Option (List ℕ) → Option (List ℕ) → List ℕ → Result RunContents PbxFault
+contents_of plan queues second_plan script =
     files_of plan queues >>= λ files. script_of second_plan script >>= λ lines.
     Ok (record { plan = files.plan; queues = files.queues; lines = lines })
 
 -- the run of a dialplan, its queues, a second dialplan and a script, or the first fault
 unfoldable pub run_of : List ℕ → Option (List ℕ) → Option (List ℕ) → List ℕ → Result Run PbxFault
 run_of plan queues second_plan script =
-    all_texts_of plan queues second_plan script >>= λ told. Ok (run_on (opening told.plan told.queues) (turns_of told.lines))
+    contents_of plan queues second_plan script >>= λ told. Ok (run_on (opening told.plan told.queues) (turns_of told.lines))
+
+-- the run of these texts, or the first fault
+abbrev pub run_of_texts : RunTexts → Result Run PbxFault
+run_of_texts texts =
+    run_of texts.plan.now (option_map (λ text. text.now) texts.queues) (option_map (λ text. text.now) texts.second_plan) texts.script.now
 
 -- the status of a run: 1 where a turn was refused
 abbrev pub status_of : Run → ℕ

@@ -182,13 +182,13 @@ abbrev pub line_of : Option (List ℕ) → List (List ℕ) → Option (List Scri
 line_of second_plan words = if is_skipped words then Some [] else option_map (λ line. line ∷ []) (line_by second_plan words)
 
 -- the reading of a line at its number, or its fault
-abbrev pub numbered : ℕ → Option (List ScriptLine) → Result (List ScriptLine) PbxFault
-numbered line None = Err (Coded BadScript (Some line))
-numbered line (Some lines) = Ok lines
+abbrev pub reading_at : ℕ → Option (List ScriptLine) → Result (List ScriptLine) PbxFault
+reading_at line None = Err (Coded BadScript (Some line))
+reading_at line (Some lines) = Ok lines
 
 -- the reading of a line, by the lines before it
 abbrev pub reading_of : Option (List ℕ) → List (List ℕ) → List ℕ → Result (List ScriptLine) PbxFault
-reading_of second_plan before part = numbered (length before + 1) (line_of second_plan (words_of part))
+reading_of second_plan before part = reading_at (length before + 1) (line_of second_plan (words_of part))
 
 -- the lines of a script beside a second dialplan, where there is one; or the fault of its first faulty line
 unfoldable pub script_of : Option (List ℕ) → List ℕ → Result (List ScriptLine) PbxFault

@@ -1,10 +1,9 @@
 -- Runs in threads: the calls that come before the board opens, and the events that each seat gives.
-use Rattle.std.specs.Prelude.{◌≡◌, ℕ, ◌+◌, ◌<◌, ◌%◌, ◌==◌, Bool, true, false, ◌&&◌, ◌||◌, ◌⊎◌, List, [], ◌∷◌, ◌++◌, length, map, take, drop, slice_index_or, Option, None, is_none, Result, Ok, Err, All, codes, decimal, if◌then◌else◌}
+use Rattle.std.specs.Prelude.{◌≡◌, ℕ, ◌+◌, ◌<◌, ◌%◌, ◌==◌, Bool, true, false, ◌&&◌, ◌||◌, ◌⊎◌, List, [], ◌∷◌, ◌++◌, length, map, take, drop, Option, None, is_none, Result, Ok, Err, All, codes, decimal, if◌then◌else◌}
 use Rattle.std.specs.Io.KnownBytes.{Appends}
-use Rattle.std.specs.List.{flat_map, list_any, prefix_len, range_with_len}
+use Rattle.std.specs.List.{flat_map, list_any, prefix_len}
 use Rattle.dp_board.specs.Difference.{told_to}
 use Rattle.dp_board.specs.Log.{Log, Replays}
-use Rattle.dp_board.specs.Sittings.{Sitting}
 use Rattle.dp_board.specs.declared.seat_call.SeatCall.{SeatCall}
 use Rattle.dp_board.specs.declared.fault.SettleFault.{SettleFault}
 use Rattle.dp_board.specs.declared.fault.SettleFault.TheVariants.{SeatMissing, Differs, NoMemory as settle_no_memory}
@@ -61,32 +60,19 @@ dealt_from count seat at (x ∷ xs) =
     if at % count == seat then x ∷ dealt_from count seat (at + 1) xs else dealt_from count seat (at + 1) xs
 
 -- the items of a seat where so many seats take turns: those at the places `seat`, `seat + count`, `seat + 2 * count`, and so on
-abbrev pub dealt : {X : Type 0} → ℕ → ℕ → List X → List X
-dealt count seat xs = dealt_from count seat 0 xs
-
--- which turn of its seat the item at a place is, counted from 0: how many of the places before it are dealt to the same seat
-abbrev pub turn_of : ℕ → ℕ → ℕ
-turn_of count at = length (dealt count (at % count) (range_with_len 0 at))
+abbrev pub items_of_seat : {X : Type 0} → ℕ → ℕ → List X → List X
+items_of_seat count seat xs = dealt_from count seat 0 xs
 
 -- the events that a seat was told of
 abbrev pub events_told : List SeatCall → List Event
 events_told told = map (λ call. call.event) told
-
--- a seat gave the first so many of its events
-abbrev pub GaveFront : ℕ → List Event → Sitting → Type 0
-GaveFront count events seat = events_told seat.told ≡ take (length seat.told) (dealt count seat.number events)
-
--- seats that keep their numbers
-abbrev pub KeepNumbers : List Sitting → List Sitting → Type 0
-KeepNumbers old new =
-    (place : ℕ) (other : Sitting) → place < length old → (slice_index_or new place other).number ≡ (slice_index_or old place other).number
 
 -- a history of the events as they are dealt to so many seats: it replays from the first world, each seat's entries are its own
 -- events, in their order, and there are as many entries as events
 pub record IsDealt (first : World) (count : ℕ) (events : List Event) (history : Log) : Type 0 where
   pub replays : Replays standard_rows first history
   pub seated : All (λ entry. entry.seat < count) history.entries
-  pub in_turn : (seat : ℕ) → seat < count → events_told (told_to seat history.entries) ≡ dealt count seat events
+  pub in_turn : (seat : ℕ) → seat < count → events_told (told_to seat history.entries) ≡ items_of_seat count seat events
   pub calls : length history.entries ≡ length events
 
 -- the world after the leading calls of a run, in which its board opens
@@ -100,12 +86,6 @@ shared_in run = shared_events (events_in run.turns)
 -- whether a call that comes in first is refused
 abbrev pub is_call_refused : Run → Bool
 is_call_refused run = list_any is_refused (replies_to standard_rows run.world (leading_calls (events_in run.turns)))
-
--- what a run is before its board opens: the world after the calls that come in first, the events after them, and whether a call was
--- refused
-abbrev pub begun_of : Result Run PbxFault → Result (World × List Event × Bool) PbxFault
-begun_of (Ok run) = Ok (opened_world run, shared_in run, is_call_refused run)
-begun_of (Err fault) = Err fault
 
 -- the line that is printed of a settled history
 abbrev pub settled_line : ℕ → ℕ → List ℕ

@@ -1,4 +1,5 @@
 -- The trace: one line for each turn. That of an event has its reply and its channel's state after it, and that of a `show`
+
 -- a value.
 use Rattle.std.specs.Prelude.{ℕ, Bool, false, ◌||◌, ◌==◌, List, [], ◌∷◌, ◌++◌, fold, Option, Some, None, is_none, slice_get, codes, decimal, if◌then◌else◌}
 use Rattle.std.specs.Option.{option_map, unwrap_or}
@@ -116,26 +117,22 @@ pub record Turned : Type 0 where
   pub line : List ℕ
   pub refused : Bool
 
-abbrev pub turned : World → Turn → Turned
-turned w (turn_event event) =
+abbrev pub after_turn : World → Turn → Turned
+after_turn w (turn_event event) =
     record {
       world = final_world standard_rows w event;
       line = event_line w event;
       refused = is_refused (event_row standard_rows w event).1;
     }
-turned w (Show number name) =
+after_turn w (Show number name) =
     record { world = w; line = show_text w number name ++ 10 ∷ []; refused = is_none (phase_at w number) }
-
--- the world after the turns
-abbrev pub world_past : World → List Turn → World
-world_past w turns = fold (λ at turn. (turned at turn).world) w turns
 
 -- the trace of some turns from a world on
 abbrev pub trace_of : World → List Turn → List ℕ
 trace_of w [] = []
-trace_of w (turn ∷ turns) = (turned w turn).line ++ trace_of (turned w turn).world turns
+trace_of w (turn ∷ turns) = (after_turn w turn).line ++ trace_of (after_turn w turn).world turns
 
 -- whether a turn was refused
 abbrev pub any_refused : World → List Turn → Bool
 any_refused w [] = false
-any_refused w (turn ∷ turns) = (turned w turn).refused || any_refused (turned w turn).world turns
+any_refused w (turn ∷ turns) = (after_turn w turn).refused || any_refused (after_turn w turn).world turns

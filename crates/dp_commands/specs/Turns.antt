@@ -2,10 +2,7 @@
 use Rattle.std.specs.Prelude.{◌≡◌, ℕ, ◌≤◌, ◌++◌, ◌||◌, Bool, false, List, [], ◌∷◌, length, take, fold, Option, None, Result, Ok, Err}
 use Rattle.std.specs.Io.KnownBytes.{Appends}
 use Rattle.dp_conf.specs.Fronts.{AppendsFront}
-use Rattle.dp_commands.specs.Block.{Flows}
-use Rattle.dp_machine.specs.World.{World}
 use Rattle.dp_commands.specs.Run.{status_by}
-use Rattle.dp_commands.specs.Trace.{turned}
 use Rattle.dp_commands.specs.declared.fault.Code.TheVariants.{WriteFailed}
 use Rattle.dp_commands.specs.declared.fault.PbxFault.{PbxFault}
 use Rattle.dp_commands.specs.declared.fault.PbxFault.TheVariants.{Coded, NoMemory}
@@ -16,10 +13,6 @@ pub record Taken (S : Type 0) : Type 0 where
   pub state : S
   pub lines : List ℕ
   pub refused : Bool
-
--- what a turn makes of a world, beside which nothing changes
-abbrev pub plainly : {P : Type 0} → P × World → Turn → Taken (P × World)
-plainly at turn = record { state = (at.0, (turned at.1 turn).world); lines = (turned at.1 turn).line; refused = (turned at.1 turn).refused }
 
 -- the state after the turns
 abbrev pub state_past : {S : Type 0} → (S → Turn → Taken S) → S → List Turn → S
@@ -44,30 +37,6 @@ pub record WritesFirst {S : Type 0} (step : S → Turn → Taken S) (s : S) (tur
   pub count : ℕ
   pub within : count ≤ length turns
   pub written : Appends old new (lines_of step s (take count turns))
-
--- the lines of the first so many turns flowed, and nothing else
-pub record FlowsFirst {S : Type 0} (step : S → Turn → Taken S) (s : S) (turns : List Turn) (old : Option (List ℕ)) (waited : List ℕ) (new : Option (List ℕ)) (waits : List ℕ) : Type 0 where
-  pub count : ℕ
-  pub within : count ≤ length turns
-  pub flowed : Flows old waited new waits (lines_of step s (take count turns))
-
--- what some turns come to where a state meets them, by what was written and what waited before, and what is written and
--- waits after them: their lines flow, with whether one was refused; where a write failed, a front was written of what
--- waited and the lines; and the lines of the first so many of them flow where memory was refused
-abbrev pub Streams : {S : Type 0} → (S → Turn → Taken S) → S → List Turn → Option (List ℕ) → List ℕ → Option (List ℕ) → List ℕ → S → Result Bool PbxFault → Type 0
-Streams step s turns old waited new waits after (Ok refused) =
-    Flows old waited new waits (lines_of step s turns) × (after ≡ state_past step s turns) × (refused ≡ refused_in step s turns)
-Streams step s turns old waited new waits after (Err (Coded code line)) =
-    AppendsFront old new (waited ++ lines_of step s turns) × (code ≡ WriteFailed) × (line ≡ None)
-Streams step s turns old waited new waits after (Err NoMemory) = FlowsFirst step s turns old waited new waits
-
--- the same of the turns and of the lines after the last of them
-abbrev pub StreamsAll : {S : Type 0} → (S → Turn → Taken S) → (S → List ℕ) → S → List Turn → Option (List ℕ) → List ℕ → Option (List ℕ) → List ℕ → Result Bool PbxFault → Type 0
-StreamsAll step last s turns old waited new waits (Ok refused) =
-    Flows old waited new waits (text_of step last s turns) × (refused ≡ refused_in step s turns)
-StreamsAll step last s turns old waited new waits (Err (Coded code line)) =
-    AppendsFront old new (waited ++ text_of step last s turns) × (code ≡ WriteFailed) × (line ≡ None)
-StreamsAll step last s turns old waited new waits (Err NoMemory) = FlowsFirst step s turns old waited new waits
 
 -- what taking the turns writes and answers, with the lines after the last of them
 abbrev pub WritesTurns : {S : Type 0} → (S → Turn → Taken S) → (S → List ℕ) → S → List Turn → Option (List ℕ) → Option (List ℕ) → Result ℕ PbxFault → Type 0

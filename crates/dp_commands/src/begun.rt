@@ -11,6 +11,7 @@ ghost use Rattle.dp_commands.specs.Script.{turns_of};
 use crate::block::{Block, ROOM};
 use crate::fault::PbxFault;
 use crate::script::{ScriptLine, read_script};
+use crate::texts::RunTexts;
 use dp_conf::beside;
 use dp_machine::Machine;
 use dp_plan::{Dialplan, NoMemory};
@@ -76,28 +77,22 @@ pub fn read_files(alloc: Global, plan: &[u8], queues: Option<&[u8]>) -> Result<F
 
 /// What the texts of a run say.
 #[derive(Drop)]
-struct RunTexts {
+struct RunContents {
     files: Files,
     lines: Vec<ScriptLine>,
 }
 
 /// What the texts of a run say: its files are read first, then the script.
-fn read_texts(
-    alloc: Global,
-    plan: &[u8],
-    queues: Option<&[u8]>,
-    second_plan: Option<&[u8]>,
-    script: &[u8],
-) -> Result<RunTexts, PbxFault>
+fn read_texts(alloc: Global, texts: RunTexts<'_>) -> Result<RunContents, PbxFault>
     ensures told { Answers (λ told. record { plan = told.files.plan; queues = told.files.queues; lines = told.lines.items }) reason_of result
-        (spec.all_texts_of plan.now (option_map (λ text. text.now) queues.entry)
-        (option_map (λ text. text.now) second_plan.entry) script.now) }
+        (spec.contents_of texts.entry.plan.now (option_map (λ text. text.now) texts.entry.queues)
+        (option_map (λ text. text.now) texts.entry.second_plan) texts.entry.script.now) }
     ensures rest { IfOk result (λ told. IsAtRest told.files.queues) }
     ensures quiet { is_write_failed result ≡ false }
 {
-    let files = read_files(alloc, plan, queues)?;
-    match read_script(alloc, second_plan, script) {
-        Ok(lines) => Ok(RunTexts { files, lines }),
+    let files = read_files(alloc, texts.plan, texts.queues)?;
+    match read_script(alloc, texts.second_plan, texts.script) {
+        Ok(lines) => Ok(RunContents { files, lines }),
         Err(fault) => Err(fault),
     }
 }
@@ -123,6 +118,20 @@ impl Drop for Begun {
 impl Begun {
     ghost use Rattle.std.specs.Prelude.{◌≡◌};
 
+    /// The machine, the lines and the block.
+    pub(crate) fn into_parts(self) -> (Machine<StandardApps>, Vec<ScriptLine>, Block)
+        ensures machine { result.0 ≡ self.machine }
+        ensures lines { result.1 ≡ self.lines }
+        ensures block { result.2 ≡ self.block }
+    {
+        let Begun {
+            machine,
+            lines,
+            block,
+        } = self;
+        (machine, lines, block)
+    }
+
     /// The machine alone.
     pub(crate) fn into_machine(self) -> Machine<StandardApps>
         ensures { result ≡ self.machine }
@@ -138,21 +147,14 @@ impl Begun {
 
 /// What a run has before its first turn.
 #[tactic(auto, unfolding(crate::specs::Run::run_of))]
-pub(crate) fn begin(
-    alloc: Global,
-    plan: &[u8],
-    queues: Option<&[u8]>,
-    second_plan: Option<&[u8]>,
-    script: &[u8],
-) -> Result<Begun, PbxFault>
+pub(crate) fn begin(alloc: Global, texts: RunTexts<'_>) -> Result<Begun, PbxFault>
     ensures run { Answers (λ begun. spec.run_on begun.machine (turns_of begun.lines.items)) reason_of result
-        (spec.run_of plan.now (option_map (λ text. text.now) queues.entry)
-        (option_map (λ text. text.now) second_plan.entry) script.now) }
+        (spec.run_of_texts texts.entry) }
     ensures empty { IfOk result (λ begun. begun.block ≡ waiting [] []) }
     ensures quiet { is_write_failed result ≡ false }
 {
     let block = Block::new(alloc, ROOM)?;
-    let RunTexts { files, lines } = read_texts(alloc, plan, queues, second_plan, script)?;
+    let RunContents { files, lines } = read_texts(alloc, texts)?;
     match files.into_machine(alloc) {
         Ok(machine) => Ok(Begun {
             machine,

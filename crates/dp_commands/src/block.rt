@@ -67,7 +67,7 @@ impl Block {
     }
 
     /// What is begun.
-    pub(crate) fn begun(&self) -> &[u8]
+    pub(crate) fn bytes(&self) -> &[u8]
         ensures { result.now ≡ self.now.begun }
     {
         &self.bytes[self.whole..]

@@ -188,6 +188,6 @@ pub fn match_all<W: WriteTold>(
     ensures told { W.has_failed writer.new ≡ (W.has_failed writer.old || is_write_failed result) }
 {
     let lines = all_matched(alloc, plan, context, text, priority)?;
-    writer.write_told(lines.begun())?;
+    writer.write_told(lines.bytes())?;
     Ok(0)
 }

@@ -3,6 +3,7 @@ ghost use Rattle.std.specs.Prelude.{◌≡◌, ◌++◌, ◌∷◌, ◌<◌, ◌
 ghost use Rattle.std.specs.List.{prefix_len};
 ghost use Rattle.dp_commands.specs.Script.{line_turns, turns_of};
 ghost use Rattle.dp_commands.specs.Threads as spec;
+ghost use Rattle.dp_commands.specs.steps.Deals.{GaveFront, KeepNumbers};
 ghost use Rattle.dp_commands.specs.declared.script.Turn.TheVariants as turns;
 
 use crate::script::{ScriptLine, Turn};
@@ -60,73 +61,17 @@ pub(crate) fn leading_calls(events: &[Event]) -> usize
 }
 
 /// The calls that events begin with, and the events after these.
-pub(crate) fn parted(events: &[Event]) -> (&[Event], &[Event])
+pub(crate) fn calls_and_others(events: &[Event]) -> (&[Event], &[Event])
     ensures calls { result.0.now ≡ spec.leading_calls events.now }
     ensures shared { result.1.now ≡ spec.shared_events events.now }
 {
     events.split_at(leading_calls(events))
 }
 
-/// Which turn of its seat the event at a place is, where so many seats take turns. Turns of a seat are counted from 0.
-fn turn_at(at: usize, count: usize) -> u64
-    requires { 0 < count }
-    ensures { result ≡ spec.turn_of count at }
-{
-    (at / count) as u64
-}
-
-/// Gives the machine one event for a seat, between the calls of the gate, which are told the turn of the seat.
-fn act_one<S: Session, R: Wait, G: Gate>(
-    rt: &R,
-    alloc: Global,
-    board: &Board<StandardApps, S>,
-    seat: &mut Seat<S>,
-    event: &Event,
-    gate: &G,
-    turn: u64,
-) -> Result<(), NoMemory>
-    requires { turn ≡ length seat.old.told }
-    ensures number { seat.new.number ≡ seat.old.number }
-    ensures ok { OnOk result (spec.events_told seat.new.told ≡ spec.events_told seat.old.told ++ event.now ∷ []) }
-    ensures err { OnErr result (seat.new ≡ seat.old) }
-{
-    let copy = event.copy()?;
-    let channel = event.channel();
-    gate.before(channel, turn);
-    let (_place, reply) = board.act(rt, alloc, seat, copy)?;
-    gate.after(channel, &reply);
-    Ok(())
-}
-
-/// Gives the machine the events of a seat, where so many seats take turns, one after another.
-fn act_all<S: Session, R: Wait, G: Gate>(
-    rt: &R,
-    alloc: Global,
-    board: &Board<StandardApps, S>,
-    seat: &mut Seat<S>,
-    count: usize,
-    events: &[Event],
-    gate: &G,
-) -> Result<(), NoMemory>
-    requires count { 0 < count }
-    requires fresh { seat.old.told ≡ [] }
-    ensures number { seat.new.number ≡ seat.old.number }
-    ensures front { spec.GaveFront count events.now seat.new }
-{
-    let number = seat.number() as usize;
-    for at in 0..events.len() {
-        if at % count == number {
-            let turn = turn_at(at, count);
-            act_one(rt, alloc, board, seat, &events[at], gate, turn)?;
-        }
-    }
-    Ok(())
-}
-
 /// How many events are a seat's, where so many seats take turns.
 fn own_count(events: &[Event], count: usize, number: usize) -> usize
     requires { 0 < count }
-    ensures is { result ≡ length (spec.dealt count number events.now) }
+    ensures is { result ≡ length (spec.items_of_seat count number events.now) }
     ensures within { result ≤ length events.now }
 {
     let mut own = 0;
@@ -141,7 +86,7 @@ fn own_count(events: &[Event], count: usize, number: usize) -> usize
 /// Whether each seat was told of as many events as are its own.
 pub(crate) fn have_acted<S: Session>(seats: &[Seat<S>], events: &[Event]) -> bool
     ensures { result ≡ true → All (λ seat. length
-        (spec.dealt (length seats.now) seat.number events.now) ≤ length seat.told) seats.now }
+        (spec.items_of_seat (length seats.now) seat.number events.now) ≤ length seat.told) seats.now }
 {
     for seat in seats {
         if seat.record().len() < own_count(events, seats.len(), seat.number() as usize) {
@@ -151,27 +96,82 @@ pub(crate) fn have_acted<S: Session>(seats: &[Seat<S>], events: &[Event]) -> boo
     true
 }
 
-/// Each seat gives its events in a thread of its own.
-pub(crate) fn act_at_once<S: Session + Send + Sync, R: Threads + Wait + Sync, G: Gate + Sync>(
-    rt: &R,
-    alloc: Global,
-    board: &Board<StandardApps, S>,
-    seats: &mut [Seat<S>],
-    events: &[Event],
-    gate: &G,
-)
-    requires some { 0 < length seats.old }
-    requires fresh { All (λ seat. seat.told ≡ []) seats.old }
-    ensures gave { All (spec.GaveFront (length seats.old) events.now) seats.new }
-    ensures numbers { spec.KeepNumbers seats.old seats.new }
-{
-    let count = seats.len();
-    let give = |_place: usize, seat: &mut Seat<S>|
-        requires { (0 < count) × (seat.now.told ≡ []) }
-        ensures { spec.GaveFront count events.entry.now seat.exit.now × (seat.exit.now.number ≡ seat.entry.now.number) }
+/// Events that are dealt to seats in turn, and the gate between whose calls each is given.
+#[derive_where(Clone, Copy)]
+pub(crate) struct Deal<'a, G> {
+    pub(crate) events: &'a [Event],
+    pub(crate) gate: &'a G,
+}
+
+impl<G: Gate + Sync> Deal<'_, G> {
+    /// Gives the machine one event for a seat, between the calls of the gate. The gate is told which turn of the seat it is, which
+    /// are counted from 0.
+    fn act_one<S: Session, R: Wait>(
+        self,
+        rt: &R,
+        alloc: Global,
+        board: &Board<StandardApps, S>,
+        seat: &mut Seat<S>,
+        event: &Event,
+    ) -> Result<(), NoMemory>
+        ensures number { seat.new.number ≡ seat.old.number }
+        ensures ok { OnOk result (spec.events_told seat.new.told ≡ spec.events_told seat.old.told ++ event.now ∷ []) }
+        ensures err { OnErr result (seat.new ≡ seat.old) }
     {
-        // Where memory was refused, the seat was told of fewer events than are its own.
-        let _ = act_all(rt, alloc, board, seat, count, events, gate);
-    };
-    for_each_mut(rt, seats, count, &give);
+        let copy = event.copy()?;
+        let channel = event.channel();
+        self.gate.before(channel, seat.record().len() as u64);
+        let (_place, reply) = board.act(rt, alloc, seat, copy)?;
+        self.gate.after(channel, &reply);
+        Ok(())
+    }
+
+    /// Gives the machine the events of a seat, where so many seats take turns, one after another.
+    fn act_all<S: Session, R: Wait>(
+        self,
+        rt: &R,
+        alloc: Global,
+        board: &Board<StandardApps, S>,
+        seat: &mut Seat<S>,
+        count: usize,
+    ) -> Result<(), NoMemory>
+        requires count { 0 < count }
+        requires fresh { seat.old.told ≡ [] }
+        ensures number { seat.new.number ≡ seat.old.number }
+        ensures front { GaveFront count self.entry.events.now seat.new }
+    {
+        let events = self.events;
+        let number = seat.number() as usize;
+        for at in 0..events.len() {
+            if at % count == number {
+                self.act_one(rt, alloc, board, seat, &events[at])?;
+            }
+        }
+        Ok(())
+    }
+
+    /// Each seat gives its events in a thread of its own.
+    pub(crate) fn act_at_once<S: Session + Send + Sync, R: Threads + Wait + Sync>(
+        self,
+        rt: &R,
+        alloc: Global,
+        board: &Board<StandardApps, S>,
+        seats: &mut [Seat<S>],
+    )
+        requires some { 0 < length seats.old }
+        requires fresh { All (λ seat. seat.told ≡ []) seats.old }
+        ensures gave { All (GaveFront (length seats.old) self.entry.events.now) seats.new }
+        ensures numbers { KeepNumbers seats.old seats.new }
+    {
+        let Deal { events, gate } = self;
+        let count = seats.len();
+        let give = |_place: usize, seat: &mut Seat<S>|
+            requires { (0 < count) × (seat.now.told ≡ []) }
+            ensures { GaveFront count events.entry.now seat.exit.now × (seat.exit.now.number ≡ seat.entry.now.number) }
+        {
+            // Where memory was refused, the seat was told of fewer events than are its own.
+            let _ = Deal { events, gate }.act_all(rt, alloc, board, seat, count);
+        };
+        for_each_mut(rt, seats, count, &give);
+    }
 }

@@ -1,12 +1,12 @@
 //! Debugged runs of a dialplan by a script.
 ghost use Rattle.std.specs.Prelude.{◌≡◌, ◌++◌, ◌||◌, ◌∷◌, [], IfOk, OnOk, OnErr, Ok, is_some, map, false};
-ghost use Rattle.std.specs.Option.{option_map};
 ghost use Rattle.dp_conf.specs.Answers.{Answers};
 ghost use Rattle.dp_debug.specs.Breaks.{first_before};
 ghost use Rattle.dp_machine.specs.Events.{event_row};
 ghost use Rattle.dp_table.specs.Standard.{standard_rows};
 ghost use Rattle.dp_commands.specs.Debug as spec;
 ghost use Rattle.dp_commands.specs.Faults.{is_write_failed, reason_of};
+ghost use Rattle.dp_commands.specs.Run.{run_of_texts};
 ghost use Rattle.dp_commands.specs.Trace.{reply_text};
 
 use crate::block::Block;
@@ -15,6 +15,7 @@ use crate::run::run_texts;
 use crate::script::Turn;
 use crate::script_line::number_within;
 use crate::taker::Taker;
+use crate::texts::RunTexts;
 use crate::trace::{push_number, push_reply};
 use dp_conf::WriteTold;
 use dp_debug::{Break, Debugger, Why};
@@ -193,9 +194,9 @@ impl Model for Watched {
 }
 
 impl Taker for Watched {
-    ghost use Rattle.dp_commands.specs.Debug.{debugged, end_text};
+    ghost use Rattle.dp_commands.specs.Debug.{debug_turn, end_text};
 
-    ghost step = { debugged };
+    ghost step = { debug_turn };
 
     ghost last = { end_text };
 
@@ -239,11 +240,11 @@ impl Watched {
         block: &mut Block,
     ) -> Result<bool, NoMemory>
         ensures lines { OnOk result (block.new.whole
-            ≡ block.old.whole ++ (spec.debugged (self.old, machine.old) (Turn.Event event.now)).lines) }
+            ≡ block.old.whole ++ (spec.debug_turn (self.old, machine.old) (Turn.Event event.now)).lines) }
         ensures state { OnOk result ((self.new, machine.new)
-            ≡ (spec.debugged (self.old, machine.old) (Turn.Event event.now)).state) }
+            ≡ (spec.debug_turn (self.old, machine.old) (Turn.Event event.now)).state) }
         ensures refused { IfOk result (λ refused. refused
-            ≡ (spec.debugged (self.old, machine.old) (Turn.Event event.now)).refused) }
+            ≡ (spec.debug_turn (self.old, machine.old) (Turn.Event event.now)).refused) }
         ensures err { OnErr result (block.new.whole ≡ block.old.whole) }
     {
         let stepped = step(alloc, &mut self.debugger, machine, event, &self.held)?;
@@ -274,27 +275,15 @@ fn watch(alloc: Global, held: Break) -> Watched
 #[tactic(auto, unfolding(crate::specs::Debug::debug_of))]
 pub fn debug_script<W: WriteTold>(
     alloc: Global,
-    plan: &[u8],
-    queues: Option<&[u8]>,
-    second_plan: Option<&[u8]>,
-    script: &[u8],
+    texts: RunTexts<'_>,
     held: &[u8],
     writer: &mut W,
 ) -> Result<u8, PbxFault>
     ensures writes { spec.WritesDebug (W.contents writer.old) (W.contents writer.new)
-        (spec.debug_of plan.now (option_map (λ text. text.now) queues.entry)
-        (option_map (λ text. text.now) second_plan.entry) script.now held.now) result }
+        (spec.debug_of (run_of_texts texts.entry) held.now) result }
     ensures told { W.has_failed writer.new ≡ (W.has_failed writer.old || is_write_failed result) }
 {
     let held = read_break(alloc, held)?;
-    let mut watched = watch(alloc, held);
-    run_texts(
-        alloc,
-        plan,
-        queues,
-        second_plan,
-        script,
-        &mut watched,
-        writer,
-    )
+    let watched = watch(alloc, held);
+    run_texts(alloc, texts, watched, writer)
 }

@@ -131,7 +131,7 @@ fn show_bytes(bytes: &[u8]) -> ArrayVec<u8, ROOM>
 
 /// What is shown of a line.
 fn show(line: &[u8]) -> ArrayVec<u8, ROOM>
-    ensures { result.items ≡ spec.shown line.now }
+    ensures { result.items ≡ spec.line_told line.now }
 {
     show_bytes(front(line, MOST_SHOWN))
 }

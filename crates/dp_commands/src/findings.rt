@@ -5,28 +5,33 @@ ghost use Rattle.dp_conf.specs.Answers.{Answers};
 ghost use Rattle.dp_audit.specs.Findings.{context_name, findings_of};
 ghost use Rattle.dp_commands.specs.Audit as spec;
 ghost use Rattle.dp_commands.specs.Faults.{is_write_failed, reason_of};
-ghost use Rattle.dp_table.specs.Names.{is_standard};
+ghost use Rattle.dp_app.specs.Rows.{has_row};
+ghost use Rattle.dp_table.specs.Standard.{standard_rows};
 
 use crate::block::Block;
 use crate::fault::PbxFault;
 use crate::report::read_plan;
 use crate::trace::{push_entry, push_number, push_place};
+use dp_app::AppTable;
 use dp_audit::{Finding, Names};
 use dp_conf::WriteTold;
 use dp_plan::{Dialplan, EntryId, NoMemory};
-use dp_table::has_application;
+use dp_table::StandardApps;
 use std::alloc::Global;
+use std::marker::PhantomData;
 
-/// The names of the applications that this program has.
-struct StandardNames;
+/// The names of the applications of a table.
+struct NamesOf<T> {
+    table: PhantomData<T>,
+}
 
-impl Names for StandardNames {
-    ghost use Rattle.dp_table.specs.Names.{is_standard};
+impl<T: AppTable> Names for NamesOf<T> {
+    ghost use Rattle.dp_app.specs.Rows.{has_row};
 
-    ghost known = { is_standard };
+    ghost known = { has_row T.rows };
 
     fn has_application(name: &[u8]) -> bool {
-        has_application(name)
+        T::number_of(name).is_some()
     }
 }
 
@@ -161,7 +166,7 @@ struct Outcome {
 
 /// What is reported of the findings in a dialplan.
 fn report_of(alloc: Global, plan: &Dialplan, findings: &[Finding]) -> Result<Outcome, NoMemory>
-    ensures { IfOk result (λ report. spec.shown report ≡ spec.audited plan.now findings.now) }
+    ensures { IfOk result (λ report. spec.outcome_told report ≡ spec.audit_outcome plan.now findings.now) }
 {
     let mut text = Block::new(alloc, 0)?;
     push_audit(&mut text, plan, findings)?;
@@ -173,16 +178,16 @@ fn report_of(alloc: Global, plan: &Dialplan, findings: &[Finding]) -> Result<Out
 
 /// What is reported of an audit of a dialplan.
 fn report(alloc: Global, plan: &Dialplan) -> Result<Outcome, NoMemory>
-    ensures { IfOk result (λ report. spec.shown report ≡ spec.audited plan.now (findings_of is_standard plan.now)) }
+    ensures { IfOk result (λ report. spec.outcome_told report ≡ spec.audit_outcome plan.now (findings_of (has_row standard_rows) plan.now)) }
 {
-    let findings = dp_audit::audit::<StandardNames>(alloc, plan)?;
+    let findings = dp_audit::audit::<NamesOf<StandardApps>>(alloc, plan)?;
     report_of(alloc, plan, &findings)
 }
 
 /// What is reported of an audit of a dialplan's text, or its fault.
 #[tactic(auto, unfolding(crate::specs::Audit::audit_of))]
-fn audited(alloc: Global, plan: &[u8]) -> Result<Outcome, PbxFault>
-    ensures report { Answers spec.shown reason_of result (spec.audit_of plan.now) }
+fn audit_report(alloc: Global, plan: &[u8]) -> Result<Outcome, PbxFault>
+    ensures report { Answers spec.outcome_told reason_of result (spec.audit_of plan.now) }
     ensures quiet { is_write_failed result ≡ false }
 {
     let read = read_plan(alloc, plan)?;
@@ -199,7 +204,7 @@ pub fn audit<W: WriteTold>(alloc: Global, plan: &[u8], writer: &mut W) -> Result
     ensures writes { spec.WritesAudit (W.contents writer.old) (W.contents writer.new) (spec.audit_of plan.now) result }
     ensures told { W.has_failed writer.new ≡ (W.has_failed writer.old || is_write_failed result) }
 {
-    let report = audited(alloc, plan)?;
-    writer.write_told(report.text.begun())?;
+    let report = audit_report(alloc, plan)?;
+    writer.write_told(report.text.bytes())?;
     Ok(report.status)
 }

@@ -8,6 +8,7 @@ ghost use Rattle.dp_commands.specs.Run.{Writes};
 
 use crate::fault::PbxFault;
 use crate::run::run_script;
+use crate::texts::RunTexts;
 use dp_conf::{WriteTold, first_part, trim};
 use std::alloc::Global;
 
@@ -56,5 +57,11 @@ pub fn run_joined<W: WriteTold>(alloc: Global, text: &[u8], writer: &mut W) -> R
 {
     let (plans, script) = split_at_line(text, b";; script");
     let (plan, second_plan) = split_at_line(plans, b";; reload");
-    run_script(alloc, plan, None, second_plan, or_empty(script), writer)
+    let texts = RunTexts {
+        plan,
+        queues: None,
+        second_plan,
+        script: or_empty(script),
+    };
+    run_script(alloc, texts, writer)
 }

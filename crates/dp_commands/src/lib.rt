@@ -15,6 +15,7 @@ mod run;
 mod script;
 mod script_line;
 mod taker;
+mod texts;
 mod threads;
 mod trace;
 
@@ -29,4 +30,5 @@ pub use report::{check, check_explained, list_plan, match_one};
 pub use run::run_script;
 pub use script::{ScriptLine, Turn, read_script};
 pub use script_line::number_within;
-pub use threads::run_threads;
+pub use texts::RunTexts;
+pub use threads::{Sharing, run_threads};

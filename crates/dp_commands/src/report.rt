@@ -6,8 +6,8 @@ ghost use Rattle.dp_conf.specs.Lines.{parts_of};
 ghost use Rattle.dp_commands.specs.Faults.{is_write_failed, reason_of};
 ghost use Rattle.dp_commands.specs.Report as spec;
 ghost use Rattle.dp_commands.specs.Run.{plan_fault};
-ghost use Rattle.dp_pattern.specs.Dashes.{undashed};
-ghost use Rattle.dp_plan.specs.Loaded.{loaded};
+ghost use Rattle.dp_pattern.specs.Dashes.{without_dashes};
+ghost use Rattle.dp_plan.specs.Loaded.{plan_and_notes};
 
 use crate::block::Block;
 use crate::explained::{FileLine, line_among, push_explanation};
@@ -77,7 +77,7 @@ impl Drop for Read {
 
 /// The dialplan of a text with its notes, or its fault.
 pub(crate) fn read_plan(alloc: Global, text: &[u8]) -> Result<Read, PbxFault>
-    ensures read { Answers (λ read. (read.plan, read.notes.items)) reason_of result (plan_fault (loaded text.now)) }
+    ensures read { Answers (λ read. (read.plan, read.notes.items)) reason_of result (plan_fault (plan_and_notes text.now)) }
     ensures quiet { is_write_failed result ≡ false }
 {
     let (plan, notes) = Dialplan::load(alloc, text)?;
@@ -103,7 +103,7 @@ fn check_text(alloc: Global, plan: &Dialplan, notes: &[Note]) -> Result<Block, N
 
 /// What is reported of a dialplan's text, or its fault.
 #[tactic(auto, unfolding(crate::specs::Report::check_of))]
-fn checked(alloc: Global, plan: &[u8]) -> Result<Block, PbxFault>
+fn check_report(alloc: Global, plan: &[u8]) -> Result<Block, PbxFault>
     ensures text { Answers (λ text. text.begun) reason_of result (spec.check_of plan.now) }
     ensures quiet { is_write_failed result ≡ false }
 {
@@ -122,8 +122,8 @@ pub fn check<W: WriteTold>(alloc: Global, plan: &[u8], writer: &mut W) -> Result
     ensures writes { spec.Reports (W.contents writer.old) (W.contents writer.new) (spec.check_of plan.now) result }
     ensures told { W.has_failed writer.new ≡ (W.has_failed writer.old || is_write_failed result) }
 {
-    let text = checked(alloc, plan)?;
-    writer.write_told(text.begun())?;
+    let text = check_report(alloc, plan)?;
+    writer.write_told(text.bytes())?;
     Ok(0)
 }
 
@@ -184,7 +184,7 @@ fn explained_text(
 
 /// What is reported of the text of a file where its notes are explained, or its fault.
 #[tactic(auto, unfolding(crate::specs::Report::check_explained_of))]
-fn explained(alloc: Global, path: &str, plan: &[u8]) -> Result<Block, PbxFault>
+fn explain_report(alloc: Global, path: &str, plan: &[u8]) -> Result<Block, PbxFault>
     ensures text { Answers (λ text. text.begun) reason_of result (spec.check_explained_of path.now plan.now) }
     ensures quiet { is_write_failed result ≡ false }
 {
@@ -207,14 +207,14 @@ pub fn check_explained<W: WriteTold>(
         (spec.check_explained_of path.now plan.now) result }
     ensures told { W.has_failed writer.new ≡ (W.has_failed writer.old || is_write_failed result) }
 {
-    let text = explained(alloc, path, plan)?;
-    writer.write_told(text.begun())?;
+    let text = explain_report(alloc, path, plan)?;
+    writer.write_told(text.bytes())?;
     Ok(0)
 }
 
 /// The canonical listing of a dialplan's text, or its fault.
 #[tactic(auto, unfolding(crate::specs::Report::list_of))]
-fn listed(alloc: Global, plan: &[u8]) -> Result<Vec<u8>, PbxFault>
+fn listing_of(alloc: Global, plan: &[u8]) -> Result<Vec<u8>, PbxFault>
     ensures text { Answers (λ text. text.items) reason_of result (spec.list_of plan.now) }
     ensures quiet { is_write_failed result ≡ false }
 {
@@ -230,14 +230,14 @@ pub fn list_plan<W: WriteTold>(alloc: Global, plan: &[u8], writer: &mut W) -> Re
     ensures writes { spec.Reports (W.contents writer.old) (W.contents writer.new) (spec.list_of plan.now) result }
     ensures told { W.has_failed writer.new ≡ (W.has_failed writer.old || is_write_failed result) }
 {
-    let text = listed(alloc, plan)?;
+    let text = listing_of(alloc, plan)?;
     writer.write_told(&text)?;
     Ok(0)
 }
 
 /// The text without its dashes.
 pub(crate) fn without_dashes(alloc: Global, text: &[u8]) -> Result<Vec<u8>, NoMemory>
-    ensures { IfOk result (λ digits. digits.items ≡ undashed text.now) }
+    ensures { IfOk result (λ digits. digits.items ≡ without_dashes text.now) }
 {
     let digits = text
         .iter()
@@ -308,7 +308,7 @@ fn answer_line(
 
 /// The line of the entry that answers a dialled text, or the fault of the dialplan's text.
 #[tactic(auto, unfolding(crate::specs::Report::match_of))]
-fn matched(
+fn match_report(
     alloc: Global,
     plan: &[u8],
     context: &[u8],
@@ -342,7 +342,7 @@ pub fn match_one<W: WriteTold>(
         (spec.match_of plan.now context.now text.now priority) result }
     ensures told { W.has_failed writer.new ≡ (W.has_failed writer.old || is_write_failed result) }
 {
-    let line = matched(alloc, plan, context, text, priority)?;
-    writer.write_told(line.begun())?;
+    let line = match_report(alloc, plan, context, text, priority)?;
+    writer.write_told(line.bytes())?;
     Ok(0)
 }

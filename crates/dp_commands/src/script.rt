@@ -36,7 +36,7 @@ fn read_numbered(
     words: &[&[u8]],
 ) -> Result<Option<ScriptLine>, PbxFault>
     ensures line { Answers option_to_list reason_of result
-        (spec.numbered line (spec.line_of (option_map (λ text. text.now) second_plan.entry)
+        (spec.reading_at line (spec.line_of (option_map (λ text. text.now) second_plan.entry)
         (map (λ word. word.now) words.now))) }
     ensures quiet { is_write_failed result ≡ false }
 {
@@ -61,7 +61,7 @@ fn read_line(
     part: &[u8],
 ) -> Result<Option<ScriptLine>, PbxFault>
     ensures line { Answers option_to_list reason_of result
-        (spec.numbered line (spec.line_of (option_map (λ text. text.now) second_plan.entry) (spec.words_of part.now))) }
+        (spec.reading_at line (spec.line_of (option_map (λ text. text.now) second_plan.entry) (spec.words_of part.now))) }
     ensures quiet { is_write_failed result ≡ false }
 {
     let words = words(alloc, part)?;

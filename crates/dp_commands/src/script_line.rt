@@ -78,13 +78,13 @@ fn read_digit(words: &[&[u8]]) -> Option<ScriptLine>
     ensures { result ≡ spec.digit_line (map (λ word. word.now) words.now) }
 {
     match words {
-        [channel, digit] => dialled(read_channel(channel)?, digit),
+        [channel, digit] => digit_line(read_channel(channel)?, digit),
         _ => None,
     }
 }
 
 /// The digit that a channel dials: a word of one byte.
-fn dialled(channel: u32, word: &[u8]) -> Option<ScriptLine>
+fn digit_line(channel: u32, word: &[u8]) -> Option<ScriptLine>
     ensures { result ≡ spec.dialled_by (Some channel) word.now }
 {
     match word {

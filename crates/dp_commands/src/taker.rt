@@ -12,7 +12,7 @@ use dp_table::StandardApps;
 use std::alloc::Global;
 
 /// How the turns of a script are taken.
-pub(crate) trait Taker {
+pub(crate) trait Taker: Drop {
     // What a turn makes of the taker and of a world, its lines, and whether it is refused.
     ghost step: { Self × World → turns.Turn → Taken (Self × World) };
 

@@ -2,7 +2,6 @@
 ghost use Rattle.std.specs.Prelude.{◌≡◌, ◌++◌, ◌<◌, ◌||◌, [], None, IfOk, IfErr, OnOk, OnErr, length, map, max, true, false, ◌+◌};
 ghost use Rattle.std.specs.List.{list_any, range_with_len};
 ghost use Rattle.std.specs.Io.KnownBytes.{Appends};
-ghost use Rattle.std.specs.Option.{option_map};
 ghost use Rattle.dp_board.specs.Settled.{AllPresent, IsSettled};
 ghost use Rattle.dp_board.specs.Sittings.{unheard};
 ghost use Rattle.dp_machine.specs.Events.{is_refused as refuses};
@@ -14,14 +13,16 @@ ghost use Rattle.dp_conf.specs.Answers.{Answers};
 ghost use Rattle.dp_commands.specs.Run as run;
 ghost use Rattle.dp_commands.specs.Script.{turns_of};
 ghost use Rattle.dp_commands.specs.Threads as spec;
+ghost use Rattle.dp_commands.specs.steps.Deals.{begun_of};
 ghost use Rattle.dp_commands.specs.declared.fault.Code.TheVariants.{Settle};
 ghost use Rattle.dp_commands.specs.declared.fault.PbxFault.TheVariants.{Coded};
 
 use crate::begun::{Begun, begin};
 use crate::block::Block;
-use crate::deal::{act_at_once, events_of, have_acted, leading_calls, parted};
+use crate::deal::{Deal, calls_and_others, events_of, have_acted, leading_calls};
 use crate::fault::{Code, PbxFault};
 use crate::script::ScriptLine;
+use crate::texts::RunTexts;
 use crate::trace::push_number;
 use dp_board::{Board, Entry, Gate, History, Seat, Session, SettleFault};
 use dp_conf::{WriteTold, beside};
@@ -47,7 +48,7 @@ fn settle_fault(fault: SettleFault) -> PbxFault
 }
 
 /// The history of a board that was settled by all of its seats, or why it was not.
-fn settled<S: Session>(
+fn settled_history<S: Session>(
     alloc: Global,
     board: Board<StandardApps, S>,
     seats: Vec<Seat<S>>,
@@ -68,17 +69,16 @@ fn act_and_settle<S: Session + Send + Sync, R: Threads + Wait + Sync, G: Gate + 
     alloc: Global,
     board: Board<StandardApps, S>,
     mut seats: Vec<Seat<S>>,
-    events: &[Event],
-    gate: &G,
+    deal: Deal<'_, G>,
 ) -> Result<History<StandardApps>, PbxFault>
     requires some { 0 < board }
     requires seats { seats.items ≡ map unheard (range_with_len 0 board) }
-    ensures dealt { IfOk result (λ history. spec.IsDealt S.opening board events.now history) }
+    ensures dealt { IfOk result (λ history. spec.IsDealt S.opening board deal.entry.events.now history) }
     ensures code { IfErr result (λ fault. spec.is_settle_fault fault ≡ true) }
 {
-    act_at_once(rt, alloc, &board, &mut seats, events, gate);
-    if have_acted(&seats, events) {
-        settled(alloc, board, seats)
+    deal.act_at_once(rt, alloc, &board, &mut seats);
+    if have_acted(&seats, deal.events) {
+        settled_history(alloc, board, seats)
     } else {
         Err(PbxFault::NoMemory)
     }
@@ -89,29 +89,6 @@ fn open_fault(_back: (Machine<StandardApps>, NoMemory)) -> PbxFault
     ensures { spec.is_settle_fault result ≡ true }
 {
     PbxFault::NoMemory
-}
-
-/// The history of events that are dealt to so many seats of a board over the machine.
-fn history_of<S: Session + Send + Sync, R: Threads + Wait + Sync, G: Gate + Sync>(
-    rt: &R,
-    alloc: Global,
-    blank: Blank,
-    machine: Machine<StandardApps>,
-    count: u32,
-    events: &[Event],
-    gate: &G,
-) -> Result<History<StandardApps>, PbxFault>
-    requires name { blank.name ≡ S.name }
-    requires parts { (blank.parts ≡ S.parts) × (blank.parts ≡ count + 1) }
-    requires opening { machine ≡ S.opening }
-    requires some { 0 < count }
-    ensures dealt { IfOk result (λ history. spec.IsDealt machine count events.now history) }
-    ensures code { IfErr result (λ fault. spec.is_settle_fault fault ≡ true) }
-{
-    match Board::<StandardApps, S>::open(alloc, blank, machine, count) {
-        Ok((board, seats)) => act_and_settle(rt, alloc, board, seats, events, gate),
-        Err(back) => Err(open_fault(back)),
-    }
 }
 
 /// Gives the machine the events, and says whether one was refused.
@@ -138,7 +115,7 @@ fn has_refusal(entries: &[Entry]) -> bool
 
 /// The events of a run, of which the calls that come in first were given, and whether one of these was refused.
 #[derive(Drop)]
-struct Given {
+struct GivenEvents {
     events: Vec<Event>,
     is_refused: bool,
 }
@@ -148,7 +125,7 @@ fn give_calls(
     alloc: Global,
     machine: &mut Machine<StandardApps>,
     lines: &[ScriptLine],
-) -> Result<Given, NoMemory>
+) -> Result<GivenEvents, NoMemory>
     ensures world { OnOk result (machine.new ≡ world_after standard_rows machine.old
         (spec.leading_calls (spec.events_in (turns_of lines.now)))) }
     ensures events { IfOk result (λ given. given.events.items ≡ spec.events_in (turns_of lines.now)) }
@@ -157,20 +134,20 @@ fn give_calls(
         (spec.leading_calls (spec.events_in (turns_of lines.now))))) }
 {
     let events = events_of(alloc, lines)?;
-    let (calls, _) = parted(&events);
+    let (calls, _) = calls_and_others(&events);
     let is_refused = run_events(alloc, machine, calls)?;
-    Ok(Given { events, is_refused })
+    Ok(GivenEvents { events, is_refused })
 }
 
 /// What a run in threads has before its board opens: the machine after the calls that come in first, and what these leave.
 #[derive(Drop)]
 struct Opened {
     machine: Machine<StandardApps>,
-    given: Given,
+    given: GivenEvents,
 }
 
 /// The run that has begun and was given the calls that come in first.
-fn opened_of(begun: Begun, given: Given) -> Opened
+fn opened_of(begun: Begun, given: GivenEvents) -> Opened
     ensures machine { result.machine ≡ begun.machine }
     ensures given { result.given ≡ given }
 {
@@ -181,19 +158,12 @@ fn opened_of(begun: Begun, given: Given) -> Opened
 }
 
 /// What a run in threads has before its board opens.
-fn begin_shared(
-    alloc: Global,
-    plan: &[u8],
-    queues: Option<&[u8]>,
-    second_plan: Option<&[u8]>,
-    script: &[u8],
-) -> Result<Opened, PbxFault>
+fn begin_shared(alloc: Global, texts: RunTexts<'_>) -> Result<Opened, PbxFault>
     ensures begun { Answers (λ opened. (opened.machine, spec.shared_events opened.given.events.items, opened.given.is_refused)) reason_of result
-        (spec.begun_of (run.run_of plan.now (option_map (λ text. text.now) queues.entry)
-        (option_map (λ text. text.now) second_plan.entry) script.now)) }
+        (begun_of (run.run_of_texts texts.entry)) }
     ensures quiet { is_write_failed result ≡ false }
 {
-    let mut begun = begin(alloc, plan, queues, second_plan, script)?;
+    let mut begun = begin(alloc, texts)?;
     match give_calls(alloc, &mut begun.machine, &begun.lines) {
         Ok(given) => Ok(opened_of(begun, given)),
         Err(_) => Err(PbxFault::NoMemory),
@@ -252,23 +222,54 @@ fn report<W: WriteTold>(
     Ok(u8::from(is_refused || has_refusal(history.entries())))
 }
 
-/// The history of a run in threads whose board is yet to open.
+/// How a run is shared.
+#[derive_where(Clone, Copy)]
+pub struct Sharing<'a, G> {
+    /// In how many threads it runs: with 0 it runs in one.
+    pub threads: u32,
+    /// Between whose calls each event is given.
+    pub gate: &'a G,
+}
+
+/// The history of a run in threads over the board of a session, which is yet to open. It has a seat for each thread.
+fn history_of<S: Session + Send + Sync, R: Threads + Wait + Sync, G: Gate + Sync>(
+    rt: &R,
+    alloc: Global,
+    blank: Blank,
+    opened: Opened,
+    sharing: Sharing<'_, G>,
+) -> Result<History<StandardApps>, PbxFault>
+    requires name { blank.name ≡ S.name }
+    requires parts { (blank.parts ≡ S.parts) × (blank.parts ≡ sharing.threads + 1) }
+    requires opening { opened.machine ≡ S.opening }
+    requires some { 0 < sharing.threads }
+    ensures dealt { IfOk result (λ history. spec.IsDealt opened.machine sharing.entry.threads
+        (spec.shared_events opened.given.events.items) history) }
+    ensures code { IfErr result (λ fault. spec.is_settle_fault fault ≡ true) }
+{
+    let Opened { machine, given } = opened;
+    let (_, events) = calls_and_others(&given.events);
+    let gate = sharing.gate;
+    match Board::<StandardApps, S>::open(alloc, blank, machine, sharing.threads) {
+        Ok((board, seats)) => act_and_settle(rt, alloc, board, seats, Deal { events, gate }),
+        Err(back) => Err(open_fault(back)),
+    }
+}
+
+/// The history of a run in threads whose board is yet to open. It has a seat for each thread.
 fn share<G: Gate + Sync, R: Threads + Wait + Sync>(
     rt: &R,
     alloc: Global,
     opened: Opened,
-    count: u32,
-    gate: &G,
+    sharing: Sharing<'_, G>,
 ) -> Result<History<StandardApps>, PbxFault>
-    requires some { 0 < count }
-    ensures dealt { IfOk result (λ history. spec.IsDealt opened.machine count
+    requires some { 0 < sharing.threads }
+    ensures dealt { IfOk result (λ history. spec.IsDealt opened.machine sharing.entry.threads
         (spec.shared_events opened.given.events.items) history) }
     ensures code { IfErr result (λ fault. spec.is_settle_fault fault ≡ true) }
 {
-    let blank = Blank::new(u64::from(count) + 1);
-    let Opened { machine, given } = opened;
-    let (_, shared) = parted(&given.events);
-    history_of::<Brand, _, _>(rt, alloc, blank, machine, count, shared, gate)
+    let blank = Blank::new(u64::from(sharing.threads) + 1);
+    history_of::<Brand, _, _>(rt, alloc, blank, opened, sharing)
 }
 
 /// A history and the status of its run, where its line is written.
@@ -293,8 +294,8 @@ fn conclude<W: WriteTold>(
 }
 
 /// Runs a script on a dialplan with its queues in so many threads, and writes `settled N seats M calls`: so many seats, and how many
-/// events they shared, each of which is a call of the history. With 0 threads it runs in one. The calls that the script begins with come in first; then a board opens, and
-/// the events after these are dealt to its seats in turn, each of which gives its own in a thread, between the calls of the gate.
+/// events they shared, each of which is a call of the history. The calls that the script begins with come in first; then a board opens,
+/// and the events after these are dealt to its seats in turn, each of which gives its own in a thread, between the calls of the gate.
 /// Lines that show a value are passed over. The history is answered, and the status: 1 where an event was refused, else 0.
 ///
 /// All texts are read first, and their faults come as in a run without threads. Where memory is refused nothing is written. Each seat
@@ -302,22 +303,18 @@ fn conclude<W: WriteTold>(
 pub fn run_threads<G: Gate + Sync, W: WriteTold, R: Threads + Wait + Sync>(
     rt: &R,
     alloc: Global,
-    plan: &[u8],
-    queues: Option<&[u8]>,
-    second_plan: Option<&[u8]>,
-    script: &[u8],
-    threads: u32,
-    gate: &G,
+    texts: RunTexts<'_>,
+    sharing: Sharing<'_, G>,
     writer: &mut W,
 ) -> Result<(u8, History<StandardApps>), PbxFault>
-    ensures shares { spec.Shares (max 1 threads) (W.contents writer.old) (W.contents writer.new)
-        (run.run_of plan.now (option_map (λ text. text.now) queues.entry)
-        (option_map (λ text. text.now) second_plan.entry) script.now) result }
+    ensures shares { spec.Shares (max 1 sharing.entry.threads) (W.contents writer.old) (W.contents writer.new)
+        (run.run_of_texts texts.entry) result }
     ensures told { W.has_failed writer.new ≡ (W.has_failed writer.old || is_write_failed result) }
 {
-    let opened = begin_shared(alloc, plan, queues, second_plan, script)?;
-    let count = threads.max(1);
+    let opened = begin_shared(alloc, texts)?;
+    let threads = sharing.threads.max(1);
     let is_refused = opened.given.is_refused;
-    let history = share(rt, alloc, opened, count, gate)?;
-    conclude(alloc, history, count, is_refused, writer)
+    let gate = sharing.gate;
+    let history = share(rt, alloc, opened, Sharing { threads, gate })?;
+    conclude(alloc, history, threads, is_refused, writer)
 }

@@ -4,9 +4,9 @@
 #![tactic(auto)]
 
 use bstr::BStr;
-use dp_commands::{PbxFault, check, run_joined};
+use dp_case_tables::{bytes_of, check_heading, push_bytes};
+use dp_commands::{PbxFault, RunTexts, check, run_joined};
 use dp_conf::{NoMemory, Told};
-use dp_questions::{bytes_of, check_heading, push_bytes};
 use std::alloc::Global;
 use std::io;
 use std::io::{ErrorKind, Write};
@@ -126,7 +126,7 @@ fn outcome(
 }
 
 /// The same as text, in which each byte that was written is the character of its number.
-pub fn told(
+pub fn outcome_text(
     alloc: Global,
     ended: Result<u8, PbxFault>,
     writer: Told<Sink>,
@@ -160,6 +160,18 @@ pub struct Texts {
     pub queues: Vec<u8>,
     pub second_plan: Option<Vec<u8>>,
     pub script: Vec<u8>,
+}
+
+impl Texts {
+    /// The texts, as they are given to a run.
+    pub fn lend(&self) -> RunTexts<'_> {
+        RunTexts {
+            plan: &self.plan,
+            queues: Some(&self.queues),
+            second_plan: self.second_plan.as_deref(),
+            script: &self.script,
+        }
+    }
 }
 
 /// The texts of a run by three cells, of which the dialplan begins in `[main]`, and the last is the script, with a second dialplan

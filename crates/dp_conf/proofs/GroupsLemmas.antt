@@ -5,7 +5,7 @@ use Rattle.dp_conf.specs.declared.groups.GroupKind.{GroupKind}
 use Rattle.dp_conf.specs.declared.groups.GroupKind.TheVariants.{Braces, Brackets}
 use Rattle.dp_conf.specs.declared.groups.Mark.{Mark}
 use Rattle.dp_conf.specs.declared.groups.Mark.TheVariants.{End, Opening, Byte}
-use Rattle.dp_conf.specs.Groups.{Reading, Over, Plain, Group, opener, closer, kind_of, opening, printed, IsBody, BeginsGroup, IsWhole, IsReading}
+use Rattle.dp_conf.specs.Groups.{Reading, Over, Plain, Group, opener, closer, kind_of, opening, text_of_reading, IsBody, BeginsGroup, IsWhole, IsReading}
 use Rattle.dp_conf.specs.GroupsRead.{is_end, mark_of, mark_at, is_end_of, first_of, IsMarked, Levels, Last, Within, with_byte, with_opening, with_mark, levels, first_level, reading_of}
 
 -- ---- marks
@@ -89,32 +89,32 @@ mark_says (kind ∷ kinds) byte after =
 
 -- the text of levels inside of these groups
 abbrev pub printed_levels : List GroupKind → Levels → List ℕ
-printed_levels kinds (Last rest) = printed rest
-printed_levels [] (Within rest outer) = printed rest
-printed_levels (kind ∷ kinds) (Within rest outer) = printed rest ++ closer kind ∷ printed_levels kinds outer
+printed_levels kinds (Last rest) = text_of_reading rest
+printed_levels [] (Within rest outer) = text_of_reading rest
+printed_levels (kind ∷ kinds) (Within rest outer) = text_of_reading rest ++ closer kind ∷ printed_levels kinds outer
 
-with_byte-printed : (kinds : List GroupKind) (byte : ℕ) (l : Levels) → printed_levels kinds (with_byte byte l) ≡ byte ∷ printed_levels kinds l
-unfolding printed
-with_byte-printed kinds byte (Last rest) = refl
-with_byte-printed [] byte (Within rest outer) = refl
-with_byte-printed (kind ∷ kinds) byte (Within rest outer) = refl
+with_byte-text_of_reading : (kinds : List GroupKind) (byte : ℕ) (l : Levels) → printed_levels kinds (with_byte byte l) ≡ byte ∷ printed_levels kinds l
+unfolding text_of_reading
+with_byte-text_of_reading kinds byte (Last rest) = refl
+with_byte-text_of_reading [] byte (Within rest outer) = refl
+with_byte-text_of_reading (kind ∷ kinds) byte (Within rest outer) = refl
 
-with_opening-printed : (kinds : List GroupKind) (kind : GroupKind) (l : Levels)
+with_opening-text_of_reading : (kinds : List GroupKind) (kind : GroupKind) (l : Levels)
     → printed_levels kinds (with_opening kind l) ≡ 36 ∷ opener kind ∷ printed_levels (kind ∷ kinds) l
-unfolding printed
-with_opening-printed kinds kind (Last rest) = refl
-with_opening-printed kinds kind (Within inside (Last rest)) = refl
-with_opening-printed [] kind (Within inside (Within rest outer)) = refl
-with_opening-printed (k ∷ kinds) kind (Within inside (Within rest outer)) =
-    ap (λ bytes. 36 ∷ opener kind ∷ bytes) (append_assoc (printed inside) (closer kind ∷ printed rest) (closer k ∷ printed_levels kinds outer))
+unfolding text_of_reading
+with_opening-text_of_reading kinds kind (Last rest) = refl
+with_opening-text_of_reading kinds kind (Within inside (Last rest)) = refl
+with_opening-text_of_reading [] kind (Within inside (Within rest outer)) = refl
+with_opening-text_of_reading (k ∷ kinds) kind (Within inside (Within rest outer)) =
+    ap (λ bytes. 36 ∷ opener kind ∷ bytes) (append_assoc (text_of_reading inside) (closer kind ∷ text_of_reading rest) (closer k ∷ printed_levels kinds outer))
 
 -- the levels of a text print what is not read yet of it
-pub levels-printed : (bytes : List ℕ) (kinds : List GroupKind) (skipped : ℕ) → printed_levels kinds (levels bytes kinds skipped) ≡ drop skipped bytes
-unfolding levels printed
-levels-printed [] kinds zero = refl
-levels-printed [] kinds (suc skipped) = refl
-levels-printed (byte ∷ after) kinds (suc skipped) = levels-printed after kinds skipped
-levels-printed (byte ∷ after) kinds zero = by kinds (mark_at kinds byte after) (mark_says kinds byte after) (levels-printed after)
+pub levels-text_of_reading : (bytes : List ℕ) (kinds : List GroupKind) (skipped : ℕ) → printed_levels kinds (levels bytes kinds skipped) ≡ drop skipped bytes
+unfolding levels text_of_reading
+levels-text_of_reading [] kinds zero = refl
+levels-text_of_reading [] kinds (suc skipped) = refl
+levels-text_of_reading (byte ∷ after) kinds (suc skipped) = levels-text_of_reading after kinds skipped
+levels-text_of_reading (byte ∷ after) kinds zero = by kinds (mark_at kinds byte after) (mark_says kinds byte after) (levels-text_of_reading after)
   where
     by : (kinds : List GroupKind) (m : Mark) → MarkSays kinds byte after m
         → ((ks : List GroupKind) (n : ℕ) → printed_levels ks (levels after ks n) ≡ drop n after)
@@ -122,10 +122,10 @@ levels-printed (byte ∷ after) kinds zero = by kinds (mark_at kinds byte after)
     by [] End says rest = absurd says
     by (kind ∷ kinds) End says rest = λ i. sym says i ∷ rest kinds 0 i
     by kinds (Opening kind) says rest =
-        with_opening-printed kinds kind (levels after (kind ∷ kinds) 1)
+        with_opening-text_of_reading kinds kind (levels after (kind ∷ kinds) 1)
         ∙ ap (λ bytes. 36 ∷ opener kind ∷ bytes) (rest (kind ∷ kinds) 1 ∙ ap (drop 1) says.1.1)
         ∙ (λ i. sym says.0 i ∷ sym says.1.1 i)
-    by kinds (Byte b) says rest = with_byte-printed kinds b (levels after kinds 0) ∙ (λ i. says.0 i ∷ rest kinds 0 i)
+    by kinds (Byte b) says rest = with_byte-text_of_reading kinds b (levels after kinds 0) ∙ (λ i. says.0 i ∷ rest kinds 0 i)
 
 -- ---- what stands before an end is read as it is printed
 
@@ -146,28 +146,28 @@ mark_at-byte kind kinds byte after other none =
 
 -- a body and the end of its group
 pub levels-body : (kind : GroupKind) (inside : Reading) → IsBody kind inside → (kinds : List GroupKind) (after : List ℕ)
-    → levels (printed inside ++ closer kind ∷ after) (kind ∷ kinds) 0 ≡ Within inside (levels after kinds 0)
-unfolding levels printed IsBody
+    → levels (text_of_reading inside ++ closer kind ∷ after) (kind ∷ kinds) 0 ≡ Within inside (levels after kinds 0)
+unfolding levels text_of_reading IsBody
 levels-body kind Over body kinds after =
     ap (λ m. with_mark m (levels after) 1 (kind ∷ kinds)) (mark_at-end kind kinds after)
 levels-body kind (Plain byte rest) body kinds after =
-    ap (λ m. with_mark m (levels (printed rest ++ closer kind ∷ after)) 1 (kind ∷ kinds))
-    (mark_at-byte kind kinds byte (printed rest ++ closer kind ∷ after) body.0 (opening-closer kind byte (printed rest) after ∙ body.1))
+    ap (λ m. with_mark m (levels (text_of_reading rest ++ closer kind ∷ after)) 1 (kind ∷ kinds))
+    (mark_at-byte kind kinds byte (text_of_reading rest ++ closer kind ∷ after) body.0 (opening-closer kind byte (text_of_reading rest) after ∙ body.1))
     ∙ ap (with_byte byte) (levels-body kind rest body.2 kinds after)
 levels-body kind (Group inner inside rest) body kinds after =
-    ap (λ m. with_mark m (levels (opener inner ∷ ((printed inside ++ closer inner ∷ printed rest) ++ closer kind ∷ after))) 1 (kind ∷ kinds))
-    (mark_at-opening inner (kind ∷ kinds) ((printed inside ++ closer inner ∷ printed rest) ++ closer kind ∷ after))
-    ∙ ap (λ bytes. with_opening inner (levels bytes (inner ∷ kind ∷ kinds) 0)) (append_assoc (printed inside) (closer inner ∷ printed rest) (closer kind ∷ after))
-    ∙ ap (with_opening inner) (levels-body inner inside body.0 (kind ∷ kinds) (printed rest ++ closer kind ∷ after))
+    ap (λ m. with_mark m (levels (opener inner ∷ ((text_of_reading inside ++ closer inner ∷ text_of_reading rest) ++ closer kind ∷ after))) 1 (kind ∷ kinds))
+    (mark_at-opening inner (kind ∷ kinds) ((text_of_reading inside ++ closer inner ∷ text_of_reading rest) ++ closer kind ∷ after))
+    ∙ ap (λ bytes. with_opening inner (levels bytes (inner ∷ kind ∷ kinds) 0)) (append_assoc (text_of_reading inside) (closer inner ∷ text_of_reading rest) (closer kind ∷ after))
+    ∙ ap (with_opening inner) (levels-body inner inside body.0 (kind ∷ kinds) (text_of_reading rest ++ closer kind ∷ after))
     ∙ ap (λ l. with_opening inner (Within inside l)) (levels-body kind rest body.1 kinds after)
 
 -- a group
 pub levels-group : (kind : GroupKind) (inside : Reading) → IsBody kind inside → (kinds : List GroupKind) (after : List ℕ)
-    → levels (36 ∷ opener kind ∷ (printed inside ++ closer kind ∷ after)) kinds 0 ≡ with_opening kind (Within inside (levels after kinds 0))
+    → levels (36 ∷ opener kind ∷ (text_of_reading inside ++ closer kind ∷ after)) kinds 0 ≡ with_opening kind (Within inside (levels after kinds 0))
 unfolding levels
 levels-group kind inside body kinds after =
-    ap (λ m. with_mark m (levels (opener kind ∷ (printed inside ++ closer kind ∷ after))) 1 kinds)
-    (mark_at-opening kind kinds (printed inside ++ closer kind ∷ after))
+    ap (λ m. with_mark m (levels (opener kind ∷ (text_of_reading inside ++ closer kind ∷ after))) 1 kinds)
+    (mark_at-opening kind kinds (text_of_reading inside ++ closer kind ∷ after))
     ∙ ap (with_opening kind) (levels-body kind inside body kinds after)
 
 -- ---- the levels of a text are read as groups and bytes
@@ -180,46 +180,46 @@ AreValid (kind ∷ kinds) (Within rest outer) = IsBody kind rest × AreValid kin
 
 begins_none : (byte : ℕ) (bytes : List ℕ) → opening byte bytes ≡ None → ¬ (BeginsGroup (byte ∷ bytes))
 begins_none byte bytes none group =
-    let same : (byte ≡ 36) × (bytes ≡ opener group.kind ∷ (printed group.inside ++ closer group.kind ∷ group.after)) =
+    let same : (byte ≡ 36) × (bytes ≡ opener group.kind ∷ (text_of_reading group.inside ++ closer group.kind ∷ group.after)) =
     let is = group.text_is in (cc, cc) in
-    let opens : None ≡ Some group.kind = sym none ∙ (λ i. opening (same.0 i) (same.1 i)) ∙ opening-opener group.kind (printed group.inside ++ closer group.kind ∷ group.after) in
+    let opens : None ≡ Some group.kind = sym none ∙ (λ i. opening (same.0 i) (same.1 i)) ∙ opening-opener group.kind (text_of_reading group.inside ++ closer group.kind ∷ group.after) in
     cc
 
 with_byte-valid : (kinds : List GroupKind) (byte : ℕ) (l : Levels) → is_end kinds byte ≡ false → opening byte (printed_levels kinds l) ≡ None
     → AreValid kinds l → AreValid kinds (with_byte byte l)
 unfolding IsBody IsWhole
-with_byte-valid kinds byte (Last rest) plain none valid = (begins_none byte (printed rest) none, valid)
-with_byte-valid [] byte (Within rest outer) plain none valid = (begins_none byte (printed rest) none, valid)
+with_byte-valid kinds byte (Last rest) plain none valid = (begins_none byte (text_of_reading rest) none, valid)
+with_byte-valid [] byte (Within rest outer) plain none valid = (begins_none byte (text_of_reading rest) none, valid)
 with_byte-valid (kind ∷ kinds) byte (Within rest outer) plain none valid = (
   (
     (λ same. by_test (eqb_tells byte (closer kind)) (λ t. true≢false (sym t.0 ∙ plain)) (λ f. f.1 same)),
-    sym (opening-closer kind byte (printed rest) (printed_levels kinds outer)) ∙ none,
+    sym (opening-closer kind byte (text_of_reading rest) (printed_levels kinds outer)) ∙ none,
     valid.0,
   ),
   valid.1,
 )
 
 -- an opening that has no end begins no group
-unclosed : (kinds : List GroupKind) (kind : GroupKind) (rest : Reading) → levels (printed rest) (kind ∷ kinds) 0 ≡ Last rest
-    → ¬ (BeginsGroup (36 ∷ opener kind ∷ printed rest))
+unclosed : (kinds : List GroupKind) (kind : GroupKind) (rest : Reading) → levels (text_of_reading rest) (kind ∷ kinds) 0 ≡ Last rest
+    → ¬ (BeginsGroup (36 ∷ opener kind ∷ text_of_reading rest))
 unclosed kinds kind rest open_end group =
     let is = group.text_is in
     let kind_is : opener kind ≡ opener group.kind = cc in
-    let rest_is : printed rest ≡ printed group.inside ++ closer group.kind ∷ group.after = cc in
+    let rest_is : text_of_reading rest ≡ text_of_reading group.inside ++ closer group.kind ∷ group.after = cc in
     let same : group.kind ≡ kind = sym (opener-injective kind group.kind kind_is) in
-    let closed : levels (printed rest) (kind ∷ kinds) 0 ≡ Within group.inside (levels group.after kinds 0) =
-    ap (λ k. levels (printed rest) (k ∷ kinds) 0) (sym same) ∙ ap (λ bytes. levels bytes (group.kind ∷ kinds) 0) rest_is
+    let closed : levels (text_of_reading rest) (kind ∷ kinds) 0 ≡ Within group.inside (levels group.after kinds 0) =
+    ap (λ k. levels (text_of_reading rest) (k ∷ kinds) 0) (sym same) ∙ ap (λ bytes. levels bytes (group.kind ∷ kinds) 0) rest_is
     ∙ levels-body group.kind group.inside group.body kinds group.after in
     let both : Last rest ≡ Within group.inside (levels group.after kinds 0) = sym open_end ∙ closed in
     cc
 
 with_opening-valid : (kinds : List GroupKind) (kind : GroupKind) (rest : List ℕ) (l : Levels) → levels rest (kind ∷ kinds) 0 ≡ l
     → AreValid (kind ∷ kinds) l → AreValid kinds (with_opening kind l)
-unfolding IsBody IsWhole printed
+unfolding IsBody IsWhole text_of_reading
 with_opening-valid kinds kind rest (Last reading) is valid =
-    let text : printed reading ≡ rest = ap (printed_levels (kind ∷ kinds)) (sym is) ∙ levels-printed rest (kind ∷ kinds) 0 in (
+    let text : text_of_reading reading ≡ rest = ap (printed_levels (kind ∷ kinds)) (sym is) ∙ levels-text_of_reading rest (kind ∷ kinds) 0 in (
       unclosed kinds kind reading (ap (λ bytes. levels bytes (kind ∷ kinds) 0) text ∙ is),
-      (begins_none (opener kind) (printed reading) (opener-opens_nothing kind (printed reading)), valid),
+      (begins_none (opener kind) (text_of_reading reading) (opener-opens_nothing kind (text_of_reading reading)), valid),
     )
 with_opening-valid kinds kind rest (Within inside (Last reading)) is valid = valid
 with_opening-valid [] kind rest (Within inside (Within reading outer)) is valid = valid
@@ -239,20 +239,20 @@ levels-valid (byte ∷ after) kinds zero = by kinds (mark_at kinds byte after) (
         with_opening-valid kinds kind says.1.0 (levels after (kind ∷ kinds) 1) (ap (λ bytes. levels bytes (kind ∷ kinds) 1) (sym says.1.1)) (rest (kind ∷ kinds) 1)
     by kinds (Byte b) says rest =
         with_byte-valid kinds b (levels after kinds 0) (ap (is_end kinds) says.0 ∙ says.1)
-        ((λ i. opening (says.0 i) (levels-printed after kinds 0 i)) ∙ says.2) (rest kinds 0)
+        ((λ i. opening (says.0 i) (levels-text_of_reading after kinds 0 i)) ∙ says.2) (rest kinds 0)
 
 -- ---- no other reading of a text is one
 
 -- the reading is what the levels of its text end in, where none of them ends before
 abbrev pub IsOnly : Reading → Type 0
-IsOnly reading = (kinds : List GroupKind) (last : Reading) → levels (printed reading) kinds 0 ≡ Last last → last ≡ reading
+IsOnly reading = (kinds : List GroupKind) (last : Reading) → levels (text_of_reading reading) kinds 0 ≡ Last last → last ≡ reading
 
 only-Group : (kind : GroupKind) (inside rest : Reading) → IsBody kind inside → IsOnly rest → IsOnly (Group kind inside rest)
-unfolding printed
+unfolding text_of_reading
 only-Group kind inside rest body only kinds last is =
-    by (levels (printed rest) kinds 0) refl (sym (levels-group kind inside body kinds (printed rest)) ∙ is)
+    by (levels (text_of_reading rest) kinds 0) refl (sym (levels-group kind inside body kinds (text_of_reading rest)) ∙ is)
   where
-    by : (l : Levels) → levels (printed rest) kinds 0 ≡ l → with_opening kind (Within inside l) ≡ Last last → last ≡ Group kind inside rest
+    by : (l : Levels) → levels (text_of_reading rest) kinds 0 ≡ l → with_opening kind (Within inside l) ≡ Last last → last ≡ Group kind inside rest
     by (Last reading) e same =
         let inner : Group kind inside reading ≡ last = cc in sym inner ∙ ap (Group kind inside) (only kinds reading e)
     by (Within reading outer) e same = cc
@@ -263,34 +263,34 @@ NextOnly Over = Unit {0}
 NextOnly (Plain byte rest) = IsOnly rest
 NextOnly (Group kind inside rest) = Unit {0}
 
-second-Plain : (r : Reading) (kind : GroupKind) (kinds : List GroupKind) (after : List ℕ) (last : Reading) → printed r ≡ opener kind ∷ after
-    → NextOnly r → levels (printed r) (kind ∷ kinds) 1 ≡ Last last → Plain (opener kind) last ≡ r
-unfolding printed levels NextOnly
+second-Plain : (r : Reading) (kind : GroupKind) (kinds : List GroupKind) (after : List ℕ) (last : Reading) → text_of_reading r ≡ opener kind ∷ after
+    → NextOnly r → levels (text_of_reading r) (kind ∷ kinds) 1 ≡ Last last → Plain (opener kind) last ≡ r
+unfolding text_of_reading levels NextOnly
 second-Plain Over kind kinds after last text next is = cc
 second-Plain (Plain byte rest) kind kinds after last text next is =
     let same : opener kind ≡ byte = cc in λ i. Plain (same i) (next (kind ∷ kinds) last is i)
 second-Plain (Group k inside rest) kind kinds after last text next is =
     let same : 36 ≡ opener kind = cc in absurd (opener-not_36 kind (sym same))
 
-only-Plain : (byte : ℕ) (rest : Reading) → ¬ (BeginsGroup (byte ∷ printed rest)) → IsOnly rest → NextOnly rest → IsOnly (Plain byte rest)
-unfolding printed levels
+only-Plain : (byte : ℕ) (rest : Reading) → ¬ (BeginsGroup (byte ∷ text_of_reading rest)) → IsOnly rest → NextOnly rest → IsOnly (Plain byte rest)
+unfolding text_of_reading levels
 only-Plain byte rest plain only next kinds last is =
-    by kinds (mark_at kinds byte (printed rest)) (mark_says kinds byte (printed rest)) is
+    by kinds (mark_at kinds byte (text_of_reading rest)) (mark_says kinds byte (text_of_reading rest)) is
   where
-    same_byte : (kinds : List GroupKind) (b : ℕ) (l : Levels) → b ≡ byte → levels (printed rest) kinds 0 ≡ l → with_byte b l ≡ Last last → last ≡ Plain byte rest
+    same_byte : (kinds : List GroupKind) (b : ℕ) (l : Levels) → b ≡ byte → levels (text_of_reading rest) kinds 0 ≡ l → with_byte b l ≡ Last last → last ≡ Plain byte rest
     same_byte kinds b (Last reading) same e is =
         let inner : Plain b reading ≡ last = cc in sym inner ∙ (λ i. Plain (same i) (only kinds reading e i))
     same_byte kinds b (Within reading outer) same e is = cc
 
-    opened : (kinds : List GroupKind) (kind : GroupKind) (after : List ℕ) (l : Levels) → byte ≡ 36 → printed rest ≡ opener kind ∷ after
-        → levels (printed rest) (kind ∷ kinds) 1 ≡ l → with_opening kind l ≡ Last last → last ≡ Plain byte rest
+    opened : (kinds : List GroupKind) (kind : GroupKind) (after : List ℕ) (l : Levels) → byte ≡ 36 → text_of_reading rest ≡ opener kind ∷ after
+        → levels (text_of_reading rest) (kind ∷ kinds) 1 ≡ l → with_opening kind l ≡ Last last → last ≡ Plain byte rest
     opened kinds kind after (Last reading) first text e is =
         let inner : Plain 36 (Plain (opener kind) reading) ≡ last = cc in
         sym inner ∙ (λ i. Plain (sym first i) (second-Plain rest kind kinds after reading text next e i))
     opened kinds kind after (Within inside outer) first text e is =
-        let valid : AreValid (kind ∷ kinds) (Within inside outer) = subst (AreValid (kind ∷ kinds)) e (levels-valid (printed rest) (kind ∷ kinds) 1) in
-        let shown : printed inside ++ closer kind ∷ printed_levels kinds outer ≡ after =
-        ap (printed_levels (kind ∷ kinds)) (sym e) ∙ levels-printed (printed rest) (kind ∷ kinds) 1 ∙ ap (drop 1) text in
+        let valid : AreValid (kind ∷ kinds) (Within inside outer) = subst (AreValid (kind ∷ kinds)) e (levels-valid (text_of_reading rest) (kind ∷ kinds) 1) in
+        let shown : text_of_reading inside ++ closer kind ∷ printed_levels kinds outer ≡ after =
+        ap (printed_levels (kind ∷ kinds)) (sym e) ∙ levels-text_of_reading (text_of_reading rest) (kind ∷ kinds) 1 ∙ ap (drop 1) text in
         absurd (plain (record {
           kind = kind;
           inside = inside;
@@ -299,15 +299,15 @@ only-Plain byte rest plain only next kinds last is =
           text_is = (λ i. first i ∷ text i) ∙ ap (λ bytes. 36 ∷ opener kind ∷ bytes) (sym shown);
         }))
 
-    by : (kinds : List GroupKind) (m : Mark) → MarkSays kinds byte (printed rest) m
-        → with_mark m (levels (printed rest)) 1 kinds ≡ Last last → last ≡ Plain byte rest
+    by : (kinds : List GroupKind) (m : Mark) → MarkSays kinds byte (text_of_reading rest) m
+        → with_mark m (levels (text_of_reading rest)) 1 kinds ≡ Last last → last ≡ Plain byte rest
     by [] End says is = absurd says
     by (kind ∷ kinds) End says is = cc
-    by kinds (Opening kind) says is = opened kinds kind says.1.0 (levels (printed rest) (kind ∷ kinds) 1) says.0 says.1.1 refl is
-    by kinds (Byte b) says is = same_byte kinds b (levels (printed rest) kinds 0) says.0 refl is
+    by kinds (Opening kind) says is = opened kinds kind says.1.0 (levels (text_of_reading rest) (kind ∷ kinds) 1) says.0 says.1.1 refl is
+    by kinds (Byte b) says is = same_byte kinds b (levels (text_of_reading rest) kinds 0) says.0 refl is
 
 only_reading : (reading : Reading) → IsWhole reading → IsOnly reading × NextOnly reading
-unfolding IsWhole printed levels NextOnly
+unfolding IsWhole text_of_reading levels NextOnly
 only_reading Over whole = ((λ kinds last is. cc), tt)
 only_reading (Plain byte rest) whole =
     let inner = only_reading rest whole.1 in (only-Plain byte rest whole.0 inner.0 inner.1, inner.0)
@@ -362,7 +362,7 @@ one_reading text reading = (
   where
     reads : (text : List ℕ) → IsReading text (reading_of text)
     reads text = record {
-      text_is = ap (printed_levels []) (sym (levels-last text)) ∙ levels-printed text [] 0;
+      text_is = ap (printed_levels []) (sym (levels-last text)) ∙ levels-text_of_reading text [] 0;
       whole = subst (AreValid []) (levels-last text) (levels-valid text [] 0);
     }
 

@@ -5,7 +5,7 @@ use Rattle.std.specs.Str.{byte}
 use Rattle.dp_conf.specs.Answers.{◌>>=◌, with_front, all_of, each_after}
 use Rattle.dp_conf.specs.Blanks.{is_blank, trim, trim_start, trim_end}
 use Rattle.dp_conf.specs.Cut.{cut_once}
-use Rattle.dp_conf.specs.Lines.{LineOf, Header, Pair, byte_order_mark, without_mark, line_feed, parts_of, comment_start, comment_of, opens_block, unescaped, content_of, header_by, header_of, after_sign, pair_of, item_of, part_item, opens_section, at_line, reading_of, lines_of}
+use Rattle.dp_conf.specs.Lines.{LineOf, Header, Pair, byte_order_mark, without_mark, line_feed, parts_of, comment_start, comment_of, opens_block, without_escapes, content_of, header_by, header_of, after_sign, pair_of, item_of, part_item, opens_section, at_line, reading_of, lines_of}
 use Rattle.dp_conf.specs.declared.fault.LineKind.{LineKind}
 use Rattle.dp_conf.specs.declared.fault.LineKind.TheVariants.{BlockComment, NoSection, Directive}
 use Rattle.dp_conf.proofs.TextLemmas.{each-append, each-take, each-drop, each-trim, Avoids, cut_once-is, each-cut_front, each-cut_rest, IsTrimmed, trimmed-trim, trim_start-firm, before_kept-firm}
@@ -65,18 +65,18 @@ without_mark-bytes text bytes = by (starts_with nat_eq text byte_order_mark)
     by true = each-drop (λ b. b < 256) 3 text bytes
     by false = bytes
 
-unescaped-bytes : (text : List ℕ) → AreLineBytes text → AreLineBytes (unescaped text)
-unescaped-bytes [] bytes = tt
-unescaped-bytes (b ∷ text) bytes = by (b == byte "\\" && starts_with nat_eq text (codes ";")) (unescaped-bytes text bytes.1)
+without_escapes-bytes : (text : List ℕ) → AreLineBytes text → AreLineBytes (without_escapes text)
+without_escapes-bytes [] bytes = tt
+without_escapes-bytes (b ∷ text) bytes = by (b == byte "\\" && starts_with nat_eq text (codes ";")) (without_escapes-bytes text bytes.1)
   where
-    by : (t : Bool) → AreLineBytes (unescaped text) → AreLineBytes (cond t (unescaped text) (b ∷ unescaped text))
+    by : (t : Bool) → AreLineBytes (without_escapes text) → AreLineBytes (cond t (without_escapes text) (b ∷ without_escapes text))
     by true rest = rest
     by false rest = (bytes.0, rest)
 
 content_of-bytes : (part : List ℕ) → AreLineBytes part → AreLineBytes (content_of part)
 content_of-bytes part bytes =
     let front : List ℕ = take (comment_start line_feed part) part in
-    each-trim IsLineByte (unescaped front) (unescaped-bytes front (each-take IsLineByte (comment_start line_feed part) part bytes))
+    each-trim IsLineByte (without_escapes front) (without_escapes-bytes front (each-take IsLineByte (comment_start line_feed part) part bytes))
 
 -- ---- one line
 
@@ -142,7 +142,7 @@ part_item-known in_section line part items bytes e = by (opens_block (comment_of
   where
     by : (t : Bool) → cond t (Err BlockComment) (item_of in_section line (content_of part)) ≡ Ok items → AllByRecursion IsKnownLine items
     by true e = absurd cc
-    by false e = item_of-known in_section line (content_of part) items (trimmed-trim (unescaped (take (comment_start line_feed part) part))) (content_of-bytes part bytes) e
+    by false e = item_of-known in_section line (content_of part) items (trimmed-trim (without_escapes (take (comment_start line_feed part) part))) (content_of-bytes part bytes) e
 
 at_line-is : {X : Type 0} (line : ℕ) (r : Result X LineKind) (x : X) → at_line line r ≡ Ok x → r ≡ Ok x
 at_line-is line (Ok y) x e = cc

@@ -8,7 +8,7 @@ use Rattle.dp_conf.specs.Answers.{◌>>=◌, each_after}
 use Rattle.dp_conf.specs.Blanks.{trim, trim_start}
 use Rattle.dp_conf.specs.Borrowed.{content_read}
 use Rattle.dp_conf.specs.Cut.{begins_with, cut_once}
-use Rattle.dp_conf.specs.Lines.{LineOf, Header, Pair, LineFault, without_mark, comment_start, comment_of, unescaped, opens_block, content_of, header_by, header_of, after_sign, pair_of, item_of, is_header, at_line, part_item, opens_section, reading_of, parts_of}
+use Rattle.dp_conf.specs.Lines.{LineOf, Header, Pair, LineFault, without_mark, comment_start, comment_of, without_escapes, opens_block, content_of, header_by, header_of, after_sign, pair_of, item_of, is_header, at_line, part_item, opens_section, reading_of, parts_of}
 use Rattle.dp_conf.specs.declared.fault.LineKind.{LineKind}
 use Rattle.dp_conf.specs.declared.fault.LineKind.TheVariants.{BlockComment, NoSection, Directive}
 
@@ -110,11 +110,11 @@ opens_section-is_header in_section line part items e =
     part_by (opens_block (comment_of part)) in_section line (content_of part) items (at_line-Ok line (part_item in_section line part) items e)
 
 -- a text with no `\` is written as it is
-pub unescaped-plain : (text : List ℕ) → list_any (λ b. eqb b 92) text ≡ false → unescaped text ≡ text
-unescaped-plain [] e = refl
-unescaped-plain (b ∷ text) e = by (eqb b 92) (unescaped-plain text) e
+pub without_escapes-plain : (text : List ℕ) → list_any (λ b. eqb b 92) text ≡ false → without_escapes text ≡ text
+without_escapes-plain [] e = refl
+without_escapes-plain (b ∷ text) e = by (eqb b 92) (without_escapes-plain text) e
   where
-    by : (t : Bool) → (list_any (λ b. eqb b 92) text ≡ false → unescaped text ≡ text) → (t || list_any (λ b. eqb b 92) text) ≡ false → cond (t && starts_with nat_eq text (59 ∷ [])) (unescaped text) (b ∷ unescaped text) ≡ b ∷ text
+    by : (t : Bool) → (list_any (λ b. eqb b 92) text ≡ false → without_escapes text ≡ text) → (t || list_any (λ b. eqb b 92) text) ≡ false → cond (t && starts_with nat_eq text (59 ∷ [])) (without_escapes text) (b ∷ without_escapes text) ≡ b ∷ text
     by true later e = absurd cc
     by false later e = ap (λ (bs : List ℕ). b ∷ bs) (later e)
 

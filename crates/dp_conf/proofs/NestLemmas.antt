@@ -3,25 +3,25 @@ use Rattle.std.proofs.Common.{◌≡◌, ◌≤◌, ◌*◌, ℕ, suc, List, [],
 use Rattle.dp_conf.specs.declared.groups.GroupKind.{GroupKind}
 use Rattle.dp_conf.specs.declared.groups.Mark.{Mark}
 use Rattle.dp_conf.specs.declared.groups.Mark.TheVariants.{End, Opening, Byte}
-use Rattle.dp_conf.specs.declared.nest.Waiting.{Waiting}
-use Rattle.dp_conf.specs.Groups.{Reading, Over, Plain, Group, closer, printed, depth_of}
+use Rattle.dp_conf.specs.declared.nest.WaitingGroup.{WaitingGroup}
+use Rattle.dp_conf.specs.Groups.{Reading, Over, Plain, Group, closer, text_of_reading, depth_of}
 use Rattle.dp_conf.specs.GroupsRead.{Levels, Last, Within, with_byte, with_opening, with_mark, levels, reading_of, nesting_of, outer_of}
-use Rattle.dp_conf.specs.steps.Nest.{NestOf, kinds_of, closed, nest_after, deepest_in}
+use Rattle.dp_conf.specs.steps.Nest.{NestOf, kinds_of, after_group, nest_after, deepest_in}
 use Rattle.dp_conf.proofs.GroupsLemmas.{levels-last, one_reading}
 
 -- the nesting of the whole, by the openings that wait, what the innermost level holds so far, and the levels after
-abbrev pub come : List Waiting → ℕ → Levels → ℕ
+abbrev pub come : List WaitingGroup → ℕ → Levels → ℕ
 come waiting deepest (Last rest) = deepest_in waiting (max deepest (depth_of rest))
 come [] deepest (Within rest outer) = come [] (max deepest (depth_of rest)) outer
 come (w ∷ waiting) deepest (Within rest outer) = come waiting (max w.deepest (suc (max deepest (depth_of rest)))) outer
 
-come-with_byte : (waiting : List Waiting) (deepest byte : ℕ) (l : Levels) → come waiting deepest (with_byte byte l) ≡ come waiting deepest l
+come-with_byte : (waiting : List WaitingGroup) (deepest byte : ℕ) (l : Levels) → come waiting deepest (with_byte byte l) ≡ come waiting deepest l
 unfolding depth_of
 come-with_byte waiting deepest byte (Last rest) = refl
 come-with_byte [] deepest byte (Within rest outer) = refl
 come-with_byte (w ∷ waiting) deepest byte (Within rest outer) = refl
 
-come-with_opening : (waiting : List Waiting) (deepest : ℕ) (kind : GroupKind) (l : Levels)
+come-with_opening : (waiting : List WaitingGroup) (deepest : ℕ) (kind : GroupKind) (l : Levels)
     → come (record { kind = kind; deepest = deepest } ∷ waiting) 0 l ≡ come waiting deepest (with_opening kind l)
 unfolding depth_of
 come-with_opening waiting deepest kind (Last rest) = ap (deepest_in waiting) (omega arith)
@@ -37,8 +37,8 @@ pub come-mark : (m : Mark) (nest : NestOf) (after : List GroupKind → ℕ → L
 unfolding depth_of
 come-mark End nest after = by nest.waiting
   where
-    by : (ws : List Waiting)
-        → come (closed ws nest.deepest).waiting (closed ws nest.deepest).deepest (after (kinds_of (closed ws nest.deepest).waiting) 0)
+    by : (ws : List WaitingGroup)
+        → come (after_group ws nest.deepest).waiting (after_group ws nest.deepest).deepest (after (kinds_of (after_group ws nest.deepest).waiting) 0)
         ≡ come ws nest.deepest (Within Over (after (outer_of (kinds_of ws)) 0))
     by [] = ap (λ d. come [] d (after [] 0)) (omega arith)
     by (w ∷ ws) = ap (λ d. come ws (max w.deepest (suc d)) (after (kinds_of ws) 0)) (omega arith)
@@ -46,7 +46,7 @@ come-mark (Opening kind) nest after = come-with_opening nest.waiting nest.deepes
 come-mark (Byte byte) nest after = sym (come-with_byte nest.waiting nest.deepest byte (after (kinds_of nest.waiting) 0))
 
 -- nothing is left
-pub come-over : (waiting : List Waiting) (deepest : ℕ) → come waiting deepest (levels [] (kinds_of waiting) 0) ≡ deepest_in waiting deepest
+pub come-over : (waiting : List WaitingGroup) (deepest : ℕ) → come waiting deepest (levels [] (kinds_of waiting) 0) ≡ deepest_in waiting deepest
 unfolding levels depth_of
 come-over waiting deepest = ap (deepest_in waiting) (omega arith)
 
@@ -55,24 +55,24 @@ pub come-text : (text : List ℕ) → come [] 0 (levels text [] 0) ≡ nesting_o
 unfolding nesting_of
 come-text text = ap (come [] 0) (levels-last text) ∙ omega arith
 
-deepest_in-above : (waiting : List Waiting) (deepest : ℕ) → deepest ≤ deepest_in waiting deepest
+deepest_in-above : (waiting : List WaitingGroup) (deepest : ℕ) → deepest ≤ deepest_in waiting deepest
 deepest_in-above [] deepest = omega arith
 deepest_in-above (w ∷ waiting) deepest = omega (arith, deepest_in-above waiting (max w.deepest deepest))
 
 -- what the innermost level holds so far is no more than the whole
-pub come-above : (waiting : List Waiting) (deepest : ℕ) (l : Levels) → deepest ≤ come waiting deepest l
+pub come-above : (waiting : List WaitingGroup) (deepest : ℕ) (l : Levels) → deepest ≤ come waiting deepest l
 come-above waiting deepest (Last rest) = omega (arith, deepest_in-above waiting (max deepest (depth_of rest)))
 come-above [] deepest (Within rest outer) = omega (arith, come-above [] (max deepest (depth_of rest)) outer)
 come-above (w ∷ waiting) deepest (Within rest outer) =
     omega (arith, come-above waiting (max w.deepest (suc (max deepest (depth_of rest)))) outer)
 
 -- a group has three bytes of its own
-depth_of-length : (reading : Reading) → 3 * depth_of reading ≤ length (printed reading)
-unfolding depth_of printed
+depth_of-length : (reading : Reading) → 3 * depth_of reading ≤ length (text_of_reading reading)
+unfolding depth_of text_of_reading
 depth_of-length Over = omega arith
 depth_of-length (Plain byte rest) = omega (arith, depth_of-length rest)
 depth_of-length (Group kind inside rest) =
-    omega (arith, depth_of-length inside, depth_of-length rest, length-append (printed inside) (closer kind ∷ printed rest))
+    omega (arith, depth_of-length inside, depth_of-length rest, length-append (text_of_reading inside) (closer kind ∷ text_of_reading rest))
 
 pub nesting_of-length : (text : List ℕ) → 3 * nesting_of text ≤ length text
 unfolding nesting_of

@@ -8,5 +8,5 @@ abbrev pub escaped_byte : ℕ → List ℕ
 escaped_byte b = if b == byte ";" then byte "\\" ∷ b ∷ [] else b ∷ []
 
 -- each byte of a text so
-abbrev pub escaped : List ℕ → List ℕ
-escaped text = flat_map escaped_byte text
+abbrev pub escape_text : List ℕ → List ℕ
+escape_text text = flat_map escaped_byte text

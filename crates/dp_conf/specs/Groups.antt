@@ -29,15 +29,15 @@ pub data Reading : Type 0 where
   Group : GroupKind → Reading → Reading → Reading
 
 -- the text that is read so
-unfoldable pub printed : Reading → List ℕ
-printed Over = []
-printed (Plain byte rest) = byte ∷ printed rest
-printed (Group kind inside rest) = 36 ∷ opener kind ∷ (printed inside ++ closer kind ∷ printed rest)
+unfoldable pub text_of_reading : Reading → List ℕ
+text_of_reading Over = []
+text_of_reading (Plain byte rest) = byte ∷ text_of_reading rest
+text_of_reading (Group kind inside rest) = 36 ∷ opener kind ∷ (text_of_reading inside ++ closer kind ∷ text_of_reading rest)
 
 -- inside a group no plain byte is its end, and none opens a group
 unfoldable pub IsBody : GroupKind → Reading → Type 0
 IsBody kind Over = Unit {0}
-IsBody kind (Plain byte rest) = (byte ≢ closer kind) × (opening byte (printed rest) ≡ None) × IsBody kind rest
+IsBody kind (Plain byte rest) = (byte ≢ closer kind) × (opening byte (text_of_reading rest) ≡ None) × IsBody kind rest
 IsBody kind (Group inner inside rest) = IsBody inner inside × IsBody kind rest
 
 -- a group stands at the front of the text
@@ -46,17 +46,17 @@ pub record BeginsGroup (text : List ℕ) : Type 0 where
   pub inside : Reading
   pub after : List ℕ
   pub body : IsBody kind inside
-  pub text_is : text ≡ 36 ∷ opener kind ∷ (printed inside ++ closer kind ∷ after)
+  pub text_is : text ≡ 36 ∷ opener kind ∷ (text_of_reading inside ++ closer kind ∷ after)
 
 -- outside of groups a byte is plain only where no group stands
 unfoldable pub IsWhole : Reading → Type 0
 IsWhole Over = Unit {0}
-IsWhole (Plain byte rest) = (¬ (BeginsGroup (byte ∷ printed rest))) × IsWhole rest
+IsWhole (Plain byte rest) = (¬ (BeginsGroup (byte ∷ text_of_reading rest))) × IsWhole rest
 IsWhole (Group kind inside rest) = IsBody kind inside × IsWhole rest
 
 -- the text reads so
 pub record IsReading (text : List ℕ) (reading : Reading) : Type 0 where
-  pub text_is : printed reading ≡ text
+  pub text_is : text_of_reading reading ≡ text
   pub whole : IsWhole reading
 
 -- the greatest number of groups inside each other

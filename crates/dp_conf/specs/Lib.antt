@@ -6,6 +6,7 @@ pub mod Codes
 pub mod Counts
 pub mod Cut
 pub mod Escape
+pub mod FirstFaults
 pub mod Fronts
 pub mod Groups
 pub mod GroupsRead

@@ -55,13 +55,13 @@ abbrev pub opens_block : List ℕ → Bool
 opens_block comment = starts_with nat_eq comment (codes ";--") && not (starts_with nat_eq comment (codes ";---"))
 
 -- the bytes with each `\;` written `;`: a `\` directly before a `;` is left out
-abbrev pub unescaped : List ℕ → List ℕ
-unescaped [] = []
-unescaped (b ∷ bs) = if b == byte "\\" && starts_with nat_eq bs (codes ";") then unescaped bs else b ∷ unescaped bs
+abbrev pub without_escapes : List ℕ → List ℕ
+without_escapes [] = []
+without_escapes (b ∷ bs) = if b == byte "\\" && starts_with nat_eq bs (codes ";") then without_escapes bs else b ∷ without_escapes bs
 
 -- the content of a part: what stands before its comment, unescaped and trimmed
 abbrev pub content_of : List ℕ → List ℕ
-content_of part = trim (unescaped (take (comment_start line_feed part) part))
+content_of part = trim (without_escapes (take (comment_start line_feed part) part))
 
 -- a header by its trimmed name and by what stands after its `]`, from the first byte that is no blank
 abbrev pub header_by : ℕ → List ℕ → List ℕ → Result (List LineOf) LineKind

@@ -18,7 +18,7 @@ fn push_part(out: &mut Vec<u8>, part: &[u8]) -> Result<(), AllocError>
 
 /// Adds a text as a line writes it: each `;` as `\;`, and all else as it stands.
 pub fn push_escaped(out: &mut Vec<u8>, text: &[u8]) -> Result<(), AllocError>
-    ensures { OnOk result (out.new.items ≡ out.old.items ++ spec.escaped text.now) }
+    ensures { OnOk result (out.new.items ≡ out.old.items ++ spec.escape_text text.now) }
 {
     let mut left = text;
     while let Some((part, rest)) = cut_once(left, b';') {
@@ -32,7 +32,7 @@ pub fn push_escaped(out: &mut Vec<u8>, text: &[u8]) -> Result<(), AllocError>
 /// A text as a line writes it: each `;` as `\;`, and all else as it stands. What such a line says is the text, without
 /// the blanks at its ends; a text with a line feed makes two lines.
 pub fn escape(alloc: Global, text: &[u8]) -> Result<Vec<u8>, AllocError>
-    ensures ok { IfOk result (λ line. line.items ≡ spec.escaped text.now) }
+    ensures ok { IfOk result (λ line. line.items ≡ spec.escape_text text.now) }
     ensures content { IfOk result (λ line. content_of line.items ≡ trim text.now) }
 {
     let mut line = Vec::new(alloc);

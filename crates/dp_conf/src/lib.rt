@@ -5,6 +5,7 @@ mod conf_line;
 mod cut;
 mod escaping;
 mod fault;
+mod first_fault;
 mod groups;
 mod lines;
 mod nest;
@@ -23,6 +24,7 @@ pub use cut::{
 };
 pub use escaping::{escape, push_escaped};
 pub use fault::{ConfFault, LineKind, ReadFault, WriteFailed};
+pub use first_fault::{FaultyLine, FirstFault, TakeFault};
 pub use groups::{GroupKind, Mark, next_mark, one_reading};
 pub use lines::Line;
 pub use nest::nesting;

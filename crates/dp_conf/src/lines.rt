@@ -91,7 +91,7 @@ fn opens_block(comment: &[u8]) -> bool
 
 /// The bytes with each `\;` written `;`.
 fn unescape(alloc: Global, bytes: &[u8]) -> Result<Vec<u8>, AllocError>
-    ensures { IfOk result (λ plain. plain.items ≡ spec.unescaped bytes.now) }
+    ensures { IfOk result (λ plain. plain.items ≡ spec.without_escapes bytes.now) }
 {
     let mut plain = Vec::with_capacity(alloc, bytes.len())?;
     let mut left = bytes;
@@ -106,7 +106,7 @@ fn unescape(alloc: Global, bytes: &[u8]) -> Result<Vec<u8>, AllocError>
 
 /// What stands before a comment, with each `\;` written `;`. It takes no memory where there is no `\`.
 fn plain_text(alloc: Global, before: &[u8]) -> Result<Content<'_>, AllocError>
-    ensures { IfOk result (λ content. borrowed.content_now content ≡ trim_spec (spec.unescaped before.now)) }
+    ensures { IfOk result (λ content. borrowed.content_now content ≡ trim_spec (spec.without_escapes before.now)) }
 {
     if !before.contains(&b'\\') {
         return Ok(Content::AsWritten(before));

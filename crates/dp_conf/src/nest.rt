@@ -10,7 +10,7 @@ use std::marker::Model;
 
 /// An opening that waits for its end, with the nesting of what stands before it on its level.
 #[derive(Clone, Copy)]
-pub(crate) struct Waiting {
+pub(crate) struct WaitingGroup {
     kind: GroupKind,
     deepest: usize,
 }
@@ -18,7 +18,7 @@ pub(crate) struct Waiting {
 /// The openings that wait, and the nesting of what stands after the innermost.
 #[derive(Drop)]
 struct Nest {
-    waiting: Vec<Waiting>,
+    waiting: Vec<WaitingGroup>,
     deepest: usize,
 }
 
@@ -54,7 +54,7 @@ impl Nest {
     /// A group ends.
     fn close(&mut self)
         requires { self.old.deepest + 1 < 2 ^ 64 }
-        ensures { self.new ≡ nests.closed self.old.waiting self.old.deepest }
+        ensures { self.new ≡ nests.after_group self.old.waiting self.old.deepest }
     {
         if let Some(waiting) = self.waiting.pop() {
             self.deepest = waiting.deepest.max(self.deepest + 1);
@@ -67,7 +67,7 @@ impl Nest {
         ensures err { OnErr result (self.new ≡ self.old) }
     {
         let deepest = self.deepest;
-        self.waiting.push(Waiting { kind, deepest })?;
+        self.waiting.push(WaitingGroup { kind, deepest })?;
         self.deepest = 0;
         Ok(())
     }

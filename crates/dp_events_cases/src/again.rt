@@ -1,9 +1,9 @@
 //! Events that are given once more where memory was refused, over dialplans with queues and others that come in force, worked out by hand
 //! from the rules.
+use dp_case_tables::{Question, bytes_of, check, check_same};
 use dp_commands::{ScriptLine, Turn, read_script};
 use dp_machine::{Dialplan, Event, Machine, NoMemory, Queues, Reply};
 use dp_machine_fixture::{Exchange, call, push_state, push_value};
-use dp_questions::{Question, bytes_of, check, check_same};
 use std::alloc::Global;
 use std::str;
 use std::test::Fail;
@@ -222,7 +222,7 @@ fn start_calls(alloc: Global, machine: &mut Exchange, count: u32) -> Result<(), 
 
 /// What a machine answers to a script after so many calls, where its lines `reload` give this dialplan; and the states of two
 /// channels then.
-fn told(
+fn end_again(
     alloc: Global,
     machine: &mut Exchange,
     calls: u32,
@@ -260,7 +260,7 @@ fn told_on(alloc: Global, plan: &[u8], queues: &[u8], cells: &str) -> Result<Str
     let second = bytes_of(alloc, second)?;
     let script = bytes_of(alloc, script)?;
     let mut machine = machine_of(alloc, plan, queues)?;
-    told(alloc, &mut machine, calls, &second, &script)
+    end_again(alloc, &mut machine, calls, &second, &script)
 }
 
 /// What a machine answers to a script of which each event is given once more where memory is refused.

@@ -1,8 +1,8 @@
 //! A debugged run that halts where memory is refused, and goes on from there.
+use dp_case_tables::{check_same, check_that};
 use dp_debug::{Break, Debugger, Event, Halt, Place, Text, Why};
 use dp_machine::{Exten, NoMemory};
 use dp_machine_fixture::{Checked, Exchange, call, check_on, state_of};
-use dp_questions::{check_same, check_that};
 use std::alloc::Global;
 use std::test::Fail;
 

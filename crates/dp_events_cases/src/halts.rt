@@ -1,9 +1,9 @@
 //! Debugged runs of a machine: where they halt.
+use dp_case_tables::{Question, bytes_of, check};
 use dp_conf::read_number;
 use dp_debug::{Break, Debugger, Event, NoMemory, Place, Text};
 use dp_machine::Exten;
 use dp_machine_fixture::{Ask, Exchange, answer_on, call};
-use dp_questions::{Question, bytes_of, check};
 use std::alloc::Global;
 use std::test::Fail;
 

@@ -1,7 +1,7 @@
 //! A listing that is asked for once more where memory was refused.
+use dp_case_tables::{Question, bytes_of, check, push_bytes};
 use dp_lister::list;
 use dp_machine::Dialplan;
-use dp_questions::{Question, bytes_of, check, push_bytes};
 use std::alloc::Global;
 use std::test::Fail;
 

@@ -9,11 +9,11 @@ use Rattle.dp_expr.specs.Walk.{Making, Frame, Left, Front, Paren, State, Wanting
 use Rattle.dp_expr.proofs.Reducing.{IsBelow, Follows, IsBelow-le, Follows-le, Follows-unary, is_due-le, reduction-below, walk-due}
 
 -- what a tree stands for
-abbrev pub made : {X : Type 0} → Making X → Tree → X
-made make (Leaf bytes) = make.leaf bytes
-made make (Group inner) = make.group (made make inner)
-made make (Before prefix operand) = make.before prefix (made make operand)
-made make (Between operator left right) = make.between operator (made make left) (made make right)
+abbrev pub made_of : {X : Type 0} → Making X → Tree → X
+made_of make (Leaf bytes) = make.leaf bytes
+made_of make (Group inner) = make.group (made_of make inner)
+made_of make (Before prefix operand) = make.before prefix (made_of make operand)
+made_of make (Between operator left right) = make.between operator (made_of make left) (made_of make right)
 
 -- a frame is opened where fewer than the most stand inside one another
 pub entry-lt : {X : Type 0} (frame : Frame X) (frames : List (Frame X)) → nesting frames < most_depth → entry frame frames ≡ Wanting (frame ∷ frames)
@@ -31,28 +31,28 @@ module _ {X : Type 0} (make : Making X) where
   walk-closing frames x rest = refl
 
   -- a walk over a tree's tokens holds what the tree stands for, as far as the tokens after it can tell
-  pub walk-spelling : (tree : Tree) (n : ℕ) (frames : List (Frame X)) (rest : List Token) → IsGrouped n tree → IsBelow n frames → nesting frames + depth_of tree ≤ most_depth → Follows n rest → walk make (Wanting frames) (spelling tree ++ rest) ≡ walk make (Holding frames (made make tree)) rest
+  pub walk-spelling : (tree : Tree) (n : ℕ) (frames : List (Frame X)) (rest : List Token) → IsGrouped n tree → IsBelow n frames → nesting frames + depth_of tree ≤ most_depth → Follows n rest → walk make (Wanting frames) (spelling tree ++ rest) ≡ walk make (Holding frames (made_of make tree)) rest
   unfolding walk step nesting
   walk-spelling (Leaf bytes) n frames rest grouped below shallow follows = refl
   walk-spelling (Group inner) n frames rest grouped below shallow follows =
       ap (λ (s : State X). walk make s ((spelling inner ++ (Closing ∷ [])) ++ rest)) (entry-lt Paren frames (omega arith))
       ∙ ap (walk make (Wanting (Paren ∷ frames))) (append_assoc (spelling inner) (Closing ∷ []) rest)
       ∙ walk-spelling inner 1 (Paren ∷ frames) (Closing ∷ rest) grouped tt (omega arith) tt
-      ∙ walk-closing frames (made make inner) rest
+      ∙ walk-closing frames (made_of make inner) rest
   walk-spelling (Before prefix operand) n frames rest grouped below shallow follows =
       ap (λ (s : State X). walk make s (spelling operand ++ rest)) (first_step-prefix make prefix frames ∙ entry-lt (Front prefix) frames (omega arith))
       ∙ walk-spelling operand unary_level (Front prefix ∷ frames) rest grouped (omega arith) (omega arith) (Follows-unary n rest follows)
-      ∙ walk-due make n (Front prefix) frames (made make operand) rest (λ level le. refl) follows
+      ∙ walk-due make n (Front prefix) frames (made_of make operand) rest (λ level le. refl) follows
   walk-spelling (Between operator left right) n frames rest grouped below shallow follows =
       let level : ℕ = level_of operator in
       ap (walk make (Wanting frames)) (append_assoc (spelling left) (Sign operator ∷ spelling right) rest)
       ∙ walk-spelling left (level_of operator) frames (Sign operator ∷ (spelling right ++ rest)) grouped.1 (IsBelow-le n (level_of operator) frames grouped.0 below) (omega arith) (omega arith)
-      ∙ ap (λ (held : Held X). walk make (operator_step operator held) (spelling right ++ rest)) (reduction-below make operator frames (made make left) (IsBelow-le n (level_of operator) frames grouped.0 below))
-      ∙ walk-spelling right (suc (level_of operator)) (Left operator (made make left) ∷ frames) rest grouped.2 (omega arith) (omega arith) (Follows-le n (suc (level_of operator)) rest (omega arith) follows)
-      ∙ walk-due make n (Left operator (made make left)) frames (made make right) rest (λ l le. is_due-le l operator (made make left) (omega arith)) follows
+      ∙ ap (λ (held : Held X). walk make (operator_step operator held) (spelling right ++ rest)) (reduction-below make operator frames (made_of make left) (IsBelow-le n (level_of operator) frames grouped.0 below))
+      ∙ walk-spelling right (suc (level_of operator)) (Left operator (made_of make left) ∷ frames) rest grouped.2 (omega arith) (omega arith) (Follows-le n (suc (level_of operator)) rest (omega arith) follows)
+      ∙ walk-due make n (Left operator (made_of make left)) frames (made_of make right) rest (λ l le. is_due-le l operator (made_of make left) (omega arith)) follows
 
   -- what a walk makes of a reading's tokens
-  pub walk-reading : (tokens : List Token) (tree : Tree) → IsReading tokens tree → walk make (Wanting []) tokens ≡ Some (made make tree)
+  pub walk-reading : (tokens : List Token) (tree : Tree) → IsReading tokens tree → walk make (Wanting []) tokens ≡ Some (made_of make tree)
   unfolding walk ending reduction nesting
   walk-reading tokens tree reading =
       ap (walk make (Wanting [])) (reading.spelling ∙ sym (append-nil (spelling tree)))

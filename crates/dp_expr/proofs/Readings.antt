@@ -6,39 +6,39 @@ use Rattle.dp_expr.specs.Tokens.{Token, tokens_of}
 use Rattle.dp_expr.specs.Trees.{Tree, Leaf, Group, Before, Between, IsReading}
 use Rattle.dp_expr.specs.Values.{value_of, answer}
 use Rattle.dp_expr.specs.Walk.{Wanting, walk, trees, values}
-use Rattle.dp_expr.proofs.Completeness.{made, walk-reading}
+use Rattle.dp_expr.proofs.Completeness.{made_of, walk-reading}
 use Rattle.dp_expr.proofs.Soundness.{reading-walk}
 use Rattle.dp_expr.proofs.Making.{walk-trees}
 
 -- a tree made of trees is itself
-made-trees : (tree : Tree) → made trees tree ≡ tree
-made-trees (Leaf bytes) = refl
-made-trees (Group inner) = ap Group (made-trees inner)
-made-trees (Before prefix operand) = ap (Before prefix) (made-trees operand)
-made-trees (Between operator left right) = cc (made-trees left, made-trees right)
+made_of-trees : (tree : Tree) → made_of trees tree ≡ tree
+made_of-trees (Leaf bytes) = refl
+made_of-trees (Group inner) = ap Group (made_of-trees inner)
+made_of-trees (Before prefix operand) = ap (Before prefix) (made_of-trees operand)
+made_of-trees (Between operator left right) = cc (made_of-trees left, made_of-trees right)
 
 -- two readings of the same tokens are equal
 pub reading_unique : (tokens : List Token) (s t : Tree) → IsReading tokens s → IsReading tokens t → s ≡ t
 reading_unique tokens s t p q =
     let e = walk-reading trees tokens s p in
     let f = walk-reading trees tokens t q in
-    let a = made-trees s in
-    let b = made-trees t in
+    let a = made_of-trees s in
+    let b = made_of-trees t in
     cc
 
 -- what is made of values is the tree's value
-made-values : (tree : Tree) → made values tree ≡ value_of tree
-made-values (Leaf bytes) = refl
-made-values (Group inner) = made-values inner
-made-values (Before prefix operand) = ap (values.before prefix) (made-values operand)
-made-values (Between operator left right) = cc (made-values left, made-values right)
+made_of-values : (tree : Tree) → made_of values tree ≡ value_of tree
+made_of-values (Leaf bytes) = refl
+made_of-values (Group inner) = made_of-values inner
+made_of-values (Before prefix operand) = ap (values.before prefix) (made_of-values operand)
+made_of-values (Between operator left right) = cc (made_of-values left, made_of-values right)
 
 -- a walk gives a reading's value
 pub walk-value : (tokens : List Token) (tree : Tree) → IsReading tokens tree → walk values (Wanting []) tokens ≡ Some (value_of tree)
-walk-value tokens tree reading = walk-reading values tokens tree reading ∙ ap Some (made-values tree)
+walk-value tokens tree reading = walk-reading values tokens tree reading ∙ ap Some (made_of-values tree)
 
 -- a walk makes no tree where nothing is a reading
-no_tree : (tokens : List Token) (o : Option Tree) → walk trees (Wanting []) tokens ≡ o → ((tree : Tree) → ¬ (IsReading tokens tree)) → option_map (made values) o ≡ None
+no_tree : (tokens : List Token) (o : Option Tree) → walk trees (Wanting []) tokens ≡ o → ((tree : Tree) → ¬ (IsReading tokens tree)) → option_map (made_of values) o ≡ None
 no_tree tokens None e none = refl
 no_tree tokens (Some tree) e none = absurd (none tree (reading-walk tokens tree e))
 

@@ -4,6 +4,5 @@ pub mod Trees
 pub mod Numbers
 pub mod Values
 pub mod Expression
-pub mod Held
 pub mod Walk
 pub mod steps

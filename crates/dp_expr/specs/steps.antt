@@ -1,5 +1,6 @@
 -- What private functions say of their steps. No public clause rests on it.
 pub mod Frames
+pub mod Held
 pub mod Places
 pub mod Seen
 pub mod Stacks

@@ -8,13 +8,13 @@ ghost use Rattle.dp_expr.specs.steps.Frames.{frame_seen};
 
 use crate::operation;
 use crate::operator::{Operator, Prefix};
-use crate::text::Text;
+use crate::text_value::TextValue;
 
 /// What waits for an operand.
 #[derive(Clone, Copy)]
 pub enum Frame<'a> {
     /// A binary operator with the value on its left.
-    Left(Operator, Option<Text<'a>>),
+    Left(Operator, Option<TextValue<'a>>),
     /// A unary operator.
     Front(Prefix),
     /// A parenthesis.
@@ -53,7 +53,7 @@ impl<'a> Frame<'a> {
     }
 
     /// What the frame makes of its operand.
-    pub fn apply(self, operand: Option<Text<'a>>) -> Option<Text<'a>>
+    pub fn apply(self, operand: Option<TextValue<'a>>) -> Option<TextValue<'a>>
         ensures { value_seen result
             ≡ value_under values (frame_seen self.entry) (value_seen operand.entry) }
     {

@@ -19,12 +19,12 @@ mod number;
 mod operand;
 mod operation;
 mod operator;
-mod place;
 mod stack;
-mod text;
+mod text_value;
 mod token;
 mod value;
 mod walk;
+mod walk_place;
 
 pub use expression::{evaluate, one_tree, one_value};
 pub use std::alloc::AllocError as NoMemory;

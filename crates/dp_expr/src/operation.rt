@@ -6,14 +6,14 @@ ghost use Rattle.dp_expr.specs.Values.{either, both, value_between, text_between
 ghost use Rattle.dp_expr.specs.steps.Texts.{text_seen, value_seen};
 
 use crate::operator::{Operator, Prefix};
-use crate::text::Text;
+use crate::text_value::TextValue;
 
 /// The value of a binary operator between two values. A fault on either side is one of the whole.
 pub fn between<'a>(
     operator: Operator,
-    left: Option<Text<'a>>,
-    right: Option<Text<'a>>,
-) -> Option<Text<'a>>
+    left: Option<TextValue<'a>>,
+    right: Option<TextValue<'a>>,
+) -> Option<TextValue<'a>>
     ensures { value_seen result ≡ value_between operator (value_seen left.entry) (value_seen right.entry) }
 {
     let left = left?;
@@ -21,42 +21,50 @@ pub fn between<'a>(
     text_between(operator, left, right)
 }
 
-fn text_between<'a>(operator: Operator, left: Text<'a>, right: Text<'a>) -> Option<Text<'a>>
+fn text_between<'a>(
+    operator: Operator,
+    left: TextValue<'a>,
+    right: TextValue<'a>,
+) -> Option<TextValue<'a>>
     ensures { value_seen result ≡ text_between operator (text_seen left.entry) (text_seen right.entry) }
 {
     match operator {
         Operator::Or => Some(either(left, right)),
         Operator::And => Some(both(left, right)),
-        Operator::Equal => Some(Text::truth(left.order(&right).is_eq())),
-        Operator::NotEqual => Some(Text::truth(left.order(&right).is_ne())),
-        Operator::LessThan => Some(Text::truth(left.order(&right).is_lt())),
-        Operator::AtMost => Some(Text::truth(left.order(&right).is_le())),
-        Operator::MoreThan => Some(Text::truth(left.order(&right).is_gt())),
-        Operator::AtLeast => Some(Text::truth(left.order(&right).is_ge())),
+        Operator::Equal => Some(TextValue::truth(left.order(&right).is_eq())),
+        Operator::NotEqual => Some(TextValue::truth(left.order(&right).is_ne())),
+        Operator::LessThan => Some(TextValue::truth(left.order(&right).is_lt())),
+        Operator::AtMost => Some(TextValue::truth(left.order(&right).is_le())),
+        Operator::MoreThan => Some(TextValue::truth(left.order(&right).is_gt())),
+        Operator::AtLeast => Some(TextValue::truth(left.order(&right).is_ge())),
         Operator::Plus | Operator::Minus | Operator::Times | Operator::Over | Operator::Remainder =>
             arithmetic(operator, &left, &right),
     }
 }
 
 /// The left side unless it is false, else the right one.
-fn either<'a>(left: Text<'a>, right: Text<'a>) -> Text<'a>
+fn either<'a>(left: TextValue<'a>, right: TextValue<'a>) -> TextValue<'a>
     ensures { text_seen result ≡ either (text_seen left.entry) (text_seen right.entry) }
 {
     if left.is_false() { right } else { left }
 }
 
 /// The left side if neither is false, else `0`.
-fn both<'a>(left: Text<'a>, right: Text<'a>) -> Text<'a>
+fn both<'a>(left: TextValue<'a>, right: TextValue<'a>) -> TextValue<'a>
     ensures { text_seen result ≡ both (text_seen left.entry) (text_seen right.entry) }
 {
     if left.is_false() || right.is_false() {
-        Text::truth(false)
+        TextValue::truth(false)
     } else {
         left
     }
 }
 
-fn arithmetic<'a>(operator: Operator, left: &Text<'_>, right: &Text<'_>) -> Option<Text<'a>>
+fn arithmetic<'a>(
+    operator: Operator,
+    left: &TextValue<'_>,
+    right: &TextValue<'_>,
+) -> Option<TextValue<'a>>
     ensures { value_seen result ≡ arithmetic operator (text_seen left.now) (text_seen right.now) }
 {
     let left = left.number()?;
@@ -65,10 +73,10 @@ fn arithmetic<'a>(operator: Operator, left: &Text<'_>, right: &Text<'_>) -> Opti
 }
 
 /// The text of a number in range.
-fn decimal_text<'a>(number: Option<i64>) -> Option<Text<'a>>
+fn decimal_text<'a>(number: Option<i64>) -> Option<TextValue<'a>>
     ensures { value_seen result ≡ decimal_text number }
 {
-    Some(Text::Computed(number?))
+    Some(TextValue::Computed(number?))
 }
 
 fn result_of(operator: Operator, left: i64, right: i64) -> Option<i64>
@@ -108,17 +116,17 @@ fn remainder(left: i64, right: i64) -> Option<i64>
 }
 
 /// The value of a unary operator before a value. A fault stays one.
-pub fn before<'a>(prefix: Prefix, operand: Option<Text<'a>>) -> Option<Text<'a>>
+pub fn before<'a>(prefix: Prefix, operand: Option<TextValue<'a>>) -> Option<TextValue<'a>>
     ensures { value_seen result ≡ value_before prefix (value_seen operand.entry) }
 {
     let operand = operand?;
     match prefix {
         Prefix::Negate => negation(operand.number()),
-        Prefix::Not => Some(Text::truth(operand.is_false())),
+        Prefix::Not => Some(TextValue::truth(operand.is_false())),
     }
 }
 
-fn negation<'a>(number: Option<i64>) -> Option<Text<'a>>
+fn negation<'a>(number: Option<i64>) -> Option<TextValue<'a>>
     ensures { value_seen result ≡ negation number }
 {
     decimal_text(number?.checked_neg())

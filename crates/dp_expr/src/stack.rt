@@ -6,7 +6,7 @@ ghost use Rattle.dp_expr.specs.Walk.{nesting};
 ghost use Rattle.dp_expr.specs.steps.Frames.{frames_seen};
 
 use crate::frame::Frame;
-use crate::text::Text;
+use crate::text_value::TextValue;
 use smallvec::SmallVec;
 use std::alloc::{AllocError, Global};
 
@@ -84,7 +84,7 @@ impl<'a> Stack<'a> {
     }
 
     /// What is held when all frames that are due before that level have taken their operand.
-    pub fn reduce(&mut self, level: u8, operand: Option<Text<'a>>) -> Option<Text<'a>>
+    pub fn reduce(&mut self, level: u8, operand: Option<TextValue<'a>>) -> Option<TextValue<'a>>
         ensures { reduction values level (stack_seen self.old) (value_seen operand.entry)
             ≡ record { frames = stack_seen self.new; value = value_seen result } }
     {

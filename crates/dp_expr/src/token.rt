@@ -22,7 +22,7 @@ pub enum Token<'a> {
 
 /// A token, and how many bytes it takes of those after its first.
 #[derive(Clone, Copy)]
-struct Cut<'a> {
+struct TokenCut<'a> {
     token: Token<'a>,
     more: usize,
 }
@@ -96,13 +96,13 @@ fn begins_with(text: &[u8], byte: u8) -> bool
 }
 
 /// The long token if the second byte follows, else the short one.
-fn longest<'a>(rest: &[u8], second: u8, long: Token<'a>, short: Token<'a>) -> Cut<'a>
+fn longest<'a>(rest: &[u8], second: u8, long: Token<'a>, short: Token<'a>) -> TokenCut<'a>
     ensures cut { cut_seen result
         ≡ longest (begins_with second rest.now) (token_seen long.entry) (token_seen short.entry) }
     ensures within { result.more ≤ length rest.now }
 {
     if begins_with(rest, second) {
-        Cut {
+        TokenCut {
             token: long,
             more: 1,
         }
@@ -111,7 +111,7 @@ fn longest<'a>(rest: &[u8], second: u8, long: Token<'a>, short: Token<'a>) -> Cu
     }
 }
 
-fn longest_sign(rest: &[u8], second: u8, long: Operator, short: Operator) -> Cut<'static>
+fn longest_sign(rest: &[u8], second: u8, long: Operator, short: Operator) -> TokenCut<'static>
     ensures cut { cut_seen result ≡ longest (begins_with second rest.now) (Sign long) (Sign short) }
     ensures within { result.more ≤ length rest.now }
 {
@@ -119,15 +119,15 @@ fn longest_sign(rest: &[u8], second: u8, long: Operator, short: Operator) -> Cut
 }
 
 /// A token of one byte.
-fn only(token: Token<'_>) -> Cut<'_>
+fn only(token: Token<'_>) -> TokenCut<'_>
     ensures { result ≡ record { token = token.entry; more = 0 } }
 {
-    Cut { token, more: 0 }
+    TokenCut { token, more: 0 }
 }
 
 /// A mark other than a quote, before the rest.
 #[tactic(auto, unfolding(crate::specs::Tokens::mark_cut))]
-fn mark_cut(first: u8, rest: &[u8]) -> Cut<'_>
+fn mark_cut(first: u8, rest: &[u8]) -> TokenCut<'_>
     ensures cut { cut_seen result ≡ mark_cut first rest.now }
     ensures within { result.more ≤ length rest.now }
 {
@@ -151,7 +151,7 @@ fn mark_cut(first: u8, rest: &[u8]) -> Cut<'_>
 
 /// The token that begins with a byte that is no blank; the text is that byte and the rest.
 #[tactic(auto, unfolding(crate::specs::Tokens::cut_at))]
-fn cut_at<'a>(first: u8, rest: &'a [u8], text: &'a [u8]) -> Cut<'a>
+fn cut_at<'a>(first: u8, rest: &'a [u8], text: &'a [u8]) -> TokenCut<'a>
     requires { text.now ≡ first ∷ rest.now }
     ensures cut { cut_seen result ≡ cut_at first rest.now }
     ensures within { result.more ≤ length rest.now }
@@ -169,12 +169,12 @@ fn cut_at<'a>(first: u8, rest: &'a [u8], text: &'a [u8]) -> Cut<'a>
 }
 
 /// An operand of one byte and some more.
-fn operand(text: &[u8], more: usize) -> Cut<'_>
+fn operand(text: &[u8], more: usize) -> TokenCut<'_>
     requires { more < length text.now }
     ensures { cut_seen result ≡ record { token = Operand (take (more + 1) text.now); more = more } }
 {
     let (token, _) = text.split_at(more + 1);
-    Cut {
+    TokenCut {
         token: Token::Operand(token),
         more,
     }

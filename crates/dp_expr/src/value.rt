@@ -4,14 +4,14 @@ ghost use Rattle.std.specs.Prelude.{◌≡◌, ◌++◌, [], IfOk, OnErr, OnOk};
 ghost use Rattle.dp_expr.specs.steps.Texts.{text_seen};
 
 use crate::NoMemory;
-use crate::text::Text;
+use crate::text_value::TextValue;
 use itoa::Buffer;
 use std::alloc::Global;
 use std::marker::Model;
 
 /// How a value is held.
 #[derive(Drop)]
-pub(crate) enum Held {
+pub(crate) enum HeldValue {
     Bytes(Vec<u8>),
     Number(i64),
 }
@@ -20,7 +20,7 @@ pub(crate) enum Held {
 ///
 /// A contract sees it as its bytes.
 pub struct Value {
-    held: Held,
+    held: HeldValue,
 }
 
 impl Drop for Value {
@@ -32,7 +32,7 @@ impl Drop for Value {
 
 impl Model for Value {
     ghost use Rattle.std.specs.Prelude.{ℕ, List};
-    ghost use Rattle.dp_expr.specs.Held.{held_bytes};
+    ghost use Rattle.dp_expr.specs.steps.Held.{held_bytes};
 
     ghost Value = { List ℕ };
 
@@ -45,17 +45,17 @@ impl Value {
         ensures { result ≡ [] }
     {
         Value {
-            held: Held::Bytes(Vec::new(alloc)),
+            held: HeldValue::Bytes(Vec::new(alloc)),
         }
     }
 
     /// The value that is this text.
-    pub(crate) fn of(alloc: Global, text: &Text<'_>) -> Result<Self, NoMemory>
+    pub(crate) fn of(alloc: Global, text: &TextValue<'_>) -> Result<Self, NoMemory>
         ensures { IfOk result (λ value. value ≡ text_seen text.now) }
     {
         let held = match text {
-            Text::Written(operand) => Held::Bytes(Vec::from_slice(alloc, operand.text)?),
-            Text::Computed(number) => Held::Number(*number),
+            TextValue::Written(operand) => HeldValue::Bytes(Vec::from_slice(alloc, operand.text)?),
+            TextValue::Computed(number) => HeldValue::Number(*number),
         };
         Ok(Value { held })
     }
@@ -66,8 +66,8 @@ impl Value {
         ensures err { OnErr result (bytes.new.items ≡ bytes.old.items) }
     {
         match &self.held {
-            Held::Bytes(value) => bytes.extend_from_slice(value),
-            Held::Number(number) => {
+            HeldValue::Bytes(value) => bytes.extend_from_slice(value),
+            HeldValue::Number(number) => {
                 bytes.extend_from_slice(Buffer::new().format(*number).as_bytes())
             }
         }

@@ -12,19 +12,19 @@ ghost use Rattle.dp_expr.specs.steps.Stacks.{stack_seen, state_seen};
 use crate::frame::Frame;
 use crate::operand::Operand;
 use crate::operator::{Operator, Prefix};
-use crate::place::Place;
 use crate::stack::{MOST_DEPTH, Stack};
-use crate::text::Text;
+use crate::text_value::TextValue;
 use crate::token::{Token, next_token};
+use crate::walk_place::WalkPlace;
 use std::alloc::{AllocError, Global};
 
 /// The value of the expression that a text holds; none for a fault.
-pub fn value(alloc: Global, text: &[u8]) -> Result<Option<Text<'_>>, AllocError>
+pub fn value(alloc: Global, text: &[u8]) -> Result<Option<TextValue<'_>>, AllocError>
     ensures { IfOk result (λ value. value_seen value
         ≡ unwrap_or (walk values (Wanting []) (tokens_of text.now)) None) }
 {
     let mut stack = Stack::new(alloc);
-    let mut place = Place::Wanting;
+    let mut place = WalkPlace::Wanting;
     let mut rest = text;
     while let Some((token, after)) = next_token(rest) {
         place = step(&mut stack, place, token)?;
@@ -36,35 +36,37 @@ pub fn value(alloc: Global, text: &[u8]) -> Result<Option<Text<'_>>, AllocError>
 #[tactic(auto, unfolding(crate::specs::Walk::step))]
 fn step<'a>(
     stack: &mut Stack<'a>,
-    place: Place<'a>,
+    place: WalkPlace<'a>,
     token: Token<'a>,
-) -> Result<Place<'a>, AllocError>
+) -> Result<WalkPlace<'a>, AllocError>
     ensures { IfOk result (λ next. state_seen next stack.new
         ≡ step values (state_seen place.entry stack.old) (token_seen token.entry)) }
 {
     match place {
-        Place::Wanting => begin(stack, token),
-        Place::Holding(value) => go_on(stack, value, token),
-        Place::Failed => Ok(Place::Failed),
+        WalkPlace::Wanting => begin(stack, token),
+        WalkPlace::Holding(value) => go_on(stack, value, token),
+        WalkPlace::Failed => Ok(WalkPlace::Failed),
     }
 }
 
 /// A token where an operand is wanted.
-fn begin<'a>(stack: &mut Stack<'a>, token: Token<'a>) -> Result<Place<'a>, AllocError>
+fn begin<'a>(stack: &mut Stack<'a>, token: Token<'a>) -> Result<WalkPlace<'a>, AllocError>
     ensures { IfOk result (λ next. state_seen next stack.new
         ≡ first_step values (stack_seen stack.old) (token_seen token.entry)) }
 {
     match token {
-        Token::Operand(text) => Ok(Place::Holding(Some(Text::Written(Operand::new(text))))),
+        Token::Operand(text) => Ok(WalkPlace::Holding(Some(TextValue::Written(Operand::new(
+            text,
+        ))))),
         Token::Sign(operator) => front(stack, operator),
         Token::Bang => enter(stack, Frame::Front(Prefix::Not)),
         Token::Opening => enter(stack, Frame::Paren),
-        Token::Closing | Token::Stray => Ok(Place::Failed),
+        Token::Closing | Token::Stray => Ok(WalkPlace::Failed),
     }
 }
 
 /// An operator where an operand is wanted: only a minus may stand there.
-fn front<'a>(stack: &mut Stack<'a>, operator: Operator) -> Result<Place<'a>, AllocError>
+fn front<'a>(stack: &mut Stack<'a>, operator: Operator) -> Result<WalkPlace<'a>, AllocError>
     ensures { IfOk result (λ next. state_seen next stack.new
         ≡ prefix_entry operator (stack_seen stack.old)) }
 {
@@ -81,36 +83,36 @@ fn front<'a>(stack: &mut Stack<'a>, operator: Operator) -> Result<Place<'a>, All
         | Operator::Plus
         | Operator::Times
         | Operator::Over
-        | Operator::Remainder => Ok(Place::Failed),
+        | Operator::Remainder => Ok(WalkPlace::Failed),
     }
 }
 
 /// Opens a frame, unless too many stand inside one another.
-fn enter<'a>(stack: &mut Stack<'a>, frame: Frame<'a>) -> Result<Place<'a>, AllocError>
+fn enter<'a>(stack: &mut Stack<'a>, frame: Frame<'a>) -> Result<WalkPlace<'a>, AllocError>
     ensures { IfOk result (λ next. state_seen next stack.new
         ≡ entry (frame_seen frame.entry) (stack_seen stack.old)) }
 {
     if stack.depth < MOST_DEPTH {
         stack.push(frame)?;
-        Ok(Place::Wanting)
+        Ok(WalkPlace::Wanting)
     } else {
-        Ok(Place::Failed)
+        Ok(WalkPlace::Failed)
     }
 }
 
 /// A token after an operand.
 fn go_on<'a>(
     stack: &mut Stack<'a>,
-    value: Option<Text<'a>>,
+    value: Option<TextValue<'a>>,
     token: Token<'a>,
-) -> Result<Place<'a>, AllocError>
+) -> Result<WalkPlace<'a>, AllocError>
     ensures { IfOk result (λ next. state_seen next stack.new
         ≡ next_step values (stack_seen stack.old) (value_seen value.entry) (token_seen token.entry)) }
 {
     match token {
         Token::Sign(operator) => push_left(stack, operator, value),
         Token::Closing => Ok(close(stack, value)),
-        Token::Operand(_) | Token::Bang | Token::Opening | Token::Stray => Ok(Place::Failed),
+        Token::Operand(_) | Token::Bang | Token::Opening | Token::Stray => Ok(WalkPlace::Failed),
     }
 }
 
@@ -118,42 +120,42 @@ fn go_on<'a>(
 fn push_left<'a>(
     stack: &mut Stack<'a>,
     operator: Operator,
-    value: Option<Text<'a>>,
-) -> Result<Place<'a>, AllocError>
+    value: Option<TextValue<'a>>,
+) -> Result<WalkPlace<'a>, AllocError>
     ensures { IfOk result (λ next. state_seen next stack.new
         ≡ operator_step operator (reduction values (level_of operator) (stack_seen stack.old)
         (value_seen value.entry))) }
 {
     let left = stack.reduce(operator.level(), value);
     stack.push(Frame::Left(operator, left))?;
-    Ok(Place::Wanting)
+    Ok(WalkPlace::Wanting)
 }
 
 /// A closing parenthesis after an operand.
-fn close<'a>(stack: &mut Stack<'a>, value: Option<Text<'a>>) -> Place<'a>
+fn close<'a>(stack: &mut Stack<'a>, value: Option<TextValue<'a>>) -> WalkPlace<'a>
     ensures { state_seen result stack.new
         ≡ closing_step values (reduction values 0 (stack_seen stack.old) (value_seen value.entry)) }
 {
     let inner = stack.reduce(0, value);
     match stack.pop() {
-        Some(Frame::Paren) => Place::Holding(inner),
-        _ => Place::Failed,
+        Some(Frame::Paren) => WalkPlace::Holding(inner),
+        _ => WalkPlace::Failed,
     }
 }
 
 /// What is held when the tokens end: a value if no parenthesis is open.
 #[tactic(auto, unfolding(crate::specs::Walk::ending))]
-fn finish<'a>(stack: &mut Stack<'a>, place: Place<'a>) -> Option<Text<'a>>
+fn finish<'a>(stack: &mut Stack<'a>, place: WalkPlace<'a>) -> Option<TextValue<'a>>
     ensures { value_seen result
         ≡ unwrap_or (ending values (state_seen place.entry stack.old)) None }
 {
     match place {
-        Place::Holding(value) => finish_held(stack, value),
-        Place::Wanting | Place::Failed => None,
+        WalkPlace::Holding(value) => finish_held(stack, value),
+        WalkPlace::Wanting | WalkPlace::Failed => None,
     }
 }
 
-fn finish_held<'a>(stack: &mut Stack<'a>, value: Option<Text<'a>>) -> Option<Text<'a>>
+fn finish_held<'a>(stack: &mut Stack<'a>, value: Option<TextValue<'a>>) -> Option<TextValue<'a>>
     ensures { value_seen result
         ≡ unwrap_or (whole_of (reduction values 0 (stack_seen stack.old) (value_seen value.entry))) None }
 {

@@ -16,14 +16,14 @@ is_zeros [] = false
 is_zeros (b ∷ bs) = all_zeros (b ∷ bs)
 
 -- the text without one minus sign at its front
-abbrev pub unsigned : List ℕ → List ℕ
-unsigned [] = []
-unsigned (b ∷ bs) = if b == 45 then bs else b ∷ bs
+abbrev pub without_sign : List ℕ → List ℕ
+without_sign [] = []
+without_sign (b ∷ bs) = if b == 45 then bs else b ∷ bs
 
 -- the text is empty, or a whole number that is zero, however long
 abbrev pub is_false : List ℕ → Bool
 is_false [] = true
-is_false (b ∷ bs) = is_zeros (unsigned (b ∷ bs))
+is_false (b ∷ bs) = is_zeros (without_sign (b ∷ bs))
 
 -- a condition holds if it is not false without the blanks at its ends
 unfoldable pub holds : List ℕ → Bool
@@ -48,5 +48,5 @@ chosen_by (Some cut) = option_and_then (λ side. present_by side (trim side)) (s
 
 -- the side that `CONDITION?SIDE:SIDE` takes: the condition ends at the first `?`, and the first side at the first `:` outside
 -- parentheses
-unfoldable pub chosen : List ℕ → Option (List ℕ)
-chosen arguments = chosen_by (cut_once 63 arguments)
+unfoldable pub chosen_side : List ℕ → Option (List ℕ)
+chosen_side arguments = chosen_by (cut_once 63 arguments)

@@ -8,15 +8,15 @@ use Rattle.dp_conf.specs.Levels.{arguments_of}
 use Rattle.dp_vars.specs.Stores.{StoreOf, innermost, popped_setting, with_frame, without_frame}
 use Rattle.dp_vars.specs.declared.local.Local.{Local}
 use Rattle.dp_app.specs.Rows.{Outcome, Row}
-use Rattle.dp_app.specs.declared.cell.Cell.{Cell}
+use Rattle.dp_app.specs.Cells.{CellOf}
 use Rattle.dp_app.specs.declared.moves.Move.{Move}
 use Rattle.dp_app.specs.declared.moves.Move.TheVariants.{Next, Jump, Hang}
 use Rattle.dp_app.specs.declared.target.Target.TheVariants.{To, Existing, Parts}
 use Rattle.dp_app.specs.declared.place.Place.{Place}
-use Rattle.dp_flow.specs.Conditions.{chosen}
+use Rattle.dp_flow.specs.Conditions.{chosen_side}
 
 -- the cell stays as it is
-abbrev pub stays : Cell → Move → Outcome
+abbrev pub stays : CellOf → Move → Outcome
 stays cell going = record { cell = cell; next = going }
 
 -- a jump to a target by its text
@@ -34,7 +34,7 @@ jump_if (Some side) = jump_to side
 
 -- the row of `GotoIf`
 abbrev pub goto_if_row : Row
-goto_if_row arguments cell = stays cell (jump_if (chosen arguments))
+goto_if_row arguments cell = stays cell (jump_if (chosen_side arguments))
 
 -- the priority of a subroutine, and the arguments for it
 pub record SubroutineCall : Type 0 where
@@ -54,42 +54,42 @@ called_by part (Some cut) =
     option_map (λ inside. record { priority = trim cut.0; arguments = inner_arguments inside }) (before_last 41 cut.1)
 
 -- the last part of a subroutine's target
-abbrev pub called : List (List ℕ) → Option SubroutineCall
-called parts = option_and_then (λ part. called_by part (cut_once 40 part)) (slice_get parts (length parts - 1))
+abbrev pub subroutine_call : List (List ℕ) → Option SubroutineCall
+subroutine_call parts = option_and_then (λ part. called_by part (cut_once 40 part)) (slice_get parts (length parts - 1))
 
 -- the locals of a subroutine: `ARG1`, `ARG2` and so on, from a number on
-abbrev pub numbered : ℕ → List (List ℕ) → List Local
-numbered number [] = []
-numbered number (value ∷ values) = record { name = codes "ARG" ++ decimal number; value = value } ∷ numbered (number + 1) values
+abbrev pub argument_locals : ℕ → List (List ℕ) → List Local
+argument_locals number [] = []
+argument_locals number (value ∷ values) = record { name = codes "ARG" ++ decimal number; value = value } ∷ argument_locals (number + 1) values
 
 -- the place after a place
 abbrev pub place_after : Place → Place
 place_after place = record { context = place.context; exten = place.exten; priority = place.priority + 1 }
 
 -- a subroutine is entered, by the parts before the last one: a frame is pushed that goes back to the place after this one
-abbrev pub entered : Cell → List (List ℕ) → Option SubroutineCall → Outcome
-entered cell front None = stays cell Hang
-entered cell front (Some c) = record {
-  cell = record cell { store = with_frame cell.store (place_after cell.place) (numbered 1 c.arguments) };
+abbrev pub enter_subroutine : CellOf → List (List ℕ) → Option SubroutineCall → Outcome
+enter_subroutine cell front None = stays cell Hang
+enter_subroutine cell front (Some c) = record {
+  cell = record cell { store = with_frame cell.store (place_after cell.place) (argument_locals 1 c.arguments) };
   next = Jump (Existing (front ++ c.priority ∷ []));
 }
 
 -- a subroutine is entered by its target's parts
-abbrev pub gosub_parts : List (List ℕ) → Cell → Outcome
-gosub_parts parts cell = entered cell (take (length parts - 1) parts) (called parts)
+abbrev pub gosub_parts : List (List ℕ) → CellOf → Outcome
+gosub_parts parts cell = enter_subroutine cell (take (length parts - 1) parts) (subroutine_call parts)
 
 -- the row of `Gosub`
 unfoldable pub gosub_row : Row
 gosub_row arguments cell = gosub_parts (arguments_of arguments) cell
 
 -- a subroutine is entered by the side that is taken, where one is
-abbrev pub gosub_if : Option (List ℕ) → Cell → Outcome
+abbrev pub gosub_if : Option (List ℕ) → CellOf → Outcome
 gosub_if None cell = stays cell Next
 gosub_if (Some side) cell = gosub_row side cell
 
 -- the row of `GosubIf`
 unfoldable pub gosub_if_row : Row
-gosub_if_row arguments cell = gosub_if (chosen arguments) cell
+gosub_if_row arguments cell = gosub_if (chosen_side arguments) cell
 
 -- the channel goes back to a place, where there is one
 abbrev pub back_to : Option Place → Move
@@ -97,13 +97,13 @@ back_to None = Hang
 back_to (Some place) = Jump (To place)
 
 -- the end of a subroutine, by the store and the place that its frame leaves
-abbrev pub returned : Cell → StoreOf Place × Option Place → Outcome
-returned cell popped = record { cell = record cell { store = popped.0 }; next = back_to popped.1 }
+abbrev pub return_outcome : CellOf → StoreOf Place × Option Place → Outcome
+return_outcome cell popped = record { cell = record cell { store = popped.0 }; next = back_to popped.1 }
 
 -- the row of `Return`: the innermost frame goes, and then the value is set
 unfoldable pub return_row : Row
 return_row arguments cell =
-    returned cell (popped_setting cell.store (codes "GOSUB_RETVAL") arguments (innermost cell.store.frames))
+    return_outcome cell (popped_setting cell.store (codes "GOSUB_RETVAL") arguments (innermost cell.store.frames))
 
 -- the row of `StackPop`
 abbrev pub stack_pop_row : Row

@@ -8,17 +8,17 @@ use Rattle.dp_app.specs.declared.phase.Phase.TheVariants.{Digits, Pause}
 use Rattle.dp_flow.specs.Jumps.{stays}
 
 -- the channel waits in a phase; a channel that is closing does not wait, and its call ends
-abbrev pub parked : Phase → Bool → Move
-parked phase is_closing = if is_closing then Hang else Park phase
+abbrev pub park_move : Phase → Bool → Move
+park_move phase is_closing = if is_closing then Hang else Park phase
 
 -- the row of `Wait`: a time-out ends the wait
 abbrev pub wait_row : Row
-wait_row arguments cell = stays cell (parked Pause cell.is_closing)
+wait_row arguments cell = stays cell (park_move Pause cell.is_closing)
 
 -- the row of `WaitExten`: no digit came yet
 abbrev pub wait_exten_row : Row
-wait_exten_row arguments cell = stays cell (parked (Digits [] false) cell.is_closing)
+wait_exten_row arguments cell = stays cell (park_move (Digits [] false) cell.is_closing)
 
 -- the row of `Background`: no digit came yet, and a time-out goes on
 abbrev pub background_row : Row
-background_row arguments cell = stays cell (parked (Digits [] true) cell.is_closing)
+background_row arguments cell = stays cell (park_move (Digits [] true) cell.is_closing)

@@ -24,8 +24,8 @@ fn is_zeros(text: &[u8]) -> bool
 }
 
 /// The text without one minus sign at its front.
-fn unsigned(text: &[u8]) -> &[u8]
-    ensures { result.now ≡ spec.unsigned text.now }
+fn without_sign(text: &[u8]) -> &[u8]
+    ensures { result.now ≡ spec.without_sign text.now }
 {
     match text.split_first() {
         Some((b'-', rest)) => rest,
@@ -40,7 +40,7 @@ fn holds(condition: &[u8]) -> bool
     ensures { result ≡ spec.holds condition.now }
 {
     let text = trim(condition);
-    !text.is_empty() && !is_zeros(unsigned(text))
+    !text.is_empty() && !is_zeros(without_sign(text))
 }
 
 /// The side of a choice, where there is more in it than blanks.
@@ -54,9 +54,9 @@ fn present(side: &[u8]) -> Option<&[u8]>
 }
 
 /// The side of `CONDITION?SIDE:SIDE` that is taken, where it is there.
-#[tactic(auto, unfolding(crate::specs::Conditions::chosen))]
-pub(crate) fn chosen(arguments: &[u8]) -> Option<&[u8]>
-    ensures { option_map (λ s. s.now) result ≡ spec.chosen arguments.now }
+#[tactic(auto, unfolding(crate::specs::Conditions::chosen_side))]
+pub(crate) fn chosen_side(arguments: &[u8]) -> Option<&[u8]>
+    ensures { option_map (λ s. s.now) result ≡ spec.chosen_side arguments.now }
 {
     let (condition, sides) = cut_once(arguments, b'?')?;
     match (holds(condition), cut_outside(sides, b':')) {

@@ -1,25 +1,27 @@
 //! The application that calls devices, after the Asterisk documentation's page on `Dial`. Media and devices are left out: what
 //! comes of the call is told by an event.
 ghost use Rattle.std.specs.Prelude.{◌≡◌, IfOk, OnErr, map};
+ghost use Rattle.dp_app.specs.Cells.{KeepsLoans, cell_now};
 ghost use Rattle.dp_flow.specs.Dialling as spec;
 
-use crate::waiting::parked;
+use crate::waiting::park_move;
 use dp_app::{Application, Cell, Move, Phase, Touch, has_option, is_given, part};
 use dp_conf::{NoMemory, split_args};
 use std::alloc::Global;
 
 /// Calls the devices that the parts of the arguments name. After a refused growth the cell is as before.
 fn dial_by_parts(alloc: Global, parts: &[&[u8]], cell: &mut Cell) -> Result<Move, NoMemory>
-    ensures ok { IfOk result (λ going. spec.dial_by (map (λ part. part.now) parts.now) cell.old
-        ≡ record { cell = cell.new; next = going }) }
-    ensures err { OnErr result (cell.new ≡ cell.old) }
+    ensures ok { IfOk result (λ going. spec.dial_by (map (λ part. part.now) parts.now) (cell_now cell.old)
+        ≡ record { cell = cell_now cell.new; next = going }) }
+    ensures err { OnErr result (cell_now cell.new ≡ cell_now cell.old) }
+    ensures loans { KeepsLoans cell.old cell.new }
 {
     if is_given(part(parts, 0)) {
         let phase = Phase::Dialling {
             goes_on: has_option(part(parts, 2), b'g'),
             has_timer: is_given(part(parts, 1)),
         };
-        return Ok(parked(phase, cell.is_closing));
+        return Ok(park_move(phase, cell.is_closing));
     }
     cell.store.set(alloc, b"DIALSTATUS", b"CHANUNAVAIL")?;
     Ok(Move::Next)

@@ -2,13 +2,14 @@
 ghost use Rattle.std.specs.Prelude.{◌≡◌, ◌+◌, ◌++◌, ◌≤◌, ◌<◌, ◌^◌, [], ◌∷◌, Some, IfOk, OnOk, OnErr, codes, length, map};
 ghost use Rattle.std.specs.Fmt.{decimal};
 ghost use Rattle.std.specs.Option.{option_map};
+ghost use Rattle.dp_app.specs.Cells.{KeepsLoans, cell_now};
 ghost use Rattle.dp_conf.specs.Cut.{cut_once};
 ghost use Rattle.dp_conf.specs.Levels.{arguments_of};
 ghost use Rattle.dp_conf.specs.Numbers.{most_priority};
 ghost use Rattle.dp_flow.specs.steps.Calls as calls;
 ghost use Rattle.dp_flow.specs.Jumps as spec;
 
-use crate::choice::chosen;
+use crate::choice::chosen_side;
 use dp_app::{Application, Cell, Move, Place, Target, TargetParts, Touch};
 use dp_conf::{NoMemory, Text, before_last, cut_once, first_argument, split_args, trim};
 use dp_vars::{Local, LocalName};
@@ -59,7 +60,7 @@ fn push_local(
     number: usize,
     value: &[u8],
 ) -> Result<(), NoMemory>
-    ensures { OnOk result (locals.new.items ≡ locals.old.items ++ spec.numbered number (value.now ∷ [])) }
+    ensures { OnOk result (locals.new.items ≡ locals.old.items ++ spec.argument_locals number (value.now ∷ [])) }
 {
     let name = argument_name(alloc, number)?;
     let value = Text::copy_of(alloc, value)?;
@@ -69,7 +70,7 @@ fn push_local(
 
 /// The locals of a subroutine by its arguments' text: `ARG1`, `ARG2` and so on.
 fn locals_of(alloc: Global, arguments: &[u8]) -> Result<Vec<Local>, NoMemory>
-    ensures { IfOk result (λ locals. locals.items ≡ spec.numbered 1 (spec.inner_arguments arguments.now)) }
+    ensures { IfOk result (λ locals. locals.items ≡ spec.argument_locals 1 (spec.inner_arguments arguments.now)) }
 {
     let mut locals = Vec::new(alloc);
     if arguments.is_empty() {
@@ -104,24 +105,26 @@ fn enter(
     called: SubroutineCall<'_>,
     cell: &mut Cell,
 ) -> Result<Move, NoMemory>
-    requires { cell.old.place.priority ≤ most_priority }
-    ensures ok { IfOk result (λ going. spec.entered cell.old (map (λ part. part.now) front.now)
-        (Some (calls.called_now called.entry)) ≡ record { cell = cell.new; next = going }) }
-    ensures err { OnErr result (cell.new ≡ cell.old) }
+    requires { cell.old.place.now.priority ≤ most_priority }
+    ensures ok { IfOk result (λ going. spec.enter_subroutine (cell_now cell.old) (map (λ part. part.now) front.now)
+        (Some (calls.called_now called.entry)) ≡ record { cell = cell_now cell.new; next = going }) }
+    ensures err { OnErr result (cell_now cell.new ≡ cell_now cell.old) }
+    ensures loans { KeepsLoans cell.old cell.new }
 {
     let target = TargetParts::with_last(alloc, front, called.priority)?;
     let locals = locals_of(alloc, called.arguments)?;
-    let back = place_after(&cell.place)?;
+    let back = place_after(cell.place)?;
     cell.store.push_frame(alloc, back, locals)?;
     Ok(Move::Jump(Target::Existing(target)))
 }
 
 /// A subroutine is entered by the parts of its target. After a refused growth the cell is as before.
 fn enter_by_parts(alloc: Global, parts: &[&[u8]], cell: &mut Cell) -> Result<Move, NoMemory>
-    requires { cell.old.place.priority ≤ most_priority }
-    ensures ok { IfOk result (λ going. spec.gosub_parts (map (λ part. part.now) parts.now) cell.old
-        ≡ record { cell = cell.new; next = going }) }
-    ensures err { OnErr result (cell.new ≡ cell.old) }
+    requires { cell.old.place.now.priority ≤ most_priority }
+    ensures ok { IfOk result (λ going. spec.gosub_parts (map (λ part. part.now) parts.now) (cell_now cell.old)
+        ≡ record { cell = cell_now cell.new; next = going }) }
+    ensures err { OnErr result (cell_now cell.new ≡ cell_now cell.old) }
+    ensures loans { KeepsLoans cell.old cell.new }
 {
     let Some((last, front)) = parts.split_last() else {
         return Ok(Move::Hang);
@@ -135,10 +138,11 @@ fn enter_by_parts(alloc: Global, parts: &[&[u8]], cell: &mut Cell) -> Result<Mov
 
 /// A subroutine is entered by the text of a target that has more than three parts.
 fn enter_by_many(alloc: Global, target: &[u8], cell: &mut Cell) -> Result<Move, NoMemory>
-    requires { cell.old.place.priority ≤ most_priority }
-    ensures ok { IfOk result (λ going. spec.gosub_parts (arguments_of target.now) cell.old
-        ≡ record { cell = cell.new; next = going }) }
-    ensures err { OnErr result (cell.new ≡ cell.old) }
+    requires { cell.old.place.now.priority ≤ most_priority }
+    ensures ok { IfOk result (λ going. spec.gosub_parts (arguments_of target.now) (cell_now cell.old)
+        ≡ record { cell = cell_now cell.new; next = going }) }
+    ensures err { OnErr result (cell_now cell.new ≡ cell_now cell.old) }
+    ensures loans { KeepsLoans cell.old cell.new }
 {
     let parts = split_args(alloc, target)?;
     let going = enter_by_parts(alloc, &parts, cell)?;
@@ -148,9 +152,10 @@ fn enter_by_many(alloc: Global, target: &[u8], cell: &mut Cell) -> Result<Move, 
 /// A subroutine is entered by the text of its target. After a refused growth the cell is as before.
 #[tactic(auto, unfolding(crate::specs::Jumps::gosub_row))]
 fn enter_by_text(alloc: Global, target: &[u8], cell: &mut Cell) -> Result<Move, NoMemory>
-    requires { cell.old.place.priority ≤ most_priority }
-    ensures ok { IfOk result (λ going. spec.gosub_row target.now cell.old ≡ record { cell = cell.new; next = going }) }
-    ensures err { OnErr result (cell.new ≡ cell.old) }
+    requires { cell.old.place.now.priority ≤ most_priority }
+    ensures ok { IfOk result (λ going. spec.gosub_row target.now (cell_now cell.old) ≡ record { cell = cell_now cell.new; next = going }) }
+    ensures err { OnErr result (cell_now cell.new ≡ cell_now cell.old) }
+    ensures loans { KeepsLoans cell.old cell.new }
 {
     let (first, rest) = first_argument(target);
     let Some(rest) = rest else {
@@ -229,7 +234,7 @@ impl Application for GosubIf {
 
     #[tactic(auto, unfolding(crate::specs::Jumps::gosub_if_row))]
     fn apply(alloc: Global, arguments: &[u8], cell: &mut Cell) -> Result<Move, NoMemory> {
-        match chosen(arguments) {
+        match chosen_side(arguments) {
             None => Ok(Move::Next),
             Some(side) => {
                 let going = enter_by_text(alloc, side, cell)?;

@@ -1,9 +1,9 @@
 //! The applications that jump, after the Asterisk documentation's pages on `Goto` and `GotoIf`.
 ghost use Rattle.std.specs.Prelude.{◌≡◌, IfOk};
-ghost use Rattle.dp_flow.specs.Conditions.{chosen};
+ghost use Rattle.dp_flow.specs.Conditions.{chosen_side};
 ghost use Rattle.dp_flow.specs.Jumps as spec;
 
-use crate::choice::chosen;
+use crate::choice::chosen_side;
 use dp_app::{Application, Cell, Move, Target, TargetParts, Touch};
 use dp_conf::NoMemory;
 use std::alloc::Global;
@@ -18,9 +18,9 @@ fn jump_to(alloc: Global, target: &[u8]) -> Result<Move, NoMemory>
 
 /// A jump to the side of a choice that is taken, or to the next priority where none is.
 fn jump_if(alloc: Global, arguments: &[u8]) -> Result<Move, NoMemory>
-    ensures { IfOk result (λ going. going ≡ spec.jump_if (chosen arguments.now)) }
+    ensures { IfOk result (λ going. going ≡ spec.jump_if (chosen_side arguments.now)) }
 {
-    match chosen(arguments) {
+    match chosen_side(arguments) {
         None => Ok(Move::Next),
         Some(side) => jump_to(alloc, side),
     }
@@ -52,11 +52,6 @@ impl Application for Goto {
     fn apply(alloc: Global, arguments: &[u8], _cell: &mut Cell) -> Result<Move, NoMemory> {
         jump_to(alloc, arguments)
     }
-
-    fn going(alloc: Global, arguments: &[u8]) -> Result<Option<Move>, NoMemory> {
-        let going = jump_to(alloc, arguments)?;
-        Ok(Some(going))
-    }
 }
 
 /// `GotoIf(condition?[target][:target])`: the channel goes to the target on the side that is taken. A side that is not there,
@@ -85,10 +80,5 @@ impl Application for GotoIf {
 
     fn apply(alloc: Global, arguments: &[u8], _cell: &mut Cell) -> Result<Move, NoMemory> {
         jump_if(alloc, arguments)
-    }
-
-    fn going(alloc: Global, arguments: &[u8]) -> Result<Option<Move>, NoMemory> {
-        let going = jump_if(alloc, arguments)?;
-        Ok(Some(going))
     }
 }

@@ -31,8 +31,4 @@ impl Application for NoOp {
     fn apply(_alloc: Global, _arguments: &[u8], _cell: &mut Cell) -> Result<Move, NoMemory> {
         Ok(Move::Next)
     }
-
-    fn going(_alloc: Global, _arguments: &[u8]) -> Result<Option<Move>, NoMemory> {
-        Ok(Some(Move::Next))
-    }
 }

@@ -32,10 +32,6 @@ impl Application for Answer {
     fn apply(_alloc: Global, _arguments: &[u8], _cell: &mut Cell) -> Result<Move, NoMemory> {
         Ok(Move::Next)
     }
-
-    fn going(_alloc: Global, _arguments: &[u8]) -> Result<Option<Move>, NoMemory> {
-        Ok(Some(Move::Next))
-    }
 }
 
 /// `Verbose(text)`: nothing is printed here, and the channel goes on.
@@ -63,10 +59,6 @@ impl Application for Verbose {
 
     fn apply(_alloc: Global, _arguments: &[u8], _cell: &mut Cell) -> Result<Move, NoMemory> {
         Ok(Move::Next)
-    }
-
-    fn going(_alloc: Global, _arguments: &[u8]) -> Result<Option<Move>, NoMemory> {
-        Ok(Some(Move::Next))
     }
 }
 
@@ -96,10 +88,6 @@ impl Application for Playback {
     fn apply(_alloc: Global, _arguments: &[u8], _cell: &mut Cell) -> Result<Move, NoMemory> {
         Ok(Move::Next)
     }
-
-    fn going(_alloc: Global, _arguments: &[u8]) -> Result<Option<Move>, NoMemory> {
-        Ok(Some(Move::Next))
-    }
 }
 
 /// `Hangup([cause])`: the call ends; the cause has no effect.
@@ -127,9 +115,5 @@ impl Application for Hangup {
 
     fn apply(_alloc: Global, _arguments: &[u8], _cell: &mut Cell) -> Result<Move, NoMemory> {
         Ok(Move::Hang)
-    }
-
-    fn going(_alloc: Global, _arguments: &[u8]) -> Result<Option<Move>, NoMemory> {
-        Ok(Some(Move::Hang))
     }
 }

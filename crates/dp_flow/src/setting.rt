@@ -1,6 +1,7 @@
 //! The application that sets variables, after the Asterisk documentation's page on `Set`.
 ghost use Rattle.std.specs.Prelude.{◌≡◌, OnErr, OnOk, length};
 ghost use Rattle.std.specs.Option.{option_map};
+ghost use Rattle.dp_app.specs.Cells.{KeepsLoans, cell_now};
 ghost use Rattle.dp_conf.specs.Cut.{cut_once};
 ghost use Rattle.dp_flow.specs.Settings as spec;
 
@@ -28,8 +29,9 @@ fn set_function(
     argument: &[u8],
     value: &[u8],
 ) -> Result<(), NoMemory>
-    ensures ok { OnOk result (cell.new ≡ spec.with_function cell.old function.now argument.now value.now) }
-    ensures err { OnErr result (cell.new ≡ cell.old) }
+    ensures ok { OnOk result (cell_now cell.new ≡ spec.with_function (cell_now cell.old) function.now argument.now value.now) }
+    ensures err { OnErr result (cell_now cell.new ≡ cell_now cell.old) }
+    ensures loans { KeepsLoans cell.old cell.new }
 {
     if function == b"GLOBAL".as_slice() {
         return cell.globals.put(alloc, argument, value);
@@ -39,15 +41,16 @@ fn set_function(
         return Ok(());
     }
     if function == b"CALLERID".as_slice() && argument == b"num".as_slice() {
-        cell.caller = Text::copy_of(alloc, value)?;
+        *cell.caller = Text::copy_of(alloc, value)?;
     }
     Ok(())
 }
 
 /// Sets a name, a variable or a function. After a refused growth the cell is as before.
 fn set_name(alloc: Global, cell: &mut Cell, name: &[u8], value: &[u8]) -> Result<(), NoMemory>
-    ensures ok { OnOk result (cell.new ≡ spec.with_value cell.old name.now value.now) }
-    ensures err { OnErr result (cell.new ≡ cell.old) }
+    ensures ok { OnOk result (cell_now cell.new ≡ spec.with_value (cell_now cell.old) name.now value.now) }
+    ensures err { OnErr result (cell_now cell.new ≡ cell_now cell.old) }
+    ensures loans { KeepsLoans cell.old cell.new }
 {
     match cut_once(name, b'(') {
         None => {

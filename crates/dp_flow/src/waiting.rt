@@ -9,8 +9,8 @@ use dp_conf::{NoMemory, Text};
 use std::alloc::Global;
 
 /// The channel waits in this phase. One that runs the extension `h` is hung up and cannot wait, so its call ends.
-pub(crate) fn parked(phase: Phase, is_closing: bool) -> Move
-    ensures { result ≡ spec.parked phase is_closing }
+pub(crate) fn park_move(phase: Phase, is_closing: bool) -> Move
+    ensures { result ≡ spec.park_move phase is_closing }
 {
     if is_closing {
         return Move::Hang;
@@ -53,7 +53,7 @@ impl Application for Wait {
     }
 
     fn apply(_alloc: Global, _arguments: &[u8], cell: &mut Cell) -> Result<Move, NoMemory> {
-        Ok(parked(Phase::Pause, cell.is_closing))
+        Ok(park_move(Phase::Pause, cell.is_closing))
     }
 }
 
@@ -82,7 +82,7 @@ impl Application for WaitExten {
     }
 
     fn apply(alloc: Global, _arguments: &[u8], cell: &mut Cell) -> Result<Move, NoMemory> {
-        Ok(parked(no_digits(alloc, false), cell.is_closing))
+        Ok(park_move(no_digits(alloc, false), cell.is_closing))
     }
 }
 
@@ -111,6 +111,6 @@ impl Application for Background {
     }
 
     fn apply(alloc: Global, _arguments: &[u8], cell: &mut Cell) -> Result<Move, NoMemory> {
-        Ok(parked(no_digits(alloc, true), cell.is_closing))
+        Ok(park_move(no_digits(alloc, true), cell.is_closing))
     }
 }

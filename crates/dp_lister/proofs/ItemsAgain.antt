@@ -37,9 +37,9 @@ with_line line x =
     (λ old context name. Includes line context name) (λ old. Unknown line) x
 
 -- the items at the lines after so many
-abbrev pub numbered : ℕ → List Item → List Item
-numbered n [] = []
-numbered n (x ∷ xs) = with_line (n + 1) x ∷ numbered (n + 1) xs
+abbrev pub items_from : ℕ → List Item → List Item
+items_from n [] = []
+items_from n (x ∷ xs) = with_line (n + 1) x ∷ items_from (n + 1) xs
 
 -- what says the items, by the number of the line
 abbrev says : List Item → List (ℕ → LineOf)
@@ -102,7 +102,7 @@ section-push before section line x here =
     ∙ by_item (λ y. unwrap_or (option_or (section_in (with_line line y)) (latest section_in before)) General ≡ section_after section y)
     (λ next. refl) (λ global. here) (λ old context entry. here) (λ old context name. here) (λ old. here) x
 
-items-again : (before : List Item) (section : Section) (n : ℕ) (xs : List Item) → (history_of before).section ≡ section → AllStand section xs → items_after before (numbered_lines n (says xs)) ≡ Ok (numbered n xs)
+items-again : (before : List Item) (section : Section) (n : ℕ) (xs : List Item) → (history_of before).section ≡ section → AllStand section xs → items_after before (numbered_lines n (says xs)) ≡ Ok (items_from n xs)
 items-again before section n [] here stand = refl
 items-again before section n (x ∷ xs) here stand =
     ap (λ (read : Result (List Item) LoadFault). read >>= λ item. with_front item (items_after (before ++ item) (numbered_lines (n + 1) (says xs)))) (line_item-again (history_of before) section (n + 1) x here stand.0)
@@ -175,6 +175,6 @@ stand-plan [] contexts globals fine = stand-contexts General contexts fine
 stand-plan (global ∷ globals) contexts g fine = (tt, stand-globals (global ∷ globals) (items_of_contexts contexts) g (stand-contexts Globals contexts fine))
 
 -- the lines of a dialplan are read as its items
-pub items_after-canonical : (plan : PlanOf) → IsCanonical plan → items_after [] (canonical_lines plan) ≡ Ok (numbered 0 (items_of plan))
+pub items_after-canonical : (plan : PlanOf) → IsCanonical plan → items_after [] (canonical_lines plan) ≡ Ok (items_from 0 (items_of plan))
 items_after-canonical plan fine =
     ap (items_after []) (sym (says-plan plan)) ∙ items-again [] General 0 (items_of plan) refl (stand-plan plan.globals plan.contexts fine.globals fine.contexts)

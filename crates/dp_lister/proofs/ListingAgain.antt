@@ -16,8 +16,8 @@ use Rattle.dp_plan.specs.declared.plan.GlobalVariable.{GlobalVariable}
 use Rattle.dp_plan.proofs.PartsKnown.{IsKey, IsValue, IsHeaderName, IsGlobal, IsEntry, IsIncluded}
 use Rattle.dp_lister.proofs.Canonical.{IsContext, IsCanonical, called_text, entry_text, header_of, global_of, exten_of, include_of, lines_of_globals, lines_of_contexts, numbered_lines, canonical_lines}
 use Rattle.dp_lister.proofs.EntryAgain.{entry_text-value}
-use Rattle.dp_lister.proofs.PlanAgain.{IsOnUnknown, canonical_notes, canonical_notes-only, loaded-canonical}
-use Rattle.dp_lister.proofs.PlanKnown.{loaded-known}
+use Rattle.dp_lister.proofs.PlanAgain.{IsOnUnknown, canonical_notes, canonical_notes-only, plan_and_notes-canonical}
+use Rattle.dp_lister.proofs.PlanKnown.{plan_and_notes-known}
 use Rattle.dp_lister.specs.Again.{LoadsAs}
 use Rattle.dp_plan.specs.Loaded.{IsLoaded}
 use Rattle.dp_lister.specs.Listing.{global_line, global_lines, priority_text, application_text, after_name, entry_line, include_line, header_line, context_lines, text_of, listing}
@@ -202,9 +202,9 @@ lines_of-listing plan fine = lines-again plan.globals plan.contexts fine.globals
 -- the listing of a dialplan that loads is loaded as the dialplan again
 pub list-load : (plan : PlanOf) → IsLoaded plan → LoadsAs plan (listing plan)
 list-load plan from =
-    let fine = loaded-known from.text plan from.notes (each_by_index (λ b. b < 256) from.text (λ k within. from.bytes k within)) from.loads in
+    let fine = plan_and_notes-known from.text plan from.notes (each_by_index (λ b. b < 256) from.text (λ k within. from.bytes k within)) from.loads in
     record {
       notes = canonical_notes plan;
-      loads = loaded-canonical (listing plan) plan fine (lines_of-listing plan fine);
+      loads = plan_and_notes-canonical (listing plan) plan fine (lines_of-listing plan fine);
       unknown = All-from_recursion IsOnUnknown (canonical_notes plan) (canonical_notes-only plan fine);
     }

@@ -12,7 +12,7 @@ use Rattle.dp_conf.proofs.TextLemmas.{each-append, either-false}
 use Rattle.dp_plan.specs.Contexts.{PlanContext}
 use Rattle.dp_plan.specs.Extensions.{same_name}
 use Rattle.dp_plan.specs.Items.{items_after}
-use Rattle.dp_plan.specs.Loaded.{loaded}
+use Rattle.dp_plan.specs.Loaded.{plan_and_notes}
 use Rattle.dp_plan.specs.Plan.{PlanOf, Addition, Inclusion, of_one_extension, same_place, same_label, shares_label, is_place_taken, is_label_taken, is_taken, is_named, kept_by, added_in, included_in, context_in, global_in, kept_in, names_in, context_of, plan_of, entry_note, include_note, note_of, notes_of}
 use Rattle.dp_plan.specs.declared.entry.Entry.{Entry}
 use Rattle.dp_plan.specs.declared.note.Note.{Note}
@@ -21,21 +21,21 @@ use Rattle.dp_plan.specs.declared.plan.GlobalVariable.{GlobalVariable}
 use Rattle.dp_lister.proofs.Canonical.{IsFresh, additions_of, IsContext, IsCanonical, canonical_lines}
 use Rattle.dp_plan.proofs.ItemWords.{item_word as Item, begins as Begins, sets as Sets, adds as Adds, includes as Includes, section_word as Section, general as General, globals as Globals, by_item}
 use Rattle.dp_plan.proofs.DraftLemmas.{more_by, kept_by-filter_map, is_named-last}
-use Rattle.dp_lister.proofs.ItemsAgain.{with_line, numbered, section_after, Stands, AllStand, stand-plan, items_of_globals, items_of_context, items_of_contexts, items_of, items_after-canonical}
+use Rattle.dp_lister.proofs.ItemsAgain.{with_line, items_from, section_after, Stands, AllStand, stand-plan, items_of_globals, items_of_context, items_of_contexts, items_of, items_after-canonical}
 use Rattle.dp_plan.proofs.LoadedLemmas.{of_items, of_lines}
 
 -- ---- what the items give, whatever their lines
 
-filter_map-numbered : {Y : Type 0} (h : Item → Option Y) → ((n : ℕ) (x : Item) → h (with_line n x) ≡ h x) → (n : ℕ) (xs : List Item) → filter_map h (numbered n xs) ≡ filter_map h xs
-filter_map-numbered h same n [] = refl
-filter_map-numbered h same n (x ∷ xs) = λ i. cons_option (same (n + 1) x i) (filter_map-numbered h same (n + 1) xs i)
+filter_map-items_from : {Y : Type 0} (h : Item → Option Y) → ((n : ℕ) (x : Item) → h (with_line n x) ≡ h x) → (n : ℕ) (xs : List Item) → filter_map h (items_from n xs) ≡ filter_map h xs
+filter_map-items_from h same n [] = refl
+filter_map-items_from h same n (x ∷ xs) = λ i. cons_option (same (n + 1) x i) (filter_map-items_from h same (n + 1) xs i)
 
 -- all that an item gives
 abbrev given_in : Item → Option Addition × Option Inclusion × Option (List ℕ) × Option GlobalVariable
 given_in x = (added_in x, included_in x, context_in x, global_in x)
 
-given-numbered : (n : ℕ) (x : Item) → given_in (with_line n x) ≡ given_in x
-given-numbered n =
+given-items_from : (n : ℕ) (x : Item) → given_in (with_line n x) ≡ given_in x
+given-items_from n =
     by_item (λ x. given_in (with_line n x) ≡ given_in x) (λ section. refl) (λ global. refl) (λ line context entry. refl) (λ line context name. refl) (λ line. refl)
 
 -- items made of a list, each giving nothing, or something
@@ -116,7 +116,7 @@ globals-globals (g ∷ globals) = gives-same (g ∷ globals)
 -- what the items of a dialplan give
 
 abbrev items : PlanOf → List Item
-items plan = numbered 0 (items_of plan)
+items plan = items_from 0 (items_of plan)
 
 abbrev additions : PlanOf → List Addition
 additions plan = flat_map additions_of plan.contexts
@@ -129,28 +129,28 @@ items-give : {Y : Type 0} (h : Item → Option Y) (part : PlanContext → List Y
     → ((context : PlanContext) → filter_map h (items_of_context context) ≡ part context)
     → (plan : PlanOf) → filter_map h (items plan) ≡ filter_map h (items_of_globals plan.globals) ++ flat_map part plan.contexts
 items-give h part same each plan =
-    filter_map-numbered h same 0 (items_of plan)
+    filter_map-items_from h same 0 (items_of plan)
     ∙ (filter_map-append h (items_of_globals plan.globals) (items_of_contexts plan.contexts)
     ∙ ap (λ (ys : List _). filter_map h (items_of_globals plan.globals) ++ ys) (gives-contexts h part each plan.contexts))
 
 globals-are : (plan : PlanOf) → filter_map global_in (items plan) ≡ plan.globals
 globals-are plan =
-    items-give global_in (λ c. []) (λ n x. ap (λ given. given.3) (given-numbered n x)) globals-context plan
+    items-give global_in (λ c. []) (λ n x. ap (λ given. given.3) (given-items_from n x)) globals-context plan
     ∙ ((λ i. globals-globals plan.globals i ++ nothing-of-contexts plan.contexts i) ∙ append-nil plan.globals)
 
 additions-are : (plan : PlanOf) → filter_map added_in (items plan) ≡ additions plan
 additions-are plan =
-    items-give added_in additions_of (λ n x. ap (λ given. given.0) (given-numbered n x)) added-context plan
+    items-give added_in additions_of (λ n x. ap (λ given. given.0) (given-items_from n x)) added-context plan
     ∙ ap (λ (xs : List Addition). xs ++ additions plan) (of-globals added_in refl (λ g. refl) plan.globals)
 
 inclusions-are : (plan : PlanOf) → filter_map included_in (items plan) ≡ inclusions plan
 inclusions-are plan =
-    items-give included_in inclusions_of (λ n x. ap (λ given. given.1) (given-numbered n x)) included-context plan
+    items-give included_in inclusions_of (λ n x. ap (λ given. given.1) (given-items_from n x)) included-context plan
     ∙ ap (λ (xs : List Inclusion). xs ++ inclusions plan) (of-globals included_in refl (λ g. refl) plan.globals)
 
 mentions-are : (plan : PlanOf) → filter_map context_in (items plan) ≡ flat_map mentions_of plan.contexts
 mentions-are plan =
-    items-give context_in mentions_of (λ n x. ap (λ given. given.2) (given-numbered n x)) mentions-context plan
+    items-give context_in mentions_of (λ n x. ap (λ given. given.2) (given-items_from n x)) mentions-context plan
     ∙ ap (λ (xs : List (List ℕ)). xs ++ flat_map mentions_of plan.contexts) (of-globals context_in refl (λ g. refl) plan.globals)
 
 -- ---- names
@@ -352,16 +352,16 @@ abbrev notes_after : List (List ℕ) → List Item → List Item → List Note
 notes_after names before xs = flat_map (λ notes. notes) (each_after (note_of names) before xs)
 
 notes-only : (names : List (List ℕ)) (before : List Item) (section : Section) (n : ℕ) (xs : List Item) → AllStand section xs
-    → IsFresh is_taken (kept_in before) (filter_map added_in (numbered n xs)) → AllByRecursion IsOnUnknown (notes_after names before (numbered n xs))
+    → IsFresh is_taken (kept_in before) (filter_map added_in (items_from n xs)) → AllByRecursion IsOnUnknown (notes_after names before (items_from n xs))
 notes-only names before section n [] stand fresh = tt
 notes-only names before section n (x ∷ xs) stand fresh =
     by (λ y. notes-only names (before ++ y ∷ []) (section_after section x) (n + 1) xs stand.1) x stand.0 fresh
   where
     rest : List Addition
-    rest = filter_map added_in (numbered (n + 1) xs)
+    rest = filter_map added_in (items_from (n + 1) xs)
 
     notes : Item → List Note
-    notes y = notes_after names (before ++ y ∷ []) (numbered (n + 1) xs)
+    notes y = notes_after names (before ++ y ∷ []) (items_from (n + 1) xs)
 
     Later : Type 0
     Later = (y : Item) → IsFresh is_taken (kept_in (before ++ y ∷ [])) rest → AllByRecursion IsOnUnknown (notes y)
@@ -397,13 +397,13 @@ canonical_notes-only plan fine =
     (subst (IsFresh is_taken []) (sym (additions-are plan)) (fresh-additions plan.contexts [] [] (λ name e. refl) fine.names fine.contexts))
 
 -- with no fault the dialplan is that of the items
-loaded-items : (text : List ℕ) (lines : List LineOf) (xs : List Item) → lines_of text ≡ Ok lines → items_after [] lines ≡ Ok xs → loaded text ≡ Ok (plan_of xs, notes_of xs)
-unfolding loaded
-loaded-items text lines xs read e = ap of_lines read ∙ ap of_items e
+plan_and_notes-items : (text : List ℕ) (lines : List LineOf) (xs : List Item) → lines_of text ≡ Ok lines → items_after [] lines ≡ Ok xs → plan_and_notes text ≡ Ok (plan_of xs, notes_of xs)
+unfolding plan_and_notes
+plan_and_notes-items text lines xs read e = ap of_lines read ∙ ap of_items e
 
 -- a text with the lines of a dialplan loads as the dialplan
-pub loaded-canonical : (text : List ℕ) (plan : PlanOf) → IsCanonical plan → lines_of text ≡ Ok (canonical_lines plan) → loaded text ≡ Ok (plan, canonical_notes plan)
+pub plan_and_notes-canonical : (text : List ℕ) (plan : PlanOf) → IsCanonical plan → lines_of text ≡ Ok (canonical_lines plan) → plan_and_notes text ≡ Ok (plan, canonical_notes plan)
 unfolding canonical_notes
-loaded-canonical text plan fine read =
-    loaded-items text (canonical_lines plan) (items plan) read (items_after-canonical plan fine)
+plan_and_notes-canonical text plan fine read =
+    plan_and_notes-items text (canonical_lines plan) (items plan) read (items_after-canonical plan fine)
     ∙ (λ i. Ok (plan_of-items plan fine i, notes_of (items plan)))

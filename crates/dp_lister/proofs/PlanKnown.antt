@@ -4,7 +4,7 @@ use Rattle.std.specs.List.{AllByRecursion, filter, filter_map, cons_option}
 use Rattle.std.proofs.lemmas.List.Elements.{filter-append}
 use Rattle.std.proofs.lemmas.Slice.Eq.{bytes_eq-Decides}
 use Rattle.dp_conf.specs.Words.{same_text}
-use Rattle.dp_plan.specs.Loaded.{loaded}
+use Rattle.dp_plan.specs.Loaded.{plan_and_notes}
 use Rattle.dp_plan.specs.Plan.{PlanOf, Addition, Inclusion, is_taken, is_named, kept_by, added_in, included_in, context_in, global_in, kept_in, names_in, context_of, plan_of}
 use Rattle.dp_plan.specs.declared.note.Note.{Note}
 use Rattle.dp_plan.proofs.ItemWords.{item_word as Item, begins as Begins, by_section, by_item}
@@ -12,7 +12,7 @@ use Rattle.dp_plan.proofs.PartsKnown.{IsContextName, IsGlobal, IsIncluded}
 use Rattle.dp_lister.proofs.Canonical.{IsFresh, IsContext, IsCanonical}
 use Rattle.dp_plan.proofs.DraftLemmas.{names-contexts}
 use Rattle.dp_plan.proofs.ItemsKnown.{IsFineSection, IsFine}
-use Rattle.dp_plan.proofs.NamedLemmas.{each-filter_map, each-filter, each-map, each-kept, loaded-made, made-fine, IsFineAddition, kept-known, entries-known}
+use Rattle.dp_plan.proofs.NamedLemmas.{each-filter_map, each-filter, each-map, each-kept, plan_and_notes-made, made-fine, IsFineAddition, kept-known, entries-known}
 use Rattle.dp_lister.proofs.PlanAgain.{is_of, taken-local}
 
 -- ---- parts of lists
@@ -105,7 +105,7 @@ plan_of-known items fine =
 -- ---- a dialplan that loads
 
 -- each dialplan that a text loads as can be written and read again
-pub loaded-known : (text : List ℕ) (plan : PlanOf) (notes : List Note) → AllByRecursion (λ b. b < 256) text → loaded text ≡ Ok (plan, notes) → IsCanonical plan
-loaded-known text plan notes bytes e =
-    let made = loaded-made text plan notes e in
+pub plan_and_notes-known : (text : List ℕ) (plan : PlanOf) (notes : List Note) → AllByRecursion (λ b. b < 256) text → plan_and_notes text ≡ Ok (plan, notes) → IsCanonical plan
+plan_and_notes-known text plan notes bytes e =
+    let made = plan_and_notes-made text plan notes e in
     subst IsCanonical made.makes (plan_of-known made.items (made-fine text plan bytes made))

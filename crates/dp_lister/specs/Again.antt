@@ -1,7 +1,7 @@
 -- What a text that is listed loads as.
 use Rattle.std.specs.Prelude.{◌≡◌, ℕ, List, Ok}
 use Rattle.std.specs.List.{All}
-use Rattle.dp_plan.specs.Loaded.{loaded}
+use Rattle.dp_plan.specs.Loaded.{plan_and_notes}
 use Rattle.dp_plan.specs.Plan.{PlanOf}
 use Rattle.dp_plan.specs.declared.note.Note.{Note}
 use Rattle.dp_plan.specs.declared.note.NoteKind.TheVariants.{UnknownContext}
@@ -9,5 +9,5 @@ use Rattle.dp_plan.specs.declared.note.NoteKind.TheVariants.{UnknownContext}
 -- the text loads as the dialplan, with no note but on includes of unknown contexts
 pub record LoadsAs (plan : PlanOf) (text : List ℕ) : Type 0 where
   pub notes : List Note
-  pub loads : loaded text ≡ Ok (plan, notes)
+  pub loads : plan_and_notes text ≡ Ok (plan, notes)
   pub unknown : All (λ note. note.kind ≡ UnknownContext) notes

@@ -1,7 +1,7 @@
 -- The canonical listing of a dialplan: one way to write it.
 use Rattle.std.specs.Prelude.{ℕ, List, [], ◌∷◌, ◌++◌, map, Option, None, Some, codes, decimal}
 use Rattle.std.specs.List.{flat_map}
-use Rattle.dp_conf.specs.Escape.{escaped}
+use Rattle.dp_conf.specs.Escape.{escape_text}
 use Rattle.dp_conf.specs.Lines.{line_feed}
 use Rattle.dp_pattern.specs.Spelling.{spelling}
 use Rattle.dp_plan.specs.Contexts.{PlanContext}
@@ -58,7 +58,7 @@ plan_lines plan = global_lines plan.globals ++ flat_map context_lines plan.conte
 
 -- a line as it is written: each `;` as `\;`, and a line feed at its end
 abbrev pub line_text : List ℕ → List ℕ
-line_text line = escaped line ++ line_feed ∷ []
+line_text line = escape_text line ++ line_feed ∷ []
 
 -- lines one after another
 abbrev pub text_of : List (List ℕ) → List ℕ

@@ -1,6 +1,6 @@
 //! The canonical listing of a dialplan.
 ghost use Rattle.std.specs.Prelude.{◌≡◌, ◌++◌, [], ◌∷◌, IfOk, OnOk, map};
-ghost use Rattle.dp_conf.specs.Escape.{escaped};
+ghost use Rattle.dp_conf.specs.Escape.{escape_text};
 ghost use Rattle.dp_lister.specs.Again.{LoadsAs};
 ghost use Rattle.dp_lister.specs.Listing as spec;
 ghost use Rattle.dp_plan.specs.Loaded.{IsLoaded};
@@ -50,7 +50,7 @@ fn push_priority(
     priority: u32,
     label: &Option<SharedText>,
 ) -> Result<(), NoMemory>
-    ensures { OnOk result (out.new.items ≡ out.old.items ++ escaped (spec.priority_text priority label.now)) }
+    ensures { OnOk result (out.new.items ≡ out.old.items ++ escape_text (spec.priority_text priority label.now)) }
 {
     let mut buffer = Buffer::new();
     push_escaped(out, buffer.format(priority).as_bytes())?;
@@ -64,7 +64,7 @@ fn push_priority(
 
 /// Adds an application with its arguments.
 fn push_application(out: &mut Vec<u8>, name: &[u8], arguments: &[u8]) -> Result<(), NoMemory>
-    ensures { OnOk result (out.new.items ≡ out.old.items ++ escaped (spec.application_text name.now arguments.now)) }
+    ensures { OnOk result (out.new.items ≡ out.old.items ++ escape_text (spec.application_text name.now arguments.now)) }
 {
     push_escaped(out, name)?;
     out.push(b'(')?;
@@ -75,7 +75,7 @@ fn push_application(out: &mut Vec<u8>, name: &[u8], arguments: &[u8]) -> Result<
 
 /// Adds what stands after the name in the line of an entry.
 fn push_after_name(out: &mut Vec<u8>, entry: &Entry) -> Result<(), NoMemory>
-    ensures { OnOk result (out.new.items ≡ out.old.items ++ escaped (spec.after_name entry.now)) }
+    ensures { OnOk result (out.new.items ≡ out.old.items ++ escape_text (spec.after_name entry.now)) }
 {
     out.push(b',')?;
     push_priority(out, entry.priority.get(), &entry.label)?;

@@ -10,7 +10,7 @@ use Rattle.dp_plan.specs.Lookup.{includes_at, number_of}
 use Rattle.dp_plan.specs.Plan.{PlanOf}
 use Rattle.dp_lookup.specs.SearchOrder.{context_count, has, is_open, link_of, links_at, visit}
 use Rattle.dp_lookup.specs.steps.Filling.{IsMarked, links_left, pending, unseen, one, link_count, work, IsFilling}
-use Rattle.dp_lookup.specs.declared.visit.Frame.{Frame}
+use Rattle.dp_lookup.specs.declared.visit.ContextVisit.{ContextVisit}
 use Rattle.dp_lookup.proofs.SeenLemmas.{has-push_itself, has-push_other, unseen-push}
 use Rattle.dp_lookup.proofs.VisitLemmas.{visit-equation, closed}
 
@@ -67,7 +67,7 @@ unmarked order i marks ended before k within = by_mark (get_or marks k false) (s
 
 -- ---- includes that are still to come
 
-pub pending-push : (plan : PlanOf) (frames : List Frame) (frame : Frame) → pending plan (frames ++ frame ∷ []) ≡ links_left plan frame ++ pending plan frames
+pub pending-push : (plan : PlanOf) (frames : List ContextVisit) (frame : ContextVisit) → pending plan (frames ++ frame ∷ []) ≡ links_left plan frame ++ pending plan frames
 pending-push plan [] frame = sym (append-nil (links_left plan frame))
 pending-push plan (f ∷ frames) frame =
     ap (λ links. links ++ links_left plan f) (pending-push plan frames frame) ∙ append_assoc (links_left plan frame) (pending plan frames) (links_left plan f)
@@ -87,7 +87,7 @@ drop-map_none f (y ∷ xs) zero e = absurd cc
 drop-map_none f (y ∷ xs) (suc k) e = drop-map_none f xs k e
 
 -- the next include of the last context
-pub next_some : (plan : PlanOf) (frames rest : List Frame) (frame : Frame) (name : List ℕ) → frames ≡ rest ++ frame ∷ [] → slice_get (includes_at plan frame.context) frame.next ≡ Some name → pending plan frames ≡ link_of plan name ∷ pending plan (rest ++ (record { context = frame.context; next = frame.next + 1 }) ∷ [])
+pub next_some : (plan : PlanOf) (frames rest : List ContextVisit) (frame : ContextVisit) (name : List ℕ) → frames ≡ rest ++ frame ∷ [] → slice_get (includes_at plan frame.context) frame.next ≡ Some name → pending plan frames ≡ link_of plan name ∷ pending plan (rest ++ (record { context = frame.context; next = frame.next + 1 }) ∷ [])
 next_some plan frames rest frame name is_last here =
     ap (pending plan) is_last
     ∙ (pending-push plan rest frame
@@ -95,7 +95,7 @@ next_some plan frames rest frame name is_last here =
     ∙ ap (λ links. link_of plan name ∷ links) (sym (pending-push plan rest (record { context = frame.context; next = frame.next + 1 })))))
 
 -- the last context has none
-pub next_none : (plan : PlanOf) (frames rest : List Frame) (frame : Frame) → frames ≡ rest ++ frame ∷ [] → slice_get (includes_at plan frame.context) frame.next ≡ None → pending plan frames ≡ pending plan rest
+pub next_none : (plan : PlanOf) (frames rest : List ContextVisit) (frame : ContextVisit) → frames ≡ rest ++ frame ∷ [] → slice_get (includes_at plan frame.context) frame.next ≡ None → pending plan frames ≡ pending plan rest
 next_none plan frames rest frame is_last ended =
     ap (pending plan) is_last
     ∙ (pending-push plan rest frame
@@ -118,24 +118,24 @@ visit-new : (plan : PlanOf) (order : List ℕ) (number : ℕ) → number < conte
 visit-new plan order number within new =
     visit-equation plan order number ∙ ap (λ b. cond b (fold (visit plan) (order ++ number ∷ []) (links_at plan number)) order) (open_now plan order number within new)
 
-abbrev entered : ℕ → Frame
-entered number = record { context = number; next = 0 }
+abbrev first_frame : ℕ → ContextVisit
+first_frame number = record { context = number; next = 0 }
 
-pub visited-enter : (plan : PlanOf) (order : List ℕ) (frames : List Frame) (number : ℕ) → number < context_count plan → has order number ≡ false → fold (visit plan) (order ++ number ∷ []) (pending plan (frames ++ entered number ∷ [])) ≡ fold (visit plan) (visit plan order number) (pending plan frames)
+pub visited-enter : (plan : PlanOf) (order : List ℕ) (frames : List ContextVisit) (number : ℕ) → number < context_count plan → has order number ≡ false → fold (visit plan) (order ++ number ∷ []) (pending plan (frames ++ first_frame number ∷ [])) ≡ fold (visit plan) (visit plan order number) (pending plan frames)
 visited-enter plan order frames number within new =
-    ap (fold (visit plan) (order ++ number ∷ [])) (pending-push plan frames (entered number))
+    ap (fold (visit plan) (order ++ number ∷ [])) (pending-push plan frames (first_frame number))
     ∙ (fold-append (visit plan) (order ++ number ∷ []) (links_at plan number) (pending plan frames)
     ∙ ap (λ s. fold (visit plan) s (pending plan frames)) (sym (visit-new plan order number within new)))
 
-pub work-enter : (plan : PlanOf) (order : List ℕ) (frames : List Frame) (number : ℕ) → number < context_count plan → has order number ≡ false → work plan (order ++ number ∷ []) (frames ++ entered number ∷ []) ≡ work plan order frames
+pub work-enter : (plan : PlanOf) (order : List ℕ) (frames : List ContextVisit) (number : ℕ) → number < context_count plan → has order number ≡ false → work plan (order ++ number ∷ []) (frames ++ first_frame number ∷ []) ≡ work plan order frames
 work-enter plan order frames number within new =
     let seen = unseen-push (link_count plan) (context_count plan) order number within new in
-    let added = ap length (pending-push plan frames (entered number)) in
+    let added = ap length (pending-push plan frames (first_frame number)) in
     let parts = length-append (links_at plan number) (pending plan frames) in
     omega (arith, seen, added, parts)
 
 -- an order that has not every context has room
-pub room_left : (plan : PlanOf) (order : List ℕ) (marks : List Bool) (frames : List Frame) (number : ℕ) → IsFilling plan order marks frames → number < context_count plan → has order number ≡ false → length order < context_count plan
+pub room_left : (plan : PlanOf) (order : List ℕ) (marks : List Bool) (frames : List ContextVisit) (number : ℕ) → IsFilling plan order marks frames → number < context_count plan → has order number ≡ false → length order < context_count plan
 room_left plan order marks frames number filling within new =
     let seen = unseen-push one (context_count plan) order number within new in
     let counted = filling.counted in
@@ -147,7 +147,7 @@ marked-enter order marks number marked within k below = elim (cases_eq k number)
   | inr other ↦ get-set_other marks number k true other ∙ (marked k (omega (arith, below, length-set marks number true)) ∙ ap Some (sym (has-push_other order number k (λ e. other (sym e)))))
 ]
 
-pub filling-enter : (plan : PlanOf) (order : List ℕ) (marks : List Bool) (frames : List Frame) (number : ℕ) → IsFilling plan order marks frames → number < context_count plan → number < length marks → has order number ≡ false → IsFilling plan (order ++ number ∷ []) (set marks number true) (frames ++ entered number ∷ [])
+pub filling-enter : (plan : PlanOf) (order : List ℕ) (marks : List Bool) (frames : List ContextVisit) (number : ℕ) → IsFilling plan order marks frames → number < context_count plan → number < length marks → has order number ≡ false → IsFilling plan (order ++ number ∷ []) (set marks number true) (frames ++ first_frame number ∷ [])
 filling-enter plan order marks frames number filling within in_marks new = record {
   marked = marked-enter order marks number filling.marked in_marks;
   counted =
@@ -158,7 +158,7 @@ filling-enter plan order marks frames number filling within in_marks new = recor
   short =
       let short = filling.short in
       let longer = length-append order (number ∷ []) in
-      let deeper = length-append frames (entered number ∷ []) in
+      let deeper = length-append frames (first_frame number ∷ []) in
       omega (arith, short, longer, deeper);
   within = All-push (λ c. c < context_count plan) order number filling.within within;
 }
@@ -168,8 +168,8 @@ pub unseen-nil : (bound : ℕ) → unseen one bound [] ≡ bound
 unseen-nil zero = refl
 unseen-nil (suc bound) = let rest = unseen-nil bound in omega (arith, rest)
 
-pub filling-empty : (plan : PlanOf) (order : List ℕ) (marks : List Bool) (frames : List Frame) → order ≡ [] → frames ≡ [] → IsMarked [] marks → IsFilling plan order marks frames
-filling-empty plan order marks frames no_order no_frames marked = subst (λ (o : List ℕ). IsFilling plan o marks frames) (sym no_order) (subst (λ (f : List Frame). IsFilling plan [] marks f) (sym no_frames) empty)
+pub filling-empty : (plan : PlanOf) (order : List ℕ) (marks : List Bool) (frames : List ContextVisit) → order ≡ [] → frames ≡ [] → IsMarked [] marks → IsFilling plan order marks frames
+filling-empty plan order marks frames no_order no_frames marked = subst (λ (o : List ℕ). IsFilling plan o marks frames) (sym no_order) (subst (λ (f : List ContextVisit). IsFilling plan [] marks f) (sym no_frames) empty)
   where
     empty : IsFilling plan [] marks []
     empty = record {
@@ -180,7 +180,7 @@ filling-empty plan order marks frames no_order no_frames marked = subst (λ (o :
     }
 
 -- fewer contexts that are gone through
-pub filling-fewer : (plan : PlanOf) (order : List ℕ) (marks : List Bool) (frames fewer : List Frame) → IsFilling plan order marks frames → length fewer ≤ length frames → IsFilling plan order marks fewer
+pub filling-fewer : (plan : PlanOf) (order : List ℕ) (marks : List Bool) (frames fewer : List ContextVisit) → IsFilling plan order marks frames → length fewer ≤ length frames → IsFilling plan order marks fewer
 filling-fewer plan order marks frames fewer filling few = record {
   marked = filling.marked;
   counted = filling.counted;

@@ -8,24 +8,24 @@ use Rattle.dp_lookup.proofs.SeenLemmas.{open_parts, unseen-push, unseen-push_le,
 
 module _ (plan : PlanOf) where
   -- how many contexts are still to be visited
-  abbrev left : List ℕ → ℕ
-  left seen = unseen one (context_count plan) seen
+  abbrev unvisited_count : List ℕ → ℕ
+  unvisited_count seen = unseen one (context_count plan) seen
 
   -- an open context is one of those that are left
-  left-open : (seen : List ℕ) (c : ℕ) → is_open plan seen c ≡ true → left (seen ++ c ∷ []) + 1 ≡ left seen
-  left-open seen c e = let parts = open_parts plan seen c e in unseen-push one (context_count plan) seen c parts.0 parts.1
+  unvisited_count-open : (seen : List ℕ) (c : ℕ) → is_open plan seen c ≡ true → unvisited_count (seen ++ c ∷ []) + 1 ≡ unvisited_count seen
+  unvisited_count-open seen c e = let parts = open_parts plan seen c e in unseen-push one (context_count plan) seen c parts.0 parts.1
 
   abbrev Shrinks : Visit → Type 0
-  Shrinks f = (seen : List ℕ) (c : ℕ) → left (f seen c) ≤ left seen
+  Shrinks f = (seen : List ℕ) (c : ℕ) → unvisited_count (f seen c) ≤ unvisited_count seen
 
-  fold-shrinks : (f : Visit) → Shrinks f → (links seen : List ℕ) → left (fold f seen links) ≤ left seen
+  fold-shrinks : (f : Visit) → Shrinks f → (links seen : List ℕ) → unvisited_count (fold f seen links) ≤ unvisited_count seen
   fold-shrinks f shrinks [] seen = omega arith
   fold-shrinks f shrinks (c ∷ links) seen =
       let first = shrinks seen c in
       let rest = fold-shrinks f shrinks links (f seen c) in
       omega (arith, first, rest)
 
-  visited-shrinks : (f : Visit) → Shrinks f → (seen : List ℕ) (c : ℕ) (open_now : Bool) → left (cond open_now (fold f (seen ++ c ∷ []) (links_at plan c)) seen) ≤ left seen
+  visited-shrinks : (f : Visit) → Shrinks f → (seen : List ℕ) (c : ℕ) (open_now : Bool) → unvisited_count (cond open_now (fold f (seen ++ c ∷ []) (links_at plan c)) seen) ≤ unvisited_count seen
   visited-shrinks f shrinks seen c true =
       let rest = fold-shrinks f shrinks (links_at plan c) (seen ++ c ∷ []) in
       let here = unseen-push_le one (context_count plan) seen c in
@@ -38,22 +38,22 @@ module _ (plan : PlanOf) where
   visit_in-shrinks (suc most) seen c = visited-shrinks (visit_in most plan) (visit_in-shrinks most) seen c (is_open plan seen c)
 
   abbrev AgreeUpTo : ℕ → Visit → Visit → Type 0
-  AgreeUpTo most f g = (seen : List ℕ) (c : ℕ) → left seen ≤ most → f seen c ≡ g seen c
+  AgreeUpTo most f g = (seen : List ℕ) (c : ℕ) → unvisited_count seen ≤ most → f seen c ≡ g seen c
 
-  fold-agree : (most : ℕ) (f g : Visit) → Shrinks g → AgreeUpTo most f g → (links seen : List ℕ) → left seen ≤ most → fold f seen links ≡ fold g seen links
+  fold-agree : (most : ℕ) (f g : Visit) → Shrinks g → AgreeUpTo most f g → (links seen : List ℕ) → unvisited_count seen ≤ most → fold f seen links ≡ fold g seen links
   fold-agree most f g shrinks agree [] seen few = refl
   fold-agree most f g shrinks agree (c ∷ links) seen few =
       let here = shrinks seen c in
       ap (λ s. fold f s links) (agree seen c few) ∙ fold-agree most f g shrinks agree links (g seen c) (omega (arith, here, few))
 
-  visited-agree : (most : ℕ) (f g : Visit) → Shrinks g → AgreeUpTo most f g → (seen : List ℕ) (c : ℕ) → left seen ≤ suc most → (open_now : Bool) → is_open plan seen c ≡ open_now → cond open_now (fold f (seen ++ c ∷ []) (links_at plan c)) seen ≡ cond open_now (fold g (seen ++ c ∷ []) (links_at plan c)) seen
+  visited-agree : (most : ℕ) (f g : Visit) → Shrinks g → AgreeUpTo most f g → (seen : List ℕ) (c : ℕ) → unvisited_count seen ≤ suc most → (open_now : Bool) → is_open plan seen c ≡ open_now → cond open_now (fold f (seen ++ c ∷ []) (links_at plan c)) seen ≡ cond open_now (fold g (seen ++ c ∷ []) (links_at plan c)) seen
   visited-agree most f g shrinks agree seen c few true e =
-      let one_less = left-open seen c e in
+      let one_less = unvisited_count-open seen c e in
       fold-agree most f g shrinks agree (links_at plan c) (seen ++ c ∷ []) (omega (arith, one_less, few))
   visited-agree most f g shrinks agree seen c few false e = refl
 
-  none_open : (seen : List ℕ) (c : ℕ) → left seen ≤ zero → (open_now : Bool) → is_open plan seen c ≡ open_now → is_open plan seen c ≡ false
-  none_open seen c few true e = let one_less = left-open seen c e in absurd (omega (arith, one_less, few))
+  none_open : (seen : List ℕ) (c : ℕ) → unvisited_count seen ≤ zero → (open_now : Bool) → is_open plan seen c ≡ open_now → is_open plan seen c ≡ false
+  none_open seen c few true e = let one_less = unvisited_count-open seen c e in absurd (omega (arith, one_less, few))
   none_open seen c few false e = e
 
   -- where no more visits stand inside one another than contexts are left, only one family meets the steps

@@ -5,9 +5,9 @@ use Rattle.std.specs.Option.{option_and_then, option_map, option_map_or, option_
 use Rattle.std.specs.Ordering.{min_by_ordering}
 use Rattle.std.specs.declared.cmp.Ordering.{Ordering}
 use Rattle.std.specs.declared.cmp.Ordering.TheVariants.{Equal}
-use Rattle.dp_pattern.specs.Dashes.{undashed}
+use Rattle.dp_pattern.specs.Dashes.{without_dashes}
 use Rattle.dp_pattern.specs.Name.{Meaning}
-use Rattle.dp_pattern.specs.Walk.{walked, classes_of, tail_of, is_match, goes_on}
+use Rattle.dp_pattern.specs.Walk.{walk_after, classes_of, tail_of, is_match, goes_on}
 use Rattle.dp_plan.specs.Lookup.{entry_at}
 use Rattle.dp_plan.specs.Plan.{PlanOf, shares_label}
 use Rattle.dp_plan.specs.Ranking.{entry_cmp, ids_of}
@@ -16,11 +16,11 @@ use Rattle.dp_plan.specs.declared.entry.EntryId.{EntryId}
 
 -- whether the text matches the name
 abbrev pub matches_name : Meaning → List ℕ → Bool
-matches_name name text = is_match (tail_of name) (walked (classes_of name) (undashed text))
+matches_name name text = is_match (tail_of name) (walk_after (classes_of name) (without_dashes text))
 
 -- whether some ending makes the text match the name, which some text means and which has no tail `!`
 abbrev pub goes_on_from : Meaning → List ℕ → Bool
-goes_on_from name text = goes_on (tail_of name) (walked (classes_of name) (undashed text))
+goes_on_from name text = goes_on (tail_of name) (walk_after (classes_of name) (without_dashes text))
 
 -- whether the entry matches the text and has the priority
 abbrev pub has_priority : List ℕ → ℕ → Entry → Bool

@@ -1,4 +1,3 @@
-pub mod ContextOrders
 pub mod Found
 pub mod FoundEntry
 pub mod SearchOrder

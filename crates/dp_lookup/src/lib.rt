@@ -2,12 +2,10 @@
 //! goes through a context and then its includes, depth first, is this program's own choice, after the classic search.
 #![tactic(auto)]
 
-mod context_order;
 mod look_up;
 mod order;
 mod visit;
 
-pub use context_order::ContextOrder;
 pub use dp_plan::{Dialplan, EntryId, NoMemory, Text};
 pub use look_up::{
     could_be_more, exists, find, find_label, found_entry_is_the_least, found_label_is_of_the_least,

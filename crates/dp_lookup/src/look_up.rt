@@ -15,7 +15,7 @@ use dp_plan::{Dialplan, Entry, EntryId};
 
 /// What an entry is asked for, beside a text.
 #[derive(Clone, Copy)]
-enum Question<'a> {
+enum LookUp<'a> {
     /// That it matches the text and has this priority.
     Priority(u32),
     /// That it matches the text and has this label.
@@ -34,25 +34,20 @@ fn has_label(entry: &Entry, label: &[u8]) -> bool
 }
 
 /// Whether the entry is one that the question asks for.
-fn is_asked(question: Question<'_>, text: &[u8], entry: &Entry) -> bool
+fn is_asked(question: LookUp<'_>, text: &[u8], entry: &Entry) -> bool
     ensures { result ≡ asks question.entry text.now entry.now }
 {
     match question {
-        Question::Priority(priority) => {
+        LookUp::Priority(priority) => {
             entry.priority.get() == priority && matches(entry.name.name(), text)
         }
-        Question::Label(label) => has_label(entry, label) && matches(entry.name.name(), text),
-        Question::More => entry.priority.get() == 1 && could_match_more(entry.name.name(), text),
+        LookUp::Label(label) => has_label(entry, label) && matches(entry.name.name(), text),
+        LookUp::More => entry.priority.get() == 1 && could_match_more(entry.name.name(), text),
     }
 }
 
 /// The first of these entries that the question asks for.
-fn first_of(
-    plan: &Dialplan,
-    ids: &[EntryId],
-    question: Question<'_>,
-    text: &[u8],
-) -> Option<EntryId>
+fn first_of(plan: &Dialplan, ids: &[EntryId], question: LookUp<'_>, text: &[u8]) -> Option<EntryId>
     ensures { result ≡ lists.find (passes plan.now (asks question.entry text.now)) ids.now }
 {
     for id in ids {
@@ -66,7 +61,7 @@ fn first_of(
 }
 
 /// The least entry of the context of this number that the question asks for.
-fn find_in(plan: &Dialplan, number: usize, question: Question<'_>, text: &[u8]) -> Option<EntryId>
+fn find_in(plan: &Dialplan, number: usize, question: LookUp<'_>, text: &[u8]) -> Option<EntryId>
     ensures { result ≡ least plan.now (passing plan.now (asks question.entry text.now) number) }
 {
     first_of(plan, plan.ranked_at(number), question, text)
@@ -76,7 +71,7 @@ fn find_in(plan: &Dialplan, number: usize, question: Question<'_>, text: &[u8]) 
 fn find_first(
     plan: &Dialplan,
     order: &[usize],
-    question: Question<'_>,
+    question: LookUp<'_>,
     text: &[u8],
 ) -> Option<EntryId>
     ensures { result ≡ found_by plan.now (asks question.entry text.now) order.now }
@@ -104,7 +99,7 @@ pub fn find(plan: &Dialplan, order: &SearchOrder, text: &[u8], priority: u32) ->
         → IsFound plan.now order.now.contexts text.now priority b → a ≡ b }
 {
     plan.show_entries_known();
-    find_first(plan, order.contexts(), Question::Priority(priority), text)
+    find_first(plan, order.contexts(), LookUp::Priority(priority), text)
 }
 
 /// The priority of the entry of the order's contexts that matches the dialled text and has the label, or None where
@@ -119,7 +114,7 @@ pub fn find_label(plan: &Dialplan, order: &SearchOrder, text: &[u8], label: &[u8
     ensures once { (a b : ℕ) → IsFoundLabel plan.now order.now.contexts text.now label.now a
         → IsFoundLabel plan.now order.now.contexts text.now label.now b → a ≡ b }
 {
-    let id = find_first(plan, order.contexts(), Question::Label(label), text)?;
+    let id = find_first(plan, order.contexts(), LookUp::Label(label), text)?;
     let entry = plan.entry(id)?;
     Some(entry.priority.get())
 }
@@ -140,7 +135,7 @@ pub fn could_be_more(plan: &Dialplan, order: &SearchOrder, text: &[u8]) -> bool
     ensures value { result ≡ goes_on_more plan.now order.now.contexts text.now }
 {
     plan.show_entries_known();
-    find_first(plan, order.contexts(), Question::More, text).is_some()
+    find_first(plan, order.contexts(), LookUp::More, text).is_some()
 }
 
 /// What `found_entry` finds, in any dialplan: the least entry of the priority, and None exactly where there is none.

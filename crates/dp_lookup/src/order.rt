@@ -3,7 +3,7 @@ ghost use Rattle.std.specs.Prelude.{◌≡◌, ◌≤◌, [], false, length, rep
 ghost use Rattle.dp_plan.specs.Plan.{PlanOf};
 ghost use Rattle.dp_lookup.specs.SearchOrder.{context_count, visit, search_order, AreContexts, IsTheVisit};
 
-use crate::visit::{Frame, unmark, visit_all};
+use crate::visit::{ContextVisit, unmark, visit_all};
 use dp_plan::{Dialplan, NoMemory, Text};
 use std::alloc::Global;
 use std::marker::Model;
@@ -17,7 +17,7 @@ use std::marker::Model;
 pub struct SearchOrder {
     contexts: Vec<usize>,
     marks: Vec<bool>,
-    frames: Vec<Frame>,
+    frames: Vec<ContextVisit>,
 }
 
 impl Drop for SearchOrder {

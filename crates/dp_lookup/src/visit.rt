@@ -7,7 +7,7 @@ use dp_plan::{Dialplan, Text};
 
 /// A context whose includes are visited: those from this one on are still to come.
 #[derive(Clone, Copy)]
-pub(crate) struct Frame {
+pub(crate) struct ContextVisit {
     context: usize,
     next: usize,
 }
@@ -29,7 +29,7 @@ fn enter(
     number: usize,
     order: &mut Vec<usize>,
     marks: &mut [bool],
-    frames: &mut Vec<Frame>,
+    frames: &mut Vec<ContextVisit>,
 )
     requires context { number < context_count plan.now }
     requires marks { context_count plan.now ≤ length marks.old }
@@ -46,7 +46,7 @@ fn enter(
     if !marks[number] {
         marks[number] = true;
         order.push_reserved(number);
-        frames.push_reserved(Frame {
+        frames.push_reserved(ContextVisit {
             context: number,
             next: 0,
         });
@@ -54,7 +54,7 @@ fn enter(
 }
 
 /// Takes the next include that is still to come.
-fn next_include<'a>(plan: &'a Dialplan, frames: &mut Vec<Frame>) -> Option<&'a Text>
+fn next_include<'a>(plan: &'a Dialplan, frames: &mut Vec<ContextVisit>) -> Option<&'a Text>
     requires { vec_len frames.old ≤ vec_capacity frames.old }
     ensures next { MatchOption result (pending plan.now frames.old.items ≡ [])
         (λ name. pending plan.now frames.old.items ≡ link_of plan.now name.now ∷ pending plan.now frames.new.items) }
@@ -63,7 +63,7 @@ fn next_include<'a>(plan: &'a Dialplan, frames: &mut Vec<Frame>) -> Option<&'a T
 {
     while let Some(frame) = frames.pop() {
         if let Some(name) = plan.includes_at(frame.context).get(frame.next) {
-            frames.push_reserved(Frame {
+            frames.push_reserved(ContextVisit {
                 context: frame.context,
                 next: frame.next + 1,
             });
@@ -79,7 +79,7 @@ pub(crate) fn visit_all(
     number: usize,
     order: &mut Vec<usize>,
     marks: &mut [bool],
-    frames: &mut Vec<Frame>,
+    frames: &mut Vec<ContextVisit>,
 )
     requires context { number < context_count plan.now }
     requires empty { order.old.items ≡ [] }

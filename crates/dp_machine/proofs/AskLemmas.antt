@@ -4,7 +4,7 @@ use Rattle.std.proofs.lemmas.List.{set-get_or}
 use Rattle.std.proofs.lemmas.Option.{same_Some, slice_get_read}
 use Rattle.std.specs.declared.alloc.AllocError.{AllocError as NoMemory}
 use Rattle.dp_app.specs.Rows.{Rows}
-use Rattle.dp_machine.specs.Events.{Own, asked_event, own_event, own_row, owned, is_refused_at_once}
+use Rattle.dp_machine.specs.Events.{Own, asked_event, own_event, own_row, world_with_own, is_refused_at_once}
 use Rattle.dp_machine.specs.steps.Follows.{Follows, Makes}
 use Rattle.dp_machine.specs.GoodWorld.{IsGoodWorld, IsSoundAsked, IsSoundAfter, MayAct}
 use Rattle.dp_machine.specs.World.{World, channel_at, world_in, world_of}
@@ -50,7 +50,7 @@ module _ (before : Exchange) (channels : List Channel) (number index : ℕ) (c :
     own = own_row rows asked before.plan before.shared number c
 
     -- what its row says of the world
-    asked_here : asked_event rows w number asked ≡ owned w number own
+    asked_here : asked_event rows w number asked ≡ world_with_own w number own
     asked_here = ap (own_event w number (own_row rows asked)) here
 
     -- what its row makes of it, it makes of the world
@@ -60,7 +60,7 @@ module _ (before : Exchange) (channels : List Channel) (number index : ℕ) (c :
           let written : slice_set channels (number - 1) d ≡ slice_set channels index d = ap (λ i. slice_set channels i d) before_number in
           let world : world_of before.plan (slice_set channels (number - 1) d) after.shared ≡ beyond
           = (λ i. world_of (sym follows.plan i) (written i) after.shared) in
-          asked_here ∙ (ap (owned w number) follows.ok ∙ ap (λ (v : World). (v, reply)) world);
+          asked_here ∙ (ap (world_with_own w number) follows.ok ∙ ap (λ (v : World). (v, reply)) world);
       err = tt;
       refused = tt;
     }

@@ -2,11 +2,11 @@
 use Rattle.std.proofs.Common.{◌≡◌, ℕ, zero, suc, ◌+◌, ◌-◌, ◌==◌, nat_lt, Bool, true, false, not, List, [], ◌∷◌, ◌++◌, Option, Some, None, length, map, slice_get, if◌then◌else◌, refl, sym, ap, subst, ◌∙◌, arith, filter, zip, get_or, drop}
 use Rattle.std.specs.Prelude.{◌≢◌}
 use Rattle.std.proofs.lemmas.List.{length-append}
-use Rattle.dp_plan.specs.Loaded.{loaded}
+use Rattle.dp_plan.specs.Loaded.{plan_and_notes}
 use Rattle.dp_plan.specs.Plan.{PlanOf}
 use Rattle.dp_app.specs.Rows.{Rows}
-use Rattle.dp_machine.specs.Channels.{changed}
-use Rattle.dp_machine.specs.Events.{Own, Served, agent_done, agent_event, answered, declined, dial_result_row, digit_row, entered, event_row, hang_up_row, offered, opened, own_event, poll_row, served_channels, started, step_row, timeout_row}
+use Rattle.dp_machine.specs.Channels.{after_change}
+use Rattle.dp_machine.specs.Events.{Own, Served, agent_done, agent_event, serve_answer, serve_decline, dial_result_row, digit_row, world_with_call, event_row, hang_up_row, serve_offer, new_channel, own_event, poll_row, served_channels, start_call, step_row, timeout_row}
 use Rattle.dp_machine.specs.Isolation.{AreSameBut, IsUnseen, IsPrivate, is_of, replies_without, without}
 use Rattle.dp_machine.specs.Reloading.{plan_in, reloaded_by, shared_with}
 use Rattle.dp_machine.specs.Replay.{replies_to, world_after, final_world}
@@ -17,7 +17,7 @@ use Rattle.dp_machine.specs.declared.event.Event.TheVariants.{Start, Step, Digit
 use Rattle.dp_machine.specs.declared.refusal.Refusal.TheVariants.{NumbersSpent}
 use Rattle.dp_machine.specs.declared.reply.Reply.{Reply}
 use Rattle.dp_machine.specs.declared.reply.Reply.TheVariants.{Refused, Started}
-use Rattle.dp_machine.specs.declared.shared.Shared.{Shared}
+use Rattle.dp_machine.specs.declared.shared_state.SharedState.{SharedState}
 use Rattle.dp_machine.proofs.TieLemmas.{apart, by_number, channel_at-other, channel_at-same, length-set_at}
 use borrow.Author.Tests.{eqb-true}
 
@@ -88,11 +88,11 @@ record Alike (number : ℕ) (a b : World × Reply) : Type 0 where
   reply : a.1 ≡ b.1
   world : AreSameBut number a.0 b.0
 
-same_worlds : (number : ℕ) (plan : PlanOf) (shared : Shared) (xs ys : List Channel) → SameOthers number xs ys
+same_worlds : (number : ℕ) (plan : PlanOf) (shared : SharedState) (xs ys : List Channel) → SameOthers number xs ys
     → AreSameBut number (world_of plan xs shared) (world_of plan ys shared)
 same_worlds number plan shared xs ys same = record { plan = refl; shared = refl; count = same.count; others = same.others }
 
-module _ (number : ℕ) (plan : PlanOf) (shared : Shared) (xs ys : List Channel) (same : SameOthers number xs ys) where
+module _ (number : ℕ) (plan : PlanOf) (shared : SharedState) (xs ys : List Channel) (same : SameOthers number xs ys) where
   abbrev v : World
   v = world_of plan xs shared
 
@@ -100,24 +100,24 @@ module _ (number : ℕ) (plan : PlanOf) (shared : Shared) (xs ys : List Channel)
   w = world_of plan ys shared
 
   -- a call comes in
-  alike-started : (context exten caller : List ℕ) → Alike number (entered v (started xs context exten caller)) (entered w (started ys context exten caller))
-  unfolding started
-  alike-started context exten caller =
+  alike-start_call : (context exten caller : List ℕ) → Alike number (world_with_call v (start_call xs context exten caller)) (world_with_call w (start_call ys context exten caller))
+  unfolding start_call
+  alike-start_call context exten caller =
       subst (λ n. Alike number (by_count n xs) (by_count (length ys) ys)) (sym same.count) (by (nat_lt (length ys) most_channels))
     where
       by_test : Bool → ℕ → List Channel → World × Reply
-      by_test b n zs = entered (world_of plan zs shared) (if b then (record { channels = zs ++ opened context exten caller ∷ []; reply = Started (n + 1) })
+      by_test b n zs = world_with_call (world_of plan zs shared) (if b then (record { channels = zs ++ new_channel context exten caller ∷ []; reply = Started (n + 1) })
           else (record { channels = zs; reply = Refused NumbersSpent }))
 
       by_count : ℕ → List Channel → World × Reply
       by_count n zs = by_test (nat_lt n most_channels) n zs
 
       by : (b : Bool) → Alike number (by_test b (length ys) xs) (by_test b (length ys) ys)
-      by true = record { reply = refl; world = same_worlds number plan shared _ _ (same_more number xs ys (opened context exten caller) same) }
+      by true = record { reply = refl; world = same_worlds number plan shared _ _ (same_more number xs ys (new_channel context exten caller) same) }
       by false = record { reply = refl; world = same_worlds number plan shared xs ys same }
 
   -- an event of another channel
-  alike-own : (other : ℕ) (row : PlanOf → Shared → ℕ → Channel → Own) → (other == number) ≡ false
+  alike-own : (other : ℕ) (row : PlanOf → SharedState → ℕ → Channel → Own) → (other == number) ≡ false
       → Alike number (own_event v other row (channel_at xs other)) (own_event w other row (channel_at ys other))
   alike-own other row differs =
       subst (λ o. Alike number (own_event v other row (channel_at xs other)) (own_event w other row o)) one (by (channel_at xs other) refl (sym one))
@@ -137,14 +137,14 @@ module _ (number : ℕ) (plan : PlanOf) (shared : Shared) (xs ys : List Channel)
     where
       own : (u : World) (o : Option Channel) → channel_at u.channels s.who ≡ o → SameOthers s.who (served_channels u s o) u.channels
       own u None here = same_all s.who u.channels
-      own u (Some c) here = same_own u.channels s.who c (changed u.plan s.change c) here
+      own u (Some c) here = same_own u.channels s.who c (after_change u.plan s.change c) here
 
       here : (u : World) → s.who ≡ number → SameOthers number (served_channels u s (channel_at u.channels s.who)) u.channels
       here u is = subst (λ n. SameOthers n (served_channels u s (channel_at u.channels s.who)) u.channels) is (own u (channel_at u.channels s.who) refl)
 
       both : (o : Option Channel) → channel_at xs s.who ≡ o → channel_at ys s.who ≡ o → SameOthers number (served_channels v s o) (served_channels w s o)
       both None first second = same
-      both (Some c) first second = same_both number s.who xs ys c (changed plan s.change c) same first second
+      both (Some c) first second = same_both number s.who xs ys c (after_change plan s.change c) same first second
 
       by : (b : Bool) → (s.who == number) ≡ b → SameOthers number (served_channels v s (channel_at xs s.who)) (served_channels w s (channel_at ys s.who))
       by true is =
@@ -165,18 +165,18 @@ module _ (number : ℕ) (plan : PlanOf) (shared : Shared) (xs ys : List Channel)
 
   -- each event that is not of the channel
   alike-row : (rows : Rows) (event : Event) → is_of number event ≡ false → Alike number (event_row rows v event) (event_row rows w event)
-  alike-row rows (Start context exten caller) other = alike-started context exten caller
+  alike-row rows (Start context exten caller) other = alike-start_call context exten caller
   alike-row rows (Step channel) other = alike-own channel (step_row rows) other
   alike-row rows (Digit channel digit) other = alike-own channel (digit_row digit) other
   alike-row rows (Timeout channel) other = alike-own channel timeout_row other
   alike-row rows (Poll channel) other = alike-own channel poll_row other
   alike-row rows (Hangup channel) other = alike-own channel hang_up_row other
   alike-row rows (DialResult channel status) other = alike-own channel (dial_result_row status) other
-  alike-row rows (Offer queue) other = alike-agent (offered shared queue)
-  alike-row rows (Answer agent) other = alike-agent (answered shared agent)
-  alike-row rows (Decline agent) other = alike-agent (declined shared agent)
+  alike-row rows (Offer queue) other = alike-agent (serve_offer shared queue)
+  alike-row rows (Answer agent) other = alike-agent (serve_answer shared agent)
+  alike-row rows (Decline agent) other = alike-agent (serve_decline shared agent)
   alike-row rows (AgentDone agent) other = alike-agent (agent_done shared agent)
-  alike-row rows (Reload text) other = alike-reloaded (plan_in (loaded text))
+  alike-row rows (Reload text) other = alike-reloaded (plan_in (plan_and_notes text))
 
 -- an event that is not of the channel has the same reply in both worlds, and leaves them so
 alike-event : (rows : Rows) (number : ℕ) (v w : World) (event : Event) → is_of number event ≡ false → AreSameBut number v w
@@ -186,7 +186,7 @@ alike-event rows number v w event other same =
     (alike-row number v.plan v.shared v.channels w.channels (record { count = same.count; others = same.others }) rows event other)
 
 -- a channel's own event changes no other channel
-own-alone : (w : World) (number other : ℕ) (row : PlanOf → Shared → ℕ → Channel → Own) → (other == number) ≡ true
+own-alone : (w : World) (number other : ℕ) (row : PlanOf → SharedState → ℕ → Channel → Own) → (other == number) ≡ true
     → SameOthers number (own_event w other row (channel_at w.channels other)).0.channels w.channels
 own-alone w number other row is =
     subst (λ n. SameOthers n (own_event w other row (channel_at w.channels other)).0.channels w.channels) (eqb-true other number is) (by (channel_at w.channels other) refl)

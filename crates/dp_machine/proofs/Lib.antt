@@ -1,7 +1,6 @@
 pub mod AskLemmas
 pub mod IsolationLemmas
 pub mod LookupLemmas
-pub mod OrdersLemmas
 pub mod RefusedLemmas
 pub mod ReplayLemmas
 pub mod ServedLemmas

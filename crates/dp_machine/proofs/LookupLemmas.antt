@@ -12,7 +12,7 @@ use Rattle.dp_conf.specs.Numbers.{most_priority}
 use Rattle.dp_plan.specs.declared.entry.Entry.{Entry}
 use Rattle.dp_plan.specs.declared.entry.EntryId.{EntryId}
 use Rattle.dp_app.specs.declared.place.Place.{Place}
-use Rattle.dp_machine.specs.Found.{Located, entry_found, id_at, id_found, located}
+use Rattle.dp_machine.specs.Found.{Located, entry_found, id_at, id_found, located_entry}
 
 -- it is the least of those that are asked for
 least_at : (plan : PlanOf) (place : Place) (id : EntryId) → id_at plan place ≡ Some id
@@ -45,12 +45,12 @@ pub found_there : (plan : PlanOf) (place : Place) (id : EntryId) (entry : Entry)
     → entry_found plan place ≡ Some (record { id = id; entry = entry })
 unfolding entry_found id_found
 found_there plan place id entry found there =
-    ap (option_and_then (located plan)) found ∙ ap (option_map (λ (e : Entry). record { id = id; entry = e })) (sym there)
+    ap (option_and_then (located_entry plan)) found ∙ ap (option_map (λ (e : Entry). record { id = id; entry = e })) (sym there)
 
 -- no numbers, no entry
 pub not_found : (plan : PlanOf) (place : Place) → id_at plan place ≡ None → entry_found plan place ≡ None
 unfolding entry_found id_found
-not_found plan place none = ap (option_and_then (located plan)) none
+not_found plan place none = ap (option_and_then (located_entry plan)) none
 
 -- the numbers of the entry at a place
 pub located_id : (plan : PlanOf) (place : Place) → option_map (λ (found : Located). found.id) (entry_found plan place) ≡ id_at plan place

@@ -2,7 +2,7 @@
 use Rattle.std.proofs.Common.{◌≡◌, ℕ, zero, suc, ◌-◌, ◌+◌, ◌++◌, ◌==◌, nat_lt, length, Bool, true, false, ◌||◌, List, [], ◌∷◌, Option, Some, None, Result, Ok, Err, IfOk, slice_get, slice_set, if◌then◌else◌, refl, sym, ap, ◌∙◌}
 use Rattle.std.specs.declared.alloc.AllocError.{AllocError as NoMemory}
 use Rattle.std.proofs.lemmas.Option.{none-some, same_Some}
-use Rattle.dp_plan.specs.Loaded.{loaded}
+use Rattle.dp_plan.specs.Loaded.{plan_and_notes}
 use Rattle.dp_plan.specs.Plan.{PlanOf}
 use Rattle.dp_queue.specs.Agents.{agent_number, state_at}
 use Rattle.dp_queue.specs.Calls.{answer_row_at, decline_row_at, done_row_at}
@@ -33,16 +33,16 @@ use Rattle.dp_machine.specs.declared.event.Event.TheVariants.{Start, Step, Digit
 use Rattle.dp_machine.specs.declared.refusal.Refusal.TheVariants.{BadDigit, NotRinging, NumbersSpent}
 use Rattle.dp_machine.specs.declared.reply.Reply.{Reply}
 use Rattle.dp_machine.specs.declared.reply.Reply.TheVariants.{Done, Invalid, NoEntry, Refused, Started}
-use Rattle.dp_machine.specs.declared.shared.Shared.{Shared}
+use Rattle.dp_machine.specs.declared.shared_state.SharedState.{SharedState}
 
 not_refused : {X : Type 0} → false ≡ true → X
 not_refused e = absurd cc
 
 -- a refusal leaves the channel and what all channels share
-abbrev OwnKept : Shared → Channel → Own → Type 0
+abbrev OwnKept : SharedState → Channel → Own → Type 0
 OwnKept shared c own = is_refused own.reply ≡ true → (own.channel ≡ c) × (own.shared ≡ shared)
 
-module _ (plan : PlanOf) (shared : Shared) (number : ℕ) (c : Channel) where
+module _ (plan : PlanOf) (shared : SharedState) (number : ℕ) (c : Channel) where
   unfound_by : (b : Bool) → OwnKept shared c (if◌then◌else◌ {A = Own} b
       (record { channel = invalid c; shared = shared; reply = Invalid }) (record { channel = hung_up plan c; shared = shared; reply = NoEntry }))
   unfound_by true = λ h. not_refused h
@@ -164,7 +164,7 @@ with_channel-same channels number c here = by (number == 0) here
 abbrev IsKept : World → World × Reply → Type 0
 IsKept w after = is_refused after.1 ≡ true → after.0 ≡ w
 
-owned_kept : (w : World) (number : ℕ) (c : Channel) (own : Own) → channel_at w.channels number ≡ Some c → OwnKept w.shared c own → IsKept w (spec.owned w number own)
+owned_kept : (w : World) (number : ℕ) (c : Channel) (own : Own) → channel_at w.channels number ≡ Some c → OwnKept w.shared c own → IsKept w (spec.world_with_own w number own)
 owned_kept w number c own here kept h =
     let same : (own.channel ≡ c) × (own.shared ≡ w.shared) = kept h in
     λ i. record { plan = w.plan; channels = (ap (with_channel w.channels number) same.0 ∙ with_channel-same w.channels number c here) i; shared = same.1 i }
@@ -182,19 +182,19 @@ offer_by : (w : World) (queues : QueuesOf) (found : Result Rung OfferFault) → 
 offer_by w queues (Err fault) same = λ h. ap (λ q. record w { shared = spec.with_queues w.shared q }) (same fault refl)
 offer_by w queues (Ok offered) same = λ h. not_refused h
 
-offer_kept : (w : World) (queue : List ℕ) → IsKept w (spec.agent_event w (spec.offered w.shared queue))
-unfolding spec.offered
+offer_kept : (w : World) (queue : List ℕ) → IsKept w (spec.agent_event w (spec.serve_offer w.shared queue))
+unfolding spec.serve_offer
 offer_kept w queue = offer_by w (offer_row w.shared.queues queue).0 (offer_row w.shared.queues queue).1 (offer-refused w.shared.queues queue)
 
 -- an answer that is refused, by the agent's state
 answer_by : (w : World) (a : ℕ) (s : AgentState)
-    → IsKept w (spec.agent_event w (spec.met (spec.with_queues w.shared (answer_row_at w.shared.queues a s).0) (answer_row_at w.shared.queues a s).1))
+    → IsKept w (spec.agent_event w (spec.begin_talk (spec.with_queues w.shared (answer_row_at w.shared.queues a s).0) (answer_row_at w.shared.queues a s).1))
 answer_by w a Idle = λ h. refl
 answer_by w a (agent_rings queue channel) = λ h. not_refused h
 answer_by w a (agent_talks queue channel) = λ h. refl
 
-answer_kept : (w : World) (agent : List ℕ) → IsKept w (spec.agent_event w (spec.answered w.shared agent))
-unfolding spec.answered
+answer_kept : (w : World) (agent : List ℕ) → IsKept w (spec.agent_event w (spec.serve_answer w.shared agent))
+unfolding spec.serve_answer
 answer_kept w agent = answer_by w (agent_number w.shared.queues.agents agent) (state_at w.shared.queues.agents (agent_number w.shared.queues.agents agent))
 
 -- one who declines nothing
@@ -204,13 +204,13 @@ decline_by w a Idle = λ h. refl
 decline_by w a (agent_rings queue channel) = λ h. not_refused h
 decline_by w a (agent_talks queue channel) = λ h. refl
 
-decline_kept : (w : World) (agent : List ℕ) → IsKept w (spec.agent_event w (spec.declined w.shared agent))
-unfolding spec.declined
+decline_kept : (w : World) (agent : List ℕ) → IsKept w (spec.agent_event w (spec.serve_decline w.shared agent))
+unfolding spec.serve_decline
 decline_kept w agent = decline_by w (agent_number w.shared.queues.agents agent) (state_at w.shared.queues.agents (agent_number w.shared.queues.agents agent))
 
 -- one who is done with nothing
 done_by : (w : World) (a : ℕ) (s : AgentState)
-    → IsKept w (spec.agent_event w (spec.parted (spec.with_queues w.shared (done_row_at w.shared.queues a s).0) (done_row_at w.shared.queues a s).1))
+    → IsKept w (spec.agent_event w (spec.end_talk (spec.with_queues w.shared (done_row_at w.shared.queues a s).0) (done_row_at w.shared.queues a s).1))
 done_by w a Idle = λ h. refl
 done_by w a (agent_rings queue channel) = λ h. refl
 done_by w a (agent_talks queue channel) = λ h. not_refused h
@@ -221,14 +221,14 @@ done_kept w agent = done_by w (agent_number w.shared.queues.agents agent) (state
 
 -- a call that is not let in
 start_by : (w : World) (context exten caller : List ℕ) (b : Bool)
-    → IsKept w (spec.entered w (if◌then◌else◌ {A = spec.Entered} b
-    (record { channels = w.channels ++ spec.opened context exten caller ∷ []; reply = Started (length w.channels + 1) })
+    → IsKept w (spec.world_with_call w (if◌then◌else◌ {A = spec.Entered} b
+    (record { channels = w.channels ++ spec.new_channel context exten caller ∷ []; reply = Started (length w.channels + 1) })
     (record { channels = w.channels; reply = Refused NumbersSpent })))
 start_by w context exten caller true = λ h. not_refused h
 start_by w context exten caller false = λ h. refl
 
-start_kept : (w : World) (context exten caller : List ℕ) → IsKept w (spec.entered w (spec.started w.channels context exten caller))
-unfolding spec.started
+start_kept : (w : World) (context exten caller : List ℕ) → IsKept w (spec.world_with_call w (spec.start_call w.channels context exten caller))
+unfolding spec.start_call
 start_kept w context exten caller = start_by w context exten caller (nat_lt (length w.channels) most_channels)
 
 -- a dialplan with a fault
@@ -249,7 +249,7 @@ refused-kept rows w (Offer queue) = offer_kept w queue
 refused-kept rows w (Answer agent) = answer_kept w agent
 refused-kept rows w (Decline agent) = decline_kept w agent
 refused-kept rows w (AgentDone agent) = done_kept w agent
-refused-kept rows w (Reload text) = reload_by w (plan_in (loaded text))
+refused-kept rows w (Reload text) = reload_by w (plan_in (plan_and_notes text))
 
 -- so what an event answers says whether it changed anything
 pub refused_after : (rows : Rows) (w after : World) (event : Event) (result : Result Reply NoMemory)

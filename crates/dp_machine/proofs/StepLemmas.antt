@@ -1,22 +1,21 @@
 -- What a lawful table leaves of a channel that takes a step.
-use Rattle.std.proofs.Common.{◌≡◌, ◌≤◌, if◌then◌else◌, codes, ℕ, Bool, true, false, List, length, Option, Some, None, Result, Ok, Err, IfOk, OnErr, refl, sym, ap, subst, ◌∙◌, rules}
-use Rattle.std.specs.declared.alloc.AllocError.{AllocError as NoMemory}
+use Rattle.std.proofs.Common.{◌≡◌, ◌≤◌, if◌then◌else◌, codes, ℕ, Bool, true, false, List, length, Option, Some, None, Ok, refl, sym, ap, subst, ◌∙◌}
 use Rattle.dp_plan.specs.Plan.{PlanOf}
 use Rattle.dp_plan.specs.declared.entry.Entry.{Entry}
 use Rattle.dp_plan.specs.declared.entry.EntryId.{EntryId}
 use Rattle.dp_app.specs.Lawful.{ParksNowhere, IsLawful, IsLawfulRow, MayGo, MayPark, MayRun}
 use Rattle.dp_conf.specs.Numbers.{most_priority}
-use Rattle.dp_app.specs.Rows.{Row, Rows, dispatched}
-use Rattle.dp_app.specs.declared.cell.Cell.{Cell}
+use Rattle.dp_app.specs.Rows.{Row, Rows, after_dispatch}
+use Rattle.dp_app.specs.Cells.{CellOf}
 use Rattle.dp_app.specs.declared.moves.Move.{Move}
 use Rattle.dp_app.specs.declared.moves.Move.TheVariants.{Next, Jump, Park, Hang}
 use Rattle.dp_app.specs.declared.phase.Phase.{Phase}
 use Rattle.dp_app.specs.declared.phase.Phase.TheVariants.{Ready, Digits, Pause, Queued, Talking, Dialling, Ended}
 use Rattle.dp_app.specs.declared.place.Place.{Place}
 use Rattle.dp_app.specs.declared.touch.Touch.{Touch}
-use Rattle.dp_machine.specs.Channels.{hung_up, invalid, is_invalid, landed, moved, ready_in, runs_hang_up, went, without_frames}
-use Rattle.dp_machine.specs.Events.{Applied, Own, applied, cell_of, is_refused_at_once, ran, step_at, unfound}
-use Rattle.dp_machine.specs.steps.Follows.{Follows, Runs}
+use Rattle.dp_machine.specs.Channels.{hung_up, invalid, is_invalid, at_target, after_move, ready_in, runs_hang_up, after_application, without_frames}
+use Rattle.dp_machine.specs.Events.{Applied, Own, application_outcome, cell_of, is_refused_at_once, after_run, step_at, unfound}
+use Rattle.dp_machine.specs.steps.Follows.{Follows}
 use Rattle.dp_machine.specs.Found.{Located, entry_found}
 use Rattle.dp_machine.specs.GoodWorld.{IsSoundIn, MayAct, queue_in, talk_in}
 use Rattle.dp_machine.specs.Seen.{arguments_seen}
@@ -24,57 +23,15 @@ use Rattle.dp_machine.specs.Targets.{target_place}
 use Rattle.dp_machine.specs.declared.channel.Channel.{Channel}
 use Rattle.dp_machine.specs.declared.exchange.Exchange.{Exchange}
 use Rattle.dp_machine.specs.declared.reply.Reply.TheVariants.{Invalid, NoEntry, Ran}
-use Rattle.dp_machine.specs.declared.shared.Shared.{Shared}
+use Rattle.dp_machine.specs.declared.shared_state.SharedState.{SharedState}
 
 -- the channel after an application is sound where it goes
 abbrev pub IsSoundAfter : PlanOf → Applied → Type 0
-IsSoundAfter plan beyond = IsSoundIn (went plan beyond.channel beyond.going).phase (went plan beyond.channel beyond.going)
+IsSoundAfter plan beyond = IsSoundIn (after_application plan beyond.channel beyond.going).phase (after_application plan beyond.channel beyond.going)
 
 -- a row that may be lacking is lawful, where it is there
 abbrev pub IsLawfulAt : Touch → Option Row → Type 0
 IsLawfulAt touch row = (meaning : Row) → row ≡ Some meaning → IsLawfulRow touch meaning
-
--- an application leaves its channel's place
-pub place_dispatched : (touch : Touch) (row : Option Row) → IsLawfulAt touch row → (arguments : List ℕ) (cell : Cell)
-    → (dispatched row arguments cell).0.place ≡ cell.place
-place_dispatched touch None lawful arguments cell = refl
-place_dispatched touch (Some row) lawful arguments cell = ((lawful row refl).keeps arguments cell).place
-
--- so the place after it is the place before it
-pub place_kept : (touches : List ℕ → Touch) (rows : Rows) → IsLawful touches rows → (name arguments : List ℕ) (cell beyond : Cell) (going : Option Move)
-    → dispatched (rows name) arguments cell ≡ (beyond, going) → beyond.place ≡ cell.place
-place_kept touches rows lawful name arguments cell beyond going e =
-    sym (ap (λ b. b.0.place) e) ∙ place_dispatched (touches name) (rows name) (lawful name) arguments cell
-
--- a channel with the parts of a cell that an application may change, at its own place
-pub channel_applied : (c emptied now : Channel) (beyond : Cell) → emptied.phase ≡ c.phase → emptied.is_closing ≡ c.is_closing → beyond.place ≡ c.place
-    → now ≡ record emptied { place = beyond.place; caller = beyond.caller; store = beyond.store }
-    → now ≡ record c { caller = beyond.caller; store = beyond.store }
-channel_applied c emptied now beyond phase closing place e =
-    e ∙ (let r : record emptied { place = beyond.place; caller = beyond.caller; store = beyond.store } ≡ record c { caller = beyond.caller; store = beyond.store } = search rules in r)
-
--- what an application leaves of the cell that was taken, put back
-pub applied_kept : (touches : List ℕ → Touch) (rows : Rows) → IsLawful touches rows → (name arguments : List ℕ) (shared : Shared) (number : ℕ) (c : Channel)
-    → (taken beyond : Cell) → taken ≡ cell_of shared number c → (now : Channel) (shared_now : Shared)
-    → (beyond.place ≡ c.place → now ≡ record c { caller = beyond.caller; store = beyond.store })
-    → shared_now ≡ record { globals = beyond.globals; queues = beyond.queues }
-    → (result : Result (Option Move) NoMemory) → IfOk result (λ going. dispatched (rows name) arguments taken ≡ (beyond, going))
-    → OnErr result (beyond ≡ taken)
-    → Runs (dispatched (rows name) arguments (cell_of shared number c)) shared shared_now c now result
-applied_kept touches rows lawful name arguments shared number c taken beyond same now shared_now channel_put shared_put (Ok going) ok err =
-    let place : taken.place ≡ c.place = ap (λ cell. cell.place) same in
-    let channel : record c { caller = beyond.caller; store = beyond.store } ≡ now
-    = sym (channel_put (place_kept touches rows lawful name arguments taken beyond going ok ∙ place)) in
-    let rest : record { globals = beyond.globals; queues = beyond.queues } ≡ shared_now = sym shared_put in
-    let all : applied c (beyond, going) ≡ record { channel = now; shared = shared_now; going = going } = search (rules, channel, rest) in
-    record { ok = ap (λ cell. applied c (dispatched (rows name) arguments cell)) (sym same) ∙ ap (applied c) ok ∙ all; channel = tt; shared = tt }
-applied_kept touches rows lawful name arguments shared number c taken beyond same now shared_now channel_put shared_put (Err e) ok err =
-    let is : beyond ≡ cell_of shared number c = err ∙ same in
-    record {
-      ok = tt;
-      channel = channel_put (ap (λ cell. cell.place) is) ∙ ap (λ (cell : Cell). record c { caller = cell.caller; store = cell.store }) is;
-      shared = shared_put ∙ ap (λ (cell : Cell). record { globals = cell.globals; queues = cell.queues }) is;
-    }
 
 -- a channel that is hung up is sound
 hung_up_sound_by : (runs : Bool) (c closed : Channel) → closed.phase ≡ Ready
@@ -87,7 +44,7 @@ unfolding hung_up
 hung_up_sound plan c = hung_up_sound_by (runs_hang_up plan c) c (record (ready_in (without_frames c) (codes "h")) { is_closing = true }) refl
 
 -- and so is one that lands at a place, or nowhere
-pub landed_sound : (plan : PlanOf) (c : Channel) (place : Option Place) → IsSoundIn (landed plan c place).phase (landed plan c place)
+pub landed_sound : (plan : PlanOf) (c : Channel) (place : Option Place) → IsSoundIn (at_target plan c place).phase (at_target plan c place)
 landed_sound plan c None = hung_up_sound plan c
 landed_sound plan c (Some place) = tt
 
@@ -109,58 +66,58 @@ closed_false false phase closes = refl
 
 -- a channel that an application sends somewhere by the laws is sound
 pub moved_sound : (plan : PlanOf) (count : ℕ) (c : Channel) (going : Move) → MayGo count going → (c.is_closing ≡ true → ParksNowhere going)
-    → c.place.priority ≤ most_priority → IsSoundIn (moved plan c going).phase (moved plan c going)
+    → c.place.priority ≤ most_priority → IsSoundIn (after_move plan c going).phase (after_move plan c going)
 moved_sound plan count c Next may closes within = tt
 moved_sound plan count c (Jump target) may closes within = landed_sound plan c (target_place plan c.place target)
 moved_sound plan count c (Park phase) may closes within = parked_sound count phase c may within (closed_false c.is_closing phase closes)
 moved_sound plan count c Hang may closes within = hung_up_sound plan c
 
 -- a channel that ran an application is sound where it goes
-applied_sound : (plan : PlanOf) (touch : Touch) (row : Option Row) → IsLawfulAt touch row → (arguments : List ℕ) (shared : Shared) (number : ℕ) (c : Channel)
-    → c.place.priority ≤ most_priority → IsSoundAfter plan (applied c (dispatched row arguments (cell_of shared number c)))
+applied_sound : (plan : PlanOf) (touch : Touch) (row : Option Row) → IsLawfulAt touch row → (arguments : List ℕ) (shared : SharedState) (number : ℕ) (c : Channel)
+    → c.place.priority ≤ most_priority → IsSoundAfter plan (application_outcome c (after_dispatch row arguments (cell_of shared number c)))
 applied_sound plan touch None lawful arguments shared number c within = hung_up_sound plan c
 applied_sound plan touch (Some row) lawful arguments shared number c within =
     let laws : IsLawfulRow touch row = lawful row refl in
-    let cell : Cell = cell_of shared number c in
-    moved_sound plan (length shared.queues.queues) (applied c (dispatched (Some row) arguments cell)).channel (row arguments cell).next
+    let cell : CellOf = cell_of shared number c in
+    moved_sound plan (length shared.queues.queues) (application_outcome c (after_dispatch (Some row) arguments cell)).channel (row arguments cell).next
     (laws.parks arguments cell) (laws.closes arguments cell) within
 
-pub went_sound : (touches : List ℕ → Touch) (rows : Rows) → IsLawful touches rows → (plan : PlanOf) (name arguments : List ℕ) (shared : Shared) (number : ℕ) (c : Channel)
-    → c.place.priority ≤ most_priority → (beyond : Applied) → applied c (dispatched (rows name) arguments (cell_of shared number c)) ≡ beyond
-    → (now : Channel) → now ≡ went plan beyond.channel beyond.going → IsSoundIn now.phase now
-went_sound touches rows lawful plan name arguments shared number c within beyond ran now gone =
+pub went_sound : (touches : List ℕ → Touch) (rows : Rows) → IsLawful touches rows → (plan : PlanOf) (name arguments : List ℕ) (shared : SharedState) (number : ℕ) (c : Channel)
+    → c.place.priority ≤ most_priority → (beyond : Applied) → application_outcome c (after_dispatch (rows name) arguments (cell_of shared number c)) ≡ beyond
+    → (now : Channel) → now ≡ after_application plan beyond.channel beyond.going → IsSoundIn now.phase now
+went_sound touches rows lawful plan name arguments shared number c within beyond after_run now gone =
     subst (λ n. IsSoundIn n.phase n) (sym gone)
-    (subst (IsSoundAfter plan) ran (applied_sound plan (touches name) (rows name) (lawful name) arguments shared number c within))
+    (subst (IsSoundAfter plan) after_run (applied_sound plan (touches name) (rows name) (lawful name) arguments shared number c within))
 
 -- a step where no entry is found is not refused
-unfound_taken_by : (invalid : Bool) (went other : Own) → is_refused_at_once went.reply ≡ false → is_refused_at_once other.reply ≡ false
-    → is_refused_at_once (if invalid then went else other).reply ≡ false
-unfound_taken_by true went other a b = a
-unfound_taken_by false went other a b = b
+unfound_taken_by : (invalid : Bool) (after_application other : Own) → is_refused_at_once after_application.reply ≡ false → is_refused_at_once other.reply ≡ false
+    → is_refused_at_once (if invalid then after_application else other).reply ≡ false
+unfound_taken_by true after_application other a b = a
+unfound_taken_by false after_application other a b = b
 
-pub unfound_taken : (plan : PlanOf) (shared : Shared) (c : Channel) → is_refused_at_once (unfound plan shared c).reply ≡ false
+pub unfound_taken : (plan : PlanOf) (shared : SharedState) (c : Channel) → is_refused_at_once (unfound plan shared c).reply ≡ false
 unfolding unfound
 unfound_taken plan shared c =
     unfound_taken_by (is_invalid plan c.place) (record { channel = invalid c; shared = shared; reply = Invalid })
     (record { channel = hung_up plan c; shared = shared; reply = NoEntry }) refl refl
 
 -- nor is one that finds its entry
-pub found_taken : (rows : Rows) (plan : PlanOf) (shared : Shared) (number : ℕ) (c : Channel) (found : Option Located)
+pub found_taken : (rows : Rows) (plan : PlanOf) (shared : SharedState) (number : ℕ) (c : Channel) (found : Option Located)
     → is_refused_at_once (step_at rows plan shared number c found).reply ≡ false
 found_taken rows plan shared number c None = unfound_taken plan shared c
 found_taken rows plan shared number c (Some found) = refl
 
 -- a step that finds its entry, runs its application and goes where that sends the channel
-pub follows-found : (rows : Rows) (number : ℕ) (before after : Exchange) (c d beyond : Channel) (shared : Shared) (id : EntryId) (entry : Entry) (going : Option Move)
+pub follows-found : (rows : Rows) (number : ℕ) (before after : Exchange) (c d beyond : Channel) (shared : SharedState) (id : EntryId) (entry : Entry) (going : Option Move)
     → entry_found before.plan c.place ≡ Some (record { id = id; entry = entry })
-    → applied c (dispatched (rows entry.application) (arguments_seen before.shared number c entry.arguments) (cell_of before.shared number c))
+    → application_outcome c (after_dispatch (rows entry.application) (arguments_seen before.shared number c entry.arguments) (cell_of before.shared number c))
     ≡ record { channel = beyond; shared = shared; going = going }
-    → d ≡ went before.plan beyond going → after.plan ≡ before.plan → after.shared ≡ shared
+    → d ≡ after_application before.plan beyond going → after.plan ≡ before.plan → after.shared ≡ shared
     → Follows (step_at rows before.plan before.shared number c (entry_found before.plan c.place)) before after c d (Ok (Ran id))
-follows-found rows number before after c d beyond shared id entry going found run went same_plan same_shared = record {
+follows-found rows number before after c d beyond shared id entry going found run after_application same_plan same_shared = record {
   ok =
       ap (step_at rows before.plan before.shared number c) found
-      ∙ (ap (ran before.plan id) run ∙ (λ i. record { channel = sym went i; shared = sym same_shared i; reply = Ran id }));
+      ∙ (ap (after_run before.plan id) run ∙ (λ i. record { channel = sym after_application i; shared = sym same_shared i; reply = Ran id }));
   plan = same_plan;
   channel = tt;
   shared = tt;
@@ -168,7 +125,7 @@ follows-found rows number before after c d beyond shared id entry going found ru
 }
 
 -- a ready channel at a priority of an entry may run an application
-pub ready_may_run : (shared : Shared) (number : ℕ) (c : Channel) → MayAct shared number c → c.phase ≡ Ready → c.place.priority ≤ most_priority
+pub ready_may_run : (shared : SharedState) (number : ℕ) (c : Channel) → MayAct shared number c → c.phase ≡ Ready → c.place.priority ≤ most_priority
     → MayRun (cell_of shared number c)
 ready_may_run shared number c act ready within = record {
   within = within;

@@ -10,7 +10,7 @@ use Rattle.dp_plan.specs.Plan.{PlanOf}
 use Rattle.dp_plan.specs.declared.entry.Entry.{Entry}
 use Rattle.dp_plan.specs.declared.entry.EntryId.{EntryId}
 use Rattle.dp_machine.specs.steps.Templates.{AreOf, AreTemplates, IsOf, template_at}
-use Rattle.dp_machine.specs.declared.templates.Template.{Template}
+use Rattle.dp_machine.specs.declared.templates.EntryTemplate.{EntryTemplate}
 
 -- what goes with what is left goes, after what is done, with the whole
 abbrev pub Goes : {X Y : Type 0} → (X → Y → Type 0) → List X → List X → List Y → Type 0
@@ -28,11 +28,11 @@ goes-last R whole [] done none goes = subst (AllZip R whole) (append-nil done) (
 goes-last R whole (x ∷ xs) done none goes = absurd (omega (arith, none))
 
 -- an entry that stands in the dialplan has its template
-pub template_there : (plan : PlanOf) (templates : List (List Template)) (id : EntryId) → AreTemplates plan.contexts templates
+pub template_there : (plan : PlanOf) (templates : List (List EntryTemplate)) (id : EntryId) → AreTemplates plan.contexts templates
     → MatchOption (entry_at plan id) (Unit {0}) (λ entry. IsSomeAnd (template_at templates id) (IsOf entry))
 template_there plan templates id are = by (slice_get plan.contexts id.context) (slice_get templates id.context) (AllZip-left _ plan.contexts templates are id.context)
   where
-    by : (o : Option PlanContext) (t : Option (List Template)) → MatchOption o (Unit {0}) (λ context. IsSomeAnd t (AreOf context.entries))
+    by : (o : Option PlanContext) (t : Option (List EntryTemplate)) → MatchOption o (Unit {0}) (λ context. IsSomeAnd t (AreOf context.entries))
         → MatchOption (option_and_then (λ context. slice_get context.entries id.entry) o) (Unit {0})
         (λ entry. IsSomeAnd (option_and_then (λ held. slice_get held id.entry) t) (IsOf entry))
     by None t known = tt
@@ -40,7 +40,7 @@ template_there plan templates id are = by (slice_get plan.contexts id.context) (
     by (Some context) (Some held) known = AllZip-left IsOf context.entries held known id.entry
 
 -- so none that stands there lacks its template
-pub lacks_none : (plan : PlanOf) (templates : List (List Template)) (id : EntryId) → AreTemplates plan.contexts templates
+pub lacks_none : (plan : PlanOf) (templates : List (List EntryTemplate)) (id : EntryId) → AreTemplates plan.contexts templates
     → IsSome (entry_at plan id) → template_at templates id ≡ None → ⊥
 lacks_none plan templates id are some none =
     by (entry_at plan id) (subst (λ t. MatchOption (entry_at plan id) (Unit {0}) (λ entry. IsSomeAnd t (IsOf entry))) none (template_there plan templates id are)) some
@@ -50,7 +50,7 @@ lacks_none plan templates id are some none =
     by (Some entry) known some = known
 
 -- and the one that it has is one of its arguments
-pub fits_there : (plan : PlanOf) (templates : List (List Template)) (id : EntryId) (template : Template) → AreTemplates plan.contexts templates
+pub fits_there : (plan : PlanOf) (templates : List (List EntryTemplate)) (id : EntryId) (template : EntryTemplate) → AreTemplates plan.contexts templates
     → template_at templates id ≡ Some template → IfSome (entry_at plan id) (λ entry. IsOf entry template)
 fits_there plan templates id template are some =
     by (entry_at plan id) (subst (λ t. MatchOption (entry_at plan id) (Unit {0}) (λ entry. IsSomeAnd t (IsOf entry))) some (template_there plan templates id are))

@@ -5,36 +5,36 @@ use Rattle.dp_plan.specs.Plan.{PlanOf}
 use Rattle.dp_plan.specs.declared.entry.EntryId.{EntryId}
 use Rattle.dp_conf.specs.Numbers.{most_priority}
 use Rattle.dp_app.specs.Lawful.{ParksNowhere, IsLawful, IsLawfulRow, MayGo, MayPark}
-use Rattle.dp_app.specs.Rows.{Row, Rows, dispatched}
-use Rattle.dp_app.specs.declared.cell.Cell.{Cell}
+use Rattle.dp_app.specs.Rows.{Row, Rows, after_dispatch}
+use Rattle.dp_app.specs.Cells.{CellOf}
 use Rattle.dp_app.specs.declared.moves.Move.{Move}
 use Rattle.dp_app.specs.declared.moves.Move.TheVariants.{Next, Jump, Park, Hang}
 use Rattle.dp_app.specs.declared.phase.Phase.{Phase}
 use Rattle.dp_app.specs.declared.phase.Phase.TheVariants.{Ready, Digits, Pause, Queued, Talking, Dialling, Ended as phase_ended}
 use Rattle.dp_app.specs.declared.place.Place.{Place}
 use Rattle.dp_app.specs.declared.touch.Touch.{Touch}
-use Rattle.dp_machine.specs.Channels.{hung_up, invalid, is_invalid, landed, moved}
-use Rattle.dp_machine.specs.Events.{Own, applied, cell_of, ran, step_at, step_in, step_row, unfound}
+use Rattle.dp_machine.specs.Channels.{hung_up, invalid, is_invalid, at_target, after_move}
+use Rattle.dp_machine.specs.Events.{Own, application_outcome, cell_of, after_run, step_at, step_in, step_row, unfound}
 use Rattle.dp_machine.specs.Found.{Located, entry_found}
 use Rattle.dp_machine.specs.GoodWorld.{IsSoundIn, IsSoundOwn, queue_in, talk_in}
 use Rattle.dp_machine.specs.Seen.{arguments_seen}
 use Rattle.dp_machine.specs.Targets.{target_place}
 use Rattle.dp_machine.specs.declared.channel.Channel.{Channel}
 use Rattle.dp_machine.specs.declared.reply.Reply.TheVariants.{Invalid, NoEntry}
-use Rattle.dp_machine.specs.declared.shared.Shared.{Shared}
+use Rattle.dp_machine.specs.declared.shared_state.SharedState.{SharedState}
 use Rattle.dp_machine.proofs.TieLemmas.{Ties}
 use Rattle.dp_machine.proofs.TieQueues.{Rests}
 use Rattle.dp_machine.proofs.TieRows.{Acts}
-use Rattle.dp_machine.proofs.TieSteps.{hung_up-rests, hung_up-sound, ties-moved, ties-rests}
+use Rattle.dp_machine.proofs.TieSteps.{hung_up-rests, hung_up-sound, ties-after_move, ties-rests}
 
 -- the channel is tied to the queues after its event
 abbrev pub IsTied : ℕ → QueuesOf → Own → Type 0
 IsTied number before own = Ties number before own.shared.queues own.channel.phase
 
 -- a channel is sound after a move of its application
-landed-sound : (plan : PlanOf) (c : Channel) (o : Option Place) → IsSoundIn (landed plan c o).phase (landed plan c o)
-landed-sound plan c None = hung_up-sound plan c
-landed-sound plan c (Some place) = tt
+at_target-sound : (plan : PlanOf) (c : Channel) (o : Option Place) → IsSoundIn (at_target plan c o).phase (at_target plan c o)
+at_target-sound plan c None = hung_up-sound plan c
+at_target-sound plan c (Some place) = tt
 
 parked-sound : (c : Channel) (count : ℕ) (phase : Phase) → MayPark count phase → c.place.priority ≤ most_priority → c.is_closing ≡ false
     → IsSoundIn phase (record c { phase = phase })
@@ -46,18 +46,18 @@ parked-sound c count (Talking queue agent goes_on) may within stays = (within, s
 parked-sound c count (Dialling goes_on has_timer) may within stays = (within, stays)
 parked-sound c count phase_ended may within stays = absurd may
 
-pub moved-sound : (plan : PlanOf) (c : Channel) (count : ℕ) (going : Move) → MayGo count going → (c.is_closing ≡ true → ParksNowhere going)
-    → c.place.priority ≤ most_priority → IsSoundIn (moved plan c going).phase (moved plan c going)
-moved-sound plan c count Next may goes within = tt
-moved-sound plan c count (Jump target) may goes within = landed-sound plan c (target_place plan c.place target)
-moved-sound plan c count (Park phase) may goes within = parked-sound c count phase may within (stays c.is_closing goes)
+pub after_move-sound : (plan : PlanOf) (c : Channel) (count : ℕ) (going : Move) → MayGo count going → (c.is_closing ≡ true → ParksNowhere going)
+    → c.place.priority ≤ most_priority → IsSoundIn (after_move plan c going).phase (after_move plan c going)
+after_move-sound plan c count Next may goes within = tt
+after_move-sound plan c count (Jump target) may goes within = at_target-sound plan c (target_place plan c.place target)
+after_move-sound plan c count (Park phase) may goes within = parked-sound c count phase may within (stays c.is_closing goes)
   where
     stays : (b : Bool) → (b ≡ true → ⊥) → b ≡ false
     stays true goes = absurd (goes refl)
     stays false goes = refl
-moved-sound plan c count Hang may goes within = hung_up-sound plan c
+after_move-sound plan c count Hang may goes within = hung_up-sound plan c
 
-module _ (plan : PlanOf) (shared : Shared) (number : ℕ) (c : Channel) (ties : Ties number shared.queues shared.queues c.phase) where
+module _ (plan : PlanOf) (shared : SharedState) (number : ℕ) (c : Channel) (ties : Ties number shared.queues shared.queues c.phase) where
   -- a step where no entry is found
   unfound-acts : Rests c.phase → Acts number shared.queues (unfound plan shared c)
   unfolding unfound
@@ -74,26 +74,26 @@ module _ (plan : PlanOf) (shared : Shared) (number : ℕ) (c : Channel) (ties : 
   module _ (touches : List ℕ → Touch) (rows : Rows) (lawful : IsLawful touches rows) where
     -- a channel after its application is tied to the queues
     app-ties : (id : EntryId) (name arguments : List ℕ) (o : Option Row) → rows name ≡ o → Rests c.phase
-        → IsTied number shared.queues (ran plan id (applied c (dispatched o arguments (cell_of shared number c))))
+        → IsTied number shared.queues (after_run plan id (application_outcome c (after_dispatch o arguments (cell_of shared number c))))
     app-ties id name arguments None is rests =
         let d : Channel = record c { caller = c.caller; store = c.store } in
         ties-rests number shared.queues shared.queues c.phase (hung_up plan d).phase ties rests (hung_up-rests plan d)
     app-ties id name arguments (Some row) is rests =
-        let cell : Cell = cell_of shared number c in
+        let cell : CellOf = cell_of shared number c in
         let law : IsLawfulRow (touches name) row = lawful name row is in
-        let after : Cell = (row arguments cell).cell in
-        ties-moved (touches name) shared.queues after.queues (law.keeps arguments cell).queues plan number
+        let after : CellOf = (row arguments cell).cell in
+        ties-after_move (touches name) shared.queues after.queues (law.keeps arguments cell).queues plan number
         (record c { caller = after.caller; store = after.store }) (row arguments cell).next c.phase ties rests (law.parks arguments cell) (law.waits arguments cell)
 
     -- and sound
     app-sound : (id : EntryId) (name arguments : List ℕ) (o : Option Row) → rows name ≡ o → c.place.priority ≤ most_priority
-        → IsSoundOwn (ran plan id (applied c (dispatched o arguments (cell_of shared number c))))
+        → IsSoundOwn (after_run plan id (application_outcome c (after_dispatch o arguments (cell_of shared number c))))
     app-sound id name arguments None is within = hung_up-sound plan (record c { caller = c.caller; store = c.store })
     app-sound id name arguments (Some row) is within =
-        let cell : Cell = cell_of shared number c in
+        let cell : CellOf = cell_of shared number c in
         let law : IsLawfulRow (touches name) row = lawful name row is in
-        let after : Cell = (row arguments cell).cell in
-        moved-sound plan (record c { caller = after.caller; store = after.store }) (length shared.queues.queues) (row arguments cell).next
+        let after : CellOf = (row arguments cell).cell in
+        after_move-sound plan (record c { caller = after.caller; store = after.store }) (length shared.queues.queues) (row arguments cell).next
         (law.parks arguments cell) (law.closes arguments cell) within
 
     -- a step of a channel that is ready, by the entry that is found

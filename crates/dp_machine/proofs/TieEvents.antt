@@ -7,12 +7,12 @@ use Rattle.dp_queue.specs.Good.{IsGood}
 use Rattle.dp_queue.specs.Queues.{QueuesOf}
 use Rattle.dp_queue.specs.Rest.{IsAtRest}
 use Rattle.dp_queue.proofs.RestLemmas.{state_at-at_rest, waits_in-at_rest}
-use Rattle.dp_plan.specs.Loaded.{loaded}
+use Rattle.dp_plan.specs.Loaded.{plan_and_notes}
 use Rattle.dp_plan.specs.Plan.{PlanOf}
 use Rattle.dp_app.specs.Lawful.{IsLawful}
 use Rattle.dp_app.specs.Rows.{Rows}
 use Rattle.dp_app.specs.declared.touch.Touch.{Touch}
-use Rattle.dp_machine.specs.Events.{Own, dial_result_row, digit_row, entered, event_row, hang_up_row, opened, own_event, owned, poll_row, started, step_row, timeout_row}
+use Rattle.dp_machine.specs.Events.{Own, dial_result_row, digit_row, world_with_call, event_row, hang_up_row, new_channel, own_event, world_with_own, poll_row, start_call, step_row, timeout_row}
 use Rattle.dp_machine.specs.steps.Follows.{Makes}
 use Rattle.dp_machine.specs.GoodWorld.{AreTied, IsGoodWorld, IsSoundAt, IsSoundOwn, StepsSoundly, queue_of, talk_of}
 use Rattle.dp_machine.specs.Reloading.{plan_in, reloaded_by}
@@ -25,12 +25,12 @@ use Rattle.dp_machine.specs.declared.exchange.Exchange.{Exchange}
 use Rattle.dp_machine.specs.declared.refusal.Refusal.TheVariants.{NumbersSpent}
 use Rattle.dp_machine.specs.declared.reply.Reply.{Reply}
 use Rattle.dp_machine.specs.declared.reply.Reply.TheVariants.{Refused, Started}
-use Rattle.dp_machine.specs.declared.shared.Shared.{Shared}
+use Rattle.dp_machine.specs.declared.shared_state.SharedState.{SharedState}
 use Rattle.dp_machine.proofs.TieApps.{IsTied, step-ties}
 use Rattle.dp_machine.proofs.TieLemmas.{IsTiedWorld, Ties}
 use Rattle.dp_machine.proofs.TieQueues.{talking_not_idle, ties-self}
 use Rattle.dp_machine.proofs.TieRows.{Acts, dial_result_row-acts, digit-acts, hang_up_row-acts, poll_row-acts, timeout_row-acts}
-use Rattle.dp_machine.proofs.TieServed.{good-agent_done, good-answered, good-changed, good-declined, good-offered}
+use Rattle.dp_machine.proofs.TieServed.{good-agent_done, good-serve_answer, good-changed, good-serve_decline, good-serve_offer}
 use borrow.Author.Tests.{ltb-true}
 
 -- where there is no channel, none has a number
@@ -71,42 +71,42 @@ at-push P channels m x = by (m == 0)
     by false old new = get-push P channels (m - 1) x old new
 
 -- channels stay tied where one more comes that neither waits nor talks
-tied-opened : (channels : List Channel) (queues : QueuesOf) (context exten caller : List ℕ) → AreTied channels queues
-    → AreTied (channels ++ opened context exten caller ∷ []) queues
-tied-opened channels queues context exten caller tied = record {
+tied-new_channel : (channels : List Channel) (queues : QueuesOf) (context exten caller : List ℕ) → AreTied channels queues
+    → AreTied (channels ++ new_channel context exten caller ∷ []) queues
+tied-new_channel channels queues context exten caller tied = record {
   waits = λ m. tied.waits m ∙ sym (queues_same m);
   talking = λ agent queue m is. talks_same m ∙ tied.talking agent queue m is;
   talks = λ agent queue m is. tied.talks agent queue m (sym (talks_same m) ∙ is);
-  sound = λ m. at-push IsSoundAt channels m (opened context exten caller) (tied.sound m) (λ none. tt);
+  sound = λ m. at-push IsSoundAt channels m (new_channel context exten caller) (tied.sound m) (λ none. tt);
 }
   where
-    queues_same : (m : ℕ) → queue_of (channel_at (channels ++ opened context exten caller ∷ []) m) ≡ queue_of (channel_at channels m)
-    queues_same m = at-push (λ o. queue_of o ≡ queue_of (channel_at channels m)) channels m (opened context exten caller) refl
+    queues_same : (m : ℕ) → queue_of (channel_at (channels ++ new_channel context exten caller ∷ []) m) ≡ queue_of (channel_at channels m)
+    queues_same m = at-push (λ o. queue_of o ≡ queue_of (channel_at channels m)) channels m (new_channel context exten caller) refl
         (λ none. sym (ap queue_of none))
 
-    talks_same : (m : ℕ) → talk_of (channel_at (channels ++ opened context exten caller ∷ []) m) ≡ talk_of (channel_at channels m)
-    talks_same m = at-push (λ o. talk_of o ≡ talk_of (channel_at channels m)) channels m (opened context exten caller) refl
+    talks_same : (m : ℕ) → talk_of (channel_at (channels ++ new_channel context exten caller ∷ []) m) ≡ talk_of (channel_at channels m)
+    talks_same m = at-push (λ o. talk_of o ≡ talk_of (channel_at channels m)) channels m (new_channel context exten caller) refl
         (λ none. sym (ap talk_of none))
 
 -- a call comes in
-pub good-started : (w : World) (context exten caller : List ℕ) → IsTiedWorld w → IsTiedWorld (entered w (started w.channels context exten caller)).0
-unfolding started
-good-started w context exten caller good = by (nat_lt (length w.channels) most_channels) refl
+pub good-start_call : (w : World) (context exten caller : List ℕ) → IsTiedWorld w → IsTiedWorld (world_with_call w (start_call w.channels context exten caller)).0
+unfolding start_call
+good-start_call w context exten caller good = by (nat_lt (length w.channels) most_channels) refl
   where
     by : (b : Bool) → nat_lt (length w.channels) most_channels ≡ b
-        → IsTiedWorld (entered w (if b then (record { channels = w.channels ++ opened context exten caller ∷ []; reply = Started (length w.channels + 1) })
+        → IsTiedWorld (world_with_call w (if b then (record { channels = w.channels ++ new_channel context exten caller ∷ []; reply = Started (length w.channels + 1) })
         else (record { channels = w.channels; reply = Refused NumbersSpent }))).0
     by true fits = record {
       within = let room : length w.channels < most_channels = ltb-true (length w.channels) most_channels fits in
-          omega (arith, room, length-append w.channels (opened context exten caller ∷ []));
-      tied = tied-opened w.channels w.shared.queues context exten caller good.tied;
+          omega (arith, room, length-append w.channels (new_channel context exten caller ∷ []));
+      tied = tied-new_channel w.channels w.shared.queues context exten caller good.tied;
     }
     by false full = record { within = good.within; tied = good.tied }
 
 -- the event of a channel after which it is tied and sound
-pub good-owned : (w : World) (number : ℕ) (c : Channel) (own : Own) → IsTiedWorld w → channel_at w.channels number ≡ Some c
-    → IsTied number w.shared.queues own → IsSoundOwn own → IsTiedWorld (owned w number own).0
-good-owned w number c own good here ties sound = good-changed w number c own.channel own.shared good here ties sound
+pub good-world_with_own : (w : World) (number : ℕ) (c : Channel) (own : Own) → IsTiedWorld w → channel_at w.channels number ≡ Some c
+    → IsTied number w.shared.queues own → IsSoundOwn own → IsTiedWorld (world_with_own w number own).0
+good-world_with_own w number c own good here ties sound = good-changed w number c own.channel own.shared good here ties sound
 
 module _ (w : World) (number : ℕ) (c : Channel) (good : IsTiedWorld w) (linked : IsGood w.shared.queues) (here : channel_at w.channels number ≡ Some c) where
   -- what is known of the channel before
@@ -114,43 +114,43 @@ module _ (w : World) (number : ℕ) (c : Channel) (good : IsTiedWorld w) (linked
   ties = ties-self w.channels w.shared.queues number c good.tied here
 
   -- an event after which the channel acts
-  acted : (own : Own) → Acts number w.shared.queues own → IsTiedWorld (owned w number own).0
-  acted own acts = good-owned w number c own good here acts.ties acts.sound
+  acted : (own : Own) → Acts number w.shared.queues own → IsTiedWorld (world_with_own w number own).0
+  acted own acts = good-world_with_own w number c own good here acts.ties acts.sound
 
   -- a digit
-  pub good-digit : (digit : ℕ) → IsTiedWorld (owned w number (digit_row digit w.plan w.shared number c)).0
+  pub good-digit : (digit : ℕ) → IsTiedWorld (world_with_own w number (digit_row digit w.plan w.shared number c)).0
   good-digit digit = acted (digit_row digit w.plan w.shared number c)
       (digit-acts w.plan w.shared number c linked ties (subst IsSoundAt here (good.tied.sound number)) digit)
 
   -- the end of a time
-  pub good-timeout : IsTiedWorld (owned w number (timeout_row w.plan w.shared number c)).0
+  pub good-timeout : IsTiedWorld (world_with_own w number (timeout_row w.plan w.shared number c)).0
   good-timeout = acted (timeout_row w.plan w.shared number c)
       (timeout_row-acts w.plan w.shared number c linked ties (subst IsSoundAt here (good.tied.sound number)))
 
   -- a question of a channel whether it is to leave
-  pub good-poll : IsTiedWorld (owned w number (poll_row w.plan w.shared number c)).0
+  pub good-poll : IsTiedWorld (world_with_own w number (poll_row w.plan w.shared number c)).0
   good-poll = acted (poll_row w.plan w.shared number c)
       (poll_row-acts w.plan w.shared number c linked ties (subst IsSoundAt here (good.tied.sound number)))
 
   -- a hang-up
-  pub good-hang_up : IsTiedWorld (owned w number (hang_up_row w.plan w.shared number c)).0
+  pub good-hang_up : IsTiedWorld (world_with_own w number (hang_up_row w.plan w.shared number c)).0
   good-hang_up = acted (hang_up_row w.plan w.shared number c)
       (hang_up_row-acts w.plan w.shared number c linked ties (subst IsSoundAt here (good.tied.sound number)))
 
   -- what came of a call to devices
-  pub good-dial_result : (status : DialStatus) → IsTiedWorld (owned w number (dial_result_row status w.plan w.shared number c)).0
+  pub good-dial_result : (status : DialStatus) → IsTiedWorld (world_with_own w number (dial_result_row status w.plan w.shared number c)).0
   good-dial_result status = acted (dial_result_row status w.plan w.shared number c)
       (dial_result_row-acts w.plan w.shared number c linked ties (subst IsSoundAt here (good.tied.sound number)) status)
 
   -- a step over a lawful table, after which the channel is sound
   pub good-step : (touches : List ℕ → Touch) (rows : Rows) → IsLawful touches rows → IsSoundOwn (step_row rows w.plan w.shared number c)
-      → IsTiedWorld (owned w number (step_row rows w.plan w.shared number c)).0
-  good-step touches rows lawful sound = good-owned w number c (step_row rows w.plan w.shared number c) good here
+      → IsTiedWorld (world_with_own w number (step_row rows w.plan w.shared number c)).0
+  good-step touches rows lawful sound = good-world_with_own w number c (step_row rows w.plan w.shared number c) good here
       (step-ties w.plan w.shared number c ties touches rows lawful) sound
 
 -- the event of a channel that there may not be
-pub good-own_event : (w : World) (number : ℕ) (row : PlanOf → Shared → ℕ → Channel → Own) → IsTiedWorld w
-    → ((c : Channel) → channel_at w.channels number ≡ Some c → IsTiedWorld (owned w number (row w.plan w.shared number c)).0)
+pub good-own_event : (w : World) (number : ℕ) (row : PlanOf → SharedState → ℕ → Channel → Own) → IsTiedWorld w
+    → ((c : Channel) → channel_at w.channels number ≡ Some c → IsTiedWorld (world_with_own w number (row w.plan w.shared number c)).0)
     → IsTiedWorld (own_event w number row (channel_at w.channels number)).0
 good-own_event w number row good acts = by (channel_at w.channels number) refl
   where
@@ -166,7 +166,7 @@ good-reloaded w (Some plan) good = record { within = good.within; tied = good.ti
 -- the world stays good after each event, over a lawful table
 pub good-event : (touches : List ℕ → Touch) (rows : Rows) (w : World) (event : Event) → IsLawful touches rows → IsGood w.shared.queues → IsTiedWorld w
     → StepsSoundly rows w event → IsTiedWorld (event_row rows w event).0
-good-event touches rows w (Start context exten caller) lawful linked good steps = good-started w context exten caller good
+good-event touches rows w (Start context exten caller) lawful linked good steps = good-start_call w context exten caller good
 good-event touches rows w (Step number) lawful linked good steps = good-own_event w number (step_row rows) good
     (λ c here. good-step w number c good linked here touches rows lawful (steps c here))
 good-event touches rows w (Digit number digit) lawful linked good steps = good-own_event w number (digit_row digit) good
@@ -179,11 +179,11 @@ good-event touches rows w (Hangup number) lawful linked good steps = good-own_ev
     (λ c here. good-hang_up w number c good linked here)
 good-event touches rows w (DialResult number status) lawful linked good steps = good-own_event w number (dial_result_row status) good
     (λ c here. good-dial_result w number c good linked here status)
-good-event touches rows w (Offer queue) lawful linked good steps = good-offered w queue good
-good-event touches rows w (Answer agent) lawful linked good steps = good-answered w good linked agent
-good-event touches rows w (Decline agent) lawful linked good steps = good-declined w agent good
+good-event touches rows w (Offer queue) lawful linked good steps = good-serve_offer w queue good
+good-event touches rows w (Answer agent) lawful linked good steps = good-serve_answer w good linked agent
+good-event touches rows w (Decline agent) lawful linked good steps = good-serve_decline w agent good
 good-event touches rows w (AgentDone agent) lawful linked good steps = good-agent_done w good linked agent
-good-event touches rows w (Reload text) lawful linked good steps = good-reloaded w (plan_in (loaded text)) good
+good-event touches rows w (Reload text) lawful linked good steps = good-reloaded w (plan_in (plan_and_notes text)) good
 
 -- so channels and queues are tied after what a call of the machine answers: the world of the event's row, or the world as it was
 tied-after : (touches : List ℕ → Touch) (rows : Rows) (before after : World) (event : Event) (r : Result Reply NoMemory)

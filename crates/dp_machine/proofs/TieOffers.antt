@@ -13,7 +13,7 @@ use Rattle.dp_queue.specs.declared.agent.AgentState.{AgentState}
 use Rattle.dp_queue.specs.declared.agent.AgentState.TheVariants.{Idle, Ringing, Talking}
 use Rattle.dp_queue.specs.declared.member.Member.{Member}
 use Rattle.dp_queue.proofs.GoodLemmas.{busy-within, by_test}
-use Rattle.dp_queue.proofs.OfferLemmas.{candidate-idle, passes-chosen}
+use Rattle.dp_queue.proofs.OfferLemmas.{candidate-idle, passes-choices_of}
 use Rattle.dp_queue.proofs.WaitingLemmas.{lines-changed_at, waits_in-same}
 use Rattle.dp_machine.proofs.TieQueues.{SameTies, ringing_not_talking, set_here, set_there, talking_not_idle}
 use borrow.Author.Tests.{eqb-true}
@@ -98,7 +98,7 @@ same-offered q name = elim (asked_at q.queues q.agents (queue_number q.queues na
     silent p None = All-nil (IsSilentIn q.agents)
     silent p (Some queue) = All-weaker (λ (m : Member). is_candidate q.agents p m ≡ true) (IsSilentIn q.agents)
         (λ m may. idle-silent (state_at q.agents m.agent) (candidate-idle q.agents p m may)) (chosen_of q.agents p queue)
-        (passes-chosen queue.settings.strategy queue.last (is_candidate q.agents p) queue.members)
+        (passes-choices_of queue.settings.strategy queue.last (is_candidate q.agents p) queue.members)
 
     rung : (k c p : ℕ) (o : Option QueueOf) → SameTalks q.agents (all_ringing k c (chosen_in q.agents p o) q.agents)
     rung k c p o = talks-rings q.agents k c (chosen_in q.agents p o) q.agents (talks-self q.agents) (silent p o)

@@ -5,17 +5,17 @@ use Rattle.std.proofs.lemmas.Bool.{lt-ltb}
 use Rattle.std.proofs.lemmas.List.{length-map}
 use Rattle.std.specs.List.{position_or_len}
 use Rattle.std.specs.Option.{unwrap_or}
-use Rattle.dp_queue.specs.Agents.{all_freed, freed, freed_state, state_at, talker, talks_with, with_state_at}
-use Rattle.dp_queue.specs.Calls.{answered, done_row_at, end_talk_row, ended, finished_queue}
+use Rattle.dp_queue.specs.Agents.{all_freed, idle_if_ringing, freed_state, state_at, talker, talks_with, with_state_at}
+use Rattle.dp_queue.specs.Calls.{after_answer, done_row_at, end_talk_row, after_talk, finished_queue}
 use Rattle.dp_conf.specs.Changes.{changed_at}
 use Rattle.dp_queue.specs.Changes.{one_more}
 use Rattle.dp_queue.specs.Good.{IsGood}
-use Rattle.dp_queue.specs.Joining.{left, leave_row, leave_row_at, waits_in, without_caller}
+use Rattle.dp_queue.specs.Joining.{after_leaving, leave_row, leave_row_at, waits_in, without_caller}
 use Rattle.dp_queue.specs.Queues.{QueuesOf}
 use Rattle.dp_queue.specs.declared.agent.Agent.{Agent}
 use Rattle.dp_queue.specs.declared.agent.AgentState.{AgentState}
 use Rattle.dp_queue.specs.declared.agent.AgentState.TheVariants.{Idle, Ringing, Talking}
-use Rattle.dp_queue.proofs.AgentLemmas.{state_at-same, state_at-other, state_at-freed}
+use Rattle.dp_queue.proofs.AgentLemmas.{state_at-same, state_at-other, state_at-idle_if_ringing}
 use Rattle.dp_queue.proofs.GoodLemmas.{busy-within, by_test, ringing-waits, talking-right}
 use Rattle.dp_queue.proofs.WaitingLemmas.{lines-changed_at, waits_in-left, waits_in-same}
 use Rattle.dp_app.specs.declared.phase.Phase.{Phase}
@@ -100,41 +100,41 @@ tied-same channels before after same tied = record {
 }
 
 -- an agent that is freed of a channel talks as before
-freed-talking : (c : ℕ) (s : AgentState) (queue m : ℕ) → freed_state c s ≡ Talking queue m → s ≡ Talking queue m
-freed-talking c Idle queue m is = absurd (talking_not_idle queue m is)
-freed-talking c (Ringing j d) queue m is = by (d == c) is
+idle_if_ringing-talking : (c : ℕ) (s : AgentState) (queue m : ℕ) → freed_state c s ≡ Talking queue m → s ≡ Talking queue m
+idle_if_ringing-talking c Idle queue m is = absurd (talking_not_idle queue m is)
+idle_if_ringing-talking c (Ringing j d) queue m is = by (d == c) is
   where
     by : (b : Bool) → (if b then Idle else Ringing j d) ≡ Talking queue m → Ringing j d ≡ Talking queue m
     by true is = absurd (talking_not_idle queue m is)
     by false is = is
-freed-talking c (Talking j d) queue m is = is
+idle_if_ringing-talking c (Talking j d) queue m is = is
 
-freed-talks : (c : ℕ) (s : AgentState) (queue m : ℕ) → s ≡ Talking queue m → freed_state c s ≡ Talking queue m
-freed-talks c s queue m is = ap (freed_state c) is
+idle_if_ringing-talks : (c : ℕ) (s : AgentState) (queue m : ℕ) → s ≡ Talking queue m → freed_state c s ≡ Talking queue m
+idle_if_ringing-talks c s queue m is = ap (freed_state c) is
 
 -- the channel leaves the queue in which it waits
-pub ties-left : (number k : ℕ) (q : QueuesOf) (p r : Phase) → IsGood q → Ties number q q p → queue_in p ≡ Some k → talk_in p ≡ None → Rests r
-    → Ties number q (left q k number) r
-ties-left number k q p r good ties waits silent rests = record {
+pub ties-after_leaving : (number k : ℕ) (q : QueuesOf) (p r : Phase) → IsGood q → Ties number q q p → queue_in p ≡ Some k → talk_in p ≡ None → Rests r
+    → Ties number q (after_leaving q k number) r
+ties-after_leaving number k q p r good ties waits silent rests = record {
   waits = gone number ∙ if_true (number == number) None (waits_in q.queues number) (eq-eqb number number refl) ∙ sym rests.0;
   others = λ m differs. gone m ∙ if_false (number == m) None (waits_in q.queues m) differs;
   talking = λ agent queue is. absurd (none-some (queue, agent) (sym silent ∙ ties.talking agent queue (back agent queue number is)));
   talks = λ agent queue is. absurd (none-some (queue, agent) (sym rests.1 ∙ is));
   still_talking = λ agent queue m differs is. back agent queue m is;
-  still_talks = λ agent queue m differs is. state_at-freed number q.agents agent ∙ freed-talks number (state_at q.agents agent) queue m is;
+  still_talks = λ agent queue m differs is. state_at-idle_if_ringing number q.agents agent ∙ idle_if_ringing-talks number (state_at q.agents agent) queue m is;
 }
   where
     gone : (m : ℕ) → waits_in (changed_at (without_caller number) k q.queues) m ≡ (if number == m then None else waits_in q.queues m)
     gone m = waits_in-left q.queues number k m (good.waits_once number) (ties.waits ∙ waits)
 
     back : (agent queue m : ℕ) → state_at (all_freed number q.agents) agent ≡ Talking queue m → state_at q.agents agent ≡ Talking queue m
-    back agent queue m is = freed-talking number (state_at q.agents agent) queue m (sym (state_at-freed number q.agents agent) ∙ is)
+    back agent queue m is = idle_if_ringing-talking number (state_at q.agents agent) queue m (sym (state_at-idle_if_ringing number q.agents agent) ∙ is)
 
 -- the same by the row
 pub ties-leave : (number k : ℕ) (q : QueuesOf) (p r : Phase) → IsGood q → Ties number q q p → queue_in p ≡ Some k → talk_in p ≡ None → Rests r
     → Ties number q (leave_row q number).0 r
 ties-leave number k q p r good ties waits silent rests =
-    subst (λ (o : Option ℕ). Ties number q (leave_row_at q number o).0 r) (sym (ties.waits ∙ waits)) (ties-left number k q p r good ties waits silent rests)
+    subst (λ (o : Option ℕ). Ties number q (leave_row_at q number o).0 r) (sym (ties.waits ∙ waits)) (ties-after_leaving number k q p r good ties waits silent rests)
 
 -- agents of which one comes into another state
 module _ (agents : List Agent) (a : ℕ) (s : AgentState) (within : a < length agents) where
@@ -147,9 +147,9 @@ module _ (agents : List Agent) (a : ℕ) (s : AgentState) (within : a < length a
   set_there b differs = state_at-other a s agents b (λ same. apart a b differs (sym same))
 
 -- the talk of the channel with an agent ends
-pub ties-ended : (number a k : ℕ) (q : QueuesOf) (p r : Phase) → IsGood q → Ties number q q p → state_at q.agents a ≡ Talking k number → Rests r
-    → Ties number q (ended q a k) r
-ties-ended number a k q p r good ties is_with rests = record {
+pub ties-after_talk : (number a k : ℕ) (q : QueuesOf) (p r : Phase) → IsGood q → Ties number q q p → state_at q.agents a ≡ Talking k number → Rests r
+    → Ties number q (after_talk q a k) r
+ties-after_talk number a k q p r good ties is_with rests = record {
   waits = waits number ∙ (talking-right q.queues q.agents a k number good is_with).0 ∙ sym rests.0;
   others = λ m differs. waits m;
   talking = λ agent queue is. absurd (none_left agent queue is);
@@ -220,12 +220,12 @@ ties-end_talk number a k q p r good ties is_with rests =
     by Idle is talks = absurd (cc)
     by (Ringing j d) is talks = absurd (cc)
     by (Talking j d) is talks = subst (λ (s : AgentState). Ties number q (done_row_at q (talker q.agents number) s).0 r) (sym is)
-        (ties-ended number (talker q.agents number) j q p r good ties (is ∙ ap (Talking j) (eqb-true d number talks)) rests)
+        (ties-after_talk number (talker q.agents number) j q p r good ties (is ∙ ap (Talking j) (eqb-true d number talks)) rests)
 
 -- an agent that rings for the channel answers
-pub ties-answered : (number a k : ℕ) (q : QueuesOf) (p r : Phase) → IsGood q → Ties number q q p → state_at q.agents a ≡ Ringing k number
-    → queue_in r ≡ None → talk_in r ≡ Some (k, a) → Ties number q (answered q a k number) r
-ties-answered number a k q p r good ties rings nowhere is_with = record {
+pub ties-after_answer : (number a k : ℕ) (q : QueuesOf) (p r : Phase) → IsGood q → Ties number q q p → state_at q.agents a ≡ Ringing k number
+    → queue_in r ≡ None → talk_in r ≡ Some (k, a) → Ties number q (after_answer q a k number) r
+ties-after_answer number a k q p r good ties rings nowhere is_with = record {
   waits = gone number ∙ if_true (number == number) None (waits_in q.queues number) (eq-eqb number number refl) ∙ sym nowhere;
   others = λ m differs. gone m ∙ if_false (number == m) None (waits_in q.queues m) differs;
   talking = λ agent queue is. by_test (a == agent)
@@ -241,7 +241,7 @@ ties-answered number a k q p r good ties rings nowhere is_with = record {
       (λ apart_from. back agent queue m (sym (there agent apart_from) ∙ is));
   still_talks = λ agent queue m differs is. by_test (a == agent)
       (λ same. absurd (ringing_not_talking k number queue m (sym rings ∙ ap (state_at q.agents) (eqb-true a agent same) ∙ is)))
-      (λ apart_from. there agent apart_from ∙ state_at-freed number q.agents agent ∙ freed-talks number (state_at q.agents agent) queue m is);
+      (λ apart_from. there agent apart_from ∙ state_at-idle_if_ringing number q.agents agent ∙ idle_if_ringing-talks number (state_at q.agents agent) queue m is);
 }
   where
     beyond : List Agent
@@ -249,7 +249,7 @@ ties-answered number a k q p r good ties rings nowhere is_with = record {
 
     within : a < length (all_freed number q.agents)
     within = let known : a < length q.agents = busy-within q.agents a (Ringing k number) rings refl in
-        omega (arith, known, length-map q.agents (freed number))
+        omega (arith, known, length-map q.agents (idle_if_ringing number))
 
     here : (b : ℕ) → (a == b) ≡ true → state_at beyond b ≡ Talking k number
     here b same = set_here (all_freed number q.agents) a (Talking k number) within b same
@@ -261,7 +261,7 @@ ties-answered number a k q p r good ties rings nowhere is_with = record {
     gone m = waits_in-left q.queues number k m (good.waits_once number) (ringing-waits q.queues q.agents a k number good rings)
 
     back : (agent queue m : ℕ) → state_at (all_freed number q.agents) agent ≡ Talking queue m → state_at q.agents agent ≡ Talking queue m
-    back agent queue m is = freed-talking number (state_at q.agents agent) queue m (sym (state_at-freed number q.agents agent) ∙ is)
+    back agent queue m is = idle_if_ringing-talking number (state_at q.agents agent) queue m (sym (state_at-idle_if_ringing number q.agents agent) ∙ is)
 
     silent : (p : Phase) → waits_in q.queues number ≡ queue_in p → waits_in q.queues number ≡ Some k → talk_in p ≡ None
     silent Ready waits known = refl

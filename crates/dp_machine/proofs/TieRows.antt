@@ -8,7 +8,7 @@ use Rattle.dp_plan.specs.Plan.{PlanOf}
 use Rattle.dp_app.specs.declared.phase.Phase.{Phase}
 use Rattle.dp_app.specs.declared.phase.Phase.TheVariants.{Ready, Digits, Pause, Queued, Talking, Dialling, Ended as phase_ended}
 use Rattle.dp_app.specs.declared.place.Place.{Place}
-use Rattle.dp_machine.specs.Channels.{cancelled, collected, dialled, ends_call, going_on, hung_up, left_queue, ready_at, ready_in, timed_out, unanswered, waited, with_dial_status}
+use Rattle.dp_machine.specs.Channels.{after_cancel, after_digit, after_dialling, ends_call, going_on, hung_up, left_queue, ready_at, ready_in, timed_out, after_no_answer, after_wait, with_dial_status}
 use Rattle.dp_machine.specs.Events.{Own, dial_in, dial_result_in, dial_result_row, digit_row, hang_up_in, hang_up_row, is_digit, is_over, poll_in, poll_queue, poll_row, refuse, take_event, timeout_in, timeout_row, way_out_of, without_caller}
 use Rattle.dp_machine.specs.Codes.{status_name}
 use Rattle.dp_machine.specs.Found.{could_go_on, is_found}
@@ -19,7 +19,7 @@ use Rattle.dp_machine.specs.declared.dial_status.DialStatus.{DialStatus}
 use Rattle.dp_machine.specs.declared.refusal.Refusal.TheVariants.{BadDigit, Ended, NoTimer, NotDialling, NotWaiting}
 use Rattle.dp_machine.specs.declared.reply.Reply.{Reply}
 use Rattle.dp_machine.specs.declared.reply.Reply.TheVariants.{Done, Refused}
-use Rattle.dp_machine.specs.declared.shared.Shared.{Shared}
+use Rattle.dp_machine.specs.declared.shared_state.SharedState.{SharedState}
 use Rattle.dp_machine.proofs.TieLemmas.{Ties}
 use Rattle.dp_machine.proofs.TieQueues.{Rests, ties-end_talk, ties-leave}
 use Rattle.dp_machine.proofs.TieSteps.{hung_up-rests, hung_up-sound, ties-rests}
@@ -38,8 +38,8 @@ pub hung_up-quiet : (plan : PlanOf) (c : Channel) → IsQuiet (hung_up plan c)
 hung_up-quiet plan c = (hung_up-rests plan c, hung_up-sound plan c)
 
 -- one that waited for digits
-waited-quiet : (plan : PlanOf) (c : Channel) → IsQuiet (waited plan c)
-waited-quiet plan c = by (is_found plan c.place.context c.place.exten (c.place.priority + 1)) (is_found plan c.place.context (codes "t") 1)
+after_wait-quiet : (plan : PlanOf) (c : Channel) → IsQuiet (after_wait plan c)
+after_wait-quiet plan c = by (is_found plan c.place.context c.place.exten (c.place.priority + 1)) (is_found plan c.place.context (codes "t") 1)
   where
     by : (a b : Bool) → IsQuiet (if a then going_on c else if b then ready_in c (codes "t") else hung_up plan c)
     by true b = ((refl, refl), tt)
@@ -48,19 +48,19 @@ waited-quiet plan c = by (is_found plan c.place.context c.place.exten (c.place.p
 
 timed_out-quiet : (plan : PlanOf) (c : Channel) (digits : List ℕ) (is_background : Bool) → IsQuiet (timed_out plan c digits is_background)
 timed_out-quiet plan c [] true = ((refl, refl), tt)
-timed_out-quiet plan c [] false = waited-quiet plan c
+timed_out-quiet plan c [] false = after_wait-quiet plan c
 timed_out-quiet plan c (b ∷ bs) is_background = ((refl, refl), tt)
 
 -- one whose call to devices came to something
-dialled-quiet : (plan : PlanOf) (c : Channel) (status : DialStatus) (goes_on : Bool) → IsQuiet (dialled plan c status goes_on)
-dialled-quiet plan c status goes_on = by (ends_call status goes_on)
+after_dialling-quiet : (plan : PlanOf) (c : Channel) (status : DialStatus) (goes_on : Bool) → IsQuiet (after_dialling plan c status goes_on)
+after_dialling-quiet plan c status goes_on = by (ends_call status goes_on)
   where
     by : (b : Bool) → IsQuiet (if b then hung_up plan (with_dial_status c (status_name status)) else going_on (with_dial_status c (status_name status)))
     by true = hung_up-quiet plan (with_dial_status c (status_name status))
     by false = ((refl, refl), tt)
 
 -- a channel of which this is known acts
-module _ (plan : PlanOf) (shared : Shared) (number : ℕ) (c : Channel) (good : IsGood shared.queues)
+module _ (plan : PlanOf) (shared : SharedState) (number : ℕ) (c : Channel) (good : IsGood shared.queues)
     (ties : Ties number shared.queues shared.queues c.phase) (sound : IsSoundIn c.phase c) where
   -- all stays as it was
   still : (reply : Reply) → Acts number shared.queues (record { channel = c; shared = shared; reply = reply })
@@ -86,14 +86,14 @@ module _ (plan : PlanOf) (shared : Shared) (number : ℕ) (c : Channel) (good : 
   rests_by p is rests = (ap queue_in is ∙ rests.0, ap talk_in is ∙ rests.1)
 
   -- one more digit
-  collected-acts : (b : Bool) (digits : List ℕ) (is_background : Bool) (before : List ℕ) → c.phase ≡ Digits before is_background
-      → Acts number shared.queues (take_event shared (collected b c digits is_background))
-  collected-acts true digits is_background before is = record {
+  after_digit-acts : (b : Bool) (digits : List ℕ) (is_background : Bool) (before : List ℕ) → c.phase ≡ Digits before is_background
+      → Acts number shared.queues (take_event shared (after_digit b c digits is_background))
+  after_digit-acts true digits is_background before is = record {
     ties = ties-rests number shared.queues shared.queues c.phase (Digits digits is_background) ties
         (rests_by (Digits before is_background) is (refl, refl)) (refl, refl);
     sound = subst (λ p. IsSoundIn p c) is sound;
   }
-  collected-acts false digits is_background before is =
+  after_digit-acts false digits is_background before is =
       quiet (ready_in c digits) Done (rests_by (Digits before is_background) is (refl, refl)) ((refl, refl), tt)
 
   -- a digit in a queue
@@ -106,7 +106,7 @@ module _ (plan : PlanOf) (shared : Shared) (number : ℕ) (c : Channel) (good : 
   dial-acts : (digit : ℕ) (p : Phase) → c.phase ≡ p → Acts number shared.queues (dial_in p digit plan shared number c)
   dial-acts digit Ready is = still (Refused NotWaiting)
   dial-acts digit (Digits digits is_background) is =
-      collected-acts (could_go_on plan c.place.context (digits ++ digit ∷ [])) (digits ++ digit ∷ []) is_background digits is
+      after_digit-acts (could_go_on plan c.place.context (digits ++ digit ∷ [])) (digits ++ digit ∷ []) is_background digits is
   dial-acts digit Pause is = still Done
   dial-acts digit (Queued queue goes_on has_timer) is =
       way_out-acts (is_found plan (way_out_of shared.queues queue) (digit ∷ []) 1) queue goes_on has_timer
@@ -134,7 +134,7 @@ module _ (plan : PlanOf) (shared : Shared) (number : ℕ) (c : Channel) (good : 
       leaves (left_queue c (codes "TIMEOUT")) queue (ap queue_in is) (ap talk_in is) ((refl, refl), tt)
   timeout-acts (Queued queue goes_on false) is = still (Refused NoTimer)
   timeout-acts (Talking queue agent goes_on) is = still (Refused NotWaiting)
-  timeout-acts (Dialling goes_on true) is = quiet (unanswered c) Done (rests_by (Dialling goes_on true) is (refl, refl)) ((refl, refl), tt)
+  timeout-acts (Dialling goes_on true) is = quiet (after_no_answer c) Done (rests_by (Dialling goes_on true) is (refl, refl)) ((refl, refl), tt)
   timeout-acts (Dialling goes_on false) is = still (Refused NoTimer)
   timeout-acts phase_ended is = still (Refused Ended)
 
@@ -176,7 +176,7 @@ module _ (plan : PlanOf) (shared : Shared) (number : ℕ) (c : Channel) (good : 
     sound = hung_up-sound plan c;
   }
   hang_up-acts (Dialling goes_on has_timer) is =
-      quiet (cancelled plan c) Done (rests_by (Dialling goes_on has_timer) is (refl, refl)) (hung_up-quiet plan (with_dial_status c (codes "CANCEL")))
+      quiet (after_cancel plan c) Done (rests_by (Dialling goes_on has_timer) is (refl, refl)) (hung_up-quiet plan (with_dial_status c (codes "CANCEL")))
   hang_up-acts phase_ended is = still (Refused Ended)
 
   -- the event `Hangup`
@@ -192,7 +192,7 @@ module _ (plan : PlanOf) (shared : Shared) (number : ℕ) (c : Channel) (good : 
   result-acts status (Queued queue goes_on has_timer) is = still (Refused NotDialling)
   result-acts status (Talking queue agent goes_on) is = still (Refused NotDialling)
   result-acts status (Dialling goes_on has_timer) is =
-      quiet (dialled plan c status goes_on) Done (rests_by (Dialling goes_on has_timer) is (refl, refl)) (dialled-quiet plan c status goes_on)
+      quiet (after_dialling plan c status goes_on) Done (rests_by (Dialling goes_on has_timer) is (refl, refl)) (after_dialling-quiet plan c status goes_on)
   result-acts status phase_ended is = still (Refused Ended)
 
   -- the event `DialResult`

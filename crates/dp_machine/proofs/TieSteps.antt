@@ -13,7 +13,7 @@ use Rattle.dp_app.specs.declared.phase.Phase.{Phase}
 use Rattle.dp_app.specs.declared.phase.Phase.TheVariants.{Ready, Digits, Pause, Queued, Talking as PhaseTalking, Dialling, Ended}
 use Rattle.dp_app.specs.declared.place.Place.{Place}
 use Rattle.dp_app.specs.declared.touch.Touch.{Touch}
-use Rattle.dp_machine.specs.Channels.{hung_up, landed, moved, ready_in, runs_hang_up, without_frames}
+use Rattle.dp_machine.specs.Channels.{hung_up, at_target, after_move, ready_in, runs_hang_up, without_frames}
 use Rattle.dp_machine.specs.GoodWorld.{IsSoundIn, queue_in, talk_in}
 use Rattle.dp_machine.specs.Targets.{target_place}
 use Rattle.dp_machine.specs.declared.channel.Channel.{Channel}
@@ -44,9 +44,9 @@ hung_up-sound plan c = by (runs_hang_up plan c)
     by false = refl
 
 -- a channel at the place of a target neither waits nor talks
-pub landed-rests : (plan : PlanOf) (c : Channel) (o : Option Place) → Rests (landed plan c o).phase
-landed-rests plan c None = hung_up-rests plan c
-landed-rests plan c (Some place) = (refl, refl)
+pub at_target-rests : (plan : PlanOf) (c : Channel) (o : Option Place) → Rests (at_target plan c o).phase
+at_target-rests plan c None = hung_up-rests plan c
+at_target-rests plan c (Some place) = (refl, refl)
 
 -- a channel that neither waits nor talks, and comes to do neither
 pub ties-rests : (number : ℕ) (before after : QueuesOf) (p r : Phase) → Ties number before after p → Rests p → Rests r → Ties number before after r
@@ -100,14 +100,14 @@ module _ (touch : Touch) (before after : QueuesOf) (keeps : KeepsQueues touch be
   ties-parked number p Ended ties rests may waits = absurd may
 
   -- the channel after a move
-  pub ties-moved : (plan : PlanOf) (number : ℕ) (c : Channel) (going : Move) (p : Phase) → Ties number before before p → Rests p
+  pub ties-after_move : (plan : PlanOf) (number : ℕ) (c : Channel) (going : Move) (p : Phase) → Ties number before before p → Rests p
       → MayGo (length before.queues) going → waiting_lists after ≡ waiting_after (waiting_lists before) number going
-      → Ties number before after (moved plan c going).phase
-  ties-moved plan number c Next p ties rests may waits =
+      → Ties number before after (after_move plan c going).phase
+  ties-after_move plan number c Next p ties rests may waits =
       ties-rests number before after p Ready (ties-kept number before before after p (same-kept waits) ties) rests (refl, refl)
-  ties-moved plan number c (Jump target) p ties rests may waits =
-      ties-rests number before after p (landed plan c (target_place plan c.place target)).phase
-      (ties-kept number before before after p (same-kept waits) ties) rests (landed-rests plan c (target_place plan c.place target))
-  ties-moved plan number c (Park phase) p ties rests may waits = ties-parked number p phase ties rests may waits
-  ties-moved plan number c Hang p ties rests may waits =
+  ties-after_move plan number c (Jump target) p ties rests may waits =
+      ties-rests number before after p (at_target plan c (target_place plan c.place target)).phase
+      (ties-kept number before before after p (same-kept waits) ties) rests (at_target-rests plan c (target_place plan c.place target))
+  ties-after_move plan number c (Park phase) p ties rests may waits = ties-parked number p phase ties rests may waits
+  ties-after_move plan number c Hang p ties rests may waits =
       ties-rests number before after p (hung_up plan c).phase (ties-kept number before before after p (same-kept waits) ties) rests (hung_up-rests plan c)

@@ -45,21 +45,21 @@ hung_up plan c =
     else record (without_frames c) { phase = Ended }
 
 -- the channel at the place of a target; where there is none it is hung up
-abbrev pub landed : PlanOf → Channel → Option Place → Channel
-landed plan c None = hung_up plan c
-landed plan c (Some place) = ready_at c place
+abbrev pub at_target : PlanOf → Channel → Option Place → Channel
+at_target plan c None = hung_up plan c
+at_target plan c (Some place) = ready_at c place
 
 -- the channel after a move
-abbrev pub moved : PlanOf → Channel → Move → Channel
-moved plan c Next = going_on c
-moved plan c (Jump target) = landed plan c (target_place plan c.place target)
-moved plan c (Park phase) = record c { phase = phase }
-moved plan c Hang = hung_up plan c
+abbrev pub after_move : PlanOf → Channel → Move → Channel
+after_move plan c Next = going_on c
+after_move plan c (Jump target) = at_target plan c (target_place plan c.place target)
+after_move plan c (Park phase) = record c { phase = phase }
+after_move plan c Hang = hung_up plan c
 
 -- the channel after its application; a name that the table lacks is a hang-up
-abbrev pub went : PlanOf → Channel → Option Move → Channel
-went plan c None = hung_up plan c
-went plan c (Some move) = moved plan c move
+abbrev pub after_application : PlanOf → Channel → Option Move → Channel
+after_application plan c None = hung_up plan c
+after_application plan c (Some move) = after_move plan c move
 
 -- whether the extension of a place is not there, and `i` is found in its context
 abbrev pub is_invalid : PlanOf → Place → Bool
@@ -70,25 +70,25 @@ abbrev pub invalid : Channel → Channel
 invalid c = ready_in (with_value c (codes "INVALID_EXTEN") c.place.exten) (codes "i")
 
 -- the channel after one more digit: it waits for more where the digits may go on, else it goes where they lead
-abbrev pub collected : Bool → Channel → List ℕ → Bool → Channel
-collected true c digits is_background = record c { phase = Digits digits is_background }
-collected false c digits is_background = ready_in c digits
+abbrev pub after_digit : Bool → Channel → List ℕ → Bool → Channel
+after_digit true c digits is_background = record c { phase = Digits digits is_background }
+after_digit false c digits is_background = ready_in c digits
 
 -- the channel that waited for digits by `WaitExten`, and none came: it goes on, or else to the extension `t`, or is hung up
-abbrev pub waited : PlanOf → Channel → Channel
-waited plan c =
+abbrev pub after_wait : PlanOf → Channel → Channel
+after_wait plan c =
     if is_found plan c.place.context c.place.exten (c.place.priority + 1) then going_on c
     else if is_found plan c.place.context (codes "t") 1 then ready_in c (codes "t")
     else hung_up plan c
 
 -- the channel that waited for digits and for which none came in time, by whether `Background` asked for them
-abbrev pub undialled : PlanOf → Channel → Bool → Channel
-undialled plan c true = going_on c
-undialled plan c false = waited plan c
+abbrev pub without_digits : PlanOf → Channel → Bool → Channel
+without_digits plan c true = going_on c
+without_digits plan c false = after_wait plan c
 
 -- the channel that waited for digits, of which these came in time
 abbrev pub timed_out : PlanOf → Channel → List ℕ → Bool → Channel
-timed_out plan c [] is_background = undialled plan c is_background
+timed_out plan c [] is_background = without_digits plan c is_background
 timed_out plan c (b ∷ bs) is_background = ready_in c (b ∷ bs)
 
 -- the channel that leaves its queue, which reads why
@@ -106,21 +106,21 @@ goes_on_after (Dialling goes_on has_timer) = false
 goes_on_after Ended = false
 
 -- the channel after the end of its talk, by whether it goes on
-abbrev pub talked : PlanOf → Channel → Bool → Channel
-talked plan c true = left_queue c (codes "CONTINUE")
-talked plan c false = hung_up plan c
+abbrev pub after_talk : PlanOf → Channel → Bool → Channel
+after_talk plan c true = left_queue c (codes "CONTINUE")
+after_talk plan c false = hung_up plan c
 
 -- the channel that reads what came of its call to devices
 abbrev pub with_dial_status : Channel → List ℕ → Channel
 with_dial_status c status = with_value c (codes "DIALSTATUS") status
 
 -- the channel after the end of the time of its call to devices
-abbrev pub unanswered : Channel → Channel
-unanswered c = going_on (with_dial_status c (codes "NOANSWER"))
+abbrev pub after_no_answer : Channel → Channel
+after_no_answer c = going_on (with_dial_status c (codes "NOANSWER"))
 
 -- the channel after a hang-up while its call to devices lasts
-abbrev pub cancelled : PlanOf → Channel → Channel
-cancelled plan c = hung_up plan (with_dial_status c (codes "CANCEL"))
+abbrev pub after_cancel : PlanOf → Channel → Channel
+after_cancel plan c = hung_up plan (with_dial_status c (codes "CANCEL"))
 
 -- whether a channel is hung up with the far side, which answered: where it does not go on
 abbrev pub ends_call : DialStatus → Bool → Bool
@@ -131,8 +131,8 @@ ends_call Congestion goes_on = false
 ends_call ChanUnavail goes_on = false
 
 -- the channel after its call to devices
-abbrev pub dialled : PlanOf → Channel → DialStatus → Bool → Channel
-dialled plan c status goes_on =
+abbrev pub after_dialling : PlanOf → Channel → DialStatus → Bool → Channel
+after_dialling plan c status goes_on =
     if ends_call status goes_on then hung_up plan (with_dial_status c (status_name status))
     else going_on (with_dial_status c (status_name status))
 
@@ -146,7 +146,7 @@ pub data Change : Type 0 where
   TalkEnds : Change
 
 -- the channel after such a change
-abbrev pub changed : PlanOf → Change → Channel → Channel
-changed plan Stays c = c
-changed plan (Talks queue agent) c = record c { phase = Talking queue agent (goes_on_after c.phase) }
-changed plan TalkEnds c = talked plan c (goes_on_after c.phase)
+abbrev pub after_change : PlanOf → Change → Channel → Channel
+after_change plan Stays c = c
+after_change plan (Talks queue agent) c = record c { phase = Talking queue agent (goes_on_after c.phase) }
+after_change plan TalkEnds c = after_talk plan c (goes_on_after c.phase)

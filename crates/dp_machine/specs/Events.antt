@@ -12,14 +12,14 @@ use Rattle.dp_queue.specs.declared.fault.OfferFault.{OfferFault}
 use Rattle.dp_queue.specs.declared.fault.OfferFault.TheVariants.{NoQueue as no_queue, NobodyWaiting as nobody_waiting, NoMember as no_member}
 use Rattle.dp_queue.specs.declared.offer.Offered.{Offered as Rung}
 use Rattle.dp_vars.specs.Stores.{nothing}
-use Rattle.dp_app.specs.Rows.{Rows, dispatched}
-use Rattle.dp_app.specs.declared.cell.Cell.{Cell}
+use Rattle.dp_app.specs.Rows.{Rows, after_dispatch}
+use Rattle.dp_app.specs.Cells.{CellOf}
 use Rattle.dp_app.specs.declared.moves.Move.{Move}
 use Rattle.dp_app.specs.declared.phase.Phase.{Phase}
 use Rattle.dp_app.specs.declared.phase.Phase.TheVariants.{Ready, Digits, Pause, Queued, Talking, Dialling, Ended as phase_ended}
-use Rattle.dp_machine.specs.Channels.{Change, Stays, Talks, TalkEnds, cancelled, changed, collected, dialled, going_on, hung_up, invalid, is_invalid, left_queue, ready_at, timed_out, unanswered, went}
+use Rattle.dp_machine.specs.Channels.{Change, Stays, Talks, TalkEnds, after_cancel, after_change, after_digit, after_dialling, going_on, hung_up, invalid, is_invalid, left_queue, ready_at, timed_out, after_no_answer, after_application}
 use Rattle.dp_machine.specs.Found.{Located, could_go_on, entry_found, is_found}
-use Rattle.dp_machine.specs.Reloading.{reloaded}
+use Rattle.dp_machine.specs.Reloading.{after_reload}
 use Rattle.dp_machine.specs.Seen.{arguments_seen}
 use Rattle.dp_machine.specs.Targets.{place_of}
 use Rattle.dp_machine.specs.World.{World, most_channels, channel_at, with_channel}
@@ -33,12 +33,12 @@ use Rattle.dp_machine.specs.declared.refusal.Refusal.{Refusal}
 use Rattle.dp_machine.specs.declared.refusal.Refusal.TheVariants.{NoChannel, NotReady, NotWaiting, NoTimer, NoQueue, NobodyWaiting, NoMember, NotRinging, NotTalking, Ended, NumbersSpent, BadDigit, BadPlan, NotDialling}
 use Rattle.dp_machine.specs.declared.reply.Reply.{Reply}
 use Rattle.dp_machine.specs.declared.reply.Reply.TheVariants.{Started, Ran, Invalid, NoEntry, Offered, Done, Refused}
-use Rattle.dp_machine.specs.declared.shared.Shared.{Shared}
+use Rattle.dp_machine.specs.declared.shared_state.SharedState.{SharedState}
 
 -- what a channel's event makes of the channel and of what all channels share, and the reply
 pub record Own : Type 0 where
   pub channel : Channel
-  pub shared : Shared
+  pub shared : SharedState
   pub reply : Reply
 
 -- what a call that comes in makes of the channels, and the reply
@@ -48,7 +48,7 @@ pub record Entered : Type 0 where
 
 -- what an agent's event makes of what all channels share, which channel it changes and how, and the reply
 pub record Served : Type 0 where
-  pub shared : Shared
+  pub shared : SharedState
   pub who : ℕ
   pub change : Change
   pub reply : Reply
@@ -56,31 +56,31 @@ pub record Served : Type 0 where
 -- what an application makes of its channel and of what all channels share, and where it sends the channel
 pub record Applied : Type 0 where
   pub channel : Channel
-  pub shared : Shared
+  pub shared : SharedState
   pub going : Option Move
 
 -- a refused event leaves all as it was
-abbrev pub refuse : Refusal → Shared → Channel → Own
+abbrev pub refuse : Refusal → SharedState → Channel → Own
 refuse refusal shared c = record { channel = c; shared = shared; reply = Refused refusal }
 
 -- an event that is taken, and leaves this channel and this shared part
-abbrev pub take_event : Shared → Channel → Own
+abbrev pub take_event : SharedState → Channel → Own
 take_event shared c = record { channel = c; shared = shared; reply = Done }
 
 -- the shared part with other queues
-abbrev pub with_queues : Shared → QueuesOf → Shared
+abbrev pub with_queues : SharedState → QueuesOf → SharedState
 with_queues shared queues = record { globals = shared.globals; queues = queues }
 
 -- the shared part after a channel that leaves its queue: the agents that rang for it are idle
-abbrev pub without_caller : Shared → ℕ → Shared
+abbrev pub without_caller : SharedState → ℕ → SharedState
 without_caller shared number = with_queues shared (leave_row shared.queues number).0
 
 -- the shared part after the end of a channel's talk
-abbrev pub without_talk : Shared → ℕ → Shared
+abbrev pub without_talk : SharedState → ℕ → SharedState
 without_talk shared number = with_queues shared (end_talk_row shared.queues number).0
 
 -- what an application sees of a channel and of what all channels share
-abbrev pub cell_of : Shared → ℕ → Channel → Cell
+abbrev pub cell_of : SharedState → ℕ → Channel → CellOf
 cell_of shared number c = record {
   number = number;
   place = c.place;
@@ -92,31 +92,31 @@ cell_of shared number c = record {
 }
 
 -- the channel and the shared part after an application, and where it sends the channel
-abbrev pub applied : Channel → Cell × Option Move → Applied
-applied c after = record {
+abbrev pub application_outcome : Channel → CellOf × Option Move → Applied
+application_outcome c after = record {
   channel = record c { caller = after.0.caller; store = after.0.store };
   shared = record { globals = after.0.globals; queues = after.0.queues };
   going = after.1;
 }
 
 -- the channel goes where its application sent it
-abbrev pub ran : PlanOf → EntryId → Applied → Own
-ran plan id after = record { channel = went plan after.channel after.going; shared = after.shared; reply = Ran id }
+abbrev pub after_run : PlanOf → EntryId → Applied → Own
+after_run plan id after = record { channel = after_application plan after.channel after.going; shared = after.shared; reply = Ran id }
 
 -- a step where no entry is found: to the extension `i` if the extension is not there, else a hang-up
-unfoldable pub unfound : PlanOf → Shared → Channel → Own
+unfoldable pub unfound : PlanOf → SharedState → Channel → Own
 unfound plan shared c =
     if is_invalid plan c.place then record { channel = invalid c; shared = shared; reply = Invalid }
     else record { channel = hung_up plan c; shared = shared; reply = NoEntry }
 
 -- a step, by the entry at the channel's place: its application is run with its arguments expanded
-abbrev pub step_at : Rows → PlanOf → Shared → ℕ → Channel → Option Located → Own
+abbrev pub step_at : Rows → PlanOf → SharedState → ℕ → Channel → Option Located → Own
 step_at rows plan shared number c None = unfound plan shared c
 step_at rows plan shared number c (Some found) =
-    ran plan found.id (applied c (dispatched (rows found.entry.application) (arguments_seen shared number c found.entry.arguments) (cell_of shared number c)))
+    after_run plan found.id (application_outcome c (after_dispatch (rows found.entry.application) (arguments_seen shared number c found.entry.arguments) (cell_of shared number c)))
 
 -- a step, by the channel's phase
-abbrev pub step_in : Rows → Phase → PlanOf → Shared → ℕ → Channel → Own
+abbrev pub step_in : Rows → Phase → PlanOf → SharedState → ℕ → Channel → Own
 step_in rows Ready plan shared number c = step_at rows plan shared number c (entry_found plan c.place)
 step_in rows (Digits digits is_background) plan shared number c = refuse NotReady shared c
 step_in rows Pause plan shared number c = refuse NotReady shared c
@@ -126,7 +126,7 @@ step_in rows (Dialling goes_on has_timer) plan shared number c = refuse NotReady
 step_in rows phase_ended plan shared number c = refuse Ended shared c
 
 -- the event `Step`
-unfoldable pub step_row : Rows → PlanOf → Shared → ℕ → Channel → Own
+unfoldable pub step_row : Rows → PlanOf → SharedState → ℕ → Channel → Own
 step_row rows plan shared number c = step_in rows c.phase plan shared number c
 
 -- the digits of a telephone
@@ -134,21 +134,21 @@ abbrev pub is_digit : ℕ → Bool
 is_digit byte = nat_le 48 byte && nat_le byte 57 || byte == 42 || byte == 35 || nat_le 65 byte && nat_le byte 68
 
 -- a digit that a channel waits for
-abbrev pub collect : PlanOf → Shared → Channel → List ℕ → Bool → Own
-collect plan shared c digits is_background = take_event shared (collected (could_go_on plan c.place.context digits) c digits is_background)
+abbrev pub collect : PlanOf → SharedState → Channel → List ℕ → Bool → Own
+collect plan shared c digits is_background = take_event shared (after_digit (could_go_on plan c.place.context digits) c digits is_background)
 
 -- the context in which the digits of those that wait in the queue of a number are looked up
 abbrev pub way_out_of : QueuesOf → ℕ → List ℕ
 way_out_of queues queue = unwrap_or (option_map (λ q. q.settings.context) (slice_get queues.queues queue)) []
 
 -- a digit of a channel that waits in a queue: where it is found in the queue's context the channel leaves and goes there, its status as it was
-abbrev pub way_out : PlanOf → Shared → ℕ → Channel → ℕ → List ℕ → Own
+abbrev pub way_out : PlanOf → SharedState → ℕ → Channel → ℕ → List ℕ → Own
 way_out plan shared number c digit context =
     if is_found plan context (digit ∷ []) 1 then take_event (without_caller shared number) (ready_at c (place_of context (digit ∷ []) 1))
     else take_event shared c
 
 -- a digit of a telephone, by the channel's phase
-abbrev pub dial_in : Phase → ℕ → PlanOf → Shared → ℕ → Channel → Own
+abbrev pub dial_in : Phase → ℕ → PlanOf → SharedState → ℕ → Channel → Own
 dial_in Ready digit plan shared number c = refuse NotWaiting shared c
 dial_in (Digits digits is_background) digit plan shared number c = collect plan shared c (digits ++ digit ∷ []) is_background
 dial_in Pause digit plan shared number c = take_event shared c
@@ -168,26 +168,26 @@ is_over (Dialling goes_on has_timer) = false
 is_over phase_ended = true
 
 -- the event `Digit`: a byte that is no digit is refused where the channel is not over, whatever it waits for
-unfoldable pub digit_row : ℕ → PlanOf → Shared → ℕ → Channel → Own
+unfoldable pub digit_row : ℕ → PlanOf → SharedState → ℕ → Channel → Own
 digit_row digit plan shared number c =
     if is_over c.phase || is_digit digit then dial_in c.phase digit plan shared number c else refuse BadDigit shared c
 
 -- a channel leaves its queue, and reads why
-abbrev pub leave : Shared → ℕ → Channel → List ℕ → Own
+abbrev pub leave : SharedState → ℕ → Channel → List ℕ → Own
 leave shared number c status = take_event (without_caller shared number) (left_queue c status)
 
 -- the end of the time in a queue
-abbrev pub time_in_queue : Bool → Shared → ℕ → Channel → Own
+abbrev pub time_in_queue : Bool → SharedState → ℕ → Channel → Own
 time_in_queue false shared number c = refuse NoTimer shared c
 time_in_queue true shared number c = leave shared number c (codes "TIMEOUT")
 
 -- the end of the time of a call to devices
-abbrev pub dial_time : Bool → Shared → Channel → Own
+abbrev pub dial_time : Bool → SharedState → Channel → Own
 dial_time false shared c = refuse NoTimer shared c
-dial_time true shared c = take_event shared (unanswered c)
+dial_time true shared c = take_event shared (after_no_answer c)
 
 -- the event `Timeout`, by the channel's phase
-abbrev pub timeout_in : Phase → PlanOf → Shared → ℕ → Channel → Own
+abbrev pub timeout_in : Phase → PlanOf → SharedState → ℕ → Channel → Own
 timeout_in Ready plan shared number c = refuse NotWaiting shared c
 timeout_in (Digits digits is_background) plan shared number c = take_event shared (timed_out plan c digits is_background)
 timeout_in Pause plan shared number c = take_event shared (going_on c)
@@ -197,16 +197,16 @@ timeout_in (Dialling goes_on has_timer) plan shared number c = dial_time has_tim
 timeout_in phase_ended plan shared number c = refuse Ended shared c
 
 -- the event `Timeout`
-unfoldable pub timeout_row : PlanOf → Shared → ℕ → Channel → Own
+unfoldable pub timeout_row : PlanOf → SharedState → ℕ → Channel → Own
 timeout_row plan shared number c = timeout_in c.phase plan shared number c
 
 -- a channel asks whether it is to leave its queue
-abbrev pub poll_queue : Bool → Shared → ℕ → Channel → Own
+abbrev pub poll_queue : Bool → SharedState → ℕ → Channel → Own
 poll_queue false shared number c = take_event shared c
 poll_queue true shared number c = leave shared number c (codes "LEAVEEMPTY")
 
 -- the event `Poll`, by the channel's phase
-abbrev pub poll_in : Phase → PlanOf → Shared → ℕ → Channel → Own
+abbrev pub poll_in : Phase → PlanOf → SharedState → ℕ → Channel → Own
 poll_in Ready plan shared number c = refuse NotWaiting shared c
 poll_in (Digits digits is_background) plan shared number c = refuse NotWaiting shared c
 poll_in Pause plan shared number c = refuse NotWaiting shared c
@@ -216,15 +216,15 @@ poll_in (Dialling goes_on has_timer) plan shared number c = refuse NotWaiting sh
 poll_in phase_ended plan shared number c = refuse Ended shared c
 
 -- the event `Poll`
-unfoldable pub poll_row : PlanOf → Shared → ℕ → Channel → Own
+unfoldable pub poll_row : PlanOf → SharedState → ℕ → Channel → Own
 poll_row plan shared number c = poll_in c.phase plan shared number c
 
 -- a hang-up while a call to devices lasts
-abbrev pub dial_cancelled : PlanOf → Shared → Channel → Own
-dial_cancelled plan shared c = take_event shared (cancelled plan c)
+abbrev pub dial_cancelled : PlanOf → SharedState → Channel → Own
+dial_cancelled plan shared c = take_event shared (after_cancel plan c)
 
 -- the event `Hangup`, by the channel's phase: it leaves its queue, or its talk ends, or its call to devices, and it is hung up
-abbrev pub hang_up_in : Phase → PlanOf → Shared → ℕ → Channel → Own
+abbrev pub hang_up_in : Phase → PlanOf → SharedState → ℕ → Channel → Own
 hang_up_in Ready plan shared number c = take_event shared (hung_up plan c)
 hang_up_in (Digits digits is_background) plan shared number c = take_event shared (hung_up plan c)
 hang_up_in Pause plan shared number c = take_event shared (hung_up plan c)
@@ -234,25 +234,25 @@ hang_up_in (Dialling goes_on has_timer) plan shared number c = dial_cancelled pl
 hang_up_in phase_ended plan shared number c = refuse Ended shared c
 
 -- the event `Hangup`
-unfoldable pub hang_up_row : PlanOf → Shared → ℕ → Channel → Own
+unfoldable pub hang_up_row : PlanOf → SharedState → ℕ → Channel → Own
 hang_up_row plan shared number c = hang_up_in c.phase plan shared number c
 
 -- the event `DialResult`, by the channel's phase
-abbrev pub dial_result_in : Phase → DialStatus → PlanOf → Shared → ℕ → Channel → Own
+abbrev pub dial_result_in : Phase → DialStatus → PlanOf → SharedState → ℕ → Channel → Own
 dial_result_in Ready status plan shared number c = refuse NotDialling shared c
 dial_result_in (Digits digits is_background) status plan shared number c = refuse NotDialling shared c
 dial_result_in Pause status plan shared number c = refuse NotDialling shared c
 dial_result_in (Queued queue goes_on has_timer) status plan shared number c = refuse NotDialling shared c
 dial_result_in (Talking queue agent goes_on) status plan shared number c = refuse NotDialling shared c
-dial_result_in (Dialling goes_on has_timer) status plan shared number c = take_event shared (dialled plan c status goes_on)
+dial_result_in (Dialling goes_on has_timer) status plan shared number c = take_event shared (after_dialling plan c status goes_on)
 dial_result_in phase_ended status plan shared number c = refuse Ended shared c
 
 -- the event `DialResult`
-unfoldable pub dial_result_row : DialStatus → PlanOf → Shared → ℕ → Channel → Own
+unfoldable pub dial_result_row : DialStatus → PlanOf → SharedState → ℕ → Channel → Own
 dial_result_row status plan shared number c = dial_result_in c.phase status plan shared number c
 
 -- an event of one channel, by what it asks
-abbrev pub own_row : Rows → ChannelEvent → PlanOf → Shared → ℕ → Channel → Own
+abbrev pub own_row : Rows → ChannelEvent → PlanOf → SharedState → ℕ → Channel → Own
 own_row rows asked_step = step_row rows
 own_row rows (asked_digit digit) = digit_row digit
 own_row rows asked_timeout = timeout_row
@@ -261,8 +261,8 @@ own_row rows asked_hangup = hang_up_row
 own_row rows (asked_result status) = dial_result_row status
 
 -- a channel that a call opens at a place
-abbrev pub opened : List ℕ → List ℕ → List ℕ → Channel
-opened context exten caller = record {
+abbrev pub new_channel : List ℕ → List ℕ → List ℕ → Channel
+new_channel context exten caller = record {
   place = place_of context exten 1;
   phase = Ready;
   is_closing = false;
@@ -271,14 +271,14 @@ opened context exten caller = record {
 }
 
 -- the event `Start`
-unfoldable pub started : List Channel → List ℕ → List ℕ → List ℕ → Entered
-started channels context exten caller =
+unfoldable pub start_call : List Channel → List ℕ → List ℕ → List ℕ → Entered
+start_call channels context exten caller =
     if nat_lt (length channels) most_channels
-    then (record { channels = channels ++ opened context exten caller ∷ []; reply = Started (length channels + 1) })
+    then (record { channels = channels ++ new_channel context exten caller ∷ []; reply = Started (length channels + 1) })
     else (record { channels = channels; reply = Refused NumbersSpent })
 
 -- an event of an agent that changes no channel, or is refused
-abbrev pub unmet : Shared → Reply → Served
+abbrev pub unmet : SharedState → Reply → Served
 unmet shared reply = record { shared = shared; who = 0; change = Stays; reply = reply }
 
 -- the refusal of an offer
@@ -289,49 +289,49 @@ offer_refusal no_member = NoMember
 
 -- the reply to an offer
 abbrev pub offer_reply : Result Rung OfferFault → Reply
-offer_reply (Ok offered) = Offered offered.channel offered.rung
+offer_reply (Ok serve_offer) = Offered serve_offer.channel serve_offer.rung
 offer_reply (Err fault) = Refused (offer_refusal fault)
 
 -- the event `Offer`
-unfoldable pub offered : Shared → List ℕ → Served
-offered shared queue =
+unfoldable pub serve_offer : SharedState → List ℕ → Served
+serve_offer shared queue =
     unmet (with_queues shared (offer_row shared.queues queue).0) (offer_reply (offer_row shared.queues queue).1)
 
 -- an agent and a channel talk
-abbrev pub met : Shared → Option Call → Served
-met shared None = unmet shared (Refused NotRinging)
-met shared (Some call) = record { shared = shared; who = call.channel; change = Talks call.queue call.agent; reply = Done }
+abbrev pub begin_talk : SharedState → Option Call → Served
+begin_talk shared None = unmet shared (Refused NotRinging)
+begin_talk shared (Some call) = record { shared = shared; who = call.channel; change = Talks call.queue call.agent; reply = Done }
 
 -- the event `Answer`
-unfoldable pub answered : Shared → List ℕ → Served
-answered shared agent = met (with_queues shared (answer_row shared.queues agent).0) (answer_row shared.queues agent).1
+unfoldable pub serve_answer : SharedState → List ℕ → Served
+serve_answer shared agent = begin_talk (with_queues shared (answer_row shared.queues agent).0) (answer_row shared.queues agent).1
 
 -- the event `Decline`
-unfoldable pub declined : Shared → List ℕ → Served
-declined shared agent =
+unfoldable pub serve_decline : SharedState → List ℕ → Served
+serve_decline shared agent =
     unmet (with_queues shared (decline_row shared.queues agent).0) (if (decline_row shared.queues agent).1 then Done else Refused NotRinging)
 
 -- the talk of an agent and a channel ends
-abbrev pub parted : Shared → Option Call → Served
-parted shared None = unmet shared (Refused NotTalking)
-parted shared (Some call) = record { shared = shared; who = call.channel; change = TalkEnds; reply = Done }
+abbrev pub end_talk : SharedState → Option Call → Served
+end_talk shared None = unmet shared (Refused NotTalking)
+end_talk shared (Some call) = record { shared = shared; who = call.channel; change = TalkEnds; reply = Done }
 
 -- the event `AgentDone`
-unfoldable pub agent_done : Shared → List ℕ → Served
-agent_done shared agent = parted (with_queues shared (done_row shared.queues agent).0) (done_row shared.queues agent).1
+unfoldable pub agent_done : SharedState → List ℕ → Served
+agent_done shared agent = end_talk (with_queues shared (done_row shared.queues agent).0) (done_row shared.queues agent).1
 
 -- the world after a call that comes in, and the reply
-abbrev pub entered : World → Entered → World × Reply
-entered w e = (record w { channels = e.channels }, e.reply)
+abbrev pub world_with_call : World → Entered → World × Reply
+world_with_call w e = (record w { channels = e.channels }, e.reply)
 
 -- the world after a channel's event, and the reply
-abbrev pub owned : World → ℕ → Own → World × Reply
-owned w number own = (record w { channels = with_channel w.channels number own.channel; shared = own.shared }, own.reply)
+abbrev pub world_with_own : World → ℕ → Own → World × Reply
+world_with_own w number own = (record w { channels = with_channel w.channels number own.channel; shared = own.shared }, own.reply)
 
 -- a channel's event reads the dialplan, what all channels share and its own channel, and writes the last two
-abbrev pub own_event : World → ℕ → (PlanOf → Shared → ℕ → Channel → Own) → Option Channel → World × Reply
+abbrev pub own_event : World → ℕ → (PlanOf → SharedState → ℕ → Channel → Own) → Option Channel → World × Reply
 own_event w number row None = (w, Refused NoChannel)
-own_event w number row (Some c) = owned w number (row w.plan w.shared number c)
+own_event w number row (Some c) = world_with_own w number (row w.plan w.shared number c)
 
 -- the world after an event of the channel of a number, by what it asks, and the reply
 abbrev pub asked_event : Rows → World → ℕ → ChannelEvent → World × Reply
@@ -340,7 +340,7 @@ asked_event rows w number asked = own_event w number (own_row rows asked) (chann
 -- the channels after an agent's event
 abbrev pub served_channels : World → Served → Option Channel → List Channel
 served_channels w s None = w.channels
-served_channels w s (Some c) = with_channel w.channels s.who (changed w.plan s.change c)
+served_channels w s (Some c) = with_channel w.channels s.who (after_change w.plan s.change c)
 
 -- what all channels share says the reply to an agent's event, and which channel it changes
 abbrev pub agent_event : World → Served → World × Reply
@@ -348,18 +348,18 @@ agent_event w s = (record w { channels = served_channels w s (channel_at w.chann
 
 -- the world after an event, and the reply
 abbrev pub event_row : Rows → World → Event → World × Reply
-event_row rows w (Start context exten caller) = entered w (started w.channels context exten caller)
+event_row rows w (Start context exten caller) = world_with_call w (start_call w.channels context exten caller)
 event_row rows w (Step number) = own_event w number (step_row rows) (channel_at w.channels number)
 event_row rows w (Digit number digit) = own_event w number (digit_row digit) (channel_at w.channels number)
 event_row rows w (Timeout number) = own_event w number timeout_row (channel_at w.channels number)
 event_row rows w (Poll number) = own_event w number poll_row (channel_at w.channels number)
 event_row rows w (Hangup number) = own_event w number hang_up_row (channel_at w.channels number)
 event_row rows w (DialResult number status) = own_event w number (dial_result_row status) (channel_at w.channels number)
-event_row rows w (Offer queue) = agent_event w (offered w.shared queue)
-event_row rows w (Answer agent) = agent_event w (answered w.shared agent)
-event_row rows w (Decline agent) = agent_event w (declined w.shared agent)
+event_row rows w (Offer queue) = agent_event w (serve_offer w.shared queue)
+event_row rows w (Answer agent) = agent_event w (serve_answer w.shared agent)
+event_row rows w (Decline agent) = agent_event w (serve_decline w.shared agent)
 event_row rows w (AgentDone agent) = agent_event w (agent_done w.shared agent)
-event_row rows w (Reload text) = reloaded w text
+event_row rows w (Reload text) = after_reload w text
 
 -- the entry that the next step of a channel would run, by its phase
 abbrev pub next_in : Phase → PlanOf → Channel → Option EntryId

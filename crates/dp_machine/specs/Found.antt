@@ -15,13 +15,13 @@ pub record Located : Type 0 where
   pub entry : Entry
 
 -- the entry of these numbers, located
-abbrev pub located : PlanOf → EntryId → Option Located
-located plan id = option_map (λ entry. record { id = id; entry = entry }) (entry_at plan id)
+abbrev pub located_entry : PlanOf → EntryId → Option Located
+located_entry plan id = option_map (λ entry. record { id = id; entry = entry }) (entry_at plan id)
 
 -- the entry at a place of the dialplan
 unfoldable pub entry_found : PlanOf → Place → Option Located
 entry_found plan place =
-    option_and_then (located plan) (found_entry plan (search_order plan place.context) place.exten place.priority)
+    option_and_then (located_entry plan) (found_entry plan (search_order plan place.context) place.exten place.priority)
 
 -- the numbers of the entry that is found for an extension of a context at a priority
 unfoldable pub id_found : PlanOf → List ℕ → List ℕ → ℕ → Option EntryId

@@ -17,7 +17,7 @@ use Rattle.dp_machine.specs.declared.channel_event.ChannelEvent.TheVariants.{Ste
 use Rattle.dp_machine.specs.declared.channel.Channel.{Channel}
 use Rattle.dp_machine.specs.declared.event.Event.{Event}
 use Rattle.dp_machine.specs.declared.event.Event.TheVariants.{Start, Step, Digit, Timeout, Poll, Hangup, DialResult, Offer, Answer, Decline, AgentDone, Reload}
-use Rattle.dp_machine.specs.declared.shared.Shared.{Shared}
+use Rattle.dp_machine.specs.declared.shared_state.SharedState.{SharedState}
 
 -- the queue in which a channel waits by its phase
 abbrev pub queue_in : Phase → Option ℕ
@@ -68,7 +68,7 @@ talk_of o = option_and_then (λ c. talk_in c.phase) o
 
 -- what is known of the channel of a number before an event: it waits in its queue alone, where it does not talk by its phase no agent
 -- talks with it, and it is sound
-pub record MayAct (shared : Shared) (number : ℕ) (c : Channel) : Type 0 where
+pub record MayAct (shared : SharedState) (number : ℕ) (c : Channel) : Type 0 where
   pub waits : waits_in shared.queues.queues number ≡ queue_in c.phase
   pub silent : talk_in c.phase ≡ None → is_talking shared.queues.agents number ≡ false
   pub sound : IsSoundIn c.phase c

@@ -1,6 +1,6 @@
 -- Another dialplan comes in force.
 use Rattle.std.specs.Prelude.{ℕ, List, Option, Some, None, Result, Ok, Err}
-use Rattle.dp_plan.specs.Loaded.{loaded}
+use Rattle.dp_plan.specs.Loaded.{plan_and_notes}
 use Rattle.dp_plan.specs.Plan.{PlanOf}
 use Rattle.dp_plan.specs.declared.fault.LoadFault.{LoadFault}
 use Rattle.dp_plan.specs.declared.note.Note.{Note}
@@ -11,7 +11,7 @@ use Rattle.dp_machine.specs.World.{World}
 use Rattle.dp_machine.specs.declared.refusal.Refusal.TheVariants.{BadPlan}
 use Rattle.dp_machine.specs.declared.reply.Reply.{Reply}
 use Rattle.dp_machine.specs.declared.reply.Reply.TheVariants.{Done, Refused}
-use Rattle.dp_machine.specs.declared.shared.Shared.{Shared}
+use Rattle.dp_machine.specs.declared.shared_state.SharedState.{SharedState}
 
 -- the dialplan that a text loads as, where it has no fault; its notes are not kept
 abbrev pub plan_in : Result (PlanOf × List Note) LoadFault → Option PlanOf
@@ -19,7 +19,7 @@ plan_in (Ok read) = Some read.0
 plan_in (Err fault) = None
 
 -- the shared part with globals set, one after another, each expanded over those that are then; other globals stay, and the queues
-abbrev pub shared_with : Shared → List GlobalVariable → Shared
+abbrev pub shared_with : SharedState → List GlobalVariable → SharedState
 shared_with shared variables = record {
   globals = globals_set (waiting_count shared.queues.queues) shared.globals variables;
   queues = shared.queues;
@@ -32,5 +32,5 @@ reloaded_by w None = (w, Refused BadPlan)
 reloaded_by w (Some plan) = (record { plan = plan; channels = w.channels; shared = shared_with w.shared plan.globals }, Done)
 
 -- the event `Reload`
-abbrev pub reloaded : World → List ℕ → World × Reply
-reloaded w text = reloaded_by w (plan_in (loaded text))
+abbrev pub after_reload : World → List ℕ → World × Reply
+after_reload w text = reloaded_by w (plan_in (plan_and_notes text))

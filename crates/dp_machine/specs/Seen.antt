@@ -8,7 +8,7 @@ use Rattle.dp_vars.specs.Values.{expansion}
 use Rattle.dp_vars.specs.Variables.{Named, value_or_empty}
 use Rattle.dp_machine.specs.declared.channel.Channel.{Channel}
 use Rattle.dp_app.specs.declared.place.Place.{Place}
-use Rattle.dp_machine.specs.declared.shared.Shared.{Shared}
+use Rattle.dp_machine.specs.declared.shared_state.SharedState.{SharedState}
 
 -- nobody waits in any queue before the first call
 abbrev pub none_waiting : List ℕ → ℕ
@@ -25,20 +25,20 @@ view_in number c = record {
 }
 
 -- the maps in which a name is searched for the channel of a number
-abbrev pub maps_in : Shared → ℕ → Channel → List Named
+abbrev pub maps_in : SharedState → ℕ → Channel → List Named
 maps_in shared number c = maps_by (Some (view_in number c)) (Some c.store) shared.globals
 
 -- what the texts of the channel of a number see: its place and caller, its variables and frames, the globals, and how many
 -- calls wait in a queue
-abbrev pub sight_in : Shared → ℕ → Channel → Sight
+abbrev pub sight_in : SharedState → ℕ → Channel → Sight
 sight_in shared number c = sight_by (waiting_count shared.queues.queues) (Some (view_in number c)) (Some c.store) shared.globals
 
 -- arguments, expanded in what the channel of a number sees
-unfoldable pub arguments_seen : Shared → ℕ → Channel → List ℕ → List ℕ
+unfoldable pub arguments_seen : SharedState → ℕ → Channel → List ℕ → List ℕ
 arguments_seen shared number c arguments = expansion (sight_in shared number c) arguments
 
 -- the value of a name in the channel of a number; empty where there is no channel
-abbrev pub value_seen : Shared → ℕ → Option Channel → List ℕ → List ℕ
+abbrev pub value_seen : SharedState → ℕ → Option Channel → List ℕ → List ℕ
 value_seen shared number None name = []
 value_seen shared number (Some c) name = value_or_empty (maps_in shared number c) name
 

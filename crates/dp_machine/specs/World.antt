@@ -5,20 +5,20 @@ use Rattle.dp_queue.specs.Queues.{QueuesOf}
 use Rattle.dp_machine.specs.Seen.{globals_of, value_seen}
 use Rattle.dp_machine.specs.declared.channel.Channel.{Channel}
 use Rattle.dp_machine.specs.declared.exchange.Exchange.{Exchange}
-use Rattle.dp_machine.specs.declared.shared.Shared.{Shared}
+use Rattle.dp_machine.specs.declared.shared_state.SharedState.{SharedState}
 
 -- the dialplan in force, the channels by their numbers, the first of which is 1, and what they share
 pub record World : Type 0 where
   pub plan : PlanOf
   pub channels : List Channel
-  pub shared : Shared
+  pub shared : SharedState
 
 -- how many channels a world has at most
 abbrev pub most_channels : ℕ
 most_channels = 65535
 
 -- the world of a dialplan, its channels and what they share
-abbrev pub world_of : PlanOf → List Channel → Shared → World
+abbrev pub world_of : PlanOf → List Channel → SharedState → World
 world_of plan channels shared = record { plan = plan; channels = channels; shared = shared }
 
 -- the world of an exchange and its channels

@@ -1,13 +1,13 @@
 //! The events of agents, after the Asterisk documentation's page on queues.
 ghost use Rattle.std.specs.Prelude.{◌≡◌, ℕ, OnOk, OnErr, List, Some};
 ghost use Rattle.dp_plan.specs.Plan.{PlanOf};
-ghost use Rattle.dp_machine.specs.Channels.{goes_on_after, talked};
+ghost use Rattle.dp_machine.specs.Channels.{goes_on_after, after_talk};
 ghost use Rattle.dp_machine.specs.Events as spec;
 ghost use Rattle.dp_machine.specs.steps.Follows.{Makes};
 ghost use Rattle.dp_machine.specs.GoodWorld.{IsSoundAt, IsSoundIn};
 ghost use Rattle.dp_machine.specs.World as worlds;
 ghost use Rattle.dp_machine.specs.declared.reply.Reply.TheVariants.{Done};
-ghost use Rattle.dp_machine.specs.declared.shared.Shared.{Shared};
+ghost use Rattle.dp_machine.specs.declared.shared_state.SharedState.{SharedState};
 
 use crate::channel::Channel;
 use crate::directory::Directory;
@@ -34,10 +34,10 @@ fn offer_refusal(fault: OfferFault) -> Refusal
 }
 
 /// A call of the queue of this name is offered to agents.
-#[tactic(auto, unfolding(crate::specs::Events::offered))]
+#[tactic(auto, unfolding(crate::specs::Events::serve_offer))]
 pub(crate) fn offer(exchange: &mut Exchange, queue: &[u8]) -> Reply
     ensures { (channels : List Channel) → spec.agent_event (worlds.world_in exchange.old channels)
-        (spec.offered exchange.old.shared queue.now)
+        (spec.serve_offer exchange.old.shared queue.now)
         ≡ (worlds.world_in exchange.new channels, result) }
 {
     match exchange.shared.queues.offer(queue) {
@@ -65,8 +65,8 @@ fn goes_on_after(phase: &Phase) -> bool
 
 /// The channel of a call, if there is one, talks with the agent.
 fn talk(channels: &mut Vec<Channel>, call: Call)
-    ensures { (plan : PlanOf) (before after : Shared)
-        → spec.agent_event (worlds.world_of plan channels.old.items before) (spec.met after (Some call))
+    ensures { (plan : PlanOf) (before after : SharedState)
+        → spec.agent_event (worlds.world_of plan channels.old.items before) (spec.begin_talk after (Some call))
         ≡ (worlds.world_of plan channels.new.items after, Done) }
 {
     let Some(index) = index_of(call.channel, channels.len()) else {
@@ -81,10 +81,10 @@ fn talk(channels: &mut Vec<Channel>, call: Call)
 }
 
 /// The agent of this interface answers the call that it rings for.
-#[tactic(auto, unfolding(crate::specs::Events::answered))]
+#[tactic(auto, unfolding(crate::specs::Events::serve_answer))]
 pub(crate) fn answer(exchange: &mut Exchange, channels: &mut Vec<Channel>, agent: &[u8]) -> Reply
     ensures { spec.agent_event (worlds.world_in exchange.old channels.old.items)
-        (spec.answered exchange.old.shared agent.now)
+        (spec.serve_answer exchange.old.shared agent.now)
         ≡ (worlds.world_in exchange.new channels.new.items, result) }
 {
     match exchange.shared.queues.answer(agent) {
@@ -97,10 +97,10 @@ pub(crate) fn answer(exchange: &mut Exchange, channels: &mut Vec<Channel>, agent
 }
 
 /// The agent of this interface declines the call that it rings for.
-#[tactic(auto, unfolding(crate::specs::Events::declined))]
+#[tactic(auto, unfolding(crate::specs::Events::serve_decline))]
 pub(crate) fn decline(exchange: &mut Exchange, agent: &[u8]) -> Reply
     ensures { (channels : List Channel) → spec.agent_event (worlds.world_in exchange.old channels)
-        (spec.declined exchange.old.shared agent.now)
+        (spec.serve_decline exchange.old.shared agent.now)
         ≡ (worlds.world_in exchange.new channels, result) }
 {
     if exchange.shared.queues.decline(agent) {
@@ -113,7 +113,7 @@ pub(crate) fn decline(exchange: &mut Exchange, agent: &[u8]) -> Reply
 /// The talk of the channel ends: it goes on, which it reads, or is hung up.
 fn end_talk(alloc: Global, plan: &mut Directory, channel: &mut Channel) -> Result<(), NoMemory>
     requires { IsSoundIn channel.old.phase channel.old }
-    ensures ok { OnOk result (channel.new ≡ talked plan.old channel.old (goes_on_after channel.old.phase)) }
+    ensures ok { OnOk result (channel.new ≡ after_talk plan.old channel.old (goes_on_after channel.old.phase)) }
     ensures err { OnErr result (channel.new ≡ channel.old) }
     ensures same { plan.new ≡ plan.old }
 {
@@ -134,8 +134,8 @@ fn part(
     call: Call,
 ) -> Result<(), NoMemory>
     requires { IsSoundAt (worlds.channel_at channels.old.items call.channel) }
-    ensures row { (before after : Shared) → OnOk result
-        (spec.agent_event (worlds.world_of plan.old channels.old.items before) (spec.parted after (Some call))
+    ensures row { (before after : SharedState) → OnOk result
+        (spec.agent_event (worlds.world_of plan.old channels.old.items before) (spec.end_talk after (Some call))
         ≡ (worlds.world_of plan.old channels.new.items after, Done)) }
     ensures err { OnErr result (channels.new.items ≡ channels.old.items) }
     ensures same { plan.new ≡ plan.old }

@@ -50,7 +50,7 @@ fn end_dial(
     goes_on: bool,
 ) -> Result<(), NoMemory>
     requires { channel.old.place.priority ≤ most_priority }
-    ensures ok { OnOk result (channel.new ≡ channels.dialled plan.old channel.old status goes_on) }
+    ensures ok { OnOk result (channel.new ≡ channels.after_dialling plan.old channel.old status goes_on) }
     ensures err { OnErr result (channel.new ≡ channel.old) }
     ensures same { plan.new ≡ plan.old }
 {

@@ -1,52 +1,33 @@
 //! The dialplan, and what look-ups in it search in. No look-up takes memory.
 ghost use Rattle.std.specs.Prelude.{◌≡◌, IfOk, IfSome, IsSome, Some};
-ghost use Rattle.dp_lookup.specs.SearchOrder.{search_order};
 ghost use Rattle.dp_plan.specs.Lookup.{entry_at};
 ghost use Rattle.dp_machine.specs.Found as spec;
-ghost use Rattle.dp_machine.specs.steps.Tables.{AreTables, order_now};
+ghost use Rattle.dp_machine.specs.steps.Tables.{AreTables};
 ghost use Rattle.dp_machine.specs.steps.Templates.{IsOf};
 
-use crate::orders::Orders;
-use crate::templates::{Template, Templates};
-use dp_app::Place;
+use crate::templates::{EntryTemplate, Templates};
+use dp_app::{AppTable, Place};
 use dp_lookup::SearchOrder;
 use dp_plan::{Dialplan, Entry, EntryId, NoMemory, Text};
-use dp_trie::Trie;
+use dp_trie::Finder;
 use std::alloc::Global;
 use std::marker::Model;
 
-/// What is made of a dialplan once: its tries with their tables of labels, the search orders of the contexts that were asked last, and
-/// the templates of its entries.
+/// What is made of a dialplan once: what finds its entries and labels, and the templates of its entries.
 #[derive(Drop)]
 pub(crate) struct Tables {
-    trie: Trie,
-    orders: Orders,
+    finder: Finder,
     templates: Templates,
 }
 
 impl Tables {
     /// The tables of a dialplan, in which no context was asked yet.
-    pub(crate) fn of(alloc: Global, plan: &Dialplan) -> Result<Self, NoMemory>
+    pub(crate) fn of<T: AppTable>(alloc: Global, plan: &Dialplan) -> Result<Self, NoMemory>
         ensures { IfOk result (λ tables. AreTables plan.now tables) }
     {
-        let trie = Trie::build(alloc, plan)?;
-        let orders = Orders::room(alloc, plan)?;
-        let templates = Templates::read(alloc, plan.contexts())?;
-        Ok(Tables {
-            trie,
-            orders,
-            templates,
-        })
-    }
-
-    /// Makes the order that of the context of this name. It takes no memory.
-    #[inline(always)]
-    fn turn_to(&mut self, plan: &Dialplan, context: &Text)
-        requires { AreTables plan.now self.old }
-        ensures contexts { order_now self.new.orders ≡ search_order plan.now context.now }
-        ensures tables { AreTables plan.now self.new }
-    {
-        self.orders.turn_to(plan, context);
+        let finder = Finder::build(alloc, plan)?;
+        let templates = Templates::read::<T>(alloc, plan.contexts())?;
+        Ok(Tables { finder, templates })
     }
 }
 
@@ -101,9 +82,8 @@ impl Directory {
         ensures found { result ≡ spec.id_found self.old context.now exten.now priority }
         ensures same { self.new ≡ self.old }
     {
-        self.tables.turn_to(&self.plan, context);
-        let order = self.tables.orders.order();
-        self.tables.trie.find_in(order, exten, priority)
+        self.tables.finder.turn_to(&self.plan, context);
+        self.tables.finder.find(exten, priority)
     }
 
     /// Whether an entry answers for the extension of the context at the priority.
@@ -121,9 +101,8 @@ impl Directory {
         ensures found { result ≡ spec.could_go_on self.old context.now digits.now }
         ensures same { self.new ≡ self.old }
     {
-        self.tables.turn_to(&self.plan, context);
-        let order = self.tables.orders.order();
-        self.tables.trie.more_in(order, digits)
+        self.tables.finder.turn_to(&self.plan, context);
+        self.tables.finder.more(digits)
     }
 
     /// The priority that has the label, of the extension in the context.
@@ -132,9 +111,8 @@ impl Directory {
         ensures found { result ≡ spec.label_found self.old context.now exten.now label.now }
         ensures same { self.new ≡ self.old }
     {
-        self.tables.turn_to(&self.plan, context);
-        let order = self.tables.orders.order();
-        self.tables.trie.find_label_in(order, exten, label)
+        self.tables.finder.turn_to(&self.plan, context);
+        self.tables.finder.find_label(exten, label)
     }
 
     /// The entry of these numbers, which stands in the dialplan.
@@ -149,7 +127,7 @@ impl Directory {
     }
 
     /// The template of the entry of these numbers, which stands in the dialplan.
-    pub(crate) fn template(&self, id: EntryId) -> &Template
+    pub(crate) fn template(&self, id: EntryId) -> &EntryTemplate
         requires { IsSome (entry_at self.now id) }
         ensures { IfSome (entry_at self.now id) (λ entry. IsOf entry result.now) }
     {
@@ -166,6 +144,11 @@ impl Directory {
     {
         let order = SearchOrder::of(alloc, &self.plan, &place.context)?;
         let exten = place.exten.bytes();
-        Ok(self.tables.trie.find(&order, exten, place.priority))
+        Ok(
+            self.tables
+                .finder
+                .trie()
+                .find(&order, exten, place.priority),
+        )
     }
 }

@@ -7,7 +7,8 @@ ghost use Rattle.dp_machine.specs.World as worlds;
 
 use crate::directory::{Directory, Tables};
 use crate::queues::NoQueues;
-use crate::shared::{Shared, set_globals};
+use crate::shared_state::{SharedState, set_globals};
+use dp_app::AppTable;
 use dp_conf::beside;
 use dp_plan::{Dialplan, NoMemory};
 use dp_queue::Queues;
@@ -18,63 +19,75 @@ use std::alloc::Global;
 #[derive(Drop)]
 pub(crate) struct Exchange {
     pub(crate) plan: Directory,
-    pub(crate) shared: Shared,
+    pub(crate) shared: SharedState,
 }
 
 /// What is made of a dialplan before the first call.
 #[derive(Drop)]
-struct Made {
+struct Groundwork {
     globals: Globals,
     tables: Tables,
 }
 
 /// What a dialplan makes over these globals.
-fn make_over<C: Counts>(
+fn make_over<T: AppTable, C: Counts>(
     alloc: Global,
     plan: &Dialplan,
     globals: Globals,
     counts: &C,
-) -> Result<Made, NoMemory>
+) -> Result<Groundwork, NoMemory>
     ensures globals { IfOk result (λ made. made.globals ≡ globals_set (C.count counts.now) globals plan.now.globals) }
     ensures tables { IfOk result (λ made. AreTables plan.now made.tables) }
 {
     let mut globals = globals;
     set_globals(alloc, &mut globals, counts, plan.globals())?;
-    let tables = Tables::of(alloc, plan)?;
-    Ok(Made { globals, tables })
+    let tables = Tables::of::<T>(alloc, plan)?;
+    Ok(Groundwork { globals, tables })
 }
 
 /// What another dialplan makes over the globals that are there.
-fn renew(alloc: Global, plan: &Dialplan, shared: &Shared) -> Result<Made, NoMemory>
+fn renew<T: AppTable>(
+    alloc: Global,
+    plan: &Dialplan,
+    shared: &SharedState,
+) -> Result<Groundwork, NoMemory>
     ensures globals { IfOk result (λ made. made.globals ≡ (shared_with shared.now plan.now.globals).globals) }
     ensures tables { IfOk result (λ made. AreTables plan.now made.tables) }
 {
     let globals = shared.globals.clone()?;
-    make_over(alloc, plan, globals, &shared.queues)
+    make_over::<T, Queues>(alloc, plan, globals, &shared.queues)
 }
 
 impl Exchange {
     /// The exchange of a dialplan and its queues before the first call: the globals are expanded in the order of the file.
     #[tactic(auto, unfolding(crate::specs::Seen::globals_of))]
-    pub(crate) fn of(alloc: Global, plan: Dialplan, queues: Queues) -> Result<Self, NoMemory>
+    pub(crate) fn of<T: AppTable>(
+        alloc: Global,
+        plan: Dialplan,
+        queues: Queues,
+    ) -> Result<Self, NoMemory>
         ensures { IfOk result (λ exchange. worlds.world_in exchange [] ≡ worlds.opening plan queues) }
     {
-        let made = make_over(alloc, &plan, Globals::new(alloc), &NoQueues);
-        let (Made { globals, tables }, (plan, queues)) = beside(made, (plan, queues))?;
+        let made = make_over::<T, NoQueues>(alloc, &plan, Globals::new(alloc), &NoQueues);
+        let (Groundwork { globals, tables }, (plan, queues)) = beside(made, (plan, queues))?;
         Ok(Exchange {
             plan: Directory::with(plan, tables),
-            shared: Shared { globals, queues },
+            shared: SharedState { globals, queues },
         })
     }
 
     /// Puts another dialplan in force, and sets its globals over those that are. After a refused growth all is as before.
-    pub(crate) fn replace(&mut self, alloc: Global, plan: Dialplan) -> Result<(), NoMemory>
+    pub(crate) fn replace<T: AppTable>(
+        &mut self,
+        alloc: Global,
+        plan: Dialplan,
+    ) -> Result<(), NoMemory>
         ensures plan { OnOk result (self.new.plan ≡ plan) }
         ensures shared { OnOk result (self.new.shared ≡ shared_with self.old.shared plan.globals) }
         ensures err { OnErr result (self.new ≡ self.old) }
     {
-        let made = renew(alloc, &plan, &self.shared);
-        let (Made { globals, tables }, plan) = beside(made, plan)?;
+        let made = renew::<T>(alloc, &plan, &self.shared);
+        let (Groundwork { globals, tables }, plan) = beside(made, plan)?;
         self.plan.replace(plan, tables);
         self.shared.globals = globals;
         Ok(())

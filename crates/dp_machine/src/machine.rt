@@ -174,7 +174,7 @@ fn apply_kept_to<T: AppTable>(
         Event::Answer { agent } => Ok(answer(exchange, channels, agent.bytes())),
         Event::Decline { agent } => Ok(decline(exchange, agent.bytes())),
         Event::AgentDone { agent } => agent_done(alloc, exchange, channels, agent.bytes()),
-        Event::Reload { text } => reload(alloc, exchange, text.bytes()),
+        Event::Reload { text } => reload::<T>(alloc, exchange, text.bytes()),
     }
 }
 
@@ -208,7 +208,7 @@ impl<T: AppTable> Machine<T> {
         requires { IsAtRest queues }
         ensures { IfOk result (λ machine. machine ≡ worlds.opening plan queues) }
     {
-        let exchange = Exchange::of(alloc, plan, queues)?;
+        let exchange = Exchange::of::<T>(alloc, plan, queues)?;
         exchange.shared.queues.show_good();
         Ok(Machine {
             exchange,

@@ -1,6 +1,6 @@
 //! Another dialplan comes in force, after the Asterisk documentation's pages on reloading the dialplan.
 ghost use Rattle.std.specs.Prelude.{◌≡◌, IfOk, List};
-ghost use Rattle.dp_plan.specs.Loaded.{loaded};
+ghost use Rattle.dp_plan.specs.Loaded.{plan_and_notes};
 ghost use Rattle.dp_machine.specs.steps.Follows.{Makes};
 ghost use Rattle.dp_machine.specs.Reloading as spec;
 ghost use Rattle.dp_machine.specs.World as worlds;
@@ -9,12 +9,13 @@ ghost use Rattle.dp_machine.specs.declared.channel.Channel.{Channel};
 use crate::exchange::Exchange;
 use crate::refusal::Refusal;
 use crate::reply::Reply;
+use dp_app::AppTable;
 use dp_plan::{Dialplan, LoadFault, NoMemory};
 use std::alloc::Global;
 
 /// The dialplan of a text, or None where that has a fault.
 fn load(alloc: Global, text: &[u8]) -> Result<Option<Dialplan>, NoMemory>
-    ensures { IfOk result (λ plan. plan ≡ spec.plan_in (loaded text.now)) }
+    ensures { IfOk result (λ plan. plan ≡ spec.plan_in (plan_and_notes text.now)) }
 {
     match Dialplan::load(alloc, text) {
         Ok((plan, _)) => Ok(Some(plan)),
@@ -24,13 +25,17 @@ fn load(alloc: Global, text: &[u8]) -> Result<Option<Dialplan>, NoMemory>
 }
 
 /// The dialplan of this text comes in force, and its globals are set. All of it is made before anything is replaced.
-pub(crate) fn reload(alloc: Global, exchange: &mut Exchange, text: &[u8]) -> Result<Reply, NoMemory>
-    ensures { (channels : List Channel) → Makes (spec.reloaded (worlds.world_in exchange.old channels) text.now)
+pub(crate) fn reload<T: AppTable>(
+    alloc: Global,
+    exchange: &mut Exchange,
+    text: &[u8],
+) -> Result<Reply, NoMemory>
+    ensures { (channels : List Channel) → Makes (spec.after_reload (worlds.world_in exchange.old channels) text.now)
         (worlds.world_in exchange.old channels) (worlds.world_in exchange.new channels) result }
 {
     match load(alloc, text)? {
         Some(plan) => {
-            exchange.replace(alloc, plan)?;
+            exchange.replace::<T>(alloc, plan)?;
             Ok(Reply::Done)
         }
         None => Ok(Reply::Refused(Refusal::BadPlan)),

@@ -6,7 +6,7 @@ ghost use Rattle.dp_vars.specs.Sights.{maps_of, sight_of};
 ghost use Rattle.dp_machine.specs.Seen as spec;
 
 use crate::channel::Channel;
-use crate::shared::Shared;
+use crate::shared_state::SharedState;
 use dp_app::Place;
 use dp_plan::NoMemory;
 use dp_queue::Queues;
@@ -14,7 +14,11 @@ use dp_vars::{ChannelSeen, Pieces, Scope, value_of};
 use std::alloc::Global;
 
 /// What the texts of the channel of this number see.
-fn scope_of<'a>(shared: &'a Shared, number: u32, channel: &'a Channel) -> Scope<'a, Place, Queues>
+fn scope_of<'a>(
+    shared: &'a SharedState,
+    number: u32,
+    channel: &'a Channel,
+) -> Scope<'a, Place, Queues>
     ensures sight { sight_of (λ queues. waiting_count queues.queues) result
         ≡ spec.sight_in shared.now number channel.now }
     ensures maps { maps_of result ≡ spec.maps_in shared.now number channel.now }
@@ -37,7 +41,7 @@ fn scope_of<'a>(shared: &'a Shared, number: u32, channel: &'a Channel) -> Scope<
 #[tactic(auto, unfolding(crate::specs::Seen::arguments_seen))]
 pub(crate) fn expand_arguments(
     alloc: Global,
-    shared: &Shared,
+    shared: &SharedState,
     number: u32,
     channel: &Channel,
     arguments: &[u8],
@@ -54,7 +58,7 @@ pub(crate) fn expand_arguments(
 /// The value of a name in the channel of this number.
 pub(crate) fn channel_value(
     alloc: Global,
-    shared: &Shared,
+    shared: &SharedState,
     number: u32,
     channel: &Channel,
     name: &[u8],

@@ -14,7 +14,7 @@ use std::alloc::Global;
 pub const MOST_CHANNELS: usize = 65_535;
 
 /// A call comes in. The event is refused where all numbers of channels were given, and then takes no memory.
-#[tactic(auto, unfolding(crate::specs::Events::started))]
+#[tactic(auto, unfolding(crate::specs::Events::start_call))]
 pub(crate) fn start(
     alloc: Global,
     channels: &mut Vec<Channel>,
@@ -22,11 +22,11 @@ pub(crate) fn start(
     exten: Text,
     caller: Text,
 ) -> Result<Reply, NoMemory>
-    ensures ok { IfOk result (λ reply. spec.started channels.old.items context exten caller
+    ensures ok { IfOk result (λ reply. spec.start_call channels.old.items context exten caller
         ≡ record { channels = channels.new.items; reply = reply }) }
     ensures err { OnErr result (channels.new.items ≡ channels.old.items) }
     ensures memory { OnErr result (spec.is_refused_at_once
-        (spec.started channels.old.items context exten caller).reply ≡ false) }
+        (spec.start_call channels.old.items context exten caller).reply ≡ false) }
 {
     let count = channels.len();
     if count >= MOST_CHANNELS {
@@ -48,7 +48,7 @@ pub(crate) fn start(
 }
 
 /// A call comes in by texts that are kept. Where all numbers of channels were given no text is copied.
-#[tactic(auto, unfolding(crate::specs::Events::started))]
+#[tactic(auto, unfolding(crate::specs::Events::start_call))]
 pub(crate) fn start_kept(
     alloc: Global,
     channels: &mut Vec<Channel>,
@@ -56,11 +56,11 @@ pub(crate) fn start_kept(
     exten: &Text,
     caller: &Text,
 ) -> Result<Reply, NoMemory>
-    ensures ok { IfOk result (λ reply. spec.started channels.old.items context.now exten.now caller.now
+    ensures ok { IfOk result (λ reply. spec.start_call channels.old.items context.now exten.now caller.now
         ≡ record { channels = channels.new.items; reply = reply }) }
     ensures err { OnErr result (channels.new.items ≡ channels.old.items) }
     ensures memory { OnErr result (spec.is_refused_at_once
-        (spec.started channels.old.items context.now exten.now caller.now).reply ≡ false) }
+        (spec.start_call channels.old.items context.now exten.now caller.now).reply ≡ false) }
 {
     if channels.len() >= MOST_CHANNELS {
         return Ok(Reply::Refused(Refusal::NumbersSpent));

@@ -2,7 +2,7 @@
 ghost use Rattle.std.specs.Prelude.{◌≡◌, ◌+◌, ◌^◌, ◌<◌, ◌≤◌, OnErr, OnOk, Some};
 ghost use Rattle.dp_app.specs.Lawful.{IsLawful, MayRun};
 ghost use Rattle.dp_conf.specs.Numbers.{most_priority};
-ghost use Rattle.dp_app.specs.Rows.{dispatched};
+ghost use Rattle.dp_app.specs.Rows.{after_dispatch};
 ghost use Rattle.dp_app.specs.declared.phase.Phase.TheVariants.{Ready};
 ghost use Rattle.dp_machine.specs.Channels as channels;
 ghost use Rattle.dp_machine.specs.Events as spec;
@@ -19,63 +19,17 @@ use crate::exchange::Exchange;
 use crate::refusal::Refusal;
 use crate::reply::Reply;
 use crate::seen::expand_arguments;
-use crate::shared::Shared;
+use crate::shared_state::SharedState;
 use crate::target::land;
-use crate::templates::Template;
-use dp_app::{AppTable, Cell, Exten, Move, Phase, Place};
-use dp_plan::{Entry, EntryId, NoMemory, Text};
-use dp_queue::Queues;
-use dp_vars::{Globals, Store};
+use crate::templates::{Arguments, EntryTemplate};
+use dp_app::{AppNumber, AppTable, Cell, Exten, Move, Phase, Place};
+use dp_plan::{Entry, EntryId, NoMemory};
 use std::alloc::Global;
-use std::mem;
-
-/// Takes the parts of a channel and of what all channels share into a cell, and leaves empty ones that take no memory.
-fn carve(alloc: Global, number: u32, channel: &mut Channel, shared: &mut Shared) -> Cell
-    ensures cell { result ≡ spec.cell_of shared.old number channel.old }
-    ensures phase { channel.new.phase ≡ channel.old.phase }
-    ensures closing { channel.new.is_closing ≡ channel.old.is_closing }
-{
-    let nowhere = Place {
-        context: Text::new(Vec::new(alloc)),
-        exten: Exten::of_byte(0),
-        priority: 0,
-    };
-    Cell {
-        number,
-        place: mem::replace(&mut channel.place, nowhere),
-        is_closing: channel.is_closing,
-        caller: mem::replace(&mut channel.caller, Text::new(Vec::new(alloc))),
-        store: mem::replace(&mut channel.store, Store::new(alloc)),
-        globals: mem::replace(&mut shared.globals, Globals::new(alloc)),
-        queues: mem::replace(&mut shared.queues, Queues::none(alloc)),
-    }
-}
-
-/// Puts the parts of a cell back.
-fn put_back(cell: Cell, channel: &mut Channel, shared: &mut Shared)
-    ensures channel { channel.new ≡ record channel.old { place = cell.place; caller = cell.caller; store = cell.store } }
-    ensures shared { shared.new ≡ record { globals = cell.globals; queues = cell.queues } }
-{
-    let Cell {
-        number: _,
-        place,
-        is_closing: _,
-        caller,
-        store,
-        globals,
-        queues,
-    } = cell;
-    channel.place = place;
-    channel.caller = caller;
-    channel.store = store;
-    shared.globals = globals;
-    shared.queues = queues;
-}
 
 /// Moves the channel, after an application that a table may lack.
 fn go(plan: &mut Directory, channel: &mut Channel, going: Option<Move>)
     requires { channel.old.place.priority ≤ most_priority }
-    ensures channel { channel.new ≡ channels.went plan.old channel.old going }
+    ensures channel { channel.new ≡ channels.after_application plan.old channel.old going }
     ensures same { plan.new ≡ plan.old }
 {
     match going {
@@ -96,69 +50,78 @@ pub(crate) fn go_on(channel: &mut Channel)
     channel.phase = Phase::Ready;
 }
 
-/// Runs the application of this name on its expanded arguments in a cell, for the channel of this number, where the table has it.
-fn run_in_cell<T: AppTable>(
-    alloc: Global,
-    shared: &mut Shared,
-    number: u32,
-    channel: &mut Channel,
-    name: &[u8],
-    arguments: &[u8],
-) -> Result<Option<Move>, NoMemory>
-    requires { MayRun (spec.cell_of shared.old number channel.old) }
-    ensures { Runs (dispatched (T.rows name.now) arguments.now (spec.cell_of shared.old number channel.old))
-        shared.old shared.new channel.old channel.new result }
-{
-    let mut cell = carve(alloc, number, channel, shared);
-    let going = T::dispatch(alloc, name, arguments, &mut cell);
-    put_back(cell, channel, shared);
-    going
+/// The application that an entry calls, by its name, and where the table looks first for it.
+#[derive(Clone, Copy)]
+struct AppCall<'a> {
+    number: AppNumber,
+    name: &'a [u8],
 }
 
-/// Runs the application of this name on its expanded arguments, for the channel of this number, where the table has it. No
-/// cell is made for one that only reads its arguments.
+/// Runs the application of this name on its expanded arguments, for the channel of this number, where the table has it. What it
+/// may change is lent to it.
 fn run_application<T: AppTable>(
     alloc: Global,
-    shared: &mut Shared,
+    shared: &mut SharedState,
     number: u32,
     channel: &mut Channel,
-    name: &[u8],
+    application: AppCall<'_>,
     arguments: &[u8],
 ) -> Result<Option<Move>, NoMemory>
     requires { MayRun (spec.cell_of shared.old number channel.old) }
-    ensures { Runs (dispatched (T.rows name.now) arguments.now (spec.cell_of shared.old number channel.old))
+    ensures { Runs (after_dispatch (T.rows application.entry.name.now) arguments.now (spec.cell_of shared.old number channel.old))
         shared.old shared.new channel.old channel.new result }
 {
-    let going = T::going(alloc, name, arguments)?;
-    if going.is_some() {
-        return Ok(going);
-    }
-    run_in_cell::<T>(alloc, shared, number, channel, name, arguments)
+    let mut cell = Cell {
+        number,
+        place: &channel.place,
+        is_closing: channel.is_closing,
+        caller: &mut channel.caller,
+        store: &mut channel.store,
+        globals: &mut shared.globals,
+        queues: &mut shared.queues,
+    };
+    T::run_by_number(
+        alloc,
+        application.number,
+        application.name,
+        arguments,
+        &mut cell,
+    )
 }
 
 /// Runs the application of the entry, whose arguments are expanded first, by their template.
 #[tactic(auto, unfolding(crate::specs::Seen::arguments_seen))]
 fn run_entry<T: AppTable>(
     alloc: Global,
-    shared: &mut Shared,
+    shared: &mut SharedState,
     number: u32,
     channel: &mut Channel,
     entry: &Entry,
-    template: &Template,
+    template: &EntryTemplate,
 ) -> Result<Option<Move>, NoMemory>
     requires run { MayRun (spec.cell_of shared.old number channel.old) }
     requires template { IsOf entry.now template.now }
-    ensures { Runs (dispatched (T.rows entry.now.application)
+    ensures { Runs (after_dispatch (T.rows entry.now.application)
         (arguments_seen shared.old number channel.old entry.now.arguments) (spec.cell_of shared.old number channel.old))
         shared.old shared.new channel.old channel.new result }
 {
-    let name = entry.application.bytes();
+    let application = AppCall {
+        number: template.number,
+        name: entry.application.bytes(),
+    };
     let arguments = entry.arguments.bytes();
-    match template {
-        Template::Plain => run_application::<T>(alloc, shared, number, channel, name, arguments),
-        Template::Read(pieces) => {
+    match &template.arguments {
+        Arguments::Plain => run_application::<T>(
+            alloc,
+            shared,
+            number,
+            channel,
+            application,
+            arguments,
+        ),
+        Arguments::Read(pieces) => {
             let arguments = expand_arguments(alloc, shared, number, channel, arguments, pieces)?;
-            run_application::<T>(alloc, shared, number, channel, name, &arguments)
+            run_application::<T>(alloc, shared, number, channel, application, &arguments)
         }
     }
 }

@@ -114,7 +114,7 @@ fn go_to_parts(channel: &mut Channel, parts: TargetParts, priority: u32)
 
 /// Makes the channel ready at the place of a target, or hangs it up where the target has none.
 pub(crate) fn land(plan: &mut Directory, channel: &mut Channel, target: Target)
-    ensures channel { channel.new ≡ channels.landed plan.old channel.old
+    ensures channel { channel.new ≡ channels.at_target plan.old channel.old
         (spec.target_place plan.old channel.old.place target) }
     ensures same { plan.new ≡ plan.old }
 {
@@ -131,7 +131,7 @@ pub(crate) fn land(plan: &mut Directory, channel: &mut Channel, target: Target)
 /// Makes the channel ready at the place that the parts name.
 #[inline(always)]
 fn land_at_parts(plan: &mut Directory, channel: &mut Channel, parts: TargetParts)
-    ensures channel { channel.new ≡ channels.landed plan.old channel.old
+    ensures channel { channel.new ≡ channels.at_target plan.old channel.old
         (spec.parts_place plan.old channel.old.place parts) }
     ensures same { plan.new ≡ plan.old }
 {
@@ -143,7 +143,7 @@ fn land_at_parts(plan: &mut Directory, channel: &mut Channel, parts: TargetParts
 
 /// Makes the channel ready at the place that the parts name, if an entry is found there.
 fn land_at_existing(plan: &mut Directory, channel: &mut Channel, parts: TargetParts)
-    ensures channel { channel.new ≡ channels.landed plan.old channel.old
+    ensures channel { channel.new ≡ channels.at_target plan.old channel.old
         (spec.if_found plan.old (spec.parts_place plan.old channel.old.place parts)) }
     ensures same { plan.new ≡ plan.old }
 {

@@ -1,8 +1,9 @@
-//! The arguments of a dialplan's entries, read once when the machine is made, after the Asterisk documentation's pages on variables.
+//! What is read of a dialplan's entries once, when it comes in force: their applications and their arguments, after the Asterisk documentation's pages on variables.
 ghost use Rattle.std.specs.Prelude.{◌≡◌, IfOk};
 ghost use Rattle.std.specs.Option.{option_copied};
 ghost use Rattle.dp_machine.specs.steps.Templates as spec;
 
+use dp_app::{AppNumber, AppTable};
 use dp_plan::{Context, Entry, EntryId, NoMemory};
 use dp_vars::{Pieces, has_opening};
 use std::alloc::Global;
@@ -10,50 +11,68 @@ use std::marker::Model;
 
 /// The arguments of an entry, as they are expanded.
 #[derive(Drop)]
-pub(crate) enum Template {
+pub(crate) enum Arguments {
     /// Nothing in them opens a group, so they are taken as they stand.
     Plain,
     /// Their pieces.
     Read(Pieces),
 }
 
-impl Template {
-    /// The template of a text.
+impl Arguments {
+    /// Those of a text.
     fn read(alloc: Global, text: &[u8]) -> Result<Self, NoMemory>
-        ensures { IfOk result (spec.IsTemplate text.now) }
+        ensures { IfOk result (spec.AreTemplate text.now) }
     {
         if has_opening(text) {
             let pieces = Pieces::read(alloc, text)?;
-            return Ok(Template::Read(pieces));
+            return Ok(Arguments::Read(pieces));
         }
-        Ok(Template::Plain)
+        Ok(Arguments::Plain)
+    }
+}
+
+/// What is read of an entry: where the table looks first for its application, and its arguments.
+#[derive(Drop)]
+pub(crate) struct EntryTemplate {
+    pub(crate) number: AppNumber,
+    pub(crate) arguments: Arguments,
+}
+
+impl EntryTemplate {
+    /// That of an entry. An application that the table lacks has the first number, as good as any.
+    fn read<T: AppTable>(alloc: Global, entry: &Entry) -> Result<Self, NoMemory>
+        ensures { IfOk result (spec.IsOf entry.now) }
+    {
+        let arguments = Arguments::read(alloc, entry.arguments.bytes())?;
+        let number = T::number_of(entry.application.bytes()).unwrap_or(AppNumber::first());
+        Ok(EntryTemplate { number, arguments })
     }
 }
 
 /// The templates of a context's entries, in the order of the file.
 #[derive(Drop)]
 struct ContextTemplates {
-    held: Vec<Template>,
+    held: Vec<EntryTemplate>,
 }
 
 impl Model for ContextTemplates {
     ghost use Rattle.std.specs.Prelude.{List};
-    ghost use Rattle.dp_machine.specs.declared.templates.Template.{Template};
+    ghost use Rattle.dp_machine.specs.declared.templates.EntryTemplate.{EntryTemplate};
 
-    ghost Value = { List Template };
+    ghost Value = { List EntryTemplate };
 
     ghost view = { λ templates. templates.held.items };
 }
 
 impl ContextTemplates {
     /// Those of these entries.
-    fn read(alloc: Global, entries: &[Entry]) -> Result<Self, NoMemory>
+    fn read<T: AppTable>(alloc: Global, entries: &[Entry]) -> Result<Self, NoMemory>
         ensures { IfOk result (spec.AreOf entries.now) }
     {
         let mut held = Vec::with_capacity(alloc, entries.len())?;
         let mut left = entries;
         while let Some((entry, after)) = left.split_first() {
-            let template = Template::read(alloc, entry.arguments.bytes())?;
+            let template = EntryTemplate::read::<T>(alloc, entry)?;
             held.push(template)?;
             left = after;
         }
@@ -61,7 +80,7 @@ impl ContextTemplates {
     }
 
     /// The templates; the number of one is that of its entry.
-    fn list(&self) -> &[Template]
+    fn list(&self) -> &[EntryTemplate]
         ensures { result.now ≡ self.now }
     {
         &self.held
@@ -76,22 +95,22 @@ pub(crate) struct Templates {
 
 impl Model for Templates {
     ghost use Rattle.std.specs.Prelude.{List};
-    ghost use Rattle.dp_machine.specs.declared.templates.Template.{Template};
+    ghost use Rattle.dp_machine.specs.declared.templates.EntryTemplate.{EntryTemplate};
 
-    ghost Value = { List (List Template) };
+    ghost Value = { List (List EntryTemplate) };
 
     ghost view = { λ templates. templates.contexts.items };
 }
 
 impl Templates {
     /// Those of the entries of these contexts.
-    pub(crate) fn read(alloc: Global, contexts: &[Context]) -> Result<Self, NoMemory>
+    pub(crate) fn read<T: AppTable>(alloc: Global, contexts: &[Context]) -> Result<Self, NoMemory>
         ensures { IfOk result (spec.AreTemplates contexts.now) }
     {
         let mut held = Vec::with_capacity(alloc, contexts.len())?;
         let mut left = contexts;
         while let Some((context, after)) = left.split_first() {
-            let templates = ContextTemplates::read(alloc, context.entries())?;
+            let templates = ContextTemplates::read::<T>(alloc, context.entries())?;
             held.push(templates)?;
             left = after;
         }
@@ -99,7 +118,7 @@ impl Templates {
     }
 
     /// That of the entry of these numbers.
-    pub(crate) fn of_entry(&self, id: EntryId) -> Option<&Template>
+    pub(crate) fn of_entry(&self, id: EntryId) -> Option<&EntryTemplate>
         ensures { option_copied result ≡ spec.template_at self.now id }
     {
         let templates = self.contexts.get(id.context)?;

@@ -16,7 +16,7 @@ use crate::ending::{go_to_exten, hang_up};
 use crate::exchange::Exchange;
 use crate::refusal::Refusal;
 use crate::reply::Reply;
-use crate::shared::Shared;
+use crate::shared_state::SharedState;
 use crate::step::go_on;
 use dp_app::{Exten, Phase, Place};
 use dp_plan::{NoMemory, Text};
@@ -48,7 +48,7 @@ fn is_over(phase: &Phase) -> bool
 
 /// The channel has dialled these digits: it waits for more where they may go on, else it goes where they lead.
 fn collect(plan: &mut Directory, channel: &mut Channel, text: Text, is_background: bool)
-    ensures channel { channel.new ≡ channels.collected
+    ensures channel { channel.new ≡ channels.after_digit
         (found.could_go_on plan.old channel.old.place.context text) channel.old text is_background }
     ensures same { plan.new ≡ plan.old }
 {
@@ -176,7 +176,7 @@ fn leave_queue(
 /// No digit came in time for `WaitExten`: the channel goes on, or else to the extension `t`, or is hung up.
 fn end_wait(plan: &mut Directory, channel: &mut Channel)
     requires { channel.old.place.priority ≤ most_priority }
-    ensures channel { channel.new ≡ channels.waited plan.old channel.old }
+    ensures channel { channel.new ≡ channels.after_wait plan.old channel.old }
     ensures same { plan.new ≡ plan.old }
 {
     let place = &channel.place;
@@ -193,7 +193,7 @@ fn end_wait(plan: &mut Directory, channel: &mut Channel)
 /// The time of a channel that waits for digits ends, and none came.
 fn end_undialled(plan: &mut Directory, channel: &mut Channel, is_background: bool)
     requires { channel.old.place.priority ≤ most_priority }
-    ensures channel { channel.new ≡ channels.undialled plan.old channel.old is_background }
+    ensures channel { channel.new ≡ channels.without_digits plan.old channel.old is_background }
     ensures same { plan.new ≡ plan.old }
 {
     if is_background {

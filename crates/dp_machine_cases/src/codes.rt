@@ -1,6 +1,6 @@
 //! The numbers and the printed names of the refusals, and the names of what comes of a call to devices.
+use dp_case_tables::{check_same, push_bytes};
 use dp_machine::{DialStatus, NoMemory, Refusal};
-use dp_questions::{check_same, push_bytes};
 use std::alloc::Global;
 use std::test::Fail;
 

@@ -1,8 +1,8 @@
 //! Machines, their readers, runs of events, and copies of events.
+use dp_case_tables::{check_same, check_that};
 use dp_commands::{ScriptLine, Turn, read_script};
 use dp_machine::{EntryId, Event, NoMemory, Phase, Place, Refusal, Reply};
 use dp_machine_fixture::{Checked, Exchange, check_on, push_state, state_of};
-use dp_questions::{check_same, check_that};
 use std::alloc::Global;
 use std::test::Fail;
 
@@ -34,7 +34,7 @@ fn events_of(alloc: Global, script: &[u8]) -> Result<Vec<Event>, Fail> {
     Ok(events)
 }
 
-fn ran(context: usize, entry: usize) -> Reply {
+fn ran_entry(context: usize, entry: usize) -> Reply {
     Reply::Ran(EntryId { context, entry })
 }
 
@@ -95,13 +95,13 @@ fn check_replies(replies: &[Reply]) -> Result<(), Fail> {
     let want = [
         Reply::NoEntry,
         Reply::Started(1),
-        ran(0, 0),
+        ran_entry(0, 0),
         Reply::Refused(Refusal::NoChannel),
         Reply::Started(2),
-        ran(1, 0),
-        ran(0, 1),
+        ran_entry(1, 0),
+        ran_entry(0, 1),
         Reply::Refused(Refusal::Ended),
-        ran(1, 0),
+        ran_entry(1, 0),
         Reply::Refused(Refusal::Ended),
     ];
     check_that(replies == want.as_slice(), "the replies")
@@ -221,10 +221,10 @@ fn check_a_run_goes_on(
     run_on(alloc, machine, &events, replies)?;
     let want = [
         Reply::Started(1),
-        ran(0, 0),
+        ran_entry(0, 0),
         Reply::Refused(Refusal::NoChannel),
-        ran(0, 1),
-        ran(1, 0),
+        ran_entry(0, 1),
+        ran_entry(1, 0),
     ];
     check_that(replies.as_slice() == want.as_slice(), "the replies")
 }

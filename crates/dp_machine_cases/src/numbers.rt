@@ -1,7 +1,7 @@
 //! The numbers of channels, of which there are as many as there may be calls.
+use dp_case_tables::check_that;
 use dp_machine::{EntryId, Event, MOST_CHANNELS, Refusal, Reply};
 use dp_machine_fixture::{Checked, Exchange, call, check_on};
-use dp_questions::check_that;
 use std::alloc::Global;
 use std::test::Fail;
 

@@ -1,8 +1,8 @@
 //! Scripts that machines are given: calls to devices, and dialplans that come in force, worked out by hand from the rules.
+use dp_case_tables::{Question, bytes_of, check_all};
 use dp_commands::{ScriptLine, Turn, read_script};
 use dp_machine::NoMemory;
 use dp_machine_fixture::{Ask, Exchange, answer_on, push_given, push_value};
-use dp_questions::{Question, bytes_of, check_all};
 use std::alloc::Global;
 use std::str;
 use std::test::Fail;

@@ -1,9 +1,9 @@
 //! Stories of machines: a dialplan, and what happens in it, worked out by hand from the rules.
+use dp_case_tables::{bytes_of, check_heading, check_same};
 use dp_machine::NoMemory;
 use dp_machine_fixture::{
     Ask, Exchange, answer_on, call, notes_of, push_called, push_state, push_stepped, push_value,
 };
-use dp_questions::{bytes_of, check_heading, check_same};
 use std::alloc::Global;
 use std::test::Fail;
 

@@ -6,8 +6,8 @@
 //! This is for tests alone.
 #![tactic(auto)]
 
+use dp_case_tables::push_bytes;
 use dp_machine::{Dialplan, EntryId, Event, Machine, NoMemory, Phase, Queues, Reply, Text};
-use dp_questions::push_bytes;
 use dp_table::StandardApps;
 use std::alloc::Global;
 use std::test::Fail;
@@ -157,7 +157,7 @@ fn push_answer(
 }
 
 /// The channel of which the state is shown after a call: none is numbered 0.
-fn started(reply: Reply) -> u32 {
+fn channel_started(reply: Reply) -> u32 {
     match reply {
         Reply::Started(channel) => channel,
         _ => 0,
@@ -172,7 +172,7 @@ pub fn push_called(
     call: Event,
 ) -> Result<(), NoMemory> {
     let reply = machine.apply(alloc, call)?;
-    push_answer(out, alloc, machine, reply, started(reply))
+    push_answer(out, alloc, machine, reply, channel_started(reply))
 }
 
 /// Gives a step, and adds the reply and the state of the channel after it.

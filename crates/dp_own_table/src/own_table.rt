@@ -1,7 +1,7 @@
 //! A table of applications of another maker, over which a machine is proved as it is over the program's own.
 ghost use Rattle.std.specs.Prelude.{◌≡◌};
 
-use dp_app::{AppTable, Application, Cell, Move, Phase, Touch};
+use dp_app::{AppNumber, AppTable, Application, Cell, Move, Phase, Touch};
 use dp_conf::{NoMemory, same_word};
 use std::alloc::Global;
 
@@ -78,6 +78,13 @@ impl AppTable for OwnApps {
     ghost lawful = { own_lawful same_word };
 
     ghost blind = { own_blind };
+
+    fn number_of(name: &[u8]) -> Option<AppNumber> {
+        if same_word(name, b"Ping") || same_word(name, b"Stay") {
+            return Some(AppNumber::first());
+        }
+        None
+    }
 
     fn dispatch(
         alloc: Global,

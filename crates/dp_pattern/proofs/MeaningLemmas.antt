@@ -1,7 +1,7 @@
 -- What a name means, whatever text it was read from.
 use Rattle.std.proofs.Common.{◌≡◌, ℕ, ◌<◌, Bool, true, false, cond, not, ◌||◌, ◌==◌, List, [], ◌∷◌, Result, Ok, Err, true≢false, refl, sym, ap, ◌∙◌, subst}
 use Rattle.std.specs.List.{AllByRecursion, list_all, list_any}
-use Rattle.dp_pattern.specs.Dashes.{is_dash, undashed, from_first}
+use Rattle.dp_pattern.specs.Dashes.{is_dash, without_dashes, from_first}
 use Rattle.dp_pattern.specs.Name.{◌>>=◌, Meaning, Plain, Pattern, Piece, Dash, Wild, Byte, Set, Unclosed, is_bad, class_of, class_of_set, is_dash_piece, pieces_of, Parts, parts_of, with_class, pattern_of, pattern_reading, plain_of, reading_of, meaning_of, IsName}
 use Rattle.dp_pattern.specs.declared.fault.NameFault.{NameFault}
 use Rattle.dp_pattern.specs.declared.fault.NameFault.TheVariants.{BadByte, AfterWildcard}
@@ -21,7 +21,7 @@ pub record IsPlainText (text : List ℕ) : Type 0 where
   pub no_dash : is_dash first ≡ false
   pub no_pattern : (first == 95) ≡ false
   pub fine : list_any is_bad text ≡ false
-  pub dashless : undashed text ≡ text
+  pub dashless : without_dashes text ≡ text
   pub bytes : AllByRecursion IsByte text
 
 abbrev pub IsMeaning : Meaning → Type 0
@@ -78,47 +78,47 @@ pattern_means text bytes name e = by_parts (parts_of (pieces_of text)) refl e
         let same = pattern_of-ok parts.0 parts.1 name e in
         subst IsMeaning same (parts_of-classes (pieces_of text) (pieces_after-each 0 text bytes) parts read, e ∙ ap Ok (sym same))
 
-undashed-fine : (text : List ℕ) → list_any is_bad text ≡ false → list_any is_bad (undashed text) ≡ false
-undashed-fine [] fine = refl
-undashed-fine (b ∷ text) fine = by_tests (undashed-fine text) (is_bad b) refl (is_dash b) fine
+without_dashes-fine : (text : List ℕ) → list_any is_bad text ≡ false → list_any is_bad (without_dashes text) ≡ false
+without_dashes-fine [] fine = refl
+without_dashes-fine (b ∷ text) fine = by_tests (without_dashes-fine text) (is_bad b) refl (is_dash b) fine
   where
-    by_tests : (list_any is_bad text ≡ false → list_any is_bad (undashed text) ≡ false) → (bad : Bool) → is_bad b ≡ bad → (dash : Bool) → (bad || list_any is_bad text) ≡ false → list_any is_bad (cond (not dash) (b ∷ undashed text) (undashed text)) ≡ false
+    by_tests : (list_any is_bad text ≡ false → list_any is_bad (without_dashes text) ≡ false) → (bad : Bool) → is_bad b ≡ bad → (dash : Bool) → (bad || list_any is_bad text) ≡ false → list_any is_bad (cond (not dash) (b ∷ without_dashes text) (without_dashes text)) ≡ false
     by_tests later true e dash fine = absurd (true≢false fine)
     by_tests later false e true fine = later fine
-    by_tests later false e false fine = ap (λ t. t || list_any is_bad (undashed text)) e ∙ later fine
+    by_tests later false e false fine = ap (λ t. t || list_any is_bad (without_dashes text)) e ∙ later fine
 
-undashed-bytes : (text : List ℕ) → AllByRecursion IsByte text → AllByRecursion IsByte (undashed text)
-undashed-bytes [] bytes = tt
-undashed-bytes (b ∷ text) bytes = by_test (undashed-bytes text bytes.1) (is_dash b)
+without_dashes-bytes : (text : List ℕ) → AllByRecursion IsByte text → AllByRecursion IsByte (without_dashes text)
+without_dashes-bytes [] bytes = tt
+without_dashes-bytes (b ∷ text) bytes = by_test (without_dashes-bytes text bytes.1) (is_dash b)
   where
-    by_test : AllByRecursion IsByte (undashed text) → (dash : Bool) → AllByRecursion IsByte (cond (not dash) (b ∷ undashed text) (undashed text))
+    by_test : AllByRecursion IsByte (without_dashes text) → (dash : Bool) → AllByRecursion IsByte (cond (not dash) (b ∷ without_dashes text) (without_dashes text))
     by_test later true = later
     by_test later false = (bytes.0, later)
 
-pub undashed-undashed : (text : List ℕ) → undashed (undashed text) ≡ undashed text
-undashed-undashed [] = refl
-undashed-undashed (b ∷ text) = by_test (undashed-undashed text) (is_dash b) refl
+pub without_dashes-without_dashes : (text : List ℕ) → without_dashes (without_dashes text) ≡ without_dashes text
+without_dashes-without_dashes [] = refl
+without_dashes-without_dashes (b ∷ text) = by_test (without_dashes-without_dashes text) (is_dash b) refl
   where
-    by_test : undashed (undashed text) ≡ undashed text → (dash : Bool) → is_dash b ≡ dash → undashed (cond (not dash) (b ∷ undashed text) (undashed text)) ≡ cond (not dash) (b ∷ undashed text) (undashed text)
+    by_test : without_dashes (without_dashes text) ≡ without_dashes text → (dash : Bool) → is_dash b ≡ dash → without_dashes (cond (not dash) (b ∷ without_dashes text) (without_dashes text)) ≡ cond (not dash) (b ∷ without_dashes text) (without_dashes text)
     by_test later true e = later
     by_test later false e = rw (e, later) refl
 
 plain_means : (b : ℕ) (text : List ℕ) → AllByRecursion IsByte (b ∷ text) → is_dash b ≡ false → (b == 95) ≡ false → (name : Meaning) → plain_of (b ∷ text) ≡ Ok name → IsMeaning name
 plain_means b text bytes dash under name e = by_test (list_any is_bad (b ∷ text)) refl e
   where
-    by_test : (t : Bool) → list_any is_bad (b ∷ text) ≡ t → cond t (Err BadByte) (Ok (Plain (undashed (b ∷ text)))) ≡ Ok name → IsMeaning name
+    by_test : (t : Bool) → list_any is_bad (b ∷ text) ≡ t → cond t (Err BadByte) (Ok (Plain (without_dashes (b ∷ text)))) ≡ Ok name → IsMeaning name
     by_test true bad e = absurd cc
     by_test false fine e =
-        let same : Plain (undashed (b ∷ text)) ≡ name = cc in
+        let same : Plain (without_dashes (b ∷ text)) ≡ name = cc in
         subst IsMeaning same (record {
           first = b;
-          after = undashed text;
-          begins = ap (λ t. cond (not t) (b ∷ undashed text) (undashed text)) dash;
+          after = without_dashes text;
+          begins = ap (λ t. cond (not t) (b ∷ without_dashes text) (without_dashes text)) dash;
           no_dash = dash;
           no_pattern = under;
-          fine = undashed-fine (b ∷ text) fine;
-          dashless = undashed-undashed (b ∷ text);
-          bytes = undashed-bytes (b ∷ text) bytes;
+          fine = without_dashes-fine (b ∷ text) fine;
+          dashless = without_dashes-without_dashes (b ∷ text);
+          bytes = without_dashes-bytes (b ∷ text) bytes;
         })
 
 -- no dash stands first in what is read

@@ -4,7 +4,7 @@ use Rattle.std.specs.List.{AllByRecursion, filter, range_with_len, list_any, lis
 use Rattle.std.proofs.lemmas.Bool.Decides.{nat_tests}
 use Rattle.std.proofs.lemmas.List.Folds.{list_any-append}
 use Rattle.dp_pattern.specs.Classes.{byte_count, class_by}
-use Rattle.dp_pattern.specs.Dashes.{is_dash, undashed, from_first}
+use Rattle.dp_pattern.specs.Dashes.{is_dash, without_dashes, from_first}
 use Rattle.dp_pattern.specs.Name.{◌>>=◌, Meaning, Plain, Pattern, Piece, Dash, Wild, Byte, Set, Unclosed, is_bad, is_one_of, is_end, is_range, items_of, item_fault, first_fault, lists, unless_fault, class_of_set, class_of, piece_of, pieces_of, pieces_after, set_piece, set_size, is_dash_piece, Parts, parts_of, pattern_of, pattern_reading, plain_of, reading_of, meaning_of}
 use Rattle.dp_pattern.specs.Spelling.{stands_alone, class_spelling, tail_spelling, spelling, is_own, SpellsCleanly}
 use Rattle.dp_pattern.specs.declared.class.Item.{Item}
@@ -239,13 +239,13 @@ module _ (b : ℕ) (foreign : is_own b ≡ false) where
           let found : (piece_has (piece_of a) || list_any piece_has (pieces_of text)) ≡ true = sym (ap (list_any piece_has) (pieces_of-byte a text t)) ∙ e in
           either (piece_has (piece_of a)) (list_any piece_has (pieces_of text)) found (λ h. or_left (b == a) (is_one_of text b) (byte_piece_in a h)) (λ h. or_right (b == a) (is_one_of text b) (later zero h))
 
-  undashed_in : (text : List ℕ) → is_one_of (undashed text) b ≡ true → is_one_of text b ≡ true
+  undashed_in : (text : List ℕ) → is_one_of (without_dashes text) b ≡ true → is_one_of text b ≡ true
   undashed_in [] e = e
   undashed_in (a ∷ text) e = by_test (undashed_in text) (is_dash a) e
     where
-      by_test : (is_one_of (undashed text) b ≡ true → is_one_of text b ≡ true) → (t : Bool) → is_one_of (cond (not t) (a ∷ undashed text) (undashed text)) b ≡ true → is_one_of (a ∷ text) b ≡ true
+      by_test : (is_one_of (without_dashes text) b ≡ true → is_one_of text b ≡ true) → (t : Bool) → is_one_of (cond (not t) (a ∷ without_dashes text) (without_dashes text)) b ≡ true → is_one_of (a ∷ text) b ≡ true
       by_test later true e = or_right (b == a) (is_one_of text b) (later e)
-      by_test later false e = either (b == a) (is_one_of (undashed text) b) e (or_left (b == a) (is_one_of text b)) (λ h. or_right (b == a) (is_one_of text b) (later h))
+      by_test later false e = either (b == a) (is_one_of (without_dashes text) b) e (or_left (b == a) (is_one_of text b)) (λ h. or_right (b == a) (is_one_of text b) (later h))
 
   name_spelled : (classes : List (List ℕ)) (tail : Tail) → is_one_of (spelling (Pattern classes tail)) b ≡ true → any_class classes ≡ true
   unfolding spelling
@@ -268,10 +268,10 @@ module _ (b : ℕ) (foreign : is_own b ≡ false) where
   unfolding spelling
   plain_in text name e h = by_test (list_any is_bad text) e
     where
-      by_test : (t : Bool) → cond t (Err BadByte) (Ok (Plain (undashed text))) ≡ Ok name → is_one_of text b ≡ true
+      by_test : (t : Bool) → cond t (Err BadByte) (Ok (Plain (without_dashes text))) ≡ Ok name → is_one_of text b ≡ true
       by_test true e = absurd cc
       by_test false e =
-          let same : Plain (undashed text) ≡ name = cc in
+          let same : Plain (without_dashes text) ≡ name = cc in
           undashed_in text (ap (λ n. is_one_of (spelling n) b) same ∙ h)
 
   reading_in : (text : List ℕ) (name : Meaning) → reading_of (from_first text) ≡ Ok name → is_one_of (spelling name) b ≡ true → is_one_of text b ≡ true

@@ -4,7 +4,7 @@ use Rattle.std.specs.List.{AllByRecursion, filter, range_with_len, list_any, pos
 use Rattle.std.proofs.lemmas.Bool.Decides.{nat_tests}
 use Rattle.std.proofs.lemmas.Slice.Eq.{bytes_eq-Decides}
 use Rattle.dp_pattern.specs.Classes.{byte_count, class_by}
-use Rattle.dp_pattern.specs.Dashes.{is_dash, undashed, from_first}
+use Rattle.dp_pattern.specs.Dashes.{is_dash, without_dashes, from_first}
 use Rattle.dp_pattern.specs.Name.{◌>>=◌, Meaning, Plain, Pattern, Byte, Set, is_bad, is_one_of, is_end, items_of, or_else, first_fault, lists, unless_fault, class_of_items, class_of_set, class_of, piece_of, pieces_of, pieces_after, set_piece, set_size, parts_of, with_class, pattern_of, pattern_reading, plain_of, reading_of, meaning_of, IsName}
 use Rattle.dp_pattern.specs.Spelling.{stands_alone, class_spelling, tail_spelling, spelling}
 use Rattle.dp_pattern.specs.declared.class.Item.{Item}
@@ -181,7 +181,7 @@ means_again (Plain text) k =
     ∙ ap reading_of (from_first-itself k.first k.after k.no_dash)
     ∙ ap (λ t. cond t (pattern_reading k.after) (plain_of (k.first ∷ k.after))) k.no_pattern
     ∙ ap plain_of (sym k.begins)
-    ∙ ap (λ t. cond t (Err BadByte) (Ok (Plain (undashed text)))) k.fine
+    ∙ ap (λ t. cond t (Err BadByte) (Ok (Plain (without_dashes text)))) k.fine
     ∙ ap (λ t. Ok (Plain t)) k.dashless
 means_again (Pattern classes tail) k =
     ap (λ parts. parts >>= pattern_of) (parts_again classes tail k.0) ∙ k.1

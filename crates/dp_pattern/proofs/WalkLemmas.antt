@@ -4,17 +4,17 @@ use Rattle.std.specs.List.{AllZip}
 use Rattle.std.proofs.Math.Seq.{drop-cons}
 use Rattle.std.proofs.lemmas.Cmp.{nat_eq_equiv}
 use Rattle.std.proofs.lemmas.Map.Views.{list_any-from_Contains, Contains-from_any}
-use Rattle.dp_pattern.specs.Dashes.{undashed}
+use Rattle.dp_pattern.specs.Dashes.{without_dashes}
 use Rattle.dp_pattern.specs.Name.{Meaning, Plain, Pattern, is_one_of}
 use Rattle.dp_pattern.specs.Matches.{Matches, MatchesPattern, FitsTail}
-use Rattle.dp_pattern.specs.Walk.{Walked, Refused, Short, After, walked, singles, classes_of, tail_of, tail_allows, is_match}
+use Rattle.dp_pattern.specs.Walk.{Walked, Refused, Short, After, walk_after, singles, classes_of, tail_of, tail_allows, is_match}
 use Rattle.dp_pattern.specs.declared.tail.Tail.{Tail}
 use Rattle.dp_pattern.specs.declared.tail.Tail.TheVariants.{End, Dot, Bang}
 
 -- a text that has no digit at a class of a plain name
-pub walked-short : (plain digits : List ℕ) (i : ℕ) → i < length plain → digits ≡ [] → walked (singles (drop i plain)) digits ≡ Short
-walked-short plain digits i within none =
-    ap (λ bytes. walked (singles bytes) digits) (drop-cons plain i 0 within) ∙ ap (λ ds. walked (singles (slice_index plain i ∷ drop (suc i) plain)) ds) none
+pub walk_after-short : (plain digits : List ℕ) (i : ℕ) → i < length plain → digits ≡ [] → walk_after (singles (drop i plain)) digits ≡ Short
+walk_after-short plain digits i within none =
+    ap (λ bytes. walk_after (singles bytes) digits) (drop-cons plain i 0 within) ∙ ap (λ ds. walk_after (singles (slice_index plain i ∷ drop (suc i) plain)) ds) none
 
 -- the test of a byte decides whether it is a member
 pub member : (class : List ℕ) (d : ℕ) → Decides (is_one_of class d) (Contains class d)
@@ -33,51 +33,51 @@ pub record Takes (classes : List (List ℕ)) (digits rest : List ℕ) : Type 0 w
   pub whole : digits ≡ begin ++ rest
   pub members : AllZip Contains classes begin
 
-pub takes : (classes : List (List ℕ)) (digits rest : List ℕ) → walked classes digits ≡ After rest → Takes classes digits rest
+pub takes : (classes : List (List ℕ)) (digits rest : List ℕ) → walk_after classes digits ≡ After rest → Takes classes digits rest
 takes [] digits rest e = record { begin = []; whole = cc; members = tt }
 takes (class ∷ classes) [] rest e = absurd cc
 takes (class ∷ classes) (d ∷ digits) rest e = by_test (takes classes digits rest) (is_one_of class d) refl
   where
-    by_test : (walked classes digits ≡ After rest → Takes classes digits rest) → (t : Bool) → is_one_of class d ≡ t → Takes (class ∷ classes) (d ∷ digits) rest
+    by_test : (walk_after classes digits ≡ After rest → Takes classes digits rest) → (t : Bool) → is_one_of class d ≡ t → Takes (class ∷ classes) (d ∷ digits) rest
     by_test later true t =
         let more = later (rw t at e) in
         record { begin = d ∷ more.begin; whole = ap (λ ds. d ∷ ds) more.whole; members = ((member class d).0 t, more.members) }
     by_test later false t = let stuck : Refused ≡ After rest = rw t at e in absurd cc
 
-pub walked-takes : (classes : List (List ℕ)) (begin rest : List ℕ) → AllZip Contains classes begin → walked classes (begin ++ rest) ≡ After rest
-walked-takes [] [] rest members = refl
-walked-takes [] (d ∷ begin) rest members = absurd members
-walked-takes (class ∷ classes) [] rest members = absurd members
-walked-takes (class ∷ classes) (d ∷ begin) rest members = rw ((member class d).1 members.0) (walked-takes classes begin rest members.1)
+pub walk_after-takes : (classes : List (List ℕ)) (begin rest : List ℕ) → AllZip Contains classes begin → walk_after classes (begin ++ rest) ≡ After rest
+walk_after-takes [] [] rest members = refl
+walk_after-takes [] (d ∷ begin) rest members = absurd members
+walk_after-takes (class ∷ classes) [] rest members = absurd members
+walk_after-takes (class ∷ classes) (d ∷ begin) rest members = rw ((member class d).1 members.0) (walk_after-takes classes begin rest members.1)
 
-pub matched_pattern : (classes : List (List ℕ)) (tail : Tail) (digits : List ℕ) → Decides (is_match tail (walked classes digits)) (MatchesPattern classes tail digits)
-matched_pattern classes tail digits = (by_walk (walked classes digits) refl, back)
+pub matched_pattern : (classes : List (List ℕ)) (tail : Tail) (digits : List ℕ) → Decides (is_match tail (walk_after classes digits)) (MatchesPattern classes tail digits)
+matched_pattern classes tail digits = (by_walk (walk_after classes digits) refl, back)
   where
-    by_walk : (walk : Walked) → walked classes digits ≡ walk → is_match tail walk ≡ true → MatchesPattern classes tail digits
+    by_walk : (walk : Walked) → walk_after classes digits ≡ walk → is_match tail walk ≡ true → MatchesPattern classes tail digits
     by_walk Refused e h = absurd (true≢false (sym h))
     by_walk Short e h = absurd (true≢false (sym h))
     by_walk (After rest) e h =
         let way = takes classes digits rest e in
         record { begin = way.begin; rest = rest; whole = way.whole; members = way.members; ending = (tail_fits tail rest).0 h }
 
-    back : MatchesPattern classes tail digits → is_match tail (walked classes digits) ≡ true
+    back : MatchesPattern classes tail digits → is_match tail (walk_after classes digits) ≡ true
     back found =
-        ap (λ ds. is_match tail (walked classes ds)) found.whole
-        ∙ ap (is_match tail) (walked-takes classes found.begin found.rest found.members)
+        ap (λ ds. is_match tail (walk_after classes ds)) found.whole
+        ∙ ap (is_match tail) (walk_after-takes classes found.begin found.rest found.members)
         ∙ (tail_fits tail found.rest).1 found.ending
 
-pub plain_taken : (plain digits : List ℕ) → Decides (is_match End (walked (singles plain) digits)) (digits ≡ plain)
+pub plain_taken : (plain digits : List ℕ) → Decides (is_match End (walk_after (singles plain) digits)) (digits ≡ plain)
 plain_taken [] [] = (λ _. refl, λ _. refl)
 plain_taken [] (d ∷ digits) = (λ e. absurd (true≢false (sym e)), λ e. cc)
 plain_taken (b ∷ plain) [] = (λ e. absurd (true≢false (sym e)), λ e. cc)
 plain_taken (b ∷ plain) (d ∷ digits) = by_test (plain_taken plain digits) (d == b) refl
   where
-    by_test : Decides (is_match End (walked (singles plain) digits)) (digits ≡ plain) → (t : Bool) → (d == b) ≡ t → Decides (is_match End (cond (t || false) (walked (singles plain) digits) Refused)) (d ∷ digits ≡ b ∷ plain)
+    by_test : Decides (is_match End (walk_after (singles plain) digits)) (digits ≡ plain) → (t : Bool) → (d == b) ≡ t → Decides (is_match End (cond (t || false) (walk_after (singles plain) digits) Refused)) (d ∷ digits ≡ b ∷ plain)
     by_test later true t = let same : d ≡ b = eqb-true d b t in (λ h. let rest = later.0 h in cc, λ e. later.1 cc)
     by_test later false t = (λ h. absurd (true≢false (sym h)), λ e. let same : d ≡ b = cc in absurd (true≢false (sym (eq-eqb d b same) ∙ t)))
 
 -- the walk of a name over a text decides whether they match
-pub matched : (name : Meaning) (text : List ℕ) → Decides (is_match (tail_of name) (walked (classes_of name) (undashed text))) (Matches name text)
+pub matched : (name : Meaning) (text : List ℕ) → Decides (is_match (tail_of name) (walk_after (classes_of name) (without_dashes text))) (Matches name text)
 unfolding Matches
-matched (Plain plain) text = plain_taken plain (undashed text)
-matched (Pattern classes tail) text = matched_pattern classes tail (undashed text)
+matched (Plain plain) text = plain_taken plain (without_dashes text)
+matched (Pattern classes tail) text = matched_pattern classes tail (without_dashes text)

@@ -3,8 +3,8 @@ use Rattle.std.specs.Prelude.{ℕ, ◌-◌, ◌/◌, ◌%◌, Bool, ◌==◌, �
 use Rattle.std.specs.List.{filter, range_with_len}
 use Rattle.std.specs.Int.{bit_at}
 use Rattle.std.specs.Str.{byte}
-use Rattle.dp_pattern.specs.declared.members.Members.{Members}
-use Rattle.dp_pattern.specs.declared.members.Members.TheVariants.{Byte, Digits, Words}
+use Rattle.dp_pattern.specs.declared.class_members.ClassMembers.{ClassMembers}
+use Rattle.dp_pattern.specs.declared.class_members.ClassMembers.TheVariants.{Byte, Digits, Words}
 
 -- how many bytes there are
 unfoldable pub byte_count : ℕ
@@ -35,11 +35,11 @@ abbrev pub has_digit : ℕ → ℕ → Bool
 has_digit mask b = nat_le (byte "0") b && bit_at mask (b - byte "0") == 1
 
 -- whether a class that is kept so has the byte
-abbrev pub has_member : Members → ℕ → Bool
+abbrev pub has_member : ClassMembers → ℕ → Bool
 has_member (Byte a) b = a == b
 has_member (Digits mask) b = has_digit mask b
 has_member (Words words) b = has_bit words.value b
 
 -- the members of a class that is kept so
-abbrev pub kept_members : Members → List ℕ
+abbrev pub kept_members : ClassMembers → List ℕ
 kept_members members = class_by (has_member members)

@@ -7,8 +7,8 @@ abbrev pub is_dash : ℕ → Bool
 is_dash b = b == byte "-"
 
 -- the text without its dashes
-abbrev pub undashed : List ℕ → List ℕ
-undashed text = filter (λ b. not (is_dash b)) text
+abbrev pub without_dashes : List ℕ → List ℕ
+without_dashes text = filter (λ b. not (is_dash b)) text
 
 -- the text from its first byte other than a dash on
 abbrev pub from_first : List ℕ → List ℕ

@@ -6,8 +6,8 @@ use Rattle.dp_pattern.specs.declared.name.Kind as kind
 use Rattle.dp_pattern.specs.declared.name.Kind.TheVariants as kept
 use Rattle.dp_pattern.specs.declared.name.Parts as parts
 use Rattle.dp_pattern.specs.declared.name.Parts.TheVariants as shown
-use Rattle.dp_pattern.specs.declared.reading.Piece as piece
-use Rattle.dp_pattern.specs.declared.reading.Piece.TheVariants as cut
+use Rattle.dp_pattern.specs.declared.reading.PatternPiece as piece
+use Rattle.dp_pattern.specs.declared.reading.PatternPiece.TheVariants as cut
 
 -- the meaning of what is kept
 abbrev pub kept_meaning : kind.Kind → Meaning
@@ -21,7 +21,7 @@ parts_meaning (shown.Plain text) = Plain text.now
 parts_meaning (shown.Pattern classes tail) = Pattern classes.now tail
 
 -- the piece that was cut
-abbrev pub cut_piece : piece.Piece → Piece
+abbrev pub cut_piece : piece.PatternPiece → Piece
 cut_piece cut.Dash = Dash
 cut_piece (cut.Wild tail) = Wild tail
 cut_piece (cut.Byte b) = Byte b

@@ -1,7 +1,7 @@
 -- When a dialled text matches a name.
 use Rattle.std.specs.Prelude.{◌≡◌, ℕ, ◌<◌, List, [], ◌++◌, length, Contains}
 use Rattle.std.specs.List.{AllZip}
-use Rattle.dp_pattern.specs.Dashes.{undashed}
+use Rattle.dp_pattern.specs.Dashes.{without_dashes}
 use Rattle.dp_pattern.specs.Name.{Meaning, Plain, Pattern}
 use Rattle.dp_pattern.specs.declared.tail.Tail.{Tail}
 use Rattle.dp_pattern.specs.declared.tail.Tail.TheVariants.{End, Dot, Bang}
@@ -22,5 +22,5 @@ pub record MatchesPattern (classes : List (List ℕ)) (tail : Tail) (digits : Li
 
 -- the text, without its dashes, matches the name
 unfoldable pub Matches : Meaning → List ℕ → Type 0
-Matches (Plain plain) text = undashed text ≡ plain
-Matches (Pattern classes tail) text = MatchesPattern classes tail (undashed text)
+Matches (Plain plain) text = without_dashes text ≡ plain
+Matches (Pattern classes tail) text = MatchesPattern classes tail (without_dashes text)

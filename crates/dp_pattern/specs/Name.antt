@@ -3,7 +3,7 @@ use Rattle.std.specs.Prelude.{◌≡◌, ℕ, zero, suc, ◌+◌, ◌<◌, Bool,
 use Rattle.std.specs.List.{list_any, list_all, position}
 use Rattle.std.specs.Str.{byte}
 use Rattle.dp_pattern.specs.Classes.{class_by}
-use Rattle.dp_pattern.specs.Dashes.{is_dash, undashed, from_first}
+use Rattle.dp_pattern.specs.Dashes.{is_dash, without_dashes, from_first}
 use Rattle.dp_pattern.specs.declared.class.Item.{Item}
 use Rattle.dp_pattern.specs.declared.class.Item.TheVariants.{One, Range}
 use Rattle.dp_pattern.specs.declared.tail.Tail.{Tail}
@@ -164,7 +164,7 @@ pattern_of parts = elim parts.1 [ End ↦ ended parts.0 | Dot ↦ Ok (Pattern pa
 
 -- a text that is no pattern
 abbrev pub plain_of : List ℕ → Result Meaning NameFault
-plain_of text = if list_any is_bad text then Err BadByte else Ok (Plain (undashed text))
+plain_of text = if list_any is_bad text then Err BadByte else Ok (Plain (without_dashes text))
 
 -- what stands after the `_` of a pattern
 abbrev pub pattern_reading : List ℕ → Result Meaning NameFault

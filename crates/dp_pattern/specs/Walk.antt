@@ -1,6 +1,6 @@
 -- How far the classes of a pattern take the digits of a text.
 use Rattle.std.specs.Prelude.{ℕ, Bool, true, false, List, [], ◌∷◌, map, if◌then◌else◌}
-use Rattle.dp_pattern.specs.Dashes.{undashed}
+use Rattle.dp_pattern.specs.Dashes.{without_dashes}
 use Rattle.dp_pattern.specs.Name.{Meaning, Plain, Pattern, is_one_of}
 use Rattle.dp_pattern.specs.declared.tail.Tail.{Tail}
 use Rattle.dp_pattern.specs.declared.tail.Tail.TheVariants.{End, Dot, Bang}
@@ -13,10 +13,10 @@ pub data Walked : Type 0 where
   Short : Walked
   After : List ℕ → Walked
 
-abbrev pub walked : List (List ℕ) → List ℕ → Walked
-walked [] digits = After digits
-walked (class ∷ classes) [] = Short
-walked (class ∷ classes) (d ∷ digits) = if is_one_of class d then walked classes digits else Refused
+abbrev pub walk_after : List (List ℕ) → List ℕ → Walked
+walk_after [] digits = After digits
+walk_after (class ∷ classes) [] = Short
+walk_after (class ∷ classes) (d ∷ digits) = if is_one_of class d then walk_after classes digits else Refused
 
 -- the class of each byte of a plain name
 abbrev pub singles : List ℕ → List (List ℕ)
@@ -35,7 +35,7 @@ tail_of (Pattern classes tail) = tail
 abbrev pub walk_of : walk.Walk → Walked
 walk_of kept.Refused = Refused
 walk_of kept.Short = Short
-walk_of (kept.After rest) = After (undashed rest.now)
+walk_of (kept.After rest) = After (without_dashes rest.now)
 
 -- whether what is left may stand after the classes
 abbrev pub tail_allows : Tail → List ℕ → Bool

@@ -5,8 +5,8 @@ ghost use Rattle.dp_pattern.specs.Order.{class_cmp};
 ghost use Rattle.dp_pattern.specs.Spelling.{class_spelling};
 ghost use Rattle.dp_pattern.specs.Name.{is_one_of, class_of, class_of_set, items_of, item_fault, lists, is_bad, is_range, IsReason};
 
+use crate::class_members::ClassMembers;
 use crate::fault::{NameFault, PatternFault};
-use crate::members::Members;
 use crate::words::{add, add_range};
 use std::alloc::{AllocError, Global};
 use std::cmp::Ordering;
@@ -15,7 +15,7 @@ use std::marker::Model;
 /// A class of a pattern: a finite set of bytes, which contracts see as its members in byte order.
 #[derive(Debug)]
 pub struct Class {
-    members: Members,
+    members: ClassMembers,
 }
 
 impl Drop for Class {
@@ -169,7 +169,7 @@ pub(crate) fn class_of_set(alloc: Global, bytes: &[u8]) -> Result<Class, Pattern
         (λ fault. IsReason fault (class_of_set bytes.now)) }
 {
     let words = words_of_set(bytes)?;
-    let members = Members::of_words(alloc, words)?;
+    let members = ClassMembers::of_words(alloc, words)?;
     Ok(Class { members })
 }
 
@@ -178,7 +178,7 @@ fn digits() -> Class
     ensures { result ≡ codes "0123456789" }
 {
     Class {
-        members: Members::Digits(0b11_1111_1111),
+        members: ClassMembers::Digits(0b11_1111_1111),
     }
 }
 
@@ -187,7 +187,7 @@ fn digits_from_1() -> Class
     ensures { result ≡ codes "123456789" }
 {
     Class {
-        members: Members::Digits(0b11_1111_1110),
+        members: ClassMembers::Digits(0b11_1111_1110),
     }
 }
 
@@ -196,7 +196,7 @@ fn digits_from_2() -> Class
     ensures { result ≡ codes "23456789" }
 {
     Class {
-        members: Members::Digits(0b11_1111_1100),
+        members: ClassMembers::Digits(0b11_1111_1100),
     }
 }
 
@@ -205,7 +205,7 @@ fn single(byte: u8) -> Class
     ensures { result ≡ byte ∷ [] }
 {
     Class {
-        members: Members::Byte(byte),
+        members: ClassMembers::Byte(byte),
     }
 }
 

@@ -1,6 +1,6 @@
 //! Dashes, which are ignored in names outside sets and in dialled text.
 ghost use Rattle.std.specs.Prelude.{◌≡◌, ◌<◌, [], ◌∷◌, length, MatchOption};
-ghost use Rattle.dp_pattern.specs.Dashes.{undashed, from_first};
+ghost use Rattle.dp_pattern.specs.Dashes.{without_dashes, from_first};
 
 /// The text from its first byte other than a dash on.
 pub(crate) fn from_first(text: &[u8]) -> &[u8]
@@ -15,8 +15,8 @@ pub(crate) fn from_first(text: &[u8]) -> &[u8]
 
 /// The first byte other than a dash, and the text after it.
 pub(crate) fn next_digit(text: &[u8]) -> Option<(u8, &[u8])>
-    ensures { MatchOption result (undashed text.now ≡ [])
-        (λ x. (undashed text.now ≡ x.0 ∷ undashed x.1.now) × (length x.1.now < length text.now)) }
+    ensures { MatchOption result (without_dashes text.now ≡ [])
+        (λ x. (without_dashes text.now ≡ x.0 ∷ without_dashes x.1.now) × (length x.1.now < length text.now)) }
 {
     match from_first(text).split_first() {
         None => None,

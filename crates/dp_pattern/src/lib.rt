@@ -15,10 +15,10 @@
 #![tactic(auto)]
 
 mod class;
+mod class_members;
 mod dashes;
 mod fault;
 mod matching;
-mod members;
 mod name;
 mod order;
 mod reading;

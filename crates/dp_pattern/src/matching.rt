@@ -1,6 +1,6 @@
 //! Matching of dialled text against names.
 ghost use Rattle.std.specs.Prelude.{◌≡◌, ◌↔◌, IsTrue};
-ghost use Rattle.dp_pattern.specs.Dashes.{undashed};
+ghost use Rattle.dp_pattern.specs.Dashes.{without_dashes};
 ghost use Rattle.dp_pattern.specs.Name.{IsName};
 ghost use Rattle.dp_pattern.specs.Walk.{tail_allows, is_match, goes_on, walk_of};
 ghost use Rattle.dp_pattern.specs.Matches.{Matches};
@@ -13,7 +13,7 @@ use crate::walk::{Walk, walk_name};
 
 // Whether the tail of a name allows what is left of a text.
 fn allows(tail: Tail, rest: &[u8]) -> bool
-    ensures { result ≡ tail_allows tail (undashed rest.now) }
+    ensures { result ≡ tail_allows tail (without_dashes rest.now) }
 {
     match tail {
         Tail::End => next_digit(rest).is_none(),

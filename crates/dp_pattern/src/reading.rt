@@ -1,7 +1,7 @@
 //! The reading of a text as a name, piece after piece.
 ghost use Rattle.std.specs.Prelude.{◌≡◌, ◌<◌, ◌≤◌, ◌+◌, ◌∷◌, [], Ok, Err, false, length, MatchOption, MatchResult, IfOk, IfSome};
 ghost use Rattle.std.specs.List.{list_all, list_any, position};
-ghost use Rattle.dp_pattern.specs.Dashes.{undashed, is_dash};
+ghost use Rattle.dp_pattern.specs.Dashes.{without_dashes, is_dash};
 ghost use Rattle.dp_pattern.specs.Name.{pieces_of, pieces_after, piece_of, set_piece, set_size, is_end, parts_of, pattern_reading, is_bad, plain_of, meaning_of, IsReason};
 ghost use Rattle.dp_pattern.specs.Kept.{kept_meaning, cut_piece, is_class, class_count};
 
@@ -15,7 +15,7 @@ use std::alloc::{AllocError, Global};
 
 /// A piece of a pattern's text.
 #[derive(Clone, Copy)]
-enum Piece<'a> {
+enum PatternPiece<'a> {
     Dash,
     Wild(Tail),
     Byte(u8),
@@ -31,20 +31,20 @@ fn place_of_end(text: &[u8]) -> Option<usize>
 }
 
 // The set of the text after a `[`, and what stands after the set.
-fn set_at(text: &[u8]) -> (Piece<'_>, &[u8])
+fn set_at(text: &[u8]) -> (PatternPiece<'_>, &[u8])
     ensures piece { cut_piece result.0 ≡ set_piece (position is_end text.now) text.now }
     ensures after { pieces_of result.1.now
         ≡ pieces_after (set_size (position is_end text.now) text.now) text.now }
     ensures shorter { length result.1.now ≤ length text.now }
 {
     match place_of_end(text) {
-        Some(n) => (Piece::Set(&text[..n]), &text[n + 1..]),
-        None => (Piece::Unclosed, &text[text.len()..]),
+        Some(n) => (PatternPiece::Set(&text[..n]), &text[n + 1..]),
+        None => (PatternPiece::Unclosed, &text[text.len()..]),
     }
 }
 
 // The first piece of the text, and what stands after it.
-fn first_piece(text: &[u8]) -> Option<(Piece<'_>, &[u8])>
+fn first_piece(text: &[u8]) -> Option<(PatternPiece<'_>, &[u8])>
     ensures { MatchOption result (text.now ≡ [])
         (λ x. (pieces_of text.now ≡ cut_piece x.0 ∷ pieces_of x.1.now)
         × (length x.1.now < length text.now)) }
@@ -52,10 +52,10 @@ fn first_piece(text: &[u8]) -> Option<(Piece<'_>, &[u8])>
     let (byte, after) = text.split_first()?;
     let piece = match *byte {
         b'[' => return Some(set_at(after)),
-        b'-' => Piece::Dash,
-        b'.' => Piece::Wild(Tail::Dot),
-        b'!' => Piece::Wild(Tail::Bang),
-        byte => Piece::Byte(byte),
+        b'-' => PatternPiece::Dash,
+        b'.' => PatternPiece::Wild(Tail::Dot),
+        b'!' => PatternPiece::Wild(Tail::Bang),
+        byte => PatternPiece::Byte(byte),
     };
     Some((piece, after))
 }
@@ -68,12 +68,12 @@ fn only_dashes(text: &[u8]) -> bool
 }
 
 // Whether the piece is a class.
-fn is_class(piece: Piece<'_>) -> bool
+fn is_class(piece: PatternPiece<'_>) -> bool
     ensures { result ≡ is_class (cut_piece piece.entry) }
 {
     match piece {
-        Piece::Byte(_) | Piece::Set(_) => true,
-        Piece::Dash | Piece::Wild(_) | Piece::Unclosed => false,
+        PatternPiece::Byte(_) | PatternPiece::Set(_) => true,
+        PatternPiece::Dash | PatternPiece::Wild(_) | PatternPiece::Unclosed => false,
     }
 }
 
@@ -101,12 +101,12 @@ fn read_parts(alloc: Global, text: &[u8]) -> Result<(Vec<Class>, Tail), PatternF
     let mut rest = text;
     while let Some((piece, after)) = first_piece(rest) {
         match piece {
-            Piece::Dash => {}
-            Piece::Wild(tail) if only_dashes(after) => return Ok((classes, tail)),
-            Piece::Wild(_) => return Err(PatternFault::Name(NameFault::AfterWildcard)),
-            Piece::Byte(byte) => classes.push(class_of(byte)?)?,
-            Piece::Set(bytes) => classes.push(class_of_set(alloc, bytes)?)?,
-            Piece::Unclosed => return Err(PatternFault::Name(NameFault::OpenSet)),
+            PatternPiece::Dash => {}
+            PatternPiece::Wild(tail) if only_dashes(after) => return Ok((classes, tail)),
+            PatternPiece::Wild(_) => return Err(PatternFault::Name(NameFault::AfterWildcard)),
+            PatternPiece::Byte(byte) => classes.push(class_of(byte)?)?,
+            PatternPiece::Set(bytes) => classes.push(class_of_set(alloc, bytes)?)?,
+            PatternPiece::Unclosed => return Err(PatternFault::Name(NameFault::OpenSet)),
         }
         rest = after;
     }
@@ -127,7 +127,7 @@ fn read_pattern(alloc: Global, text: &[u8]) -> Result<Kind, PatternFault>
 
 // The text without its dashes, where that is short and each byte is one that a name may have.
 fn short_of(text: &[u8]) -> Option<ArrayVec<u8, 16>>
-    ensures kept { IfSome result (λ kept. kept.items ≡ undashed text.now) }
+    ensures kept { IfSome result (λ kept. kept.items ≡ without_dashes text.now) }
     ensures fine { IfSome result (λ _. list_any is_bad text.now ≡ false) }
 {
     let mut kept = ArrayVec::new();
@@ -143,8 +143,8 @@ fn short_of(text: &[u8]) -> Option<ArrayVec<u8, 16>>
 }
 
 // The text without its dashes.
-fn undashed(alloc: Global, text: &[u8]) -> Result<Vec<u8>, AllocError>
-    ensures { IfOk result (λ kept. kept.items ≡ undashed text.now) }
+fn without_dashes(alloc: Global, text: &[u8]) -> Result<Vec<u8>, AllocError>
+    ensures { IfOk result (λ kept. kept.items ≡ without_dashes text.now) }
 {
     let mut kept: Vec<u8> = text.iter().copied().filter(|b| *b != b'-').collect(alloc)?;
     kept.shrink_to_fit();
@@ -169,7 +169,7 @@ fn read_plain(alloc: Global, text: &[u8]) -> Result<Kind, PatternFault>
     if has_bad(text) {
         return Err(PatternFault::Name(NameFault::BadByte));
     }
-    let kept = undashed(alloc, text)?;
+    let kept = without_dashes(alloc, text)?;
     Ok(Kind::Plain(kept))
 }
 

@@ -1,8 +1,8 @@
 //! How far the classes of a pattern, or the bytes of a plain name, take a text.
 ghost use Rattle.std.specs.Prelude.{◌≡◌};
-ghost use Rattle.dp_pattern.specs.Dashes.{undashed};
+ghost use Rattle.dp_pattern.specs.Dashes.{without_dashes};
 ghost use Rattle.dp_pattern.specs.Name.{IsName};
-ghost use Rattle.dp_pattern.specs.Walk.{walked, walk_of, singles, classes_of, tail_of};
+ghost use Rattle.dp_pattern.specs.Walk.{walk_after, walk_of, singles, classes_of, tail_of};
 
 use crate::class::Class;
 use crate::dashes::next_digit;
@@ -22,7 +22,7 @@ pub(crate) enum Walk<'a> {
 
 /// Takes a member of each class in turn.
 pub(crate) fn walk_classes<'a>(classes: &[Class], text: &'a [u8]) -> Walk<'a>
-    ensures { walk_of result ≡ walked classes.now (undashed text.now) }
+    ensures { walk_of result ≡ walk_after classes.now (without_dashes text.now) }
 {
     let mut rest = text;
     for class in classes {
@@ -39,7 +39,7 @@ pub(crate) fn walk_classes<'a>(classes: &[Class], text: &'a [u8]) -> Walk<'a>
 
 /// Takes each byte of a plain name in turn.
 pub(crate) fn walk_plain<'a>(plain: &[u8], text: &'a [u8]) -> Walk<'a>
-    ensures { walk_of result ≡ walked (singles plain.now) (undashed text.now) }
+    ensures { walk_of result ≡ walk_after (singles plain.now) (without_dashes text.now) }
 {
     let mut rest = text;
     for byte in plain {
@@ -56,7 +56,7 @@ pub(crate) fn walk_plain<'a>(plain: &[u8], text: &'a [u8]) -> Walk<'a>
 
 /// How far the name takes the text, and the tail after that.
 pub(crate) fn walk_name<'a>(name: &Name, text: &'a [u8]) -> (Walk<'a>, Tail)
-    ensures walk { walk_of result.0 ≡ walked (classes_of name.now) (undashed text.now) }
+    ensures walk { walk_of result.0 ≡ walk_after (classes_of name.now) (without_dashes text.now) }
     ensures tail { result.1 ≡ tail_of name.now }
     ensures named { IsName name.now }
 {

@@ -1,11 +1,11 @@
 -- Shapes whose texts are all of another shape.
 use Rattle.std.proofs.Common.{◌≡◌, ℕ, List, [], ◌∷◌, ◌++◌, length, refl, sym, ap, ◌∙◌, subst, arith}
 use Rattle.dp_pieces.specs.Bytes.{Bytes, IsPart, Within}
-use Rattle.dp_pieces.specs.Pieces.{AnyOf, Fits, Known, OneOf, Piece, made, pieces_set}
+use Rattle.dp_pieces.specs.Pieces.{AnyOf, Fits, Known, OneOf, Piece, any_bytes_of, pieces_set}
 use Rattle.dp_pieces.specs.ShapeSteps.{AlwaysFits, AreTextsOf, IsNothing, IsWithinPiece}
 use Rattle.dp_pieces.specs.Shown.{shown_all}
 use Rattle.dp_pieces.specs.declared.piece.Piece.{Piece as Kept}
-use Rattle.dp_pieces.proofs.FitsLemmas.{fits-made, fits-set}
+use Rattle.dp_pieces.proofs.FitsLemmas.{fits-any_bytes_of, fits-set}
 use Rattle.dp_pieces.proofs.TakesLemmas.{none-ends}
 use Rattle.dp_pieces.proofs.WithinLemmas.{within-more}
 
@@ -33,10 +33,10 @@ same-first (OneOf set) more after always = cons (OneOf set) (OneOf set) more aft
 same-first (AnyOf set) more after always = cons (AnyOf set) (AnyOf set) more after (λ byte is. is) always
 
 -- the other shape is any bytes of a set, which has those of the one
-pub fits-any : (wide : Piece) (more left right after : List Piece) (bytes set : Bytes) → right ≡ wide ∷ after → AlwaysFits more after → wide ∷ more ≡ made set → ((byte : ℕ) → bytes byte ≡ pieces_set left byte) → IsPart bytes set → AlwaysFits left right
+pub fits-any : (wide : Piece) (more left right after : List Piece) (bytes set : Bytes) → right ≡ wide ∷ after → AlwaysFits more after → wide ∷ more ≡ any_bytes_of set → ((byte : ℕ) → bytes byte ≡ pieces_set left byte) → IsPart bytes set → AlwaysFits left right
 fits-any wide more left right after bytes set widens back any same part text fits =
     subst (λ ps. Fits ps text) (sym widens) (same-first wide more after back text (subst (λ ps. Fits ps text) (sym any)
-    (fits-made set text (within-more bytes set part text (subst (λ s. Within s text) (λ i byte. sym (same byte) i) (fits-set left text fits))))))
+    (fits-any_bytes_of set text (within-more bytes set part text (subst (λ s. Within s text) (λ i byte. sym (same byte) i) (fits-set left text fits))))))
 
 -- one more piece of no byte is left out
 pub nothing-step : (piece : Piece) (after left pieces : List Piece) → left ≡ piece ∷ after → IsNothing piece → AreTextsOf left pieces → AreTextsOf after pieces

@@ -9,8 +9,8 @@ use Rattle.dp_pieces.specs.Bytes.{Bytes, Within}
 use Rattle.dp_pieces.specs.Arguments.{are_clean, is_clean_set, shapes_of, split_pieces}
 use Rattle.dp_pieces.specs.Fitting.{AllFit}
 use Rattle.dp_pieces.specs.Pieces.{AnyOf, Fits, Known, OneOf, Piece}
-use Rattle.dp_pieces.specs.Trimmed.{trimmed}
-use Rattle.dp_pieces.proofs.TrimmedLemmas.{fits-trimmed}
+use Rattle.dp_pieces.specs.Trimmed.{without_end_blanks}
+use Rattle.dp_pieces.proofs.TrimmedLemmas.{fits-without_end_blanks}
 
 -- and there is one
 abbrev pub SomeFit : List (List Piece) → List (List ℕ) → Type 0
@@ -148,17 +148,17 @@ split-fits (AnyOf set ∷ pieces) text before level at clean fits =
     (split-any set level (clean-set level set both.0) fits.0.0 fits.0.1 (split_pieces level pieces) fits.2
     (λ b l. split-fits pieces fits.0.1 b level l both.1 fits.3) before at)
 
-all-trimmed : (parts : List (List Piece)) (texts : List (List ℕ)) → AllFit parts texts → AllFit (map trimmed parts) (map trim texts)
-all-trimmed [] [] fit = tt
-all-trimmed [] (text ∷ texts) fit = absurd fit
-all-trimmed (pieces ∷ more) [] fit = absurd fit
-all-trimmed (pieces ∷ more) (text ∷ texts) fit = (fits-trimmed pieces text fit.0, all-trimmed more texts fit.1)
+all-without_end_blanks : (parts : List (List Piece)) (texts : List (List ℕ)) → AllFit parts texts → AllFit (map without_end_blanks parts) (map trim texts)
+all-without_end_blanks [] [] fit = tt
+all-without_end_blanks [] (text ∷ texts) fit = absurd fit
+all-without_end_blanks (pieces ∷ more) [] fit = absurd fit
+all-without_end_blanks (pieces ∷ more) (text ∷ texts) fit = (fits-without_end_blanks pieces text fit.0, all-without_end_blanks more texts fit.1)
 
 -- the arguments of a text fit the shapes of its pieces
 pub fits-arguments : (pieces : List Piece) (text : List ℕ) → are_clean 0 pieces ≡ true → Fits pieces text → AllFit (shapes_of pieces) (arguments_of text)
 unfolding parts_of shapes_of
 fits-arguments pieces text clean fits = some (split_pieces 0 pieces) (split_after parts_arguments [] text) (split-fits pieces text [] 0 refl clean fits)
   where
-    some : (parts : List (List Piece)) (texts : List (List ℕ)) → SomeFit parts texts → AllFit (map trimmed parts) (map trim texts)
+    some : (parts : List (List Piece)) (texts : List (List ℕ)) → SomeFit parts texts → AllFit (map without_end_blanks parts) (map trim texts)
     some [] texts fit = absurd fit
-    some (pieces ∷ more) texts fit = all-trimmed (pieces ∷ more) texts fit
+    some (pieces ∷ more) texts fit = all-without_end_blanks (pieces ∷ more) texts fit

@@ -8,7 +8,7 @@ use Rattle.dp_vars.specs.declared.part.Selection.{Selection}
 use Rattle.dp_vars.specs.declared.part.Selection.TheVariants.{Whole, Part, Nothing}
 use Rattle.dp_pieces.specs.Bytes.{Bytes, IsPart, Within}
 use Rattle.dp_pieces.specs.Names.{part_pieces}
-use Rattle.dp_pieces.specs.Pieces.{AnyOf, Fits, Known, OneOf, Piece, exactly, front, known, made, piece_set, pieces_set, without}
+use Rattle.dp_pieces.specs.Pieces.{AnyOf, Fits, Known, OneOf, Piece, exactly, front, text_known, any_bytes_of, piece_set, pieces_set, without}
 use Rattle.dp_pieces.proofs.WithinLemmas.{either-left, either-right, within-append, within-drop, within-more, within-part, within-take}
 
 -- nothing
@@ -17,9 +17,9 @@ unfolding Fits
 fits-nothing = refl
 
 -- a text of these bytes
-pub fits-made : (set : Bytes) (text : List ℕ) → Within set text → Fits (made set) text
+pub fits-any_bytes_of : (set : Bytes) (text : List ℕ) → Within set text → Fits (any_bytes_of set) text
 unfolding Fits
-fits-made set text is = ((text, []), sym (append-nil text), is, refl)
+fits-any_bytes_of set text is = ((text, []), sym (append-nil text), is, refl)
 
 -- a text that is known
 pub fits-exactly : (text : List ℕ) → Fits (exactly text) text
@@ -38,17 +38,17 @@ fits-append (AnyOf set ∷ pieces) more text rest fits later =
     ((fits.0.0, fits.0.1 ++ rest), ap (λ t. t ++ rest) fits.1 ∙ append_assoc fits.0.0 fits.0.1 rest, fits.2, fits-append pieces more fits.0.1 rest fits.3 later)
 
 -- pieces that are all known
-pub fits-known : (pieces : List Piece) (text bytes : List ℕ) → known pieces ≡ Some bytes → Fits pieces text → text ≡ bytes
+pub fits-text_known : (pieces : List Piece) (text bytes : List ℕ) → text_known pieces ≡ Some bytes → Fits pieces text → text ≡ bytes
 unfolding Fits
-fits-known [] text bytes is fits = fits ∙ (cc)
-fits-known (Known byte ∷ pieces) text bytes is fits = by (known pieces) refl (λ bs from. fits-known pieces fits.0 bs from fits.2) is
+fits-text_known [] text bytes is fits = fits ∙ (cc)
+fits-text_known (Known byte ∷ pieces) text bytes is fits = by (text_known pieces) refl (λ bs from. fits-text_known pieces fits.0 bs from fits.2) is
   where
-    by : (o : Option (List ℕ)) → known pieces ≡ o → ((bs : List ℕ) → known pieces ≡ Some bs → fits.0 ≡ bs)
+    by : (o : Option (List ℕ)) → text_known pieces ≡ o → ((bs : List ℕ) → text_known pieces ≡ Some bs → fits.0 ≡ bs)
         → option_map (λ bytes. byte ∷ bytes) o ≡ Some bytes → text ≡ bytes
     by None from later same = absurd cc
     by (Some bs) from later same = fits.1 ∙ (ap (λ xs. byte ∷ xs) (later bs from) ∙ (cc))
-fits-known (OneOf set ∷ pieces) text bytes is fits = absurd cc
-fits-known (AnyOf set ∷ pieces) text bytes is fits = absurd cc
+fits-text_known (OneOf set ∷ pieces) text bytes is fits = absurd cc
+fits-text_known (AnyOf set ∷ pieces) text bytes is fits = absurd cc
 
 -- the bytes after the first piece are among those of all
 pub later-part : (piece : Piece) (pieces : List Piece) → IsPart (pieces_set pieces) (pieces_set (piece ∷ pieces))
@@ -60,9 +60,9 @@ unfolding pieces_set
 first-part piece pieces byte is = either-left (piece_set piece byte) (pieces_set pieces byte) is
 
 -- no other bytes than those of the set
-pub made-part : (set : Bytes) → IsPart (pieces_set (made set)) set
+pub any_bytes_of-part : (set : Bytes) → IsPart (pieces_set (any_bytes_of set)) set
 unfolding pieces_set
-made-part set byte is = by (set byte) is
+any_bytes_of-part set byte is = by (set byte) is
   where
     by : (has : Bool) → (has || false) ≡ true → has ≡ true
     by true e = refl
@@ -89,8 +89,8 @@ fits-set (AnyOf set ∷ pieces) text fits =
     (within-more (pieces_set pieces) (pieces_set (AnyOf set ∷ pieces)) (later-part (AnyOf set) pieces) fits.0.1 (fits-set pieces fits.0.1 fits.3)))
 
 -- a text fits any bytes of its pieces
-pub fits-loosely : (pieces : List Piece) (text : List ℕ) → Fits pieces text → Fits (made (pieces_set pieces)) text
-fits-loosely pieces text fits = fits-made (pieces_set pieces) text (fits-set pieces text fits)
+pub fits-loosely : (pieces : List Piece) (text : List ℕ) → Fits pieces text → Fits (any_bytes_of (pieces_set pieces)) text
+fits-loosely pieces text fits = fits-any_bytes_of (pieces_set pieces) text (fits-set pieces text fits)
 
 -- a text without its first bytes
 pub fits-without : (count : ℕ) (pieces : List Piece) (text : List ℕ) → Fits pieces text → Fits (without count pieces) (drop count text)
@@ -102,7 +102,7 @@ fits-without (suc count) (Known byte ∷ pieces) text fits =
 fits-without (suc count) (OneOf set ∷ pieces) text fits =
     subst (λ t. Fits (without count pieces) (drop (suc count) t)) (sym fits.1) (fits-without count pieces fits.0.1 fits.3)
 fits-without (suc count) (AnyOf set ∷ pieces) text fits =
-    fits-made (pieces_set (AnyOf set ∷ pieces)) (drop (suc count) text)
+    fits-any_bytes_of (pieces_set (AnyOf set ∷ pieces)) (drop (suc count) text)
     (within-drop (pieces_set (AnyOf set ∷ pieces)) (suc count) text (fits-set (AnyOf set ∷ pieces) text fits))
 
 -- the first bytes of a text
@@ -116,7 +116,7 @@ fits-front (suc count) (OneOf set ∷ pieces) text fits =
     subst (λ t. Fits (OneOf set ∷ front count pieces) (take (suc count) t)) (sym fits.1)
     ((fits.0.0, take count fits.0.1), refl, fits.2, fits-front count pieces fits.0.1 fits.3)
 fits-front (suc count) (AnyOf set ∷ pieces) text fits =
-    fits-made (pieces_set (AnyOf set ∷ pieces)) (take (suc count) text)
+    fits-any_bytes_of (pieces_set (AnyOf set ∷ pieces)) (take (suc count) text)
     (within-take (pieces_set (AnyOf set ∷ pieces)) (suc count) text (fits-set (AnyOf set ∷ pieces) text fits))
 
 -- a part that starts ahead, by what is dropped and what is taken
@@ -144,6 +144,6 @@ fits-part (Part (Ahead offset) None) pieces text fits = subst (Fits (without off
 fits-part (Part (Ahead offset) (Some (Ahead size))) pieces text fits =
     subst (Fits (front size (without offset pieces))) (sym (part-some offset size text))
     (fits-front size (without offset pieces) (drop offset text) (fits-without offset pieces text fits))
-fits-part (Part (Ahead offset) (Some (Back size))) pieces text fits = fits-made (pieces_set pieces) _ (within-part (pieces_set pieces) (Part (Ahead offset) (Some (Back size))) text (fits-set pieces text fits))
-fits-part (Part (Back offset) size) pieces text fits = fits-made (pieces_set pieces) _ (within-part (pieces_set pieces) (Part (Back offset) size) text (fits-set pieces text fits))
+fits-part (Part (Ahead offset) (Some (Back size))) pieces text fits = fits-any_bytes_of (pieces_set pieces) _ (within-part (pieces_set pieces) (Part (Ahead offset) (Some (Back size))) text (fits-set pieces text fits))
+fits-part (Part (Back offset) size) pieces text fits = fits-any_bytes_of (pieces_set pieces) _ (within-part (pieces_set pieces) (Part (Back offset) size) text (fits-set pieces text fits))
 fits-part Nothing pieces text fits = fits-nothing

@@ -3,15 +3,15 @@ use Rattle.std.proofs.Common.{◌≡◌, ℕ, zero, suc, ◌<◌, Bool, true, fa
 use borrow.Author.Tests.{eqb-true}
 use Rattle.std.specs.Prelude.{Contains, slice_index_or}
 use Rattle.std.specs.List.{AllZip}
-use Rattle.dp_pattern.specs.Dashes.{is_dash, undashed}
+use Rattle.dp_pattern.specs.Dashes.{is_dash, without_dashes}
 use Rattle.dp_pattern.specs.Matches.{FitsTail, Matches}
 use Rattle.dp_pattern.specs.Name.{Meaning, Plain, Pattern}
 use Rattle.dp_pattern.specs.declared.tail.Tail.{Tail}
 use Rattle.dp_pattern.specs.declared.tail.Tail.TheVariants.{End, Dot, Bang}
 use Rattle.dp_pieces.specs.Bytes.{Bytes, IsPart, Within, both}
-use Rattle.dp_pieces.specs.Met.{matched, met, met_classes, met_tail}
-use Rattle.dp_pieces.specs.Pieces.{AnyOf, Fits, Known, OneOf, Piece, bytes_in, exactly, made, piece_set, pieces_set}
-use Rattle.dp_pieces.proofs.FitsLemmas.{first-part, fits-exactly, fits-made, fits-set, later-part, made-part}
+use Rattle.dp_pieces.specs.Met.{after_match, after_meeting, met_classes, met_tail}
+use Rattle.dp_pieces.specs.Pieces.{AnyOf, Fits, Known, OneOf, Piece, bytes_in, exactly, any_bytes_of, piece_set, pieces_set}
+use Rattle.dp_pieces.proofs.FitsLemmas.{first-part, fits-exactly, fits-any_bytes_of, fits-set, later-part, any_bytes_of-part}
 use Rattle.dp_pieces.proofs.WithinLemmas.{either-left, either-right}
 
 -- a byte at a place of a class is one of its bytes
@@ -57,32 +57,32 @@ fits-classes (AnyOf set ∷ pieces) (class ∷ classes) tail text (byte ∷ begi
       (byte, begin ++ rest),
       whole,
       in-both (pieces_set (AnyOf set ∷ pieces)) (bytes_in class) byte within.0 (at-place class zip.0.0 byte zip.0.1 zip.0.2),
-      fits-classes (made (pieces_set (AnyOf set ∷ pieces))) classes tail (begin ++ rest) begin rest refl zip.1 ending
-          (fits-made (pieces_set (AnyOf set ∷ pieces)) (begin ++ rest) within.1),
+      fits-classes (any_bytes_of (pieces_set (AnyOf set ∷ pieces))) classes tail (begin ++ rest) begin rest refl zip.1 ending
+          (fits-any_bytes_of (pieces_set (AnyOf set ∷ pieces)) (begin ++ rest) within.1),
     )
 
-fits-met : (pieces : List Piece) (name : Meaning) (text : List ℕ) → undashed text ≡ text → Fits pieces text → Matches name text → Fits (met pieces name) text
+fits-after_meeting : (pieces : List Piece) (name : Meaning) (text : List ℕ) → without_dashes text ≡ text → Fits pieces text → Matches name text → Fits (after_meeting pieces name) text
 unfolding Matches
-fits-met pieces (Plain plain) text clean fits matching = subst (Fits (exactly plain)) (sym matching ∙ clean) (fits-exactly plain)
-fits-met pieces (Pattern classes tail) text clean fits matching =
+fits-after_meeting pieces (Plain plain) text clean fits matching = subst (Fits (exactly plain)) (sym matching ∙ clean) (fits-exactly plain)
+fits-after_meeting pieces (Pattern classes tail) text clean fits matching =
     fits-classes pieces classes tail text matching.begin matching.rest (sym clean ∙ matching.whole) matching.members matching.ending fits
 
 -- a text of a set without the dash has none
-pub no-dashes : (set : Bytes) (text : List ℕ) → set 45 ≡ false → Within set text → undashed text ≡ text
+pub no-dashes : (set : Bytes) (text : List ℕ) → set 45 ≡ false → Within set text → without_dashes text ≡ text
 no-dashes set [] lacks within = refl
 no-dashes set (byte ∷ text) lacks within = by (is_dash byte) refl (no-dashes set text lacks within.1)
   where
-    by : (dash : Bool) → is_dash byte ≡ dash → undashed text ≡ text → (if not dash then byte ∷ undashed text else undashed text) ≡ byte ∷ text
+    by : (dash : Bool) → is_dash byte ≡ dash → without_dashes text ≡ text → (if not dash then byte ∷ without_dashes text else without_dashes text) ≡ byte ∷ text
     by true is rest = let same : byte ≡ 45 = eqb-true byte 45 is in absurd (let no : false ≡ true = sym lacks ∙ (ap set (sym same) ∙ within.0) in let b : ⊥ = cc in b)
     by false is rest = ap (λ t. byte ∷ t) rest
 
 -- an extension that has matched a name
-pub fits-matched : (pieces : List Piece) (name : Meaning) (text : List ℕ) → Fits pieces text → Matches name text → Fits (matched pieces name) text
-fits-matched pieces name text fits matching = by (pieces_set pieces 45) refl
+pub fits-after_match : (pieces : List Piece) (name : Meaning) (text : List ℕ) → Fits pieces text → Matches name text → Fits (after_match pieces name) text
+fits-after_match pieces name text fits matching = by (pieces_set pieces 45) refl
   where
-    by : (dashed : Bool) → pieces_set pieces 45 ≡ dashed → Fits (if dashed then pieces else met pieces name) text
+    by : (dashed : Bool) → pieces_set pieces 45 ≡ dashed → Fits (if dashed then pieces else after_meeting pieces name) text
     by true is = fits
-    by false is = fits-met pieces name text (no-dashes (pieces_set pieces) text is (fits-set pieces text fits)) fits matching
+    by false is = fits-after_meeting pieces name text (no-dashes (pieces_set pieces) text is (fits-set pieces text fits)) fits matching
 
 -- the bytes of the pieces after a first one, and of the first
 part-cons : (a b : Piece) (xs ys : List Piece) → IsPart (piece_set a) (pieces_set (b ∷ ys)) → IsPart (pieces_set xs) (pieces_set (b ∷ ys)) → IsPart (pieces_set (a ∷ xs)) (pieces_set (b ∷ ys))
@@ -126,8 +126,8 @@ classes-part (OneOf set ∷ pieces) (class ∷ classes) tail =
 classes-part (AnyOf set ∷ pieces) (class ∷ classes) tail =
     part-cons (OneOf (both (pieces_set (AnyOf set ∷ pieces)) (bytes_in class))) (AnyOf set) _ pieces
     (both-left (pieces_set (AnyOf set ∷ pieces)) (bytes_in class))
-    (trans-part _ (pieces_set (made (pieces_set (AnyOf set ∷ pieces)))) _ (classes-part (made (pieces_set (AnyOf set ∷ pieces))) classes tail)
-    (made-part (pieces_set (AnyOf set ∷ pieces))))
+    (trans-part _ (pieces_set (any_bytes_of (pieces_set (AnyOf set ∷ pieces)))) _ (classes-part (any_bytes_of (pieces_set (AnyOf set ∷ pieces))) classes tail)
+    (any_bytes_of-part (pieces_set (AnyOf set ∷ pieces))))
 
 -- the pieces of a known text have its bytes
 exactly-part : (set : Bytes) (text : List ℕ) → Within set text → IsPart (pieces_set (exactly text)) set
@@ -140,11 +140,11 @@ exactly-part set (b ∷ text) within byte is = by (byte == b) refl (exactly-part
     by false other rest has = rest has
 
 -- and what is met with a name that the text matches has no other bytes
-pub part-matched : (pieces : List Piece) (name : Meaning) (text : List ℕ) → Fits pieces text → Matches name text → IsPart (pieces_set (matched pieces name)) (pieces_set pieces)
+pub part-after_match : (pieces : List Piece) (name : Meaning) (text : List ℕ) → Fits pieces text → Matches name text → IsPart (pieces_set (after_match pieces name)) (pieces_set pieces)
 unfolding Matches
-part-matched pieces name text fits matching = by (pieces_set pieces 45) refl name matching
+part-after_match pieces name text fits matching = by (pieces_set pieces 45) refl name matching
   where
-    by : (dashed : Bool) → pieces_set pieces 45 ≡ dashed → (name : Meaning) → Matches name text → IsPart (pieces_set (if dashed then pieces else met pieces name)) (pieces_set pieces)
+    by : (dashed : Bool) → pieces_set pieces 45 ≡ dashed → (name : Meaning) → Matches name text → IsPart (pieces_set (if dashed then pieces else after_meeting pieces name)) (pieces_set pieces)
     by true is name matching = λ byte has. has
     by false is (Plain plain) matching =
         exactly-part (pieces_set pieces) plain

@@ -8,7 +8,7 @@ use Rattle.dp_conf.specs.GroupsRead.{levels, with_mark}
 use Rattle.dp_pieces.specs.Names.{Names}
 use Rattle.dp_pieces.specs.Pieces.{Known}
 use Rattle.dp_pieces.specs.Texts.{group_pieces, text_pieces}
-use Rattle.dp_pieces.specs.steps.Reader.{Open, Read, after, closed, kinds_of, with_group}
+use Rattle.dp_pieces.specs.steps.Reader.{Open, Read, after, after_group, kinds_of, with_group}
 use Rattle.dp_pieces.specs.steps.ReadSoFar.{StandIn}
 use Rattle.dp_pieces.proofs.ReaderLemmas.{come, come-mark, come-over, come-text}
 
@@ -23,7 +23,7 @@ stand-more (w ∷ waiting) size more larger stand = (omega (arith, stand.0), sta
 stand-after : (names : Names) (m : Mark) (read : Read) → StandIn read.waiting (length read.pieces) → StandIn (after names m read).waiting (length (after names m read).pieces)
 stand-after names End read stand = by read.waiting stand
   where
-    by : (ws : List Open) → StandIn ws (length read.pieces) → StandIn (closed names ws read.pieces).waiting (length (closed names ws read.pieces).pieces)
+    by : (ws : List Open) → StandIn ws (length read.pieces) → StandIn (after_group names ws read.pieces).waiting (length (after_group names ws read.pieces).pieces)
     by [] stand = tt
     by (w ∷ ws) stand =
         stand-more ws w.start (length (with_group names w read.pieces))

@@ -11,7 +11,7 @@ use Rattle.dp_conf.specs.GroupsRead.{Levels, Last, Within, with_byte, with_openi
 use Rattle.dp_pieces.specs.Names.{Names}
 use Rattle.dp_pieces.specs.Pieces.{Known, Piece}
 use Rattle.dp_pieces.specs.Texts.{group_pieces, pieces_of, text_pieces}
-use Rattle.dp_pieces.specs.steps.Reader.{Open, Read, after, closed, kinds_of, with_group}
+use Rattle.dp_pieces.specs.steps.Reader.{Open, Read, after, after_group, kinds_of, with_group}
 
 module _ (names : Names) where
   -- the pieces of the whole, by those that are read, the openings that wait in them, and the levels after
@@ -49,7 +49,7 @@ module _ (names : Names) where
       ∙ ap (λ ps. come waiting (with_group names w ps) outer) (append_assoc pieces (group_pieces names kind (pieces_of names inside)) (pieces_of names rest))
 
   come-end : (waiting : List Open) (pieces : List Piece) (beyond : List GroupKind → ℕ → Levels)
-      → come (closed names waiting pieces).waiting (closed names waiting pieces).pieces (beyond (kinds_of (closed names waiting pieces).waiting) 0)
+      → come (after_group names waiting pieces).waiting (after_group names waiting pieces).pieces (beyond (kinds_of (after_group names waiting pieces).waiting) 0)
       ≡ come waiting pieces (Within Over (beyond (outer_of (kinds_of waiting)) 0))
   unfolding pieces_of
   come-end [] pieces beyond = ap (λ ps. come [] ps (beyond [] 0)) (sym (append-nil pieces))

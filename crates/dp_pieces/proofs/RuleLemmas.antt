@@ -11,7 +11,7 @@ use Rattle.dp_conf.specs.Levels.{next_level}
 use Rattle.dp_pieces.specs.Bytes.{Bytes}
 use Rattle.dp_pieces.specs.Cuts.{At, Cutting, Nowhere, Unsure, cut_known, cut_last, cut_level, cut_pieces, last_known, last_unknown, may_cut, with_byte, with_piece}
 use Rattle.dp_pieces.specs.Pieces.{AnyOf, Known, OneOf, Piece, byte_of, exactly}
-use Rattle.dp_pieces.specs.Shown.{shown, shown_all}
+use Rattle.dp_pieces.specs.Shown.{shown_piece, shown_all}
 use Rattle.dp_pieces.specs.declared.cuts.Rule.{Rule}
 use Rattle.dp_pieces.specs.declared.cuts.Rule.TheVariants.{First, Outside, Comma}
 use Rattle.dp_pieces.specs.declared.cuts.Stand.{Stand}
@@ -34,11 +34,11 @@ level-bound level at (AnyOf set) is = omega (arith, is)
 pub rest-at : (at : ℕ) (pieces : List KeptPiece) → drop (suc at) (shown_all pieces) ≡ shown_all (take (length pieces - (at + 1)) (drop (at + 1) pieces))
 rest-at at pieces =
     let next : suc at ≡ at + 1 = omega arith in
-    ap (λ n. drop n (shown_all pieces)) next ∙ (drop-map shown (at + 1) pieces ∙ ap shown_all (sym (take_rest pieces (at + 1))))
+    ap (λ n. drop n (shown_all pieces)) next ∙ (drop-map shown_piece (at + 1) pieces ∙ ap shown_all (sym (take_rest pieces (at + 1))))
 
 pub parts-at : (at : ℕ) (pieces : List KeptPiece)
     → At (shown_all (take at pieces)) (shown_all (take (length pieces - (at + 1)) (drop (at + 1) pieces))) ≡ At (take at (shown_all pieces)) (drop (suc at) (shown_all pieces))
-parts-at at pieces = λ i. At (sym (take-map shown at pieces) i) (sym (rest-at at pieces) i)
+parts-at at pieces = λ i. At (sym (take-map shown_piece at pieces) i) (sym (rest-at at pieces) i)
 
 -- pieces before a cut
 abbrev pub before : List Piece → Cutting → Cutting
@@ -63,43 +63,43 @@ cut_from rule level at pieces = before (take at (shown_all pieces)) (cut_rule ru
 
 -- a piece at a place
 pub cut_from-piece : (rule : Rule) (level at : ℕ) (pieces : List KeptPiece) (piece : KeptPiece) → at < length pieces → piece ≡ slice_index_or pieces at piece
-    → cut_from rule level at pieces ≡ before (take at (shown_all pieces)) (cut_by (stand_of rule level (shown piece)) (shown piece) (drop (suc at) (shown_all pieces))
-    (cut_rule rule (level_after level (shown piece)) (drop (suc at) (shown_all pieces))))
+    → cut_from rule level at pieces ≡ before (take at (shown_all pieces)) (cut_by (stand_of rule level (shown_piece piece)) (shown_piece piece) (drop (suc at) (shown_all pieces))
+    (cut_rule rule (level_after level (shown_piece piece)) (drop (suc at) (shown_all pieces))))
 cut_from-piece rule level at [] piece below is = absurd (omega (arith, below))
 cut_from-piece rule level zero (p ∷ pieces) piece below is =
-    ap (λ (x : KeptPiece). cut_by (stand_of rule level (shown x)) (shown x) (shown_all pieces) (cut_rule rule (level_after level (shown x)) (shown_all pieces))) (sym is)
-cut_from-piece rule level (suc at) (p ∷ pieces) piece below is = ap (with_piece (shown p)) (cut_from-piece rule level at pieces piece (omega (arith, below)) is)
+    ap (λ (x : KeptPiece). cut_by (stand_of rule level (shown_piece x)) (shown_piece x) (shown_all pieces) (cut_rule rule (level_after level (shown_piece x)) (shown_all pieces))) (sym is)
+cut_from-piece rule level (suc at) (p ∷ pieces) piece below is = ap (with_piece (shown_piece p)) (cut_from-piece rule level at pieces piece (omega (arith, below)) is)
 
 before-push : (pieces : List KeptPiece) (at : ℕ) (piece : KeptPiece) (cutting : Cutting) → at < length pieces → piece ≡ slice_index_or pieces at piece
-    → before (take at (shown_all pieces)) (with_piece (shown piece) cutting) ≡ before (take (suc at) (shown_all pieces)) cutting
+    → before (take at (shown_all pieces)) (with_piece (shown_piece piece) cutting) ≡ before (take (suc at) (shown_all pieces)) cutting
 before-push [] at piece cutting below is = absurd (omega (arith, below))
-before-push (p ∷ pieces) zero piece cutting below is = ap (λ (x : KeptPiece). with_piece (shown x) cutting) is
-before-push (p ∷ pieces) (suc at) piece cutting below is = ap (with_piece (shown p)) (before-push pieces at piece cutting (omega (arith, below)) is)
+before-push (p ∷ pieces) zero piece cutting below is = ap (λ (x : KeptPiece). with_piece (shown_piece x) cutting) is
+before-push (p ∷ pieces) (suc at) piece cutting below is = ap (with_piece (shown_piece p)) (before-push pieces at piece cutting (omega (arith, below)) is)
 
 -- a piece that has none of the bytes
 pub cut_from-apart : (rule : Rule) (level at : ℕ) (pieces : List KeptPiece) (piece : KeptPiece) → at < length pieces → piece ≡ slice_index_or pieces at piece
-    → Apart ≡ stand_of rule level (shown piece) → cut_from rule (level_after level (shown piece)) (suc at) pieces ≡ cut_from rule level at pieces
+    → Apart ≡ stand_of rule level (shown_piece piece) → cut_from rule (level_after level (shown_piece piece)) (suc at) pieces ≡ cut_from rule level at pieces
 cut_from-apart rule level at pieces piece below is apart =
-    sym (before-push pieces at piece (cut_rule rule (level_after level (shown piece)) (drop (suc at) (shown_all pieces))) below is)
-    ∙ (ap (λ s. before (take at (shown_all pieces)) (cut_by s (shown piece) (drop (suc at) (shown_all pieces))
-    (cut_rule rule (level_after level (shown piece)) (drop (suc at) (shown_all pieces))))) apart
+    sym (before-push pieces at piece (cut_rule rule (level_after level (shown_piece piece)) (drop (suc at) (shown_all pieces))) below is)
+    ∙ (ap (λ s. before (take at (shown_all pieces)) (cut_by s (shown_piece piece) (drop (suc at) (shown_all pieces))
+    (cut_rule rule (level_after level (shown_piece piece)) (drop (suc at) (shown_all pieces))))) apart
     ∙ sym (cut_from-piece rule level at pieces piece below is))
 
 -- and one that has, or may have
 pub cut_from-here : (rule : Rule) (level at : ℕ) (pieces : List KeptPiece) (piece : KeptPiece) → at < length pieces → piece ≡ slice_index_or pieces at piece
-    → Here ≡ stand_of rule level (shown piece) → At (take at (shown_all pieces)) (drop (suc at) (shown_all pieces)) ≡ cut_from rule level at pieces
+    → Here ≡ stand_of rule level (shown_piece piece) → At (take at (shown_all pieces)) (drop (suc at) (shown_all pieces)) ≡ cut_from rule level at pieces
 cut_from-here rule level at pieces piece below is here =
     sym (before-at (take at (shown_all pieces)) (drop (suc at) (shown_all pieces)))
-    ∙ (ap (λ s. before (take at (shown_all pieces)) (cut_by s (shown piece) (drop (suc at) (shown_all pieces))
-    (cut_rule rule (level_after level (shown piece)) (drop (suc at) (shown_all pieces))))) here
+    ∙ (ap (λ s. before (take at (shown_all pieces)) (cut_by s (shown_piece piece) (drop (suc at) (shown_all pieces))
+    (cut_rule rule (level_after level (shown_piece piece)) (drop (suc at) (shown_all pieces))))) here
     ∙ sym (cut_from-piece rule level at pieces piece below is))
 
 pub cut_from-maybe : (rule : Rule) (level at : ℕ) (pieces : List KeptPiece) (piece : KeptPiece) → at < length pieces → piece ≡ slice_index_or pieces at piece
-    → Maybe ≡ stand_of rule level (shown piece) → Unsure ≡ cut_from rule level at pieces
+    → Maybe ≡ stand_of rule level (shown_piece piece) → Unsure ≡ cut_from rule level at pieces
 cut_from-maybe rule level at pieces piece below is maybe =
     sym (before-unsure (take at (shown_all pieces)))
-    ∙ (ap (λ s. before (take at (shown_all pieces)) (cut_by s (shown piece) (drop (suc at) (shown_all pieces))
-    (cut_rule rule (level_after level (shown piece)) (drop (suc at) (shown_all pieces))))) maybe
+    ∙ (ap (λ s. before (take at (shown_all pieces)) (cut_by s (shown_piece piece) (drop (suc at) (shown_all pieces))
+    (cut_rule rule (level_after level (shown_piece piece)) (drop (suc at) (shown_all pieces))))) maybe
     ∙ sym (cut_from-piece rule level at pieces piece below is))
 
 pub cut_from-over : (rule : Rule) (level at : ℕ) (pieces : List KeptPiece) → length pieces ≤ at → Nowhere ≡ cut_from rule level at pieces
@@ -217,14 +217,14 @@ last-push mark (AnyOf set ∷ pieces) piece =
 
 -- the same of pieces as they are kept
 pub last-kept : (mark : ℕ) (left front : List KeptPiece) (last : KeptPiece) → left ≡ front ++ last ∷ []
-    → cut_last mark (shown_all left) ≡ last_by (stand_of (First mark) 0 (shown last)) (shown_all front) (cut_last mark (shown_all front))
-last-kept mark left front last is = ap (λ ps. cut_last mark (shown_all ps)) is ∙ (ap (cut_last mark) (map-append shown front (last ∷ [])) ∙ last-push mark (shown_all front) (shown last))
+    → cut_last mark (shown_all left) ≡ last_by (stand_of (First mark) 0 (shown_piece last)) (shown_all front) (cut_last mark (shown_all front))
+last-kept mark left front last is = ap (λ ps. cut_last mark (shown_all ps)) is ∙ (ap (cut_last mark) (map-append shown_piece front (last ∷ [])) ∙ last-push mark (shown_all front) (shown_piece last))
 
 -- the pieces from a place on
 pub from-place : (at : ℕ) (pieces : List KeptPiece) (piece : KeptPiece) → at < length pieces → piece ≡ slice_index_or pieces at piece
-    → drop at (shown_all pieces) ≡ shown piece ∷ drop (suc at) (shown_all pieces)
+    → drop at (shown_all pieces) ≡ shown_piece piece ∷ drop (suc at) (shown_all pieces)
 from-place at [] piece below is = absurd (omega (arith, below))
-from-place zero (p ∷ pieces) piece below is = ap (λ (x : KeptPiece). shown x ∷ shown_all pieces) (sym is)
+from-place zero (p ∷ pieces) piece below is = ap (λ (x : KeptPiece). shown_piece x ∷ shown_all pieces) (sym is)
 from-place (suc at) (p ∷ pieces) piece below is = from-place at pieces piece (omega (arith, below)) is
 
 pub from-end : (at : ℕ) (pieces : List KeptPiece) → length pieces ≤ at → drop at (shown_all pieces) ≡ []
@@ -245,9 +245,9 @@ clean-first level (OneOf set) pieces = ap (λ b. b && are_clean level pieces) (n
 clean-first level (AnyOf set) pieces = ap (λ b. b && are_clean level pieces) (not-any (set 40) (set 41) (set 44 && level == 0))
 
 pub clean-at : (level at : ℕ) (pieces : List KeptPiece) (piece : KeptPiece) → at < length pieces → piece ≡ slice_index_or pieces at piece
-    → are_clean level (drop at (shown_all pieces)) ≡ (is_clean_piece level (shown piece) && are_clean (level_after level (shown piece)) (drop (suc at) (shown_all pieces)))
+    → are_clean level (drop at (shown_all pieces)) ≡ (is_clean_piece level (shown_piece piece) && are_clean (level_after level (shown_piece piece)) (drop (suc at) (shown_all pieces)))
 clean-at level at pieces piece below is =
-    ap (are_clean level) (from-place at pieces piece below is) ∙ clean-first level (shown piece) (drop (suc at) (shown_all pieces))
+    ap (are_clean level) (from-place at pieces piece below is) ∙ clean-first level (shown_piece piece) (drop (suc at) (shown_all pieces))
 
 -- a known text before a cut
 abbrev pub with_bytes : List ℕ → Option (List ℕ × List Piece) → Option (List ℕ × List Piece)
@@ -275,15 +275,15 @@ exactly-push [] byte = refl
 exactly-push (b ∷ name) byte = ap (λ ps. Known b ∷ ps) (exactly-push name byte)
 
 take-push : (at : ℕ) (pieces : List KeptPiece) (piece : KeptPiece) → at < length pieces → piece ≡ slice_index_or pieces at piece
-    → take (suc at) (shown_all pieces) ≡ take at (shown_all pieces) ++ shown piece ∷ []
+    → take (suc at) (shown_all pieces) ≡ take at (shown_all pieces) ++ shown_piece piece ∷ []
 take-push at [] piece below is = absurd (omega (arith, below))
-take-push zero (p ∷ pieces) piece below is = ap (λ (x : KeptPiece). shown x ∷ []) (sym is)
-take-push (suc at) (p ∷ pieces) piece below is = ap (λ ps. shown p ∷ ps) (take-push at pieces piece (omega (arith, below)) is)
+take-push zero (p ∷ pieces) piece below is = ap (λ (x : KeptPiece). shown_piece x ∷ []) (sym is)
+take-push (suc at) (p ∷ pieces) piece below is = ap (λ ps. shown_piece p ∷ ps) (take-push at pieces piece (omega (arith, below)) is)
 
 known-at : (mark byte : ℕ) (b : Bool) → (byte == mark) ≡ b → (rest : List Piece) → cut_known mark (Known byte ∷ rest) ≡ (if b then Some ([], rest) else with_byte byte (cut_known mark rest))
 known-at mark byte b is rest = ap (λ t. if t then Some ([], rest) else with_byte byte (cut_known mark rest)) is
 
-pub front-push : (mark at byte : ℕ) (pieces : List KeptPiece) (piece : KeptPiece) → at < length pieces → piece ≡ slice_index_or pieces at piece → shown piece ≡ Known byte
+pub front-push : (mark at byte : ℕ) (pieces : List KeptPiece) (piece : KeptPiece) → at < length pieces → piece ≡ slice_index_or pieces at piece → shown_piece piece ≡ Known byte
     → (byte == mark) ≡ false → IsKnownFront mark at pieces → IsKnownFront mark (suc at) pieces
 front-push mark at byte pieces piece below is known other front = record {
   name = front.name ++ byte ∷ [];
@@ -293,7 +293,7 @@ front-push mark at byte pieces piece below is known other front = record {
       ∙ with_bytes-push front.name byte (cut_known mark (drop (suc at) (shown_all pieces)))));
 }
 
-pub front-here : (mark at byte : ℕ) (pieces : List KeptPiece) (piece : KeptPiece) → at < length pieces → piece ≡ slice_index_or pieces at piece → shown piece ≡ Known byte
+pub front-here : (mark at byte : ℕ) (pieces : List KeptPiece) (piece : KeptPiece) → at < length pieces → piece ≡ slice_index_or pieces at piece → shown_piece piece ≡ Known byte
     → (byte == mark) ≡ true → (front : IsKnownFront mark at pieces) → cut_known mark (shown_all pieces) ≡ Some (front.name, drop (suc at) (shown_all pieces))
 front-here mark at byte pieces piece below is known same front =
     front.cut ∙ (ap (λ ps. with_bytes front.name (cut_known mark ps)) (from-place at pieces piece below is ∙ ap (λ p. p ∷ drop (suc at) (shown_all pieces)) known)
@@ -301,10 +301,10 @@ front-here mark at byte pieces piece below is known same front =
     ∙ (λ i. Some (append-nil front.name i, drop (suc at) (shown_all pieces)))))
 
 pub front-unknown : (mark at : ℕ) (pieces : List KeptPiece) (piece : KeptPiece) → at < length pieces → piece ≡ slice_index_or pieces at piece
-    → byte_of (shown piece) ≡ None → IsKnownFront mark at pieces → cut_known mark (shown_all pieces) ≡ None
+    → byte_of (shown_piece piece) ≡ None → IsKnownFront mark at pieces → cut_known mark (shown_all pieces) ≡ None
 front-unknown mark at pieces piece below is unknown front =
     front.cut ∙ (ap (λ ps. with_bytes front.name (cut_known mark ps)) (from-place at pieces piece below is)
-    ∙ ap (with_bytes front.name) (none (shown piece) (drop (suc at) (shown_all pieces)) unknown))
+    ∙ ap (with_bytes front.name) (none (shown_piece piece) (drop (suc at) (shown_all pieces)) unknown))
   where
     none : (piece : Piece) (rest : List Piece) → byte_of piece ≡ None → cut_known mark (piece ∷ rest) ≡ None
     none (Known byte) rest is = absurd cc

@@ -6,16 +6,16 @@ use Rattle.std.proofs.lemmas.Bool.{leb-true, ltb-true}
 use Rattle.dp_pieces.specs.Bytes.{Bytes}
 use Rattle.dp_pieces.specs.Sets.{set_by}
 use Rattle.dp_pieces.proofs.BlankLemmas.{none-has}
-use Rattle.dp_pieces.specs.Pieces.{AnyOf, Piece, exactly, known, made}
+use Rattle.dp_pieces.specs.Pieces.{AnyOf, Piece, exactly, text_known, any_bytes_of}
 
 -- any bytes of sets with the same bytes
-pub made-same : (set other : Bytes) → ((b : ℕ) → set b ≡ other b) → made set ≡ made other
-made-same set other same = λ i. AnyOf (λ b. same b i) ∷ []
+pub any_bytes_of-same : (set other : Bytes) → ((b : ℕ) → set b ≡ other b) → any_bytes_of set ≡ any_bytes_of other
+any_bytes_of-same set other same = λ i. AnyOf (λ b. same b i) ∷ []
 
 -- pieces of a known text are all known
-pub known-exactly : (text : List ℕ) → known (exactly text) ≡ Some text
-known-exactly [] = refl
-known-exactly (byte ∷ text) = ap (option_map (λ bytes. byte ∷ bytes)) (known-exactly text)
+pub text_known-exactly : (text : List ℕ) → text_known (exactly text) ≡ Some text
+text_known-exactly [] = refl
+text_known-exactly (byte ∷ text) = ap (option_map (λ bytes. byte ∷ bytes)) (text_known-exactly text)
 
 -- a table that has no byte
 pub none-set : (has : List ℕ) → has ≡ replicate 4 0 → (b : ℕ) → set_by has b ≡ false
@@ -31,8 +31,8 @@ no-digit b = by (nat_le 48 b) (nat_lt b 48) refl refl
     by true true x y = absurd (omega (arith, leb-true 48 b x, ltb-true b 48 y))
 
 -- a text by its pieces, which are all known
-pub text-exactly : (pieces : List Piece) (text name : List ℕ) → known pieces ≡ Some text → pieces ≡ exactly name → text ≡ name
-text-exactly pieces text name is same = ap (λ t. unwrap_or t []) (sym is ∙ (ap known same ∙ known-exactly name))
+pub text-exactly : (pieces : List Piece) (text name : List ℕ) → text_known pieces ≡ Some text → pieces ≡ exactly name → text ≡ name
+text-exactly pieces text name is same = ap (λ t. unwrap_or t []) (sym is ∙ (ap text_known same ∙ text_known-exactly name))
 
-pub never-unknown : (pieces : List Piece) (name : List ℕ) → known pieces ≡ None → pieces ≡ exactly name → ⊥
-never-unknown pieces name is same = let no : None ≡ Some name = sym is ∙ (ap known same ∙ known-exactly name) in let bottom : ⊥ = cc in bottom
+pub never-unknown : (pieces : List Piece) (name : List ℕ) → text_known pieces ≡ None → pieces ≡ exactly name → ⊥
+never-unknown pieces name is same = let no : None ≡ Some name = sym is ∙ (ap text_known same ∙ text_known-exactly name) in let bottom : ⊥ = cc in bottom

@@ -10,10 +10,10 @@ use Rattle.dp_pattern.specs.Walk.{classes_of, singles}
 use Rattle.dp_pattern.specs.declared.tail.Tail.{Tail}
 use Rattle.dp_pieces.specs.Bytes.{Bytes, both, either}
 use Rattle.dp_pieces.specs.Met.{met_classes, met_tail}
-use Rattle.dp_pieces.specs.Pieces.{AnyOf, Known, OneOf, Piece, bytes_in, made, piece_set, pieces_set}
+use Rattle.dp_pieces.specs.Pieces.{AnyOf, Known, OneOf, Piece, bytes_in, any_bytes_of, piece_set, pieces_set}
 use Rattle.dp_pieces.specs.Sets.{set_by}
 use Rattle.dp_pieces.specs.ShapeSteps.{AreAllBytes, AreBytes, is_any}
-use Rattle.dp_pieces.specs.Shown.{shown, shown_all}
+use Rattle.dp_pieces.specs.Shown.{shown_piece, shown_all}
 use Rattle.dp_pieces.specs.declared.piece.Piece.{Piece as Kept}
 use Rattle.dp_pieces.specs.declared.piece.Piece.TheVariants as kept
 
@@ -44,50 +44,50 @@ unfolding pieces_set
 set-end old all left is so_far byte = sym (or-false (old byte)) ∙ (ap (λ ps. old byte || pieces_set ps byte) (sym is) ∙ so_far byte)
 
 -- one more piece is put after others
-pub shown-push : (old : List Kept) (piece : Kept) (more : List Piece) → shown_all (old ++ piece ∷ []) ++ more ≡ shown_all old ++ shown piece ∷ more
-shown-push old piece more = ap (λ ps. ps ++ more) (map-append shown old (piece ∷ [])) ∙ append_assoc (shown_all old) (shown piece ∷ []) more
+pub shown_piece-push : (old : List Kept) (piece : Kept) (more : List Piece) → shown_all (old ++ piece ∷ []) ++ more ≡ shown_all old ++ shown_piece piece ∷ more
+shown_piece-push old piece more = ap (λ ps. ps ++ more) (map-append shown_piece old (piece ∷ [])) ∙ append_assoc (shown_all old) (shown_piece piece ∷ []) more
 
 -- any bytes of a set are one piece, and have no other bytes
-made-set : (set : Bytes) → pieces_set (made set) ≡ set
+any_bytes_of-set : (set : Bytes) → pieces_set (any_bytes_of set) ≡ set
 unfolding pieces_set
-made-set set = λ i byte. or-false (set byte) i
+any_bytes_of-set set = λ i byte. or-false (set byte) i
 
-made-met : (set : Bytes) (class : List ℕ) (classes : List (List ℕ)) (tail : Tail) → met_classes (made set) (class ∷ classes) tail ≡ OneOf (both set (bytes_in class)) ∷ met_classes (made set) classes tail
-made-met set class classes tail = ap (λ s. OneOf (both s (bytes_in class)) ∷ met_classes (made s) classes tail) (made-set set)
+any_bytes_of-met : (set : Bytes) (class : List ℕ) (classes : List (List ℕ)) (tail : Tail) → met_classes (any_bytes_of set) (class ∷ classes) tail ≡ OneOf (both set (bytes_in class)) ∷ met_classes (any_bytes_of set) classes tail
+any_bytes_of-met set class classes tail = ap (λ s. OneOf (both s (bytes_in class)) ∷ met_classes (any_bytes_of s) classes tail) (any_bytes_of-set set)
 
 -- any bytes of a set, met with one class more
 pub any-step : (old new : List Kept) (set : Bytes) (met : List ℕ) (class : List ℕ) (left later : List (List ℕ)) (tail : Tail) (all : List Piece)
     → left ≡ class ∷ later → ((byte : ℕ) → set_by met byte ≡ both set (bytes_in class) byte) → new ≡ old ++ kept.OneOf met ∷ []
-    → shown_all old ++ met_classes (made set) left tail ≡ all → shown_all new ++ met_classes (made set) later tail ≡ all
+    → shown_all old ++ met_classes (any_bytes_of set) left tail ≡ all → shown_all new ++ met_classes (any_bytes_of set) later tail ≡ all
 any-step old new set met class left later tail all is same pushed so_far =
-    ap (λ ps. shown_all ps ++ met_classes (made set) later tail) pushed
-    ∙ (shown-push old (kept.OneOf met) (met_classes (made set) later tail)
-    ∙ (ap (λ s. shown_all old ++ OneOf s ∷ met_classes (made set) later tail) (λ i byte. same byte i)
-    ∙ (ap (λ ps. shown_all old ++ ps) (sym (made-met set class later tail))
-    ∙ (ap (λ cs. shown_all old ++ met_classes (made set) cs tail) (sym is) ∙ so_far))))
+    ap (λ ps. shown_all ps ++ met_classes (any_bytes_of set) later tail) pushed
+    ∙ (shown_piece-push old (kept.OneOf met) (met_classes (any_bytes_of set) later tail)
+    ∙ (ap (λ s. shown_all old ++ OneOf s ∷ met_classes (any_bytes_of set) later tail) (λ i byte. same byte i)
+    ∙ (ap (λ ps. shown_all old ++ ps) (sym (any_bytes_of-met set class later tail))
+    ∙ (ap (λ cs. shown_all old ++ met_classes (any_bytes_of set) cs tail) (sym is) ∙ so_far))))
 
 -- no class is left, and any bytes may follow
 pub any-end : (old new : List Kept) (set : Bytes) (copy : List ℕ) (left : List (List ℕ)) (tail : Tail) (all : List Piece)
-    → left ≡ [] → met_tail (made set) tail ≡ made set → ((byte : ℕ) → set_by copy byte ≡ set byte) → new ≡ old ++ kept.AnyOf copy ∷ []
-    → shown_all old ++ met_classes (made set) left tail ≡ all → shown_all new ≡ all
+    → left ≡ [] → met_tail (any_bytes_of set) tail ≡ any_bytes_of set → ((byte : ℕ) → set_by copy byte ≡ set byte) → new ≡ old ++ kept.AnyOf copy ∷ []
+    → shown_all old ++ met_classes (any_bytes_of set) left tail ≡ all → shown_all new ≡ all
 any-end old new set copy left tail all is follows same pushed so_far =
     ap shown_all pushed
-    ∙ (map-append shown old (kept.AnyOf copy ∷ [])
-    ∙ (ap (λ s. shown_all old ++ made s) (λ i byte. same byte i)
+    ∙ (map-append shown_piece old (kept.AnyOf copy ∷ [])
+    ∙ (ap (λ s. shown_all old ++ any_bytes_of s) (λ i byte. same byte i)
     ∙ (ap (λ ps. shown_all old ++ ps) (sym follows)
-    ∙ (ap (λ cs. shown_all old ++ met_classes (made set) cs tail) (sym is) ∙ so_far))))
+    ∙ (ap (λ cs. shown_all old ++ met_classes (any_bytes_of set) cs tail) (sym is) ∙ so_far))))
 
 -- from a piece of any bytes on, the pieces are met as any bytes of all of them
 pub any-met : (piece : Piece) (later left : List Piece) (class : List ℕ) (after classes : List (List ℕ)) (tail : Tail) (set : Bytes) → is_any piece ≡ true → left ≡ piece ∷ later → classes ≡ class ∷ after
-    → ((byte : ℕ) → set byte ≡ pieces_set left byte) → met_classes left classes tail ≡ met_classes (made set) classes tail
+    → ((byte : ℕ) → set byte ≡ pieces_set left byte) → met_classes left classes tail ≡ met_classes (any_bytes_of set) classes tail
 any-met (Known byte) later left class after classes tail set any is begins same = absurd cc
 any-met (OneOf bytes) later left class after classes tail set any is begins same = absurd cc
 any-met (AnyOf bytes) later left class after classes tail set any is begins same =
     let whole : Bytes = pieces_set (AnyOf bytes ∷ later) in
     let all : set ≡ whole = λ i byte. (same byte ∙ ap (λ ps. pieces_set ps byte) is) i in
     (λ i. met_classes (is i) (begins i) tail)
-    ∙ (sym (made-met whole class after tail)
-    ∙ (λ i. met_classes (made (sym all i)) (sym begins i) tail))
+    ∙ (sym (any_bytes_of-met whole class after tail)
+    ∙ (λ i. met_classes (any_bytes_of (sym all i)) (sym begins i) tail))
 
 -- the bytes of a range are below its end
 range-bytes : (test : ℕ → Bool) (byte low n : ℕ) → low + n ≤ byte → bytes_in (filter test (range_with_len low n)) byte ≡ false

@@ -2,7 +2,7 @@
 use Rattle.std.proofs.Common.{◌≡◌, ℕ, ◌<◌, ◌≤◌, Bool, true, false, not, ◌||◌, ◌==◌, if◌then◌else◌, List, [], ◌∷◌, ◌++◌, length, Contains, eqb-true, eq-eqb, length-append, refl, sym, ap, ◌∙◌, subst, arith}
 use Rattle.std.specs.List.{AllZip}
 use Rattle.dp_pattern.proofs.WalkLemmas.{member}
-use Rattle.dp_pattern.specs.Dashes.{is_dash, undashed}
+use Rattle.dp_pattern.specs.Dashes.{is_dash, without_dashes}
 use Rattle.dp_pattern.specs.Matches.{FitsTail, Matches, MatchesPattern}
 use Rattle.dp_pattern.specs.Name.{Meaning, Plain, Pattern, is_one_of}
 use Rattle.dp_pattern.specs.Walk.{classes_of, singles, tail_of}
@@ -42,7 +42,7 @@ takes-singles : (plain : List ℕ) → Takes (singles plain) End plain
 takes-singles [] = refl
 takes-singles (b ∷ plain) = (ap (λ t. t || false) (eq-eqb b b refl), takes-singles plain)
 
-takes-name : (name : Meaning) (text : List ℕ) → Matches name text → Takes (classes_of name) (tail_of name) (undashed text)
+takes-name : (name : Meaning) (text : List ℕ) → Matches name text → Takes (classes_of name) (tail_of name) (without_dashes text)
 unfolding Matches
 takes-name (Plain plain) text matching = subst (Takes (singles plain) End) (sym matching) (takes-singles plain)
 takes-name (Pattern classes tail) text matching =
@@ -69,17 +69,17 @@ singles-take (b ∷ plain) (d ∷ digits) takes = by (b == d) refl takes.0 (sing
     by true is has rest = λ i. sym (eqb-true b d is) i ∷ rest i
     by false is has rest = absurd cc
 
-name-takes : (name : Meaning) (text : List ℕ) → Takes (classes_of name) (tail_of name) (undashed text) → Matches name text
+name-takes : (name : Meaning) (text : List ℕ) → Takes (classes_of name) (tail_of name) (without_dashes text) → Matches name text
 unfolding Matches
-name-takes (Plain plain) text takes = singles-take plain (undashed text) takes
-name-takes (Pattern classes tail) text takes = takes-pattern classes tail (undashed text) takes
+name-takes (Plain plain) text takes = singles-take plain (without_dashes text) takes
+name-takes (Pattern classes tail) text takes = takes-pattern classes tail (without_dashes text) takes
 
 -- dashes that are left out are no bytes more
-within-undashed : (set : Bytes) (text : List ℕ) → Within set text → Within set (undashed text)
-within-undashed set [] within = tt
-within-undashed set (byte ∷ text) within = by (is_dash byte) (within-undashed set text within.1)
+within-without_dashes : (set : Bytes) (text : List ℕ) → Within set text → Within set (without_dashes text)
+within-without_dashes set [] within = tt
+within-without_dashes set (byte ∷ text) within = by (is_dash byte) (within-without_dashes set text within.1)
   where
-    by : (dash : Bool) → Within set (undashed text) → Within set (if not dash then byte ∷ undashed text else undashed text)
+    by : (dash : Bool) → Within set (without_dashes text) → Within set (if not dash then byte ∷ without_dashes text else without_dashes text)
     by true rest = rest
     by false rest = (within.0, rest)
 
@@ -169,19 +169,19 @@ pub covered : (pieces : List Piece) (set : Bytes) (name found : Meaning) → ((b
     → AlwaysTakes pieces (classes_of found) (tail_of found) → (text : List ℕ) → Fits pieces text → Matches name text
 covered pieces set name found same dashless is always text fits =
     name-takes name text
-    (subst (λ n. Takes (classes_of n) (tail_of n) (undashed text)) is
+    (subst (λ n. Takes (classes_of n) (tail_of n) (without_dashes text)) is
     (subst (Takes (classes_of found) (tail_of found)) (sym (no-dashes (pieces_set pieces) text (sym (same 45) ∙ dashless) (fits-set pieces text fits))) (always text fits)))
 
 -- a shape that may have dashes, by its set
 pub unmatched-dashed : (pieces : List Piece) (set : Bytes) (name found : Meaning) → ((byte : ℕ) → set byte ≡ pieces_set pieces byte) → found ≡ name
     → MissesWithin set 0 (classes_of found) (tail_of found) → (text : List ℕ) → Fits pieces text → Matches name text → ⊥
 unmatched-dashed pieces set name found same is misses text fits matching =
-    misses (undashed text) (within-undashed set text (subst (λ s. Within s text) (λ i byte. sym (same byte) i) (fits-set pieces text fits))) (omega arith)
-    (subst (λ n. Takes (classes_of n) (tail_of n) (undashed text)) (sym is) (takes-name name text matching))
+    misses (without_dashes text) (within-without_dashes set text (subst (λ s. Within s text) (λ i byte. sym (same byte) i) (fits-set pieces text fits))) (omega arith)
+    (subst (λ n. Takes (classes_of n) (tail_of n) (without_dashes text)) (sym is) (takes-name name text matching))
 
 pub unmatched : (pieces : List Piece) (set : Bytes) (name found : Meaning) → ((byte : ℕ) → set byte ≡ pieces_set pieces byte) → set 45 ≡ false → found ≡ name
     → Misses pieces (classes_of found) (tail_of found) → (text : List ℕ) → Fits pieces text → Matches name text → ⊥
 unmatched pieces set name found same dashless is misses text fits matching =
     misses text fits
     (subst (Takes (classes_of found) (tail_of found)) (no-dashes (pieces_set pieces) text (sym (same 45) ∙ dashless) (fits-set pieces text fits))
-    (subst (λ n. Takes (classes_of n) (tail_of n) (undashed text)) (sym is) (takes-name name text matching)))
+    (subst (λ n. Takes (classes_of n) (tail_of n) (without_dashes text)) (sym is) (takes-name name text matching)))

@@ -12,17 +12,17 @@ use Rattle.dp_conf.specs.declared.groups.GroupKind.TheVariants.{Braces, Brackets
 use Rattle.dp_expr.specs.Expression.{expression_value}
 use Rattle.dp_vars.specs.Parts.{asked_of}
 use Rattle.dp_vars.specs.Sights.{Sight}
-use Rattle.dp_vars.specs.Values.{body_by as body_value_by, called, caller_value, expanded, expansion, function_of, function_value, group_value, head_by as head_value_by, head_value}
+use Rattle.dp_vars.specs.Values.{body_by as body_value_by, call_argument, caller_value, expansion_of, expansion, function_of, function_value, group_value, head_by as head_value_by, head_value}
 use Rattle.dp_vars.specs.declared.value.Function.{Function}
 use Rattle.dp_vars.specs.declared.value.Function.TheVariants.{Global, Local, Len, CallerId, QueueWaitingCount}
 use Rattle.dp_pieces.specs.Bytes.{IsPart, Within, either, none, numeric}
 use Rattle.dp_pieces.specs.Cuts.{cut_known}
 use Rattle.dp_pieces.specs.Names.{Names, IsWithin, any_argument_set, body_by, called_set, caller_set, function_set, head_by, head_pieces, variable_pieces}
-use Rattle.dp_pieces.specs.Pieces.{Fits, Known, Piece, bytes_in, known, made, pieces_set}
+use Rattle.dp_pieces.specs.Pieces.{Fits, Known, Piece, bytes_in, text_known, any_bytes_of, pieces_set}
 use Rattle.dp_pieces.specs.Texts.{braces_pieces, called_pieces, group_pieces, pieces_of, text_pieces, text_set, unknown_pieces}
 use Rattle.dp_pieces.proofs.ExpressionLemmas.{within-expression}
 use Rattle.dp_pieces.proofs.LastLemmas.{headed}
-use Rattle.dp_pieces.proofs.FitsLemmas.{fits-append, fits-known, fits-made, fits-nothing, fits-part, fits-set, made-part}
+use Rattle.dp_pieces.proofs.FitsLemmas.{fits-append, fits-text_known, fits-any_bytes_of, fits-nothing, fits-part, fits-set, any_bytes_of-part}
 use Rattle.dp_pieces.proofs.NumeralLemmas.{within-decimal}
 use Rattle.dp_pieces.proofs.WithinLemmas.{within-more, within-part}
 
@@ -73,9 +73,9 @@ module _ (names : Names) (sight : Sight) (seen : IsWithin names sight) where
   within-function (Some CallerId) argument = within-caller argument
   within-function (Some QueueWaitingCount) argument = within-decimal (sight.waiting argument)
 
-  within-called : (name : List ℕ) (argument : Option (List ℕ)) → Within (called_set names name argument) (called sight name argument)
-  within-called name None = tt
-  within-called name (Some argument) = within-function (function_of name) argument
+  within-call_argument : (name : List ℕ) (argument : Option (List ℕ)) → Within (called_set names name argument) (call_argument sight name argument)
+  within-call_argument name None = tt
+  within-call_argument name (Some argument) = within-function (function_of name) argument
 
   fits-head : (head : List ℕ) → Fits (head_pieces names head) (head_value sight head)
   unfolding head_pieces head_value
@@ -83,16 +83,16 @@ module _ (names : Names) (sight : Sight) (seen : IsWithin names sight) where
     where
       by : (cut : Option (List ℕ × List ℕ)) → Fits (head_by names head cut) (head_value_by sight head cut)
       by None = seen.variable head
-      by (Some cut) = fits-made (called_set names cut.0 (before_last 41 cut.1)) _ (within-called cut.0 (before_last 41 cut.1))
+      by (Some cut) = fits-any_bytes_of (called_set names cut.0 (before_last 41 cut.1)) _ (within-call_argument cut.0 (before_last 41 cut.1))
 
   fits-body : (body : List ℕ) (cut : Option (List ℕ × List ℕ)) → Fits (body_by names body cut) (body_value_by sight body cut)
   fits-body body None = fits-head body
   fits-body body (Some cut) = fits-part (asked_of (Some cut.1)) (head_pieces names cut.0) (head_value sight cut.0) (fits-head cut.0)
 
   -- whatever a body names, its bytes are among those of all
-  part-called : (name : List ℕ) (argument : Option (List ℕ)) → IsPart (called_set names name argument) names.all
-  part-called name None = λ byte is. absurd cc
-  part-called name (Some argument) = by (function_of name)
+  part-call_argument : (name : List ℕ) (argument : Option (List ℕ)) → IsPart (called_set names name argument) names.all
+  part-call_argument name None = λ byte is. absurd cc
+  part-call_argument name (Some argument) = by (function_of name)
     where
       num : (b : Bool) → IsPart (if b then names.caller else none) names.all
       num true = seen.whole.caller
@@ -109,12 +109,12 @@ module _ (names : Names) (sight : Sight) (seen : IsWithin names sight) where
   all-variable : (name : List ℕ) → Within names.all (sight.variable name)
   all-variable name = by (same_text name (codes "EXTEN")) (same_text name (codes "CONTEXT")) (fits-set (variable_pieces names name) (sight.variable name) (seen.variable name))
     where
-      by : (a b : Bool) → Within (pieces_set (if a then names.exten else if b then names.context else made (names.bytes name))) (sight.variable name) → Within names.all (sight.variable name)
+      by : (a b : Bool) → Within (pieces_set (if a then names.exten else if b then names.context else any_bytes_of (names.bytes name))) (sight.variable name) → Within names.all (sight.variable name)
       by true b is = within-more (pieces_set names.exten) names.all seen.whole.exten (sight.variable name) is
       by false true is = within-more (pieces_set names.context) names.all seen.whole.context (sight.variable name) is
       by false false is =
           within-more (names.bytes name) names.all (seen.whole.bytes name) (sight.variable name)
-          (within-more (pieces_set (made (names.bytes name))) (names.bytes name) (made-part (names.bytes name)) (sight.variable name) is)
+          (within-more (pieces_set (any_bytes_of (names.bytes name))) (names.bytes name) (any_bytes_of-part (names.bytes name)) (sight.variable name) is)
 
   all-head : (head : List ℕ) → Within names.all (head_value sight head)
   unfolding head_value
@@ -122,16 +122,16 @@ module _ (names : Names) (sight : Sight) (seen : IsWithin names sight) where
     where
       by : (cut : Option (List ℕ × List ℕ)) → Within names.all (head_value_by sight head cut)
       by None = all-variable head
-      by (Some cut) = within-more (called_set names cut.0 (before_last 41 cut.1)) names.all (part-called cut.0 (before_last 41 cut.1)) _ (within-called cut.0 (before_last 41 cut.1))
+      by (Some cut) = within-more (called_set names cut.0 (before_last 41 cut.1)) names.all (part-call_argument cut.0 (before_last 41 cut.1)) _ (within-call_argument cut.0 (before_last 41 cut.1))
 
   all-body : (body : List ℕ) (cut : Option (List ℕ × List ℕ)) → Within names.all (body_value_by sight body cut)
   all-body body None = all-head body
   all-body body (Some cut) = within-part names.all (asked_of (Some cut.1)) (head_value sight cut.0) (all-head cut.0)
 
   -- a function whose name is known, of any argument
-  any-called : (name : List ℕ) (argument : Option (List ℕ)) → Within (any_argument_set names (function_of name)) (called sight name argument)
-  any-called name None = tt
-  any-called name (Some argument) = by (function_of name)
+  any-call_argument : (name : List ℕ) (argument : Option (List ℕ)) → Within (any_argument_set names (function_of name)) (call_argument sight name argument)
+  any-call_argument name None = tt
+  any-call_argument name (Some argument) = by (function_of name)
     where
       num : (b : Bool) → Within names.caller (if b then sight.caller else [])
       num true = seen.caller
@@ -149,7 +149,7 @@ module _ (names : Names) (sight : Sight) (seen : IsWithin names sight) where
   unfolding head_value
   named-head name rest head avoids is =
       subst (λ o. Within (any_argument_set names (function_of name)) (head_value_by sight head o)) (sym (ap (cut_once 40) is ∙ cut_once-here 40 name rest avoids))
-      (any-called name (before_last 41 rest))
+      (any-call_argument name (before_last 41 rest))
 
   named-body : (name rest text : List ℕ) → Avoids 40 name → Avoids 58 name → text ≡ name ++ 40 ∷ rest
       → (cut : Option (List ℕ × List ℕ)) → cut_outside 58 text ≡ cut → Within (any_argument_set names (function_of name)) (body_value_by sight text cut)
@@ -158,8 +158,8 @@ module _ (names : Names) (sight : Sight) (seen : IsWithin names sight) where
       let begun = begins-named 58 name rest cut (each-append (λ b. (b == 58) ≡ false) name (40 ∷ []) no_part (refl, tt)) (ap (cut_outside 58) (sym is) ∙ from) in
       within-part (any_argument_set names (function_of name)) (asked_of (Some cut.1)) (head_value sight cut.0) (named-head name begun.0 cut.0 avoids begun.1)
 
-  fits-called : (name rest text : List ℕ) → Avoids 40 name → text ≡ name ++ 40 ∷ rest → Fits (called_pieces names name) (body_value_by sight text (cut_outside 58 text))
-  fits-called name rest text avoids is = fits-made _ _ (by (bytes_in name 58) refl)
+  fits-call_argument : (name rest text : List ℕ) → Avoids 40 name → text ≡ name ++ 40 ∷ rest → Fits (called_pieces names name) (body_value_by sight text (cut_outside 58 text))
+  fits-call_argument name rest text avoids is = fits-any_bytes_of _ _ (by (bytes_in name 58) refl)
     where
       by : (b : Bool) → bytes_in name 58 ≡ b → Within (if b then names.all else any_argument_set names (function_of name)) (body_value_by sight text (cut_outside 58 text))
       by true has = all-body text (cut_outside 58 text)
@@ -169,8 +169,8 @@ module _ (names : Names) (sight : Sight) (seen : IsWithin names sight) where
   fits-unknown pieces text fits = by (cut_known 40 pieces) refl
     where
       by : (o : Option (List ℕ × List Piece)) → cut_known 40 pieces ≡ o → Fits (unknown_pieces names o) (body_value_by sight text (cut_outside 58 text))
-      by None from = fits-made names.all _ (all-body text (cut_outside 58 text))
-      by (Some cut) from = let is = headed 40 pieces text cut from fits in fits-called cut.0 is.rest text is.avoids is.whole
+      by None from = fits-any_bytes_of names.all _ (all-body text (cut_outside 58 text))
+      by (Some cut) from = let is = headed 40 pieces text cut from fits in fits-call_argument cut.0 is.rest text is.avoids is.whole
 
   fits-braces : (pieces : List Piece) (text : List ℕ) → Fits pieces text → (o : Option (List ℕ)) → ((body : List ℕ) → o ≡ Some body → text ≡ body)
       → Fits (braces_pieces names pieces o) (body_value_by sight text (cut_outside 58 text))
@@ -181,20 +181,20 @@ module _ (names : Names) (sight : Sight) (seen : IsWithin names sight) where
   -- the value of a group whose expanded body fits pieces
   pub fits-group : (kind : GroupKind) (body : List Piece) (text : List ℕ) → Fits body text → Fits (group_pieces names kind body) (group_value sight kind text)
   unfolding group_value
-  fits-group Braces body text fits = fits-braces body text fits (known body) (λ bytes from. fits-known body text bytes from fits)
-  fits-group Brackets body text fits = fits-made (either (pieces_set body) numeric) (expression_value text) (within-expression (pieces_set body) text (fits-set body text fits))
+  fits-group Braces body text fits = fits-braces body text fits (text_known body) (λ bytes from. fits-text_known body text bytes from fits)
+  fits-group Brackets body text fits = fits-any_bytes_of (either (pieces_set body) numeric) (expression_value text) (within-expression (pieces_set body) text (fits-set body text fits))
 
   plain : (byte : ℕ) (pieces : List Piece) (text : List ℕ) → Fits pieces text → Fits (Known byte ∷ pieces) (byte ∷ text)
   unfolding Fits
   plain byte pieces text fits = (text, refl, fits)
 
-  fits-reading : (reading : Reading) → Fits (pieces_of names reading) (expanded sight reading)
-  unfolding pieces_of expanded
+  fits-reading : (reading : Reading) → Fits (pieces_of names reading) (expansion_of sight reading)
+  unfolding pieces_of expansion_of
   fits-reading Over = fits-nothing
-  fits-reading (Plain byte rest) = plain byte (pieces_of names rest) (expanded sight rest) (fits-reading rest)
+  fits-reading (Plain byte rest) = plain byte (pieces_of names rest) (expansion_of sight rest) (fits-reading rest)
   fits-reading (Group kind inside rest) =
-      fits-append (group_pieces names kind (pieces_of names inside)) (pieces_of names rest) (group_value sight kind (expanded sight inside)) (expanded sight rest)
-      (fits-group kind (pieces_of names inside) (expanded sight inside) (fits-reading inside)) (fits-reading rest)
+      fits-append (group_pieces names kind (pieces_of names inside)) (pieces_of names rest) (group_value sight kind (expansion_of sight inside)) (expansion_of sight rest)
+      (fits-group kind (pieces_of names inside) (expansion_of sight inside) (fits-reading inside)) (fits-reading rest)
 
 -- an expanded text fits its pieces
 pub fits-expansion : (names : Names) (sight : Sight) → IsWithin names sight → (text : List ℕ) → Fits (text_pieces names text) (expansion sight text)

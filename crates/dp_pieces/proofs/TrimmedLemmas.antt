@@ -5,9 +5,9 @@ use Rattle.std.proofs.lemmas.Bool.Decides.{nat_tests}
 use Rattle.dp_conf.proofs.TextLemmas.{either-false}
 use Rattle.dp_conf.specs.Blanks.{before_kept as kept_before, is_blank, trim, trim_end, trim_start}
 use Rattle.dp_pieces.specs.Bytes.{Bytes, Within, has_blank, has_blank_below}
-use Rattle.dp_pieces.specs.Pieces.{AnyOf, Fits, Known, OneOf, Piece, made, pieces_set}
-use Rattle.dp_pieces.specs.Trimmed.{before_kept, known_before, loosened, starts_kept, trimmed, trimmed_end, trimmed_start}
-use Rattle.dp_pieces.proofs.FitsLemmas.{fits-made, fits-set}
+use Rattle.dp_pieces.specs.Pieces.{AnyOf, Fits, Known, OneOf, Piece, any_bytes_of, pieces_set}
+use Rattle.dp_pieces.specs.Trimmed.{before_kept, known_before, loose_front, starts_kept, without_end_blanks, trimmed_end, trimmed_start}
+use Rattle.dp_pieces.proofs.FitsLemmas.{fits-any_bytes_of, fits-set}
 use Rattle.dp_pieces.proofs.WithinLemmas.{within-trim_start}
 
 -- a byte of a set that has no blank is none
@@ -85,16 +85,16 @@ start-cut set (byte ∷ front) text pieces within kept fits = by (is_blank byte)
     by true later = later
     by false later = any-of set (byte ∷ front) pieces text within fits
 
-fits-loosened : (set : Bytes) (pieces : List Piece) (text : List ℕ) → Fits (AnyOf set ∷ pieces) text → Fits (loosened set pieces) (trim_start text)
+fits-loose_front : (set : Bytes) (pieces : List Piece) (text : List ℕ) → Fits (AnyOf set ∷ pieces) text → Fits (loose_front set pieces) (trim_start text)
 unfolding Fits
-fits-loosened set pieces text fits = by (starts_kept pieces) refl
+fits-loose_front set pieces text fits = by (starts_kept pieces) refl
   where
-    by : (kept : Bool) → starts_kept pieces ≡ kept → Fits (if kept then AnyOf set ∷ pieces else made (pieces_set (AnyOf set ∷ pieces))) (trim_start text)
+    by : (kept : Bool) → starts_kept pieces ≡ kept → Fits (if kept then AnyOf set ∷ pieces else any_bytes_of (pieces_set (AnyOf set ∷ pieces))) (trim_start text)
     by true is =
         subst (λ t. Fits (AnyOf set ∷ pieces) (trim_start t)) (sym fits.1)
         (start-cut set fits.0.0 fits.0.1 pieces fits.2 (kept-start pieces fits.0.1 is fits.3) fits.3)
     by false is =
-        fits-made (pieces_set (AnyOf set ∷ pieces)) (trim_start text)
+        fits-any_bytes_of (pieces_set (AnyOf set ∷ pieces)) (trim_start text)
         (within-trim_start (pieces_set (AnyOf set ∷ pieces)) text (fits-set (AnyOf set ∷ pieces) text fits))
 
 -- one byte of a set is any bytes of it
@@ -115,13 +115,13 @@ fits-trimmed_start (Known byte ∷ pieces) text fits =
     by false later = plain byte pieces fits.0 fits.2
 fits-trimmed_start (OneOf set ∷ pieces) text fits = by (has_blank set) refl
   where
-    by : (blank : Bool) → has_blank set ≡ blank → Fits (if blank then loosened set pieces else OneOf set ∷ pieces) (trim_start text)
-    by true is = fits-loosened set pieces text (loosely set pieces text fits)
+    by : (blank : Bool) → has_blank set ≡ blank → Fits (if blank then loose_front set pieces else OneOf set ∷ pieces) (trim_start text)
+    by true is = fits-loose_front set pieces text (loosely set pieces text fits)
     by false is =
         subst (λ t. Fits (OneOf set ∷ pieces) (trim_start t)) (sym fits.1)
         (subst (λ b. Fits (OneOf set ∷ pieces) (if b then trim_start fits.0.1 else fits.0.0 ∷ fits.0.1)) (sym (no-blank set fits.0.0 is fits.2))
         (one-of set fits.0.0 pieces fits.0.1 fits.2 fits.3))
-fits-trimmed_start (AnyOf set ∷ pieces) text fits = fits-loosened set pieces text fits
+fits-trimmed_start (AnyOf set ∷ pieces) text fits = fits-loose_front set pieces text fits
 
 -- before what is kept a byte stays, and a blank before nothing goes
 end-kept : (byte : ℕ) → is_blank byte ≡ false → (kept : List ℕ) → kept_before byte kept ≡ byte ∷ kept
@@ -190,5 +190,5 @@ fits-trimmed_end (AnyOf set ∷ pieces) text fits =
     (end-front set fits.0.0 fits.0.1 (trimmed_end pieces) fits.2 (fits-trimmed_end pieces fits.0.1 fits.3))
 
 -- without the blanks at both ends
-pub fits-trimmed : (pieces : List Piece) (text : List ℕ) → Fits pieces text → Fits (trimmed pieces) (trim text)
-fits-trimmed pieces text fits = fits-trimmed_end (trimmed_start pieces) (trim_start text) (fits-trimmed_start pieces text fits)
+pub fits-without_end_blanks : (pieces : List Piece) (text : List ℕ) → Fits pieces text → Fits (without_end_blanks pieces) (trim text)
+fits-without_end_blanks pieces text fits = fits-trimmed_end (trimmed_start pieces) (trim_start text) (fits-trimmed_start pieces text fits)

@@ -4,7 +4,7 @@ use Rattle.std.specs.List.{onto_first}
 use Rattle.dp_conf.specs.Levels.{next_level}
 use Rattle.dp_pieces.specs.Bytes.{Bytes}
 use Rattle.dp_pieces.specs.Pieces.{AnyOf, Known, OneOf, Piece}
-use Rattle.dp_pieces.specs.Trimmed.{trimmed}
+use Rattle.dp_pieces.specs.Trimmed.{without_end_blanks}
 
 -- the set has no byte that parts arguments or changes the level; a comma parts them at level 0 alone
 abbrev pub is_clean_set : ℕ → Bytes → Bool
@@ -28,4 +28,4 @@ split_pieces level (AnyOf set ∷ pieces) = onto_first (AnyOf set) (split_pieces
 
 -- the shapes of the arguments, where no unknown piece parts them
 unfoldable pub shapes_of : List Piece → List (List Piece)
-shapes_of pieces = map trimmed (split_pieces 0 pieces)
+shapes_of pieces = map without_end_blanks (split_pieces 0 pieces)

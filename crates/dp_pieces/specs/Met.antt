@@ -4,7 +4,7 @@ use Rattle.dp_pattern.specs.Name.{Meaning, Plain, Pattern}
 use Rattle.dp_pattern.specs.declared.tail.Tail.{Tail}
 use Rattle.dp_pattern.specs.declared.tail.Tail.TheVariants.{End, Dot, Bang}
 use Rattle.dp_pieces.specs.Bytes.{both}
-use Rattle.dp_pieces.specs.Pieces.{AnyOf, Known, OneOf, Piece, bytes_in, exactly, made, pieces_set}
+use Rattle.dp_pieces.specs.Pieces.{AnyOf, Known, OneOf, Piece, bytes_in, exactly, any_bytes_of, pieces_set}
 
 -- what may follow the classes: nothing, or what the pieces say
 abbrev pub met_tail : List Piece → Tail → List Piece
@@ -19,13 +19,13 @@ met_classes [] (class ∷ classes) tail = []
 met_classes (Known byte ∷ pieces) (class ∷ classes) tail = Known byte ∷ met_classes pieces classes tail
 met_classes (OneOf set ∷ pieces) (class ∷ classes) tail = OneOf (both set (bytes_in class)) ∷ met_classes pieces classes tail
 met_classes (AnyOf set ∷ pieces) (class ∷ classes) tail =
-    OneOf (both (pieces_set (AnyOf set ∷ pieces)) (bytes_in class)) ∷ met_classes (made (pieces_set (AnyOf set ∷ pieces))) classes tail
+    OneOf (both (pieces_set (AnyOf set ∷ pieces)) (bytes_in class)) ∷ met_classes (any_bytes_of (pieces_set (AnyOf set ∷ pieces))) classes tail
 
 -- a name without classes is matched by itself alone
-abbrev pub met : List Piece → Meaning → List Piece
-met pieces (Plain plain) = exactly plain
-met pieces (Pattern classes tail) = met_classes pieces classes tail
+abbrev pub after_meeting : List Piece → Meaning → List Piece
+after_meeting pieces (Plain plain) = exactly plain
+after_meeting pieces (Pattern classes tail) = met_classes pieces classes tail
 
 -- what is known of an extension that has matched the name: dashes do not count for a match, so a shape that may have them is left as it is
-abbrev pub matched : List Piece → Meaning → List Piece
-matched pieces name = if pieces_set pieces 45 then pieces else met pieces name
+abbrev pub after_match : List Piece → Meaning → List Piece
+after_match pieces name = if pieces_set pieces 45 then pieces else after_meeting pieces name

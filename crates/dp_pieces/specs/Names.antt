@@ -12,7 +12,7 @@ use Rattle.dp_vars.specs.declared.part.Selection.TheVariants.{Whole, Part, Nothi
 use Rattle.dp_vars.specs.declared.value.Function.{Function}
 use Rattle.dp_vars.specs.declared.value.Function.TheVariants.{Global, Local, Len, CallerId, QueueWaitingCount}
 use Rattle.dp_pieces.specs.Bytes.{Bytes, IsPart, Within, digits, none}
-use Rattle.dp_pieces.specs.Pieces.{Fits, Piece, front, made, pieces_set, without}
+use Rattle.dp_pieces.specs.Pieces.{Fits, Piece, front, any_bytes_of, pieces_set, without}
 
 -- the bytes that the values of each name may have, the shapes of the channel's own extension and context, the bytes of the caller's
 -- number, and those of any of these
@@ -28,7 +28,7 @@ abbrev pub variable_pieces : Names → List ℕ → List Piece
 variable_pieces names name =
     if same_text name (codes "EXTEN") then names.exten
     else if same_text name (codes "CONTEXT") then names.context
-    else made (names.bytes name)
+    else any_bytes_of (names.bytes name)
 
 -- the bytes of each are among those of all
 pub record IsWhole (names : Names) : Type 0 where
@@ -76,7 +76,7 @@ any_argument_set names (Some QueueWaitingCount) = digits
 -- a head by what is cut at its first `(`: a function of an argument, or a variable
 abbrev pub head_by : Names → List ℕ → Option (List ℕ × List ℕ) → List Piece
 head_by names head None = variable_pieces names head
-head_by names head (Some cut) = made (called_set names cut.0 (before_last 41 cut.1))
+head_by names head (Some cut) = any_bytes_of (called_set names cut.0 (before_last 41 cut.1))
 
 -- a head: a name, or a function with its argument in parentheses
 unfoldable pub head_pieces : Names → List ℕ → List Piece
@@ -86,13 +86,13 @@ head_pieces names head = head_by names head (cut_once 40 head)
 abbrev pub part_ahead : ℕ → Option Reach → List Piece → List Piece
 part_ahead offset None pieces = without offset pieces
 part_ahead offset (Some (Ahead size)) pieces = front size (without offset pieces)
-part_ahead offset (Some (Back size)) pieces = made (pieces_set pieces)
+part_ahead offset (Some (Back size)) pieces = any_bytes_of (pieces_set pieces)
 
 -- the part of a value that is asked for
 abbrev pub part_pieces : Selection → List Piece → List Piece
 part_pieces Whole pieces = pieces
 part_pieces (Part (Ahead offset) size) pieces = part_ahead offset size pieces
-part_pieces (Part (Back offset) size) pieces = made (pieces_set pieces)
+part_pieces (Part (Back offset) size) pieces = any_bytes_of (pieces_set pieces)
 part_pieces Nothing pieces = []
 
 -- a text in braces that has no groups: a head, or a head and the part of it that is asked for

@@ -24,11 +24,11 @@ Fits (OneOf set ∷ pieces) text = (cut : ℕ × List ℕ) × (text ≡ cut.0 �
 Fits (AnyOf set ∷ pieces) text = (cut : List ℕ × List ℕ) × (text ≡ cut.0 ++ cut.1) × Within set cut.0 × Fits pieces cut.1
 
 -- the text of pieces that are all known
-abbrev pub known : List Piece → Option (List ℕ)
-known [] = Some []
-known (Known byte ∷ pieces) = option_map (λ bytes. byte ∷ bytes) (known pieces)
-known (OneOf set ∷ pieces) = None
-known (AnyOf set ∷ pieces) = None
+abbrev pub text_known : List Piece → Option (List ℕ)
+text_known [] = Some []
+text_known (Known byte ∷ pieces) = option_map (λ bytes. byte ∷ bytes) (text_known pieces)
+text_known (OneOf set ∷ pieces) = None
+text_known (AnyOf set ∷ pieces) = None
 
 -- the pieces of a known text
 abbrev pub exactly : List ℕ → List Piece
@@ -36,8 +36,8 @@ exactly [] = []
 exactly (byte ∷ bytes) = Known byte ∷ exactly bytes
 
 -- the pieces of a text that is made of these bytes
-abbrev pub made : Bytes → List Piece
-made set = AnyOf set ∷ []
+abbrev pub any_bytes_of : Bytes → List Piece
+any_bytes_of set = AnyOf set ∷ []
 
 -- the bytes of a piece
 abbrev pub piece_set : Piece → Bytes
@@ -60,7 +60,7 @@ without zero pieces = pieces
 without (suc count) [] = []
 without (suc count) (Known byte ∷ pieces) = without count pieces
 without (suc count) (OneOf set ∷ pieces) = without count pieces
-without (suc count) (AnyOf set ∷ pieces) = made (pieces_set (AnyOf set ∷ pieces))
+without (suc count) (AnyOf set ∷ pieces) = any_bytes_of (pieces_set (AnyOf set ∷ pieces))
 
 -- the first bytes alone
 abbrev pub front : ℕ → List Piece → List Piece
@@ -68,4 +68,4 @@ front zero pieces = []
 front (suc count) [] = []
 front (suc count) (Known byte ∷ pieces) = Known byte ∷ front count pieces
 front (suc count) (OneOf set ∷ pieces) = OneOf set ∷ front count pieces
-front (suc count) (AnyOf set ∷ pieces) = made (pieces_set (AnyOf set ∷ pieces))
+front (suc count) (AnyOf set ∷ pieces) = any_bytes_of (pieces_set (AnyOf set ∷ pieces))

@@ -5,8 +5,8 @@ use Rattle.dp_pattern.specs.Matches.{FitsTail}
 use Rattle.dp_pattern.specs.declared.tail.Tail.{Tail}
 use Rattle.dp_pieces.specs.Bytes.{Bytes, IsPart, Within, both, none}
 use Rattle.dp_pieces.specs.Pieces.{AnyOf, Fits, Known, OneOf, Piece, bytes_in}
-use Rattle.dp_pieces.specs.declared.shapes.place.Place.{Place}
-use Rattle.dp_pieces.specs.declared.shapes.place.Place.TheVariants.{Byte, Class}
+use Rattle.dp_pieces.specs.declared.shapes.name_place.NamePlace.{NamePlace}
+use Rattle.dp_pieces.specs.declared.shapes.name_place.NamePlace.TheVariants.{Byte, Class}
 
 -- nothing above 255 is in the class
 abbrev pub AreBytes : List ℕ → Type 0
@@ -17,7 +17,7 @@ abbrev pub AreAllBytes : List (List ℕ) → Type 0
 AreAllBytes classes = AllByRecursion AreBytes classes
 
 -- the class of a place of a name
-abbrev pub class_at : Place → List ℕ
+abbrev pub class_at : NamePlace → List ℕ
 class_at (Byte byte) = byte ∷ []
 class_at (Class class) = class.now
 

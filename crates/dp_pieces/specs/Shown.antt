@@ -6,11 +6,11 @@ use Rattle.dp_pieces.specs.declared.piece.Piece.{Piece}
 use Rattle.dp_pieces.specs.declared.piece.Piece.TheVariants.{Known, OneOf, AnyOf}
 
 -- a piece by its byte or its set
-abbrev pub shown : Piece → spec.Piece
-shown (Known byte) = spec.Known byte
-shown (OneOf set) = spec.OneOf (set_by set)
-shown (AnyOf set) = spec.AnyOf (set_by set)
+abbrev pub shown_piece : Piece → spec.Piece
+shown_piece (Known byte) = spec.Known byte
+shown_piece (OneOf set) = spec.OneOf (set_by set)
+shown_piece (AnyOf set) = spec.AnyOf (set_by set)
 
 -- each of several
 abbrev pub shown_all : List Piece → List spec.Piece
-shown_all pieces = map shown pieces
+shown_all pieces = map shown_piece pieces

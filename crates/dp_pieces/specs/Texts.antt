@@ -8,7 +8,7 @@ use Rattle.dp_conf.specs.declared.groups.GroupKind.TheVariants.{Braces, Brackets
 use Rattle.dp_pieces.specs.Bytes.{Bytes, either, numeric}
 use Rattle.dp_pieces.specs.Cuts.{cut_known}
 use Rattle.dp_pieces.specs.Names.{Names, any_argument_set, body_by}
-use Rattle.dp_pieces.specs.Pieces.{Known, Piece, bytes_in, known, made, pieces_set}
+use Rattle.dp_pieces.specs.Pieces.{Known, Piece, bytes_in, text_known, any_bytes_of, pieces_set}
 use Rattle.dp_vars.specs.Values.{function_of}
 
 -- the bytes of a text in braces that is known as far as its first `(`: a function whose argument is not known
@@ -17,11 +17,11 @@ begun_set names name = if bytes_in name 58 then names.all else any_argument_set 
 
 -- and its pieces
 abbrev pub called_pieces : Names → List ℕ → List Piece
-called_pieces names name = made (begun_set names name)
+called_pieces names name = any_bytes_of (begun_set names name)
 
 -- a text in braces that is not known may name anything, or is known in part
 abbrev pub unknown_pieces : Names → Option (List ℕ × List Piece) → List Piece
-unknown_pieces names None = made names.all
+unknown_pieces names None = any_bytes_of names.all
 unknown_pieces names (Some cut) = called_pieces names cut.0
 
 -- a text in braces
@@ -31,8 +31,8 @@ braces_pieces names pieces (Some body) = body_by names body (cut_outside 58 body
 
 -- a group by its body: an expression comes to a number or to a part of its text
 abbrev pub group_pieces : Names → GroupKind → List Piece → List Piece
-group_pieces names Braces body = braces_pieces names body (known body)
-group_pieces names Brackets body = made (either (pieces_set body) numeric)
+group_pieces names Braces body = braces_pieces names body (text_known body)
+group_pieces names Brackets body = any_bytes_of (either (pieces_set body) numeric)
 
 -- the pieces of a reading
 unfoldable pub pieces_of : Names → Reading → List Piece

@@ -2,7 +2,7 @@
 use Rattle.std.specs.Prelude.{ℕ, Bool, true, not, ◌&&◌, ◌==◌, List, [], ◌∷◌, if◌then◌else◌}
 use Rattle.dp_conf.specs.Blanks.{is_blank}
 use Rattle.dp_pieces.specs.Bytes.{Bytes, has_blank}
-use Rattle.dp_pieces.specs.Pieces.{AnyOf, Known, OneOf, Piece, made, pieces_set}
+use Rattle.dp_pieces.specs.Pieces.{AnyOf, Known, OneOf, Piece, any_bytes_of, pieces_set}
 
 -- a text of these pieces begins with no blank
 abbrev pub starts_kept : List Piece → Bool
@@ -12,15 +12,15 @@ starts_kept (OneOf set ∷ pieces) = not (has_blank set)
 starts_kept (AnyOf set ∷ pieces) = not (has_blank set) && starts_kept pieces
 
 -- an unknown piece that may lose blanks; where what follows may lose some too, all is one piece
-abbrev pub loosened : Bytes → List Piece → List Piece
-loosened set pieces = if starts_kept pieces then AnyOf set ∷ pieces else made (pieces_set (AnyOf set ∷ pieces))
+abbrev pub loose_front : Bytes → List Piece → List Piece
+loose_front set pieces = if starts_kept pieces then AnyOf set ∷ pieces else any_bytes_of (pieces_set (AnyOf set ∷ pieces))
 
 -- without the blanks at the start
 abbrev pub trimmed_start : List Piece → List Piece
 trimmed_start [] = []
 trimmed_start (Known byte ∷ pieces) = if is_blank byte then trimmed_start pieces else Known byte ∷ pieces
-trimmed_start (OneOf set ∷ pieces) = if has_blank set then loosened set pieces else OneOf set ∷ pieces
-trimmed_start (AnyOf set ∷ pieces) = loosened set pieces
+trimmed_start (OneOf set ∷ pieces) = if has_blank set then loose_front set pieces else OneOf set ∷ pieces
+trimmed_start (AnyOf set ∷ pieces) = loose_front set pieces
 
 -- a piece that is left out where its byte is a blank and nothing is kept of the pieces after it: one byte of the set, or none
 abbrev pub before_kept : Bool → Bytes → Piece → List Piece → List Piece
@@ -39,5 +39,5 @@ trimmed_end (OneOf set ∷ pieces) = before_kept (has_blank set) set (OneOf set)
 trimmed_end (AnyOf set ∷ pieces) = AnyOf set ∷ trimmed_end pieces
 
 -- without the blanks at both ends
-abbrev pub trimmed : List Piece → List Piece
-trimmed pieces = trimmed_end (trimmed_start pieces)
+abbrev pub without_end_blanks : List Piece → List Piece
+without_end_blanks pieces = trimmed_end (trimmed_start pieces)

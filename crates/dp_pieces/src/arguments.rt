@@ -1,7 +1,7 @@
 //! The arguments of a text by its pieces, and parts of these.
 ghost use Rattle.std.specs.Prelude.{◌≡◌, IfOk, map};
 ghost use Rattle.dp_pieces.specs.Arguments.{shapes_of};
-ghost use Rattle.dp_pieces.specs.Pieces.{front, made, pieces_set, without};
+ghost use Rattle.dp_pieces.specs.Pieces.{front, any_bytes_of, pieces_set, without};
 ghost use Rattle.dp_pieces.specs.Shown.{shown_all};
 
 use crate::cuts::first_part;
@@ -15,7 +15,8 @@ use std::alloc::Global;
 pub fn shapes_of(alloc: Global, pieces: &[Piece]) -> Result<Vec<Vec<Piece>>, NoMemory>
     ensures { IfOk result (λ shapes. map (λ shape. shown_all shape.items) shapes.items ≡ shapes_of (shown_all pieces.now)) }
 {
-    let mut shapes = Vec::new(alloc);
+    // A target has three parts at most.
+    let mut shapes = Vec::with_capacity(alloc, 3)?;
     let mut rest = Some(pieces);
     while let Some(left) = rest {
         let (part, after) = first_part(left);
@@ -27,7 +28,7 @@ pub fn shapes_of(alloc: Global, pieces: &[Piece]) -> Result<Vec<Vec<Piece>>, NoM
 
 /// Any bytes of these pieces, as one piece.
 pub(crate) fn any_of(alloc: Global, pieces: &[Piece]) -> Result<Vec<Piece>, NoMemory>
-    ensures { IfOk result (λ all. shown_all all.items ≡ made (pieces_set (shown_all pieces.now))) }
+    ensures { IfOk result (λ all. shown_all all.items ≡ any_bytes_of (pieces_set (shown_all pieces.now))) }
 {
     let all = any_bytes(alloc, bytes_of(pieces))?;
     Ok(all)

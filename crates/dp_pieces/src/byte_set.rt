@@ -47,6 +47,9 @@ fn are_bits_of(word: u64, other: u64) -> bool
     word | other == other
 }
 
+/// The bits of the blanks: up to that of 32, without that of the line feed.
+const BLANKS: u64 = 0x1_ffff_fbff;
+
 /// A set of bytes. Byte b has bit b % 64 of word b / 64.
 #[derive(Clone, Copy)]
 pub struct ByteSet {
@@ -116,7 +119,7 @@ impl ByteSet {
     }
 
     /// The bytes that both sets have.
-    pub(crate) fn shared(&self, other: &ByteSet) -> Self
+    pub(crate) fn common(&self, other: &ByteSet) -> Self
         ensures { (b : ℕ) → set_by result b ≡ both (set_by self.now) (set_by other.now) b }
     {
         let mut shared = *self;
@@ -157,6 +160,9 @@ impl ByteSet {
     pub fn has_blank(&self) -> bool
         ensures { result ≡ has_blank (set_by self.now) }
     {
+        if shared_bits(self.words[0], BLANKS) == 0 {
+            return false;
+        }
         for byte in 0..33 {
             if self.has_as_blank(byte) {
                 return true;

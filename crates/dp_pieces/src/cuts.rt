@@ -4,7 +4,7 @@ ghost use Rattle.dp_pieces.specs.Arguments.{are_clean, split_pieces};
 ghost use Rattle.dp_pieces.specs.Cuts as cuts;
 ghost use Rattle.dp_pieces.specs.Pieces.{Known, OneOf, exactly};
 ghost use Rattle.dp_pieces.specs.Sets.{set_by};
-ghost use Rattle.dp_pieces.specs.Shown.{shown, shown_all};
+ghost use Rattle.dp_pieces.specs.Shown.{shown_piece, shown_all};
 ghost use Rattle.dp_pieces.specs.ShownCuts.{shown_cutting};
 ghost use Rattle.dp_pieces.specs.steps.Stands.{cut_rule, is_clean_piece, level_after, stand_of};
 
@@ -65,7 +65,7 @@ pub fn first_part(pieces: &[Piece]) -> (&[Piece], Option<&[Piece]>)
 /// The level of parentheses after a piece that stands at this level. A piece that is not known is taken to change none.
 fn level_after(level: usize, piece: &Piece) -> usize
     requires { level + 1 < 2 ^ 64 }
-    ensures { result ≡ level_after level (shown piece.now) }
+    ensures { result ≡ level_after level (shown_piece piece.now) }
 {
     match piece {
         Piece::Known(b'(') => level + 1,
@@ -107,7 +107,7 @@ fn stand_unknown(rule: Rule, level: usize, set: &ByteSet) -> Stand
 
 /// How a piece stands to a rule at a level of parentheses.
 fn stand_at(rule: Rule, level: usize, piece: &Piece) -> Stand
-    ensures { result ≡ stand_of rule level (shown piece.now) }
+    ensures { result ≡ stand_of rule level (shown_piece piece.now) }
 {
     match piece {
         Piece::Known(byte) => stand_known(rule, level, *byte),
@@ -163,7 +163,7 @@ pub fn cut_known(pieces: &[Piece], mark: u8) -> Option<(&[Piece], &[Piece])>
 
 /// Whether a piece at a level of parentheses parts no arguments and changes no level, unless it is known.
 fn is_clean(level: usize, piece: &Piece) -> bool
-    ensures { result ≡ is_clean_piece level (shown piece.now) }
+    ensures { result ≡ is_clean_piece level (shown_piece piece.now) }
 {
     match piece {
         Piece::Known(_) => true,

@@ -9,11 +9,11 @@ ghost use Rattle.dp_pieces.specs.Cuts.{cut_known, cut_last, cut_level, cut_piece
 ghost use Rattle.dp_pieces.specs.Fitting.{AllFit, IsCutAs, IsCutKnown, IsLast};
 ghost use Rattle.dp_pattern.specs.Matches.{Matches};
 ghost use Rattle.dp_pattern.specs.Name.{Meaning};
-ghost use Rattle.dp_pieces.specs.Met.{matched};
+ghost use Rattle.dp_pieces.specs.Met.{after_match};
 ghost use Rattle.dp_pieces.specs.Names.{IsWithin, Names, part_pieces};
 ghost use Rattle.dp_pieces.specs.Pieces.{Fits, Piece, pieces_set};
 ghost use Rattle.dp_pieces.specs.Texts.{text_pieces};
-ghost use Rattle.dp_pieces.specs.Trimmed.{trimmed};
+ghost use Rattle.dp_pieces.specs.Trimmed.{without_end_blanks};
 ghost use Rattle.dp_vars.specs.Parts.{part};
 ghost use Rattle.dp_vars.specs.Sights.{Sight};
 ghost use Rattle.dp_vars.specs.Values.{expansion};
@@ -48,12 +48,12 @@ pub fn cuts_fit()
 /// does nothing.
 pub fn parts_fit()
     ensures part { (asked : Selection) (pieces : List Piece) (text : List ℕ) → Fits pieces text → Fits (part_pieces asked pieces) (part asked text) }
-    ensures trimmed { (pieces : List Piece) (text : List ℕ) → Fits pieces text → Fits (trimmed pieces) (trim text) }
+    ensures trimmed { (pieces : List Piece) (text : List ℕ) → Fits pieces text → Fits (without_end_blanks pieces) (trim text) }
 {}
 
 /// A text that fits a shape and matches the name of an extension fits the shape met with the name, and this has no bytes but those of
 /// the shape. It does nothing.
 pub fn meet_fits()
-    ensures fits { (pieces : List Piece) (name : Meaning) (text : List ℕ) → Fits pieces text → Matches name text → Fits (matched pieces name) text }
-    ensures bytes { (pieces : List Piece) (name : Meaning) (text : List ℕ) → Fits pieces text → Matches name text → IsPart (pieces_set (matched pieces name)) (pieces_set pieces) }
+    ensures fits { (pieces : List Piece) (name : Meaning) (text : List ℕ) → Fits pieces text → Matches name text → Fits (after_match pieces name) text }
+    ensures bytes { (pieces : List Piece) (name : Meaning) (text : List ℕ) → Fits pieces text → Matches name text → IsPart (pieces_set (after_match pieces name)) (pieces_set pieces) }
 {}

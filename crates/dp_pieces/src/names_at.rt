@@ -6,7 +6,7 @@ ghost use Rattle.dp_pieces.specs.Bytes as bytes;
 ghost use Rattle.dp_pieces.specs.Cuts.{cut_known};
 ghost use Rattle.dp_pieces.specs.Names as names;
 ghost use Rattle.dp_pieces.specs.NamesAt.{names_of};
-ghost use Rattle.dp_pieces.specs.Pieces.{exactly, known, made, pieces_set};
+ghost use Rattle.dp_pieces.specs.Pieces.{exactly, text_known, any_bytes_of, pieces_set};
 ghost use Rattle.dp_pieces.specs.Sets.{set_by};
 ghost use Rattle.dp_pieces.specs.Shown.{shown_all};
 ghost use Rattle.dp_pieces.specs.Texts as texts;
@@ -55,7 +55,7 @@ fn numeric() -> ByteSet
 
 /// The pieces of an expression by those of its body: any bytes of these or of a number.
 fn expression(alloc: Global, body: &[Piece]) -> Result<Vec<Piece>, NoMemory>
-    ensures { IfOk result (λ pieces. shown_all pieces.items ≡ made (bytes.either (pieces_set (shown_all body.now)) bytes.numeric)) }
+    ensures { IfOk result (λ pieces. shown_all pieces.items ≡ any_bytes_of (bytes.either (pieces_set (shown_all body.now)) bytes.numeric)) }
 {
     let set = bytes_of(body).with(&numeric());
     let pieces = any_bytes(alloc, set)?;
@@ -201,7 +201,7 @@ impl NamesAt<'_> {
 
     /// The pieces of a text in braces by its own pieces.
     fn braces(&self, alloc: Global, body: &[Piece]) -> Result<Vec<Piece>, NoMemory>
-        ensures { IfOk result (λ pieces. shown_all pieces.items ≡ texts.braces_pieces (names_of self.now) (shown_all body.now) (known (shown_all body.now))) }
+        ensures { IfOk result (λ pieces. shown_all pieces.items ≡ texts.braces_pieces (names_of self.now) (shown_all body.now) (text_known (shown_all body.now))) }
     {
         match known_text(alloc, body)? {
             None => self.unknown_pieces(alloc, body),

@@ -1,8 +1,8 @@
 //! Pieces of a text of which parts are unknown.
 ghost use Rattle.std.specs.Prelude.{◌≡◌, ◌||◌, ℕ, IfOk, MatchOption, None, Some};
-ghost use Rattle.dp_pieces.specs.Pieces.{byte_of, known, made, piece_set, pieces_set};
+ghost use Rattle.dp_pieces.specs.Pieces.{byte_of, text_known, any_bytes_of, piece_set, pieces_set};
 ghost use Rattle.dp_pieces.specs.Sets.{set_by};
-ghost use Rattle.dp_pieces.specs.Shown.{shown, shown_all};
+ghost use Rattle.dp_pieces.specs.Shown.{shown_piece, shown_all};
 
 use crate::byte_set::ByteSet;
 use dp_conf::NoMemory;
@@ -19,18 +19,28 @@ pub enum Piece {
 impl Piece {
     /// The byte that stands there, where that is known.
     pub fn byte(&self) -> Option<u8>
-        ensures { result ≡ byte_of (shown self.now) }
+        ensures { result ≡ byte_of (shown_piece self.now) }
     {
         match self {
             Piece::Known(byte) => Some(*byte),
             Piece::OneOf(_) | Piece::AnyOf(_) => None,
         }
     }
+
+    /// Whether the byte is one of the piece's.
+    pub(crate) fn may_be(&self, byte: u8) -> bool
+        ensures { result ≡ piece_set (shown_piece self.now) byte }
+    {
+        match self {
+            Piece::Known(only) => byte == *only,
+            Piece::OneOf(set) | Piece::AnyOf(set) => set.has(byte),
+        }
+    }
 }
 
 /// Puts the bytes of a piece in the set.
 fn add_piece(set: &mut ByteSet, piece: &Piece)
-    ensures { (b : ℕ) → set_by set.new b ≡ (set_by set.old b || piece_set (shown piece.now) b) }
+    ensures { (b : ℕ) → set_by set.new b ≡ (set_by set.old b || piece_set (shown_piece piece.now) b) }
 {
     match piece {
         Piece::Known(byte) => set.put(*byte),
@@ -56,9 +66,24 @@ pub fn bytes_of(pieces: &[Piece]) -> ByteSet
     set
 }
 
+/// Whether a text of the pieces may have the byte.
+#[tactic(auto, unfolding(crate::specs::Pieces::pieces_set))]
+pub(crate) fn may_have(pieces: &[Piece], byte: u8) -> bool
+    ensures { result ≡ pieces_set (shown_all pieces.now) byte }
+{
+    let mut left = pieces;
+    while let Some((first, rest)) = left.split_first() {
+        if first.may_be(byte) {
+            return true;
+        }
+        left = rest;
+    }
+    false
+}
+
 /// Any bytes of the set, as one piece.
 pub(crate) fn any_bytes(alloc: Global, set: ByteSet) -> Result<Vec<Piece>, NoMemory>
-    ensures { IfOk result (λ all. shown_all all.items ≡ made (set_by set)) }
+    ensures { IfOk result (λ all. shown_all all.items ≡ any_bytes_of (set_by set)) }
 {
     let mut all = Vec::new(alloc);
     all.push(Piece::AnyOf(set))?;
@@ -76,9 +101,9 @@ pub(crate) fn copy_of(alloc: Global, pieces: &[Piece]) -> Result<Vec<Piece>, NoM
 
 /// The text of pieces that are all known, or None where some piece is not. It fails only for want of memory.
 pub fn known_text(alloc: Global, pieces: &[Piece]) -> Result<Option<Vec<u8>>, NoMemory>
-    ensures { IfOk result (λ text. MatchOption text (known (shown_all pieces.now) ≡ None) (λ bytes. known (shown_all pieces.now) ≡ Some bytes.items)) }
+    ensures { IfOk result (λ text. MatchOption text (text_known (shown_all pieces.now) ≡ None) (λ bytes. text_known (shown_all pieces.now) ≡ Some bytes.items)) }
 {
-    let mut text = Vec::new(alloc);
+    let mut text = Vec::with_capacity(alloc, pieces.len())?;
     let mut left = pieces;
     while let Some((first, rest)) = left.split_first() {
         let Some(byte) = first.byte() else {

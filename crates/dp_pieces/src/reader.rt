@@ -33,12 +33,10 @@ fn opener(kind: GroupKind) -> u8
 }
 
 /// Pieces after others.
-fn push_all(pieces: &mut Vec<Piece>, more: Vec<Piece>) -> Result<(), NoMemory>
-    ensures { OnOk result (pieces.new.items ≡ pieces.old.items ++ more.items) }
+fn push_all(pieces: &mut Vec<Piece>, more: &[Piece]) -> Result<(), NoMemory>
+    ensures { OnOk result (pieces.new.items ≡ pieces.old.items ++ more.now) }
 {
-    for piece in more {
-        pieces.push(piece)?;
-    }
+    pieces.extend_from_slice(more)?;
     Ok(())
 }
 
@@ -56,7 +54,7 @@ fn put_group<N: NamedPieces>(
 {
     let value = names.group(alloc, kind, pieces.split_at(start + 2).1)?;
     pieces.truncate(start);
-    push_all(pieces, value)?;
+    push_all(pieces, &value)?;
     Ok(())
 }
 

@@ -3,7 +3,7 @@ mod fitting;
 mod length;
 mod matching;
 mod meeting;
-mod place;
+mod name_place;
 mod sets;
 mod within;
 

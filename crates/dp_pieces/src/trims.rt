@@ -3,9 +3,9 @@ ghost use Rattle.std.specs.Prelude.{◌≡◌, ◌∷◌, IfOk, MatchOption, Non
 ghost use Rattle.dp_pieces.specs.Bytes.{has_blank};
 ghost use Rattle.dp_pieces.specs.Pieces.{AnyOf};
 ghost use Rattle.dp_pieces.specs.Sets.{set_by};
-ghost use Rattle.dp_pieces.specs.Shown.{shown, shown_all};
+ghost use Rattle.dp_pieces.specs.Shown.{shown_piece, shown_all};
 ghost use Rattle.dp_pieces.specs.Trimmed as trims;
-ghost use Rattle.dp_pieces.specs.steps.Softened.{blank_of, losing_set, softened, start_by, without_blanks, without_last};
+ghost use Rattle.dp_pieces.specs.steps.Softened.{blank_of, losing_set, soft_piece, start_by, without_blanks, without_last};
 
 use crate::byte_set::ByteSet;
 use crate::piece::{Piece, add_pieces};
@@ -28,7 +28,7 @@ fn skip_blanks(pieces: &[Piece]) -> &[Piece]
 
 /// Whether the piece is a known blank.
 fn is_known_blank(piece: &Piece) -> bool
-    ensures { result ≡ blank_of (shown piece.now) }
+    ensures { result ≡ blank_of (shown_piece piece.now) }
 {
     match piece.byte() {
         Some(byte) => is_blank(byte),
@@ -58,7 +58,7 @@ fn starts_kept(pieces: &[Piece]) -> bool
 
 /// The bytes of a piece that may lose its blanks at the start: any bytes, or one byte that may be a blank.
 fn losing(piece: &Piece) -> Option<ByteSet>
-    ensures { MatchOption result (losing_set (shown piece.now) ≡ None) (λ set. losing_set (shown piece.now) ≡ Some (set_by set)) }
+    ensures { MatchOption result (losing_set (shown_piece piece.now) ≡ None) (λ set. losing_set (shown_piece piece.now) ≡ Some (set_by set)) }
 {
     match piece {
         Piece::Known(_) => None,
@@ -78,8 +78,8 @@ fn any_before(alloc: Global, set: ByteSet, pieces: &[Piece]) -> Result<Vec<Piece
 }
 
 /// Any bytes of the set before these pieces; where these may lose blanks too, any bytes of all.
-fn loosened(alloc: Global, set: ByteSet, pieces: &[Piece]) -> Result<Vec<Piece>, NoMemory>
-    ensures { IfOk result (λ loose. shown_all loose.items ≡ trims.loosened (set_by set) (shown_all pieces.now)) }
+fn loose_front(alloc: Global, set: ByteSet, pieces: &[Piece]) -> Result<Vec<Piece>, NoMemory>
+    ensures { IfOk result (λ loose. shown_all loose.items ≡ trims.loose_front (set_by set) (shown_all pieces.now)) }
 {
     if starts_kept(pieces) {
         return any_before(alloc, set, pieces);
@@ -90,31 +90,23 @@ fn loosened(alloc: Global, set: ByteSet, pieces: &[Piece]) -> Result<Vec<Piece>,
     Ok(loose)
 }
 
-/// The pieces without the blanks at the start, from the first that is no known blank.
-fn start_kept(alloc: Global, pieces: &[Piece]) -> Result<Vec<Piece>, NoMemory>
-    ensures { IfOk result (λ kept. shown_all kept.items ≡ start_by (shown_all pieces.now)) }
+/// What stands in the place of pieces whose first is no known blank, without the blanks at the start, or None where they stay as they are.
+fn loose_start(alloc: Global, pieces: &[Piece]) -> Result<Option<Vec<Piece>>, NoMemory>
+    ensures { IfOk result (λ loose. MatchOption loose (start_by (shown_all pieces.now) ≡ shown_all pieces.now)
+        (λ all. start_by (shown_all pieces.now) ≡ shown_all all.items)) }
 {
     if let Some((first, rest)) = pieces.split_first() {
         if let Some(set) = losing(first) {
-            return loosened(alloc, set, rest);
+            let all = loose_front(alloc, set, rest)?;
+            return Ok(Some(all));
         }
     }
-    let mut kept = Vec::new(alloc);
-    kept.extend_from_slice(pieces)?;
-    Ok(kept)
-}
-
-/// The pieces without the blanks at the start.
-fn trimmed_start(alloc: Global, pieces: &[Piece]) -> Result<Vec<Piece>, NoMemory>
-    ensures { IfOk result (λ kept. shown_all kept.items ≡ trims.trimmed_start (shown_all pieces.now)) }
-{
-    let kept = start_kept(alloc, skip_blanks(pieces))?;
-    Ok(kept)
+    Ok(None)
 }
 
 /// A piece that more pieces follow, which may all lose their blanks.
 fn soften(piece: Piece) -> Piece
-    ensures { shown result ≡ softened (shown piece) }
+    ensures { shown_piece result ≡ soft_piece (shown_piece piece) }
 {
     match piece {
         Piece::Known(byte) => {
@@ -163,8 +155,12 @@ fn trimmed_end(alloc: Global, pieces: &[Piece]) -> Result<Vec<Piece>, NoMemory>
 
 /// The pieces of a text without the blanks at both ends. It fails only for want of memory.
 pub fn trimmed(alloc: Global, pieces: &[Piece]) -> Result<Vec<Piece>, NoMemory>
-    ensures { IfOk result (λ kept. shown_all kept.items ≡ trims.trimmed (shown_all pieces.now)) }
+    ensures { IfOk result (λ kept. shown_all kept.items ≡ trims.without_end_blanks (shown_all pieces.now)) }
 {
-    let start = trimmed_start(alloc, pieces)?;
-    trimmed_end(alloc, &start)
+    let left = skip_blanks(pieces);
+    let loose = loose_start(alloc, left)?;
+    match loose {
+        Some(start) => trimmed_end(alloc, &start),
+        None => trimmed_end(alloc, left),
+    }
 }

@@ -25,10 +25,10 @@ use Rattle.dp_plan.specs.Plan.{Addition, Inclusion, of_one_extension, shares_lab
 use Rattle.dp_plan.specs.steps.Numbers.{with_number}
 use Rattle.dp_plan.specs.steps.Places.{same_slot}
 use Rattle.dp_conf.specs.Changes.{changed_at}
-use Rattle.dp_plan.specs.steps.Draft.{Drafted, same_marked, slot_of, label_of, with_context, changed_context, numbers_with, is_marked, with_note, with_addition, with_inclusion, added, settled}
+use Rattle.dp_plan.specs.steps.Draft.{Drafted, same_marked, slot_of, label_of, with_context, is_marked, with_note, place_of, with_entry_of, with_include_of, with_item, remark_notes}
 use Rattle.indexmap.specs.IndexMap.{insert_entry}
 use Rattle.dp_plan.specs.declared.extension.Extension.{Extension}
-use Rattle.dp_plan.specs.declared.places.Slot.{Slot}
+use Rattle.dp_plan.specs.declared.taken_places.Slot.{Slot}
 use Rattle.dp_plan.specs.declared.label.Label.{Label}
 use Rattle.dp_plan.specs.declared.entry.Entry.{Entry}
 use Rattle.dp_plan.specs.declared.plan.GlobalVariable.{GlobalVariable}
@@ -40,7 +40,7 @@ use Rattle.dp_plan.specs.declared.section.Section.TheVariants.{General, Globals,
 use Rattle.dp_plan.specs.Item.{Item, Begins, Sets, Adds, Includes, Unknown}
 use Rattle.dp_plan.proofs.HistoryLemmas.{reading_of}
 use Rattle.dp_plan.proofs.PositionLemmas.{or_true, or_right}
-use Rattle.dp_plan.proofs.TableLemmas.{is_known, known-kept, known-written, number-kept, number-written, same_number}
+use Rattle.dp_plan.proofs.TableLemmas.{is_known, known-kept, known-with_priority, number-kept, number-with_priority, same_number}
 
 -- the list with one more element, unless it is taken up
 abbrev pub more_by : {X : Type 0} → (List X → X → Bool) → List X → Option X → List X
@@ -85,28 +85,28 @@ remarks_in-push items x =
     ∙ ap (λ (more : List Remark). flat_map (λ (remarks : List Remark). remarks) (each_after remark_of [] items) ++ more) (append-nil (remark_of items x)))
 
 -- remarks that are notes are those notes
-settled-noted : (names : List (List ℕ)) (notes : List Note) → flat_map (settled names) (map Noted notes) ≡ notes
-settled-noted names [] = refl
-settled-noted names (note ∷ notes) = ap (λ (ns : List Note). note ∷ ns) (settled-noted names notes)
+remark_notes-noted : (names : List (List ℕ)) (notes : List Note) → flat_map (remark_notes names) (map Noted notes) ≡ notes
+remark_notes-noted names [] = refl
+remark_notes-noted names (note ∷ notes) = ap (λ (ns : List Note). note ∷ ns) (remark_notes-noted names notes)
 
 -- the remarks of an item come to its notes
-settled-one : (names : List (List ℕ)) (before : List Item) (x : Item) → flat_map (settled names) (remark_of before x) ≡ note_of names before x
-settled-one names before (Begins section) = refl
-settled-one names before (Sets global) = refl
-settled-one names before (Adds line context entry) = settled-noted names (entry_note line (kept_in before) (record { context = context; entry = entry }))
-settled-one names before (Includes line context name) = append-nil (include_note line names name)
-settled-one names before (Unknown line) = refl
+remark_notes-one : (names : List (List ℕ)) (before : List Item) (x : Item) → flat_map (remark_notes names) (remark_of before x) ≡ note_of names before x
+remark_notes-one names before (Begins section) = refl
+remark_notes-one names before (Sets global) = refl
+remark_notes-one names before (Adds line context entry) = remark_notes-noted names (entry_note line (kept_in before) (record { context = context; entry = entry }))
+remark_notes-one names before (Includes line context name) = append-nil (include_note line names name)
+remark_notes-one names before (Unknown line) = refl
 
-settled-each : (names : List (List ℕ)) (before items : List Item) → flat_map (settled names) (flat_map (λ remarks. remarks) (each_after remark_of before items)) ≡ flat_map (λ notes. notes) (each_after (note_of names) before items)
-settled-each names before [] = refl
-settled-each names before (x ∷ items) =
-    flat_map-append (settled names) (remark_of before x) (flat_map (λ remarks. remarks) (each_after remark_of (before ++ x ∷ []) items))
-    ∙ (λ i. settled-one names before x i ++ settled-each names (before ++ x ∷ []) items i)
+remark_notes-each : (names : List (List ℕ)) (before items : List Item) → flat_map (remark_notes names) (flat_map (λ remarks. remarks) (each_after remark_of before items)) ≡ flat_map (λ notes. notes) (each_after (note_of names) before items)
+remark_notes-each names before [] = refl
+remark_notes-each names before (x ∷ items) =
+    flat_map-append (remark_notes names) (remark_of before x) (flat_map (λ remarks. remarks) (each_after remark_of (before ++ x ∷ []) items))
+    ∙ (λ i. remark_notes-one names before x i ++ remark_notes-each names (before ++ x ∷ []) items i)
 
 -- the remarks of the items come to their notes
-pub settled-notes : (items : List Item) → flat_map (settled (names_in items)) (remarks_in items) ≡ notes_of items
+pub remark_notes-notes : (items : List Item) → flat_map (remark_notes (names_in items)) (remarks_in items) ≡ notes_of items
 unfolding notes_of
-settled-notes items = settled-each (names_in items) [] items
+remark_notes-notes items = remark_notes-each (names_in items) [] items
 
 -- extensions with their priorities
 abbrev pub Priorities : Type 0
@@ -135,8 +135,8 @@ abbrev pub IsKnown : Priorities → List Addition → Type 0
 IsKnown es kept = AllByRecursion (λ a. is_known es (extension_in a) ≡ true) kept
 
 -- a draft by its extensions, its global variables, its names, what is kept, its includes, and its remarks
-abbrev pub drafted : Priorities → List GlobalVariable → List (List ℕ) → List Addition → List Inclusion → List Remark → Drafted
-drafted es globals names kept included remarks = record {
+abbrev pub draft_of_parts : Priorities → List GlobalVariable → List (List ℕ) → List Addition → List Inclusion → List Remark → Drafted
+draft_of_parts es globals names kept included remarks = record {
   globals = globals;
   names = names;
   contexts = map (context_of kept included) names;
@@ -148,7 +148,7 @@ drafted es globals names kept included remarks = record {
 
 -- the draft that the items say
 abbrev pub drafted_in : List Item → Drafted
-drafted_in items = drafted (reading_of items).extensions.priorities (filter_map global_in items) (names_in items) (kept_in items) (filter_map included_in items) (remarks_in items)
+drafted_in items = draft_of_parts (reading_of items).extensions (filter_map global_in items) (names_in items) (kept_in items) (filter_map included_in items) (remarks_in items)
 
 -- every context of what is kept, and of what is included, has its name among the names
 abbrev pub IsAllNamed : List (List ℕ) → List Addition → List Inclusion → Type 0
@@ -218,12 +218,12 @@ names-more = distinct-more nat_list_eq_equiv is_named (λ names name e. e)
 -- ---- contexts that begin
 
 -- the draft with a context that is new or there already
-with_context-is : (es : Priorities) (globals : List GlobalVariable) (names : List (List ℕ)) (kept : List Addition) (included : List Inclusion) (remarks : List Remark) (name : List ℕ) → IsAllNamed names kept included → with_context (drafted es globals names kept included remarks) name ≡ drafted es globals (more_by is_named names (Some name)) kept included remarks
+with_context-is : (es : Priorities) (globals : List GlobalVariable) (names : List (List ℕ)) (kept : List Addition) (included : List Inclusion) (remarks : List Remark) (name : List ℕ) → IsAllNamed names kept included → with_context (draft_of_parts es globals names kept included remarks) name ≡ draft_of_parts es globals (more_by is_named names (Some name)) kept included remarks
 with_context-is es globals names kept included remarks name named = by (is_named names name) refl where
   before : Drafted
-  before = drafted es globals names kept included remarks
+  before = draft_of_parts es globals names kept included remarks
 
-  by : (t : Bool) → is_named names name ≡ t → cond t before (record before { names = names ++ name ∷ []; contexts = map (context_of kept included) names ++ (record { name = name; entries = []; includes = [] }) ∷ []; numbers = map (numbers_of es kept) names ++ [] ∷ [] }) ≡ drafted es globals (names ++ cond t [] (name ∷ [])) kept included remarks
+  by : (t : Bool) → is_named names name ≡ t → cond t before (record before { names = names ++ name ∷ []; contexts = map (context_of kept included) names ++ (record { name = name; entries = []; includes = [] }) ∷ []; numbers = map (numbers_of es kept) names ++ [] ∷ [] }) ≡ draft_of_parts es globals (names ++ cond t [] (name ∷ [])) kept included remarks
   by true e = rw (append-nil names) refl
   by false e = rw (
     map-append (context_of kept included) names (name ∷ []),
@@ -343,16 +343,16 @@ list-cons (Some x) = refl
 
 -- ---- one more entry or include
 
-with_addition-is : (es : Priorities) (globals : List GlobalVariable) (names : List (List ℕ)) (kept : List Addition) (included : List Inclusion) (remarks : List Remark) (line : ℕ) (a : Addition) → IsDistinct same_text names → is_known es (extension_in a) ≡ true → IsKnown es kept → with_addition (drafted es globals names kept included remarks) line a.context (number_of es a) a.entry ≡ drafted es globals names (more_by is_taken kept (Some a)) included (remarks ++ map Noted (entry_note line kept a))
+with_addition-is : (es : Priorities) (globals : List GlobalVariable) (names : List (List ℕ)) (kept : List Addition) (included : List Inclusion) (remarks : List Remark) (line : ℕ) (a : Addition) → IsDistinct same_text names → is_known es (extension_in a) ≡ true → IsKnown es kept → with_entry_of (draft_of_parts es globals names kept included remarks) line a.context (number_of es a) a.entry ≡ draft_of_parts es globals names (more_by is_taken kept (Some a)) included (remarks ++ map Noted (entry_note line kept a))
 with_addition-is es globals names kept included remarks line a distinct known all =
     (λ i. choose (is_slot_taken-is es kept a known all i) (is_marked-is es before kept a known all refl i)) ∙ by (is_place_taken kept a) (is_label_taken kept a) where
       before : Drafted
-      before = drafted es globals names kept included remarks
+      before = draft_of_parts es globals names kept included remarks
 
       choose : Bool → Bool → Drafted
       choose p l = cond p (with_note before line DoublePriority) (cond l (with_note before line DoubleLabel) (record before {
-        contexts = changed_context before (with_entry a.entry) a.context;
-        numbers = numbers_with before (number_of es a) a.context;
+        contexts = changed_at (with_entry a.entry) (place_of before a.context) before.contexts;
+        numbers = changed_at (with_number (number_of es a)) (place_of before a.context) before.numbers;
         taken = map (slot_in es) kept ++ slot_in es a ∷ [];
         labels = filter_map (label_in es) kept ++ option_to_list (label_in es a);
       }))
@@ -360,7 +360,7 @@ with_addition-is es globals names kept included remarks line a distinct known al
       remark : Bool → Bool → List Remark
       remark p l = map Noted (cond p ((record { line = line; kind = DoublePriority }) ∷ []) (cond l ((record { line = line; kind = DoubleLabel }) ∷ []) []))
 
-      by : (p l : Bool) → choose p l ≡ drafted es globals names (kept ++ cond (p || l) [] (a ∷ [])) included (remarks ++ remark p l)
+      by : (p l : Bool) → choose p l ≡ draft_of_parts es globals names (kept ++ cond (p || l) [] (a ∷ [])) included (remarks ++ remark p l)
       by true l = rw (append-nil kept) refl
       by false true = rw (append-nil kept) refl
       by false false = rw (
@@ -372,14 +372,14 @@ with_addition-is es globals names kept included remarks line a distinct known al
         append-nil remarks,
       ) refl
 
-with_inclusion-is : (es : Priorities) (globals : List GlobalVariable) (names : List (List ℕ)) (kept : List Addition) (included : List Inclusion) (remarks : List Remark) (line : ℕ) (k : Inclusion) → IsDistinct same_text names → with_inclusion (drafted es globals names kept included remarks) line k.context k.name ≡ drafted es globals names kept (included ++ k ∷ []) (remarks ++ Asks line k.name ∷ [])
+with_inclusion-is : (es : Priorities) (globals : List GlobalVariable) (names : List (List ℕ)) (kept : List Addition) (included : List Inclusion) (remarks : List Remark) (line : ℕ) (k : Inclusion) → IsDistinct same_text names → with_include_of (draft_of_parts es globals names kept included remarks) line k.context k.name ≡ draft_of_parts es globals names kept (included ++ k ∷ []) (remarks ++ Asks line k.name ∷ [])
 with_inclusion-is es globals names kept included remarks line k distinct = rw (contexts-include kept included k names distinct) refl
 
 -- ---- one more item
 
 -- the table after an item
 abbrev priorities_after : Reading → Item → Priorities
-priorities_after reading x = (after reading x).extensions.priorities
+priorities_after reading x = (after reading x).extensions
 
 -- what two functions say of each element alike, they say of all
 map-alike : {X Y : Type 0} (f g : X → Y) (xs : List X) → AllByRecursion (λ x. f x ≡ g x) xs → map f xs ≡ map g xs
@@ -399,8 +399,8 @@ each-filtered {X} P test (x ∷ xs) all = by (each-filtered P test xs all.1) (te
   by rest false = rest
 
 -- a line of an extension leaves the draft of what is kept as it is
-drafted-written : (es : Priorities) (e : Extension) (v : ℕ) (globals : List GlobalVariable) (names : List (List ℕ)) (kept : List Addition) (included : List Inclusion) (remarks : List Remark) → IsKnown es kept → drafted es globals names kept included remarks ≡ drafted (insert_entry same_extension es e v) globals names kept included remarks
-drafted-written es e v globals names kept included remarks all = λ i. record {
+draft_of_parts-written : (es : Priorities) (e : Extension) (v : ℕ) (globals : List GlobalVariable) (names : List (List ℕ)) (kept : List Addition) (included : List Inclusion) (remarks : List Remark) → IsKnown es kept → draft_of_parts es globals names kept included remarks ≡ draft_of_parts (insert_entry same_extension es e v) globals names kept included remarks
+draft_of_parts-written es e v globals names kept included remarks all = λ i. record {
   globals = globals;
   names = names;
   contexts = map (context_of kept included) names;
@@ -430,37 +430,37 @@ known-all es e v kept all =
     each-weaker (λ a. is_known es (extension_in a) ≡ true) (λ a. is_known (insert_entry same_extension es e v) (extension_in a) ≡ true) (λ a. known-kept es e v (extension_in a)) kept all
 
 -- one more item, by the parts of the draft
-added-is : (reading : Reading) (globals : List GlobalVariable) (names : List (List ℕ)) (kept : List Addition) (included : List Inclusion) (remarks : List Remark) (x : Item) → IsAllNamed names kept included → IsDistinct same_text names → IsKnown reading.extensions.priorities kept
+with_item-is : (reading : Reading) (globals : List GlobalVariable) (names : List (List ℕ)) (kept : List Addition) (included : List Inclusion) (remarks : List Remark) (x : Item) → IsAllNamed names kept included → IsDistinct same_text names → IsKnown reading.extensions kept
     → (before : List Item) → kept_in before ≡ kept
-    → added (drafted reading.extensions.priorities globals names kept included remarks) (after reading x).extensions.last x ≡ drafted (priorities_after reading x) (globals ++ cons_option (global_in x) []) (more_by is_named names (context_in x)) (more_by is_taken kept (added_in x)) (included ++ cons_option (included_in x) []) (remarks ++ remark_of before x)
-added-is reading globals names kept included remarks (Begins General) named distinct all before same =
+    → with_item (draft_of_parts reading.extensions globals names kept included remarks) reading.extensions x ≡ draft_of_parts (priorities_after reading x) (globals ++ cons_option (global_in x) []) (more_by is_named names (context_in x)) (more_by is_taken kept (added_in x)) (included ++ cons_option (included_in x) []) (remarks ++ remark_of before x)
+with_item-is reading globals names kept included remarks (Begins General) named distinct all before same =
     rw (append-nil globals, append-nil included, append-nil remarks) refl
-added-is reading globals names kept included remarks (Begins Globals) named distinct all before same =
+with_item-is reading globals names kept included remarks (Begins Globals) named distinct all before same =
     rw (append-nil globals, append-nil included, append-nil remarks) refl
-added-is reading globals names kept included remarks (Begins (Context name)) named distinct all before same =
-    with_context-is reading.extensions.priorities globals names kept included remarks name named
-    ∙ (λ i. drafted reading.extensions.priorities (sym (append-nil globals) i) (more_by is_named names (Some name)) kept (sym (append-nil included) i) (sym (append-nil remarks) i))
-added-is reading globals names kept included remarks (Sets global) named distinct all before same =
-    λ i. drafted reading.extensions.priorities (globals ++ global ∷ []) names kept (sym (append-nil included) i) (sym (append-nil remarks) i)
-added-is reading globals names kept included remarks (Adds line context entry) named distinct all before same =
+with_item-is reading globals names kept included remarks (Begins (Context name)) named distinct all before same =
+    with_context-is reading.extensions globals names kept included remarks name named
+    ∙ (λ i. draft_of_parts reading.extensions (sym (append-nil globals) i) (more_by is_named names (Some name)) kept (sym (append-nil included) i) (sym (append-nil remarks) i))
+with_item-is reading globals names kept included remarks (Sets global) named distinct all before same =
+    λ i. draft_of_parts reading.extensions (globals ++ global ∷ []) names kept (sym (append-nil included) i) (sym (append-nil remarks) i)
+with_item-is reading globals names kept included remarks (Adds line context entry) named distinct all before same =
     let a : Addition = record { context = context; entry = entry } in
-    let es = reading.extensions.priorities in
+    let es = reading.extensions in
     let e = extension_in a in
     let es' = insert_entry same_extension es e entry.priority in
     let names' = more_by is_named names (Some context) in
-    ap (λ (d : Drafted). with_addition d line context (number_in es e) entry) (with_context-is es globals names kept included remarks context named)
-    ∙ (ap (λ (d : Drafted). with_addition d line context (number_in es e) entry) (drafted-written es e entry.priority globals names' kept included remarks all)
-    ∙ (ap (λ number. with_addition (drafted es' globals names' kept included remarks) line context number entry) (sym (number-written es e entry.priority))
-    ∙ (with_addition-is es' globals names' kept included remarks line a (names-more names (Some context) distinct) (known-written es e entry.priority) (known-all es e entry.priority kept all)
-    ∙ (λ i. drafted es' (sym (append-nil globals) i) names' (more_by is_taken kept (Some a)) (sym (append-nil included) i) (remarks ++ map Noted (entry_note line (sym same i) a))))))
-added-is reading globals names kept included remarks (Includes line context name) named distinct all before same =
+    ap (λ (d : Drafted). with_entry_of d line context (number_in es e) entry) (with_context-is es globals names kept included remarks context named)
+    ∙ (ap (λ (d : Drafted). with_entry_of d line context (number_in es e) entry) (draft_of_parts-written es e entry.priority globals names' kept included remarks all)
+    ∙ (ap (λ number. with_entry_of (draft_of_parts es' globals names' kept included remarks) line context number entry) (sym (number-with_priority es e entry.priority))
+    ∙ (with_addition-is es' globals names' kept included remarks line a (names-more names (Some context) distinct) (known-with_priority es e entry.priority) (known-all es e entry.priority kept all)
+    ∙ (λ i. draft_of_parts es' (sym (append-nil globals) i) names' (more_by is_taken kept (Some a)) (sym (append-nil included) i) (remarks ++ map Noted (entry_note line (sym same i) a))))))
+with_item-is reading globals names kept included remarks (Includes line context name) named distinct all before same =
     let k : Inclusion = record { context = context; name = name } in
-    let es = reading.extensions.priorities in
-    ap (λ (d : Drafted). with_inclusion d line context name) (with_context-is es globals names kept included remarks context named)
+    let es = reading.extensions in
+    ap (λ (d : Drafted). with_include_of d line context name) (with_context-is es globals names kept included remarks context named)
     ∙ (with_inclusion-is es globals (more_by is_named names (Some context)) kept included remarks line k (names-more names (Some context) distinct)
-    ∙ (λ i. drafted es (sym (append-nil globals) i) (more_by is_named names (Some context)) kept (included ++ k ∷ []) (remarks ++ Asks line name ∷ [])))
-added-is reading globals names kept included remarks (Unknown line) named distinct all before same =
-    λ i. drafted reading.extensions.priorities (sym (append-nil globals) i) names kept (sym (append-nil included) i) (remarks ++ Noted (record { line = line; kind = UnknownKey }) ∷ [])
+    ∙ (λ i. draft_of_parts es (sym (append-nil globals) i) (more_by is_named names (Some context)) kept (included ++ k ∷ []) (remarks ++ Asks line name ∷ [])))
+with_item-is reading globals names kept included remarks (Unknown line) named distinct all before same =
+    λ i. draft_of_parts reading.extensions (sym (append-nil globals) i) names kept (sym (append-nil included) i) (remarks ++ Noted (record { line = line; kind = UnknownKey }) ∷ [])
 
 -- what items leave for the next line
 pub reading-items : (made : MadeOf) (items : List Item) → (fold after_item made items).reading ≡ fold after made.reading items
@@ -470,7 +470,7 @@ reading-items made (item ∷ items) = reading-items (after_item made item) items
 -- what the items make of a draft, and what stays true of its names and its extensions
 pub record Makes (items : List Item) : Type 0 where
   pub draft : (fold after_item unmade items).draft ≡ drafted_in items
-  pub known : IsKnown (reading_of items).extensions.priorities (kept_in items)
+  pub known : IsKnown (reading_of items).extensions (kept_in items)
   pub named : IsAllNamed (names_in items) (kept_in items) (filter_map included_in items)
   pub distinct : IsDistinct same_text (names_in items)
 
@@ -513,15 +513,15 @@ named-more names kept included x named =
     inclusion (Unknown line) = tt
 
 -- the extensions of what is kept with one more item are known
-known-more : (reading : Reading) (kept : List Addition) (x : Item) → IsKnown reading.extensions.priorities kept
+known-more : (reading : Reading) (kept : List Addition) (x : Item) → IsKnown reading.extensions kept
     → IsKnown (priorities_after reading x) (more_by is_taken kept (added_in x))
 known-more reading kept (Begins section) all = all
 known-more reading kept (Sets global) all = all
 known-more reading kept (Adds line context entry) all =
     let a : Addition = record { context = context; entry = entry } in
-    let es = reading.extensions.priorities in
+    let es = reading.extensions in
     each-more (λ k. is_known (insert_entry same_extension es (extension_in a) entry.priority) (extension_in k) ≡ true) is_taken kept (Some a)
-    (known-all es (extension_in a) entry.priority kept all) (known-written es (extension_in a) entry.priority, tt)
+    (known-all es (extension_in a) entry.priority kept all) (known-with_priority es (extension_in a) entry.priority, tt)
 known-more reading kept (Includes line context name) all = all
 known-more reading kept (Unknown line) all = all
 
@@ -536,9 +536,9 @@ Makes-push items x makes =
     record {
       draft =
           ap (λ (made : MadeOf). made.draft) (fold-append after_item unmade items (x ∷ []))
-          ∙ ((λ i. added (makes.draft i) (after (reading-items unmade items i) x).extensions.last x)
-          ∙ (added-is (reading_of items) (filter_map global_in items) (names_in items) (kept_in items) (filter_map included_in items) (remarks_in items) x makes.named makes.distinct makes.known items refl
-          ∙ (λ i. drafted (sym reading i).extensions.priorities (sym globals i) (sym names i) (sym kept i) (sym included i) (sym remarks i))));
+          ∙ ((λ i. with_item (makes.draft i) (reading-items unmade items i).extensions x)
+          ∙ (with_item-is (reading_of items) (filter_map global_in items) (names_in items) (kept_in items) (filter_map included_in items) (remarks_in items) x makes.named makes.distinct makes.known items refl
+          ∙ (λ i. draft_of_parts (sym reading i).extensions (sym globals i) (sym names i) (sym kept i) (sym included i) (sym remarks i))));
       known =
           rw (reading, kept) (known-more (reading_of items) (kept_in items) x makes.known);
       named =

@@ -18,7 +18,7 @@ use Rattle.dp_pattern.specs.Spelling.{spelling, is_own}
 use Rattle.dp_pattern.specs.declared.fault.NameFault.{NameFault}
 use Rattle.dp_pattern.proofs.NameLemmas.{each_of}
 use Rattle.dp_pattern.proofs.SpelledBytes.{spells_cleanly}
-use Rattle.dp_plan.specs.EntryLine.{has_variable, without_last, named, name_of, name_again, is_priority_word, written_number, written_of, before_label, is_no_label, label_within, label_of, number_after, written_priority, called_with, application_parts, application_by, application_of, shallow_at, entry_by, entry_of, exten_rest, exten_cut, exten_entry, same_cut, same_entry}
+use Rattle.dp_plan.specs.EntryLine.{has_variable, without_last, name_without_variable, name_of, name_again, is_priority_word, written_number, written_of, before_label, is_no_label, label_within, label_of, number_after, written_priority, called_with, application_parts, application_by, application_of, shallow_at, entry_by, entry_of, exten_rest, exten_cut, exten_entry, same_cut, same_entry}
 use Rattle.dp_plan.specs.Faults.{at_line, name_at_line}
 use Rattle.dp_plan.specs.History.{History}
 use Rattle.dp_plan.specs.Priority.{IsPriority}
@@ -90,12 +90,12 @@ name_of-known line text bytes avoids = by (has_variable text) (list_any (λ b. b
     }
 
     read_by : list_any (λ b. b == 47) text ≡ false → (read : Result Meaning NameFault) → meaning_of text ≡ read
-        → IfOk (name_at_line line read >>= λ n. named line n) IsExtension
+        → IfOk (name_at_line line read >>= λ n. name_without_variable line n) IsExtension
     read_by slash (Err fault) read = tt
     read_by slash (Ok name) read = named_by name read slash (has_variable (spelling name)) refl
 
     by : (v s : Bool) → list_any (λ b. b == 47) text ≡ s
-        → IfOk (cond {A = Result Meaning LoadFault} v (Err (Plan line (LeftOut Variable))) (cond s (Err (Plan line (LeftOut CallerId))) (name_at_line line (meaning_of text) >>= λ n. named line n))) IsExtension
+        → IfOk (cond {A = Result Meaning LoadFault} v (Err (Plan line (LeftOut Variable))) (cond s (Err (Plan line (LeftOut CallerId))) (name_at_line line (meaning_of text) >>= λ n. name_without_variable line n))) IsExtension
     by true s slash = tt
     by false true slash = tt
     by false false slash = read_by slash (meaning_of text) refl

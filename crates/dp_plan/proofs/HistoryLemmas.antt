@@ -105,9 +105,9 @@ history_in-after : (reading : Reading) (items : List Item) (x : Item) → histor
 history_in-after reading items (Begins section) same = λ i. record { section = section; name = None; priority = (same i).priority }
 history_in-after reading items (Sets global) same = same
 history_in-after reading items (Adds line context entry) same =
-    let written : (c : List ℕ) (name : Meaning) → last_priority (after reading (Adds line context entry)) c name ≡ option_or (priority_in c name (Adds line context entry)) (last_priority reading c name) = λ c name.
-    lookup-insert_entry same_extension same_extension_equiv reading.extensions.priorities (extension_of context entry.name) entry.priority (extension_of c name)
-    ∙ or_if (same_extension (extension_of c name) (extension_of context entry.name)) entry.priority (last_priority reading c name) in
+    let written : (c : List ℕ) (name : Meaning) → last_priority (after reading (Adds line context entry)).extensions c name ≡ option_or (priority_in c name (Adds line context entry)) (last_priority reading.extensions c name) = λ c name.
+    lookup-insert_entry same_extension same_extension_equiv reading.extensions (extension_of context entry.name) entry.priority (extension_of c name)
+    ∙ or_if (same_extension (extension_of c name) (extension_of context entry.name)) entry.priority (last_priority reading.extensions c name) in
     (λ i. record { section = reading.section; name = Some entry.name; priority = λ c name. written c name i })
     ∙ (λ i. record { section = (same i).section; name = Some entry.name; priority = λ c name. option_or (priority_in c name (Adds line context entry)) ((same i).priority c name) })
 history_in-after reading items (Includes line context name) same = same

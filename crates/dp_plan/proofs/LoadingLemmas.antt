@@ -10,22 +10,21 @@ use Rattle.dp_conf.specs.declared.fault.ConfFault.{ConfFault}
 use Rattle.dp_conf.specs.declared.fault.ConfFault.TheVariants.{At, NoMemory as conf_no_memory}
 use Rattle.dp_conf.proofs.TakingLemmas.{all_taken-refused}
 use Rattle.dp_plan.specs.Contexts.{PlanContext}
-use Rattle.dp_plan.specs.steps.Draft.{Drafted, settled}
+use Rattle.dp_plan.specs.steps.Draft.{Drafted, remark_notes}
 use Rattle.dp_plan.specs.Faults.{fault_of_conf, reason_of, text_fault}
 use Rattle.dp_plan.specs.History.{History, history_of}
 use Rattle.dp_plan.specs.Items.{line_item, items_after}
-use Rattle.dp_plan.specs.Loaded.{loaded}
-use Rattle.dp_plan.specs.steps.Loading.{MadeOf, unmade, after_item, after_one, finished, drafted_of}
+use Rattle.dp_plan.specs.Loaded.{plan_and_notes}
+use Rattle.dp_plan.specs.steps.Loading.{MadeOf, unmade, after_item, after_one, draft_made, drafted_of}
 use Rattle.dp_plan.specs.Plan.{PlanOf, kept_in, names_in, included_in, plan_of, notes_of}
 use Rattle.dp_plan.specs.Ranking.{AreApart}
 use Rattle.dp_plan.specs.steps.Numbers.{AreAllNumbered}
 use Rattle.dp_plan.specs.steps.Reader.{history_in}
 use Rattle.dp_plan.specs.declared.fault.LoadFault.{LoadFault}
-use Rattle.dp_plan.specs.declared.fault.LoadFault.TheVariants.{Conf, Pattern, Plan, NoMemory}
 use Rattle.dp_plan.specs.Item.{Item}
 use Rattle.dp_plan.specs.declared.note.Note.{Note}
 use Rattle.dp_plan.proofs.ApartLemmas.{kept-apart, contexts-apart}
-use Rattle.dp_plan.proofs.DraftLemmas.{drafted_in, Makes-all, names-contexts, reading-items, settled-notes}
+use Rattle.dp_plan.proofs.DraftLemmas.{drafted_in, Makes-all, names-contexts, reading-items, remark_notes-notes}
 use Rattle.dp_plan.proofs.HistoryLemmas.{history_kept, reading_of}
 use Rattle.dp_plan.proofs.LoadedLemmas.{of_items, of_lines}
 use Rattle.dp_plan.proofs.NumberedLemmas.{contexts-numbered}
@@ -41,21 +40,21 @@ after_fault fault [] = refl
 after_fault fault (line ∷ lines) = after_fault fault lines
 
 -- where all lines were taken, the text makes the draft of the state
-pub drafted_of-taken : (text : List ℕ) (before state : State) → before ≡ Ok unmade → all_taken after_one before (lines_of text) ≡ Ok state → drafted_of text ≡ finished state
+pub drafted_of-taken : (text : List ℕ) (before state : State) → before ≡ Ok unmade → all_taken after_one before (lines_of text) ≡ Ok state → drafted_of text ≡ draft_made state
 unfolding drafted_of
 drafted_of-taken text before state new e = by (lines_of text) (sym (ap (λ (s : State). all_taken after_one s (lines_of text)) new) ∙ e)
   where
-    by : (read : Result (List LineOf) LineFault) → all_taken after_one (Ok unmade) read ≡ Ok state → (text_fault read >>= λ lines. finished (fold after_one (Ok unmade) lines)) ≡ finished state
+    by : (read : Result (List LineOf) LineFault) → all_taken after_one (Ok unmade) read ≡ Ok state → (text_fault read >>= λ lines. draft_made (fold after_one (Ok unmade) lines)) ≡ draft_made state
     by (Ok lines) e =
         let same : fold after_one (Ok unmade) lines ≡ state = cc in
-        ap finished same
+        ap draft_made same
     by (Err fault) e = absurd cc
 
 -- where a line of the text is refused, so is the text
 pub Refuses-text : (text : List ℕ) (before : State) (conf : ConfFault) → Refuses (line_fault conf) (all_taken after_one before (lines_of text)) → Refuses (reason_of (fault_of_conf conf)) (drafted_of text)
 unfolding drafted_of
 Refuses-text text before (At line kind) refused =
-    ap (λ read. text_fault read >>= λ lines. finished (fold after_one (Ok unmade) lines))
+    ap (λ read. text_fault read >>= λ lines. draft_made (fold after_one (Ok unmade) lines))
     (all_taken-refused after_one before (lines_of text) (record { line = line; kind = kind }) refused)
 Refuses-text text before conf_no_memory refused = tt
 
@@ -98,39 +97,39 @@ after_lines-items before (line ∷ lines) =
 abbrev draft_of_items : Result (List Item) LoadFault → Result Drafted LoadFault
 draft_of_items read = read >>= λ items. Ok (drafted_in items)
 
-finished-items : (read : Result (List Item) LoadFault) → finished (made_of_items [] read) ≡ draft_of_items read
-finished-items (Ok items) = ap (λ (d : Drafted). let done : Result Drafted LoadFault = Ok d in done) (Makes-all items).draft
-finished-items (Err fault) = refl
+draft_made-items : (read : Result (List Item) LoadFault) → draft_made (made_of_items [] read) ≡ draft_of_items read
+draft_made-items (Ok items) = ap (λ (d : Drafted). let done : Result Drafted LoadFault = Ok d in done) (Makes-all items).draft
+draft_made-items (Err fault) = refl
 
 -- the draft of a text is that of its items
 drafted-items : (text : List ℕ) → drafted_of text ≡ (text_fault (lines_of text) >>= λ lines. draft_of_items (items_after [] lines))
 unfolding drafted_of
 drafted-items text = by (lines_of text) where
-  by : (read : Result (List LineOf) LineFault) → (text_fault read >>= λ lines. finished (fold after_one (Ok unmade) lines)) ≡ (text_fault read >>= λ lines. draft_of_items (items_after [] lines))
-  by (Ok lines) = ap finished (after_lines-items [] lines) ∙ finished-items (items_after [] lines)
+  by : (read : Result (List LineOf) LineFault) → (text_fault read >>= λ lines. draft_made (fold after_one (Ok unmade) lines)) ≡ (text_fault read >>= λ lines. draft_of_items (items_after [] lines))
+  by (Ok lines) = ap draft_made (after_lines-items [] lines) ∙ draft_made-items (items_after [] lines)
   by (Err fault) = refl
 
 -- ---- the dialplan
 
 -- the dialplan of a draft, and its notes
 abbrev pub plan_in : Drafted → PlanOf × List Note
-plan_in d = (record { globals = d.globals; contexts = d.contexts }, flat_map (settled d.names) d.remarks)
+plan_in d = (record { globals = d.globals; contexts = d.contexts }, flat_map (remark_notes d.names) d.remarks)
 
 abbrev pub plan_of_draft : Result Drafted LoadFault → Result (PlanOf × List Note) LoadFault
 plan_of_draft draft = draft >>= λ d. Ok (plan_in d)
 
 plan_of_draft-items : (items : List Item) → plan_in (drafted_in items) ≡ (plan_of items, notes_of items)
 unfolding plan_of
-plan_of_draft-items items = λ i. (plan_of items, settled-notes items i)
+plan_of_draft-items items = λ i. (plan_of items, remark_notes-notes items i)
 
 of_items-draft : (read : Result (List Item) LoadFault) → plan_of_draft (draft_of_items read) ≡ of_items read
 of_items-draft (Ok items) = ap (λ (p : PlanOf × List Note). let done : Result (PlanOf × List Note) LoadFault = Ok p in done) (plan_of_draft-items items)
 of_items-draft (Err fault) = refl
 
 -- a text loads as the dialplan of its draft
-pub loaded-drafted : (text : List ℕ) → plan_of_draft (drafted_of text) ≡ loaded text
-unfolding loaded
-loaded-drafted text = ap plan_of_draft (drafted-items text) ∙ by (lines_of text) where
+pub plan_and_notes-drafted : (text : List ℕ) → plan_of_draft (drafted_of text) ≡ plan_and_notes text
+unfolding plan_and_notes
+plan_and_notes-drafted text = ap plan_of_draft (drafted-items text) ∙ by (lines_of text) where
   by : (read : Result (List LineOf) LineFault) → plan_of_draft (text_fault read >>= λ lines. draft_of_items (items_after [] lines)) ≡ of_lines read
   by (Ok lines) = of_items-draft (items_after [] lines)
   by (Err fault) = refl
@@ -145,7 +144,7 @@ fit_items : (items : List Item) → IsFit (drafted_in items)
 fit_items items = record {
   names = sym (names-contexts (kept_in items) (filter_map included_in items) (names_in items));
   apart = contexts-apart (kept_in items) (filter_map included_in items) (names_in items) (kept-apart items);
-  numbered = contexts-numbered (reading_of items).extensions.priorities (kept_in items) (filter_map included_in items) (names_in items) (Makes-all items).known;
+  numbered = contexts-numbered (reading_of items).extensions (kept_in items) (filter_map included_in items) (names_in items) (Makes-all items).known;
 }
 
 pub drafted-fit : (text : List ℕ) (draft : Drafted) → drafted_of text ≡ Ok draft → IsFit draft
@@ -160,10 +159,3 @@ drafted-fit text draft e = by_lines (lines_of text) (sym (drafted-items text) �
     by_lines : (read : Result (List LineOf) LineFault) → (text_fault read >>= λ lines. draft_of_items (items_after [] lines)) ≡ Ok draft → IsFit draft
     by_lines (Ok lines) e = by_items (items_after [] lines) e
     by_lines (Err fault) e = absurd cc
-
--- a fault is a reason to refuse what it is the fault of, unless it is want of memory
-pub Refuses-fault : {D : Type 0} (fault : LoadFault) (given : Result D LoadFault) → given ≡ Err fault → Refuses (reason_of fault) given
-Refuses-fault (Conf fault) given e = e
-Refuses-fault (Pattern line fault) given e = e
-Refuses-fault (Plan line kind) given e = e
-Refuses-fault NoMemory given e = tt

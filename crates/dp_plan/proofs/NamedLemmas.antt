@@ -12,7 +12,7 @@ use Rattle.dp_pattern.specs.Name.{IsName}
 use Rattle.dp_pattern.proofs.NameLemmas.{each_by_index}
 use Rattle.dp_plan.specs.Contexts.{PlanContext, AreNamed}
 use Rattle.dp_plan.specs.Items.{items_after}
-use Rattle.dp_plan.specs.Loaded.{loaded}
+use Rattle.dp_plan.specs.Loaded.{plan_and_notes}
 use Rattle.dp_plan.specs.Plan.{PlanOf, Addition, Inclusion, is_taken, kept_by, added_in, included_in, kept_in, names_in, context_of, plan_of, notes_of}
 use Rattle.dp_plan.specs.Ranking.{AreApart}
 use Rattle.dp_plan.specs.declared.entry.Entry.{Entry}
@@ -68,9 +68,9 @@ pub record IsMade (text : List ℕ) (plan : PlanOf) : Type 0 where
   pub given : items_after [] lines ≡ Ok items
   pub makes : plan_of items ≡ plan
 
-pub loaded-made : (text : List ℕ) (plan : PlanOf) (notes : List Note) → loaded text ≡ Ok (plan, notes) → IsMade text plan
-unfolding loaded
-loaded-made text plan notes e = by (lines_of text) refl e
+pub plan_and_notes-made : (text : List ℕ) (plan : PlanOf) (notes : List Note) → plan_and_notes text ≡ Ok (plan, notes) → IsMade text plan
+unfolding plan_and_notes
+plan_and_notes-made text plan notes e = by (lines_of text) refl e
   where
     of_read : (lines : List LineOf) → lines_of text ≡ Ok lines → (read : Result (List Item) LoadFault) → items_after [] lines ≡ read
         → of_items read ≡ Ok (plan, notes) → IsMade text plan
@@ -135,16 +135,16 @@ plan-apart items = contexts-apart (kept_in items) (filter_map included_in items)
 -- ---- the dialplan of a text
 
 -- the name of each entry of what a text loads as is what some text means
-pub loaded-named : (text : List ℕ) (plan : PlanOf) (notes : List Note) → EachIndex text (λ k. slice_index text k < 256)
-    → loaded text ≡ Ok (plan, notes) → All (λ (c : PlanContext). AreNamed c.entries) plan.contexts
-loaded-named text plan notes bytes e =
-    let made = loaded-made text plan notes e in
+pub plan_and_notes-named : (text : List ℕ) (plan : PlanOf) (notes : List Note) → EachIndex text (λ k. slice_index text k < 256)
+    → plan_and_notes text ≡ Ok (plan, notes) → All (λ (c : PlanContext). AreNamed c.entries) plan.contexts
+plan_and_notes-named text plan notes bytes e =
+    let made = plan_and_notes-made text plan notes e in
     subst (λ (p : PlanOf). All (λ (c : PlanContext). AreNamed c.entries) p.contexts) made.makes
     (plan-named made.items (made-fine text plan (each_by_index (λ b. b < 256) text (λ k within. bytes k within)) made))
 
 -- no two entries of a context have the same name and priority
-pub loaded-apart : (text : List ℕ) (plan : PlanOf) (notes : List Note) → loaded text ≡ Ok (plan, notes)
+pub plan_and_notes-apart : (text : List ℕ) (plan : PlanOf) (notes : List Note) → plan_and_notes text ≡ Ok (plan, notes)
     → All (λ (c : PlanContext). AreApart c.entries) plan.contexts
-loaded-apart text plan notes e =
-    let made = loaded-made text plan notes e in
+plan_and_notes-apart text plan notes e =
+    let made = plan_and_notes-made text plan notes e in
     subst (λ (p : PlanOf). All (λ (c : PlanContext). AreApart c.entries) p.contexts) made.makes (plan-apart made.items)

@@ -7,7 +7,7 @@ use Rattle.std.proofs.lemmas.Bool.Decides.{nat_tests}
 use Rattle.dp_conf.specs.Cut.{cut_once}
 use Rattle.dp_conf.specs.Numbers.{is_digit, digits_number, most_priority, number_of}
 use Rattle.dp_conf.specs.Words.{same_text}
-use Rattle.dp_plan.specs.EntryLine.{unlabelled, written_number, written_of, written_priority}
+use Rattle.dp_plan.specs.EntryLine.{without_label, written_number, written_of, written_priority}
 
 -- a digit is no byte above the digits
 digit-apart : (b other : ℕ) → is_digit b ≡ true → nat_le other 57 ≡ false → (b == other) ≡ false
@@ -107,13 +107,13 @@ number_uncut text all = rw (no_parenthesis text all) (grind (arith, nat_tests))
 
 -- a number alone is a priority without a label
 pub number_alone : (text : List ℕ) (number : ℕ) → option_map (λ n. min n (2 ^ 64 - 1)) (number_of text) ≡ Some number
-    → written_priority text ≡ unlabelled (written_number (Some number))
+    → written_priority text ≡ without_label (written_number (Some number))
 unfolding written_priority
 number_alone [] number read = absurd cc
 number_alone (b ∷ bs) number read = by (list_all is_digit (b ∷ bs)) refl read
   where
     by : (t : Bool) → list_all is_digit (b ∷ bs) ≡ t → option_map (λ n. min n (2 ^ 64 - 1)) (cond t (Some (digits_number (b ∷ bs))) None) ≡ Some number
-        → written_priority (b ∷ bs) ≡ unlabelled (written_number (Some number))
+        → written_priority (b ∷ bs) ≡ without_label (written_number (Some number))
     by false all digits = absurd cc
     by true all digits =
         let uncut = number_uncut (b ∷ bs) all in

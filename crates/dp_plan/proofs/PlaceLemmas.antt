@@ -9,8 +9,8 @@ use Rattle.std.proofs.lemmas.Map.Keys.{IsDistinct-push}
 use Rattle.std.proofs.lemmas.Option.{slice_get-get_or}
 use Rattle.indexmap.specs.IndexSet.{insert_key}
 use Rattle.dp_plan.specs.steps.Places.{same_slot, slots_in, AreBounded}
-use Rattle.dp_plan.specs.declared.places.Kept.{Kept}
-use Rattle.dp_plan.specs.declared.places.Slot.{Slot}
+use Rattle.dp_plan.specs.declared.taken_places.Kept.{Kept}
+use Rattle.dp_plan.specs.declared.taken_places.Slot.{Slot}
 use Rattle.dp_plan.proofs.HistoryLemmas.{both_equiv}
 use Rattle.dp_plan.proofs.PositionLemmas.{later_apart}
 

@@ -1,14 +1,13 @@
 -- Where an element stands in a list of which no two are the same.
-use Rattle.std.proofs.Common.{◌≡◌, ℕ, zero, suc, ◌+◌, ◌<◌, Bool, true, false, cond, not, ◌&&◌, ◌||◌, ◌==◌, nat_lt, List, [], ◌∷◌, ◌++◌, length, None, Some, slice_get, get_or, refl, ap, subst, ◌∙◌, sym, arith}
+use Rattle.std.proofs.Common.{◌≡◌, ℕ, zero, suc, ◌+◌, Bool, true, false, cond, not, ◌&&◌, ◌||◌, ◌==◌, nat_lt, List, [], ◌∷◌, ◌++◌, length, None, Some, slice_get, refl, ap, subst, ◌∙◌, sym, arith}
 use Rattle.std.proofs.Math.Dec.{eqb-suc-suc, eqb-suc-zero, eqb-zero-suc}
 use Rattle.std.specs.List.{IsDistinct, AllByRecursion, list_any, position, position_or_len}
 use Rattle.std.proofs.lemmas.Bool.{lt-ltb}
 use Rattle.std.proofs.lemmas.List.Quantifiers.{position-Some}
-use Rattle.std.proofs.lemmas.Option.{get_or_from_slice_get, slice_get_read, slice_get_within}
+use Rattle.std.proofs.lemmas.Option.{get_or_from_slice_get, slice_get_within}
 use Rattle.std.specs.Cmp.{IsEquivalence}
 use Rattle.std.specs.Cmp.Lexicographic.{nat_list_eq_equiv}
 use Rattle.dp_conf.specs.Words.{same_text}
-use Rattle.dp_plan.specs.Plan.{is_named}
 
 -- a test of either kind
 pub or_false : (a b : Bool) → (a || b) ≡ false → (a ≡ false) × (b ≡ false)
@@ -53,14 +52,6 @@ position_or_len-distinct {K} eq laws (x ∷ xs) (suc i) k q distinct here same =
         absurd cc
     by later false e = ap (λ n. 1 + n) later ∙ omega arith
 
--- what passes at a place passes among all
-list_any-at : {K : Type 0} (test : K → Bool) (xs : List K) (i : ℕ) (k : K) → slice_get xs i ≡ Some k → test k ≡ true → list_any test xs ≡ true
-list_any-at test [] i k here passes = absurd cc
-list_any-at {K} test (x ∷ xs) zero k here passes =
-    let first : x ≡ k = cc in
-    ap (λ t. t || list_any test xs) (subst (λ (z : K). test z ≡ true) (sym first) passes)
-list_any-at test (x ∷ xs) (suc i) k here passes = or_right (test x) (list_any test xs) (list_any-at test xs i k here passes)
-
 -- what stands after a list that has an element leaves the element's place
 pub position-more : {K : Type 0} (test : K → Bool) (ks more : List K) → list_any test ks ≡ true → position_or_len test (ks ++ more) ≡ position_or_len test ks
 position-more test [] more there = absurd cc
@@ -86,14 +77,6 @@ same_position {K} eq laws (x ∷ ks) a b there other = by (same_position eq laws
   by later true e false f u v = (λ i. 0 == next (position_or_len (eq b) ks) i) ∙ (eqb-zero-suc (position_or_len (eq b) ks) ∙ sym (laws.congr a x b e ∙ (laws.symm x b ∙ f)))
   by later false e true f u v = (λ i. next (position_or_len (eq a) ks) i == 0) ∙ (eqb-suc-zero (position_or_len (eq a) ks) ∙ sym (laws.symm a b ∙ (laws.congr b x a f ∙ (laws.symm x a ∙ e))))
   by later false e false f u v = (λ i. next (position_or_len (eq a) ks) i == next (position_or_len (eq b) ks) i) ∙ (eqb-suc-suc (position_or_len (eq a) ks) (position_or_len (eq b) ks) ∙ later u v)
-
--- a name among distinct names
-pub place_of_name : (names : List (List ℕ)) (i : ℕ) (there name : List ℕ) → IsDistinct same_text names → i < length names → there ≡ get_or names i there → same_text name there ≡ true → i ≡ position_or_len (same_text name) names
-place_of_name names i there name distinct within here same =
-    sym (position_or_len-distinct same_text nat_list_eq_equiv names i there name distinct (slice_get_read names (length names) i there refl within here) same)
-
-pub named_at : (names : List (List ℕ)) (i : ℕ) (there name : List ℕ) → i < length names → there ≡ get_or names i there → same_text name there ≡ true → is_named names name ≡ true
-named_at names i there name within here same = list_any-at (same_text name) names i there (slice_get_read names (length names) i there refl within here) same
 
 -- a name that is the one of a place among distinct names is found there
 pub found_at : (names : List (List ℕ)) (i : ℕ) (there name : List ℕ) → IsDistinct same_text names → slice_get names i ≡ Some there → same_text name there ≡ true → position (same_text name) names ≡ Some i

@@ -1,114 +1,94 @@
--- The table of extensions, where the last line's extension is compared first.
-use Rattle.std.proofs.Common.{◌≡◌, ℕ, zero, suc, Bool, true, false, cond, not, ◌+◌, ◌&&◌, ◌==◌, List, [], ◌∷◌, ◌++◌, Option, Some, None, slice_get, refl, ap, subst, ◌∙◌, sym, arith}
-use Rattle.std.proofs.Math.Bool.{and-true}
-use Rattle.std.specs.List.{IsDistinct, list_any, position_or_len}
-use Rattle.std.specs.Option.{option_map, option_map_or}
+-- The table of extensions and their numbers.
+use Rattle.std.proofs.Common.{◌≡◌, ℕ, suc, Bool, true, false, cond, not, ◌+◌, ◌<◌, ◌||◌, ◌==◌, List, [], ◌∷◌, ◌++◌, length, Option, Some, slice_get, refl, ap, subst, ◌∙◌, sym, arith}
+use Rattle.std.specs.List.{list_any, position, position_or_len}
+use Rattle.std.specs.Option.{option_map}
 use Rattle.std.specs.Map.{lookup, keys_of}
-use Rattle.std.specs.Cmp.{IsEquivalence}
-use Rattle.std.proofs.lemmas.List.Folds.{list_any-append}
+use Rattle.std.specs.Cmp.Lexicographic.{bytes_decides}
+use Rattle.std.proofs.lemmas.List.Folds.{list_any-append, list_any_at}
+use Rattle.std.proofs.lemmas.List.Quantifiers.{position-Some}
+use Rattle.std.proofs.lemmas.List.Sums.{position_or_len_is}
+use Rattle.std.proofs.lemmas.Map.Entries.{length-keys_of}
 use Rattle.indexmap.specs.IndexMap.{insert_entry, set_value_at}
 use Rattle.indexmap.proofs.SetLemmas.{keys_insert_entry}
 use Rattle.dp_conf.specs.Words.{same_text}
 use Rattle.dp_pattern.specs.Name.{Meaning}
 use Rattle.dp_pattern.specs.Spelling.{spelling}
 use Rattle.dp_plan.specs.Extensions.{extension_of, same_extension}
-use Rattle.dp_plan.specs.steps.Table.{Table, is_last, names_last, number_in, written}
+use Rattle.dp_plan.specs.steps.Reader.{with_priority}
+use Rattle.dp_plan.specs.steps.Table.{StandsAt, Table, HasNumber, number_in}
 use Rattle.dp_plan.specs.declared.extension.Extension.{Extension}
 use Rattle.dp_plan.proofs.HistoryLemmas.{same_extension_equiv}
-use Rattle.dp_plan.proofs.PositionLemmas.{and_true, later_apart, or_right, or_true, position-more, position-new, position_or_len-distinct, same_position}
+use Rattle.dp_plan.proofs.PositionLemmas.{or_right, or_true, position-more, position-new, same_position}
 
--- keys that are the same find the same
-lookup-same : {K V : Type 0} (eq : K → K → Bool) → IsEquivalence eq → (es : List (K × V)) (q k : K) → eq q k ≡ true → lookup (eq q) es ≡ lookup (eq k) es
-lookup-same eq laws [] q k same = refl
-lookup-same {K} {V} eq laws (e ∷ es) q k same = λ i. cond (laws.congr q k e.0 same i) (Some e.1) (lookup-same eq laws es q k same i)
+-- what stands at a place stands within the list
+pub stands_within : {X : Type 0} (test : X → Bool) (xs : List X) (place : ℕ) → StandsAt test xs place → place < length xs
+stands_within {X} test xs place stands = subst (λ n. n < length xs) (sym stands.at) (within xs stands.there) where
+  within : (ys : List X) → list_any test ys ≡ true → position_or_len test ys < length ys
+  within [] there = absurd cc
+  within (y ∷ ys) there = by (within ys) (test y) there where
+    by : (list_any test ys ≡ true → position_or_len test ys < length ys) → (t : Bool) → (t || list_any test ys) ≡ true → cond (not t) (1 + position_or_len test ys) 0 < length (y ∷ ys)
+    by later true there = omega arith
+    by later false there = omega (arith, later there)
 
--- what the last line's extension has, a name of the same extension finds
-pub last_found : (priorities : List (Extension × ℕ)) (there asked : Extension) (priority : ℕ) → lookup (same_extension there) priorities ≡ Some priority → same_extension asked there ≡ true → lookup (same_extension asked) priorities ≡ Some priority
-last_found priorities there asked priority found same = lookup-same same_extension same_extension_equiv priorities asked there same ∙ found
+-- so a number stands within the table
+pub number_within : (table : Table) (extension : Extension) (number : ℕ) → HasNumber table extension number → number < length table
+number_within table extension number has =
+    subst (λ n. number < n) (length-keys_of table) (stands_within (same_extension extension) (keys_of table) number has)
 
--- where the last line's extension has the name, the extension of the name in a context is the last line's exactly where the
--- context is that of the last line's extension
-pub is_last_named : (context : List ℕ) (name : Meaning) (there : Extension) → same_text (spelling name) there.spelling ≡ true
-    → same_extension (extension_of context name) there ≡ same_text context there.context
-is_last_named context name there named = ap (λ t. same_text context there.context && t) named ∙ and-true (same_text context there.context)
+-- what is found stands there
+pub stands_found : {X : Type 0} (test : X → Bool) (xs : List X) (place : ℕ) (d : X) → position test xs ≡ Some place → StandsAt test xs place
+stands_found test xs place d found =
+    let at = position-Some test xs place d found in
+    record {
+      there = list_any_at test xs place d at.0 at.1;
+      at = sym (position_or_len_is test xs place d (omega (arith, at.0)) at.2 (λ within. at.1));
+    }
 
--- where the last line's extension has the name and the context, the name finds in the context what it has
-pub last_named : (table : Table) (there : Extension) (priority : ℕ) (context : List ℕ) (name : Meaning)
-    → slice_get table.priorities table.last ≡ Some (there, priority) → lookup (same_extension there) table.priorities ≡ Some priority
-    → same_text context there.context ≡ true → names_last table name ≡ true → lookup (same_extension (extension_of context name)) table.priorities ≡ Some priority
-last_named table there priority context name here found in_context named =
-    let spelled : same_text (spelling name) there.spelling ≡ true =
-    sym (ap (λ (entry : Option (Extension × ℕ)). option_map_or (λ e. same_text (spelling name) e.0.spelling) entry false) here) ∙ named in
-    last_found table.priorities there (extension_of context name) priority found (is_last_named context name there spelled ∙ in_context)
+-- the value at the place of a key is the one that the key finds
+value_found : {K V : Type 0} (eq : K → K → Bool) (es : List (K × V)) (q : K) → option_map (λ (e : K × V). e.1) (slice_get es (position_or_len (eq q) (keys_of es))) ≡ lookup (eq q) es
+value_found eq [] q = refl
+value_found {K} {V} eq (e ∷ es) q = by (value_found eq es q) (eq q e.0) where
+  value : ℕ → Option V
+  value n = option_map (λ (x : K × V). x.1) (slice_get (e ∷ es) n)
 
--- the key of a place
-slice_get-keys : {K V : Type 0} (es : List (K × V)) (i : ℕ) (e : K × V) → slice_get es i ≡ Some e → slice_get (keys_of es) i ≡ Some e.0
-slice_get-keys [] i e here = absurd cc
-slice_get-keys {K} {V} (x ∷ es) zero e here = ap (option_map (λ (p : K × V). p.0)) here
-slice_get-keys (x ∷ es) (suc i) e here = slice_get-keys es i e here
+  by : option_map (λ (x : K × V). x.1) (slice_get es (position_or_len (eq q) (keys_of es))) ≡ lookup (eq q) es → (t : Bool)
+      → value (cond (not t) (1 + position_or_len (eq q) (keys_of es)) 0) ≡ cond t (Some e.1) (lookup (eq q) es)
+  by later true = refl
+  by later false =
+      let next : 1 + position_or_len (eq q) (keys_of es) ≡ suc (position_or_len (eq q) (keys_of es)) = omega arith in
+      ap value next ∙ later
 
--- a value that goes to the key of a place is written there
-insert_entry-at : {K V : Type 0} (eq : K → K → Bool) → IsEquivalence eq → (es : List (K × V)) (i : ℕ) (e : K × V) (q : K) (v : V) → IsDistinct eq (keys_of es) → slice_get es i ≡ Some e → eq q e.0 ≡ true → insert_entry eq es q v ≡ set_value_at es i v
-unfolding IsDistinct
-insert_entry-at eq laws [] i e q v distinct here same = absurd cc
-insert_entry-at {K} {V} eq laws (x ∷ es) zero e q v distinct here same =
-    let first : x ≡ e = cc in
-    ap (λ t. cond t ((x.0, v) ∷ es) (x ∷ insert_entry eq es q v)) (subst (λ (z : K × V). eq q z.0 ≡ true) (sym first) same)
-insert_entry-at {K} {V} eq laws (x ∷ es) (suc i) e q v distinct here same =
-    by (insert_entry-at eq laws es i e q v distinct.1 here same) (eq q x.0) refl
-  where
-    apart : eq x.0 e.0 ≡ false
-    apart = later_apart eq x.0 e.0 (keys_of es) i distinct.0 (slice_get-keys es i e here)
+-- an extension finds its last priority by its number
+pub priority_found : (table : Table) (extension : Extension) (number : ℕ) → HasNumber table extension number → option_map (λ entry. entry.1) (slice_get table number) ≡ lookup (same_extension extension) table
+priority_found table extension number has =
+    ap (λ n. option_map (λ (entry : Extension × ℕ). entry.1) (slice_get table n)) has.at ∙ value_found same_extension table extension
 
-    by : insert_entry eq es q v ≡ set_value_at es i v → (t : Bool) → eq q x.0 ≡ t → cond t ((x.0, v) ∷ es) (x ∷ insert_entry eq es q v) ≡ x ∷ set_value_at es i v
-    by later true f =
-        let there : eq q e.0 ≡ false = laws.congr q x.0 e.0 f ∙ apart in
-        absurd cc
-    by later false f = ap (λ (rest : List (K × V)). x ∷ rest) later
+-- a value that goes to a key that is there is written at the key's place
+value_written : {K V : Type 0} (eq : K → K → Bool) (es : List (K × V)) (q : K) (v : V) → list_any (eq q) (keys_of es) ≡ true → set_value_at es (position_or_len (eq q) (keys_of es)) v ≡ insert_entry eq es q v
+value_written eq [] q v there = absurd cc
+value_written {K} {V} eq (e ∷ es) q v there = by (value_written eq es q v) (eq q e.0) there where
+  by : (list_any (eq q) (keys_of es) ≡ true → set_value_at es (position_or_len (eq q) (keys_of es)) v ≡ insert_entry eq es q v) → (t : Bool) → (t || list_any (eq q) (keys_of es)) ≡ true
+      → set_value_at (e ∷ es) (cond (not t) (1 + position_or_len (eq q) (keys_of es)) 0) v ≡ cond t ((e.0, v) ∷ es) (e ∷ insert_entry eq es q v)
+  by later true there = refl
+  by later false there =
+      let next : 1 + position_or_len (eq q) (keys_of es) ≡ suc (position_or_len (eq q) (keys_of es)) = omega arith in
+      ap (λ n. set_value_at (e ∷ es) n v) next ∙ ap (λ (rest : List (K × V)). e ∷ rest) (later there)
 
--- a priority of the last line's extension is written at its place
-pub written_last : (table : Table) (asked : Extension) (priority : ℕ) → IsDistinct same_extension (keys_of table.priorities) → is_last table asked ≡ true → written table asked priority ≡ record table { priorities = set_value_at table.priorities table.last priority }
-written_last table asked priority distinct same = by (slice_get table.priorities table.last) refl same where
-  by : (found : Option (Extension × ℕ)) → slice_get table.priorities table.last ≡ found → option_map_or (λ entry. same_extension asked entry.0) found false ≡ true → written table asked priority ≡ record table { priorities = set_value_at table.priorities table.last priority }
-  by None here same = absurd cc
-  by (Some entry) here same = λ i. record {
-    priorities = insert_entry-at same_extension same_extension_equiv table.priorities table.last entry asked priority distinct here same i;
-    last = position_or_len-distinct same_extension same_extension_equiv (keys_of table.priorities) table.last entry.0 asked distinct (slice_get-keys table.priorities table.last entry here) same i;
-  }
+-- a priority of an extension is written at its number
+pub written_at : (table : Table) (context : List ℕ) (name : Meaning) (number priority : ℕ) → HasNumber table (extension_of context name) number → set_value_at table number priority ≡ with_priority table context name priority
+written_at table context name number priority has =
+    ap (λ n. set_value_at table n priority) has.at ∙ value_written same_extension table (extension_of context name) priority has.there
 
--- ---- the last line's extension
-
--- the extension of a line is at its number
-written_there : (es : List (Extension × ℕ)) (k : Extension) (v : ℕ) → option_map_or (λ entry. same_extension k entry.0) (slice_get (insert_entry same_extension es k v) (number_in es k)) false ≡ true
-written_there [] k v = same_extension_equiv.refl k
-written_there (e ∷ es) k v = by (written_there es k v) (same_extension k e.0) refl where
-  is_there : List (Extension × ℕ) → ℕ → Bool
-  is_there entries place = option_map_or (λ entry. same_extension k entry.0) (slice_get entries place) false
-
-  by : is_there (insert_entry same_extension es k v) (number_in es k) ≡ true → (t : Bool) → same_extension k e.0 ≡ t
-      → is_there (cond t ((e.0, v) ∷ es) (e ∷ insert_entry same_extension es k v)) (cond (not t) (1 + number_in es k) 0) ≡ true
-  by later true same = same
-  by later false other =
-      let next : 1 + number_in es k ≡ suc (number_in es k) = omega arith in
-      ap (is_there (e ∷ insert_entry same_extension es k v)) next ∙ later
-
--- the extension of a line has its name
-pub names_last_written : (table : Table) (context : List ℕ) (name : Meaning) (priority : ℕ) → names_last (written table (extension_of context name) priority) name ≡ true
-names_last_written table context name priority =
-    by (slice_get (insert_entry same_extension table.priorities asked priority) (number_in table.priorities asked)) (written_there table.priorities asked priority)
-  where
-    asked : Extension
-    asked = extension_of context name
-
-    by : (found : Option (Extension × ℕ)) → option_map_or (λ entry. same_extension asked entry.0) found false ≡ true → option_map_or (λ entry. same_text (spelling name) entry.0.spelling) found false ≡ true
-    by None there = there
-    by (Some entry) there = (and_true (same_text context entry.0.context) (same_text (spelling name) entry.0.spelling) there).1
+-- names that are spelled alike have one number
+pub number_same : (table : Table) (context : List ℕ) (name other : Meaning) (number : ℕ) → same_text (spelling other) (spelling name) ≡ true → HasNumber table (extension_of context other) number → HasNumber table (extension_of context name) number
+number_same table context name other number same has =
+    subst (λ (text : List ℕ). HasNumber table (record { context = context; spelling = text }) number) ((bytes_decides (spelling other) (spelling name)).0 same) has
 
 -- ---- the numbers of extensions
 
 -- the extension is in the table
-abbrev pub is_known : List (Extension × ℕ) → Extension → Bool
-is_known priorities extension = list_any (same_extension extension) (keys_of priorities)
+abbrev pub is_known : Table → Extension → Bool
+is_known table extension = list_any (same_extension extension) (keys_of table)
 
 module _ (es : List (Extension × ℕ)) (e : Extension) (v : ℕ) where
   -- the keys after a line of the extension
@@ -126,8 +106,8 @@ module _ (es : List (Extension × ℕ)) (e : Extension) (v : ℕ) where
     by false = list_any-append (same_extension q) (keys_of es) (e ∷ []) ∙ or_true (is_known es q) (list_any (same_extension q) (e ∷ [])) known
 
   -- the extension of the line is known
-  pub known-written : is_known (insert_entry same_extension es e v) e ≡ true
-  known-written = ap (list_any (same_extension e)) keys_after ∙ by (is_known es e) refl where
+  pub known-with_priority : is_known (insert_entry same_extension es e v) e ≡ true
+  known-with_priority = ap (list_any (same_extension e)) keys_after ∙ by (is_known es e) refl where
     by : (t : Bool) → is_known es e ≡ t → list_any (same_extension e) (keys_by t) ≡ true
     by true known = known
     by false other =
@@ -142,11 +122,18 @@ module _ (es : List (Extension × ℕ)) (e : Extension) (v : ℕ) where
     by false = position-more (same_extension q) (keys_of es) (e ∷ []) known
 
   -- the extension of the line has the number that it was given
-  pub number-written : number_in (insert_entry same_extension es e v) e ≡ number_in es e
-  number-written = ap (position_or_len (same_extension e)) keys_after ∙ by (is_known es e) refl where
+  pub number-with_priority : number_in (insert_entry same_extension es e v) e ≡ number_in es e
+  number-with_priority = ap (position_or_len (same_extension e)) keys_after ∙ by (is_known es e) refl where
     by : (t : Bool) → is_known es e ≡ t → position_or_len (same_extension e) (keys_by t) ≡ number_in es e
     by true known = refl
     by false other = position-new (same_extension e) (keys_of es) e other (same_extension_equiv.refl e)
+
+-- the extension of a line has its number after the line
+pub number_after_written : (table : Table) (context : List ℕ) (name : Meaning) (number priority : ℕ) → number ≡ number_in table (extension_of context name) → HasNumber (with_priority table context name priority) (extension_of context name) number
+number_after_written table context name number priority is = record {
+  there = known-with_priority table (extension_of context name) priority;
+  at = is ∙ sym (number-with_priority table (extension_of context name) priority);
+}
 
 -- two extensions of a table have one number exactly where they are the same
 pub same_number : (es : List (Extension × ℕ)) (a b : Extension) → is_known es a ≡ true → is_known es b ≡ true → (number_in es a == number_in es b) ≡ same_extension a b

@@ -44,15 +44,15 @@ without_last last (b ∷ c ∷ bs) = option_map (λ front. b ∷ front) (without
 -- ---- the name
 
 -- a name that has been read, unless its canonical spelling has a `${`
-abbrev pub named : ℕ → Meaning → Result Meaning LoadFault
-named line name = if has_variable (spelling name) then Err (Plan line (LeftOut Variable)) else Ok name
+abbrev pub name_without_variable : ℕ → Meaning → Result Meaning LoadFault
+name_without_variable line name = if has_variable (spelling name) then Err (Plan line (LeftOut Variable)) else Ok name
 
 -- the name of a line: variables and callers' numbers are left out, and asked before the faults of names
 unfoldable pub name_of : ℕ → List ℕ → Result Meaning LoadFault
 name_of line text =
     if has_variable text then Err (Plan line (LeftOut Variable))
     else if list_any (λ b. b == byte "/") text then Err (Plan line (LeftOut CallerId))
-    else name_at_line line (meaning_of text) >>= λ name. named line name
+    else name_at_line line (meaning_of text) >>= λ name. name_without_variable line name
 
 -- the name of a line that repeats the one before it
 abbrev pub name_again : ℕ → Option Meaning → Result Meaning LoadFault
@@ -122,8 +122,8 @@ written_priority text =
     label_of (cut_once (byte "(") text) >>= λ label. Ok (written, label)
 
 -- a priority that stands alone, without a label
-abbrev pub unlabelled : Result Written PlanKind → Result (Written × Option (List ℕ)) PlanKind
-unlabelled written = written >>= λ written. Ok (written, None)
+abbrev pub without_label : Result Written PlanKind → Result (Written × Option (List ℕ)) PlanKind
+without_label written = written >>= λ written. Ok (written, None)
 
 -- a priority that was read, as its number or `n` and its label
 abbrev pub numbering_now : Numbering → Written × Option (List ℕ)

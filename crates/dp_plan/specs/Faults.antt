@@ -3,7 +3,10 @@ use Rattle.std.specs.Prelude.{ℕ, Option, Some, None, Result, Ok, Err}
 use Rattle.dp_conf.specs.Lines.{LineFault}
 use Rattle.dp_conf.specs.declared.fault.ConfFault.{ConfFault}
 use Rattle.dp_conf.specs.declared.fault.ConfFault.TheVariants.{At, NoMemory as conf_no_memory}
+use Rattle.dp_conf.specs.declared.first_fault.FaultyLine.{FaultyLine}
 use Rattle.dp_pattern.specs.declared.fault.NameFault.{NameFault}
+use Rattle.dp_plan.specs.declared.fault.ItemKind.{ItemKind}
+use Rattle.dp_plan.specs.declared.fault.ItemKind.TheVariants.{BadName, BadLine}
 use Rattle.dp_plan.specs.declared.fault.PlanKind.{PlanKind}
 use Rattle.dp_plan.specs.declared.fault.LoadFault.{LoadFault}
 use Rattle.dp_plan.specs.declared.fault.LoadFault.TheVariants.{Conf, Pattern, Plan, NoMemory}
@@ -12,6 +15,15 @@ use Rattle.dp_plan.specs.declared.fault.LoadFault.TheVariants.{Conf, Pattern, Pl
 abbrev pub fault_of_conf : ConfFault → LoadFault
 fault_of_conf (At line kind) = Conf (At line kind)
 fault_of_conf conf_no_memory = NoMemory
+
+-- the fault of a line, at its number
+abbrev pub fault_at : ℕ → ItemKind → LoadFault
+fault_at line (BadName fault) = Pattern line fault
+fault_at line (BadLine kind) = Plan line kind
+
+-- a line that is refused, as a fault of the dialplan
+abbrev pub fault_of_line : FaultyLine ItemKind → LoadFault
+fault_of_line fault = fault_at fault.line fault.kind
 
 -- why a dialplan is refused; want of memory is no reason
 abbrev pub reason_of : LoadFault → Option LoadFault

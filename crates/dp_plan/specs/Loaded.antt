@@ -9,8 +9,8 @@ use Rattle.dp_plan.specs.declared.fault.LoadFault.{LoadFault}
 use Rattle.dp_plan.specs.declared.note.Note.{Note}
 
 -- the dialplan of a text with its notes: faults of the text come before those of a context
-unfoldable pub loaded : List ℕ → Result (PlanOf × List Note) LoadFault
-loaded text =
+unfoldable pub plan_and_notes : List ℕ → Result (PlanOf × List Note) LoadFault
+plan_and_notes text =
     text_fault (lines_of text) >>= λ lines. items_after [] lines >>= λ items. Ok (plan_of items, notes_of items)
 
 -- some text of bytes loads as the dialplan
@@ -18,4 +18,4 @@ pub record IsLoaded (plan : PlanOf) : Type 0 where
   pub text : List ℕ
   pub bytes : EachIndex text (λ k. slice_index text k < 256)
   pub notes : List Note
-  pub loads : loaded text ≡ Ok (plan, notes)
+  pub loads : plan_and_notes text ≡ Ok (plan, notes)

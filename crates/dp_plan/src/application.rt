@@ -4,9 +4,9 @@ ghost use Rattle.std.specs.Option.{option_map};
 ghost use Rattle.dp_conf.specs.Answers.{Answers};
 ghost use Rattle.dp_conf.specs.Cut as cuts;
 ghost use Rattle.dp_plan.specs.EntryLine as spec;
-ghost use Rattle.dp_plan.specs.Faults.{reason_of};
+ghost use Rattle.dp_plan.specs.steps.ItemFaults.{item_reason};
 
-use crate::fault::{LoadFault, PlanKind, Word};
+use crate::fault::{ItemFault, PlanKind, Word, fault};
 use dp_conf::{ShallowText, cut_once, trim};
 use std::alloc::Global;
 
@@ -67,14 +67,11 @@ pub(crate) fn read_shallow(
     alloc: Global,
     line: usize,
     text: &[u8],
-) -> Result<ShallowText, LoadFault>
-    ensures { Answers (λ shallow. shallow) reason_of result (spec.shallow_at line text.now) }
+) -> Result<ShallowText, ItemFault>
+    ensures { Answers (λ shallow. shallow) item_reason result (spec.shallow_at line text.now) }
 {
     match ShallowText::read(alloc, text)? {
         Some(shallow) => Ok(shallow),
-        None => Err(LoadFault::Plan {
-            line,
-            kind: PlanKind::TooDeep,
-        }),
+        None => Err(fault(line, PlanKind::TooDeep)),
     }
 }

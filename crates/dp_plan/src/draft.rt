@@ -1,9 +1,11 @@
 //! A dialplan in the making.
-ghost use Rattle.std.specs.Prelude.{◌≡◌, ◌++◌, ◌<◌, [], ◌∷◌, OnOk, IfOk, IfSome, Some, None, false, true, length, fold, map};
-ghost use Rattle.std.specs.List.{All, flat_map, position_or_len};
+ghost use Rattle.std.specs.Prelude.{◌≡◌, ◌++◌, ◌<◌, [], ◌∷◌, OnOk, OnErr, IfOk, Some, None, false, length, fold, map};
+ghost use Rattle.std.specs.List.{All, flat_map};
 ghost use Rattle.std.specs.Option.{option_to_list};
 ghost use Rattle.dp_plan.specs.Contexts.{with_entry, with_include};
 ghost use Rattle.dp_plan.specs.steps.Draft as spec;
+ghost use Rattle.dp_plan.specs.steps.Open.{section_of, last_of, IsOpenSection};
+ghost use Rattle.dp_plan.specs.steps.Table.{StandsAt, Table};
 ghost use Rattle.dp_plan.specs.steps.Numbers.{AreAllNumbered, with_number};
 ghost use Rattle.dp_conf.specs.Changes.{changed_at};
 ghost use Rattle.dp_conf.specs.Words.{same_text};
@@ -12,18 +14,17 @@ ghost use Rattle.dp_plan.specs.Plan.{is_named};
 ghost use Rattle.dp_plan.specs.Ranking.{AreApart};
 
 use crate::context::Context;
-use crate::context_name::ContextName;
 use crate::entry::Entry;
 use crate::label::{Label, label_of};
 use crate::note::{Note, NoteKind};
 use crate::numbers::Numbers;
-use crate::places::{Places, Slot};
-use crate::plan::{Dialplan, GlobalVariable, Parts};
+use crate::plan::{Dialplan, GlobalVariable, PlanParts};
 use crate::priority::Priority;
 use crate::ranking::rank_contexts;
 use crate::remark::{Remark, settle};
-use crate::section::Section;
+use crate::section::{OpenContext, OpenSection, Section};
 use crate::shared_text::SharedText;
+use crate::taken_places::{Slot, TakenPlaces};
 use dp_conf::{NoMemory, Text, beside};
 use indexmap::IndexSet;
 use std::alloc::Global;
@@ -36,11 +37,9 @@ pub(crate) struct Draft {
     names: IndexSet<SharedText>,
     contexts: Vec<Context>,
     numbers: Vec<Numbers>,
-    taken: Places,
+    taken: TakenPlaces,
     labels: IndexSet<Label>,
     remarks: Vec<Remark>,
-    /// The number of the context that was opened last, which is asked first.
-    opened: usize,
 }
 
 impl Model for Draft {
@@ -82,7 +81,7 @@ fn empty_context(alloc: Global, name: &SharedText) -> Result<Context, NoMemory>
 }
 
 /// The dialplan of these parts, with the rankings of its contexts, whose entries' extensions have these numbers.
-fn plan_of(alloc: Global, parts: Parts, numbers: &[Numbers]) -> Result<Dialplan, NoMemory>
+fn plan_of(alloc: Global, parts: PlanParts, numbers: &[Numbers]) -> Result<Dialplan, NoMemory>
     requires names { parts.names.keys ≡ map (λ context. context.name) parts.contexts.items }
     requires apart { All (λ context. AreApart context.entries) parts.contexts.items }
     requires numbered { AreAllNumbered parts.contexts.items numbers.now }
@@ -103,19 +102,18 @@ impl Draft {
             names: IndexSet::new(alloc),
             contexts: Vec::new(alloc),
             numbers: Vec::new(alloc),
-            taken: Places::new(alloc),
+            taken: TakenPlaces::new(alloc),
             labels: IndexSet::new(alloc),
             remarks: Vec::new(alloc),
-            opened: 0,
         }
     }
 
-    /// Adds the context of this name, which is not there, and gives its number.
+    /// Adds the context of this name, which is not there, and gives its place.
     fn add_context(&mut self, alloc: Global, name: &SharedText) -> Result<usize, NoMemory>
         requires { is_named self.old.names name.now ≡ false }
         ensures ok { OnOk result (self.new ≡ spec.with_context self.old name.now) }
-        ensures place { IfOk result (λ place. place ≡ position_or_len (same_text name.now) self.new.names) }
-        ensures within { IfOk result (λ place. place < length self.new.contexts) }
+        ensures err { OnErr result (self.new ≡ self.old) }
+        ensures place { IfOk result (λ place. StandsAt (same_text name.now) self.new.names place) }
     {
         self.contexts.reserve(1)?;
         self.numbers.reserve(1)?;
@@ -127,11 +125,11 @@ impl Draft {
         Ok(place)
     }
 
-    /// Makes sure that the context of this name is there, and gives its number.
-    fn open_named(&mut self, alloc: Global, name: &SharedText) -> Result<usize, NoMemory>
+    /// Makes sure that the context of this name is there, and gives its place.
+    fn open(&mut self, alloc: Global, name: &SharedText) -> Result<usize, NoMemory>
         ensures ok { OnOk result (self.new ≡ spec.with_context self.old name.now) }
-        ensures place { IfOk result (λ place. place ≡ position_or_len (same_text name.now) self.new.names) }
-        ensures within { IfOk result (λ place. place < length self.new.contexts) }
+        ensures err { OnErr result (self.new ≡ self.old) }
+        ensures place { IfOk result (λ place. StandsAt (same_text name.now) self.new.names place) }
     {
         match self.names.get_index_of(name) {
             Some(place) => Ok(place),
@@ -139,41 +137,10 @@ impl Draft {
         }
     }
 
-    /// The number of the context that was opened last, where it has this name. No table is asked.
-    #[tactic(auto, using(crate::proofs::PositionLemmas::place_of_name, crate::proofs::PositionLemmas::named_at))]
-    #[inline(always)]
-    fn opened_so(&self, name: &SharedText) -> Option<usize>
-        ensures place { IfSome result (λ place. place ≡ position_or_len (same_text name.now) self.now.names) }
-        ensures within { IfSome result (λ place. place < length self.now.contexts) }
-        ensures named { IfSome result (λ place. is_named self.now.names name.now ≡ true) }
-    {
-        let opened = self.names.as_slice().get(self.opened)?;
-        if name == opened {
-            Some(self.opened)
-        } else {
-            None
-        }
-    }
-
-    /// Makes sure that the context of this name is there, and gives its number.
-    #[inline(always)]
-    fn open(&mut self, alloc: Global, name: &ContextName) -> Result<usize, NoMemory>
-        ensures ok { OnOk result (self.new ≡ spec.with_context self.old name.now) }
-        ensures place { IfOk result (λ place. place ≡ position_or_len (same_text name.now) self.new.names) }
-        ensures within { IfOk result (λ place. place < length self.new.contexts) }
-    {
-        let name = name.text();
-        let place = match self.opened_so(name) {
-            Some(place) => place,
-            None => self.open_named(alloc, name)?,
-        };
-        self.opened = place;
-        Ok(place)
-    }
-
     /// Notes something of a line.
     pub(crate) fn note(&mut self, line: usize, kind: NoteKind) -> Result<(), NoMemory>
-        ensures { OnOk result (self.new ≡ spec.with_note self.old line kind) }
+        ensures noted { OnOk result (self.new ≡ spec.with_note self.old line kind) }
+        ensures names { self.new.names ≡ self.old.names }
     {
         self.remarks.push(Remark::Noted(Note { line, kind }))?;
         Ok(())
@@ -190,7 +157,8 @@ impl Draft {
     /// Takes up the place, which is free.
     fn take_slot(&mut self, slot: Slot) -> Result<(), NoMemory>
         requires { spec.is_slot_taken self.old slot ≡ false }
-        ensures { OnOk result (self.new ≡ record self.old { taken = self.old.taken ++ slot ∷ [] }) }
+        ensures taken { OnOk result (self.new ≡ record self.old { taken = self.old.taken ++ slot ∷ [] }) }
+        ensures names { self.new.names ≡ self.old.names }
     {
         self.taken.take(slot)
     }
@@ -199,6 +167,7 @@ impl Draft {
     fn mark(&mut self, label: Label) -> Result<bool, NoMemory>
         ensures taken { IfOk result (λ taken. taken ≡ spec.is_marked self.old (Some label)) }
         ensures marked { OnOk result (self.new ≡ spec.with_label self.old (Some label)) }
+        ensures names { self.new.names ≡ self.old.names }
     {
         let is_free = self.labels.insert(label)?;
         Ok(!is_free)
@@ -209,6 +178,7 @@ impl Draft {
     fn take_label(&mut self, number: u32, entry: &Entry) -> Result<bool, NoMemory>
         ensures taken { IfOk result (λ taken. taken ≡ spec.is_marked self.old (spec.label_of number entry.now)) }
         ensures marked { OnOk result (self.new ≡ spec.with_label self.old (spec.label_of number entry.now)) }
+        ensures names { self.new.names ≡ self.old.names }
     {
         match &entry.label {
             None => Ok(false),
@@ -228,9 +198,10 @@ impl Draft {
         entry: &Entry,
     ) -> Result<Option<NoteKind>, NoMemory>
         ensures noted { IfOk result (λ noted. noted
-            ≡ spec.doubled self.old (spec.slot_of number entry.now) (spec.label_of number entry.now)) }
+            ≡ spec.double_kind self.old (spec.slot_of number entry.now) (spec.label_of number entry.now)) }
         ensures taken { OnOk result (self.new
-            ≡ spec.claimed self.old (spec.slot_of number entry.now) (spec.label_of number entry.now)) }
+            ≡ spec.take_place self.old (spec.slot_of number entry.now) (spec.label_of number entry.now)) }
+        ensures names { self.new.names ≡ self.old.names }
     {
         let slot = slot_of(number, entry);
         if self.is_slot_taken(alloc, slot)? {
@@ -246,10 +217,11 @@ impl Draft {
     /// Adds the entry to the context at the place.
     #[inline(always)]
     fn push_entry(&mut self, place: usize, entry: Entry) -> Result<(), NoMemory>
-        requires { place < length self.old.contexts }
-        ensures { OnOk result (self.new ≡ record self.old {
+        requires { place < length self.old.names }
+        ensures pushed { OnOk result (self.new ≡ record self.old {
           contexts = changed_at (with_entry entry) place self.old.contexts;
         }) }
+        ensures names { self.new.names ≡ self.old.names }
     {
         let context = &mut self.contexts[place];
         context.push(entry)?;
@@ -259,10 +231,11 @@ impl Draft {
     /// Adds the number of an extension to those of the context at the place.
     #[inline(always)]
     fn push_number(&mut self, place: usize, number: u32) -> Result<(), NoMemory>
-        requires { place < length self.old.numbers }
-        ensures { OnOk result (self.new ≡ record self.old {
+        requires { place < length self.old.names }
+        ensures pushed { OnOk result (self.new ≡ record self.old {
           numbers = changed_at (with_number number) place self.old.numbers;
         }) }
+        ensures names { self.new.names ≡ self.old.names }
     {
         let numbers = &mut self.numbers[place];
         numbers.push(number)?;
@@ -272,45 +245,45 @@ impl Draft {
     /// Adds the entry to the context at the place, by the number of its extension.
     #[inline(always)]
     fn push_numbered(&mut self, place: usize, number: u32, entry: Entry) -> Result<(), NoMemory>
-        requires { place < length self.old.contexts }
-        ensures { OnOk result (self.new ≡ record self.old {
+        requires { place < length self.old.names }
+        ensures pushed { OnOk result (self.new ≡ record self.old {
           contexts = changed_at (with_entry entry) place self.old.contexts;
           numbers = changed_at (with_number number) place self.old.numbers;
         }) }
+        ensures names { self.new.names ≡ self.old.names }
     {
-        // Each context has its numbers.
-        let _numbers = &self.numbers;
         self.push_number(place, number)?;
         self.push_entry(place, entry)
     }
 
     /// Adds the include to the context at the place.
     fn push_include(&mut self, place: usize, name: Text) -> Result<(), NoMemory>
-        requires { place < length self.old.contexts }
-        ensures { OnOk result (self.new ≡ record self.old {
+        requires { place < length self.old.names }
+        ensures pushed { OnOk result (self.new ≡ record self.old {
           contexts = changed_at (with_include name) place self.old.contexts;
         }) }
+        ensures names { self.new.names ≡ self.old.names }
     {
         let context = &mut self.contexts[place];
         context.push_include(name)?;
         Ok(())
     }
 
-    /// Adds an entry to its context, or notes that its place or its label is taken.
+    /// Adds an entry to the context at the place, or notes that its place or its label is taken.
     #[tactic(auto, using(crate::proofs::AdditionLemmas::noted_addition, crate::proofs::AdditionLemmas::kept_addition))]
     #[inline(always)]
     pub(crate) fn add_entry(
         &mut self,
         alloc: Global,
         line: usize,
-        context: &ContextName,
+        place: usize,
         number: u32,
         entry: Entry,
     ) -> Result<(), NoMemory>
-        ensures { OnOk result (self.new
-            ≡ spec.with_addition (spec.with_context self.old context.now) line context.now number entry) }
+        requires { place < length self.old.names }
+        ensures added { OnOk result (self.new ≡ spec.with_addition self.old line place number entry) }
+        ensures names { self.new.names ≡ self.old.names }
     {
-        let place = self.open(alloc, context)?;
         match self.claim(alloc, number, &entry)? {
             Some(kind) => self.note(line, kind),
             None => self.push_numbered(place, number, entry),
@@ -319,24 +292,24 @@ impl Draft {
 
     /// Keeps an include's line and name, for its note.
     fn ask(&mut self, line: usize, name: Text) -> Result<(), NoMemory>
-        ensures { OnOk result (self.new ≡ record self.old { remarks = self.old.remarks ++ Remark.Asks line name ∷ [] }) }
+        ensures asked { OnOk result (self.new ≡ record self.old { remarks = self.old.remarks ++ Remark.Asks line name ∷ [] }) }
+        ensures names { self.new.names ≡ self.old.names }
     {
         self.remarks.push(Remark::Asks { line, name })?;
         Ok(())
     }
 
-    /// Adds an include to its context. Whether its name is one of a context shows in the end.
+    /// Adds an include to the context at the place. Whether its name is one of a context shows in the end.
     pub(crate) fn add_include(
         &mut self,
-        alloc: Global,
         line: usize,
-        context: &ContextName,
+        place: usize,
         name: Text,
     ) -> Result<(), NoMemory>
-        ensures { OnOk result (self.new
-            ≡ spec.with_inclusion (spec.with_context self.old context.now) line context.now name) }
+        requires { place < length self.old.names }
+        ensures added { OnOk result (self.new ≡ spec.with_inclusion self.old line place name) }
+        ensures names { self.new.names ≡ self.old.names }
     {
-        let place = self.open(alloc, context)?;
         let copy = name.clone()?;
         self.push_include(place, copy)?;
         self.ask(line, name)
@@ -350,19 +323,28 @@ impl Draft {
         Ok(())
     }
 
-    /// Begins a section.
-    pub(crate) fn begin(&mut self, alloc: Global, section: &Section) -> Result<(), NoMemory>
-        ensures { OnOk result (self.new ≡ spec.with_section self.old section.now) }
+    /// Opens a section.
+    pub(crate) fn begin(&mut self, alloc: Global, section: Section) -> Result<OpenSection, NoMemory>
+        ensures ok { OnOk result (self.new ≡ spec.with_section self.old section) }
+        ensures err { OnErr result (self.new ≡ self.old) }
+        ensures section { IfOk result (λ opened. section_of opened ≡ section) }
+        ensures last { IfOk result (λ opened. last_of opened ≡ None) }
+        ensures opened { IfOk result (λ opened. (table : Table) → IsOpenSection self.new.names table opened) }
     {
-        if let Section::Context(name) = section {
-            self.open(alloc, name)?;
+        match section {
+            Section::General => Ok(OpenSection::Settings),
+            Section::Globals => Ok(OpenSection::Variables),
+            Section::Context(name) => {
+                let place = self.open(alloc, name.text())?;
+                let last = None;
+                Ok(OpenSection::Entries(OpenContext { name, place, last }))
+            }
         }
-        Ok(())
     }
 
     /// The notes that the remarks come to.
     fn notes(&self, alloc: Global) -> Result<Vec<Note>, NoMemory>
-        ensures { IfOk result (λ notes. notes.items ≡ flat_map (spec.settled self.now.names) self.now.remarks) }
+        ensures { IfOk result (λ notes. notes.items ≡ flat_map (spec.remark_notes self.now.names) self.now.remarks) }
     {
         let notes = settle(alloc, &self.names, &self.remarks)?;
         Ok(notes)
@@ -370,7 +352,7 @@ impl Draft {
 
     /// The parts of the draft's dialplan, and the numbers of its entries' extensions. The places, the labels and the remarks
     /// are let go.
-    fn into_parts(self) -> (Parts, Vec<Numbers>)
+    fn into_parts(self) -> (PlanParts, Vec<Numbers>)
         ensures globals { result.0.globals.items ≡ self.globals }
         ensures names { result.0.names.keys ≡ self.names }
         ensures contexts { result.0.contexts.items ≡ self.contexts }
@@ -384,9 +366,8 @@ impl Draft {
             taken: _,
             labels: _,
             remarks: _,
-            opened: _,
         } = self;
-        let parts = Parts {
+        let parts = PlanParts {
             globals,
             names,
             contexts,
@@ -401,7 +382,7 @@ impl Draft {
         requires numbered { AreAllNumbered self.contexts self.numbers }
         requires loaded { IsLoaded (record { globals = self.globals; contexts = self.contexts }) }
         ensures plan { IfOk result (λ made. made.0 ≡ record { globals = self.globals; contexts = self.contexts }) }
-        ensures notes { IfOk result (λ made. made.1.items ≡ flat_map (spec.settled self.names) self.remarks) }
+        ensures notes { IfOk result (λ made. made.1.items ≡ flat_map (spec.remark_notes self.names) self.remarks) }
     {
         let notes = self.notes(alloc);
         let (notes, draft) = beside(notes, self)?;

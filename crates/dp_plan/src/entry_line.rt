@@ -1,30 +1,26 @@
 //! The line of an entry: `exten => name,priority[(label)],application` or `same => priority[(label)],application`.
-ghost use Rattle.std.specs.Prelude.{◌≡◌, IfOk, Some};
-ghost use Rattle.std.specs.Option.{option_map, option_copied};
+ghost use Rattle.std.specs.Prelude.{◌≡◌, IfOk, IfSome};
+ghost use Rattle.std.specs.Option.{option_map};
 ghost use Rattle.dp_conf.specs.Answers.{Answers};
 ghost use Rattle.dp_plan.specs.EntryLine as spec;
-ghost use Rattle.dp_plan.specs.Faults.{reason_of, at_line};
-ghost use Rattle.dp_plan.specs.steps.Reader.{history_in, last_priority};
+ghost use Rattle.dp_plan.specs.Extensions.{extension_of};
+ghost use Rattle.dp_plan.specs.steps.ItemFaults.{item_reason};
+ghost use Rattle.dp_plan.specs.steps.Open.{IsLast, history_at, last_name};
+ghost use Rattle.dp_plan.specs.steps.Reader.{last_priority};
+ghost use Rattle.dp_plan.specs.steps.Table.{HasNumber, priority_at};
 
 use crate::application::{read_application, read_shallow};
 use crate::context_name::ContextName;
 use crate::entry::Entry;
-use crate::fault::{LoadFault, PlanKind};
+use crate::fault::{ItemFault, PlanKind, fault};
 use crate::naming::read_name;
 use crate::numbering::{Written, number_after, read_numbering};
-use crate::priority::Priority;
 use crate::reader::Reader;
+use crate::section::OpenContext;
 use crate::shared_name::SharedName;
 use crate::shared_text::SharedText;
 use dp_conf::{NoMemory, cut_once, trim};
 use std::alloc::Global;
-
-/// The fault of a line.
-fn fault(line: usize, kind: PlanKind) -> LoadFault
-    ensures { result ≡ LoadFault.Plan line kind }
-{
-    LoadFault::Plan { line, kind }
-}
 
 /// A copy of the text, where there is one.
 #[inline(always)]
@@ -40,76 +36,91 @@ fn copy_label(alloc: Global, label: Option<&[u8]>) -> Result<Option<SharedText>,
     }
 }
 
-/// How a line names its extension.
+/// What stands after the name in the line of an entry.
 #[derive(Clone, Copy)]
-pub(crate) enum Naming {
-    /// It says the name.
-    Anew,
-    /// It has the name of the line before.
-    Again,
+pub(crate) struct EntryParts<'a> {
+    line: usize,
+    priority: &'a [u8],
+    application: &'a [u8],
 }
 
-/// The last priority of the extension, where the priority of the line asks for it.
+/// The extension that a line names: its name, and its number where that is known.
+#[derive(Drop)]
+pub(crate) struct LineExtension {
+    name: SharedName,
+    number: Option<u32>,
+}
+
+/// The entry that a line writes, with the number of its extension where that is known.
+#[derive(Drop)]
+pub(crate) struct LineEntry {
+    pub(crate) entry: Entry,
+    pub(crate) number: Option<u32>,
+}
+
+/// The number of the extension, which is looked up where the priority of the line asks for the last one and it is not known.
+#[tactic(auto, using(crate::proofs::TableLemmas::priority_found))]
 #[inline(always)]
-fn priority_before(
+fn number_before(
     reader: &Reader,
     context: &ContextName,
-    naming: Naming,
-    name: &SharedName,
+    extension: &LineExtension,
     written: Written,
-) -> Result<Option<Priority>, NoMemory>
-    requires { naming ≡ Naming.Again → reader.now.name ≡ Some name.now }
-    ensures { IfOk result (λ last. spec.number_after last written
-        ≡ spec.number_after (last_priority reader.now context.now name.now) written) }
+) -> Result<Option<u32>, NoMemory>
+    requires { IfSome extension.now.number (HasNumber reader.now (extension_of context.now extension.now.name)) }
+    ensures number { IfOk result (λ number.
+        IfSome number (HasNumber reader.now (extension_of context.now extension.now.name))) }
+    ensures last { IfOk result (λ number. spec.number_after (priority_at reader.now number) written
+        ≡ spec.number_after (last_priority reader.now context.now extension.now.name) written) }
 {
-    match (written, naming) {
-        (Written::Next, Naming::Anew) => reader.last_priority(context, name),
-        (Written::Next, Naming::Again) => reader.last_priority_again(context, name),
-        (Written::Number(_) | Written::TooGreat, _) => Ok(None),
+    match (extension.number, written) {
+        (Some(number), _) => Ok(Some(number)),
+        (None, Written::Next) => reader.find(context, &extension.name),
+        (None, Written::Number(_) | Written::TooGreat) => Ok(None),
     }
 }
 
-/// The entry of the name, with its priority and its application.
+/// The entry of the extension, with its priority and its application.
 #[inline(always)]
 fn read_named(
     alloc: Global,
     reader: &mut Reader,
-    line: usize,
-    context: &ContextName,
-    naming: Naming,
-    name: SharedName,
-    priority: &[u8],
-    application: &[u8],
-) -> Result<Entry, LoadFault>
-    requires { naming ≡ Naming.Again → reader.old.name ≡ Some name }
-    ensures read { Answers (λ entry. entry) reason_of result
-        (spec.entry_by (history_in reader.old) line context.now name priority.now application.now) }
+    context: &OpenContext,
+    extension: LineExtension,
+    parts: EntryParts<'_>,
+) -> Result<LineEntry, ItemFault>
+    requires { IfSome extension.number (HasNumber reader.old (extension_of context.now.name extension.name)) }
+    ensures read { Answers (λ read. read.entry) item_reason result (spec.entry_by (history_at context.now reader.old)
+        parts.entry.line context.now.name extension.name parts.entry.priority.now parts.entry.application.now) }
     ensures same { reader.new ≡ reader.old }
-    ensures named { IfOk result (λ entry. entry.name ≡ name) }
+    ensures number { IfOk result (λ read.
+        IfSome read.number (HasNumber reader.old (extension_of context.now.name read.entry.name))) }
 {
-    let numbering = match read_numbering(priority) {
+    let numbering = match read_numbering(parts.priority) {
         Ok(numbering) => numbering,
-        Err(kind) => return Err(fault(line, kind)),
+        Err(kind) => return Err(fault(parts.line, kind)),
     };
-    let last = priority_before(reader, context, naming, &name, numbering.written)?;
-    let priority = match number_after(last, numbering.written) {
+    let number = number_before(reader, &context.name, &extension, numbering.written)?;
+    let priority = match number_after(reader.priority(number), numbering.written) {
         Ok(priority) => priority,
-        Err(kind) => return Err(fault(line, kind)),
+        Err(kind) => return Err(fault(parts.line, kind)),
     };
-    let called = match read_application(application) {
+    let called = match read_application(parts.application) {
         Ok(called) => called,
-        Err(kind) => return Err(fault(line, kind)),
+        Err(kind) => return Err(fault(parts.line, kind)),
     };
-    let arguments = read_shallow(alloc, line, called.arguments)?;
+    let arguments = read_shallow(alloc, parts.line, called.arguments)?;
     let label = copy_label(alloc, numbering.label)?;
     let application = reader.application(alloc, called.name)?;
-    Ok(Entry {
+    let LineExtension { name, number: _ } = extension;
+    let entry = Entry {
         name,
         priority,
         label,
         application,
         arguments,
-    })
+    };
+    Ok(LineEntry { entry, number })
 }
 
 /// The entry that the value of an `exten` line writes.
@@ -117,13 +128,16 @@ fn read_named(
 pub(crate) fn read_exten(
     alloc: Global,
     reader: &mut Reader,
+    context: &OpenContext,
     line: usize,
-    context: &ContextName,
     value: &[u8],
-) -> Result<Entry, LoadFault>
-    ensures read { Answers (λ entry. entry) reason_of result
-        (spec.exten_entry (history_in reader.old) line context.now value.now) }
+) -> Result<LineEntry, ItemFault>
+    requires { IsLast reader.old context.now }
+    ensures read { Answers (λ read. read.entry) item_reason result
+        (spec.exten_entry (history_at context.now reader.old) line context.now.name value.now) }
     ensures same { reader.new ≡ reader.old }
+    ensures number { IfOk result (λ read.
+        IfSome read.number (HasNumber reader.old (extension_of context.now.name read.entry.name))) }
 {
     let Some((name, rest)) = cut_once(value, b',') else {
         return Err(fault(line, PlanKind::ShortLine));
@@ -132,32 +146,36 @@ pub(crate) fn read_exten(
         return Err(fault(line, PlanKind::ShortLine));
     };
     let name = read_name(alloc, line, trim(name))?;
-    let priority = trim(priority);
-    let application = trim(application);
-    let naming = Naming::Anew;
-    let entry = read_named(
-        alloc,
-        reader,
+    let number = reader.number_of(context, &name);
+    let extension = LineExtension { name, number };
+    let parts = EntryParts {
         line,
-        context,
-        naming,
-        name,
-        priority,
-        application,
-    )?;
-    Ok(entry)
+        priority: trim(priority),
+        application: trim(application),
+    };
+    let read = read_named(alloc, reader, context, extension, parts)?;
+    Ok(read)
 }
 
-/// The name of a line that repeats the one before it.
-fn name_again(reader: &Reader, line: usize) -> Result<SharedName, LoadFault>
-    ensures again { Answers (λ name. name) reason_of result (spec.name_again line reader.now.name) }
-    ensures named { IfOk result (λ name. reader.now.name ≡ Some name) }
+/// The extension of a line that repeats the one before it.
+fn extension_again(
+    reader: &Reader,
+    context: &OpenContext,
+    line: usize,
+) -> Result<LineExtension, ItemFault>
+    requires { IsLast reader.now context.now }
+    ensures again { Answers (λ extension. extension.name) item_reason result (spec.name_again line (last_name context.now)) }
+    ensures number { IfOk result (λ extension.
+        IfSome extension.number (HasNumber reader.now (extension_of context.now.name extension.name))) }
 {
-    match reader.name() {
+    // The reader has the number.
+    let _reader = reader;
+    match &context.last {
         None => Err(fault(line, PlanKind::NoExten)),
-        Some(name) => {
-            let name = name.clone()?;
-            Ok(name)
+        Some(last) => {
+            let name = last.name.clone()?;
+            let number = Some(last.number);
+            Ok(LineExtension { name, number })
         }
     }
 }
@@ -167,32 +185,27 @@ fn name_again(reader: &Reader, line: usize) -> Result<SharedName, LoadFault>
 pub(crate) fn read_same(
     alloc: Global,
     reader: &mut Reader,
+    context: &OpenContext,
     line: usize,
-    context: &ContextName,
     value: &[u8],
-) -> Result<Entry, LoadFault>
-    ensures read { Answers (λ entry. entry) reason_of result
-        (spec.same_entry (history_in reader.old) line context.now value.now) }
+) -> Result<LineEntry, ItemFault>
+    requires { IsLast reader.old context.now }
+    ensures read { Answers (λ read. read.entry) item_reason result
+        (spec.same_entry (history_at context.now reader.old) line context.now.name value.now) }
     ensures same { reader.new ≡ reader.old }
-    ensures named { IfOk result (λ entry. reader.old.name ≡ Some entry.name) }
+    ensures number { IfOk result (λ read.
+        IfSome read.number (HasNumber reader.old (extension_of context.now.name read.entry.name))) }
 {
     let Some((priority, application)) = cut_once(value, b',') else {
-        name_again(reader, line)?;
+        extension_again(reader, context, line)?;
         return Err(fault(line, PlanKind::ShortLine));
     };
-    let name = name_again(reader, line)?;
-    let priority = trim(priority);
-    let application = trim(application);
-    let naming = Naming::Again;
-    let entry = read_named(
-        alloc,
-        reader,
+    let extension = extension_again(reader, context, line)?;
+    let parts = EntryParts {
         line,
-        context,
-        naming,
-        name,
-        priority,
-        application,
-    )?;
-    Ok(entry)
+        priority: trim(priority),
+        application: trim(application),
+    };
+    let read = read_named(alloc, reader, context, extension, parts)?;
+    Ok(read)
 }

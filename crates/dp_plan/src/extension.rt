@@ -1,8 +1,7 @@
 //! The extensions of a dialplan.
 ghost use Rattle.std.specs.Prelude.{IfOk, IsTrue, ◌≡◌, ◌↔◌};
-ghost use Rattle.dp_conf.specs.Words.{same_text};
 ghost use Rattle.dp_pattern.specs.Name.{Meaning, IsName};
-ghost use Rattle.dp_plan.specs.Extensions.{extension_of, same_extension, same_name};
+ghost use Rattle.dp_plan.specs.Extensions.{extension_of, same_name};
 
 use crate::context_name::ContextName;
 use crate::shared_name::{SharedName, SharedSpelling};
@@ -24,21 +23,6 @@ impl Extension {
         let context = context.clone()?;
         let spelling = SharedSpelling::of(name)?;
         Ok(Extension { context, spelling })
-    }
-
-    /// Whether it is the extension of the name in the context.
-    pub(crate) fn is_of(&self, context: &ContextName, name: &SharedName) -> bool
-        ensures { result ≡ same_extension (extension_of context.now name.now) self.now }
-    {
-        // The lines of a context are many, so names differ before contexts do.
-        self.spelling.is_of(name) && self.is_in(context)
-    }
-
-    /// Whether it is an extension of the context.
-    pub(crate) fn is_in(&self, context: &ContextName) -> bool
-        ensures { result ≡ same_text context.now self.now.context }
-    {
-        context == &self.context
     }
 }
 

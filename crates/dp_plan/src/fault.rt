@@ -1,8 +1,9 @@
 //! What a dialplan is refused for, with the numbers and the names that are printed.
 ghost use Rattle.std.specs.Prelude.{◌≡◌, Some};
+ghost use Rattle.dp_conf.specs.declared.first_fault.TakeFault.TheVariants.{Line};
 ghost use Rattle.dp_plan.specs.Codes.{plan_code, plan_name, load_fault_text};
 
-use dp_conf::{ConfFault, NoMemory};
+use dp_conf::{ConfFault, FaultyLine, NoMemory, TakeFault};
 use dp_pattern::NameFault;
 use std::alloc::AllocFailed;
 use std::error::Error;
@@ -88,6 +89,26 @@ impl PlanKind {
     }
 }
 
+/// Why a line of a context or of the global variables is refused, where its name counts too.
+#[derive(Clone, Copy)]
+pub(crate) enum ItemKind {
+    /// The name of a line is none.
+    BadName(NameFault),
+    /// The rest of a line is refused.
+    BadLine(PlanKind),
+}
+
+/// Why a line has no item.
+pub(crate) type ItemFault = TakeFault<ItemKind>;
+
+/// The fault of a line that is refused.
+pub(crate) fn fault(line: usize, kind: PlanKind) -> ItemFault
+    ensures { result ≡ Line (record { line = line; kind = ItemKind.BadLine kind }) }
+{
+    let kind = ItemKind::BadLine(kind);
+    TakeFault::Line(FaultyLine { line, kind })
+}
+
 /// Why a dialplan did not load. Want of memory is always `NoMemory`, and never within `Conf`.
 #[derive(Clone, Copy, Debug, PartialEq, Eq)]
 pub enum LoadFault {
@@ -99,6 +120,21 @@ pub enum LoadFault {
     Plan { line: usize, kind: PlanKind },
     /// The allocator had no memory.
     NoMemory,
+}
+
+impl From<FaultyLine<ItemKind>> for LoadFault {
+    ghost use Rattle.std.specs.Prelude.{◌≡◌};
+    ghost use Rattle.dp_plan.specs.Faults.{fault_of_line};
+
+    ghost from_gives = { λ faulty fault. fault ≡ fault_of_line faulty };
+
+    fn from(faulty: FaultyLine<ItemKind>) -> Self {
+        let FaultyLine { line, kind } = faulty;
+        match kind {
+            ItemKind::BadName(fault) => LoadFault::Pattern { line, fault },
+            ItemKind::BadLine(kind) => LoadFault::Plan { line, kind },
+        }
+    }
 }
 
 impl fmt::Display for LoadFault {

@@ -1,6 +1,6 @@
 //! The names of applications that lines have written, each held once.
 ghost use Rattle.std.specs.Prelude.{◌≡◌, [], IfOk, IfSome, OnOk};
-ghost use Rattle.dp_plan.specs.steps.KnownApplications.{is_known, kept};
+ghost use Rattle.dp_plan.specs.steps.KnownApplications.{is_known, with_known_name};
 
 use crate::shared_text::SharedText;
 use dp_conf::NoMemory;
@@ -53,7 +53,7 @@ impl KnownApplications {
 
     /// Holds the name too, unless it is held or there are 32 already.
     fn keep(&mut self, name: &SharedText) -> Result<(), NoMemory>
-        ensures { OnOk result (self.new ≡ kept self.old name.now) }
+        ensures { OnOk result (self.new ≡ with_known_name self.old name.now) }
     {
         if self.names.len() >= MOST_KNOWN || self.is_known(name) {
             return Ok(());
@@ -65,7 +65,7 @@ impl KnownApplications {
 
     /// The name with its owners where it is held. Where it is not, it is a text of its own, which is held from then on if
     /// there is room.
-    pub(crate) fn shared(&mut self, alloc: Global, name: &[u8]) -> Result<SharedText, NoMemory>
+    pub(crate) fn share(&mut self, alloc: Global, name: &[u8]) -> Result<SharedText, NoMemory>
         ensures { IfOk result (λ shared. shared ≡ name.now) }
     {
         if let Some(known) = self.find(name) {

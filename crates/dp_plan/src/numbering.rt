@@ -140,7 +140,7 @@ fn read_labelled(text: &[u8]) -> Result<Numbering<'_>, PlanKind>
 #[inline(always)]
 fn number_alone(number: u64) -> Result<Numbering<'static>, PlanKind>
     ensures { Answers spec.numbering_now (λ kind. Some kind) result
-        (spec.unlabelled (spec.written_number (Some number))) }
+        (spec.without_label (spec.written_number (Some number))) }
 {
     let written = written_number(number)?;
     Ok(Numbering {

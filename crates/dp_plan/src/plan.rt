@@ -5,7 +5,7 @@ ghost use Rattle.std.specs.Option.{option_copied};
 ghost use Rattle.dp_conf.specs.Answers.{Answers};
 ghost use Rattle.dp_plan.specs.Contexts.{AreNamed};
 ghost use Rattle.dp_plan.specs.Faults.{reason_of};
-ghost use Rattle.dp_plan.specs.Loaded.{IsLoaded, loaded};
+ghost use Rattle.dp_plan.specs.Loaded.{IsLoaded, plan_and_notes};
 ghost use Rattle.dp_plan.specs.Plan.{PlanOf};
 ghost use Rattle.dp_plan.specs.Ranking.{AreRanked, AreApart};
 ghost use Rattle.dp_plan.specs.declared.note.Note.{Note};
@@ -13,8 +13,8 @@ ghost use Rattle.dp_plan.specs.declared.note.Note.{Note};
 use crate::context::Context;
 use crate::entry::{Entry, EntryId};
 use crate::fault::LoadFault;
-use crate::loading::read_draft;
 use crate::note::Note;
+use crate::plan_loading::read_draft;
 use crate::ranking::Ranking;
 use crate::shared_text::SharedText;
 use dp_conf::{ShallowText, Text};
@@ -72,7 +72,7 @@ impl Model for Dialplan {
 
 /// The parts of a dialplan beside its rankings.
 #[derive(Drop)]
-pub(crate) struct Parts {
+pub(crate) struct PlanParts {
     pub(crate) globals: Vec<GlobalVariable>,
     pub(crate) names: IndexSet<SharedText>,
     pub(crate) contexts: Vec<Context>,
@@ -86,7 +86,7 @@ impl Dialplan {
     /// A fault of the text is answered first, as `LoadFault::Conf`; then the fault of the first faulty line of a
     /// context or of the global variables, as `LoadFault::Plan`.
     pub fn load(alloc: Global, text: &[u8]) -> Result<(Self, Vec<Note>), LoadFault>
-        ensures { Answers (λ read. (read.0, read.1.items)) reason_of result (loaded text.now) }
+        ensures { Answers (λ read. (read.0, read.1.items)) reason_of result (plan_and_notes text.now) }
     {
         let draft = read_draft(alloc, text)?;
         let read = draft.into_plan(alloc)?;
@@ -94,7 +94,7 @@ impl Dialplan {
     }
 
     /// The dialplan of these parts.
-    pub(crate) fn of_parts(parts: Parts, rankings: Vec<Ranking>) -> Self
+    pub(crate) fn of_parts(parts: PlanParts, rankings: Vec<Ranking>) -> Self
         requires names { parts.names.keys ≡ map (λ context. context.name) parts.contexts.items }
         requires ranked { AreRanked parts.contexts.items rankings.items }
         requires named { All (λ context. AreNamed context.entries) parts.contexts.items }
@@ -102,7 +102,7 @@ impl Dialplan {
         requires loaded { IsLoaded (record { globals = parts.globals.items; contexts = parts.contexts.items }) }
         ensures { result ≡ record { globals = parts.globals.items; contexts = parts.contexts.items } }
     {
-        let Parts {
+        let PlanParts {
             globals,
             names,
             contexts,
@@ -217,7 +217,7 @@ impl Dialplan {
 /// and no two of a context have the same name and priority.
 pub fn show_loaded_entries_known()
     ensures named { (text : List ℕ) (plan : PlanOf) (notes : List Note) → EachIndex text (λ k. slice_index text k < 256)
-        → loaded text ≡ Ok (plan, notes) → All (λ context. AreNamed context.entries) plan.contexts }
-    ensures apart { (text : List ℕ) (plan : PlanOf) (notes : List Note) → loaded text ≡ Ok (plan, notes)
+        → plan_and_notes text ≡ Ok (plan, notes) → All (λ context. AreNamed context.entries) plan.contexts }
+    ensures apart { (text : List ℕ) (plan : PlanOf) (notes : List Note) → plan_and_notes text ≡ Ok (plan, notes)
         → All (λ context. AreApart context.entries) plan.contexts }
 {}

@@ -1,100 +1,100 @@
-//! What the lines so far leave for the next one.
-ghost use Rattle.std.specs.Prelude.{◌≡◌, IfOk, OnOk, Some};
-ghost use Rattle.std.specs.Option.{option_copied};
+//! What the lines so far leave for the next ones.
+ghost use Rattle.std.specs.Prelude.{◌≡◌, ◌<◌, [], length, IfOk, IfSome, OnOk};
+ghost use Rattle.dp_plan.specs.Extensions.{extension_of};
+ghost use Rattle.dp_plan.specs.steps.Open.{IsLast};
 ghost use Rattle.dp_plan.specs.steps.Reader as spec;
+ghost use Rattle.dp_plan.specs.steps.Table.{HasNumber, number_in, priority_at};
+ghost use Rattle.indexmap.specs.IndexMap.{set_value_at};
 
 use crate::context_name::ContextName;
-use crate::entry::Entry;
-use crate::extensions::Extensions;
+use crate::extension::Extension;
 use crate::known_applications::KnownApplications;
 use crate::priority::Priority;
-use crate::section::Section;
+use crate::section::OpenContext;
 use crate::shared_name::SharedName;
 use crate::shared_text::SharedText;
 use dp_conf::NoMemory;
+use indexmap::IndexMap;
 use std::alloc::Global;
 use std::marker::Model;
 
-/// The section of the next line, the name of the last extension since its header, which is that of the last line, and the
-/// extensions with their last priorities. Beside them stand the names of applications that the lines so far have written,
-/// of which a contract sees nothing.
+/// Each extension with its last priority, in the order of first appearance, in which they are numbered. Beside them stand the
+/// names of applications that the lines so far have written, of which a contract sees nothing.
 #[derive(Drop)]
 pub(crate) struct Reader {
-    section: Section,
-    name: Option<SharedName>,
-    extensions: Extensions,
+    extensions: IndexMap<Extension, Priority>,
     applications: KnownApplications,
 }
 
 impl Model for Reader {
-    ghost use Rattle.dp_plan.specs.steps.Reader.{Reading, NamesLast};
+    ghost use Rattle.dp_plan.specs.steps.Table.{Table};
 
-    ghost Value = { Reading };
+    ghost Value = { Table };
 
-    ghost view = { λ reader. record {
-      section = reader.section;
-      name = reader.name;
-      extensions = reader.extensions;
-    } };
+    ghost view = { λ reader. reader.extensions.entries };
+}
 
-    ghost invariant = { λ reader. NamesLast reader.name reader.extensions };
+/// The number of an extension in four bytes. A table of 2^32 extensions or more is refused as want of memory, which is a
+/// choice of this program.
+fn short_number(number: usize) -> Result<u32, NoMemory>
+    ensures { IfOk result (λ short. short ≡ number) }
+{
+    match u32::try_from(number) {
+        Ok(short) => Ok(short),
+        Err(_) => Err(NoMemory),
+    }
 }
 
 impl Reader {
     /// Before the first line.
     pub(crate) fn new(alloc: Global) -> Self
-        ensures { result ≡ spec.unread }
+        ensures { result ≡ [] }
     {
         Reader {
-            section: Section::General,
-            name: None,
-            extensions: Extensions::new(alloc),
+            extensions: IndexMap::new(alloc),
             applications: KnownApplications::new(alloc),
         }
     }
 
-    /// The section of the next line.
-    pub(crate) fn section(&self) -> &Section
-        ensures { result.now ≡ self.now.section }
-    {
-        &self.section
-    }
-
-    /// The name of the last extension since the section's header.
-    pub(crate) fn name(&self) -> Option<&SharedName>
-        ensures { option_copied result ≡ self.now.name }
-    {
-        self.name.as_ref()
-    }
-
-    /// The number of the extension of the last entry's line.
-    pub(crate) fn extension(&self) -> u32
-        ensures { result ≡ self.now.extensions.last }
-    {
-        self.extensions.last()
-    }
-
-    /// The priority of the last line of the extension, also where that line is dropped.
-    pub(crate) fn last_priority(
+    /// The number of the extension of the name in the context, where it has one, by the table.
+    pub(crate) fn find(
         &self,
         context: &ContextName,
         name: &SharedName,
-    ) -> Result<Option<Priority>, NoMemory>
-        ensures { IfOk result (λ last. last ≡ spec.last_priority self.now context.now name.now) }
+    ) -> Result<Option<u32>, NoMemory>
+        ensures number { IfOk result (λ number. IfSome number (HasNumber self.now (extension_of context.now name.now))) }
+        ensures last { IfOk result (λ number. priority_at self.now number ≡ spec.last_priority self.now context.now name.now) }
     {
-        self.extensions.priority(context, name)
+        let extension = Extension::of(context, name)?;
+        match self.extensions.get_index_of(&extension) {
+            Some(number) => {
+                let number = short_number(number)?;
+                Ok(Some(number))
+            }
+            None => Ok(None),
+        }
     }
 
-    /// The same, where the name is that of the last extension since the section's header. It is not compared.
-    pub(crate) fn last_priority_again(
-        &self,
-        context: &ContextName,
-        name: &SharedName,
-    ) -> Result<Option<Priority>, NoMemory>
-        requires { self.now.name ≡ Some name.now }
-        ensures { IfOk result (λ last. last ≡ spec.last_priority self.now context.now name.now) }
+    /// The number of the extension of the name, where that is the last one of the context. No table is asked.
+    #[tactic(auto, using(crate::proofs::TableLemmas::number_same))]
+    #[inline(always)]
+    pub(crate) fn number_of(&self, context: &OpenContext, name: &SharedName) -> Option<u32>
+        requires { IsLast self.now context.now }
+        ensures { IfSome result (HasNumber self.now (extension_of context.now.name name.now)) }
     {
-        self.extensions.priority_again(context, name)
+        match &context.last {
+            Some(last) if last.name.spelling() == name.spelling() => Some(last.number),
+            _ => None,
+        }
+    }
+
+    /// The last priority of the extension of the number, also where its line is dropped.
+    pub(crate) fn priority(&self, number: Option<u32>) -> Option<Priority>
+        ensures { result ≡ priority_at self.now number }
+    {
+        let number = number?;
+        let (_, priority) = self.extensions.get_index(number as usize)?;
+        Some(*priority)
     }
 
     /// The name of an application, which is held for the lines to come, or is held where a line before has written it so.
@@ -102,42 +102,56 @@ impl Reader {
         ensures ok { IfOk result (λ application. application ≡ name.now) }
         ensures same { self.new ≡ self.old }
     {
-        self.applications.shared(alloc, name)
+        self.applications.share(alloc, name)
     }
 
-    /// Goes after a header.
-    pub(crate) fn begin(&mut self, section: Section)
-        ensures { self.new ≡ spec.after_header self.old section }
-    {
-        self.section = section;
-        self.name = None;
-    }
-
-    /// Goes after the line of an entry that names its extension.
-    #[tactic(auto, using(crate::proofs::TableLemmas::names_last_written))]
+    /// Gives the extension of the number another priority.
     #[inline(always)]
-    pub(crate) fn go_after(&mut self, context: &ContextName, entry: &Entry) -> Result<(), NoMemory>
-        ensures { OnOk result (self.new ≡ spec.after_entry self.old context.now entry.now) }
+    fn rewrite(&mut self, number: u32, priority: Priority)
+        requires { number < length self.old }
+        ensures { self.new ≡ set_value_at self.old number priority }
     {
-        let name = entry.name.clone()?;
-        let _before = self.name.take();
-        self.extensions.write(context, &entry.name, entry.priority)?;
-        self.name = Some(name);
-        Ok(())
+        if let Some(written) = self.extensions.get_index_mut(number as usize) {
+            *written = priority;
+        }
     }
 
-    /// Goes after the line of an entry whose name is that of the last extension since the section's header. It is not
-    /// compared.
-    #[tactic(auto, using(crate::proofs::TableLemmas::names_last_written))]
+    /// Gives the extension of the name in the context another priority, by the table, and gives its number.
     #[inline(always)]
-    pub(crate) fn go_on(&mut self, context: &ContextName, entry: &Entry) -> Result<(), NoMemory>
-        requires { self.old.name ≡ Some entry.now.name }
-        ensures { OnOk result (self.new ≡ spec.after_entry self.old context.now entry.now) }
+    fn insert(
+        &mut self,
+        context: &ContextName,
+        name: &SharedName,
+        priority: Priority,
+    ) -> Result<u32, NoMemory>
+        ensures written { OnOk result (self.new ≡ spec.with_priority self.old context.now name.now priority) }
+        ensures number { IfOk result (λ number. number ≡ number_in self.old (extension_of context.now name.now)) }
     {
-        let name = self.name.take();
-        self.extensions
-            .write_again(context, &entry.name, entry.priority)?;
-        self.name = name;
-        Ok(())
+        let extension = Extension::of(context, name)?;
+        let (number, _) = self.extensions.insert_full(extension, priority)?;
+        short_number(number)
+    }
+
+    /// Gives the extension of the name in the context another priority, and gives its number, which may be known.
+    #[tactic(auto, using(crate::proofs::TableLemmas::number_within, crate::proofs::TableLemmas::written_at))]
+    #[inline(always)]
+    pub(crate) fn write(
+        &mut self,
+        context: &ContextName,
+        name: &SharedName,
+        number: Option<u32>,
+        priority: Priority,
+    ) -> Result<u32, NoMemory>
+        requires { IfSome number (HasNumber self.old (extension_of context.now name.now)) }
+        ensures written { OnOk result (self.new ≡ spec.with_priority self.old context.now name.now priority) }
+        ensures number { IfOk result (λ number. number ≡ number_in self.old (extension_of context.now name.now)) }
+    {
+        match number {
+            Some(number) => {
+                self.rewrite(number, priority);
+                Ok(number)
+            }
+            None => self.insert(context, name, priority),
+        }
     }
 }

@@ -29,7 +29,7 @@ fn is_named(names: &IndexSet<SharedText>, name: &Text) -> bool
 
 /// The note of a remark, where it comes to one.
 fn note_of(names: &IndexSet<SharedText>, remark: &Remark) -> Option<Note>
-    ensures { option_to_list result ≡ spec.settled names.now.keys remark.now }
+    ensures { option_to_list result ≡ spec.remark_notes names.now.keys remark.now }
 {
     match remark {
         Remark::Noted(note) => Some(*note),
@@ -57,7 +57,7 @@ pub(crate) fn settle(
     names: &IndexSet<SharedText>,
     remarks: &[Remark],
 ) -> Result<Vec<Note>, NoMemory>
-    ensures { IfOk result (λ notes. notes.items ≡ flat_map (spec.settled names.now.keys) remarks.now) }
+    ensures { IfOk result (λ notes. notes.items ≡ flat_map (spec.remark_notes names.now.keys) remarks.now) }
 {
     let mut notes = Vec::new(alloc);
     for remark in remarks {

@@ -3,6 +3,7 @@ ghost use Rattle.std.specs.Prelude.{◌≡◌, IfOk};
 ghost use Rattle.dp_plan.specs.Items.{section_named};
 
 use crate::context_name::ContextName;
+use crate::shared_name::SharedName;
 use dp_conf::{NoMemory, same_word};
 use std::alloc::Global;
 
@@ -19,7 +20,7 @@ pub(crate) enum Section {
 
 impl Section {
     /// The section of a header, by its name: `general` and `globals` in any case are none of the contexts.
-    pub(crate) fn named(alloc: Global, name: &[u8]) -> Result<Self, NoMemory>
+    pub(crate) fn of_name(alloc: Global, name: &[u8]) -> Result<Self, NoMemory>
         ensures { IfOk result (λ section. section ≡ section_named name.now) }
     {
         if same_word(name, b"general") {
@@ -31,4 +32,27 @@ impl Section {
         let name = ContextName::copy_of(alloc, name)?;
         Ok(Section::Context(name))
     }
+}
+
+/// The extension of the last entry's line: its name, and its number among all extensions.
+#[derive(Drop)]
+pub(crate) struct LastExtension {
+    pub(crate) name: SharedName,
+    pub(crate) number: u32,
+}
+
+/// A context whose section is open: its name, its place among those of the draft, and the last extension since its header.
+#[derive(Drop)]
+pub(crate) struct OpenContext {
+    pub(crate) name: ContextName,
+    pub(crate) place: usize,
+    pub(crate) last: Option<LastExtension>,
+}
+
+/// The section to which the next line belongs.
+#[derive(Drop)]
+pub(crate) enum OpenSection {
+    Settings,
+    Variables,
+    Entries(OpenContext),
 }

@@ -128,13 +128,6 @@ impl SharedSpelling {
         Ok(SharedSpelling { name })
     }
 
-    /// Whether it is the spelling of the name.
-    pub(crate) fn is_of(&self, name: &SharedName) -> bool
-        ensures { result ≡ pointwise nat_eq (spelling name.now) self.now }
-    {
-        name.spelling() == self.bytes()
-    }
-
     /// The bytes of the spelling.
     fn bytes(&self) -> &[u8]
         ensures { result.now ≡ self.now }

@@ -2,10 +2,10 @@
 use crate::plan::orders::ORDERS;
 use crate::plan::render::shown_plan;
 use crate::plan::{tables_of_parts, tables_of_texts};
+use dp_case_tables::{Question, bytes_of, check};
 use dp_conf::{NoMemory, escape};
 use dp_lister::list;
 use dp_plan::{Dialplan, Note, NoteKind};
-use dp_questions::{Question, bytes_of, check};
 use std::alloc::Global;
 use std::process::Abort;
 use std::test::Fail;
@@ -145,11 +145,11 @@ struct Escapes;
 impl Question for Escapes {
     fn answer(alloc: Global, asked: &str) -> Result<String, Fail> {
         let text = bytes_of(alloc, asked)?;
-        escaped(alloc, &text)
+        escape_text(alloc, &text)
     }
 }
 
-fn escaped(alloc: Global, text: &[u8]) -> Result<String, Fail> {
+fn escape_text(alloc: Global, text: &[u8]) -> Result<String, Fail> {
     let line = escape(alloc, text)?;
     characters(alloc, &line)
 }

@@ -15,7 +15,7 @@ pub(crate) mod rows;
 
 use crate::plan::cuts::Fronts;
 use crate::plan::render::Loads;
-use dp_questions::{check, check_all};
+use dp_case_tables::{check, check_all};
 use std::alloc::Global;
 use std::test::Fail;
 

@@ -1,6 +1,6 @@
 //! The readers of a loaded dialplan, and priorities.
+use dp_case_tables::{Question, bytes_of, check, text_of};
 use dp_plan::{Context, Dialplan, Entry, EntryId, MOST_PRIORITY, NoMemory, Note, Priority, Text};
-use dp_questions::{Question, bytes_of, check, text_of};
 use std::alloc::Global;
 use std::test::Fail;
 

@@ -6,7 +6,7 @@ use Rattle.std.specs.Io.KnownBytes.{Appends}
 use Rattle.dp_conf.specs.Answers.{Refuses, ◌>>=◌}
 use Rattle.dp_conf.specs.Fronts.{AppendsFront, IsFront}
 use Rattle.dp_conf.proofs.ToldLemmas.{AppendsFront-more, IsFront-append, IsFront-trans}
-use Rattle.dp_plan.specs.Loaded.{loaded}
+use Rattle.dp_plan.specs.Loaded.{plan_and_notes}
 use Rattle.dp_plan.specs.declared.fault.LoadFault.{LoadFault}
 use Rattle.dp_commands.specs.Faults.{fault_of_load, reason_of}
 use Rattle.dp_commands.specs.Report.{Reports, check_explained_of, check_of}
@@ -70,8 +70,8 @@ both_by (Err load) said queues NoMemory refused = tt
 both_refused_by : (explains : Bool) (path plan queues : List ℕ) (fault : PbxFault) → Refuses (reason_of fault) (after_plan plan (queues_report queues))
     → Refuses (reason_of fault) (both_report explains path plan queues)
 unfolding check_of check_explained_of
-both_refused_by true path plan queues fault refused = both_by (loaded plan) _ (queues_report queues) fault refused
-both_refused_by false path plan queues fault refused = both_by (loaded plan) _ (queues_report queues) fault refused
+both_refused_by true path plan queues fault refused = both_by (plan_and_notes plan) _ (queues_report queues) fault refused
+both_refused_by false path plan queues fault refused = both_by (plan_and_notes plan) _ (queues_report queues) fault refused
 
 pub both_refused : (old : Option (List ℕ)) (explains : Bool) (path plan queues : List ℕ) (fault : PbxFault) → Refuses (reason_of fault) (after_plan plan (queues_report queues))
     → Reports old old (both_report explains path plan queues) (Err fault)

@@ -2,7 +2,7 @@
 use Rattle.std.proofs.Common.{◌≡◌, ℕ, Bool, true, false, List, Option, Result, Ok, Err, refl, ap}
 use Rattle.std.proofs.KnownBytes.{Appends-nil}
 use Rattle.dp_conf.specs.Answers.{Refuses, ◌>>=◌}
-use Rattle.dp_plan.specs.Loaded.{loaded}
+use Rattle.dp_plan.specs.Loaded.{plan_and_notes}
 use Rattle.dp_plan.specs.declared.fault.LoadFault.{LoadFault}
 use Rattle.dp_commands.specs.Audit.{WritesAudit, audit_of}
 use Rattle.dp_commands.specs.Candidates.{match_all_of}
@@ -30,12 +30,12 @@ same_refused (Err load) next other NoMemory refused = tt
 pub audit_hint_refused : (old : Option (List ℕ)) (file plan : List ℕ) (fault : PbxFault) → Refuses (reason_of fault) (audit_hint_of file plan) → WritesAudit old old (audit_of plan) (Err fault)
 unfolding audit_of audit_hint_of
 audit_hint_refused old file plan fault refused =
-    by_reason (λ fault given. WritesAudit old old given (Err fault)) (λ code line. (Appends-nil old, refl)) (audits_lacks old) fault (audit_of plan) (same_refused (loaded plan) _ _ fault refused)
+    by_reason (λ fault given. WritesAudit old old given (Err fault)) (λ code line. (Appends-nil old, refl)) (audits_lacks old) fault (audit_of plan) (same_refused (plan_and_notes plan) _ _ fault refused)
 
 look_up_refused_by : (lookup : LookupOf) (all explains : Bool) (plan : List ℕ) (fault : PbxFault) → Refuses (reason_of fault) (match_hint_of lookup explains plan) → Refuses (reason_of fault) (look_up lookup all plan)
 unfolding match_of match_all_of match_hint_of
-look_up_refused_by lookup false explains plan fault refused = same_refused (loaded plan) _ _ fault refused
-look_up_refused_by lookup true explains plan fault refused = same_refused (loaded plan) _ _ fault refused
+look_up_refused_by lookup false explains plan fault refused = same_refused (plan_and_notes plan) _ _ fault refused
+look_up_refused_by lookup true explains plan fault refused = same_refused (plan_and_notes plan) _ _ fault refused
 
 pub match_hint_refused : (old : Option (List ℕ)) (lookup : LookupOf) (all explains : Bool) (plan : List ℕ) (fault : PbxFault)
     → Refuses (reason_of fault) (match_hint_of lookup explains plan) → Reports old old (look_up lookup all plan) (Err fault)

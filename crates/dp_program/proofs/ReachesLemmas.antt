@@ -10,7 +10,7 @@ use Rattle.dp_commands.specs.Run.{Files, files_of}
 use Rattle.dp_commands.specs.declared.fault.Code.TheVariants.{WriteFailed}
 use Rattle.dp_commands.specs.declared.fault.PbxFault.{PbxFault}
 use Rattle.dp_commands.specs.declared.fault.PbxFault.TheVariants.{Coded, NoMemory}
-use Rattle.dp_program.specs.Faulted.{StandsIn, place_of, place_unread, unplaced, unread_fault, unread_place}
+use Rattle.dp_program.specs.Faulted.{StandsIn, place_of, place_unread, without_place, unread_fault, unread_place}
 use Rattle.dp_program.specs.Files.{Reads, Source}
 use Rattle.dp_program.specs.Reaches.{IsAnswered, Reaches, ReachesFiles, place_of_files, place_over}
 use Rattle.dp_program.specs.Requests.{QuestionOf}
@@ -42,7 +42,7 @@ reaches_failed question explains old new given files text status hint is answere
 -- what a question writes and answers, by what reading its files came to
 abbrev Reached : QuestionOf → Bool → Option (List ℕ) → Option (List ℕ) → Result Served Faulted → Option (List ℕ) → Result (List ℕ) PbxFault → Option (Result (List ℕ) PbxFault) → Type 0
 Reached question explains old new answered named plan queues =
-    Reaches question explains (plan >>= λ plan. some_text queues >>= λ queues. files_of plan queues) old new (unplaced answered)
+    Reaches question explains (plan >>= λ plan. some_text queues >>= λ queues. files_of plan queues) old new (without_place answered)
     × StandsIn (place_of_files question.file named plan queues) answered
 
 -- where its dialplan is refused
@@ -106,24 +106,24 @@ some_read (Ok t) held is = (t, refl, (let same : held ≡ Some t = cc in same))
 some_read (Err fault) held is = absurd cc
 
 read_queues : (files : List ℕ → Source) (question : QuestionOf) (explains : Bool) (old new : Option (List ℕ)) (read : List ℕ) (held : Option (List ℕ)) (answered : Result Served Faulted) (named : Option (List ℕ))
-    → Reaches question explains (files_of read held) old new (unplaced answered) → StandsIn (place_over question.file named read held) answered
+    → Reaches question explains (files_of read held) old new (without_place answered) → StandsIn (place_over question.file named read held) answered
     → ReadsSome (option_map files named) (λ text. some_text text ≡ Ok held)
     → ReadsSome (option_map files named) (Reached question explains old new answered named (Ok read))
 read_queues files question explains old new read held answered None reaches stands is =
     let none : held ≡ None = cc in
-    (subst (λ (held : Option (List ℕ)). Reaches question explains (files_of read held) old new (unplaced answered)) none reaches, stands)
+    (subst (λ (held : Option (List ℕ)). Reaches question explains (files_of read held) old new (without_place answered)) none reaches, stands)
 read_queues files question explains old new read held answered (Some path) reaches stands reads =
     Reads-weaker (λ text. some_text (Some text) ≡ Ok held) (λ text. Reached question explains old new answered (Some path) (Ok read) (Some text))
     (λ text is.
     let t = some_read text held is in
     subst (λ (text : Result (List ℕ) PbxFault). Reached question explains old new answered (Some path) (Ok read) (Some text)) (sym t.1) (
-      subst (λ (held : Option (List ℕ)). Reaches question explains (files_of read held) old new (unplaced answered)) t.2 reaches,
+      subst (λ (held : Option (List ℕ)). Reaches question explains (files_of read held) old new (without_place answered)) t.2 reaches,
       subst (λ (held : Option (List ℕ)). StandsIn (place_over question.file (Some path) read held) answered) t.2 stands,
     )) reads
 
 pub reach_read : (files : List ℕ → Source) (question : QuestionOf) (explains : Bool) (old new : Option (List ℕ)) (read : List ℕ) (held : Option (List ℕ))
     (result : Result Served PbxFault) (answered : Result Served Faulted) → Reads (files question.file) (λ text. text ≡ Ok read)
-    → ReadsSome (option_map files question.queues) (λ text. some_text text ≡ Ok held) → unplaced answered ≡ result
+    → ReadsSome (option_map files question.queues) (λ text. some_text text ≡ Ok held) → without_place answered ≡ result
     → Reaches question explains (files_of read held) old new result → StandsIn (place_over question.file question.queues read held) answered
     → ReachesFiles files question explains old new answered
 reach_read files question explains old new read held result answered is reads same reaches stands =

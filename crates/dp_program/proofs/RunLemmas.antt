@@ -3,15 +3,15 @@ use Rattle.std.proofs.Common.{◌≡◌, ℕ, ◌+◌, false, List, [], ◌∷�
 use Rattle.dp_conf.specs.Answers.{◌>>=◌, all_of, each_after, with_front}
 use Rattle.dp_conf.specs.Lines.{parts_of}
 use Rattle.dp_conf.specs.declared.fault.ConfFault.TheVariants.{At, NoMemory as conf_no_memory}
-use Rattle.dp_plan.specs.Loaded.{loaded}
+use Rattle.dp_plan.specs.Loaded.{plan_and_notes}
 use Rattle.dp_plan.specs.declared.fault.LoadFault.{LoadFault}
 use Rattle.dp_plan.specs.declared.fault.LoadFault.TheVariants.{Conf, Pattern, Plan, NoMemory as load_no_memory}
-use Rattle.dp_queue.specs.File.{loaded as queues_loaded}
+use Rattle.dp_queue.specs.File.{queues_in as queues_loaded}
 use Rattle.dp_queue.specs.declared.fault.QueueFault.{QueueFault}
 use Rattle.dp_queue.specs.declared.fault.QueueFault.TheVariants.{Conf as queue_conf, Queue, NoMemory as queue_no_memory}
 use Rattle.dp_machine.specs.World.{opening}
-use Rattle.dp_commands.specs.Run.{Files, Run, RunTexts, Writes, files_of, plan_fault, queue_fault, queues_of, run_of, run_on, all_texts_of}
-use Rattle.dp_commands.specs.Script.{line_of, numbered, reading_of, script_of, turns_of, words_of}
+use Rattle.dp_commands.specs.Run.{Files, Run, RunContents, Writes, contents_of, files_of, plan_fault, queue_fault, queues_of, run_of, run_on}
+use Rattle.dp_commands.specs.Script.{line_of, reading_at, reading_of, script_of, turns_of, words_of}
 use Rattle.dp_commands.specs.declared.fault.PbxFault.{PbxFault}
 use Rattle.dp_commands.specs.declared.fault.PbxFault.TheVariants.{Coded, NoMemory}
 use Rattle.dp_commands.specs.declared.script.ScriptLine.{ScriptLine}
@@ -42,7 +42,7 @@ queues_read : (text : Option (List ℕ)) → has_read_failed (queues_of text) �
 queues_read None = refl
 queues_read (Some text) = queue_reads (queues_loaded text)
 
-line_reads : (line : ℕ) (read : Option (List ScriptLine)) → has_read_failed (numbered line read) ≡ false
+line_reads : (line : ℕ) (read : Option (List ScriptLine)) → has_read_failed (reading_at line read) ≡ false
 line_reads line None = refl
 line_reads line (Some lines) = refl
 
@@ -61,21 +61,21 @@ script_reads second_plan text = lines_read second_plan [] (parts_of text)
 
 files_read : (plan : List ℕ) (queues : Option (List ℕ)) → has_read_failed (files_of plan queues) ≡ false
 files_read plan queues =
-    next_reads {Y = Files} (plan_fault (loaded plan)) (λ read. queues_of queues >>= λ held. Ok (record { plan = read.0; queues = held })) (plan_reads (loaded plan))
+    next_reads {Y = Files} (plan_fault (plan_and_notes plan)) (λ read. queues_of queues >>= λ held. Ok (record { plan = read.0; queues = held })) (plan_reads (plan_and_notes plan))
     (λ read. next_reads {Y = Files} (queues_of queues) (λ held. Ok (record { plan = read.0; queues = held })) (queues_read queues) (λ held. refl))
 
-told_reads : (plan : List ℕ) (queues second_plan : Option (List ℕ)) (script : List ℕ) → has_read_failed (all_texts_of plan queues second_plan script) ≡ false
+told_reads : (plan : List ℕ) (queues second_plan : Option (List ℕ)) (script : List ℕ) → has_read_failed (contents_of plan queues second_plan script) ≡ false
 told_reads plan queues second_plan script =
-    next_reads {Y = RunTexts} (files_of plan queues)
+    next_reads {Y = RunContents} (files_of plan queues)
     (λ files. script_of second_plan script >>= λ lines. Ok (record { plan = files.plan; queues = files.queues; lines = lines })) (files_read plan queues)
-    (λ files. next_reads {Y = RunTexts} (script_of second_plan script) (λ lines. Ok (record { plan = files.plan; queues = files.queues; lines = lines }))
+    (λ files. next_reads {Y = RunContents} (script_of second_plan script) (λ lines. Ok (record { plan = files.plan; queues = files.queues; lines = lines }))
     (script_reads second_plan script) (λ lines. refl))
 
 -- a run is none whose files were not read
 pub run_of_reads : (plan : List ℕ) (queues second_plan : Option (List ℕ)) (script : List ℕ) → has_read_failed (run_of plan queues second_plan script) ≡ false
 unfolding run_of
 run_of_reads plan queues second_plan script =
-    next_reads (all_texts_of plan queues second_plan script) (λ told. Ok (run_on (opening told.plan told.queues) (turns_of told.lines)))
+    next_reads (contents_of plan queues second_plan script) (λ told. Ok (run_on (opening told.plan told.queues) (turns_of told.lines)))
     (told_reads plan queues second_plan script) (λ told. refl)
 
 -- nor does it answer so

@@ -11,7 +11,7 @@ use Rattle.dp_commands.specs.Run.{Files, Run, Writes, files_of}
 use Rattle.dp_commands.specs.declared.fault.PbxFault.{PbxFault}
 use Rattle.dp_commands.specs.declared.fault.PbxFault.TheVariants.{Coded, NoMemory}
 use Rattle.dp_program.specs.Checks.{both_report}
-use Rattle.dp_program.specs.Faulted.{StandsIn, in_none, nowhere, place_by, place_in_file, place_in_files, place_in_two, place_of, place_of_report, place_of_run, place_of_two, place_unread, unplaced, unread_fault, unread_path, unread_place}
+use Rattle.dp_program.specs.Faulted.{StandsIn, in_none, nowhere, place_by, place_in_file, place_in_files, place_in_two, place_of, place_of_report, place_of_run, place_of_two, place_unread, without_place, unread_fault, unread_path, unread_place}
 use Rattle.dp_program.specs.Files.{Source, Reads}
 use Rattle.dp_program.specs.Hints.{Tells, audit_hint_of, match_hint_of, status_in}
 use Rattle.dp_program.specs.Reaches.{Reaches, place_of_files}
@@ -162,28 +162,28 @@ look_up_refused lookup file all explains old unread at reads =
 -- where it is read: what is reported on, and what the fault stands in, is the text that was read
 pub report_read : (path : List ℕ) (file : Source) (report : List ℕ → Result (List ℕ) PbxFault) (old new : Option (List ℕ)) (read given asked : List ℕ)
     → given ≡ read → asked ≡ read → (result : Result ℕ PbxFault) (answered : Result ℕ Faulted) → Reads file (λ text. text ≡ Ok read)
-    → unplaced answered ≡ result → Reports old new (report given) result → StandsIn (place_in_file path asked) answered
+    → without_place answered ≡ result → Reports old new (report given) result → StandsIn (place_in_file path asked) answered
     → ReportsOn path file report old new answered
 report_read path file report old new read given asked given-is asked-is result answered reads same reports stands =
-    Reads-weaker (λ text. text ≡ Ok read) (λ text. Reports old new (text >>= report) (unplaced answered) × StandsIn (place_of_report path text) answered)
-    (λ text is. subst (λ (text : Result (List ℕ) PbxFault). Reports old new (text >>= report) (unplaced answered) × StandsIn (place_of_report path text) answered) (sym is) (
+    Reads-weaker (λ text. text ≡ Ok read) (λ text. Reports old new (text >>= report) (without_place answered) × StandsIn (place_of_report path text) answered)
+    (λ text is. subst (λ (text : Result (List ℕ) PbxFault). Reports old new (text >>= report) (without_place answered) × StandsIn (place_of_report path text) answered) (sym is) (
       subst (λ result. Reports old new (report read) result) (sym same) (subst (λ (text : List ℕ). Reports old new (report text) result) given-is reports),
       subst (λ (text : List ℕ). StandsIn (place_in_file path text) answered) asked-is stands,
     )) reads
 
 -- the same, with what is told beside it
-tells_same : (hint : Result (List ℕ) PbxFault) (given : Result Served PbxFault) (answered : Result Served Faulted) → unplaced answered ≡ given → Tells hint given → Tells hint answered
+tells_same : (hint : Result (List ℕ) PbxFault) (given : Result Served PbxFault) (answered : Result Served Faulted) → without_place answered ≡ given → Tells hint given → Tells hint answered
 tells_same hint given (Ok served) same tells = subst (λ given. Tells hint given) (sym same) tells
 tells_same hint given (Err faulted) same tells = tt
 
 pub audit_read : (path : List ℕ) (file : Source) (old new : Option (List ℕ)) (read given asked : List ℕ)
     → given ≡ read → asked ≡ read → (result : Result Served PbxFault) (answered : Result Served Faulted) → Reads file (λ text. text ≡ Ok read)
-    → unplaced answered ≡ result → WritesAudit old new (audit_of given) (status_in result) → StandsIn (place_in_file path asked) answered
+    → without_place answered ≡ result → WritesAudit old new (audit_of given) (status_in result) → StandsIn (place_in_file path asked) answered
     → Tells (audit_hint_of path given) result → AuditsFile path file old new answered
 audit_read path file old new read given asked given-is asked-is result answered reads same audits stands tells =
     Reads-weaker (λ text. text ≡ Ok read)
-    (λ text. WritesAudit old new (text >>= audit_of) (status_in (unplaced answered)) × StandsIn (place_of_report path text) answered × Tells (text >>= audit_hint_of path) answered)
-    (λ text is. subst (λ (text : Result (List ℕ) PbxFault). WritesAudit old new (text >>= audit_of) (status_in (unplaced answered)) × StandsIn (place_of_report path text) answered × Tells (text >>= audit_hint_of path) answered) (sym is) (
+    (λ text. WritesAudit old new (text >>= audit_of) (status_in (without_place answered)) × StandsIn (place_of_report path text) answered × Tells (text >>= audit_hint_of path) answered)
+    (λ text is. subst (λ (text : Result (List ℕ) PbxFault). WritesAudit old new (text >>= audit_of) (status_in (without_place answered)) × StandsIn (place_of_report path text) answered × Tells (text >>= audit_hint_of path) answered) (sym is) (
       subst (λ result. WritesAudit old new (audit_of read) (status_in result)) (sym same) (subst (λ (text : List ℕ). WritesAudit old new (audit_of text) (status_in result)) given-is audits),
       subst (λ (text : List ℕ). StandsIn (place_in_file path text) answered) asked-is stands,
       tells_same (audit_hint_of path read) result answered same (subst (λ (text : List ℕ). Tells (audit_hint_of path text) result) given-is tells),
@@ -191,12 +191,12 @@ audit_read path file old new read given asked given-is asked-is result answered 
 
 pub look_up_read : (lookup : LookupOf) (file : Source) (all explains : Bool) (old new : Option (List ℕ)) (read given asked : List ℕ)
     → given ≡ read → asked ≡ read → (result : Result Served PbxFault) (answered : Result Served Faulted) → Reads file (λ text. text ≡ Ok read)
-    → unplaced answered ≡ result → Reports old new (look_up lookup all given) (status_in result) → StandsIn (place_in_file lookup.file asked) answered
+    → without_place answered ≡ result → Reports old new (look_up lookup all given) (status_in result) → StandsIn (place_in_file lookup.file asked) answered
     → Tells (match_hint_of lookup explains given) result → LooksUp lookup file all explains old new answered
 look_up_read lookup file all explains old new read given asked given-is asked-is result answered reads same reports stands tells =
     Reads-weaker (λ text. text ≡ Ok read)
-    (λ text. Reports old new (text >>= look_up lookup all) (status_in (unplaced answered)) × StandsIn (place_of_report lookup.file text) answered × Tells (text >>= match_hint_of lookup explains) answered)
-    (λ text is. subst (λ (text : Result (List ℕ) PbxFault). Reports old new (text >>= look_up lookup all) (status_in (unplaced answered)) × StandsIn (place_of_report lookup.file text) answered × Tells (text >>= match_hint_of lookup explains) answered) (sym is) (
+    (λ text. Reports old new (text >>= look_up lookup all) (status_in (without_place answered)) × StandsIn (place_of_report lookup.file text) answered × Tells (text >>= match_hint_of lookup explains) answered)
+    (λ text is. subst (λ (text : Result (List ℕ) PbxFault). Reports old new (text >>= look_up lookup all) (status_in (without_place answered)) × StandsIn (place_of_report lookup.file text) answered × Tells (text >>= match_hint_of lookup explains) answered) (sym is) (
       subst (λ result. Reports old new (look_up lookup all read) (status_in result)) (sym same) (subst (λ (text : List ℕ). Reports old new (look_up lookup all text) (status_in result)) given-is reports),
       subst (λ (text : List ℕ). StandsIn (place_in_file lookup.file text) answered) asked-is stands,
       tells_same (match_hint_of lookup explains read) result answered same (subst (λ (text : List ℕ). Tells (match_hint_of lookup explains text) result) given-is tells),
@@ -205,7 +205,7 @@ look_up_read lookup file all explains old new read given asked given-is asked-is
 -- what a check of two files writes and answers, by what reading them came to
 abbrev Checked : List ℕ → List ℕ → Bool → Option (List ℕ) → Option (List ℕ) → Result ℕ Faulted → Result (List ℕ) PbxFault → Result (List ℕ) PbxFault → Type 0
 Checked path queues_path explains old new answered plan queues =
-    Reports old new (plan >>= λ plan. queues >>= λ queues. both_report explains path plan queues) (unplaced answered)
+    Reports old new (plan >>= λ plan. queues >>= λ queues. both_report explains path plan queues) (without_place answered)
     × StandsIn (place_of_two path queues_path plan queues) answered
 
 -- where the dialplan of a check of both is refused
@@ -233,7 +233,7 @@ both_refused_queues files path queues_path explains old read unread at is reads 
 -- where both files are read
 pub both_read : (files : List ℕ → Source) (path queues_path : List ℕ) (explains : Bool) (old new : Option (List ℕ)) (read held : List ℕ)
     (result : Result ℕ PbxFault) (answered : Result ℕ Faulted) → Reads (files path) (λ text. text ≡ Ok read) → Reads (files queues_path) (λ text. text ≡ Ok held)
-    → unplaced answered ≡ result → Reports old new (both_report explains path read held) result → StandsIn (place_in_two (path, read) (queues_path, held)) answered
+    → without_place answered ≡ result → Reports old new (both_report explains path read held) result → StandsIn (place_in_two (path, read) (queues_path, held)) answered
     → ChecksBoth files path queues_path explains old new answered
 both_read files path queues_path explains old new read held result answered is are same reports stands =
     Reads-weaker (λ text. text ≡ Ok read) (λ plan. Reads (files queues_path) (Checked path queues_path explains old new answered plan))
@@ -265,21 +265,21 @@ debug_run_refused paths sources held old unread reads =
 
 -- where all files of a run are read
 pub run_read : (paths : OfRun (List ℕ)) (sources : OfRun Source) (threads : Option ℕ) (old new : Option (List ℕ)) (texts : OfRun (List ℕ))
-    (result : Result ℕ PbxFault) (answered : Result ℕ Faulted) → ReadsTexts sources (λ read. (all_texts read ≡ Ok texts) × Unit {0}) → unplaced answered ≡ result
+    (result : Result ℕ PbxFault) (answered : Result ℕ Faulted) → ReadsTexts sources (λ read. (all_texts read ≡ Ok texts) × Unit {0}) → without_place answered ≡ result
     → Runs threads old new (run_of_texts texts) result → StandsIn (place_in_files paths texts) answered → RunsFiles paths sources threads old new answered
 run_read paths sources threads old new texts result answered reads same runs stands =
     ReadsTexts-weaker sources (λ read. (all_texts read ≡ Ok texts) × Unit {0})
-    (λ read. Runs threads old new (all_texts read >>= run_of_texts) (unplaced answered) × StandsIn (place_of_run paths read) answered)
-    (λ read is. subst (λ (joined : Result (OfRun (List ℕ)) PbxFault). Runs threads old new (joined >>= run_of_texts) (unplaced answered) × StandsIn (place_by paths (unread_path paths read) joined) answered) (sym is.0)
+    (λ read. Runs threads old new (all_texts read >>= run_of_texts) (without_place answered) × StandsIn (place_of_run paths read) answered)
+    (λ read is. subst (λ (joined : Result (OfRun (List ℕ)) PbxFault). Runs threads old new (joined >>= run_of_texts) (without_place answered) × StandsIn (place_by paths (unread_path paths read) joined) answered) (sym is.0)
     (subst (λ result. Runs threads old new (run_of_texts texts) result) (sym same) runs, stands)) reads
 
 pub debug_run_read : (paths : OfRun (List ℕ)) (sources : OfRun Source) (held : List ℕ) (old new : Option (List ℕ)) (texts : OfRun (List ℕ))
-    (result : Result ℕ PbxFault) (answered : Result ℕ Faulted) → ReadsTexts sources (λ read. (all_texts read ≡ Ok texts) × Unit {0}) → unplaced answered ≡ result
+    (result : Result ℕ PbxFault) (answered : Result ℕ Faulted) → ReadsTexts sources (λ read. (all_texts read ≡ Ok texts) × Unit {0}) → without_place answered ≡ result
     → WritesDebug old new (debug_of_texts held texts) result → StandsIn (place_in_files paths texts) answered → DebugsFiles paths sources held old new answered
 debug_run_read paths sources held old new texts result answered reads same debugs stands =
     ReadsTexts-weaker sources (λ read. (all_texts read ≡ Ok texts) × Unit {0})
-    (λ read. WritesDebug old new (all_texts read >>= debug_of_texts held) (unplaced answered) × StandsIn (place_of_run paths read) answered)
-    (λ read is. subst (λ (joined : Result (OfRun (List ℕ)) PbxFault). WritesDebug old new (joined >>= debug_of_texts held) (unplaced answered) × StandsIn (place_by paths (unread_path paths read) joined) answered) (sym is.0)
+    (λ read. WritesDebug old new (all_texts read >>= debug_of_texts held) (without_place answered) × StandsIn (place_of_run paths read) answered)
+    (λ read is. subst (λ (joined : Result (OfRun (List ℕ)) PbxFault). WritesDebug old new (joined >>= debug_of_texts held) (without_place answered) × StandsIn (place_by paths (unread_path paths read) joined) answered) (sym is.0)
     (subst (λ result. WritesDebug old new (debug_of_texts held texts) result) (sym same) debugs, stands)) reads
 
 -- a request may find no memory before it does anything

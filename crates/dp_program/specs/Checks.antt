@@ -1,8 +1,8 @@
 -- What is reported of a dialplan, of a file of queues, and of both.
 use Rattle.std.specs.Prelude.{ℕ, Bool, List, ◌++◌, length, Result, Ok, codes, decimal, if◌then◌else◌}
 use Rattle.dp_conf.specs.Answers.{◌>>=◌}
-use Rattle.dp_plan.specs.Loaded.{loaded as loaded_plan}
-use Rattle.dp_queue.specs.File.{loaded}
+use Rattle.dp_plan.specs.Loaded.{plan_and_notes as loaded_plan}
+use Rattle.dp_queue.specs.File.{queues_in}
 use Rattle.dp_commands.specs.Report.{check_explained_of, check_of}
 use Rattle.dp_commands.specs.Run.{plan_fault, queue_fault}
 use Rattle.dp_commands.specs.declared.fault.PbxFault.{PbxFault}
@@ -17,7 +17,7 @@ queues_line count = codes "ok " ++ decimal count ++ codes " queues\n"
 
 -- what is reported of the text of a file of queues, or its fault
 unfoldable pub queues_report : List ℕ → Result (List ℕ) PbxFault
-queues_report text = queue_fault (loaded text) >>= λ queues. Ok (queues_line (length queues.queues))
+queues_report text = queue_fault (queues_in text) >>= λ queues. Ok (queues_line (length queues.queues))
 
 -- what is reported, and a line after it
 abbrev pub with_line : List ℕ → Result (List ℕ) PbxFault → Result (List ℕ) PbxFault

@@ -41,9 +41,9 @@ abbrev pub unread_fault : Unread → Faulted
 unread_fault unread = record { fault = unread.fault; place = place_unread unread unread.fault }
 
 -- what was answered, without the place of its fault
-abbrev pub unplaced : {X : Type 0} → Result X Faulted → Result X PbxFault
-unplaced (Ok x) = Ok x
-unplaced (Err faulted) = Err faulted.fault
+abbrev pub without_place : {X : Type 0} → Result X Faulted → Result X PbxFault
+without_place (Ok x) = Ok x
+without_place (Err faulted) = Err faulted.fault
 
 -- the fault that was answered, if one was, stands in this place
 abbrev pub StandsIn : {X : Type 0} → (PbxFault → PlaceOf) → Result X Faulted → Type 0

@@ -2,7 +2,7 @@
 use Rattle.std.specs.Prelude.{◌≡◌, ℕ, Bool, List, [], ◌++◌, ◌==◌, ◌&&◌, length, map, Option, Some, None, Result, Ok, Err, IfOk, codes, if◌then◌else◌}
 use Rattle.std.specs.List.{flat_map, list_all}
 use Rattle.dp_conf.specs.Answers.{◌>>=◌}
-use Rattle.dp_plan.specs.Loaded.{loaded}
+use Rattle.dp_plan.specs.Loaded.{plan_and_notes}
 use Rattle.dp_plan.specs.Lookup.{number_of}
 use Rattle.dp_plan.specs.Plan.{PlanOf}
 use Rattle.dp_commands.specs.Run.{plan_fault}
@@ -55,10 +55,10 @@ match_hint lookup explains plan =
 
 -- both by the dialplan's text, or its fault
 unfoldable pub audit_hint_of : List ℕ → List ℕ → Result (List ℕ) PbxFault
-audit_hint_of file plan = plan_fault (loaded plan) >>= λ read. Ok (audit_hint file read.0)
+audit_hint_of file plan = plan_fault (plan_and_notes plan) >>= λ read. Ok (audit_hint file read.0)
 
 unfoldable pub match_hint_of : LookupOf → Bool → List ℕ → Result (List ℕ) PbxFault
-match_hint_of lookup explains plan = plan_fault (loaded plan) >>= λ read. Ok (match_hint lookup explains read.0)
+match_hint_of lookup explains plan = plan_fault (plan_and_notes plan) >>= λ read. Ok (match_hint lookup explains read.0)
 
 -- what was answered, without what is told beside it
 abbrev pub status_in : {F : Type 0} → Result Served F → Result ℕ F

@@ -14,7 +14,7 @@ use Rattle.dp_commands.specs.Run.{Files, files_of}
 use Rattle.dp_commands.specs.declared.fault.Code.TheVariants.{WriteFailed}
 use Rattle.dp_commands.specs.declared.fault.PbxFault.{PbxFault}
 use Rattle.dp_commands.specs.declared.fault.PbxFault.TheVariants.{Coded, NoMemory}
-use Rattle.dp_program.specs.Faulted.{PlaceOf, StandsIn, place_in_file, place_in_two, place_of_report, place_of_two, unplaced}
+use Rattle.dp_program.specs.Faulted.{PlaceOf, StandsIn, place_in_file, place_in_two, place_of_report, place_of_two, without_place}
 use Rattle.dp_program.specs.Files.{Reads, Source}
 use Rattle.dp_program.specs.Hints.{bare_line, is_bare, lacking, name_told}
 use Rattle.dp_program.specs.Requests.{QuestionOf}
@@ -79,5 +79,5 @@ place_over path (Some queues_path) plan (Some queues) fault = place_in_two (path
 abbrev pub ReachesFiles : (List ℕ → Source) → QuestionOf → Bool → Option (List ℕ) → Option (List ℕ) → Result Served Faulted → Type 0
 ReachesFiles files question explains old new answered =
     Reads (files question.file) (λ plan. ReadsSome (option_map files question.queues) (λ queues.
-    Reaches question explains (plan >>= λ plan. some_text queues >>= λ queues. files_of plan queues) old new (unplaced answered)
+    Reaches question explains (plan >>= λ plan. some_text queues >>= λ queues. files_of plan queues) old new (without_place answered)
     × StandsIn (place_of_files question.file question.queues plan queues) answered))

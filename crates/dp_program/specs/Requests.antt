@@ -55,15 +55,15 @@ pub data RequestOf : Type 0 where
   reaching : QuestionOf → RequestOf
 
 -- what a request asks for
-abbrev pub asked : Request → RequestOf
-asked Joined = joined
-asked (Check file) = check file.now
-asked (CheckQueues queues) = check_queues queues.now
-asked (CheckBoth files) = check_both files.plan.now files.queues.now
-asked (Listing file) = listing file.now
-asked (Audit file) = auditing file.now
-asked (Match lookup all) = matching (lookup_of lookup) all
-asked (Explain fault) = explaining fault
-asked (Run files threads) = run (paths_of files) threads
-asked (Debug files held) = debug (paths_of files) held.now
-asked (Reach question) = reaching (question_of question)
+abbrev pub request_asked : Request → RequestOf
+request_asked Joined = joined
+request_asked (Check file) = check file.now
+request_asked (CheckQueues queues) = check_queues queues.now
+request_asked (CheckBoth files) = check_both files.plan.now files.queues.now
+request_asked (Listing file) = listing file.now
+request_asked (Audit file) = auditing file.now
+request_asked (Match lookup all) = matching (lookup_of lookup) all
+request_asked (Explain fault) = explaining fault
+request_asked (Run files threads) = run (paths_of files) threads
+request_asked (Debug files held) = debug (paths_of files) held.now
+request_asked (Reach question) = reaching (question_of question)

@@ -12,7 +12,7 @@ use Rattle.dp_commands.specs.Threads.{Shares}
 use Rattle.dp_commands.specs.declared.fault.PbxFault.{PbxFault}
 use Rattle.dp_program.specs.Checks.{both_report, check_by, queues_report}
 use Rattle.dp_program.specs.Entries.{entry_of}
-use Rattle.dp_program.specs.Faulted.{StandsIn, in_none, place_of_report, place_of_run, place_of_two, unplaced}
+use Rattle.dp_program.specs.Faulted.{StandsIn, in_none, place_of_report, place_of_run, place_of_two, without_place}
 use Rattle.dp_program.specs.Files.{Source, Reads, has_read_failed}
 use Rattle.dp_program.specs.Hints.{Tells, TellsNothing, audit_hint_of, match_hint_of, status_in}
 use Rattle.dp_program.specs.Reaches.{ReachesFiles}
@@ -24,12 +24,12 @@ use Rattle.dp_program.specs.declared.hints.Served.{Served}
 -- what a report on the text of the file of a path writes and answers, and where its fault stands
 abbrev pub ReportsOn : List ℕ → Source → (List ℕ → Result (List ℕ) PbxFault) → Option (List ℕ) → Option (List ℕ) → Result ℕ Faulted → Type 0
 ReportsOn path file report old new answered =
-    Reads file (λ text. Reports old new (text >>= report) (unplaced answered) × StandsIn (place_of_report path text) answered)
+    Reads file (λ text. Reports old new (text >>= report) (without_place answered) × StandsIn (place_of_report path text) answered)
 
 -- the same of an audit of the dialplan of a file, and what is told beside it
 abbrev pub AuditsFile : List ℕ → Source → Option (List ℕ) → Option (List ℕ) → Result Served Faulted → Type 0
 AuditsFile path file old new answered =
-    Reads file (λ text. WritesAudit old new (text >>= audit_of) (status_in (unplaced answered)) × StandsIn (place_of_report path text) answered
+    Reads file (λ text. WritesAudit old new (text >>= audit_of) (status_in (without_place answered)) × StandsIn (place_of_report path text) answered
     × Tells (text >>= audit_hint_of path) answered)
 
 -- what a run of a joined text writes and answers, but for where its fault stands
@@ -38,13 +38,13 @@ RunsInput input old new result = Reads input (λ text. Writes old new (text >>= 
 
 -- the same; its fault stands in no file
 abbrev pub RunsJoined : Source → Option (List ℕ) → Option (List ℕ) → Result ℕ Faulted → Type 0
-RunsJoined input old new answered = RunsInput input old new (unplaced answered) × StandsIn (λ _. in_none) answered
+RunsJoined input old new answered = RunsInput input old new (without_place answered) × StandsIn (λ _. in_none) answered
 
 -- what a check of the dialplan of a path and of the queues of another writes and answers, and where its fault stands
 abbrev pub ChecksBoth : (List ℕ → Source) → List ℕ → List ℕ → Bool → Option (List ℕ) → Option (List ℕ) → Result ℕ Faulted → Type 0
 ChecksBoth files path queues_path explains old new answered =
     Reads (files path) (λ plan. Reads (files queues_path) (λ queues.
-    Reports old new (plan >>= λ plan. queues >>= λ queues. both_report explains path plan queues) (unplaced answered)
+    Reports old new (plan >>= λ plan. queues >>= λ queues. both_report explains path plan queues) (without_place answered)
     × StandsIn (place_of_two path queues_path plan queues) answered))
 
 -- the status of a run in threads that has some history
@@ -70,7 +70,7 @@ look_up lookup true plan = match_all_of plan lookup.context lookup.text lookup.p
 -- what a look-up in the dialplan of its file writes and answers, where its fault stands, and what is told beside it
 abbrev pub LooksUp : LookupOf → Source → Bool → Bool → Option (List ℕ) → Option (List ℕ) → Result Served Faulted → Type 0
 LooksUp lookup file all explains old new answered =
-    Reads file (λ text. Reports old new (text >>= look_up lookup all) (status_in (unplaced answered)) × StandsIn (place_of_report lookup.file text) answered
+    Reads file (λ text. Reports old new (text >>= look_up lookup all) (status_in (without_place answered)) × StandsIn (place_of_report lookup.file text) answered
     × Tells (text >>= match_hint_of lookup explains) answered)
 
 -- the run of the texts of its files
@@ -79,21 +79,21 @@ run_of_texts texts = run_of texts.plan texts.queues texts.second_plan texts.scri
 
 -- the same of a debugged run with the break of a text
 abbrev pub debug_of_texts : List ℕ → OfRun (List ℕ) → Result DebugRun PbxFault
-debug_of_texts held texts = debug_of texts.plan texts.queues texts.second_plan texts.script held
+debug_of_texts held texts = debug_of (run_of_texts texts) held
 
 -- what a run over the files of paths writes and answers, and where its fault stands
 abbrev pub RunsFiles : OfRun (List ℕ) → OfRun Source → Option ℕ → Option (List ℕ) → Option (List ℕ) → Result ℕ Faulted → Type 0
 RunsFiles paths sources threads old new answered =
-    ReadsTexts sources (λ read. Runs threads old new (all_texts read >>= run_of_texts) (unplaced answered) × StandsIn (place_of_run paths read) answered)
+    ReadsTexts sources (λ read. Runs threads old new (all_texts read >>= run_of_texts) (without_place answered) × StandsIn (place_of_run paths read) answered)
 
 -- the same of a debugged run
 abbrev pub DebugsFiles : OfRun (List ℕ) → OfRun Source → List ℕ → Option (List ℕ) → Option (List ℕ) → Result ℕ Faulted → Type 0
 DebugsFiles paths sources held old new answered =
-    ReadsTexts sources (λ read. WritesDebug old new (all_texts read >>= debug_of_texts held) (unplaced answered) × StandsIn (place_of_run paths read) answered)
+    ReadsTexts sources (λ read. WritesDebug old new (all_texts read >>= debug_of_texts held) (without_place answered) × StandsIn (place_of_run paths read) answered)
 
 -- what the entry of a fault writes and answers
 abbrev pub WritesEntry : ℕ → Option (List ℕ) → Option (List ℕ) → Result ℕ Faulted → Type 0
-WritesEntry fault old new answered = Reports old new (Ok (entry_of fault)) (unplaced answered) × StandsIn (λ _. in_none) answered
+WritesEntry fault old new answered = Reports old new (Ok (entry_of fault)) (without_place answered) × StandsIn (λ _. in_none) answered
 
 -- what a request writes and answers beside which nothing is told
 abbrev pub Quietly : (Result ℕ Faulted → Type 0) → Result Served Faulted → Type 0

@@ -5,10 +5,10 @@ ghost use Rattle.dp_commands.specs.Faults.{is_write_failed, is_write_fault, reas
 ghost use Rattle.dp_commands.specs.Report.{Reports};
 ghost use Rattle.dp_commands.specs.declared.fault.PbxFault.{PbxFault};
 ghost use Rattle.dp_program.specs.Checks as spec;
-ghost use Rattle.dp_program.specs.Faulted.{unplaced};
+ghost use Rattle.dp_program.specs.Faulted.{without_place};
 ghost use Rattle.dp_program.specs.Serves.{ChecksBoth, ReportsOn};
 
-use crate::faulted::{Faulted, placed, placed_in_two};
+use crate::faulted::{Faulted, placed_in_two, with_place};
 use crate::files::ReadFiles;
 use crate::request::CheckFiles;
 use crate::texts::{FileText, read_text};
@@ -48,10 +48,10 @@ pub(crate) fn serve_check<'a, F: ReadFiles, W: WriteTold>(
 ) -> Result<u8, Faulted<'a>>
     ensures serves { ReportsOn file.now (F.source_at files.now file.now) (spec.check_by explains file.now)
         (W.contents output.old) (W.contents output.new) result }
-    ensures told { W.has_failed output.new ≡ (W.has_failed output.old || is_write_failed (unplaced result)) }
+    ensures told { W.has_failed output.new ≡ (W.has_failed output.old || is_write_failed (without_place result)) }
 {
     let plan = read_text(files, alloc, file)?;
-    placed(file, &plan, check_by(alloc, file, &plan, explains, output))
+    with_place(file, &plan, check_by(alloc, file, &plan, explains, output))
 }
 
 /// The line that so many queues were loaded.
@@ -96,10 +96,10 @@ pub(crate) fn serve_check_queues<'a, F: ReadFiles, W: WriteTold>(
 ) -> Result<u8, Faulted<'a>>
     ensures serves { ReportsOn file.now (F.source_at files.now file.now) spec.queues_report
         (W.contents output.old) (W.contents output.new) result }
-    ensures told { W.has_failed output.new ≡ (W.has_failed output.old || is_write_failed (unplaced result)) }
+    ensures told { W.has_failed output.new ≡ (W.has_failed output.old || is_write_failed (without_place result)) }
 {
     let queues = read_text(files, alloc, file)?;
-    placed(file, &queues, check_queues(alloc, &queues, output))
+    with_place(file, &queues, check_queues(alloc, &queues, output))
 }
 
 /// Reports on a dialplan, and then writes a line.
@@ -161,7 +161,7 @@ pub(crate) fn serve_check_both<'a, F: ReadFiles, W: WriteTold>(
 ) -> Result<u8, Faulted<'a>>
     ensures serves { ChecksBoth (F.source_at files.now) paths.now.plan.now paths.now.queues.now explains
         (W.contents output.old) (W.contents output.new) result }
-    ensures told { W.has_failed output.new ≡ (W.has_failed output.old || is_write_failed (unplaced result)) }
+    ensures told { W.has_failed output.new ≡ (W.has_failed output.old || is_write_failed (without_place result)) }
 {
     let plan = read_text(files, alloc, paths.plan)?;
     let queues = read_text(files, alloc, paths.queues)?;

@@ -89,12 +89,12 @@ fn place_in_file<'a>(path: &'a str, text: &[u8], fault: PbxFault) -> Place<'a>
 }
 
 /// What was answered over the text of a file, with the place of its fault.
-pub(crate) fn placed<'a, T>(
+pub(crate) fn with_place<'a, T>(
     path: &'a str,
     text: &[u8],
     answered: Result<T, PbxFault>,
 ) -> Result<T, Faulted<'a>>
-    ensures same { spec.unplaced result ≡ answered }
+    ensures same { spec.without_place result ≡ answered }
     ensures stands { spec.StandsIn (spec.place_in_file path.now text.now) result }
 {
     match answered {
@@ -143,7 +143,7 @@ pub(crate) fn placed_in_run<'a>(
     texts: &Texts,
     answered: Result<u8, PbxFault>,
 ) -> Result<u8, Faulted<'a>>
-    ensures same { spec.unplaced result ≡ answered }
+    ensures same { spec.without_place result ≡ answered }
     ensures stands { spec.StandsIn (spec.place_in_files (paths_of run.now) (texts_of texts.now)) result }
 {
     match answered {
@@ -183,7 +183,7 @@ pub(crate) fn placed_in_two<'a, T>(
     queues: &FileText<'a>,
     answered: Result<T, PbxFault>,
 ) -> Result<T, Faulted<'a>>
-    ensures same { spec.unplaced result ≡ answered }
+    ensures same { spec.without_place result ≡ answered }
     ensures stands { spec.StandsIn (spec.place_in_two (plan.now.path.now, plan.now.text.items)
         (queues.now.path.now, queues.now.text.items)) result }
 {
@@ -198,7 +198,7 @@ pub(crate) fn placed_in_two<'a, T>(
 
 /// What was answered where a fault stands in no file.
 pub(crate) fn placed_nowhere<'a>(answered: Result<u8, PbxFault>) -> Result<u8, Faulted<'a>>
-    ensures same { spec.unplaced result ≡ answered }
+    ensures same { spec.without_place result ≡ answered }
     ensures stands { spec.StandsIn (λ _. spec.in_none) result }
 {
     match answered {

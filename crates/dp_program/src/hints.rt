@@ -3,7 +3,7 @@ ghost use Rattle.std.specs.Prelude.{◌≡◌, ◌++◌, OnOk, IfOk, false};
 ghost use Rattle.dp_conf.specs.Answers.{Answers};
 ghost use Rattle.dp_commands.specs.Faults.{is_write_failed, reason_of};
 ghost use Rattle.dp_plan.specs.Lookup.{number_of};
-ghost use Rattle.dp_program.specs.Faulted.{unplaced};
+ghost use Rattle.dp_program.specs.Faulted.{without_place};
 ghost use Rattle.dp_program.specs.Files.{has_read_failed};
 ghost use Rattle.dp_program.specs.Hints as spec;
 ghost use Rattle.dp_program.specs.Requests.{lookup_of};
@@ -25,14 +25,14 @@ pub struct Served {
 }
 
 /// What was answered, with nothing told beside it.
-pub(crate) fn unhinted<'a>(
+pub(crate) fn without_hint<'a>(
     alloc: Global,
     answered: Result<u8, Faulted<'a>>,
 ) -> Result<Served, Faulted<'a>>
     ensures same { spec.status_in result ≡ answered.entry }
     ensures nothing { spec.TellsNothing result }
-    ensures told { is_write_failed (unplaced result) ≡ is_write_failed (unplaced answered.entry) }
-    ensures heard { has_read_failed (unplaced result) ≡ has_read_failed (unplaced answered.entry) }
+    ensures told { is_write_failed (without_place result) ≡ is_write_failed (without_place answered.entry) }
+    ensures heard { has_read_failed (without_place result) ≡ has_read_failed (without_place answered.entry) }
 {
     match answered {
         Ok(status) => Ok(Served {
@@ -104,7 +104,7 @@ fn push_near_lines(
 
 /// A dialplan with the path of its file, and whether names are told that are near to one that it lacks.
 #[derive(Clone, Copy)]
-pub(crate) struct Told<'a> {
+pub(crate) struct HintedPlan<'a> {
     pub(crate) file: &'a str,
     pub(crate) plan: &'a Dialplan,
     pub(crate) explains: bool,
@@ -114,7 +114,7 @@ pub(crate) struct Told<'a> {
 pub(crate) fn push_told(
     alloc: Global,
     hint: &mut Vec<u8>,
-    told: Told<'_>,
+    told: HintedPlan<'_>,
     name: &[u8],
 ) -> Result<(), NoMemory>
     ensures { OnOk result (hint.new.items ≡ hint.old.items ++ spec.name_told told.entry.file.now name.now told.entry.explains told.entry.plan.now
@@ -154,7 +154,7 @@ fn match_told(
     if is_bare(plan) {
         push_bare_line(&mut hint, lookup.file, lacking(plan))?;
     } else {
-        let told = Told {
+        let told = HintedPlan {
             file: lookup.file,
             plan,
             explains,

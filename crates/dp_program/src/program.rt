@@ -1,15 +1,15 @@
 //! What a request does with the files and the input.
 ghost use Rattle.std.specs.Prelude.{◌≡◌, ◌≢◌, ◌||◌};
 ghost use Rattle.dp_commands.specs.Faults.{is_write_failed};
-ghost use Rattle.dp_program.specs.Faulted.{unplaced};
+ghost use Rattle.dp_program.specs.Faulted.{without_place};
 ghost use Rattle.dp_program.specs.Files.{source};
-ghost use Rattle.dp_program.specs.Requests.{asked, joined};
+ghost use Rattle.dp_program.specs.Requests.{request_asked, joined};
 ghost use Rattle.dp_program.specs.Serves as spec;
 
 use crate::checks::{serve_check, serve_check_both, serve_check_queues};
 use crate::faulted::Faulted;
 use crate::files::ReadFiles;
-use crate::hints::{Served, unhinted};
+use crate::hints::{Served, without_hint};
 use crate::reaches::serve_reach;
 use crate::reports::{Manner, serve_audit, serve_explain, serve_list, serve_match};
 use crate::request::Request;
@@ -33,28 +33,28 @@ pub fn serve<'a, F: ReadFiles, I: ReadTold, W: WriteTold, R: Threads + Wait + Sy
     output: &mut W,
 ) -> Result<Served, Faulted<'a>>
     ensures serves { spec.Serves (F.source_at files.now) (source (I.remaining input.old) (I.has_failed input.new))
-        (asked request.now) explains
+        (request_asked request.now) explains
         (W.contents output.old) (W.contents output.new) result }
-    ensures told { W.has_failed output.new ≡ (W.has_failed output.old || is_write_failed (unplaced result)) }
-    ensures heard { I.has_failed input.new ≡ (I.has_failed input.old || spec.fails_on_input (asked request.now)
-        (unplaced result)) }
-    ensures unread { asked request.now ≢ joined → input.new ≡ input.old }
+    ensures told { W.has_failed output.new ≡ (W.has_failed output.old || is_write_failed (without_place result)) }
+    ensures heard { I.has_failed input.new ≡ (I.has_failed input.old || spec.fails_on_input (request_asked request.now)
+        (without_place result)) }
+    ensures unread { request_asked request.now ≢ joined → input.new ≡ input.old }
 {
     match request {
-        Request::Joined => unhinted(alloc, serve_joined(alloc, input, output)),
+        Request::Joined => without_hint(alloc, serve_joined(alloc, input, output)),
         Request::Check { file } => {
-            unhinted(alloc, serve_check(files, alloc, file, explains, output))
+            without_hint(alloc, serve_check(files, alloc, file, explains, output))
         }
         Request::CheckQueues { queues } => {
-            unhinted(alloc, serve_check_queues(files, alloc, queues, output))
+            without_hint(alloc, serve_check_queues(files, alloc, queues, output))
         }
         Request::CheckBoth { files: paths } => {
-            unhinted(
+            without_hint(
                 alloc,
                 serve_check_both(files, alloc, paths, explains, output),
             )
         }
-        Request::Listing { file } => unhinted(alloc, serve_list(files, alloc, file, output)),
+        Request::Listing { file } => without_hint(alloc, serve_list(files, alloc, file, output)),
         Request::Audit { file } => serve_audit(files, alloc, file, output),
         Request::Match { lookup, all } => {
             let manner = Manner {
@@ -63,13 +63,13 @@ pub fn serve<'a, F: ReadFiles, I: ReadTold, W: WriteTold, R: Threads + Wait + Sy
             };
             serve_match(files, alloc, lookup, manner, output)
         }
-        Request::Explain { fault } => unhinted(alloc, serve_explain(*fault, output)),
+        Request::Explain { fault } => without_hint(alloc, serve_explain(*fault, output)),
         Request::Run {
             files: run,
             threads,
-        } => unhinted(alloc, serve_run(rt, files, alloc, run, *threads, output)),
+        } => without_hint(alloc, serve_run(rt, files, alloc, run, *threads, output)),
         Request::Debug { files: run, held } => {
-            unhinted(alloc, serve_debug(files, alloc, run, held, output))
+            without_hint(alloc, serve_debug(files, alloc, run, held, output))
         }
         Request::Reach { question } => serve_reach(files, alloc, question, explains, output),
     }

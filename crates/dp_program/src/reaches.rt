@@ -7,14 +7,14 @@ ghost use Rattle.dp_commands.specs.Faults.{is_write_failed, reason_of};
 ghost use Rattle.dp_commands.specs.Run.{files_of};
 ghost use Rattle.dp_conf.specs.Answers.{Answers};
 ghost use Rattle.dp_conf.specs.Levels.{arguments_of};
-ghost use Rattle.dp_program.specs.Faulted.{StandsIn, unplaced};
+ghost use Rattle.dp_program.specs.Faulted.{StandsIn, without_place};
 ghost use Rattle.dp_program.specs.Reaches as spec;
 ghost use Rattle.dp_program.specs.Reaches.{ReachesFiles};
 ghost use Rattle.dp_program.specs.Requests.{question_of};
 
-use crate::faulted::{Faulted, placed, placed_in_two};
+use crate::faulted::{Faulted, placed_in_two, with_place};
 use crate::files::ReadFiles;
-use crate::hints::{Served, Told, is_bare, lacking, push_bare_line, push_told};
+use crate::hints::{HintedPlan, Served, is_bare, lacking, push_bare_line, push_told};
 use crate::request::ReachQuestion;
 use crate::texts::{FileText, read_named, read_text};
 use dp_answer::{Ask, Report, report_on};
@@ -50,7 +50,7 @@ fn ask_of<'a>(question: &ReachQuestion<'a>) -> Ask<'a>
 fn push_names_told(
     alloc: Global,
     hint: &mut Vec<u8>,
-    told: Told<'_>,
+    told: HintedPlan<'_>,
     names: &[&[u8]],
 ) -> Result<(), NoMemory>
     ensures { OnOk result (hint.new.items
@@ -66,7 +66,7 @@ fn push_names_told(
 fn push_target_told(
     alloc: Global,
     hint: &mut Vec<u8>,
-    told: Told<'_>,
+    told: HintedPlan<'_>,
     target: Option<&[u8]>,
 ) -> Result<(), NoMemory>
     ensures { OnOk result (hint.new.items ≡ hint.old.items
@@ -83,7 +83,7 @@ fn push_target_told(
 fn push_starts_told(
     alloc: Global,
     hint: &mut Vec<u8>,
-    told: Told<'_>,
+    told: HintedPlan<'_>,
     starts: Option<&[u8]>,
 ) -> Result<(), NoMemory>
     ensures { OnOk result (hint.new.items ≡ hint.old.items
@@ -100,7 +100,7 @@ fn push_starts_told(
 }
 
 /// What is told beside a report.
-fn hint_of(alloc: Global, ask: &Ask<'_>, told: Told<'_>) -> Result<Vec<u8>, NoMemory>
+fn hint_of(alloc: Global, ask: &Ask<'_>, told: HintedPlan<'_>) -> Result<Vec<u8>, NoMemory>
     ensures { IfOk result (λ hint. hint.items
         ≡ spec.hint_of told.entry.file.now (ask_texts ask.now) told.entry.explains told.entry.plan.now) }
 {
@@ -134,7 +134,7 @@ fn hinted_report(
 {
     let ask = ask_of(question);
     let report = report_on(alloc, &files.plan, &files.queues, &ask)?;
-    let told = Told {
+    let told = HintedPlan {
         file: question.file,
         plan: &files.plan,
         explains,
@@ -188,16 +188,16 @@ fn placed_over<'a>(
     texts: ReachTexts,
     answered: Result<Served, PbxFault>,
 ) -> Result<Served, Faulted<'a>>
-    ensures same { unplaced result ≡ answered }
+    ensures same { without_place result ≡ answered }
     ensures stands { StandsIn (spec.place_over (question_of question.now).file (question_of question.now).queues texts.plan.items
         (option_map (λ text. text.items) texts.queues)) result }
 {
     let ReachTexts { plan, queues } = texts;
     let Some(path) = question.queues else {
-        return placed(question.file, &plan, answered);
+        return with_place(question.file, &plan, answered);
     };
     let Some(queues) = queues else {
-        return placed(question.file, &plan, answered);
+        return with_place(question.file, &plan, answered);
     };
     let plan = FileText {
         path: question.file,
@@ -217,7 +217,7 @@ pub(crate) fn serve_reach<'a, F: ReadFiles, W: WriteTold>(
 ) -> Result<Served, Faulted<'a>>
     ensures serves { ReachesFiles (F.source_at files.now) (question_of question.now) explains (W.contents output.old)
         (W.contents output.new) result }
-    ensures told { W.has_failed output.new ≡ (W.has_failed output.old || is_write_failed (unplaced result)) }
+    ensures told { W.has_failed output.new ≡ (W.has_failed output.old || is_write_failed (without_place result)) }
 {
     let plan = read_text(files, alloc, question.file)?;
     let queues = read_named(files, alloc, question.queues)?;

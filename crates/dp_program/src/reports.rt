@@ -4,13 +4,13 @@ ghost use Rattle.dp_commands.specs.Audit.{WritesAudit, audit_of};
 ghost use Rattle.dp_commands.specs.Faults.{is_write_failed};
 ghost use Rattle.dp_commands.specs.Report.{Reports, list_of};
 ghost use Rattle.dp_program.specs.Entries.{entry_of};
-ghost use Rattle.dp_program.specs.Faulted.{unplaced};
+ghost use Rattle.dp_program.specs.Faulted.{without_place};
 ghost use Rattle.dp_program.specs.Hints.{Tells, audit_hint_of, match_hint_of, status_in};
 ghost use Rattle.dp_program.specs.Requests.{lookup_of};
 ghost use Rattle.dp_program.specs.Serves as spec;
 
 use crate::entries::FaultNumber;
-use crate::faulted::{Faulted, placed, placed_nowhere};
+use crate::faulted::{Faulted, placed_nowhere, with_place};
 use crate::files::ReadFiles;
 use crate::hints::{Served, audit_hint, match_hint};
 use crate::request::Lookup;
@@ -45,10 +45,10 @@ pub(crate) fn serve_audit<'a, F: ReadFiles, W: WriteTold>(
 ) -> Result<Served, Faulted<'a>>
     ensures serves { spec.AuditsFile file.now (F.source_at files.now file.now) (W.contents output.old)
         (W.contents output.new) result }
-    ensures told { W.has_failed output.new ≡ (W.has_failed output.old || is_write_failed (unplaced result)) }
+    ensures told { W.has_failed output.new ≡ (W.has_failed output.old || is_write_failed (without_place result)) }
 {
     let plan = read_text(files, alloc, file)?;
-    placed(file, &plan, audit_told(alloc, file, &plan, output))
+    with_place(file, &plan, audit_told(alloc, file, &plan, output))
 }
 
 /// Lists the dialplan of a file.
@@ -60,10 +60,10 @@ pub(crate) fn serve_list<'a, F: ReadFiles, W: WriteTold>(
 ) -> Result<u8, Faulted<'a>>
     ensures serves { spec.ReportsOn file.now (F.source_at files.now file.now) list_of (W.contents output.old)
         (W.contents output.new) result }
-    ensures told { W.has_failed output.new ≡ (W.has_failed output.old || is_write_failed (unplaced result)) }
+    ensures told { W.has_failed output.new ≡ (W.has_failed output.old || is_write_failed (without_place result)) }
 {
     let plan = read_text(files, alloc, file)?;
-    placed(file, &plan, list_plan(alloc, &plan, output))
+    with_place(file, &plan, list_plan(alloc, &plan, output))
 }
 
 /// Reports which entry of a dialplan answers, and where all are asked for what becomes of each extension that matches.
@@ -123,10 +123,10 @@ pub(crate) fn serve_match<'a, F: ReadFiles, W: WriteTold>(
 ) -> Result<Served, Faulted<'a>>
     ensures serves { spec.LooksUp (lookup_of lookup.now) (F.source_at files.now lookup.now.file.now) manner.all manner.explains
         (W.contents output.old) (W.contents output.new) result }
-    ensures told { W.has_failed output.new ≡ (W.has_failed output.old || is_write_failed (unplaced result)) }
+    ensures told { W.has_failed output.new ≡ (W.has_failed output.old || is_write_failed (without_place result)) }
 {
     let plan = read_text(files, alloc, lookup.file)?;
-    placed(
+    with_place(
         lookup.file,
         &plan,
         look_up_told(alloc, &plan, lookup, manner, output),
@@ -148,7 +148,7 @@ pub(crate) fn serve_explain<'a, W: WriteTold>(
     output: &mut W,
 ) -> Result<u8, Faulted<'a>>
     ensures serves { spec.WritesEntry fault (W.contents output.old) (W.contents output.new) result }
-    ensures told { W.has_failed output.new ≡ (W.has_failed output.old || is_write_failed (unplaced result)) }
+    ensures told { W.has_failed output.new ≡ (W.has_failed output.old || is_write_failed (without_place result)) }
 {
     placed_nowhere(write_entry(fault, output))
 }

@@ -1,10 +1,9 @@
 //! What the requests do that run a script.
 ghost use Rattle.std.specs.Prelude.{◌≡◌, ◌||◌, max};
-ghost use Rattle.std.specs.Option.{option_map};
 ghost use Rattle.dp_commands.specs.Debug.{WritesDebug};
 ghost use Rattle.dp_commands.specs.Faults.{is_write_failed};
-ghost use Rattle.dp_commands.specs.Run.{Writes, run_of};
-ghost use Rattle.dp_program.specs.Faulted.{unplaced};
+ghost use Rattle.dp_commands.specs.Run.{Writes};
+ghost use Rattle.dp_program.specs.Faulted.{without_place};
 ghost use Rattle.dp_program.specs.Files.{has_read_failed, source};
 ghost use Rattle.dp_program.specs.Serves as spec;
 ghost use Rattle.dp_program.specs.Texts.{paths_of, sources_of, texts_of};
@@ -14,7 +13,7 @@ use crate::files::{ReadFiles, read_source};
 use crate::request::RunFiles;
 use crate::texts::{Texts, read_texts};
 use dp_board::Gate;
-use dp_commands::{PbxFault, debug_script, run_joined, run_script, run_threads};
+use dp_commands::{PbxFault, Sharing, debug_script, run_joined, run_script, run_threads};
 use dp_conf::{ReadTold, WriteTold};
 use dp_machine::Reply;
 use std::alloc::Global;
@@ -53,8 +52,8 @@ pub(crate) fn serve_joined<'a, I: ReadTold, W: WriteTold>(
 ) -> Result<u8, Faulted<'a>>
     ensures serves { spec.RunsJoined (source (I.remaining input.old) (I.has_failed input.new))
         (W.contents output.old) (W.contents output.new) result }
-    ensures told { W.has_failed output.new ≡ (W.has_failed output.old || is_write_failed (unplaced result)) }
-    ensures heard { I.has_failed input.new ≡ (I.has_failed input.old || has_read_failed (unplaced result)) }
+    ensures told { W.has_failed output.new ≡ (W.has_failed output.old || is_write_failed (without_place result)) }
+    ensures heard { I.has_failed input.new ≡ (I.has_failed input.old || has_read_failed (without_place result)) }
 {
     placed_nowhere(run_input(alloc, input, output))
 }
@@ -67,33 +66,23 @@ fn status_of<H: Drop>(ran: (u8, H)) -> u8
     status
 }
 
-/// Runs a script in so many threads that nobody holds, and gives the status.
+/// Runs the script of a run on its dialplan, in so many threads that nobody holds, and gives the status.
 fn run_in_threads<W: WriteTold, R: Threads + Wait + Sync>(
     rt: &R,
     alloc: Global,
-    plan: &[u8],
-    queues: Option<&[u8]>,
-    second_plan: Option<&[u8]>,
-    script: &[u8],
+    texts: &Texts,
     threads: u32,
     output: &mut W,
 ) -> Result<u8, PbxFault>
     ensures shares { spec.SharesSome (max 1 threads) (W.contents output.old) (W.contents output.new)
-        (run_of plan.now (option_map (λ text. text.now) queues.entry)
-        (option_map (λ text. text.now) second_plan.entry) script.now) result }
+        (spec.run_of_texts (texts_of texts.now)) result }
     ensures told { W.has_failed output.new ≡ (W.has_failed output.old || is_write_failed result) }
 {
-    let ran = run_threads(
-        rt,
-        alloc,
-        plan,
-        queues,
-        second_plan,
-        script,
+    let sharing = Sharing {
         threads,
-        &OpenGate,
-        output,
-    )?;
+        gate: &OpenGate,
+    };
+    let ran = run_threads(rt, alloc, texts.lend(), sharing, output)?;
     Ok(status_of(ran))
 }
 
@@ -103,14 +92,7 @@ fn run_in_order<W: WriteTold>(alloc: Global, texts: &Texts, output: &mut W) -> R
         (spec.run_of_texts (texts_of texts.now)) result }
     ensures told { W.has_failed output.new ≡ (W.has_failed output.old || is_write_failed result) }
 {
-    run_script(
-        alloc,
-        &texts.plan,
-        texts.queues.as_deref(),
-        texts.second_plan.as_deref(),
-        &texts.script,
-        output,
-    )
+    run_script(alloc, texts.lend(), output)
 }
 
 /// Runs the script of a run on its dialplan, in threads where their number is given.
@@ -127,16 +109,7 @@ fn run_texts<W: WriteTold, R: Threads + Wait + Sync>(
 {
     match threads {
         None => run_in_order(alloc, texts, output),
-        Some(threads) => run_in_threads(
-            rt,
-            alloc,
-            &texts.plan,
-            texts.queues.as_deref(),
-            texts.second_plan.as_deref(),
-            &texts.script,
-            threads,
-            output,
-        ),
+        Some(threads) => run_in_threads(rt, alloc, texts, threads, output),
     }
 }
 
@@ -153,7 +126,7 @@ pub(crate) fn serve_run<'a, F: ReadFiles, W: WriteTold, R: Threads + Wait + Sync
     ensures serves { spec.RunsFiles (paths_of run.now)
         (sources_of (F.source_at files.now) (paths_of run.now)) threads (W.contents output.old)
         (W.contents output.new) result }
-    ensures told { W.has_failed output.new ≡ (W.has_failed output.old || is_write_failed (unplaced result)) }
+    ensures told { W.has_failed output.new ≡ (W.has_failed output.old || is_write_failed (without_place result)) }
 {
     let texts = read_texts(files, alloc, run)?;
     let answered = run_texts(rt, alloc, &texts, threads, output);
@@ -171,15 +144,7 @@ fn debug_texts<W: WriteTold>(
         (spec.debug_of_texts held.now (texts_of texts.now)) result }
     ensures told { W.has_failed output.new ≡ (W.has_failed output.old || is_write_failed result) }
 {
-    debug_script(
-        alloc,
-        &texts.plan,
-        texts.queues.as_deref(),
-        texts.second_plan.as_deref(),
-        &texts.script,
-        held.as_bytes(),
-        output,
-    )
+    debug_script(alloc, texts.lend(), held.as_bytes(), output)
 }
 
 /// Debugs the script of a file on the dialplan of another, with the queues and beside the second dialplan of more files where they
@@ -194,7 +159,7 @@ pub(crate) fn serve_debug<'a, F: ReadFiles, W: WriteTold>(
     ensures serves { spec.DebugsFiles (paths_of run.now)
         (sources_of (F.source_at files.now) (paths_of run.now)) held.now (W.contents output.old)
         (W.contents output.new) result }
-    ensures told { W.has_failed output.new ≡ (W.has_failed output.old || is_write_failed (unplaced result)) }
+    ensures told { W.has_failed output.new ≡ (W.has_failed output.old || is_write_failed (without_place result)) }
 {
     let texts = read_texts(files, alloc, run)?;
     let answered = debug_texts(alloc, &texts, held, output);

@@ -9,6 +9,7 @@ ghost use Rattle.dp_program.specs.Texts as spec;
 use crate::faulted::Unread;
 use crate::files::ReadFiles;
 use crate::request::RunFiles;
+use dp_commands::RunTexts;
 use std::alloc::Global;
 
 /// The text of a file, with its path.
@@ -25,6 +26,25 @@ pub(crate) struct Texts {
     pub(crate) queues: Option<Vec<u8>>,
     pub(crate) second_plan: Option<Vec<u8>>,
     pub(crate) script: Vec<u8>,
+}
+
+impl Texts {
+    ghost use Rattle.std.specs.Prelude.{◌≡◌};
+    ghost use Rattle.dp_commands.specs.Run.{run_of_texts};
+    ghost use Rattle.dp_program.specs.Serves as serves;
+    ghost use Rattle.dp_program.specs.Texts.{texts_of};
+
+    /// The texts, as they are given to a run.
+    pub(crate) fn lend(&self) -> RunTexts<'_>
+        ensures { run_of_texts result ≡ serves.run_of_texts (texts_of self.now) }
+    {
+        RunTexts {
+            plan: &self.plan,
+            queues: self.queues.as_deref(),
+            second_plan: self.second_plan.as_deref(),
+            script: &self.script,
+        }
+    }
 }
 
 /// All bytes of the file of a path.

@@ -3,10 +3,10 @@
 //! This is for tests alone.
 #![tactic(auto)]
 
+use dp_case_tables::check_same;
+use dp_cli::answer;
 use dp_conf::{MOST_BYTES, Told};
 use dp_plan::NoMemory;
-use dp_questions::check_same;
-use dp_words::answer;
 use std::alloc::Global;
 use std::env::Env;
 use std::rt::Files;
@@ -81,7 +81,7 @@ dashed→[-in-]¶exten => 1,1,NoOp¶
 ";
 
 /// The text with each character like the one in place of the other.
-fn replaced(alloc: Global, text: &str, old: char, new: char) -> Result<String, NoMemory> {
+fn replace_sign(alloc: Global, text: &str, old: char, new: char) -> Result<String, NoMemory> {
     let mut out = String::new(alloc);
     for character in text.chars() {
         out.push(if character == old { new } else { character })?;
@@ -91,12 +91,12 @@ fn replaced(alloc: Global, text: &str, old: char, new: char) -> Result<String, N
 
 /// The text in one line, with a `¶` for each line feed.
 pub fn in_a_line(alloc: Global, text: &str) -> Result<String, NoMemory> {
-    replaced(alloc, text, '\n', '¶')
+    replace_sign(alloc, text, '\n', '¶')
 }
 
 /// The text of a line, with a line feed for each `¶`.
 fn in_lines(alloc: Global, line: &str) -> Result<String, NoMemory> {
-    replaced(alloc, line, '¶', '\n')
+    replace_sign(alloc, line, '¶', '\n')
 }
 
 /// A word of a command line: `@NAME` is a file of the folder, and two quotes are the empty word.
@@ -121,7 +121,7 @@ fn words_of(alloc: Global, folder: &str, line: &str) -> Result<Vec<String>, NoMe
 
 /// The status of a command line, and all that it prints on the standard output and on standard error, as
 /// `STATUS→OUTPUT→ERRORS`.
-fn printed<R: Files + Threads + Wait + Sync + AllocGlobal>(
+fn output_of<R: Files + Threads + Wait + Sync + AllocGlobal>(
     rt: &R,
     folder: &str,
     line: &str,
@@ -172,7 +172,7 @@ pub fn check_line<R: Files + Threads + Wait + Sync + AllocGlobal>(
 ) -> Result<(), Fail> {
     let (line, input) = asked.split_once('←').unwrap_or((asked, ""));
     let input = in_lines(rt.alloc(), input)?;
-    let got = printed(rt, folder, line, &input)?;
+    let got = output_of(rt, folder, line, &input)?;
     let got = in_a_line(rt.alloc(), &with_names(rt.alloc(), folder, &got)?)?;
     check_same(asked, &got, want)
 }

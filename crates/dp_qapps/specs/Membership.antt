@@ -8,8 +8,8 @@ use Rattle.dp_queue.specs.declared.change.Added.TheVariants.{NoSuchQueue, Member
 use Rattle.dp_queue.specs.declared.change.Removed.{Removed}
 use Rattle.dp_queue.specs.declared.change.Removed.TheVariants.{NoSuchQueue as no_queue, NotInQueue, NotDynamic, Removed as removed}
 use Rattle.dp_app.specs.Rows.{Outcome, Row}
-use Rattle.dp_app.specs.declared.cell.Cell.{Cell}
-use Rattle.dp_qapps.specs.Reports.{interface_of, penalty_of, reported}
+use Rattle.dp_app.specs.Cells.{CellOf}
+use Rattle.dp_qapps.specs.Reports.{interface_of, penalty_of, with_report}
 use Rattle.dp_app.specs.Parts.{part}
 
 -- the status of an addition
@@ -19,11 +19,11 @@ added_status MemberAlready = codes "MEMBERALREADY"
 added_status added = codes "ADDED"
 
 -- an addition is reported
-abbrev pub reported_added : Cell → QueuesOf × Added → Outcome
-reported_added cell answer = reported cell answer.0 (codes "AQMSTATUS") (added_status answer.1)
+abbrev pub reported_added : CellOf → QueuesOf × Added → Outcome
+reported_added cell answer = with_report cell answer.0 (codes "AQMSTATUS") (added_status answer.1)
 
 -- the row by the parts of the arguments: queue, interface and penalty
-abbrev pub add_by : List (List ℕ) → Cell → Outcome
+abbrev pub add_by : List (List ℕ) → CellOf → Outcome
 add_by parts cell =
     reported_added cell (add_row cell.queues (part 0 parts) (interface_of cell.number (part 1 parts)) (penalty_of (part 2 parts)))
 
@@ -39,11 +39,11 @@ removed_status NotDynamic = codes "NOTDYNAMIC"
 removed_status removed = codes "REMOVED"
 
 -- a removal is reported
-abbrev pub reported_removed : Cell → QueuesOf × Removed → Outcome
-reported_removed cell answer = reported cell answer.0 (codes "RQMSTATUS") (removed_status answer.1)
+abbrev pub reported_removed : CellOf → QueuesOf × Removed → Outcome
+reported_removed cell answer = with_report cell answer.0 (codes "RQMSTATUS") (removed_status answer.1)
 
 -- the row by the parts of the arguments: queue and interface
-abbrev pub remove_by : List (List ℕ) → Cell → Outcome
+abbrev pub remove_by : List (List ℕ) → CellOf → Outcome
 remove_by parts cell = reported_removed cell (remove_row cell.queues (part 0 parts) (interface_of cell.number (part 1 parts)))
 
 -- the row of `RemoveQueueMember`

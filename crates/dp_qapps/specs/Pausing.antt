@@ -4,8 +4,8 @@ use Rattle.dp_conf.specs.Levels.{arguments_of}
 use Rattle.dp_queue.specs.Members.{pause_row}
 use Rattle.dp_queue.specs.Queues.{QueuesOf}
 use Rattle.dp_app.specs.Rows.{Outcome, Row}
-use Rattle.dp_app.specs.declared.cell.Cell.{Cell}
-use Rattle.dp_qapps.specs.Reports.{reported}
+use Rattle.dp_app.specs.Cells.{CellOf}
+use Rattle.dp_qapps.specs.Reports.{with_report}
 use Rattle.dp_app.specs.Parts.{part}
 
 -- the queue that a part names; the empty part is all queues
@@ -14,9 +14,9 @@ queue_asked [] = None
 queue_asked (b ∷ bs) = Some (b ∷ bs)
 
 -- a member is paused, or its pause ends, and whether there is such a member; the empty interface names none
-abbrev pub paused : QueuesOf → Option (List ℕ) → List ℕ → Bool → QueuesOf × Bool
-paused q queue [] is_paused = (q, false)
-paused q queue (b ∷ bs) is_paused = pause_row q queue (b ∷ bs) is_paused
+abbrev pub after_pausing : QueuesOf → Option (List ℕ) → List ℕ → Bool → QueuesOf × Bool
+after_pausing q queue [] is_paused = (q, false)
+after_pausing q queue (b ∷ bs) is_paused = pause_row q queue (b ∷ bs) is_paused
 
 -- the name of the status variable
 abbrev pub pause_variable : Bool → List ℕ
@@ -31,13 +31,13 @@ abbrev pub pause_status : Bool → Bool → List ℕ
 pause_status is_paused is_there = if is_there then pause_done is_paused else codes "NOTFOUND"
 
 -- a pause, or the end of one, is reported
-abbrev pub reported_paused : Bool → Cell → QueuesOf × Bool → Outcome
-reported_paused is_paused cell answer = reported cell answer.0 (pause_variable is_paused) (pause_status is_paused answer.1)
+abbrev pub reported_paused : Bool → CellOf → QueuesOf × Bool → Outcome
+reported_paused is_paused cell answer = with_report cell answer.0 (pause_variable is_paused) (pause_status is_paused answer.1)
 
 -- the row by the parts of the arguments: queue and interface
-abbrev pub pause_by : Bool → List (List ℕ) → Cell → Outcome
+abbrev pub pause_by : Bool → List (List ℕ) → CellOf → Outcome
 pause_by is_paused parts cell =
-    reported_paused is_paused cell (paused cell.queues (queue_asked (part 0 parts)) (part 1 parts) is_paused)
+    reported_paused is_paused cell (after_pausing cell.queues (queue_asked (part 0 parts)) (part 1 parts) is_paused)
 
 -- the row of an application that pauses a member, or ends a pause
 unfoldable pub pausing_row : Bool → Row

@@ -5,7 +5,7 @@ use Rattle.dp_queue.specs.Queues.{QueuesOf}
 use Rattle.dp_vars.specs.Sights.{channel_name}
 use Rattle.dp_vars.specs.Stores.{set}
 use Rattle.dp_app.specs.Rows.{Outcome}
-use Rattle.dp_app.specs.declared.cell.Cell.{Cell}
+use Rattle.dp_app.specs.Cells.{CellOf}
 use Rattle.dp_app.specs.declared.moves.Move.TheVariants.{Next}
 
 -- the interface that a part names; the empty part is the name of the channel that runs the application
@@ -27,6 +27,6 @@ abbrev pub penalty_of : List ℕ → ℕ
 penalty_of text = penalty_by (number_of text)
 
 -- the cell with other queues and a status variable set, and the channel goes on
-abbrev pub reported : Cell → QueuesOf → List ℕ → List ℕ → Outcome
-reported cell queues name status =
+abbrev pub with_report : CellOf → QueuesOf → List ℕ → List ℕ → Outcome
+with_report cell queues name status =
     record { cell = record cell { queues = queues; store = set cell.store name status }; next = Next }

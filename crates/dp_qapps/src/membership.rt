@@ -1,6 +1,7 @@
 //! The applications that add members to queues and remove them, after the Asterisk documentation's pages on `AddQueueMember`
 //! and `RemoveQueueMember`.
 ghost use Rattle.std.specs.Prelude.{◌≡◌, IfOk, OnErr, map};
+ghost use Rattle.dp_app.specs.Cells.{KeepsLoans, cell_now};
 ghost use Rattle.dp_queue.specs.Members.{add_row, remove_row};
 ghost use Rattle.dp_qapps.specs.Membership as spec;
 
@@ -48,10 +49,11 @@ fn add(
     penalty: u32,
     cell: &mut Cell,
 ) -> Result<Move, NoMemory>
-    ensures ok { IfOk result (λ going. spec.reported_added cell.old
-        (add_row cell.old.queues queue.now interface.now penalty)
-        ≡ record { cell = cell.new; next = going }) }
-    ensures err { OnErr result (cell.new ≡ cell.old) }
+    ensures ok { IfOk result (λ going. spec.reported_added (cell_now cell.old)
+        (add_row cell.old.queues.now queue.now interface.now penalty)
+        ≡ record { cell = cell_now cell.new; next = going }) }
+    ensures err { OnErr result (cell_now cell.new ≡ cell_now cell.old) }
+    ensures loans { KeepsLoans cell.old cell.new }
 {
     let status = added_status(cell.queues.would_add(queue, interface));
     let addition = Addition {
@@ -60,15 +62,16 @@ fn add(
         penalty,
     };
     cell.store
-        .set_after(alloc, b"AQMSTATUS", status, &addition, &mut cell.queues)?;
+        .set_after(alloc, b"AQMSTATUS", status, &addition, cell.queues)?;
     Ok(Move::Next)
 }
 
 /// Adds the member that the parts of the arguments name. After a refused growth the cell is as before.
 fn add_by_parts(alloc: Global, parts: &[&[u8]], cell: &mut Cell) -> Result<Move, NoMemory>
-    ensures ok { IfOk result (λ going. spec.add_by (map (λ part. part.now) parts.now) cell.old
-        ≡ record { cell = cell.new; next = going }) }
-    ensures err { OnErr result (cell.new ≡ cell.old) }
+    ensures ok { IfOk result (λ going. spec.add_by (map (λ part. part.now) parts.now) (cell_now cell.old)
+        ≡ record { cell = cell_now cell.new; next = going }) }
+    ensures err { OnErr result (cell_now cell.new ≡ cell_now cell.old) }
+    ensures loans { KeepsLoans cell.old cell.new }
 {
     let interface = interface_of(alloc, cell.number, part(parts, 1))?;
     let penalty = penalty_of(part(parts, 2));
@@ -90,10 +93,11 @@ fn removed_status(removed: Removed) -> &'static [u8]
 
 /// Removes a member and reports it. After a refused growth the cell is as before.
 fn remove(alloc: Global, queue: &[u8], interface: &[u8], cell: &mut Cell) -> Result<Move, NoMemory>
-    ensures ok { IfOk result (λ going. spec.reported_removed cell.old
-        (remove_row cell.old.queues queue.now interface.now)
-        ≡ record { cell = cell.new; next = going }) }
-    ensures err { OnErr result (cell.new ≡ cell.old) }
+    ensures ok { IfOk result (λ going. spec.reported_removed (cell_now cell.old)
+        (remove_row cell.old.queues.now queue.now interface.now)
+        ≡ record { cell = cell_now cell.new; next = going }) }
+    ensures err { OnErr result (cell_now cell.new ≡ cell_now cell.old) }
+    ensures loans { KeepsLoans cell.old cell.new }
 {
     let status = removed_status(cell.queues.would_remove(queue, interface));
     cell.store.set(alloc, b"RQMSTATUS", status)?;
@@ -103,9 +107,10 @@ fn remove(alloc: Global, queue: &[u8], interface: &[u8], cell: &mut Cell) -> Res
 
 /// Removes the member that the parts of the arguments name. After a refused growth the cell is as before.
 fn remove_by_parts(alloc: Global, parts: &[&[u8]], cell: &mut Cell) -> Result<Move, NoMemory>
-    ensures ok { IfOk result (λ going. spec.remove_by (map (λ part. part.now) parts.now) cell.old
-        ≡ record { cell = cell.new; next = going }) }
-    ensures err { OnErr result (cell.new ≡ cell.old) }
+    ensures ok { IfOk result (λ going. spec.remove_by (map (λ part. part.now) parts.now) (cell_now cell.old)
+        ≡ record { cell = cell_now cell.new; next = going }) }
+    ensures err { OnErr result (cell_now cell.new ≡ cell_now cell.old) }
+    ensures loans { KeepsLoans cell.old cell.new }
 {
     let interface = interface_of(alloc, cell.number, part(parts, 1))?;
     let going = remove(alloc, part(parts, 0), interface.bytes(), cell)?;

@@ -2,6 +2,7 @@
 //! `UnpauseQueueMember`.
 ghost use Rattle.std.specs.Prelude.{◌≡◌, Bool, IfOk, OnErr, map};
 ghost use Rattle.std.specs.Option.{option_copied};
+ghost use Rattle.dp_app.specs.Cells.{KeepsLoans, cell_now};
 ghost use Rattle.dp_qapps.specs.Pausing as spec;
 
 use dp_app::{Application, Cell, Move, Touch, part};
@@ -21,7 +22,7 @@ fn queue_asked(text: &[u8]) -> Option<&[u8]>
 
 /// Whether there is such a member; the empty interface names none.
 fn is_there(queues: &Queues, queue: Option<&[u8]>, interface: &[u8]) -> bool
-    ensures { (is_paused : Bool) → result ≡ (spec.paused queues.now
+    ensures { (is_paused : Bool) → result ≡ (spec.after_pausing queues.now
         (option_copied queue.entry) interface.now is_paused).1 }
 {
     if interface.is_empty() {
@@ -32,7 +33,7 @@ fn is_there(queues: &Queues, queue: Option<&[u8]>, interface: &[u8]) -> bool
 
 /// Pauses a member, or ends its pause; the empty interface names none.
 fn pause(queues: &mut Queues, queue: Option<&[u8]>, interface: &[u8], is_paused: bool)
-    ensures { queues.new ≡ (spec.paused queues.old (option_copied queue.entry) interface.now is_paused).0 }
+    ensures { queues.new ≡ (spec.after_pausing queues.old (option_copied queue.entry) interface.now is_paused).0 }
 {
     if !interface.is_empty() {
         let _is_there = queues.pause(queue, interface, is_paused);
@@ -76,15 +77,16 @@ fn report_pause(
     is_paused: bool,
     cell: &mut Cell,
 ) -> Result<Move, NoMemory>
-    ensures ok { IfOk result (λ going. spec.reported_paused is_paused cell.old
-        (spec.paused cell.old.queues (option_copied queue.entry) interface.now is_paused)
-        ≡ record { cell = cell.new; next = going }) }
-    ensures err { OnErr result (cell.new ≡ cell.old) }
+    ensures ok { IfOk result (λ going. spec.reported_paused is_paused (cell_now cell.old)
+        (spec.after_pausing cell.old.queues.now (option_copied queue.entry) interface.now is_paused)
+        ≡ record { cell = cell_now cell.new; next = going }) }
+    ensures err { OnErr result (cell_now cell.new ≡ cell_now cell.old) }
+    ensures loans { KeepsLoans cell.old cell.new }
 {
-    let is_there = is_there(&cell.queues, queue, interface);
+    let is_there = is_there(cell.queues, queue, interface);
     let status = pause_status(is_paused, is_there);
     cell.store.set(alloc, pause_variable(is_paused), status)?;
-    pause(&mut cell.queues, queue, interface, is_paused);
+    pause(cell.queues, queue, interface, is_paused);
     Ok(Move::Next)
 }
 
@@ -96,9 +98,10 @@ fn pause_by_text(
     is_paused: bool,
     cell: &mut Cell,
 ) -> Result<Move, NoMemory>
-    ensures ok { IfOk result (λ going. spec.pausing_row is_paused arguments.now cell.old
-        ≡ record { cell = cell.new; next = going }) }
-    ensures err { OnErr result (cell.new ≡ cell.old) }
+    ensures ok { IfOk result (λ going. spec.pausing_row is_paused arguments.now (cell_now cell.old)
+        ≡ record { cell = cell_now cell.new; next = going }) }
+    ensures err { OnErr result (cell_now cell.new ≡ cell_now cell.old) }
+    ensures loans { KeepsLoans cell.old cell.new }
 {
     let parts = split_args(alloc, arguments)?;
     let queue = queue_asked(part(&parts, 0));

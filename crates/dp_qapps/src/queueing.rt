@@ -1,5 +1,6 @@
 //! The application that lets a call wait for an agent, after the Asterisk documentation's page on `Queue`.
 ghost use Rattle.std.specs.Prelude.{◌≡◌, IfOk, None, OnErr, false, map};
+ghost use Rattle.dp_app.specs.Cells.{KeepsLoans, cell_now};
 ghost use Rattle.dp_app.specs.Lawful.{MayRun};
 ghost use Rattle.dp_queue.specs.Agents.{is_talking};
 ghost use Rattle.dp_queue.specs.Joining.{join_row, waits_in};
@@ -21,59 +22,48 @@ struct Asked<'a> {
 
 /// The status of a call that does not wait, and the channel goes on. After a refused growth the cell is as before.
 fn refuse(alloc: Global, status: &[u8], cell: &mut Cell) -> Result<Move, NoMemory>
-    ensures ok { IfOk result (λ going. spec.refused cell.old status.now ≡ record { cell = cell.new; next = going }) }
-    ensures err { OnErr result (cell.new ≡ cell.old) }
+    ensures ok { IfOk result (λ going. spec.stays_out (cell_now cell.old) status.now ≡ record { cell = cell_now cell.new; next = going }) }
+    ensures err { OnErr result (cell_now cell.new ≡ cell_now cell.old) }
+    ensures loans { KeepsLoans cell.old cell.new }
 {
     cell.store.set(alloc, b"QUEUESTATUS", status)?;
     Ok(Move::Next)
 }
 
-/// The channel waits in the queue of this number, where it was told that it may join. One that runs the extension `h` is hung
-/// up and cannot wait, so its call ends. After a refused growth the cell is as before.
-fn wait_in(
-    alloc: Global,
-    asked: Asked<'_>,
-    number: usize,
-    cell: &mut Cell,
-) -> Result<Move, NoMemory>
-    requires { MayRun cell.old }
-    ensures ok { IfOk result (λ going. spec.queued cell.old.is_closing cell.old
-        (join_row cell.old.queues asked.entry.queue.now cell.old.number).0 number asked.entry.goes_on asked.entry.has_timer
-        ≡ record { cell = cell.new; next = going }) }
-    ensures err { OnErr result (cell.new ≡ cell.old) }
-{
-    if cell.is_closing {
-        return Ok(Move::Hang);
-    }
-    let _joined = cell.queues.join(alloc, asked.queue, cell.number)?;
-    Ok(Move::Park(Phase::Queued {
-        queue: number,
-        goes_on: asked.goes_on,
-        has_timer: asked.has_timer,
-    }))
-}
-
 /// The channel asks to join the queue. After a refused growth the cell is as before.
 fn ask(alloc: Global, asked: Asked<'_>, cell: &mut Cell) -> Result<Move, NoMemory>
-    requires { MayRun cell.old }
-    ensures ok { IfOk result (λ going. spec.asked_for cell.old asked.entry.goes_on asked.entry.has_timer
-        (join_row cell.old.queues asked.entry.queue.now cell.old.number) ≡ record { cell = cell.new; next = going }) }
-    ensures err { OnErr result (cell.new ≡ cell.old) }
+    requires { MayRun (cell_now cell.old) }
+    ensures ok { IfOk result (λ going. spec.asked_for (cell_now cell.old) asked.entry.goes_on asked.entry.has_timer
+        (join_row cell.old.queues.now asked.entry.queue.now cell.old.number) ≡ record { cell = cell_now cell.new; next = going }) }
+    ensures err { OnErr result (cell_now cell.new ≡ cell_now cell.old) }
+    ensures loans { KeepsLoans cell.old cell.new }
 {
-    match cell.queues.would_join(asked.queue) {
+    let told = if cell.is_closing {
+        cell.queues.would_join(asked.queue)
+    } else {
+        cell.queues.join(asked.queue, cell.number)?
+    };
+    match told {
         Join::Unknown => refuse(alloc, b"UNKNOWN", cell),
         Join::Empty => refuse(alloc, b"JOINEMPTY", cell),
         Join::Full => refuse(alloc, b"FULL", cell),
-        Join::Joined(number) => wait_in(alloc, asked, number, cell),
+        // A channel that runs the extension `h` is hung up and cannot wait.
+        Join::Joined(_) if cell.is_closing => Ok(Move::Hang),
+        Join::Joined(number) => Ok(Move::Park(Phase::Queued {
+            queue: number,
+            goes_on: asked.goes_on,
+            has_timer: asked.has_timer,
+        })),
     }
 }
 
 /// The channel asks to join the queue that the parts of the arguments name. After a refused growth the cell is as before.
 fn ask_by_parts(alloc: Global, parts: &[&[u8]], cell: &mut Cell) -> Result<Move, NoMemory>
-    requires { MayRun cell.old }
-    ensures ok { IfOk result (λ going. spec.queue_by (map (λ part. part.now) parts.now) cell.old
-        ≡ record { cell = cell.new; next = going }) }
-    ensures err { OnErr result (cell.new ≡ cell.old) }
+    requires { MayRun (cell_now cell.old) }
+    ensures ok { IfOk result (λ going. spec.queue_by (map (λ part. part.now) parts.now) (cell_now cell.old)
+        ≡ record { cell = cell_now cell.new; next = going }) }
+    ensures err { OnErr result (cell_now cell.new ≡ cell_now cell.old) }
+    ensures loans { KeepsLoans cell.old cell.new }
 {
     let asked = Asked {
         queue: part(parts, 0),

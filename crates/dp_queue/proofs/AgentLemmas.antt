@@ -1,7 +1,7 @@
 -- The agents after a change of states.
 use Rattle.std.proofs.Common.{◌≡◌, ℕ, zero, suc, ◌+◌, ◌<◌, ◌==◌, Bool, true, false, not, ◌||◌, if◌then◌else◌, List, [], ◌∷◌, Option, refl, sym, length, ap, ◌∙◌, arith}
 use Rattle.std.specs.Option.{option_map, unwrap_or}
-use Rattle.dp_queue.specs.Agents.{state_at, rings_for, is_idle, is_rung, with_state, with_state_at, freed, freed_state, all_freed}
+use Rattle.dp_queue.specs.Agents.{state_at, rings_for, is_idle, is_rung, with_state, with_state_at, idle_if_ringing, freed_state, all_freed}
 use Rattle.dp_queue.specs.steps.Seats.{rung_count}
 use Rattle.dp_queue.specs.declared.agent.Agent.{Agent}
 use Rattle.dp_queue.specs.declared.agent.AgentState.{AgentState}
@@ -20,10 +20,10 @@ pub state_at-other : (n : ℕ) (s : AgentState) (agents : List Agent) (k : ℕ) 
 state_at-other n s agents k other = ap (λ (o : Option Agent). unwrap_or (option_map (λ agent. agent.state) o) Idle) (slice_get-changed_other (with_state s) n k agents other)
 
 -- each agent's state after the end of a channel's waiting
-pub state_at-freed : (c : ℕ) (agents : List Agent) (k : ℕ) → state_at (all_freed c agents) k ≡ freed_state c (state_at agents k)
-state_at-freed c [] k = refl
-state_at-freed c (a ∷ as') zero = refl
-state_at-freed c (a ∷ as') (suc k) = state_at-freed c as' k
+pub state_at-idle_if_ringing : (c : ℕ) (agents : List Agent) (k : ℕ) → state_at (all_freed c agents) k ≡ freed_state c (state_at agents k)
+state_at-idle_if_ringing c [] k = refl
+state_at-idle_if_ringing c (a ∷ as') zero = refl
+state_at-idle_if_ringing c (a ∷ as') (suc k) = state_at-idle_if_ringing c as' k
 
 -- a number that is not known is idle
 pub state_at-within : (agents : List Agent) (k : ℕ) → is_idle (state_at agents k) ≡ false → k < length agents
@@ -63,14 +63,14 @@ pub all_freed-idle : (c n : ℕ) (agents : List Agent) → rings_for c (state_at
     → all_freed c (with_state_at n Idle agents) ≡ all_freed c agents
 all_freed-idle c n [] rings = refl
 all_freed-idle c zero (a ∷ as') rings = ap (λ (b : Bool). with_state (if b then Idle else a.state) a ∷ all_freed c as') (sym rings)
-all_freed-idle c (suc n) (a ∷ as') rings = ap (λ (t : List Agent). freed c a ∷ t) (all_freed-idle c n as' rings)
+all_freed-idle c (suc n) (a ∷ as') rings = ap (λ (t : List Agent). idle_if_ringing c a ∷ t) (all_freed-idle c n as' rings)
 
 -- one that talks stays where the others become idle
 pub all_freed-talking : (c n k d : ℕ) (agents : List Agent)
     → all_freed c (with_state_at n (Talking k d) agents) ≡ with_state_at n (Talking k d) (all_freed c agents)
 all_freed-talking c n k d [] = refl
 all_freed-talking c zero k d (a ∷ as') = refl
-all_freed-talking c (suc n) k d (a ∷ as') = ap (λ (t : List Agent). freed c a ∷ t) (all_freed-talking c n k d as')
+all_freed-talking c (suc n) k d (a ∷ as') = ap (λ (t : List Agent). idle_if_ringing c a ∷ t) (all_freed-talking c n k d as')
 
 -- where none rings for the channel, none becomes idle
 pub all_freed-unrung : (c : ℕ) (agents : List Agent) → rung_count agents c ≡ 0 → all_freed c agents ≡ agents

@@ -10,9 +10,9 @@ use Rattle.dp_queue.specs.steps.Seats.{rung_count}
 use Rattle.dp_queue.specs.declared.agent.Agent.{Agent}
 use Rattle.dp_queue.specs.declared.agent.AgentState.{AgentState}
 use Rattle.dp_queue.specs.declared.agent.AgentState.TheVariants.{Idle, Ringing, Talking}
-use Rattle.dp_queue.proofs.AgentLemmas.{state_at-same, state_at-other, state_at-freed, state_at-within}
+use Rattle.dp_queue.proofs.AgentLemmas.{state_at-same, state_at-other, state_at-idle_if_ringing, state_at-within}
 use Rattle.dp_queue.proofs.ChangeLemmas.{length-changed_at}
-use Rattle.dp_queue.proofs.MemberLemmas.{keeps-same, members-changed, members-freed, members-set}
+use Rattle.dp_queue.proofs.MemberLemmas.{keeps-same, members-changed, members-idle_if_ringing, members-set}
 use Rattle.dp_queue.proofs.WaitingLemmas.{waits_in-joined, times-joined, times-none, waits_in-left, times-left, waits_in-same, times-same, lines}
 use borrow.Author.Tests.{eqb-true, eq-eqb}
 
@@ -158,18 +158,18 @@ module _ (qs : List QueueOf) (as' : List Agent) (good : AreLinked qs as') where
     waits_once = λ d. omega (arith, times-left qs c k d, good.waits_once d);
     rings_right = λ a.
         let P : AgentState → Type 0 = λ s. IsRight (changed_at (without_caller c) k qs) s in
-        subst P (sym (state_at-freed c as' a))
+        subst P (sym (state_at-idle_if_ringing c as' a))
         (right-but qs (changed_at (without_caller c) k qs) c None (freed_state c (state_at as' a)) (length-changed_at (without_caller c) k qs)
         (λ d. waits_in-left qs c k d (good.waits_once c) waits) (rings_for-freed c (state_at as' a))
         (talks_with-freed c c (state_at as' a) ∙ right-untalked qs c k (state_at as' a) waits (good.rings_right a))
         (right-freed qs c (state_at as' a) (good.rings_right a)));
     talks_once = λ a b d first second. good.talks_once a b d (as_before d a first) (as_before d b second);
-    members = members-freed c (changed_at (without_caller c) k qs) as'
+    members = members-idle_if_ringing c (changed_at (without_caller c) k qs) as'
         (members-changed (without_caller c) k qs (changed_at (without_caller c) k qs) as' (keeps-same (without_caller c) (λ q. refl)) refl good.members);
   }
     where
       as_before : (d a : ℕ) → talks_with d (state_at (all_freed c as') a) ≡ true → talks_with d (state_at as' a) ≡ true
-      as_before d a talks = sym (talks_with-freed c d (state_at as' a)) ∙ ap (talks_with d) (sym (state_at-freed c as' a)) ∙ talks
+      as_before d a talks = sym (talks_with-freed c d (state_at as' a)) ∙ ap (talks_with d) (sym (state_at-idle_if_ringing c as' a)) ∙ talks
 
   -- an agent comes into a state that is right
   pub linked-set : (a : ℕ) (s : AgentState) → a < length as' → IsRight qs s

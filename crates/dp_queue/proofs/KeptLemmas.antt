@@ -13,8 +13,8 @@ use Rattle.dp_queue.specs.steps.Seats.{SeatsOf, rung_at, rung_count, seat_at, se
 use Rattle.dp_queue.specs.declared.agent.Agent.{Agent}
 use Rattle.dp_queue.specs.declared.agent.AgentState.{AgentState}
 use Rattle.dp_queue.specs.declared.agent.AgentState.TheVariants.{Idle, Ringing, Talking}
-use Rattle.dp_queue.specs.declared.seat.Seat.{Seat}
-use Rattle.dp_queue.proofs.AgentLemmas.{state_at-same, state_at-other, state_at-freed, rung-same, rung-less}
+use Rattle.dp_queue.specs.declared.waiting_seat.WaitingSeat.{WaitingSeat}
+use Rattle.dp_queue.proofs.AgentLemmas.{state_at-same, state_at-other, state_at-idle_if_ringing, rung-same, rung-less}
 use Rattle.dp_queue.proofs.ChangeLemmas.{length-changed_at}
 use Rattle.dp_queue.proofs.FoundLemmas.{found-same, found-replaced, talks-before}
 use Rattle.dp_queue.proofs.GoodLemmas.{by_test, right-untalked, right-unrung, talks_with-freed, rung-freed, rung-nobody, is_talking-none, linked-joined, linked-left, linked-set, linked-same, linked-mapped, busy-within, ringing-waits, talking-right}
@@ -23,7 +23,7 @@ use Rattle.dp_queue.proofs.WaitingLemmas.{waits_in-joined, waits_in-left, waits_
 use borrow.Author.Tests.{eqb-true, eq-eqb}
 
 -- the seat of one channel is put in its place, and those of the others stay right
-pub seated-replaced : (seats new : SeatsOf) (qs ps : List QueueOf) (as' bs : List Agent) (c : ℕ) (s : Option Seat)
+pub seated-replaced : (seats new : SeatsOf) (qs ps : List QueueOf) (as' bs : List Agent) (c : ℕ) (s : Option WaitingSeat)
     → AreSeated seats qs as' → ReplacesSeat c s seats new → s ≡ option_map (seat_in bs c) (waits_in ps c)
     → ((d : ℕ) → (c == d) ≡ false → waits_in ps d ≡ waits_in qs d)
     → ((d : ℕ) → (c == d) ≡ false → rung_count bs d ≡ rung_count as' d) → AreSeated new ps bs
@@ -56,22 +56,22 @@ kept-at seats qs ps as' bs same_queues same_agents kept =
     subst P (sym same_queues) (subst Q (sym same_agents) kept)
 
 -- a channel that has a seat waits in its queue
-pub seated-waits : (seats : SeatsOf) (qs : List QueueOf) (as' : List Agent) (c : ℕ) (s : Seat) → AreSeated seats qs as'
+pub seated-waits : (seats : SeatsOf) (qs : List QueueOf) (as' : List Agent) (c : ℕ) (s : WaitingSeat) → AreSeated seats qs as'
     → seat_at seats c ≡ Some s → waits_in qs c ≡ Some s.queue
 seated-waits seats qs as' c s seated here = by (waits_in qs c) (sym (seated c) ∙ here)
   where
     by : (o : Option ℕ) → option_map (seat_in as' c) o ≡ Some s → o ≡ Some s.queue
     by None e = absurd (none-some s e)
-    by (Some k) e = ap (λ (t : Seat). Some t.queue) (same_Some (seat_in as' c k) s e)
+    by (Some k) e = ap (λ (t : WaitingSeat). Some t.queue) (same_Some (seat_in as' c k) s e)
 
 -- the seat says how many agents ring for it
-pub seated-rung : (seats : SeatsOf) (qs : List QueueOf) (as' : List Agent) (c : ℕ) (s : Seat) → AreSeated seats qs as'
+pub seated-rung : (seats : SeatsOf) (qs : List QueueOf) (as' : List Agent) (c : ℕ) (s : WaitingSeat) → AreSeated seats qs as'
     → seat_at seats c ≡ Some s → s.rung ≡ rung_count as' c
 seated-rung seats qs as' c s seated here = by (waits_in qs c) (sym (seated c) ∙ here)
   where
     by : (o : Option ℕ) → option_map (seat_in as' c) o ≡ Some s → s.rung ≡ rung_count as' c
     by None e = absurd (none-some s e)
-    by (Some k) e = ap (λ (t : Seat). t.rung) (sym (same_Some (seat_in as' c k) s e))
+    by (Some k) e = ap (λ (t : WaitingSeat). t.rung) (sym (same_Some (seat_in as' c k) s e))
 
 -- one that waits has a seat
 pub seated-some : (seats : SeatsOf) (qs : List QueueOf) (as' : List Agent) (c k : ℕ) → AreSeated seats qs as'
@@ -117,7 +117,7 @@ module _ (seats new : SeatsOf) (qs ps : List QueueOf) (as' : List Agent) (kept :
   -- what each agent did before a channel left
   talks-left : (c d : ℕ) (bs : List Agent) (a : ℕ) → bs ≡ all_freed c as' → talks_with d (state_at bs a) ≡ true → talks_with d (state_at as' a) ≡ true
   talks-left c d bs a freed talks =
-      sym (talks_with-freed c d (state_at as' a)) ∙ ap (talks_with d) (sym (state_at-freed c as' a)) ∙ ap (λ x. talks_with d (state_at x a)) (sym freed) ∙ talks
+      sym (talks_with-freed c d (state_at as' a)) ∙ ap (talks_with d) (sym (state_at-idle_if_ringing c as' a)) ∙ ap (λ x. talks_with d (state_at x a)) (sym freed) ∙ talks
 
   -- no agent talks with a channel that waits
   untalked : (c k a : ℕ) → waits_in qs c ≡ Some k → talks_with c (state_at as' a) ≡ true → ⊥
@@ -162,7 +162,7 @@ module _ (seats new : SeatsOf) (qs ps : List QueueOf) (as' : List Agent) (kept :
 pub ringing-rung : (seats : SeatsOf) (qs : List QueueOf) (as' : List Agent) (a k c : ℕ) → AreKept seats qs as' → state_at as' a ≡ Ringing k c
     → rung_at seats c ≡ rung_count as' c
 ringing-rung seats qs as' a k c kept is =
-    ap (λ (o : Option Seat). unwrap_or (option_map (λ seat. seat.rung) o) 0) (kept.1 c ∙ ap (option_map (seat_in as' c)) (ringing-waits qs as' a k c kept.0 is))
+    ap (λ (o : Option WaitingSeat). unwrap_or (option_map (λ seat. seat.rung) o) 0) (kept.1 c ∙ ap (option_map (seat_in as' c)) (ringing-waits qs as' a k c kept.0 is))
 
 -- where it rings no longer, they are one less
 pub ringing-less : (seats : SeatsOf) (qs : List QueueOf) (as' : List Agent) (a k c rung : ℕ) (s : AgentState) → AreKept seats qs as'
@@ -198,14 +198,14 @@ kept-answered seats new qs ps as' bs cs a c k kept is left freed talks put talk 
     )
 
     is_freed : state_at bs a ≡ freed_state c (Ringing k c)
-    is_freed = ap (λ x. state_at x a) freed ∙ state_at-freed c as' a ∙ ap (freed_state c) is
+    is_freed = ap (λ x. state_at x a) freed ∙ state_at-idle_if_ringing c as' a ∙ ap (freed_state c) is
 
     idle_rings : (d : ℕ) → rings_for d (freed_state c (Ringing k c)) ≡ false
     idle_rings d = ap (λ (b : Bool). rings_for d (if b then Idle else Ringing k c)) (self_eq c)
 
     alone : (d : ℕ) → (c == d) ≡ true → (b : ℕ) → talks_with d (state_at bs b) ≡ false
     alone d same b =
-        ap (talks_with d) (ap (λ x. state_at x b) freed ∙ state_at-freed c as' b) ∙ talks_with-freed c d (state_at as' b)
+        ap (talks_with d) (ap (λ x. state_at x b) freed ∙ state_at-idle_if_ringing c as' b) ∙ talks_with-freed c d (state_at as' b)
         ∙ right-untalked qs d k (state_at as' b) (ap (waits_in qs) (sym (eqb-true c d same)) ∙ waits) (kept.0.rings_right b)
 
     here : (b : ℕ) → talks_with c (state_at (with_state_at a (Talking k c) bs) b) ≡ true → Some a ≡ Some b

@@ -7,8 +7,8 @@ use Rattle.dp_conf.specs.declared.fault.ConfFault.{ConfFault}
 use Rattle.dp_conf.specs.declared.fault.ConfFault.TheVariants.{At, NoMemory as conf_no_memory}
 use Rattle.dp_conf.proofs.TakingLemmas.{all_taken-refused}
 use Rattle.dp_queue.specs.Faults.{fault_of_conf, reason_of, text_fault}
-use Rattle.dp_queue.specs.File.{FileOf, unread, after_line, after_lines, loaded}
-use Rattle.dp_queue.specs.steps.Loading.{after_one, filed}
+use Rattle.dp_queue.specs.File.{FileOf, unread, after_line, after_lines, queues_in}
+use Rattle.dp_queue.specs.steps.Loading.{after_one, file_of}
 use Rattle.dp_queue.specs.Queues.{QueuesOf}
 use Rattle.dp_queue.specs.Rest.{IsAtRest}
 use Rattle.dp_queue.specs.declared.fault.QueueFault.{QueueFault}
@@ -25,9 +25,9 @@ after_each (Ok file) (line ∷ lines) = after_each (after_line file line) lines
 after_each (Err fault) (line ∷ lines) = after_each (Err fault) lines
 
 -- where all lines were taken, the text makes what they made
-pub filed-taken : (text : List ℕ) (before state : State) → before ≡ Ok unread → all_taken after_one before (lines_of text) ≡ Ok state → filed text ≡ state
-unfolding filed
-filed-taken text before state new e = by (lines_of text) (sym (ap (λ (s : State). all_taken after_one s (lines_of text)) new) ∙ e)
+pub file_of-taken : (text : List ℕ) (before state : State) → before ≡ Ok unread → all_taken after_one before (lines_of text) ≡ Ok state → file_of text ≡ state
+unfolding file_of
+file_of-taken text before state new e = by (lines_of text) (sym (ap (λ (s : State). all_taken after_one s (lines_of text)) new) ∙ e)
   where
     by : (read : Result (List LineOf) LineFault) → all_taken after_one (Ok unread) read ≡ Ok state → (text_fault read >>= λ lines. after_lines unread lines) ≡ state
     by (Ok lines) e =
@@ -36,17 +36,17 @@ filed-taken text before state new e = by (lines_of text) (sym (ap (λ (s : State
     by (Err fault) e = absurd cc
 
 -- where a line of the text is refused, so is the text
-pub Refuses-text : (text : List ℕ) (before : State) (conf : ConfFault) → Refuses (line_fault conf) (all_taken after_one before (lines_of text)) → Refuses (reason_of (fault_of_conf conf)) (filed text)
-unfolding filed
+pub Refuses-text : (text : List ℕ) (before : State) (conf : ConfFault) → Refuses (line_fault conf) (all_taken after_one before (lines_of text)) → Refuses (reason_of (fault_of_conf conf)) (file_of text)
+unfolding file_of
 Refuses-text text before (At line kind) refused =
     ap (λ read. text_fault read >>= λ lines. after_lines unread lines)
     (all_taken-refused after_one before (lines_of text) (record { line = line; kind = kind }) refused)
 Refuses-text text before conf_no_memory refused = tt
 
 -- what a text makes is at rest
-pub filed-at_rest : (text : List ℕ) (file : FileOf) → filed text ≡ Ok file → IsAtRest file.made
-unfolding filed
-filed-at_rest text file e = by (lines_of text) e
+pub file_of-at_rest : (text : List ℕ) (file : FileOf) → file_of text ≡ Ok file → IsAtRest file.made
+unfolding file_of
+file_of-at_rest text file e = by (lines_of text) e
   where
     by : (read : Result (List LineOf) LineFault) → (text_fault read >>= λ lines. after_lines unread lines) ≡ Ok file → IsAtRest file.made
     by (Ok lines) e = made-at_rest lines file e
@@ -57,9 +57,9 @@ abbrev pub made_of : State → Result QueuesOf QueueFault
 made_of state = state >>= λ file. Ok file.made
 
 -- the queues of a text are those that it makes
-pub loaded-filed : (text : List ℕ) → made_of (filed text) ≡ loaded text
-unfolding filed loaded
-loaded-filed text = by (lines_of text)
+pub queues_in-file_of : (text : List ℕ) → made_of (file_of text) ≡ queues_in text
+unfolding file_of queues_in
+queues_in-file_of text = by (lines_of text)
   where
     by : (read : Result (List LineOf) LineFault) → made_of (text_fault read >>= λ lines. after_lines unread lines) ≡ (text_fault read >>= λ lines. after_lines unread lines >>= λ file. Ok file.made)
     by (Ok lines) = refl

@@ -8,7 +8,7 @@ use Rattle.std.proofs.lemmas.List.Sums.{prefix_len-le-length, fails_before_first
 use Rattle.std.specs.List.{All, AllPairs, list_any, position_or_len}
 use Rattle.std.specs.Option.{option_map, unwrap_or}
 use Rattle.dp_conf.specs.Words.{same_text}
-use Rattle.dp_queue.specs.Agents.{agent_number, is_named, with_state_at, freed, all_freed}
+use Rattle.dp_queue.specs.Agents.{agent_number, is_named, with_state_at, idle_if_ringing, all_freed}
 use Rattle.dp_queue.specs.Calls.{finished_member, finished_queue}
 use Rattle.dp_conf.specs.Changes.{changed_at}
 use Rattle.dp_queue.specs.Changes.{without, one_more}
@@ -149,8 +149,8 @@ members-set a s qs as' members = members-named qs as' (with_state_at a s as') (l
     names (suc a) (x ∷ xs) (suc k) d = names a xs k d
 
 -- the agents that ring for a channel become idle
-pub members-freed : (c : ℕ) (qs : List QueueOf) (as' : List Agent) → AreMembers qs as' → AreMembers qs (all_freed c as')
-members-freed c qs as' members = members-named qs as' (all_freed c as') (length-map as' (freed c)) (names as') members
+pub members-idle_if_ringing : (c : ℕ) (qs : List QueueOf) (as' : List Agent) → AreMembers qs as' → AreMembers qs (all_freed c as')
+members-idle_if_ringing c qs as' members = members-named qs as' (all_freed c as') (length-map as' (idle_if_ringing c)) (names as') members
   where
     names : (xs : List Agent) (k : ℕ) (d : Agent) → (get_or (all_freed c xs) k d).name ≡ (get_or xs k d).name
     names [] k d = refl

@@ -6,7 +6,7 @@ use Rattle.std.proofs.lemmas.List.Kept.{AllPairs-filter}
 use Rattle.std.specs.Option.{option_map, option_to_list}
 use Rattle.std.specs.List.{All, filter, find, list_any, position}
 use Rattle.dp_queue.specs.Agents.{state_at, is_idle, is_rung, rings_for, talks_with, with_state_at}
-use Rattle.dp_queue.specs.Choices.{is_idle_at, is_candidate, least_penalty, lesser, rank, turned_at, turned, picked, chosen}
+use Rattle.dp_queue.specs.Choices.{is_idle_at, is_candidate, least_penalty, lesser, rank, turned_at, members_after, one_choice, choices_of}
 use Rattle.dp_queue.specs.Good.{AreKnown, StandOnce, AreLinked}
 use Rattle.dp_conf.specs.Changes.{changed_at}
 use Rattle.dp_queue.specs.Joining.{has_caller, waits_in}
@@ -203,21 +203,21 @@ all-least P f best (m ∷ ms) first each = all-least P f (lesser f best m) ms (b
         by_less false = first
 
 -- of the members turned round
-all-turned : (P : Member → Type 0) (last : Option ℕ) (ms : List Member) → All P ms → All P (turned last ms)
-all-turned P None ms each = each
-all-turned P (Some agent) ms each = by (position (is_agent agent) ms)
+all-members_after : (P : Member → Type 0) (last : Option ℕ) (ms : List Member) → All P ms → All P (members_after last ms)
+all-members_after P None ms each = each
+all-members_after P (Some agent) ms each = by (position (is_agent agent) ms)
   where
     by : (o : Option ℕ) → All P (turned_at o ms)
     by None = each
     by (Some place) = All-append P (drop (place + 1) ms) (take (place + 1) ms) (All-drop P (place + 1) ms each) (All-take P (place + 1) ms each)
 
 -- and so of all that a strategy chooses
-pub all-chosen : (P : Member → Type 0) (s : Strategy) (last : Option ℕ) (test : Member → Bool) (ms : List Member) → All P ms → All P (chosen s last test ms)
-all-chosen P RingAll last test ms each = All-filter test P ms each
-all-chosen P Linear last test ms each = all-found P test ms each
-all-chosen P LeastRecent last test ms each = all-least P (rank Last) None (filter test ms) (All-nil P) (All-filter test P ms each)
-all-chosen P FewestCalls last test ms each = all-least P (rank Calls) None (filter test ms) (All-nil P) (All-filter test P ms each)
-all-chosen P RrMemory last test ms each = all-found P test (turned last ms) (all-turned P last ms each)
+pub all-choices_of : (P : Member → Type 0) (s : Strategy) (last : Option ℕ) (test : Member → Bool) (ms : List Member) → All P ms → All P (choices_of s last test ms)
+all-choices_of P RingAll last test ms each = All-filter test P ms each
+all-choices_of P Linear last test ms each = all-found P test ms each
+all-choices_of P LeastRecent last test ms each = all-least P (rank Last) None (filter test ms) (All-nil P) (All-filter test P ms each)
+all-choices_of P FewestCalls last test ms each = all-least P (rank Calls) None (filter test ms) (All-nil P) (All-filter test P ms each)
+all-choices_of P RrMemory last test ms each = all-found P test (members_after last ms) (all-members_after P last ms each)
 
 -- each that a strategy chooses is a candidate
 passes-found : (test : Member → Bool) (ms : List Member) → All (λ (m : Member). test m ≡ true) (option_to_list (find test ms))
@@ -229,14 +229,14 @@ passes-found test (m ∷ ms) = by (test m) refl (passes-found test ms)
     by true passes rest = All-cons (λ (m : Member). test m ≡ true) m [] passes (All-nil (λ (m : Member). test m ≡ true))
     by false fails rest = rest
 
-pub passes-chosen : (s : Strategy) (last : Option ℕ) (test : Member → Bool) (ms : List Member) → All (λ (m : Member). test m ≡ true) (chosen s last test ms)
-passes-chosen RingAll last test ms = filter_passes test ms
-passes-chosen Linear last test ms = passes-found test ms
-passes-chosen LeastRecent last test ms =
+pub passes-choices_of : (s : Strategy) (last : Option ℕ) (test : Member → Bool) (ms : List Member) → All (λ (m : Member). test m ≡ true) (choices_of s last test ms)
+passes-choices_of RingAll last test ms = filter_passes test ms
+passes-choices_of Linear last test ms = passes-found test ms
+passes-choices_of LeastRecent last test ms =
     all-least (λ (m : Member). test m ≡ true) (rank Last) None (filter test ms) (All-nil (λ (m : Member). test m ≡ true)) (filter_passes test ms)
-passes-chosen FewestCalls last test ms =
+passes-choices_of FewestCalls last test ms =
     all-least (λ (m : Member). test m ≡ true) (rank Calls) None (filter test ms) (All-nil (λ (m : Member). test m ≡ true)) (filter_passes test ms)
-passes-chosen RrMemory last test ms = passes-found test (turned last ms)
+passes-choices_of RrMemory last test ms = passes-found test (members_after last ms)
 
 -- of one member at most no two are one agent
 once-few : (o : Option Member) → StandOnce (option_to_list o)
@@ -244,12 +244,12 @@ once-few None j k d before within = absurd (omega (arith, within))
 once-few (Some m) j k d before within = absurd (omega (arith, before, within))
 
 -- and of those that a strategy chooses
-once-chosen : (s : Strategy) (last : Option ℕ) (test : Member → Bool) (ms : List Member) → StandOnce ms → StandOnce (chosen s last test ms)
-once-chosen RingAll last test ms once = AllPairs-filter (λ (member : Member) (other : Member). member.agent ≢ other.agent) test ms once
-once-chosen Linear last test ms once = once-few (picked Linear last test ms)
-once-chosen LeastRecent last test ms once = once-few (picked LeastRecent last test ms)
-once-chosen FewestCalls last test ms once = once-few (picked FewestCalls last test ms)
-once-chosen RrMemory last test ms once = once-few (picked RrMemory last test ms)
+once-choices_of : (s : Strategy) (last : Option ℕ) (test : Member → Bool) (ms : List Member) → StandOnce ms → StandOnce (choices_of s last test ms)
+once-choices_of RingAll last test ms once = AllPairs-filter (λ (member : Member) (other : Member). member.agent ≢ other.agent) test ms once
+once-choices_of Linear last test ms once = once-few (one_choice Linear last test ms)
+once-choices_of LeastRecent last test ms once = once-few (one_choice LeastRecent last test ms)
+once-choices_of FewestCalls last test ms once = once-few (one_choice FewestCalls last test ms)
+once-choices_of RrMemory last test ms once = once-few (one_choice RrMemory last test ms)
 
 -- other agents are as idle where one comes to ring
 idle-others : (a : ℕ) (s : AgentState) (as' : List Agent) (ms : List Member) → All (λ (m : Member). a ≢ m.agent) ms
@@ -330,7 +330,7 @@ kept-offered seats new qs ps as' bs asked count kept is_asked rung counted chose
     is_chosen = ap (chosen_in as' asked.penalty) is_asked.at
 
     known : AreKnown (length as') (chosen_of as' asked.penalty is_asked.queue)
-    known = all-chosen (λ (member : Member). member.agent < length as') is_asked.queue.settings.strategy is_asked.queue.last
+    known = all-choices_of (λ (member : Member). member.agent < length as') is_asked.queue.settings.strategy is_asked.queue.last
         (is_candidate as' asked.penalty) is_asked.queue.members
         (all-at (λ (q : QueueOf). AreKnown (length as') q.members) qs asked.queue is_asked.queue is_asked.at kept.0.members.are_agents)
 
@@ -338,10 +338,10 @@ kept-offered seats new qs ps as' bs asked count kept is_asked rung counted chose
     idle = All-weaker (λ (m : Member). is_candidate as' asked.penalty m ≡ true) (λ (m : Member). is_idle (state_at as' m.agent) ≡ true)
         (λ m may. candidate-idle as' asked.penalty m may)
         (chosen_of as' asked.penalty is_asked.queue)
-        (passes-chosen is_asked.queue.settings.strategy is_asked.queue.last (is_candidate as' asked.penalty) is_asked.queue.members)
+        (passes-choices_of is_asked.queue.settings.strategy is_asked.queue.last (is_candidate as' asked.penalty) is_asked.queue.members)
 
     once : StandOnce (chosen_of as' asked.penalty is_asked.queue)
-    once = once-chosen is_asked.queue.settings.strategy is_asked.queue.last (is_candidate as' asked.penalty) is_asked.queue.members
+    once = once-choices_of is_asked.queue.settings.strategy is_asked.queue.last (is_candidate as' asked.penalty) is_asked.queue.members
         (all-at (λ (q : QueueOf). StandOnce q.members) qs asked.queue is_asked.queue is_asked.at kept.0.members.stand_once)
 
     waits : waits_in qs asked.channel ≡ Some asked.queue

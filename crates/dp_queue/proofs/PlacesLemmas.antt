@@ -9,7 +9,7 @@ use Rattle.std.specs.Option.{option_map}
 use borrow.Author.Tests.{eqb-true, eq-eqb, ltb-true, ltb-false}
 use Rattle.std.specs.HashMap.{get}
 use Rattle.dp_conf.specs.Words.{same_text}
-use Rattle.dp_queue.specs.Places.{later, last_position, last_place, place_before, LastsOf, hashes_of, AreLasts, AreChained}
+use Rattle.dp_queue.specs.steps.Places.{later, last_position, last_place, place_before, LastsOf, hashes_of, AreLasts, AreChained}
 use Rattle.dp_queue.specs.declared.places.Link.{Link}
 use Rattle.dp_queue.proofs.MemberLemmas.{pairs-head, pairs-tail}
 
@@ -72,9 +72,9 @@ chained-push links new chained before k link here = ⊎_elim old last (cases_lt 
         ∙ ap (λ hs. last_place hs link.hash) (sym (front (omega (arith, is)) ∙ ap (λ n. take n (hashes_of links)) count ∙ all (hashes_of links)))
 
 -- how many elements lead up to a place and the element there
-abbrev pub cut : Option ℕ → ℕ
-cut None = 0
-cut (Some place) = suc place
+abbrev pub size_through : Option ℕ → ℕ
+size_through None = 0
+size_through (Some place) = suc place
 
 -- a place is not before the first, so nothing is there
 later-none : (b : Bool) (o : Option ℕ) → later b o ≡ None → (b ≡ false) × (o ≡ None)
@@ -84,17 +84,17 @@ later-none b (Some k) e = absurd (cc)
 
 module _ {X : Type 0} where
   -- the last that passes lies before the last that passes an easier test, or is that one
-  pub last_position-cut : (p q : X → Bool) → ((x : X) → p x ≡ true → q x ≡ true) → (xs : List X)
-      → last_position p (take (cut (last_position q xs)) xs) ≡ last_position p xs
-  last_position-cut p q easier [] = refl
-  last_position-cut p q easier (x ∷ xs) = by (last_position q xs) (q x) refl (last_position-cut p q easier xs)
+  pub last_position-size_through : (p q : X → Bool) → ((x : X) → p x ≡ true → q x ≡ true) → (xs : List X)
+      → last_position p (take (size_through (last_position q xs)) xs) ≡ last_position p xs
+  last_position-size_through p q easier [] = refl
+  last_position-size_through p q easier (x ∷ xs) = by (last_position q xs) (q x) refl (last_position-size_through p q easier xs)
     where
       neither : (b : Bool) → p x ≡ b → q x ≡ false → None ≡ later b None
       neither true passes fails = let both : q x ≡ true = easier x passes in absurd (cc)
       neither false passes fails = refl
 
-      by : (o : Option ℕ) (b : Bool) → q x ≡ b → last_position p (take (cut o) xs) ≡ last_position p xs
-          → last_position p (take (cut (later b o)) (x ∷ xs)) ≡ later (p x) (last_position p xs)
+      by : (o : Option ℕ) (b : Bool) → q x ≡ b → last_position p (take (size_through o) xs) ≡ last_position p xs
+          → last_position p (take (size_through (later b o)) (x ∷ xs)) ≡ later (p x) (last_position p xs)
       by None true here rest = ap (later (p x)) rest
       by None false here rest = neither (p x) refl here ∙ ap (later (p x)) rest
       by (Some k) b here rest = ap (later (p x)) rest
@@ -111,11 +111,11 @@ module _ {X : Type 0} where
       by false = refl
 
   -- it is one of them
-  pub cut-most : (p : X → Bool) (xs : List X) → cut (last_position p xs) ≤ length xs
-  cut-most p [] = omega arith
-  cut-most p (x ∷ xs) = by (p x) (last_position p xs) (cut-most p xs)
+  pub size_through-most : (p : X → Bool) (xs : List X) → size_through (last_position p xs) ≤ length xs
+  size_through-most p [] = omega arith
+  size_through-most p (x ∷ xs) = by (p x) (last_position p xs) (size_through-most p xs)
     where
-      by : (b : Bool) (o : Option ℕ) → cut o ≤ length xs → cut (later b o) ≤ suc (length xs)
+      by : (b : Bool) (o : Option ℕ) → size_through o ≤ length xs → size_through (later b o) ≤ suc (length xs)
       by true None most = omega arith
       by false None most = omega arith
       by b (Some k) most = omega (arith, most)
@@ -151,7 +151,7 @@ module _ {X : Type 0} where
 
 -- a walk along the places of a hash: what passes lies before the place that comes next, and that place has the hash
 pub record IsWalked {X : Type 0} (p : X → Bool) (f : X → ℕ) (hash : ℕ) (xs : List X) (at : Option ℕ) : Type 0 where
-  pub rest : last_position p (take (cut at) xs) ≡ last_position p xs
+  pub rest : last_position p (take (size_through at) xs) ≡ last_position p xs
   pub has : (k : ℕ) → at ≡ Some k → slice_get (map f xs) k ≡ Some hash
 
 module _ {X : Type 0} (p : X → Bool) (f : X → ℕ) (hash : ℕ) (same : (x : X) → p x ≡ true → f x ≡ hash) where
@@ -161,7 +161,7 @@ module _ {X : Type 0} (p : X → Bool) (f : X → ℕ) (hash : ℕ) (same : (x :
   -- the hash of a last place
   has-last : (xs : List X) (k : ℕ) → last_position (λ x. f x == hash) xs ≡ Some k → slice_get (map f xs) k ≡ Some hash
   has-last xs k found =
-      let within : k < length xs = omega (arith, cut-most (λ (x : X). f x == hash) xs, ap cut found) in
+      let within : k < length xs = omega (arith, size_through-most (λ (x : X). f x == hash) xs, ap size_through found) in
       by (slice_get xs k) refl within
     where
       by : (o : Option X) → slice_get xs k ≡ o → k < length xs → slice_get (map f xs) k ≡ Some hash
@@ -179,7 +179,7 @@ module _ {X : Type 0} (p : X → Bool) (f : X → ℕ) (hash : ℕ) (same : (x :
   walked-first xs at is =
       let place : at ≡ last_position (λ x. f x == hash) xs = is ∙ last_position-map (λ (h : ℕ). h == hash) f xs in
       record {
-        rest = ap (λ o. last_position p (take (cut o) xs)) place ∙ last_position-cut p (λ x. f x == hash) hashed xs;
+        rest = ap (λ o. last_position p (take (size_through o) xs)) place ∙ last_position-size_through p (λ x. f x == hash) hashed xs;
         has = λ k here. has-last xs k (sym place ∙ here);
       }
 
@@ -190,16 +190,16 @@ module _ {X : Type 0} (p : X → Bool) (f : X → ℕ) (hash : ℕ) (same : (x :
       let place : at ≡ last_position (λ y. f y == hash) (take k xs) =
       is ∙ ap (place_before (map f xs) k) (walked.has k refl) ∙ ap (λ hs. last_place hs hash) (take-map f k xs)
       ∙ last_position-map (λ (h : ℕ). h == hash) f (take k xs) in
-      let most : cut at ≤ k = omega (arith, ap cut place, cut-most (λ (y : X). f y == hash) (take k xs), length-take k xs) in
+      let most : size_through at ≤ k = omega (arith, ap size_through place, size_through-most (λ (y : X). f y == hash) (take k xs), length-take k xs) in
       record {
         rest =
-            sym (ap (last_position p) (take-fewer (cut at) k xs most))
-            ∙ ap (λ o. last_position p (take (cut o) (take k xs))) place
-            ∙ last_position-cut p (λ y. f y == hash) hashed (take k xs)
+            sym (ap (last_position p) (take-fewer (size_through at) k xs most))
+            ∙ ap (λ o. last_position p (take (size_through o) (take k xs))) place
+            ∙ last_position-size_through p (λ y. f y == hash) hashed (take k xs)
             ∙ sym (last_position-at p xs k x here ∙ ap (λ (b : Bool). if b then Some k else last_position p (take k xs)) fails)
             ∙ walked.rest;
         has = λ j found.
-            sym (slice_get-fewer k (map f xs) j (omega (arith, most, ap cut found)))
+            sym (slice_get-fewer k (map f xs) j (omega (arith, most, ap size_through found)))
             ∙ ap (λ hs. slice_get hs j) (take-map f k xs) ∙ has-last (take k xs) j (sym place ∙ found);
       }
     where
@@ -275,9 +275,9 @@ text-same (x ∷ xs) (y ∷ ys) same =
     both false b e = absurd (cc)
 
 -- the walk goes on to places before
-pub before-less : (hashes : List ℕ) (k : ℕ) (at : Option ℕ) → at ≡ place_before hashes k (slice_get hashes k) → cut at < suc k
+pub before-less : (hashes : List ℕ) (k : ℕ) (at : Option ℕ) → at ≡ place_before hashes k (slice_get hashes k) → size_through at < suc k
 before-less hashes k at is = by (slice_get hashes k) is
   where
-    by : (o : Option ℕ) → at ≡ place_before hashes k o → cut at < suc k
-    by None e = omega (arith, ap cut e)
-    by (Some h) e = omega (arith, ap cut e, cut-most (λ (other : ℕ). other == h) (take k hashes), length-take k hashes)
+    by : (o : Option ℕ) → at ≡ place_before hashes k o → size_through at < suc k
+    by None e = omega (arith, ap size_through e)
+    by (Some h) e = omega (arith, ap size_through e, size_through-most (λ (other : ℕ). other == h) (take k hashes), length-take k hashes)

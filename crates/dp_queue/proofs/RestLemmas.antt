@@ -11,7 +11,7 @@ use Rattle.dp_conf.specs.Lines.{LineOf, Header, Pair}
 use Rattle.dp_conf.specs.Words.{same_word}
 use Rattle.dp_queue.specs.Agents.{agent_number, state_at, talks_with}
 use Rattle.dp_queue.specs.Faults.{at_line}
-use Rattle.dp_queue.specs.File.{FileOf, unread, begun_by, begun, penalty_in, argument_at, is_passed_over, with_named, membered, with_queue_setting, set, paired, after_pair, after_line, after_lines}
+use Rattle.dp_queue.specs.File.{FileOf, unread, begun_by, after_header, penalty_in, argument_at, is_passed_over, with_named, with_member_line, with_queue_setting, with_key, with_pair, after_pair, after_line, after_lines}
 use Rattle.dp_queue.specs.Good.{IsRight, AreMembers, AreLinked}
 use Rattle.dp_queue.specs.Joining.{waits_in, times_waiting}
 use Rattle.dp_queue.specs.Keys.{setting_of}
@@ -84,8 +84,8 @@ abbrev is_at_rest : FileOf → Type 0
 is_at_rest file = IsAtRest file.made
 
 -- a line leaves the queues at rest
-begun-at_rest : (file : FileOf) (name : List ℕ) → IsAtRest file.made → IfOk (begun file name) is_at_rest
-begun-at_rest file name rest = by (same_word name (codes "general"))
+after_header-at_rest : (file : FileOf) (name : List ℕ) → IsAtRest file.made → IfOk (after_header file name) is_at_rest
+after_header-at_rest file name rest = by (same_word name (codes "general"))
   where
     by_number : (o : Option ℕ) → IfOk (begun_by file name o) is_at_rest
     by_number None = record {
@@ -115,10 +115,10 @@ named-at_rest q number name penalty rest = by (is_passed_over q number name)
       all_idle = with_agent-idle q.agents name rest.all_idle;
     }
 
-paired-at_rest : (q : QueuesOf) (number : ℕ) (key value : List ℕ) → IsAtRest q → IfOk (paired q number key value) IsAtRest
-paired-at_rest q number key value rest = by (same_word key (codes "member"))
+with_pair-at_rest : (q : QueuesOf) (number : ℕ) (key value : List ℕ) → IsAtRest q → IfOk (with_pair q number key value) IsAtRest
+with_pair-at_rest q number key value rest = by (same_word key (codes "member"))
   where
-    by : (b : Bool) → IfOk (if b then membered q number (arguments_of value) else set q number key value) IsAtRest
+    by : (b : Bool) → IfOk (if b then with_member_line q number (arguments_of value) else with_key q number key value) IsAtRest
     by true =
         if_ok-any IsAtRest (penalty_in (argument_at (arguments_of value) 1)) (with_named q number (argument_at (arguments_of value) 0))
         (λ penalty. named-at_rest q number (argument_at (arguments_of value) 0) penalty rest)
@@ -130,10 +130,10 @@ paired-at_rest q number key value rest = by (same_word key (codes "member"))
 pair-at_rest : (file : FileOf) (section : Option ℕ) (key value : List ℕ) → IsAtRest file.made → IfOk (after_pair file section key value) is_at_rest
 pair-at_rest file None key value rest = rest
 pair-at_rest file (Some number) key value rest =
-    if_ok-then IsAtRest is_at_rest (paired file.made number key value) _ (λ q kept. kept) (paired-at_rest file.made number key value rest)
+    if_ok-then IsAtRest is_at_rest (with_pair file.made number key value) _ (λ q kept. kept) (with_pair-at_rest file.made number key value rest)
 
 line-at_rest : (file : FileOf) (line : LineOf) → IsAtRest file.made → IfOk (after_line file line) is_at_rest
-line-at_rest file (Header line name) rest = if_ok-at_line is_at_rest line (begun file name) (begun-at_rest file name rest)
+line-at_rest file (Header line name) rest = if_ok-at_line is_at_rest line (after_header file name) (after_header-at_rest file name rest)
 line-at_rest file (Pair line key value) rest =
     if_ok-at_line is_at_rest line (after_pair file file.section key value) (pair-at_rest file file.section key value rest)
 

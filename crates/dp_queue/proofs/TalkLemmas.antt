@@ -16,7 +16,7 @@ use Rattle.dp_queue.specs.declared.member.Member.{Member}
 use Rattle.dp_queue.specs.declared.offer.OfferRequest.{OfferRequest}
 use Rattle.dp_queue.proofs.AgentLemmas.{state_at-other}
 use Rattle.dp_queue.proofs.GoodLemmas.{by_test}
-use Rattle.dp_queue.proofs.OfferLemmas.{candidate-idle, passes-chosen}
+use Rattle.dp_queue.proofs.OfferLemmas.{candidate-idle, passes-choices_of}
 use Rattle.dp_queue.proofs.WaitingLemmas.{lines-changed_at, waits_in-same}
 use borrow.Author.Tests.{eqb-true, eq-eqb}
 
@@ -86,7 +86,7 @@ silent-chosen as' penalty None = All-nil (λ (m : Member). IsSilent (state_at as
 silent-chosen as' penalty (Some queue) =
     All-weaker (λ (m : Member). is_candidate as' penalty m ≡ true) (λ (m : Member). IsSilent (state_at as' m.agent))
     (λ m may. idle-silent (state_at as' m.agent) (candidate-idle as' penalty m may)) (chosen_in as' penalty (Some queue))
-    (passes-chosen queue.settings.strategy queue.last (is_candidate as' penalty) queue.members)
+    (passes-choices_of queue.settings.strategy queue.last (is_candidate as' penalty) queue.members)
 
 talks-offered_at : (q : QueuesOf) (asked : Result OfferRequest OfferFault) → KeepsTalks q.agents (offer_row_at q asked).0.agents
 talks-offered_at q (Err fault) = talks-self q.agents

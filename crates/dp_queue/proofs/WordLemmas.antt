@@ -13,7 +13,7 @@ use Rattle.std.specs.Option.{option_map, unwrap_or}
 use Rattle.std.specs.declared.hash.FoldHasher.{FoldHasher}
 use Rattle.dp_conf.specs.Words.{same_word}
 use Rattle.dp_conf.specs.Changes.{changed_at}
-use Rattle.dp_queue.specs.Places.{word_hash, with_letter, last_place, place_before, words_of, is_worded_at, AreWorded}
+use Rattle.dp_queue.specs.steps.Places.{word_hash, with_letter, last_place, place_before, words_of, is_worded_at, AreWorded}
 use Rattle.dp_queue.specs.Queues.{QueueOf, queue_number}
 use Rattle.dp_queue.proofs.PlacesLemmas.{IsWalked, walked-first, walked-next, walked-there, walked-found, last_position-only, text-same}
 use borrow.Author.Tests.{ltb-false}

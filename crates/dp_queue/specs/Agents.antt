@@ -80,9 +80,9 @@ abbrev pub freed_state : ℕ → AgentState → AgentState
 freed_state c state = if rings_for c state then Idle else state
 
 -- the agent, idle if it rang for the channel
-abbrev pub freed : ℕ → Agent → Agent
-freed c agent = with_state (freed_state c agent.state) agent
+abbrev pub idle_if_ringing : ℕ → Agent → Agent
+idle_if_ringing c agent = with_state (freed_state c agent.state) agent
 
 -- the agents of which those that ring for the channel become idle
 abbrev pub all_freed : ℕ → List Agent → List Agent
-all_freed c agents = map (freed c) agents
+all_freed c agents = map (idle_if_ringing c) agents

@@ -3,7 +3,7 @@ use Rattle.std.specs.Prelude.{ℕ, Bool, true, false, List, map, Option, Some, N
 use Rattle.dp_queue.specs.Agents.{agent_number, talker, state_at, with_state_at}
 use Rattle.dp_conf.specs.Changes.{changed_at}
 use Rattle.dp_queue.specs.Changes.{one_more}
-use Rattle.dp_queue.specs.Joining.{left}
+use Rattle.dp_queue.specs.Joining.{after_leaving}
 use Rattle.dp_queue.specs.Members.{is_agent}
 use Rattle.dp_queue.specs.Queues.{QueueOf, QueuesOf}
 use Rattle.dp_queue.specs.declared.agent.AgentState.{AgentState}
@@ -20,13 +20,13 @@ abbrev pub with_agent_state : QueuesOf → ℕ → AgentState → QueuesOf
 with_agent_state q a state = record q { agents = with_state_at a state q.agents }
 
 -- the agent and the channel talk: the channel leaves the waiting list, and the other agents that ring for it become idle
-abbrev pub answered : QueuesOf → ℕ → ℕ → ℕ → QueuesOf
-answered q a queue channel = with_agent_state (left q queue channel) a (Talking queue channel)
+abbrev pub after_answer : QueuesOf → ℕ → ℕ → ℕ → QueuesOf
+after_answer q a queue channel = with_agent_state (after_leaving q queue channel) a (Talking queue channel)
 
 -- an agent in this state answers
 abbrev pub answer_row_at : QueuesOf → ℕ → AgentState → QueuesOf × Option Call
 answer_row_at q a Idle = (q, None)
-answer_row_at q a (Ringing queue channel) = (answered q a queue channel, Some (call_of queue a channel))
+answer_row_at q a (Ringing queue channel) = (after_answer q a queue channel, Some (call_of queue a channel))
 answer_row_at q a (Talking queue channel) = (q, None)
 
 -- the agent of a name answers the call that it rings for
@@ -52,8 +52,8 @@ abbrev pub finished_queue : ℕ → ℕ → QueueOf → QueueOf
 finished_queue a count queue = record queue { members = map (finished_member a count) queue.members }
 
 -- the talk of an agent ends: the agent becomes idle, and one more call is finished
-abbrev pub ended : QueuesOf → ℕ → ℕ → QueuesOf
-ended q a queue = record {
+abbrev pub after_talk : QueuesOf → ℕ → ℕ → QueuesOf
+after_talk q a queue = record {
   queues = changed_at (finished_queue a (one_more q.finished)) queue q.queues;
   agents = with_state_at a Idle q.agents;
   finished = one_more q.finished;
@@ -63,7 +63,7 @@ ended q a queue = record {
 abbrev pub done_row_at : QueuesOf → ℕ → AgentState → QueuesOf × Option Call
 done_row_at q a Idle = (q, None)
 done_row_at q a (Ringing queue channel) = (q, None)
-done_row_at q a (Talking queue channel) = (ended q a queue, Some (call_of queue a channel))
+done_row_at q a (Talking queue channel) = (after_talk q a queue, Some (call_of queue a channel))
 
 -- the agent of a name is done with the call that it talks with
 abbrev pub done_row : QueuesOf → List ℕ → QueuesOf × Option Call

@@ -44,9 +44,9 @@ turned_at None members = members
 turned_at (Some place) members = drop (place + 1) members ++ take (place + 1) members
 
 -- the members turned round to begin after the one chosen last; as they are where none was, or where it is no member
-abbrev pub turned : Option ℕ → List Member → List Member
-turned None members = members
-turned (Some last) members = turned_at (position (is_agent last) members) members
+abbrev pub members_after : Option ℕ → List Member → List Member
+members_after None members = members
+members_after (Some last) members = turned_at (position (is_agent last) members) members
 
 -- what members are compared by
 abbrev pub rank : Key → Member → ℕ
@@ -55,25 +55,25 @@ rank Last member = member.last
 rank Calls member = member.calls
 
 -- the one candidate that a strategy chooses, by the one that was chosen last; `ringall` chooses none alone
-abbrev pub picked : Strategy → Option ℕ → (Member → Bool) → List Member → Option Member
-picked RingAll last test members = None
-picked Linear last test members = find test members
-picked LeastRecent last test members = first_least (rank Last) (filter test members)
-picked FewestCalls last test members = first_least (rank Calls) (filter test members)
-picked RrMemory last test members = find test (turned last members)
+abbrev pub one_choice : Strategy → Option ℕ → (Member → Bool) → List Member → Option Member
+one_choice RingAll last test members = None
+one_choice Linear last test members = find test members
+one_choice LeastRecent last test members = first_least (rank Last) (filter test members)
+one_choice FewestCalls last test members = first_least (rank Calls) (filter test members)
+one_choice RrMemory last test members = find test (members_after last members)
 
 -- the candidates that a strategy chooses: `ringall` all of them, and another one at most
-abbrev pub chosen : Strategy → Option ℕ → (Member → Bool) → List Member → List Member
-chosen RingAll last test members = filter test members
-chosen Linear last test members = option_to_list (picked Linear last test members)
-chosen LeastRecent last test members = option_to_list (picked LeastRecent last test members)
-chosen FewestCalls last test members = option_to_list (picked FewestCalls last test members)
-chosen RrMemory last test members = option_to_list (picked RrMemory last test members)
+abbrev pub choices_of : Strategy → Option ℕ → (Member → Bool) → List Member → List Member
+choices_of RingAll last test members = filter test members
+choices_of Linear last test members = option_to_list (one_choice Linear last test members)
+choices_of LeastRecent last test members = option_to_list (one_choice LeastRecent last test members)
+choices_of FewestCalls last test members = option_to_list (one_choice FewestCalls last test members)
+choices_of RrMemory last test members = option_to_list (one_choice RrMemory last test members)
 
 -- the agent of the member that was chosen, and the one before where none was
-abbrev pub remembered : Option ℕ → Option Member → Option ℕ
-remembered last None = last
-remembered last (Some member) = Some member.agent
+abbrev pub last_choice : Option ℕ → Option Member → Option ℕ
+last_choice last None = last
+last_choice last (Some member) = Some member.agent
 
 -- the agent that is remembered as the one chosen last
 abbrev pub last_after : Strategy → Option ℕ → (Member → Bool) → List Member → Option ℕ
@@ -81,7 +81,7 @@ last_after RingAll last test members = last
 last_after Linear last test members = last
 last_after LeastRecent last test members = last
 last_after FewestCalls last test members = last
-last_after RrMemory last test members = remembered last (picked RrMemory last test members)
+last_after RrMemory last test members = last_choice last (one_choice RrMemory last test members)
 
 -- the queue that remembers the agent that was chosen
 abbrev pub with_last : Option ℕ → QueueOf → QueueOf

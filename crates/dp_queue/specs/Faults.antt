@@ -3,6 +3,7 @@ use Rattle.std.specs.Prelude.{ℕ, Option, Some, None, Result, Ok, Err}
 use Rattle.dp_conf.specs.Lines.{LineFault}
 use Rattle.dp_conf.specs.declared.fault.ConfFault.{ConfFault}
 use Rattle.dp_conf.specs.declared.fault.ConfFault.TheVariants.{At, NoMemory as conf_no_memory}
+use Rattle.dp_conf.specs.declared.first_fault.FaultyLine.{FaultyLine}
 use Rattle.dp_queue.specs.declared.fault.QueueKind.{QueueKind}
 use Rattle.dp_queue.specs.declared.fault.QueueFault.{QueueFault}
 use Rattle.dp_queue.specs.declared.fault.QueueFault.TheVariants.{Conf, Queue, NoMemory}
@@ -11,6 +12,10 @@ use Rattle.dp_queue.specs.declared.fault.QueueFault.TheVariants.{Conf, Queue, No
 abbrev pub fault_of_conf : ConfFault → QueueFault
 fault_of_conf (At line kind) = Conf (At line kind)
 fault_of_conf conf_no_memory = NoMemory
+
+-- a line of a queue that is refused, as a fault of the queues
+abbrev pub fault_of_line : FaultyLine QueueKind → QueueFault
+fault_of_line fault = Queue fault.line fault.kind
 
 -- why a file of queues is refused; want of memory is no reason
 abbrev pub reason_of : QueueFault → Option QueueFault

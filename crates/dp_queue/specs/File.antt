@@ -42,8 +42,8 @@ begun_by file name None = Ok (with_queue file name)
 begun_by file name (Some number) = Err DoubleQueue
 
 -- after a header; `[general]` in any case is no queue
-abbrev pub begun : FileOf → List ℕ → Result FileOf QueueKind
-begun file name =
+abbrev pub after_header : FileOf → List ℕ → Result FileOf QueueKind
+after_header file name =
     if same_word name (codes "general") then Ok (record file { section = None })
     else begun_by file name (queue_number file.made.queues name)
 
@@ -70,8 +70,8 @@ with_named q number name penalty =
     if is_passed_over q number name then q else with_member_at q number name penalty false
 
 -- the queues after a member's line, by its arguments: the name, and the penalty
-abbrev pub membered : QueuesOf → ℕ → List (List ℕ) → Result QueuesOf QueueKind
-membered q number arguments =
+abbrev pub with_member_line : QueuesOf → ℕ → List (List ℕ) → Result QueuesOf QueueKind
+with_member_line q number arguments =
     penalty_of arguments >>= λ penalty. Ok (with_named q number (argument_at arguments 0) penalty)
 
 -- the queue with one of its settings changed
@@ -83,13 +83,13 @@ abbrev pub with_setting_at : QueuesOf → ℕ → Setting → QueuesOf
 with_setting_at q number setting = record q { queues = changed_at (with_queue_setting setting) number q.queues }
 
 -- the queues after a line of another key
-abbrev pub set : QueuesOf → ℕ → List ℕ → List ℕ → Result QueuesOf QueueKind
-set q number key value = setting_of key value >>= λ setting. Ok (with_setting_at q number setting)
+abbrev pub with_key : QueuesOf → ℕ → List ℕ → List ℕ → Result QueuesOf QueueKind
+with_key q number key value = setting_of key value >>= λ setting. Ok (with_setting_at q number setting)
 
 -- the queues after a pair in the section of the queue of a number
-abbrev pub paired : QueuesOf → ℕ → List ℕ → List ℕ → Result QueuesOf QueueKind
-paired q number key value =
-    if same_word key (codes "member") then membered q number (arguments_of value) else set q number key value
+abbrev pub with_pair : QueuesOf → ℕ → List ℕ → List ℕ → Result QueuesOf QueueKind
+with_pair q number key value =
+    if same_word key (codes "member") then with_member_line q number (arguments_of value) else with_key q number key value
 
 -- the section stays
 abbrev pub with_made : FileOf → QueuesOf → FileOf
@@ -101,11 +101,11 @@ made_in file made = made >>= λ q. Ok (with_made file q)
 -- after a pair, by its section; what stands in `[general]` is not read
 abbrev pub after_pair : FileOf → Option ℕ → List ℕ → List ℕ → Result FileOf QueueKind
 after_pair file None key value = Ok file
-after_pair file (Some number) key value = made_in file (paired file.made number key value)
+after_pair file (Some number) key value = made_in file (with_pair file.made number key value)
 
 -- after one more line, or the line's fault
 abbrev pub after_line : FileOf → LineOf → Result FileOf QueueFault
-after_line file (Header line name) = at_line line (begun file name)
+after_line file (Header line name) = at_line line (after_header file name)
 after_line file (Pair line key value) = at_line line (after_pair file file.section key value)
 
 -- after some lines, or the fault of the first that has one
@@ -114,5 +114,5 @@ after_lines file [] = Ok file
 after_lines file (line ∷ lines) = after_line file line >>= λ next. after_lines next lines
 
 -- the queues of a file: the faults of its text come before those of queues
-unfoldable pub loaded : List ℕ → Result QueuesOf QueueFault
-loaded text = text_fault (lines_of text) >>= λ lines. after_lines unread lines >>= λ file. Ok file.made
+unfoldable pub queues_in : List ℕ → Result QueuesOf QueueFault
+queues_in text = text_fault (lines_of text) >>= λ lines. after_lines unread lines >>= λ file. Ok file.made

@@ -63,15 +63,15 @@ abbrev pub without_caller : ℕ → QueueOf → QueueOf
 without_caller c queue = record queue { waiting = without (λ d. d == c) queue.waiting }
 
 -- the queues after what a call that asks to join is told
-abbrev pub joined : QueuesOf → ℕ → Join → QueuesOf
-joined q c Unknown = q
-joined q c Empty = q
-joined q c Full = q
-joined q c (Joined number) = record q { queues = changed_at (with_caller c) number q.queues }
+abbrev pub after_join : QueuesOf → ℕ → Join → QueuesOf
+after_join q c Unknown = q
+after_join q c Empty = q
+after_join q c Full = q
+after_join q c (Joined number) = record q { queues = changed_at (with_caller c) number q.queues }
 
 -- a call asks to join
 abbrev pub join_row : QueuesOf → List ℕ → ℕ → QueuesOf × Join
-join_row q name c = (joined q c (would_join q.queues name), would_join q.queues name)
+join_row q name c = (after_join q c (would_join q.queues name), would_join q.queues name)
 
 -- whether the call waits in the queue
 abbrev pub has_caller : ℕ → QueueOf → Bool
@@ -93,13 +93,13 @@ times_waiting [] c = 0
 times_waiting (queue ∷ queues) c = times_in c queue.waiting + times_waiting queues c
 
 -- the call leaves the queue of a number, and the agents that ring for it become idle
-abbrev pub left : QueuesOf → ℕ → ℕ → QueuesOf
-left q number c = record q { queues = changed_at (without_caller c) number q.queues; agents = all_freed c q.agents }
+abbrev pub after_leaving : QueuesOf → ℕ → ℕ → QueuesOf
+after_leaving q number c = record q { queues = changed_at (without_caller c) number q.queues; agents = all_freed c q.agents }
 
 -- a call leaves, by the number of the queue in which it waits
 abbrev pub leave_row_at : QueuesOf → ℕ → Option ℕ → QueuesOf × Bool
 leave_row_at q c None = (q, false)
-leave_row_at q c (Some number) = (left q number c, true)
+leave_row_at q c (Some number) = (after_leaving q number c, true)
 
 -- a call leaves the queue in which it waits
 abbrev pub leave_row : QueuesOf → ℕ → QueuesOf × Bool

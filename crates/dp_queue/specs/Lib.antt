@@ -10,7 +10,6 @@ pub mod Keys
 pub mod Members
 pub mod Choices
 pub mod Offers
-pub mod Places
 pub mod Queues
 pub mod Rest
 pub mod steps

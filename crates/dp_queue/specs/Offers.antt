@@ -3,7 +3,7 @@ use Rattle.std.specs.Prelude.{ℕ, not, List, [], length, fold, Option, Some, No
 use Rattle.std.specs.List.{find}
 use Rattle.dp_queue.specs.Agents.{is_rung, with_state_at}
 use Rattle.dp_conf.specs.Changes.{changed_at}
-use Rattle.dp_queue.specs.Choices.{is_candidate, least_penalty, chosen, last_after}
+use Rattle.dp_queue.specs.Choices.{is_candidate, least_penalty, choices_of, last_after}
 use Rattle.dp_queue.specs.Queues.{QueueOf, QueuesOf, queue_number}
 use Rattle.dp_queue.specs.declared.agent.Agent.{Agent}
 use Rattle.dp_queue.specs.declared.agent.AgentState.TheVariants.{Ringing}
@@ -35,7 +35,7 @@ asked_at queues agents (Some number) = asked_in agents number (slice_get queues 
 
 -- the members that are chosen of a queue
 abbrev pub chosen_of : List Agent → ℕ → QueueOf → List Member
-chosen_of agents penalty queue = chosen queue.settings.strategy queue.last (is_candidate agents penalty) queue.members
+chosen_of agents penalty queue = choices_of queue.settings.strategy queue.last (is_candidate agents penalty) queue.members
 
 -- the members that are chosen, where there is a queue
 abbrev pub chosen_in : List Agent → ℕ → Option QueueOf → List Member
@@ -52,8 +52,8 @@ abbrev pub all_ringing : ℕ → ℕ → List Member → List Agent → List Age
 all_ringing queue channel members agents = fold (λ known member. with_state_at member.agent (Ringing queue channel) known) agents members
 
 -- the queues after an offer to these members, and how many they are
-abbrev pub offered : QueuesOf → OfferRequest → List Member → QueuesOf × Result Offered OfferFault
-offered q asked members = (
+abbrev pub after_offer : QueuesOf → OfferRequest → List Member → QueuesOf × Result Offered OfferFault
+after_offer q asked members = (
   record q {
     queues = changed_at (with_choice q.agents asked.penalty) asked.queue q.queues;
     agents = all_ringing asked.queue asked.channel members q.agents;
@@ -64,7 +64,7 @@ offered q asked members = (
 -- an offer by what it asks for
 abbrev pub offer_row_at : QueuesOf → Result OfferRequest OfferFault → QueuesOf × Result Offered OfferFault
 offer_row_at q (Err fault) = (q, Err fault)
-offer_row_at q (Ok asked) = offered q asked (chosen_in q.agents asked.penalty (slice_get q.queues asked.queue))
+offer_row_at q (Ok asked) = after_offer q asked (chosen_in q.agents asked.penalty (slice_get q.queues asked.queue))
 
 -- a call of the queue of a name is offered
 abbrev pub offer_row : QueuesOf → List ℕ → QueuesOf × Result Offered OfferFault

@@ -67,7 +67,7 @@ pub(crate) fn set_state(agents: &mut Vec<Agent>, number: usize, state: AgentStat
 }
 
 /// The state of an agent after the end of a channel's waiting.
-fn freed(state: AgentState, channel: u32) -> AgentState
+fn state_without_call(state: AgentState, channel: u32) -> AgentState
     ensures { result ≡ spec.freed_state channel state }
 {
     if rings_for(state, channel) {
@@ -82,7 +82,7 @@ fn free_each(agents: &mut [Agent], channel: u32)
     ensures { agents.new ≡ spec.all_freed channel agents.old }
 {
     for agent in agents.iter_mut() {
-        agent.state = freed(agent.state, channel);
+        agent.state = state_without_call(agent.state, channel);
     }
 }
 

@@ -9,7 +9,7 @@ use crate::call::Call;
 use crate::joining::unseat;
 use crate::member::one_more;
 use crate::queues::Queues;
-use crate::seat::{Seat, Seats, leave_seat, put_seat, put_talk, rung_at, talk_at};
+use crate::waiting_seat::{Seats, WaitingSeat, leave_seat, put_seat, put_talk, rung_at, talk_at};
 
 /// The number of the agent that talks with the channel; the number of the agents where there is none.
 fn talker(agents: &[Agent], seats: &Seats, channel: u32) -> usize
@@ -44,7 +44,7 @@ impl Queues {
                     &mut self.queues,
                     &mut self.agents,
                     &self.seats,
-                    Seat { queue, rung },
+                    WaitingSeat { queue, rung },
                     channel,
                 );
                 put_talk(&mut self.seats, channel, number);
@@ -67,7 +67,7 @@ impl Queues {
             AgentState::Ringing { queue, channel } => {
                 let rung = rung_at(&self.seats, channel) - 1;
                 self.agents.set_state(number, AgentState::Idle);
-                put_seat(&mut self.seats, channel, Seat { queue, rung });
+                put_seat(&mut self.seats, channel, WaitingSeat { queue, rung });
                 true
             }
             AgentState::Idle | AgentState::Talking { .. } => false,

@@ -147,7 +147,7 @@ fn next_in_turn<'a>(
     last: Option<usize>,
     members: &'a [Member],
 ) -> Option<&'a Member>
-    ensures { option_copied result ≡ find (spec.is_candidate agents.now penalty) (spec.turned last members.now) }
+    ensures { option_copied result ≡ find (spec.is_candidate agents.now penalty) (spec.members_after last members.now) }
 {
     match last {
         None => first(agents, penalty, members),
@@ -159,14 +159,14 @@ fn next_in_turn<'a>(
 }
 
 /// The one candidate that a strategy chooses; `ringall` chooses none alone.
-pub(crate) fn picked<'a>(
+pub(crate) fn pick_one<'a>(
     strategy: Strategy,
     last: Option<usize>,
     agents: &[Agent],
     penalty: u32,
     members: &'a [Member],
 ) -> Option<&'a Member>
-    ensures { option_copied result ≡ spec.picked strategy last (spec.is_candidate agents.now penalty) members.now }
+    ensures { option_copied result ≡ spec.one_choice strategy last (spec.is_candidate agents.now penalty) members.now }
 {
     match strategy {
         Strategy::RingAll => None,

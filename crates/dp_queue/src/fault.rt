@@ -3,7 +3,7 @@ ghost use Rattle.std.specs.Prelude.{◌≡◌, ◌++◌, Some, codes, decimal};
 ghost use Rattle.dp_conf.specs.Codes.{conf_fault_text};
 ghost use Rattle.dp_queue.specs.Codes.{queue_code, queue_name, offer_code, offer_name, queue_fault_text};
 
-use dp_conf::{ConfFault, NoMemory};
+use dp_conf::{ConfFault, FaultyLine, NoMemory};
 use std::alloc::AllocFailed;
 use std::error::Error;
 use std::fmt;
@@ -69,6 +69,18 @@ impl From<ConfFault> for QueueFault {
             ConfFault::At { line, kind } => QueueFault::Conf(ConfFault::At { line, kind }),
             ConfFault::NoMemory => QueueFault::NoMemory,
         }
+    }
+}
+
+impl From<FaultyLine<QueueKind>> for QueueFault {
+    ghost use Rattle.dp_queue.specs.Faults.{fault_of_line};
+    ghost use Rattle.std.specs.Prelude.{◌≡◌};
+
+    ghost from_gives = { λ faulty fault. fault ≡ fault_of_line faulty };
+
+    fn from(faulty: FaultyLine<QueueKind>) -> Self {
+        let FaultyLine { line, kind } = faulty;
+        QueueFault::Queue { line, kind }
     }
 }
 

@@ -4,19 +4,20 @@ ghost use Rattle.dp_conf.specs.Answers.{Answers};
 ghost use Rattle.dp_conf.specs.Borrowed.{line_now};
 ghost use Rattle.dp_conf.specs.Levels.{arguments_of};
 ghost use Rattle.dp_queue.specs.Queues.{queue_number};
-ghost use Rattle.dp_queue.specs.Faults.{at_line, reason_of};
+ghost use Rattle.dp_queue.specs.Faults.{at_line};
 ghost use Rattle.dp_queue.specs.File as spec;
 ghost use Rattle.dp_queue.specs.Rest.{IsAtRest};
+ghost use Rattle.dp_queue.specs.steps.Loading.{line_reason};
 
 use crate::agents::Agents;
-use crate::fault::{QueueFault, QueueKind};
+use crate::fault::QueueKind;
 use crate::membership::{add_member, is_member_at};
 use crate::queue::Queue;
 use crate::queue_list::QueueList;
 use crate::queues::Queues;
-use crate::seat::Seats;
 use crate::setting::{Setting, at_line, read_limited, read_setting};
-use dp_conf::{Line, NoMemory, same_word, split_args};
+use crate::waiting_seat::Seats;
+use dp_conf::{FaultyLine, Line, NoMemory, TakeFault, same_word, split_args};
 use std::alloc::Global;
 use std::marker::Model;
 
@@ -101,18 +102,18 @@ impl File {
     }
 
     /// Goes after a header.
-    fn begin(&mut self, alloc: Global, line: usize, name: &[u8]) -> Result<(), QueueFault>
-        ensures { Answers (λ done. self.new) reason_of result (at_line line (spec.begun self.old name.now)) }
+    fn begin(&mut self, alloc: Global, line: usize, name: &[u8]) -> Result<(), TakeFault<QueueKind>>
+        ensures { Answers (λ done. self.new) line_reason result (at_line line (spec.after_header self.old name.now)) }
     {
         if same_word(name, b"general") {
             self.section = None;
             return Ok(());
         }
         if self.queues.number_of(name).is_some() {
-            return Err(QueueFault::Queue {
+            return Err(TakeFault::Line(FaultyLine {
                 line,
                 kind: QueueKind::DoubleQueue,
-            });
+            }));
         }
         self.push_queue(alloc, name)?;
         Ok(())
@@ -151,10 +152,10 @@ impl File {
         line: usize,
         number: usize,
         arguments: &[&[u8]],
-    ) -> Result<(), QueueFault>
+    ) -> Result<(), TakeFault<QueueKind>>
         requires { number < length self.old.made.queues }
-        ensures { Answers (λ done. self.new) reason_of result (at_line line (spec.made_in self.old
-            (spec.membered self.old.made number (map (λ argument. argument.now) arguments.now)))) }
+        ensures { Answers (λ done. self.new) line_reason result (at_line line (spec.made_in self.old
+            (spec.with_member_line self.old.made number (map (λ argument. argument.now) arguments.now)))) }
     {
         let penalty = at_line(line, penalty_of(arguments))?;
         self.add_named(alloc, number, argument_at(arguments, 0), penalty)?;
@@ -168,10 +169,10 @@ impl File {
         line: usize,
         number: usize,
         value: &[u8],
-    ) -> Result<(), QueueFault>
+    ) -> Result<(), TakeFault<QueueKind>>
         requires { number < length self.old.made.queues }
-        ensures { Answers (λ done. self.new) reason_of result
-            (at_line line (spec.made_in self.old (spec.membered self.old.made number (arguments_of value.now)))) }
+        ensures { Answers (λ done. self.new) line_reason result
+            (at_line line (spec.made_in self.old (spec.with_member_line self.old.made number (arguments_of value.now)))) }
     {
         let arguments = split_args(alloc, value)?;
         self.take_arguments(alloc, line, number, &arguments)
@@ -185,10 +186,10 @@ impl File {
         number: usize,
         key: &[u8],
         value: &[u8],
-    ) -> Result<(), QueueFault>
+    ) -> Result<(), TakeFault<QueueKind>>
         requires { number < length self.old.made.queues }
-        ensures { Answers (λ done. self.new) reason_of result
-            (at_line line (spec.made_in self.old (spec.set self.old.made number key.now value.now))) }
+        ensures { Answers (λ done. self.new) line_reason result
+            (at_line line (spec.made_in self.old (spec.with_key self.old.made number key.now value.now))) }
     {
         let setting = read_setting(alloc, line, key, value)?;
         self.queues.set(number, setting);
@@ -202,8 +203,8 @@ impl File {
         line: usize,
         key: &[u8],
         value: &[u8],
-    ) -> Result<(), QueueFault>
-        ensures { Answers (λ done. self.new) reason_of result
+    ) -> Result<(), TakeFault<QueueKind>>
+        ensures { Answers (λ done. self.new) line_reason result
             (at_line line (spec.after_pair self.old self.old.section key.now value.now)) }
     {
         match self.section {
@@ -218,8 +219,8 @@ impl File {
     }
 
     /// Goes after a line.
-    pub(crate) fn take(&mut self, alloc: Global, line: Line<'_>) -> Result<(), QueueFault>
-        ensures { Answers (λ done. self.new) reason_of result (spec.after_line self.old (line_now line.entry)) }
+    pub(crate) fn take(&mut self, alloc: Global, line: Line<'_>) -> Result<(), TakeFault<QueueKind>>
+        ensures { Answers (λ done. self.new) line_reason result (spec.after_line self.old (line_now line.entry)) }
     {
         match line {
             Line::Header { line, name } => self.begin(alloc, line, name),

@@ -10,11 +10,10 @@ use crate::freeing::free_rung;
 use crate::join::Join;
 use crate::queue_list::QueueList;
 use crate::queues::Queues;
-use crate::seat::{
-    Seat, Seats, leave_seat, make_room, next_arrival, place_by_arrival, seat_at, take_seat,
+use crate::waiting_seat::{
+    Seats, WaitingSeat, leave_seat, make_room, next_arrival, place_by_arrival, seat_at, take_seat,
 };
 use dp_conf::NoMemory;
-use std::alloc::Global;
 
 /// What a call that asks to join the queue of a name is told.
 fn join_answer(queues: &QueueList, name: &[u8]) -> Join
@@ -48,7 +47,7 @@ fn sit(
     take_seat(
         seats,
         channel,
-        Seat {
+        WaitingSeat {
             queue: number,
             rung: 0,
         },
@@ -62,7 +61,7 @@ pub(crate) fn unseat(
     queues: &mut QueueList,
     agents: &mut Agents,
     seats: &Seats,
-    seat: Seat,
+    seat: WaitingSeat,
     channel: u32,
 )
     requires within { seat.queue < length queues.old }
@@ -87,7 +86,7 @@ impl Queues {
 
     /// A call asks to join the queue of this name, in any ASCII case, and is the last that waits there unless it is told
     /// otherwise. It is told first that the queue is too empty, by `joinempty`, and then that it is full.
-    pub fn join(&mut self, _alloc: Global, queue: &[u8], channel: u32) -> Result<Join, NoMemory>
+    pub fn join(&mut self, queue: &[u8], channel: u32) -> Result<Join, NoMemory>
         requires nowhere { spec.waits_in self.old.queues channel ≡ None }
         requires silent { is_talking self.old.agents channel ≡ false }
         ensures ok { IfOk result (λ join. spec.join_row self.old queue.now channel ≡ (self.new, join)) }

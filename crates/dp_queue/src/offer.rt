@@ -12,14 +12,14 @@ ghost use Rattle.dp_queue.specs.steps.Seats.{AreSeated, is_unrung};
 
 use crate::agent::{Agent, AgentState};
 use crate::agents::Agents;
-use crate::choice::{is_candidate, least_penalty, picked};
+use crate::choice::{is_candidate, least_penalty, pick_one};
 use crate::fault::OfferFault;
 use crate::member::Member;
 use crate::queue::Queue;
 use crate::queue_list::QueueList;
 use crate::queues::Queues;
-use crate::seat::{Seat, Seats, put_seat, seat_at};
 use crate::settings::Strategy;
+use crate::waiting_seat::{Seats, WaitingSeat, put_seat, seat_at};
 use std::collections::VecDeque;
 
 /// A call that is offered: its channel, and to how many agents.
@@ -151,8 +151,8 @@ fn ring_picked(agents: &mut Agents, asked: OfferRequest, picked: Option<&Member>
 }
 
 /// The agent that is remembered after a choice.
-fn remembered(last: Option<usize>, picked: Option<&Member>) -> Option<usize>
-    ensures { result ≡ choices.remembered last (option_copied picked.entry) }
+fn last_choice(last: Option<usize>, picked: Option<&Member>) -> Option<usize>
+    ensures { result ≡ choices.last_choice last (option_copied picked.entry) }
 {
     match picked {
         Some(member) => Some(member.agent),
@@ -162,9 +162,9 @@ fn remembered(last: Option<usize>, picked: Option<&Member>) -> Option<usize>
 
 /// The member that the strategy of the queue chooses; `ringall` chooses none alone.
 fn picked_in<'a>(agents: &[Agent], penalty: u32, queue: &'a Queue) -> Option<&'a Member>
-    ensures { option_copied result ≡ choices.picked queue.now.settings.strategy queue.now.last (choices.is_candidate agents.now penalty) queue.now.members }
+    ensures { option_copied result ≡ choices.one_choice queue.now.settings.strategy queue.now.last (choices.is_candidate agents.now penalty) queue.now.members }
 {
-    picked(
+    pick_one(
         queue.settings().strategy,
         queue.last(),
         agents,
@@ -195,7 +195,7 @@ fn ring(agents: &mut Agents, asked: OfferRequest, queue: &Queue) -> (usize, Opti
         }
         Strategy::RrMemory => {
             let chosen = picked_in(agents.list(), asked.penalty, queue);
-            let last = remembered(queue.last(), chosen);
+            let last = last_choice(queue.last(), chosen);
             let count = ring_picked(agents, asked, chosen);
             (count, last)
         }
@@ -231,7 +231,7 @@ impl Queues {
                 put_seat(
                     &mut self.seats,
                     asked.channel,
-                    Seat {
+                    WaitingSeat {
                         queue: asked.queue,
                         rung,
                     },

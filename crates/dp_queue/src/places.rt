@@ -1,7 +1,7 @@
 //! Where the elements of a list stand by the hashes of their names. The places of one hash are a chain, the last of them
 //! first, so that a name is found without a walk over the list.
 ghost use Rattle.std.specs.Prelude.{◌≡◌, ◌++◌, ◌∷◌, [], OnOk, OnErr, slice_get};
-ghost use Rattle.dp_queue.specs.Places as spec;
+ghost use Rattle.dp_queue.specs.steps.Places as spec;
 
 use dp_conf::NoMemory;
 use std::alloc::Global;
@@ -26,7 +26,7 @@ pub(crate) struct Places {
 
 impl Model for Places {
     ghost use Rattle.std.specs.Prelude.{ℕ, List};
-    ghost use Rattle.dp_queue.specs.Places.{hashes_of, AreLasts, AreChained};
+    ghost use Rattle.dp_queue.specs.steps.Places.{hashes_of, AreLasts, AreChained};
 
     ghost Value = { List ℕ };
 
@@ -36,7 +36,7 @@ impl Model for Places {
 }
 
 /// The hash of a word, the same in each ASCII case.
-#[tactic(auto, unfolding(crate::specs::Places::word_hash))]
+#[tactic(auto, unfolding(crate::specs::steps::Places::word_hash))]
 pub(crate) fn word_hash(word: &[u8]) -> u64
     ensures { result ≡ spec.word_hash word.now }
 {

@@ -7,7 +7,7 @@ ghost use Rattle.dp_queue.specs.Choices.{with_last};
 ghost use Rattle.dp_queue.specs.File.{queue_named, with_queue_setting};
 ghost use Rattle.dp_queue.specs.Joining.{times_waiting, with_caller, without_caller};
 ghost use Rattle.dp_queue.specs.Members.{is_member_at, with_member, without_member, paused_queue};
-ghost use Rattle.dp_queue.specs.Places.{AreWorded, is_worded_at};
+ghost use Rattle.dp_queue.specs.steps.Places.{AreWorded, is_worded_at};
 ghost use Rattle.dp_queue.specs.Queues as spec;
 
 use crate::member::Member;
@@ -28,7 +28,7 @@ pub(crate) struct QueueList {
 
 impl Model for QueueList {
     ghost use Rattle.std.specs.Prelude.{List};
-    ghost use Rattle.dp_queue.specs.Places.{AreWorded};
+    ghost use Rattle.dp_queue.specs.steps.Places.{AreWorded};
     ghost use Rattle.dp_queue.specs.Queues.{QueueOf};
 
     ghost Value = { List QueueOf };

@@ -9,7 +9,7 @@ use crate::agent::Agent;
 use crate::agents::Agents;
 use crate::queue::Queue;
 use crate::queue_list::QueueList;
-use crate::seat::{Seats, seat_at};
+use crate::waiting_seat::{Seats, seat_at};
 use dp_vars::Counts;
 use std::marker::Model;
 

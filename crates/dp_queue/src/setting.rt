@@ -3,10 +3,11 @@ ghost use Rattle.std.specs.Prelude.{◌≡◌};
 ghost use Rattle.dp_conf.specs.Answers.{Answers};
 ghost use Rattle.dp_queue.specs.Faults as faults;
 ghost use Rattle.dp_queue.specs.Keys as spec;
+ghost use Rattle.dp_queue.specs.steps.Loading.{line_read, line_reason};
 
-use crate::fault::{QueueFault, QueueKind};
+use crate::fault::QueueKind;
 use crate::settings::{EmptyRule, Settings, Strategy};
-use dp_conf::{Text, read_number, same_word};
+use dp_conf::{FaultyLine, TakeFault, Text, read_number, same_word};
 use std::alloc::Global;
 
 /// The greatest number that a file of queues may have.
@@ -30,12 +31,15 @@ pub(crate) enum Setting {
 }
 
 /// The fault of a line, at its number.
-pub(crate) fn at_line<T: Drop>(line: usize, read: Result<T, QueueKind>) -> Result<T, QueueFault>
-    ensures { result ≡ faults.at_line line read }
+pub(crate) fn at_line<T: Drop>(
+    line: usize,
+    read: Result<T, QueueKind>,
+) -> Result<T, TakeFault<QueueKind>>
+    ensures { result ≡ line_read line read }
 {
     match read {
         Ok(value) => Ok(value),
-        Err(kind) => Err(QueueFault::Queue { line, kind }),
+        Err(kind) => Err(TakeFault::Line(FaultyLine { line, kind })),
     }
 }
 
@@ -112,8 +116,8 @@ pub(crate) fn read_setting(
     line: usize,
     key: &[u8],
     value: &[u8],
-) -> Result<Setting, QueueFault>
-    ensures { Answers (λ setting. setting) faults.reason_of result
+) -> Result<Setting, TakeFault<QueueKind>>
+    ensures { Answers (λ setting. setting) line_reason result
         (faults.at_line line (spec.setting_of key.now value.now)) }
 {
     if same_word(key, b"strategy") {

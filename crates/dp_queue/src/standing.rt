@@ -9,7 +9,7 @@ use crate::agents::Agents;
 use crate::call::Call;
 use crate::queue_list::QueueList;
 use crate::queues::Queues;
-use crate::seat::Seats;
+use crate::waiting_seat::Seats;
 use std::alloc::Global;
 
 impl Queues {

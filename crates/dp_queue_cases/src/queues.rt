@@ -7,10 +7,10 @@ mod rows;
 mod sizes;
 mod steps;
 
-use crate::queues::render::{push_fault, shown};
+use crate::queues::render::{push_fault, queues_text};
 use crate::queues::sizes::{count_of, file_of, push_counts};
 use crate::queues::steps::take;
-use dp_questions::{Question, bytes_of, check_all};
+use dp_case_tables::{Question, bytes_of, check_all};
 use dp_queue::{NoMemory, QueueFault, Queues};
 use std::alloc::Global;
 use std::test::Fail;
@@ -22,7 +22,7 @@ impl Question for Loads {
     fn answer(alloc: Global, asked: &str) -> Result<String, Fail> {
         let text = bytes_of(alloc, asked)?;
         let read = Queues::load(alloc, &text);
-        let got = shown(alloc, &read)?;
+        let got = queues_text(alloc, &read)?;
         Ok(got)
     }
 }

@@ -9,8 +9,8 @@ mod stores;
 ghost use Rattle.std.specs.Prelude.{◌≡◌, codes, if◌then◌else◌, ℕ, List};
 ghost use Rattle.dp_conf.specs.Words.{same_text};
 
+use dp_case_tables::{Question, bytes_of, check_all, push_bytes};
 use dp_conf::{NoMemory, Text};
-use dp_questions::{Question, bytes_of, check_all, push_bytes};
 use dp_vars::{
     Change, ChannelSeen, Counts, Globals, Local, LocalName, Scope, Store, Template, TemplateFault,
     expand,

@@ -16,7 +16,7 @@ use Rattle.dp_vars.specs.Variables.{Named, first_value, value_or_empty}
 use Rattle.dp_app.specs.Lawful.{IsLawful}
 use Rattle.dp_app.specs.Rows.{Rows}
 use Rattle.dp_app.specs.declared.touch.Touch.{Touch}
-use Rattle.dp_machine.specs.Events.{Entered, event_row, opened, started}
+use Rattle.dp_machine.specs.Events.{Entered, event_row, new_channel, start_call}
 use Rattle.dp_machine.specs.Replay.{final_world, world_after}
 use Rattle.dp_machine.specs.Seen.{global_value, globals_of, globals_set, none_waiting, sight_of_globals, with_global}
 use Rattle.dp_machine.specs.World.{World, channel_at, most_channels, opening}
@@ -27,36 +27,36 @@ use Rattle.dp_machine.specs.declared.reply.Reply.TheVariants.{Refused, Started}
 use Rattle.dp_machine.specs.declared.refusal.Refusal.TheVariants.{NumbersSpent}
 use Rattle.dp_pieces.specs.Bytes.{Bytes, IsPart, Within}
 use Rattle.dp_pieces.specs.Names.{IsWhole, IsWithin, Names, variable_pieces}
-use Rattle.dp_pieces.specs.Pieces.{Fits, exactly, made, pieces_set}
+use Rattle.dp_pieces.specs.Pieces.{Fits, exactly, any_bytes_of, pieces_set}
 use Rattle.dp_pieces.specs.Texts.{text_set}
-use Rattle.dp_pieces.proofs.FitsLemmas.{fits-exactly, fits-made, fits-nothing}
+use Rattle.dp_pieces.proofs.FitsLemmas.{fits-exactly, fits-any_bytes_of, fits-nothing}
 use Rattle.dp_pieces.proofs.TextLemmas.{within-expansion}
 use Rattle.dp_pieces.proofs.WithinLemmas.{within-more}
 use Rattle.dp_reach.specs.Areas.{Area, Covers, Includes, IsIn}
 use Rattle.dp_reach.specs.Audits.{IsAudit, IsFromOutside, IsOneOf, Outside, RunsOnly, entrance, names_outside}
 use Rattle.dp_reach.specs.Bounds.{AreBounded, Duties}
 use Rattle.dp_reach.specs.Holding.{AreHeld, Claim, IsChannelIn}
-use Rattle.dp_reach.specs.Runs.{AreAllowed, IsAllowed, IsWorldIn, narrowed}
+use Rattle.dp_reach.specs.Runs.{AreAllowed, IsAllowed, IsWorldIn, with_reach}
 use Rattle.dp_reach.proofs.SightLemmas.{within-first}
 use Rattle.dp_reach.proofs.StoreLemmas.{held-empty, held-insert}
 use Rattle.dp_reach.proofs.WorldLemmas.{each-more, stays-within, world-more}
 
 -- the place of a call that comes in at a context
-at-entrance : (outside : Outside) (name context exten caller : List ℕ) → context ≡ name → Within outside.exten exten → IsIn (entrance outside name) (opened context exten caller).place
+at-entrance : (outside : Outside) (name context exten caller : List ℕ) → context ≡ name → Within outside.exten exten → IsIn (entrance outside name) (new_channel context exten caller).place
 at-entrance outside name context exten caller same is =
-    record { context = subst (λ n. Fits (exactly n) context) same (fits-exactly context); exten = fits-made outside.exten exten is }
+    record { context = subst (λ n. Fits (exactly n) context) same (fits-exactly context); exten = fits-any_bytes_of outside.exten exten is }
 
 -- a place of one of the contexts
 covers-one : (claim : Claim) (outside : Outside) (contexts : List (List ℕ)) → AllByRecursion (λ name. Includes claim.plan claim.reach (entrance outside name)) contexts
-    → (context exten caller : List ℕ) → IsOneOf contexts context → Within outside.exten exten → Covers claim.plan claim.reach (opened context exten caller).place
+    → (context exten caller : List ℕ) → IsOneOf contexts context → Within outside.exten exten → Covers claim.plan claim.reach (new_channel context exten caller).place
 covers-one claim outside [] all context exten caller one is = absurd one
-covers-one claim outside (name ∷ names) all context exten caller (inl same) is = all.0 (opened context exten caller).place (at-entrance outside name context exten caller same is)
+covers-one claim outside (name ∷ names) all context exten caller (inl same) is = all.0 (new_channel context exten caller).place (at-entrance outside name context exten caller same is)
 covers-one claim outside (name ∷ names) all context exten caller (inr there) is = covers-one claim outside names all.1 context exten caller there is
 
 -- a channel that comes in
-in-opened : (claim : Claim) (context exten caller : List ℕ) → Covers claim.plan claim.reach (opened context exten caller).place → Within claim.names.caller caller
-    → IsChannelIn claim (opened context exten caller)
-in-opened claim context exten caller covers is =
+in-new_channel : (claim : Claim) (context exten caller : List ℕ) → Covers claim.plan claim.reach (new_channel context exten caller).place → Within claim.names.caller caller
+    → IsChannelIn claim (new_channel context exten caller)
+in-new_channel claim context exten caller covers is =
     record { place = covers; store = record { variables = held-empty claim.names; locals = tt; back = tt }; caller = is; phase = tt }
 
 -- what the values of globals see: no channel gives its own extension and context, and these are empty then
@@ -66,13 +66,13 @@ nothing-fits names globals held name =
     subst (λ o. Fits (variable_pieces (names_outside names) name) (unwrap_or (option_or o (first_value (globals ∷ []) name)) [])) (sym (get-texts name (given_by None)))
     (by (pointwise nat_eq name (codes "EXTEN")) (pointwise nat_eq name (codes "CONTEXT")) (pointwise nat_eq name (codes "PRIORITY")) (pointwise nat_eq name (codes "CHANNEL")))
   where
-    by : (a b d e : Bool) → Fits (if a then [] else if b then [] else made (names.bytes name))
+    by : (a b d e : Bool) → Fits (if a then [] else if b then [] else any_bytes_of (names.bytes name))
         (unwrap_or (option_or (cond a (Some []) (cond b (Some []) (cond d (Some []) (cond e (Some []) None)))) (first_value (globals ∷ []) name)) [])
     by true b d e = fits-nothing
     by false true d e = fits-nothing
-    by false false true e = fits-made (names.bytes name) [] tt
-    by false false false true = fits-made (names.bytes name) [] tt
-    by false false false false = fits-made (names.bytes name) _ (within-first names (globals ∷ []) name (held, tt))
+    by false false true e = fits-any_bytes_of (names.bytes name) [] tt
+    by false false false true = fits-any_bytes_of (names.bytes name) [] tt
+    by false false false false = fits-any_bytes_of (names.bytes name) _ (within-first names (globals ∷ []) name (held, tt))
 
 -- the empty shape has no bytes
 nothing-part : (set : Bytes) → IsPart (pieces_set []) set
@@ -104,7 +104,7 @@ module _ (touches : List ℕ → Touch) (rows : Rows) (lawful : IsLawful touches
     (claim : Claim) (others : EntryId → Bool) (reach : List Area) (answers : EntryId → Bool) (audit : IsAudit duties outside context claim others reach answers) where
   allowed-one : (event : Event) → IsFromOutside outside event → IsAllowed claim event
   allowed-one (Start at exten caller) is =
-      in-opened claim at exten caller (covers-one claim outside outside.contexts audit.calls at exten caller is.0 is.1)
+      in-new_channel claim at exten caller (covers-one claim outside outside.contexts audit.calls at exten caller is.0 is.1)
       (within-more outside.caller claim.names.caller audit.caller caller is.2)
   allowed-one (Step number) is = tt
   allowed-one (Digit number digit) is = tt
@@ -141,12 +141,12 @@ module _ (touches : List ℕ → Touch) (rows : Rows) (lawful : IsLawful touches
 
   -- the number of the channel that comes in
   record ComesIn (channels : List Channel) (number : ℕ) : Type 0 where
-    channel : (c : Channel) → channel_at channels number ≡ Some c → IsChannelIn (narrowed claim reach) c
+    channel : (c : Channel) → channel_at channels number ≡ Some c → IsChannelIn (with_reach claim reach) c
     known : number ≤ length channels
 
-  comes-more : (channels : List Channel) (c : Channel) (number : ℕ) → IsChannelIn (narrowed claim reach) c → length channels + 1 ≡ number → ComesIn (channels ++ c ∷ []) number
+  comes-more : (channels : List Channel) (c : Channel) (number : ℕ) → IsChannelIn (with_reach claim reach) c → length channels + 1 ≡ number → ComesIn (channels ++ c ∷ []) number
   comes-more channels c number here is = record {
-    channel = λ d at. each-more (λ n e. n ≡ number → IsChannelIn (narrowed claim reach) e) channels c (λ same. here)
+    channel = λ d at. each-more (λ n e. n ≡ number → IsChannelIn (with_reach claim reach) e) channels c (λ same. here)
         (λ n e found same. absurd (past channels (n - 1) e (omega (arith, is, same)) (by n e (n == 0) found))) number d at refl;
     known = omega (arith, is, length-append channels (c ∷ []));
   }
@@ -160,19 +160,19 @@ module _ (touches : List ℕ → Touch) (rows : Rows) (lawful : IsLawful touches
 
   comes-in : (w : World) (exten caller : List ℕ) (number : ℕ) → Within outside.exten exten → Within outside.caller caller
       → (event_row rows w (Start context exten caller)).1 ≡ Started number → ComesIn (final_world rows w (Start context exten caller)).channels number
-  unfolding started
+  unfolding start_call
   comes-in w exten caller number within is reply = by (nat_lt (length w.channels) most_channels) reply
     where
-      here : IsChannelIn (narrowed claim reach) (opened context exten caller)
-      here = in-opened (narrowed claim reach) context exten caller (audit.call (opened context exten caller).place (at-entrance outside context context exten caller refl within))
+      here : IsChannelIn (with_reach claim reach) (new_channel context exten caller)
+      here = in-new_channel (with_reach claim reach) context exten caller (audit.call (new_channel context exten caller).place (at-entrance outside context context exten caller refl within))
           (within-more outside.caller claim.names.caller audit.caller caller is)
 
       after : Bool → Entered
-      after b = if b then (record { channels = w.channels ++ opened context exten caller ∷ []; reply = Started (length w.channels + 1) })
+      after b = if b then (record { channels = w.channels ++ new_channel context exten caller ∷ []; reply = Started (length w.channels + 1) })
           else (record { channels = w.channels; reply = Refused NumbersSpent })
 
       by : (b : Bool) → (after b).reply ≡ Started number → ComesIn (after b).channels number
-      by true reply = comes-more w.channels (opened context exten caller) number here (let e : length w.channels + 1 ≡ number = cc in e)
+      by true reply = comes-more w.channels (new_channel context exten caller) number here (let e : length w.channels + 1 ≡ number = cc in e)
       by false reply = absurd cc
 
   pub runs-only : RunsOnly rows outside context claim.plan claim.settings answers

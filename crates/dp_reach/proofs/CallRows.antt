@@ -10,12 +10,12 @@ use Rattle.dp_conf.specs.Blanks.{trim, trim_end, trim_start}
 use Rattle.dp_conf.specs.Cut.{before_last, cut_once}
 use Rattle.dp_conf.specs.Levels.{arguments_of, parts_arguments, parts_of, split_after}
 use Rattle.dp_plan.specs.Plan.{PlanOf}
-use Rattle.dp_app.specs.declared.cell.Cell.{Cell}
+use Rattle.dp_app.specs.Cells.{CellOf}
 use Rattle.dp_app.specs.declared.place.Place.{Place}
 use Rattle.dp_machine.specs.Found.{is_found}
 use Rattle.dp_machine.specs.Targets.{if_found, parts_context, parts_exten, parts_place, place_by}
-use Rattle.dp_flow.specs.Conditions.{chosen}
-use Rattle.dp_flow.specs.Jumps.{SubroutineCall, called_by, entered, gosub_if, gosub_if_row, gosub_row, inner_arguments, numbered, place_after}
+use Rattle.dp_flow.specs.Conditions.{chosen_side}
+use Rattle.dp_flow.specs.Jumps.{SubroutineCall, called_by, enter_subroutine, gosub_if, gosub_if_row, gosub_row, inner_arguments, argument_locals, place_after}
 use Rattle.dp_pieces.specs.Arguments.{are_clean, shapes_of, split_pieces}
 use Rattle.dp_pieces.specs.Bytes.{Bytes, Within}
 use Rattle.dp_pieces.specs.Cuts.{At, Cutting, Nowhere, Unsure, cut_last, cut_pieces}
@@ -23,7 +23,7 @@ use Rattle.dp_pieces.specs.Fitting.{AllFit, IsCutAs, IsLast}
 use Rattle.dp_pieces.specs.Pieces.{Fits, Piece, exactly, pieces_set}
 use Rattle.dp_pieces.proofs.ArgumentLemmas.{SomeFit, fits-arguments, split-fits}
 use Rattle.dp_pieces.proofs.CutLemmas.{cut-pieces}
-use Rattle.dp_pieces.proofs.FitsLemmas.{fits-exactly, fits-made, fits-set}
+use Rattle.dp_pieces.proofs.FitsLemmas.{fits-exactly, fits-any_bytes_of, fits-set}
 use Rattle.dp_pieces.proofs.LastLemmas.{last-fits}
 use Rattle.dp_pieces.proofs.WithinLemmas.{within-more, within-trim}
 use Rattle.dp_reach.specs.Areas.{Area, Covers, IsIn, IsInOne, targets, targets_of, targets_within}
@@ -31,7 +31,7 @@ use Rattle.dp_reach.specs.Bounds.{HoldsAll, IsBounded, Leads, Meets, MeetsAll, c
 use Rattle.dp_reach.specs.Choices.{last_part, sides_in}
 use Rattle.dp_reach.specs.Holding.{Claim, IsGood, IsInside}
 use Rattle.dp_reach.proofs.CallPieces.{cut-trimmed, last-trimmed, none-trimmed}
-use Rattle.dp_reach.proofs.ChoiceRows.{chosen-fits, chosen-within}
+use Rattle.dp_reach.proofs.ChoiceRows.{chosen_side-fits, chosen_side-within}
 use Rattle.dp_reach.proofs.GotoRow.{includes-all}
 use Rattle.dp_reach.proofs.StoreLemmas.{AreLocals, each-get, kept-with_frame}
 use Rattle.dp_reach.proofs.TargetLemmas.{FitsOne, arguments-within, covers-included, covers-same, in-target, in-within}
@@ -101,7 +101,7 @@ last-part (pieces ∷ other ∷ more) (text ∷ next ∷ texts) part fit is =
 
 -- locals with numbers
 locals-of : (claim : Claim) (number : ℕ) (shapes : List (List Piece)) (values : List (List ℕ)) → AllFit shapes values → MeetsAll claim (numbered_duties number shapes)
-    → AreLocals claim.names (numbered number values)
+    → AreLocals claim.names (argument_locals number values)
 locals-of claim number [] [] are met = tt
 locals-of claim number [] (value ∷ values) are met = absurd are
 locals-of claim number (shape ∷ shapes) [] are met = absurd are
@@ -109,7 +109,7 @@ locals-of claim number (shape ∷ shapes) (value ∷ values) are met =
     (within-more (pieces_set shape) _ met.0 value (fits-set shape value are.0), locals-of claim (number + 1) shapes values are.1 met.1)
 
 locals-all : (claim : Claim) (set : Bytes) → Meets claim (HoldsAll set) → (number : ℕ) (values : List (List ℕ)) → AllByRecursion (Within set) values
-    → AreLocals claim.names (numbered number values)
+    → AreLocals claim.names (argument_locals number values)
 locals-all claim set met number [] all = tt
 locals-all claim set met number (value ∷ values) all =
     (within-more set _ (met (codes "ARG" ++ decimal number)) value all.0, locals-all claim set met (number + 1) values all.1)
@@ -159,24 +159,24 @@ call-within set part call within is = by (cut_once 40 part) refl is
 -- the locals of a call by the pieces of its last part
 module _ (claim : Claim) (set : Bytes) (pieces : List Piece) (part : List ℕ) (call : SubroutineCall) (last : IsLastPart pieces part) (within : Within set part)
     (is : called_by part (cut_once 40 part) ≡ Some call) where
-  all-locals : Meets claim (HoldsAll set) → AreLocals claim.names (numbered 1 call.arguments)
+  all-locals : Meets claim (HoldsAll set) → AreLocals claim.names (argument_locals 1 call.arguments)
   all-locals met = locals-all claim set met 1 call.arguments (call-within set part call within is).arguments
 
   -- by what stands between the parentheses
   inner-locals : (inside : List Piece) (text : List ℕ) → Fits inside text → MeetsAll claim (if are_clean 0 inside then numbered_duties 1 (shapes_of inside) else HoldsAll set ∷ [])
-      → inner_arguments text ≡ call.arguments → AreLocals claim.names (numbered 1 call.arguments)
+      → inner_arguments text ≡ call.arguments → AreLocals claim.names (argument_locals 1 call.arguments)
   inner-locals inside text fits met same = by (are_clean 0 inside) refl met
     where
-      inner : (text : List ℕ) → AllFit (shapes_of inside) (arguments_of text) → MeetsAll claim (numbered_duties 1 (shapes_of inside)) → AreLocals claim.names (numbered 1 (inner_arguments text))
+      inner : (text : List ℕ) → AllFit (shapes_of inside) (arguments_of text) → MeetsAll claim (numbered_duties 1 (shapes_of inside)) → AreLocals claim.names (argument_locals 1 (inner_arguments text))
       inner [] are met = tt
       inner (b ∷ bs) are met = locals-of claim 1 (shapes_of inside) (arguments_of (b ∷ bs)) are met
 
       by : (clean : Bool) → are_clean 0 inside ≡ clean → MeetsAll claim (if clean then numbered_duties 1 (shapes_of inside) else HoldsAll set ∷ [])
-          → AreLocals claim.names (numbered 1 call.arguments)
-      by true clean met = subst (λ values. AreLocals claim.names (numbered 1 values)) same (inner text (fits-arguments inside text clean fits) met)
+          → AreLocals claim.names (argument_locals 1 call.arguments)
+      by true clean met = subst (λ values. AreLocals claim.names (argument_locals 1 values)) same (inner text (fits-arguments inside text clean fits) met)
       by false clean met = all-locals met.0
 
-  part-locals : MeetsAll claim (call_duties set (cut_pieces 40 pieces)) → AreLocals claim.names (numbered 1 call.arguments)
+  part-locals : MeetsAll claim (call_duties set (cut_pieces 40 pieces)) → AreLocals claim.names (argument_locals 1 call.arguments)
   part-locals met = by (cut_pieces 40 pieces) (cut_once 40 last.text) refl (cut-pieces 40 pieces last.text last.fits) met
     where
       to : (cut : Option (List ℕ × List ℕ)) → cut_once 40 (trim last.text) ≡ cut → called_by part cut ≡ Some call
@@ -184,7 +184,7 @@ module _ (claim : Claim) (set : Bytes) (pieces : List Piece) (part : List ℕ) (
 
       inner : (cutting : Cutting) (rest : List ℕ) → IsLast cutting (before_last 41 rest) → MeetsAll claim (inside_duties set cutting) → (front : List ℕ) (o : Option (List ℕ))
           → before_last 41 rest ≡ o → option_map (λ inside. record { priority = front; arguments = inner_arguments inside }) o ≡ Some call
-          → AreLocals claim.names (numbered 1 call.arguments)
+          → AreLocals claim.names (argument_locals 1 call.arguments)
       inner Unsure rest lasts met front o from same = all-locals met.0
       inner Nowhere rest lasts met front None from same = absurd cc
       inner Nowhere rest lasts met front (Some inside) from same = absurd cc
@@ -194,13 +194,13 @@ module _ (claim : Claim) (set : Bytes) (pieces : List Piece) (part : List ℕ) (
           inner-locals i inside (subst (IsLast (At i r)) from lasts) met (ap (λ c. c.arguments) one)
 
       by : (cutting : Cutting) (cut : Option (List ℕ × List ℕ)) → cut_once 40 last.text ≡ cut → IsCutAs cutting cut → MeetsAll claim (call_duties set cutting)
-          → AreLocals claim.names (numbered 1 call.arguments)
+          → AreLocals claim.names (argument_locals 1 call.arguments)
       by Unsure cut from are met = all-locals met.0
       by Nowhere (Some cut) from are met = absurd cc
       by Nowhere None from are met =
           let none = to None (none-trimmed last.text from) in
           let one : (let c : SubroutineCall = record { priority = part; arguments = [] } in c ≡ call) = cc in
-          subst (λ (c : SubroutineCall). AreLocals claim.names (numbered 1 c.arguments)) one tt
+          subst (λ (c : SubroutineCall). AreLocals claim.names (argument_locals 1 c.arguments)) one tt
       by (At f r) None from are met = absurd are
       by (At f r) (Some cut) from are met =
           inner (cut_last 41 r) cut.1 (last-fits 41 r cut.1 are.1) met (trim (trim_start cut.0)) (before_last 41 cut.1) refl
@@ -217,7 +217,7 @@ some-all [] texts fit = absurd fit
 some-all (pieces ∷ more) texts fit = fit
 
 -- a subroutine that is entered by a text
-module _ (claim : Claim) (area : Area) (pieces : List Piece) (text : List ℕ) (cell : Cell) (good : IsGood claim cell) (inside : IsIn area cell.place) (own : Covers claim.plan claim.reach cell.place)
+module _ (claim : Claim) (area : Area) (pieces : List Piece) (text : List ℕ) (cell : CellOf) (good : IsGood claim cell) (inside : IsIn area cell.place) (own : Covers claim.plan claim.reach cell.place)
     (fits : Fits pieces text) (met : MeetsAll claim (subroutine_duties area pieces)) where
   met-leads : MeetsAll claim (map Leads (targets area pieces))
   met-leads = each-front (Meets claim) (map Leads (targets area pieces)) (target_duties (pieces_set pieces) pieces) met
@@ -235,13 +235,13 @@ module _ (claim : Claim) (area : Area) (pieces : List Piece) (text : List ℕ) (
     part-within : Within (pieces_set pieces) part
     part-within = each-get (Within (pieces_set pieces)) (arguments_of text) (length (arguments_of text) - 1) part parts-within at
 
-    entered-locals : AreLocals claim.names (numbered 1 call.arguments)
+    enter_subroutine-locals : AreLocals claim.names (argument_locals 1 call.arguments)
     unfolding parts_of
-    entered-locals = by (are_clean 0 pieces) refl met-target
+    enter_subroutine-locals = by (are_clean 0 pieces) refl met-target
       where
         by : (clean : Bool) → are_clean 0 pieces ≡ clean
             → MeetsAll claim (if clean then call_duties (pieces_set pieces) (cut_pieces 40 (last_part (split_pieces 0 pieces))) else HoldsAll (pieces_set pieces) ∷ [])
-            → AreLocals claim.names (numbered 1 call.arguments)
+            → AreLocals claim.names (argument_locals 1 call.arguments)
         by true clean met =
             part-locals claim (pieces_set pieces) (last_part (split_pieces 0 pieces)) part call
             (last-part (split_pieces 0 pieces) (split_after parts_arguments [] text) part
@@ -249,8 +249,8 @@ module _ (claim : Claim) (area : Area) (pieces : List Piece) (text : List ℕ) (
             part-within is met
         by false clean met = locals-all claim (pieces_set pieces) met.0 1 call.arguments (call-within (pieces_set pieces) part call part-within is).arguments
 
-    entered-covers : (place : Place) → parts_place claim.plan cell.place (with_last (arguments_of text) call.priority) ≡ Some place → Covers claim.plan claim.reach place
-    entered-covers place found =
+    enter_subroutine-covers : (place : Place) → parts_place claim.plan cell.place (with_last (arguments_of text) call.priority) ≡ Some place → Covers claim.plan claim.reach place
+    enter_subroutine-covers place found =
         covers-included claim.plan claim.reach (targets area pieces) place (includes-all claim (targets area pieces) met-leads) (by (are_clean 0 pieces) refl)
       where
         by : (clean : Bool) → are_clean 0 pieces ≡ clean → IsInOne (if clean then targets_of area (shapes_of pieces) else targets_within area (pieces_set pieces)) place
@@ -266,39 +266,39 @@ module _ (claim : Claim) (area : Area) (pieces : List Piece) (text : List ℕ) (
     back-covers : Covers claim.plan claim.reach (place_after cell.place)
     back-covers = covers-same claim.plan claim.reach cell.place (place_after cell.place) refl refl own
 
-  pub entered-inside : IsInside claim cell.place (gosub_row text cell)
+  pub enter_subroutine-inside : IsInside claim cell.place (gosub_row text cell)
   unfolding gosub_row
-  entered-inside = by (slice_get (arguments_of text) (length (arguments_of text) - 1)) refl
+  enter_subroutine-inside = by (slice_get (arguments_of text) (length (arguments_of text) - 1)) refl
     where
       enters : (part : List ℕ) → slice_get (arguments_of text) (length (arguments_of text) - 1) ≡ Some part → (o : Option SubroutineCall) → called_by part (cut_once 40 part) ≡ o
-          → IsInside claim cell.place (entered cell (take (length (arguments_of text) - 1) (arguments_of text)) o)
+          → IsInside claim cell.place (enter_subroutine cell (take (length (arguments_of text) - 1) (arguments_of text)) o)
       enters part at None is = record { cell = good; next = tt }
       enters part at (Some call) is = record {
         cell = record {
-          store = kept-with_frame claim cell.store (place_after cell.place) (numbered 1 call.arguments) good.store (back-covers part call at is) (entered-locals part call at is);
+          store = kept-with_frame claim cell.store (place_after cell.place) (argument_locals 1 call.arguments) good.store (back-covers part call at is) (enter_subroutine-locals part call at is);
           globals = good.globals;
           caller = good.caller;
         };
         next = λ place found.
-            entered-covers part call at is place (found-asked claim.plan (parts_place claim.plan cell.place (with_last (arguments_of text) call.priority)) place found);
+            enter_subroutine-covers part call at is place (found-asked claim.plan (parts_place claim.plan cell.place (with_last (arguments_of text) call.priority)) place found);
       }
 
       by : (o : Option (List ℕ)) → slice_get (arguments_of text) (length (arguments_of text) - 1) ≡ o
-          → IsInside claim cell.place (entered cell (take (length (arguments_of text) - 1) (arguments_of text)) (option_and_then (λ part. called_by part (cut_once 40 part)) o))
+          → IsInside claim cell.place (enter_subroutine cell (take (length (arguments_of text) - 1) (arguments_of text)) (option_and_then (λ part. called_by part (cut_once 40 part)) o))
       by None at = record { cell = good; next = tt }
       by (Some part) at = enters part at (called_by part (cut_once 40 part)) refl
 
 -- the row of `Gosub`
 pub gosub-bounded : IsBounded gosub_duties gosub_row
 gosub-bounded claim area pieces arguments cell good inside own fits met =
-    entered-inside claim area pieces arguments cell good inside own fits met
+    enter_subroutine-inside claim area pieces arguments cell good inside own fits met
 
 -- one of several sides
-one-inside : (claim : Claim) (area : Area) (text : List ℕ) (cell : Cell) → IsGood claim cell → IsIn area cell.place → Covers claim.plan claim.reach cell.place → (sides : List (List Piece))
+one-inside : (claim : Claim) (area : Area) (text : List ℕ) (cell : CellOf) → IsGood claim cell → IsIn area cell.place → Covers claim.plan claim.reach cell.place → (sides : List (List Piece))
     → FitsOne sides text → MeetsAll claim (flat_map (subroutine_duties area) sides) → IsInside claim cell.place (gosub_row text cell)
 one-inside claim area text cell good inside own [] fits met = absurd fits
 one-inside claim area text cell good inside own (pieces ∷ more) (inl here) met =
-    entered-inside claim area pieces text cell good inside own here
+    enter_subroutine-inside claim area pieces text cell good inside own here
     (each-front (Meets claim) (subroutine_duties area pieces) (flat_map (subroutine_duties area) more) met)
 one-inside claim area text cell good inside own (pieces ∷ more) (inr there) met =
     one-inside claim area text cell good inside own more there
@@ -307,18 +307,18 @@ one-inside claim area text cell good inside own (pieces ∷ more) (inr there) me
 -- the row of `GosubIf`
 pub gosub_if-bounded : IsBounded gosub_if_duties gosub_if_row
 unfolding gosub_if_row
-gosub_if-bounded claim area pieces arguments cell good inside own fits met = by (chosen arguments) refl
+gosub_if-bounded claim area pieces arguments cell good inside own fits met = by (chosen_side arguments) refl
   where
     set : Bytes
     set = pieces_set pieces
 
-    fits-or : (o : Option (List (List Piece))) → sides_in pieces ≡ o → (side : List ℕ) → chosen arguments ≡ Some side → FitsOne (sides_or set o) side
+    fits-or : (o : Option (List (List Piece))) → sides_in pieces ≡ o → (side : List ℕ) → chosen_side arguments ≡ Some side → FitsOne (sides_or set o) side
     fits-or None from side is =
-        inl (fits-made set side (chosen-within set arguments side (fits-set pieces arguments fits) is))
+        inl (fits-any_bytes_of set side (chosen_side-within set arguments side (fits-set pieces arguments fits) is))
     fits-or (Some sides) from side is =
-        chosen-fits pieces arguments side fits sides from is
+        chosen_side-fits pieces arguments side fits sides from is
 
-    by : (o : Option (List ℕ)) → chosen arguments ≡ o → IsInside claim cell.place (gosub_if o cell)
+    by : (o : Option (List ℕ)) → chosen_side arguments ≡ o → IsInside claim cell.place (gosub_if o cell)
     by None is = record { cell = good; next = tt }
     by (Some side) is =
         one-inside claim area side cell good inside own (sides_or set (sides_in pieces)) (fits-or (sides_in pieces) refl side is) met

@@ -6,14 +6,14 @@ use Rattle.std.specs.Option.{option_map}
 use Rattle.dp_plan.specs.declared.entry.EntryId.{EntryId}
 use Rattle.dp_queue.specs.Queues.{QueueOf}
 use Rattle.dp_queue.specs.declared.settings.Settings.{Settings}
-use Rattle.dp_machine.specs.Channels.{Change, Stays, TalkEnds, Talks, cancelled, changed, collected, dialled, ends_call, going_on, goes_on_after, hung_up, invalid, is_invalid, landed, left_queue, moved, ready_at, ready_in, runs_hang_up, talked, timed_out, unanswered, undialled, waited, went, with_dial_status, with_value, without_frames}
+use Rattle.dp_machine.specs.Channels.{Change, Stays, TalkEnds, Talks, after_cancel, after_change, after_digit, after_dialling, ends_call, going_on, goes_on_after, hung_up, invalid, is_invalid, at_target, left_queue, after_move, ready_at, ready_in, runs_hang_up, after_talk, timed_out, after_no_answer, without_digits, after_wait, after_application, with_dial_status, with_value, without_frames}
 use Rattle.dp_machine.specs.Codes.{status_name}
 use Rattle.dp_machine.specs.Events.{way_out_of}
 use Rattle.dp_machine.specs.Found.{is_found}
 use Rattle.dp_machine.specs.Targets.{place_of, target_place}
 use Rattle.dp_machine.specs.declared.channel.Channel.{Channel}
 use Rattle.dp_machine.specs.declared.dial_status.DialStatus.{DialStatus}
-use Rattle.dp_machine.specs.declared.shared.Shared.{Shared}
+use Rattle.dp_machine.specs.declared.shared_state.SharedState.{SharedState}
 use Rattle.dp_app.specs.declared.moves.Move.{Move}
 use Rattle.dp_app.specs.declared.moves.Move.TheVariants.{Next, Jump, Park, Hang}
 use Rattle.dp_app.specs.declared.phase.Phase.TheVariants.{Ended}
@@ -83,15 +83,15 @@ module _ (duties : List ℕ → Duties) (claim : Claim) (answers : EntryId → B
   in-with_value c name value here is = record { place = here.place; store = kept-set claim c.store name value here.store is; caller = here.caller; phase = here.phase }
 
   -- a move
-  in-landed : (c : Channel) (o : Option Place) → IsChannelIn claim c → ((place : Place) → o ≡ Some place → Covers claim.plan claim.reach place) → IsChannelIn claim (landed claim.plan c o)
-  in-landed c None here leads = in-hung_up c here
-  in-landed c (Some place) here leads = in-ready c place here (leads place refl)
+  in-at_target : (c : Channel) (o : Option Place) → IsChannelIn claim c → ((place : Place) → o ≡ Some place → Covers claim.plan claim.reach place) → IsChannelIn claim (at_target claim.plan c o)
+  in-at_target c None here leads = in-hung_up c here
+  in-at_target c (Some place) here leads = in-ready c place here (leads place refl)
 
-  in-moved : (c : Channel) (move : Move) → IsChannelIn claim c → LeadsInto claim c.place move → IsChannelIn claim (moved claim.plan c move)
-  in-moved c Next here leads = in-going_on c here
-  in-moved c (Jump target) here leads = in-landed c (target_place claim.plan c.place target) here leads
-  in-moved c (Park phase) here leads = record { place = here.place; store = here.store; caller = here.caller; phase = leads }
-  in-moved c Hang here leads = in-hung_up c here
+  in-after_move : (c : Channel) (move : Move) → IsChannelIn claim c → LeadsInto claim c.place move → IsChannelIn claim (after_move claim.plan c move)
+  in-after_move c Next here leads = in-going_on c here
+  in-after_move c (Jump target) here leads = in-at_target c (target_place claim.plan c.place target) here leads
+  in-after_move c (Park phase) here leads = record { place = here.place; store = here.store; caller = here.caller; phase = leads }
+  in-after_move c Hang here leads = in-hung_up c here
 
   -- the extension `i`
   within-invalid : (place : Place) → is_invalid claim.plan place ≡ true → IsUnknown claim.plan place.context ⊎ IsFound (IsAreaClosed duties claim answers) place
@@ -107,13 +107,13 @@ module _ (duties : List ℕ → Duties) (claim : Claim) (answers : EntryId → B
       (covers-beside c.place (codes "i") (λ area holds. holds.invalid) (area-of c.place here.place))
 
   -- digits
-  pub in-collected : (c : Channel) (more : Bool) (digits : List ℕ) (is_background : Bool) → IsChannelIn claim c → IsDialled claim c.place digits
-      → IsChannelIn claim (collected more c digits is_background)
-  in-collected c true digits is_background here dials = record { place = here.place; store = here.store; caller = here.caller; phase = dials }
-  in-collected c false digits is_background here dials = in-ready c (place_of c.place.context digits 1) here (dials.leads digits 1 dials.text)
+  pub in-after_digit : (c : Channel) (more : Bool) (digits : List ℕ) (is_background : Bool) → IsChannelIn claim c → IsDialled claim c.place digits
+      → IsChannelIn claim (after_digit more c digits is_background)
+  in-after_digit c true digits is_background here dials = record { place = here.place; store = here.store; caller = here.caller; phase = dials }
+  in-after_digit c false digits is_background here dials = in-ready c (place_of c.place.context digits 1) here (dials.leads digits 1 dials.text)
 
-  in-waited : (c : Channel) (digits : List ℕ) → IsChannelIn claim c → IsDialled claim c.place digits → IsChannelIn claim (waited claim.plan c)
-  in-waited c digits here dials =
+  in-after_wait : (c : Channel) (digits : List ℕ) → IsChannelIn claim c → IsDialled claim c.place digits → IsChannelIn claim (after_wait claim.plan c)
+  in-after_wait c digits here dials =
       by (is_found claim.plan c.place.context c.place.exten (c.place.priority + 1)) (is_found claim.plan c.place.context (codes "t") 1)
     where
       by : (next timeout : Bool) → IsChannelIn claim (if next then going_on c else if timeout then ready_in c (codes "t") else hung_up claim.plan c)
@@ -121,40 +121,40 @@ module _ (duties : List ℕ → Duties) (claim : Claim) (answers : EntryId → B
       by false true = in-ready c (place_of c.place.context (codes "t") 1) here (dials.timeout 1)
       by false false = in-hung_up c here
 
-  in-undialled : (c : Channel) (digits : List ℕ) (is_background : Bool) → IsChannelIn claim c → IsDialled claim c.place digits → IsChannelIn claim (undialled claim.plan c is_background)
-  in-undialled c digits true here dials = in-going_on c here
-  in-undialled c digits false here dials = in-waited c digits here dials
+  in-without_digits : (c : Channel) (digits : List ℕ) (is_background : Bool) → IsChannelIn claim c → IsDialled claim c.place digits → IsChannelIn claim (without_digits claim.plan c is_background)
+  in-without_digits c digits true here dials = in-going_on c here
+  in-without_digits c digits false here dials = in-after_wait c digits here dials
 
   pub in-timed_out : (c : Channel) (digits : List ℕ) (is_background : Bool) → IsChannelIn claim c → IsDialled claim c.place digits
       → IsChannelIn claim (timed_out claim.plan c digits is_background)
-  in-timed_out c [] is_background here dials = in-undialled c [] is_background here dials
+  in-timed_out c [] is_background here dials = in-without_digits c [] is_background here dials
   in-timed_out c (b ∷ bs) is_background here dials = in-ready c (place_of c.place.context (b ∷ bs) 1) here (dials.leads (b ∷ bs) 1 dials.text)
 
   -- queues
   pub in-left_queue : (c : Channel) (status : List ℕ) → IsChannelIn claim c → Within (claim.names.bytes (codes "QUEUESTATUS")) status → IsChannelIn claim (left_queue c status)
   in-left_queue c status here is = in-going_on (with_value c (codes "QUEUESTATUS") status) (in-with_value c (codes "QUEUESTATUS") status here is)
 
-  pub in-talked : (c : Channel) (goes_on : Bool) → IsChannelIn claim c → IsChannelIn claim (talked claim.plan c goes_on)
-  in-talked c true here = in-left_queue c (codes "CONTINUE") here closed.named.talked
-  in-talked c false here = in-hung_up c here
+  pub in-after_talk : (c : Channel) (goes_on : Bool) → IsChannelIn claim c → IsChannelIn claim (after_talk claim.plan c goes_on)
+  in-after_talk c true here = in-left_queue c (codes "CONTINUE") here closed.named.talked
+  in-after_talk c false here = in-hung_up c here
 
-  pub in-changed : (change : Change) (c : Channel) → IsChannelIn claim c → IsChannelIn claim (changed claim.plan change c)
-  in-changed Stays c here = here
-  in-changed (Talks queue agent) c here = record { place = here.place; store = here.store; caller = here.caller; phase = tt }
-  in-changed TalkEnds c here = in-talked c (goes_on_after c.phase) here
+  pub in-after_change : (change : Change) (c : Channel) → IsChannelIn claim c → IsChannelIn claim (after_change claim.plan change c)
+  in-after_change Stays c here = here
+  in-after_change (Talks queue agent) c here = record { place = here.place; store = here.store; caller = here.caller; phase = tt }
+  in-after_change TalkEnds c here = in-after_talk c (goes_on_after c.phase) here
 
   -- calls to devices
   in-status : (c : Channel) (status : List ℕ) → IsChannelIn claim c → Within (claim.names.bytes (codes "DIALSTATUS")) status → IsChannelIn claim (with_dial_status c status)
   in-status c status here is = in-with_value c (codes "DIALSTATUS") status here is
 
-  pub in-unanswered : (c : Channel) → IsChannelIn claim c → IsChannelIn claim (unanswered c)
-  in-unanswered c here = in-going_on (with_dial_status c (codes "NOANSWER")) (in-status c (codes "NOANSWER") here closed.named.unanswered)
+  pub in-after_no_answer : (c : Channel) → IsChannelIn claim c → IsChannelIn claim (after_no_answer c)
+  in-after_no_answer c here = in-going_on (with_dial_status c (codes "NOANSWER")) (in-status c (codes "NOANSWER") here closed.named.unanswered)
 
-  pub in-cancelled : (c : Channel) → IsChannelIn claim c → IsChannelIn claim (cancelled claim.plan c)
-  in-cancelled c here = in-hung_up (with_dial_status c (codes "CANCEL")) (in-status c (codes "CANCEL") here closed.named.cancelled)
+  pub in-after_cancel : (c : Channel) → IsChannelIn claim c → IsChannelIn claim (after_cancel claim.plan c)
+  in-after_cancel c here = in-hung_up (with_dial_status c (codes "CANCEL")) (in-status c (codes "CANCEL") here closed.named.cancelled)
 
-  pub in-dialled : (c : Channel) (status : DialStatus) (goes_on : Bool) → IsChannelIn claim c → IsChannelIn claim (dialled claim.plan c status goes_on)
-  in-dialled c status goes_on here = by (ends_call status goes_on)
+  pub in-after_dialling : (c : Channel) (status : DialStatus) (goes_on : Bool) → IsChannelIn claim c → IsChannelIn claim (after_dialling claim.plan c status goes_on)
+  in-after_dialling c status goes_on here = by (ends_call status goes_on)
     where
       set : IsChannelIn claim (with_dial_status c (status_name status))
       set = in-status c (status_name status) here (closed.named.status status)
@@ -164,12 +164,12 @@ module _ (duties : List ℕ → Duties) (claim : Claim) (answers : EntryId → B
       by false = in-going_on (with_dial_status c (status_name status)) set
 
   -- what an application leaves of its channel
-  pub in-went : (c : Channel) (o : Option Move) → IsChannelIn claim c → ((move : Move) → o ≡ Some move → LeadsInto claim c.place move) → IsChannelIn claim (went claim.plan c o)
-  in-went c None here leads = in-hung_up c here
-  in-went c (Some move) here leads = in-moved c move here (leads move refl)
+  pub in-after_application : (c : Channel) (o : Option Move) → IsChannelIn claim c → ((move : Move) → o ≡ Some move → LeadsInto claim c.place move) → IsChannelIn claim (after_application claim.plan c o)
+  in-after_application c None here leads = in-hung_up c here
+  in-after_application c (Some move) here leads = in-after_move c move here (leads move refl)
 
   -- the context of the ways out
-  pub way-is : (shared : Shared) (queue : ℕ) → IsSharedIn claim shared → way_out_of shared.queues queue ≡ way_of claim.settings queue
+  pub way-is : (shared : SharedState) (queue : ℕ) → IsSharedIn claim shared → way_out_of shared.queues queue ≡ way_of claim.settings queue
   way-is shared queue here =
       by (slice_get shared.queues.queues queue)
       ∙ (ap (λ (o : Option Settings). unwrap_or (option_map (λ s. s.context) o) []) (sym (slice_get-map (λ (q : QueueOf). q.settings) shared.queues.queues queue))

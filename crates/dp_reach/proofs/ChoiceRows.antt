@@ -9,7 +9,7 @@ use Rattle.dp_conf.specs.Levels.{arguments_of, cut_after, cut_outside, stands_ou
 use Rattle.dp_plan.specs.Plan.{PlanOf}
 use Rattle.dp_app.specs.declared.place.Place.{Place}
 use Rattle.dp_machine.specs.Targets.{parts_place}
-use Rattle.dp_flow.specs.Conditions.{chosen, chosen_by, holds, present_by, side_of}
+use Rattle.dp_flow.specs.Conditions.{chosen_side, chosen_by, holds, present_by, side_of}
 use Rattle.dp_flow.specs.Jumps.{goto_if_row, jump_if}
 use Rattle.dp_pieces.specs.Bytes.{Bytes, Within}
 use Rattle.dp_pieces.specs.Cuts.{At, Cutting, Nowhere, Unsure, cut_level, cut_pieces}
@@ -46,14 +46,14 @@ side-fits text rest fits (At first second) (Some cut) are sides known false side
     subst (λ s. FitsOne s result) (let e : first ∷ second ∷ [] ≡ sides = cc in e) (inr (inl (subst (Fits second) (let e : cut.1 ≡ result = cc in e) are.1)))
 
 -- what is chosen, by the side that is taken
-chosen-side : (o : Option (List ℕ)) (result : List ℕ) → option_and_then (λ side. present_by side (trim side)) o ≡ Some result → o ≡ Some result
-chosen-side None result is = absurd cc
-chosen-side (Some side) result is = ap (λ s. Some s) (present-is side (trim side) result is)
+chosen_side-side : (o : Option (List ℕ)) (result : List ℕ) → option_and_then (λ side. present_by side (trim side)) o ≡ Some result → o ≡ Some result
+chosen_side-side None result is = absurd cc
+chosen_side-side (Some side) result is = ap (λ s. Some s) (present-is side (trim side) result is)
 
-pub chosen-fits : (pieces : List Piece) (text result : List ℕ) → Fits pieces text → (sides : List (List Piece)) → sides_in pieces ≡ Some sides → chosen text ≡ Some result
+pub chosen_side-fits : (pieces : List Piece) (text result : List ℕ) → Fits pieces text → (sides : List (List Piece)) → sides_in pieces ≡ Some sides → chosen_side text ≡ Some result
     → FitsOne sides result
-unfolding chosen
-chosen-fits pieces text result fits sides known is = by (cut_pieces 63 pieces) (cut_once 63 text) (cut-pieces 63 pieces text fits) known is
+unfolding chosen_side
+chosen_side-fits pieces text result fits sides known is = by (cut_pieces 63 pieces) (cut_once 63 text) (cut-pieces 63 pieces text fits) known is
   where
     by : (cutting : Cutting) (cut : Option (List ℕ × List ℕ)) → IsCutAs cutting cut → sides_of cutting ≡ Some sides → chosen_by cut ≡ Some result → FitsOne sides result
     by Nowhere None are known is = absurd cc
@@ -62,7 +62,7 @@ chosen-fits pieces text result fits sides known is = by (cut_pieces 63 pieces) (
     by (At condition rest) None are known is = absurd are
     by (At condition rest) (Some cut) are known is =
         side-fits cut.1 rest are.1 (cut_level 58 0 rest) (cut_outside 58 cut.1) (cut-level 58 rest cut.1 are.1) sides known (holds cut.0) result result
-        (chosen-side (side_of (holds cut.0) cut.1 (cut_outside 58 cut.1)) result is) refl
+        (chosen_side-side (side_of (holds cut.0) cut.1 (cut_outside 58 cut.1)) result is) refl
 
 -- what is chosen is a part of the text
 cut-within : (set : Bytes) (mark : ℕ) (text before front rest : List ℕ) → Within set text → Within set before → cut_after (stands_outside mark) before text ≡ Some (front, rest)
@@ -79,9 +79,9 @@ cut-within set mark (b ∷ bs) before front rest is start cut =
         (subst (Within set) (ap (λ p. p.0) pair) start, subst (Within set) (ap (λ p. p.1) pair) is.1)
     by false later same = later same
 
-pub chosen-within : (set : Bytes) (text result : List ℕ) → Within set text → chosen text ≡ Some result → Within set result
-unfolding chosen cut_outside
-chosen-within set text result within is = by (cut_once 63 text) refl is
+pub chosen_side-within : (set : Bytes) (text result : List ℕ) → Within set text → chosen_side text ≡ Some result → Within set result
+unfolding chosen_side cut_outside
+chosen_side-within set text result within is = by (cut_once 63 text) refl is
   where
     side : (taken : Bool) (rest : List ℕ) (cut : Option (List ℕ × List ℕ)) → cut_outside 58 rest ≡ cut → Within set rest → side_of taken rest cut ≡ Some result → Within set result
     side true rest None from all same = subst (Within set) (let e : rest ≡ result = cc in e) all
@@ -93,7 +93,7 @@ chosen-within set text result within is = by (cut_once 63 text) refl is
     by None from same = absurd cc
     by (Some cut) from same =
         side (holds cut.0) cut.1 (cut_outside 58 cut.1) refl (each-cut_rest (λ b. set b ≡ true) 63 text cut.0 cut.1 (cut_once-is 63 text cut.0 cut.1 from) within)
-        (chosen-side (side_of (holds cut.0) cut.1 (cut_outside 58 cut.1)) result same)
+        (chosen_side-side (side_of (holds cut.0) cut.1 (cut_outside 58 cut.1)) result same)
 
 -- the target of one of the sides
 in-one : (plan : PlanOf) (area : Area) (own place : Place) (text : List ℕ) → IsIn area own → parts_place plan own (arguments_of text) ≡ Some place
@@ -105,24 +105,24 @@ in-one plan area own place text inside found (pieces ∷ more) (inr there) =
     in-later (targets area pieces) (flat_map (targets area) more) place (in-one plan area own place text inside found more there)
 
 -- the target of what is chosen
-pub covers-chosen : (claim : Claim) (area : Area) (own place : Place) (pieces : List Piece) (set : Bytes) (text side : List ℕ) → IsIn area own → Fits pieces text → Within set text
-    → MeetsAll claim (sides_duties area set (sides_in pieces)) → chosen text ≡ Some side → parts_place claim.plan own (arguments_of side) ≡ Some place → Covers claim.plan claim.reach place
-covers-chosen claim area own place pieces set text side inside fits within met is found = by (sides_in pieces) refl met
+pub covers-chosen_side : (claim : Claim) (area : Area) (own place : Place) (pieces : List Piece) (set : Bytes) (text side : List ℕ) → IsIn area own → Fits pieces text → Within set text
+    → MeetsAll claim (sides_duties area set (sides_in pieces)) → chosen_side text ≡ Some side → parts_place claim.plan own (arguments_of side) ≡ Some place → Covers claim.plan claim.reach place
+covers-chosen_side claim area own place pieces set text side inside fits within met is found = by (sides_in pieces) refl met
   where
     by : (o : Option (List (List Piece))) → sides_in pieces ≡ o → MeetsAll claim (sides_duties area set o) → Covers claim.plan claim.reach place
     by None from met =
         covers-included claim.plan claim.reach (targets_within area set) place (includes-all claim (targets_within area set) met)
-        (in-within claim.plan own place area set (arguments_of side) inside (arguments-within set side (chosen-within set text side within is)) found)
+        (in-within claim.plan own place area set (arguments_of side) inside (arguments-within set side (chosen_side-within set text side within is)) found)
     by (Some sides) from met =
         covers-included claim.plan claim.reach (flat_map (targets area) sides) place (includes-all claim (flat_map (targets area) sides) met)
-        (in-one claim.plan area own place side inside found sides (chosen-fits pieces text side fits sides from is))
+        (in-one claim.plan area own place side inside found sides (chosen_side-fits pieces text side fits sides from is))
 
 -- the row of `GotoIf`
 pub goto_if-bounded : IsBounded goto_if_duties goto_if_row
-goto_if-bounded claim area pieces arguments cell good inside own fits met = record { cell = good; next = by (chosen arguments) refl }
+goto_if-bounded claim area pieces arguments cell good inside own fits met = record { cell = good; next = by (chosen_side arguments) refl }
   where
-    by : (o : Option (List ℕ)) → chosen arguments ≡ o → LeadsInto claim cell.place (jump_if o)
+    by : (o : Option (List ℕ)) → chosen_side arguments ≡ o → LeadsInto claim cell.place (jump_if o)
     by None is = tt
     by (Some side) is = λ place found.
-        covers-chosen claim area cell.place place pieces (pieces_set pieces) arguments side inside
+        covers-chosen_side claim area cell.place place pieces (pieces_set pieces) arguments side inside
         fits (fits-set pieces arguments fits) met is found

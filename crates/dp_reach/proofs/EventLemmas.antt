@@ -7,7 +7,7 @@ use Rattle.dp_plan.specs.declared.entry.EntryId.{EntryId}
 use Rattle.dp_queue.specs.Joining.{should_leave}
 use Rattle.dp_vars.specs.Values.{expansion}
 use Rattle.dp_machine.specs.Channels.{invalid, is_invalid, hung_up, ready_at}
-use Rattle.dp_machine.specs.Events.{Own, applied, cell_of, dial_in, dial_result_in, dial_result_row, dial_time, digit_row, hang_up_in, hang_up_row, is_digit, is_over, leave, poll_in, poll_queue, poll_row, ran, refuse, step_at, step_in, step_row, take_event, time_in_queue, timeout_in, timeout_row, unfound, way_out, way_out_of, without_caller, without_talk}
+use Rattle.dp_machine.specs.Events.{Own, application_outcome, cell_of, dial_in, dial_result_in, dial_result_row, dial_time, digit_row, hang_up_in, hang_up_row, is_digit, is_over, leave, poll_in, poll_queue, poll_row, after_run, refuse, step_at, step_in, step_row, take_event, time_in_queue, timeout_in, timeout_row, unfound, way_out, way_out_of, without_caller, without_talk}
 use Rattle.dp_machine.specs.Found.{Located, could_go_on, entry_found, is_found}
 use Rattle.dp_machine.specs.Seen.{arguments_seen, sight_in}
 use Rattle.dp_machine.specs.Targets.{place_of}
@@ -17,21 +17,21 @@ use Rattle.dp_machine.specs.declared.refusal.Refusal.{Refusal}
 use Rattle.dp_machine.specs.declared.refusal.Refusal.TheVariants.{NotReady, NotWaiting, NoTimer, Ended as refused_ended, BadDigit, NotDialling}
 use Rattle.dp_machine.specs.declared.reply.Reply.{Reply}
 use Rattle.dp_machine.specs.declared.reply.Reply.TheVariants.{Started, Ran, Invalid, NoEntry, Offered, Done, Refused}
-use Rattle.dp_machine.specs.declared.shared.Shared.{Shared}
+use Rattle.dp_machine.specs.declared.shared_state.SharedState.{SharedState}
 use Rattle.dp_app.specs.Lawful.{IsLawful}
-use Rattle.dp_app.specs.Rows.{Row, Rows, dispatched}
-use Rattle.dp_app.specs.declared.cell.Cell.{Cell}
+use Rattle.dp_app.specs.Rows.{Row, Rows, after_dispatch}
+use Rattle.dp_app.specs.Cells.{CellOf}
 use Rattle.dp_app.specs.declared.phase.Phase.{Phase}
 use Rattle.dp_app.specs.declared.phase.Phase.TheVariants.{Ready, Digits, Pause, Queued, Talking, Dialling, Ended}
 use Rattle.dp_app.specs.declared.touch.Touch.{Touch}
 use Rattle.dp_pieces.specs.Bytes.{Within}
 use Rattle.dp_pieces.specs.Pieces.{Fits}
-use Rattle.dp_pieces.proofs.MetLemmas.{part-matched}
+use Rattle.dp_pieces.proofs.MetLemmas.{part-after_match}
 use Rattle.dp_reach.specs.Areas.{Area, IsIn, IsUnknown, area_matched}
 use Rattle.dp_reach.specs.Bounds.{AreBounded, Duties}
 use Rattle.dp_reach.specs.Closed.{IsAreaClosed, IsClosed, IsEntry, IsNamed}
 use Rattle.dp_reach.specs.Holding.{Claim, IsChannelIn, IsDialled, IsGood, IsInside, IsPhaseIn, IsSharedIn, LeadsInto, LeadsOut, way_of}
-use Rattle.dp_reach.proofs.ChannelLemmas.{IsFound, area-of, in-cancelled, in-collected, in-dialled, in-going_on, in-hung_up, in-invalid, in-left_queue, in-ready, in-timed_out, in-unanswered, in-went, way-is}
+use Rattle.dp_reach.proofs.ChannelLemmas.{IsFound, area-of, in-after_cancel, in-after_digit, in-after_dialling, in-going_on, in-hung_up, in-invalid, in-left_queue, in-ready, in-timed_out, in-after_no_answer, in-after_application, way-is}
 use Rattle.dp_reach.proofs.FindingLemmas.{in-matched, may-find}
 use Rattle.dp_reach.proofs.SettingsLemmas.{end_talk-settings, leave-settings}
 use Rattle.dp_reach.proofs.SightLemmas.{seen-channel}
@@ -57,25 +57,25 @@ pub record IsOwnIn (claim : Claim) (answers : EntryId → Bool) (own : Own) : Ty
 named-matched : (claim : Claim) (area : Area) (name : Meaning) (text : List ℕ) → Fits area.exten text → Matches name text → IsNamed claim area
     → IsNamed claim (area_matched area name)
 named-matched claim area name text fits matching named =
-    let part = part-matched area.exten name text fits matching in
+    let part = part-after_match area.exten name text fits matching in
     record { exten = λ byte is. named.exten byte (part byte is); context = named.context; invalid = λ byte is. named.invalid byte (part byte is) }
 
 module _ (touches : List ℕ → Touch) (rows : Rows) (lawful : IsLawful touches rows) (duties : List ℕ → Duties) (bounded : AreBounded duties rows)
     (claim : Claim) (answers : EntryId → Bool) (closed : IsClosed duties claim answers) where
-  own-refused : (refusal : Refusal) (shared : Shared) (c : Channel) → IsSharedIn claim shared → IsChannelIn claim c → IsOwnIn claim answers (refuse refusal shared c)
+  own-refused : (refusal : Refusal) (shared : SharedState) (c : Channel) → IsSharedIn claim shared → IsChannelIn claim c → IsOwnIn claim answers (refuse refusal shared c)
   own-refused refusal shared c all here = record { channel = here; shared = all; reply = tt }
 
-  own-taken : (shared : Shared) (c : Channel) → IsSharedIn claim shared → IsChannelIn claim c → IsOwnIn claim answers (take_event shared c)
+  own-taken : (shared : SharedState) (c : Channel) → IsSharedIn claim shared → IsChannelIn claim c → IsOwnIn claim answers (take_event shared c)
   own-taken shared c all here = record { channel = here; shared = all; reply = tt }
 
-  shared-left : (shared : Shared) (number : ℕ) → IsSharedIn claim shared → IsSharedIn claim (without_caller shared number)
+  shared-left : (shared : SharedState) (number : ℕ) → IsSharedIn claim shared → IsSharedIn claim (without_caller shared number)
   shared-left shared number all = record { globals = all.globals; settings = leave-settings shared.queues number ∙ all.settings }
 
-  shared-ended : (shared : Shared) (number : ℕ) → IsSharedIn claim shared → IsSharedIn claim (without_talk shared number)
+  shared-ended : (shared : SharedState) (number : ℕ) → IsSharedIn claim shared → IsSharedIn claim (without_talk shared number)
   shared-ended shared number all = record { globals = all.globals; settings = end_talk-settings shared.queues number ∙ all.settings }
 
   -- a step where no entry is found
-  own-unfound : (shared : Shared) (c : Channel) → IsSharedIn claim shared → IsChannelIn claim c → IsOwnIn claim answers (unfound claim.plan shared c)
+  own-unfound : (shared : SharedState) (c : Channel) → IsSharedIn claim shared → IsChannelIn claim c → IsOwnIn claim answers (unfound claim.plan shared c)
   unfolding unfound
   own-unfound shared c all here = by (is_invalid claim.plan c.place) refl
     where
@@ -106,15 +106,15 @@ module _ (touches : List ℕ → Touch) (rows : Rows) (lawful : IsLawful touches
           }
 
   -- a step by an entry
-  own-ran : (shared : Shared) (number : ℕ) (c : Channel) → IsSharedIn claim shared → IsChannelIn claim c → (found : Located) → entry_found claim.plan c.place ≡ Some found
+  own-after_run : (shared : SharedState) (number : ℕ) (c : Channel) → IsSharedIn claim shared → IsChannelIn claim c → (found : Located) → entry_found claim.plan c.place ≡ Some found
       → (o : Option Row) → rows found.entry.application ≡ o
-      → IsOwnIn claim answers (ran claim.plan found.id (applied c (dispatched o (arguments_seen shared number c found.entry.arguments) (cell_of shared number c))))
+      → IsOwnIn claim answers (after_run claim.plan found.id (application_outcome c (after_dispatch o (arguments_seen shared number c found.entry.arguments) (cell_of shared number c))))
   unfolding arguments_seen
-  own-ran shared number c all here found from None is =
+  own-after_run shared number c all here found from None is =
       record { channel = in-hung_up duties claim answers closed c here; shared = all; reply = (run-of c here found from).entry.answer }
-  own-ran shared number c all here found from (Some row) is =
+  own-after_run shared number c all here found from (Some row) is =
       let at = run-of c here found from in
-      let cell : Cell = cell_of shared number c in
+      let cell : CellOf = cell_of shared number c in
       let arguments : List ℕ = expansion (sight_in shared number c) found.entry.arguments in
       let good : IsGood claim cell = record { store = here.store; globals = all.globals; caller = here.caller } in
       let seen = seen-channel claim closed.named shared number c at.area at.inside at.named.exten at.named.context here.store all.globals here.caller in
@@ -123,17 +123,17 @@ module _ (touches : List ℕ → Touch) (rows : Rows) (lawful : IsLawful touches
       let left : Channel = record c { caller = (row arguments cell).cell.caller; store = (row arguments cell).cell.store } in
       let stays : IsChannelIn claim left = record { place = here.place; store = inside.cell.store; caller = inside.cell.caller; phase = here.phase } in
       record {
-        channel = in-went duties claim answers closed left (Some (row arguments cell).next) stays (λ move same. subst (LeadsInto claim c.place) (let e : (row arguments cell).next ≡ move = cc in e) inside.next);
+        channel = in-after_application duties claim answers closed left (Some (row arguments cell).next) stays (λ move same. subst (LeadsInto claim c.place) (let e : (row arguments cell).next ≡ move = cc in e) inside.next);
         shared = record { globals = inside.cell.globals; settings = ((lawful found.entry.application row is).keeps arguments cell).queues.settings ∙ all.settings };
         reply = at.entry.answer;
       }
 
-  own-step_at : (shared : Shared) (number : ℕ) (c : Channel) → IsSharedIn claim shared → IsChannelIn claim c → (o : Option Located) → entry_found claim.plan c.place ≡ o
+  own-step_at : (shared : SharedState) (number : ℕ) (c : Channel) → IsSharedIn claim shared → IsChannelIn claim c → (o : Option Located) → entry_found claim.plan c.place ≡ o
       → IsOwnIn claim answers (step_at rows claim.plan shared number c o)
   own-step_at shared number c all here None from = own-unfound shared c all here
-  own-step_at shared number c all here (Some found) from = own-ran shared number c all here found from (rows found.entry.application) refl
+  own-step_at shared number c all here (Some found) from = own-after_run shared number c all here found from (rows found.entry.application) refl
 
-  pub own-step : (shared : Shared) (number : ℕ) (c : Channel) → IsSharedIn claim shared → IsChannelIn claim c → IsOwnIn claim answers (step_row rows claim.plan shared number c)
+  pub own-step : (shared : SharedState) (number : ℕ) (c : Channel) → IsSharedIn claim shared → IsChannelIn claim c → IsOwnIn claim answers (step_row rows claim.plan shared number c)
   unfolding step_row
   own-step shared number c all here = by c.phase
     where
@@ -147,7 +147,7 @@ module _ (touches : List ℕ → Touch) (rows : Rows) (lawful : IsLawful touches
       by Ended = own-refused refused_ended shared c all here
 
   -- a digit
-  own-way_out : (shared : Shared) (number : ℕ) (c : Channel) (digit queue : ℕ) → IsSharedIn claim shared → IsChannelIn claim c → is_digit digit ≡ true → LeadsOut claim queue
+  own-way_out : (shared : SharedState) (number : ℕ) (c : Channel) (digit queue : ℕ) → IsSharedIn claim shared → IsChannelIn claim c → is_digit digit ≡ true → LeadsOut claim queue
       → IsOwnIn claim answers (way_out claim.plan shared number c digit (way_out_of shared.queues queue))
   own-way_out shared number c digit queue all here is leads =
       subst (λ context. IsOwnIn claim answers (way_out claim.plan shared number c digit context)) (sym (way-is duties claim answers closed shared queue all))
@@ -163,11 +163,11 @@ module _ (touches : List ℕ → Touch) (rows : Rows) (lawful : IsLawful touches
   more-dialled c digits digit is dials =
       record { text = each-append (λ b. is_digit b ≡ true) digits (digit ∷ []) dials.text (is, tt); leads = dials.leads; timeout = dials.timeout }
 
-  own-dial : (digit : ℕ) (shared : Shared) (number : ℕ) (c : Channel) → IsSharedIn claim shared → IsChannelIn claim c → (phase : Phase) → IsPhaseIn claim c.place phase
+  own-dial : (digit : ℕ) (shared : SharedState) (number : ℕ) (c : Channel) → IsSharedIn claim shared → IsChannelIn claim c → (phase : Phase) → IsPhaseIn claim c.place phase
       → (is_over phase || is_digit digit) ≡ true → IsOwnIn claim answers (dial_in phase digit claim.plan shared number c)
   own-dial digit shared number c all here Ready at is = own-refused NotWaiting shared c all here
   own-dial digit shared number c all here (Digits digits is_background) at is =
-      own-taken shared _ all (in-collected duties claim answers closed c (could_go_on claim.plan c.place.context (digits ++ digit ∷ [])) (digits ++ digit ∷ []) is_background here
+      own-taken shared _ all (in-after_digit duties claim answers closed c (could_go_on claim.plan c.place.context (digits ++ digit ∷ [])) (digits ++ digit ∷ []) is_background here
       (more-dialled c digits digit is at))
   own-dial digit shared number c all here Pause at is = own-taken shared c all here
   own-dial digit shared number c all here (Queued queue goes_on has_timer) at is = own-way_out shared number c digit queue all here is at
@@ -175,7 +175,7 @@ module _ (touches : List ℕ → Touch) (rows : Rows) (lawful : IsLawful touches
   own-dial digit shared number c all here (Dialling goes_on has_timer) at is = own-taken shared c all here
   own-dial digit shared number c all here Ended at is = own-refused refused_ended shared c all here
 
-  pub own-digit : (digit : ℕ) (shared : Shared) (number : ℕ) (c : Channel) → IsSharedIn claim shared → IsChannelIn claim c → IsOwnIn claim answers (digit_row digit claim.plan shared number c)
+  pub own-digit : (digit : ℕ) (shared : SharedState) (number : ℕ) (c : Channel) → IsSharedIn claim shared → IsChannelIn claim c → IsOwnIn claim answers (digit_row digit claim.plan shared number c)
   unfolding digit_row
   own-digit digit shared number c all here = by (is_over c.phase || is_digit digit) refl
     where
@@ -185,12 +185,12 @@ module _ (touches : List ℕ → Touch) (rows : Rows) (lawful : IsLawful touches
       by false is = own-refused BadDigit shared c all here
 
   -- the end of a time
-  own-leave : (shared : Shared) (number : ℕ) (c : Channel) (status : List ℕ) → IsSharedIn claim shared → IsChannelIn claim c → Within (claim.names.bytes (codes "QUEUESTATUS")) status
+  own-leave : (shared : SharedState) (number : ℕ) (c : Channel) (status : List ℕ) → IsSharedIn claim shared → IsChannelIn claim c → Within (claim.names.bytes (codes "QUEUESTATUS")) status
       → IsOwnIn claim answers (leave shared number c status)
   own-leave shared number c status all here is =
       own-taken (without_caller shared number) _ (shared-left shared number all) (in-left_queue duties claim answers closed c status here is)
 
-  pub own-timeout : (shared : Shared) (number : ℕ) (c : Channel) → IsSharedIn claim shared → IsChannelIn claim c → IsOwnIn claim answers (timeout_row claim.plan shared number c)
+  pub own-timeout : (shared : SharedState) (number : ℕ) (c : Channel) → IsSharedIn claim shared → IsChannelIn claim c → IsOwnIn claim answers (timeout_row claim.plan shared number c)
   unfolding timeout_row
   own-timeout shared number c all here = by c.phase here.phase
     where
@@ -200,7 +200,7 @@ module _ (touches : List ℕ → Touch) (rows : Rows) (lawful : IsLawful touches
 
       dial : (timer : Bool) → IsOwnIn claim answers (dial_time timer shared c)
       dial false = own-refused NoTimer shared c all here
-      dial true = own-taken shared _ all (in-unanswered duties claim answers closed c here)
+      dial true = own-taken shared _ all (in-after_no_answer duties claim answers closed c here)
 
       by : (phase : Phase) → IsPhaseIn claim c.place phase → IsOwnIn claim answers (timeout_in phase claim.plan shared number c)
       by Ready at = own-refused NotWaiting shared c all here
@@ -212,7 +212,7 @@ module _ (touches : List ℕ → Touch) (rows : Rows) (lawful : IsLawful touches
       by Ended at = own-refused refused_ended shared c all here
 
   -- a question whether to leave
-  pub own-poll : (shared : Shared) (number : ℕ) (c : Channel) → IsSharedIn claim shared → IsChannelIn claim c → IsOwnIn claim answers (poll_row claim.plan shared number c)
+  pub own-poll : (shared : SharedState) (number : ℕ) (c : Channel) → IsSharedIn claim shared → IsChannelIn claim c → IsOwnIn claim answers (poll_row claim.plan shared number c)
   unfolding poll_row
   own-poll shared number c all here = by c.phase
     where
@@ -230,7 +230,7 @@ module _ (touches : List ℕ → Touch) (rows : Rows) (lawful : IsLawful touches
       by Ended = own-refused refused_ended shared c all here
 
   -- a hang-up
-  pub own-hang_up : (shared : Shared) (number : ℕ) (c : Channel) → IsSharedIn claim shared → IsChannelIn claim c → IsOwnIn claim answers (hang_up_row claim.plan shared number c)
+  pub own-hang_up : (shared : SharedState) (number : ℕ) (c : Channel) → IsSharedIn claim shared → IsChannelIn claim c → IsOwnIn claim answers (hang_up_row claim.plan shared number c)
   unfolding hang_up_row
   own-hang_up shared number c all here = by c.phase
     where
@@ -243,11 +243,11 @@ module _ (touches : List ℕ → Touch) (rows : Rows) (lawful : IsLawful touches
       by Pause = own-taken shared _ all ends
       by (Queued queue goes_on has_timer) = own-taken (without_caller shared number) _ (shared-left shared number all) ends
       by (Talking queue agent goes_on) = own-taken (without_talk shared number) _ (shared-ended shared number all) ends
-      by (Dialling goes_on has_timer) = own-taken shared _ all (in-cancelled duties claim answers closed c here)
+      by (Dialling goes_on has_timer) = own-taken shared _ all (in-after_cancel duties claim answers closed c here)
       by Ended = own-refused refused_ended shared c all here
 
   -- what comes of a call to devices
-  pub own-dial_result : (status : DialStatus) (shared : Shared) (number : ℕ) (c : Channel) → IsSharedIn claim shared → IsChannelIn claim c
+  pub own-dial_result : (status : DialStatus) (shared : SharedState) (number : ℕ) (c : Channel) → IsSharedIn claim shared → IsChannelIn claim c
       → IsOwnIn claim answers (dial_result_row status claim.plan shared number c)
   unfolding dial_result_row
   own-dial_result status shared number c all here = by c.phase
@@ -258,5 +258,5 @@ module _ (touches : List ℕ → Touch) (rows : Rows) (lawful : IsLawful touches
       by Pause = own-refused NotDialling shared c all here
       by (Queued queue goes_on has_timer) = own-refused NotDialling shared c all here
       by (Talking queue agent goes_on) = own-refused NotDialling shared c all here
-      by (Dialling goes_on has_timer) = own-taken shared _ all (in-dialled duties claim answers closed c status goes_on here)
+      by (Dialling goes_on has_timer) = own-taken shared _ all (in-after_dialling duties claim answers closed c status goes_on here)
       by Ended = own-refused refused_ended shared c all here

@@ -14,8 +14,8 @@ use Rattle.dp_plan.specs.Plan.{PlanOf}
 use Rattle.dp_plan.specs.declared.entry.Entry.{Entry}
 use Rattle.dp_plan.specs.declared.entry.EntryId.{EntryId}
 use Rattle.dp_app.specs.declared.place.Place.{Place}
-use Rattle.dp_machine.specs.Found.{Located, entry_found, located}
-use Rattle.dp_pieces.proofs.MetLemmas.{fits-matched}
+use Rattle.dp_machine.specs.Found.{Located, entry_found, located_entry}
+use Rattle.dp_pieces.proofs.MetLemmas.{fits-after_match}
 use Rattle.dp_pieces.proofs.WithinLemmas.{either-left, either-right}
 use Rattle.dp_reach.specs.Areas.{Area, IsIn, area_matched}
 use Rattle.dp_reach.specs.Finding.{MayFind}
@@ -69,7 +69,7 @@ found-at plan place found is =
 
     by : (o : Option EntryId)
         → MatchOption o (NoneAsked (HasPriority place.exten place.priority) plan (search_order plan place.context)) (IsFound plan (search_order plan place.context) place.exten place.priority)
-        → option_and_then (located plan) o ≡ Some found → IsFoundAt plan place found
+        → option_and_then (located_entry plan) o ≡ Some found → IsFoundAt plan place found
     by None none same = absurd cc
     by (Some id) first same = at id (entry_at plan id) refl same first
 
@@ -92,4 +92,4 @@ may-find plan area place found inside is =
 pub in-matched : (plan : PlanOf) (area : Area) (place : Place) (found : Located) → IsIn area place → entry_found plan place ≡ Some found
     → IsIn (area_matched area found.entry.name) place
 in-matched plan area place found inside is =
-    record { context = inside.context; exten = fits-matched area.exten found.entry.name place.exten inside.exten (found-at plan place found is).matching }
+    record { context = inside.context; exten = fits-after_match area.exten found.entry.name place.exten inside.exten (found-at plan place found is).matching }

@@ -6,7 +6,7 @@ use Rattle.dp_conf.specs.Blanks.{trim, trim_end, trim_start}
 use Rattle.dp_conf.specs.Cut.{cut_once}
 use Rattle.dp_conf.specs.Words.{same_text}
 use Rattle.dp_vars.specs.Stores.{set, set_local}
-use Rattle.dp_app.specs.declared.cell.Cell.{Cell}
+use Rattle.dp_app.specs.Cells.{CellOf}
 use Rattle.dp_flow.specs.Settings.{argument_of, set_row, with_called, with_function, with_name, with_pair, with_variable}
 use Rattle.dp_pieces.specs.Bytes.{Bytes, Within}
 use Rattle.dp_pieces.specs.Cuts.{cut_known, with_byte}
@@ -69,27 +69,27 @@ headed-name head rest front after opening clear same =
     (longer.0, ap (cut_once 40) longer.1 ∙ cut_once-here 40 head longer.0 opening)
 
 module _ (claim : Claim) where
-  good-variable : (cell : Cell) (name value : List ℕ) → IsGood claim cell → Within (claim.names.bytes name) value → IsGood claim (with_variable cell name value)
+  good-variable : (cell : CellOf) (name value : List ℕ) → IsGood claim cell → Within (claim.names.bytes name) value → IsGood claim (with_variable cell name value)
   good-variable cell [] value good is = good
   good-variable cell (b ∷ bs) value good is =
       let kept = kept-set claim cell.store (b ∷ bs) value good.store is in
       record { store = kept; globals = good.globals; caller = good.caller }
 
-  good-global : (cell : Cell) (name value : List ℕ) → IsGood claim cell → Within (claim.names.bytes name) value
+  good-global : (cell : CellOf) (name value : List ℕ) → IsGood claim cell → Within (claim.names.bytes name) value
       → IsGood claim (record cell { globals = insert cell.globals name value })
   good-global cell name value good is =
       record { store = good.store; globals = held-insert claim.names cell.globals name value good.globals is; caller = good.caller }
 
-  good-local : (cell : Cell) (name value : List ℕ) → IsGood claim cell → Within (claim.names.bytes name) value
+  good-local : (cell : CellOf) (name value : List ℕ) → IsGood claim cell → Within (claim.names.bytes name) value
       → IsGood claim (record cell { store = set_local cell.store name value })
   good-local cell name value good is =
       let kept = kept-set_local claim cell.store name value good.store is in
       record { store = kept; globals = good.globals; caller = good.caller }
 
-  good-caller : (cell : Cell) (value : List ℕ) → IsGood claim cell → Within claim.names.caller value → IsGood claim (record cell { caller = value })
+  good-caller : (cell : CellOf) (value : List ℕ) → IsGood claim cell → Within claim.names.caller value → IsGood claim (record cell { caller = value })
   good-caller cell value good is = record { store = good.store; globals = good.globals; caller = is }
 
-  good-function : (cell : Cell) (function argument value : List ℕ) (set : Bytes) → IsGood claim cell → Within set value
+  good-function : (cell : CellOf) (function argument value : List ℕ) (set : Bytes) → IsGood claim cell → Within set value
       → MeetsAll claim (function_duties function argument set) → IsGood claim (with_function cell function argument value)
   good-function cell function argument value set good is =
       by (same_text function (codes "GLOBAL")) (same_text function (codes "LOCAL")) (same_text function (codes "CALLERID")) (same_text argument (codes "num"))
@@ -104,12 +104,12 @@ module _ (claim : Claim) where
       by false false true false met = good
       by false false false d met = good
 
-  good-called : (cell : Cell) (function value : List ℕ) (argument : Option (List ℕ)) (set : Bytes) → IsGood claim cell → Within set value
+  good-called : (cell : CellOf) (function value : List ℕ) (argument : Option (List ℕ)) (set : Bytes) → IsGood claim cell → Within set value
       → MeetsAll claim (called_duties function argument set) → IsGood claim (with_called cell function argument value)
   good-called cell function value None set good is met = good
   good-called cell function value (Some argument) set good is met = good-function cell function argument value set good is met
 
-  good-name : (cell : Cell) (name value : List ℕ) (cut : Option (List ℕ × List ℕ)) (set : Bytes) → IsGood claim cell → Within set value
+  good-name : (cell : CellOf) (name value : List ℕ) (cut : Option (List ℕ × List ℕ)) (set : Bytes) → IsGood claim cell → Within set value
       → MeetsAll claim (name_duties name cut set) → IsGood claim (with_name cell name cut value)
   good-name cell name value None set good is met = good-variable cell name value good (within-more set (claim.names.bytes name) met.0 value is)
   good-name cell name value (Some cut) set good is met = good-called cell cut.0 value (argument_of cut.1) set good is met
@@ -137,7 +137,7 @@ module _ (claim : Claim) where
     each-name name (Some cut) = each-called cut.0 (argument_of cut.1)
 
   -- a pair of which nothing is known
-  good-each : (cell : Cell) (arguments : List ℕ) (set : Bytes) → IsGood claim cell → Within set arguments → MeetsAll claim (HoldsAll set ∷ Calls set ∷ [])
+  good-each : (cell : CellOf) (arguments : List ℕ) (set : Bytes) → IsGood claim cell → Within set arguments → MeetsAll claim (HoldsAll set ∷ Calls set ∷ [])
       → IsGood claim (with_pair cell (cut_once 61 arguments))
   good-each cell arguments set good is met = by (cut_once 61 arguments) refl
     where
@@ -162,7 +162,7 @@ module _ (claim : Claim) where
       by false false false d met = tt
 
   -- a pair of which no more than a function's name is known
-  good-headed : (cell : Cell) (arguments : List ℕ) (set : Bytes) (cut : List ℕ × List Piece) → IsGood claim cell → Within set arguments → Avoids 61 cut.0
+  good-headed : (cell : CellOf) (arguments : List ℕ) (set : Bytes) (cut : List ℕ × List Piece) → IsGood claim cell → Within set arguments → Avoids 61 cut.0
       → IsHeaded 40 cut arguments → MeetsAll claim (any_argument_duties (trim_start cut.0) set) → IsGood claim (with_pair cell (cut_once 61 arguments))
   good-headed cell arguments set cut good is clear known met = by (cut_once 61 arguments) refl
     where
@@ -178,7 +178,7 @@ module _ (claim : Claim) where
           with-argument None has = good
           with-argument (Some argument) has = good-function cell (trim_start cut.0) argument pair.1 set good has (each-argument (trim_start cut.0) argument set met)
 
-  good-unknown : (cell : Cell) (arguments : List ℕ) (pieces : List Piece) → IsGood claim cell → Fits pieces arguments → cut_known 61 pieces ≡ None
+  good-unknown : (cell : CellOf) (arguments : List ℕ) (pieces : List Piece) → IsGood claim cell → Fits pieces arguments → cut_known 61 pieces ≡ None
       → (o : Option (List ℕ × List Piece)) → cut_known 40 pieces ≡ o → MeetsAll claim (unknown_duties (pieces_set pieces) o) → IsGood claim (with_pair cell (cut_once 61 arguments))
   good-unknown cell arguments pieces good fits none None from met =
       good-each cell arguments (pieces_set pieces) good (fits-set pieces arguments fits) met
@@ -186,7 +186,7 @@ module _ (claim : Claim) where
       good-headed cell arguments (pieces_set pieces) cut good (fits-set pieces arguments fits) (known-avoids 61 40 pieces cut none from)
       (headed 40 pieces arguments cut from fits) met
 
-  good-pair : (cell : Cell) (arguments : List ℕ) (pieces : List Piece) → IsGood claim cell → Fits pieces arguments
+  good-pair : (cell : CellOf) (arguments : List ℕ) (pieces : List Piece) → IsGood claim cell → Fits pieces arguments
       → (o : Option (List ℕ × List Piece)) → cut_known 61 pieces ≡ o → MeetsAll claim (pair_duties pieces o) → IsGood claim (with_pair cell (cut_once 61 arguments))
   good-pair cell arguments pieces good fits None from met = good-unknown cell arguments pieces good fits from (cut_known 40 pieces) refl met
   good-pair cell arguments pieces good fits (Some cut) from met =

@@ -9,16 +9,16 @@ use Rattle.std.specs.Option.{option_and_then, option_or}
 use Rattle.dp_conf.proofs.TextLemmas.{each-append}
 use Rattle.dp_vars.proofs.VariablesLemmas.{get-texts}
 use Rattle.dp_vars.specs.Sights.{channel_map, channel_name, given_by, local_seen}
-use Rattle.dp_vars.specs.Stores.{Frame, all_locals, innermost, local_in, searched}
+use Rattle.dp_vars.specs.Stores.{Frame, all_locals, innermost, local_in, searched_maps}
 use Rattle.dp_vars.specs.Variables.{Named, first_value, value_or_empty}
 use Rattle.dp_machine.specs.Seen.{sight_in, view_in}
 use Rattle.dp_machine.specs.declared.channel.Channel.{Channel}
-use Rattle.dp_machine.specs.declared.shared.Shared.{Shared}
+use Rattle.dp_machine.specs.declared.shared_state.SharedState.{SharedState}
 use Rattle.dp_app.specs.declared.place.Place.{Place}
 use Rattle.dp_pieces.specs.Bytes.{Bytes, IsPart, Within, digits}
 use Rattle.dp_pieces.specs.Names.{IsWithin, Names, variable_pieces}
-use Rattle.dp_pieces.specs.Pieces.{Fits, made, pieces_set}
-use Rattle.dp_pieces.proofs.FitsLemmas.{fits-made}
+use Rattle.dp_pieces.specs.Pieces.{Fits, any_bytes_of, pieces_set}
+use Rattle.dp_pieces.proofs.FitsLemmas.{fits-any_bytes_of}
 use Rattle.dp_pieces.proofs.NumeralLemmas.{within-decimal}
 use Rattle.dp_pieces.proofs.WithinLemmas.{within-append, within-more}
 use Rattle.dp_reach.specs.Areas.{Area, IsIn, names_at}
@@ -52,7 +52,7 @@ locals-held : (names : Names) (frames : List (Frame Place)) → AllByRecursion (
 locals-held names [] all = tt
 locals-held names (frame ∷ frames) all = (all.0, locals-held names frames all.1)
 
-module _ (claim : Claim) (named : AreNamed claim) (shared : Shared) (number : ℕ) (c : Channel) (area : Area) (inside : IsIn area c.place) (exten : IsPart (pieces_set area.exten) claim.names.all)
+module _ (claim : Claim) (named : AreNamed claim) (shared : SharedState) (number : ℕ) (c : Channel) (area : Area) (inside : IsIn area c.place) (exten : IsPart (pieces_set area.exten) claim.names.all)
     (context : IsPart (pieces_set area.context) claim.names.all) (kept : IsKept claim c.store) (globals : AreHeld claim.names shared.globals) (caller : Within claim.names.caller c.caller) where
   -- what a name has beside its extension and its context
   rest-held : (name : List ℕ) → IsHeld (claim.names.bytes name) (cond (pointwise nat_eq name (codes "PRIORITY")) (Some (decimal c.place.priority))
@@ -70,7 +70,7 @@ module _ (claim : Claim) (named : AreNamed claim) (shared : Shared) (number : �
           by true tied = subst (λ n. Within (claim.names.bytes n) value) (sym ((bytes_decides name key).0 tied)) is
           by false other = later
 
-  stored-held : AllByRecursion (AreHeld claim.names) (searched c.store)
+  stored-held : AllByRecursion (AreHeld claim.names) (searched_maps c.store)
   stored-held = each-append (AreHeld claim.names) (all_locals c.store.frames) (c.store.variables ∷ [])
       (locals-held claim.names (reverse c.store.frames) (each-reverse (λ (frame : Frame Place). AreHeld claim.names frame.locals) c.store.frames kept.locals)) (kept.variables, tt)
 
@@ -83,27 +83,27 @@ module _ (claim : Claim) (named : AreNamed claim) (shared : Shared) (number : �
 
   -- a variable
   variable-fits : (name : List ℕ) → Fits (variable_pieces (names_at claim.names area) name)
-      (value_or_empty (channel_map (Some (view_in number c)) ∷ (searched c.store ++ shared.globals ∷ [])) name)
+      (value_or_empty (channel_map (Some (view_in number c)) ∷ (searched_maps c.store ++ shared.globals ∷ [])) name)
   variable-fits name =
-      subst (λ o. Fits (variable_pieces (names_at claim.names area) name) (unwrap_or (option_or o (first_value (searched c.store ++ shared.globals ∷ []) name)) []))
+      subst (λ o. Fits (variable_pieces (names_at claim.names area) name) (unwrap_or (option_or o (first_value (searched_maps c.store ++ shared.globals ∷ []) name)) []))
       (sym (get-texts name (given_by (Some (view_in number c))))) (by (pointwise nat_eq name (codes "EXTEN")) (pointwise nat_eq name (codes "CONTEXT")) (rest-held name))
     where
-      later : IsHeld (claim.names.bytes name) (first_value (searched c.store ++ shared.globals ∷ []) name)
-      later = held-first claim.names (searched c.store ++ shared.globals ∷ []) name (each-append (AreHeld claim.names) (searched c.store) (shared.globals ∷ []) stored-held (globals, tt))
+      later : IsHeld (claim.names.bytes name) (first_value (searched_maps c.store ++ shared.globals ∷ []) name)
+      later = held-first claim.names (searched_maps c.store ++ shared.globals ∷ []) name (each-append (AreHeld claim.names) (searched_maps c.store) (shared.globals ∷ []) stored-held (globals, tt))
 
-      or : (o : Option (List ℕ)) → IsHeld (claim.names.bytes name) o → Within (claim.names.bytes name) (unwrap_or (option_or o (first_value (searched c.store ++ shared.globals ∷ []) name)) [])
-      or None is = within-held claim.names (claim.names.bytes name) (first_value (searched c.store ++ shared.globals ∷ []) name) later
+      or : (o : Option (List ℕ)) → IsHeld (claim.names.bytes name) o → Within (claim.names.bytes name) (unwrap_or (option_or o (first_value (searched_maps c.store ++ shared.globals ∷ []) name)) [])
+      or None is = within-held claim.names (claim.names.bytes name) (first_value (searched_maps c.store ++ shared.globals ∷ []) name) later
       or (Some value) is = is
 
       Rest : Option (List ℕ)
       Rest = cond (pointwise nat_eq name (codes "PRIORITY")) (Some (decimal c.place.priority)) (cond (pointwise nat_eq name (codes "CHANNEL")) (Some (channel_name number)) None)
 
       by : (a b : Bool) → IsHeld (claim.names.bytes name) Rest
-          → Fits (if a then area.exten else if b then area.context else made (claim.names.bytes name))
-          (unwrap_or (option_or (cond a (Some c.place.exten) (cond b (Some c.place.context) Rest)) (first_value (searched c.store ++ shared.globals ∷ []) name)) [])
+          → Fits (if a then area.exten else if b then area.context else any_bytes_of (claim.names.bytes name))
+          (unwrap_or (option_or (cond a (Some c.place.exten) (cond b (Some c.place.context) Rest)) (first_value (searched_maps c.store ++ shared.globals ∷ []) name)) [])
       by true b held = inside.exten
       by false true held = inside.context
-      by false false held = fits-made (claim.names.bytes name) _ (or Rest held)
+      by false false held = fits-any_bytes_of (claim.names.bytes name) _ (or Rest held)
 
   -- what its texts see
   pub seen-channel : IsWithin (names_at claim.names area) (sight_in shared number c)

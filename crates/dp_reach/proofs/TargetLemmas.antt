@@ -11,9 +11,9 @@ use Rattle.dp_app.specs.declared.place.Place.{Place}
 use Rattle.dp_pieces.specs.Arguments.{are_clean, shapes_of}
 use Rattle.dp_pieces.specs.Bytes.{Bytes, Within}
 use Rattle.dp_pieces.specs.Fitting.{AllFit}
-use Rattle.dp_pieces.specs.Pieces.{AnyOf, Fits, Known, OneOf, Piece, made, pieces_set}
+use Rattle.dp_pieces.specs.Pieces.{AnyOf, Fits, Known, OneOf, Piece, any_bytes_of, pieces_set}
 use Rattle.dp_pieces.proofs.ArgumentLemmas.{fits-arguments}
-use Rattle.dp_pieces.proofs.FitsLemmas.{fits-made, fits-set}
+use Rattle.dp_pieces.proofs.FitsLemmas.{fits-any_bytes_of, fits-set}
 use Rattle.dp_pieces.proofs.WithinLemmas.{within-trim}
 use Rattle.dp_reach.specs.Areas.{Area, Covers, IncludesAll, IsIn, IsInOne, IsUnknown, area_at, areas_of, may_be_empty, or_own, targets, targets_of, targets_within}
 
@@ -119,23 +119,23 @@ in-target plan own place area (c ∷ e ∷ p ∷ []) (a ∷ b ∷ d ∷ f ∷ pa
 in-target plan own place area (c ∷ e ∷ p ∷ q ∷ shapes) (a ∷ b ∷ d ∷ []) inside are found = absurd are.1.1.1
 
 -- any part of these bytes, or the channel's own
-fits-made_or_own : (set : Bytes) (own : List Piece) (mine part : List ℕ) → Fits own mine → Within set part → FitsOne (made set ∷ own ∷ []) (part_or mine part)
+fits-made_or_own : (set : Bytes) (own : List Piece) (mine part : List ℕ) → Fits own mine → Within set part → FitsOne (any_bytes_of set ∷ own ∷ []) (part_or mine part)
 fits-made_or_own set own mine [] is here = inr (inl is)
-fits-made_or_own set own mine (b ∷ bs) is here = inl (fits-made set (b ∷ bs) here)
+fits-made_or_own set own mine (b ∷ bs) is here = inl (fits-any_bytes_of set (b ∷ bs) here)
 
 pub in-within : (plan : PlanOf) (own place : Place) (area : Area) (set : Bytes) (parts : List (List ℕ)) → IsIn area own → AllByRecursion (Within set) parts
     → parts_place plan own parts ≡ Some place → IsInOne (targets_within area set) place
 unfolding parts_place
 in-within plan own place area set [] inside all found = absurd cc
 in-within plan own place area set (a ∷ []) inside all found =
-    in-at (made set ∷ area.context ∷ []) (made set ∷ area.exten ∷ []) own.context own.exten place (at-place plan own.context own.exten a place found)
+    in-at (any_bytes_of set ∷ area.context ∷ []) (any_bytes_of set ∷ area.exten ∷ []) own.context own.exten place (at-place plan own.context own.exten a place found)
     (inr (inl inside.context)) (inr (inl inside.exten))
 in-within plan own place area set (a ∷ b ∷ []) inside all found =
-    in-at (made set ∷ area.context ∷ []) (made set ∷ area.exten ∷ []) own.context (part_or own.exten a) place
+    in-at (any_bytes_of set ∷ area.context ∷ []) (any_bytes_of set ∷ area.exten ∷ []) own.context (part_or own.exten a) place
     (at-place plan own.context (part_or own.exten a) b place found)
     (inr (inl inside.context)) (fits-made_or_own set area.exten own.exten a inside.exten all.0)
 in-within plan own place area set (a ∷ b ∷ d ∷ []) inside all found =
-    in-at (made set ∷ area.context ∷ []) (made set ∷ area.exten ∷ []) (part_or own.context a) (part_or own.exten b) place
+    in-at (any_bytes_of set ∷ area.context ∷ []) (any_bytes_of set ∷ area.exten ∷ []) (part_or own.context a) (part_or own.exten b) place
     (at-place plan (part_or own.context a) (part_or own.exten b) d place found)
     (fits-made_or_own set area.context own.context a inside.context all.0) (fits-made_or_own set area.exten own.exten b inside.exten all.1.0)
 in-within plan own place area set (a ∷ b ∷ d ∷ f ∷ parts) inside all found =

@@ -7,7 +7,7 @@ use Rattle.dp_lookup.specs.SearchOrder.{search_order, visit}
 use Rattle.dp_plan.specs.Plan.{PlanOf}
 use Rattle.dp_app.specs.declared.place.Place.{Place}
 use Rattle.dp_machine.specs.Channels.{is_invalid}
-use Rattle.dp_machine.specs.Found.{Located, entry_found, is_found, located}
+use Rattle.dp_machine.specs.Found.{Located, entry_found, is_found, located_entry}
 use Rattle.dp_reach.specs.Areas.{IsUnknown}
 
 -- no context is searched
@@ -19,7 +19,7 @@ pub unknown-entry : (plan : PlanOf) (place : Place) (found : Located) → IsUnkn
 unfolding entry_found found_entry
 unknown-entry plan place found unknown is =
     let none : entry_found plan place ≡ None
-    = ap (λ order. option_and_then (located plan) (found_entry plan order place.exten place.priority)) (order-unknown plan place.context unknown) in
+    = ap (λ order. option_and_then (located_entry plan) (found_entry plan order place.exten place.priority)) (order-unknown plan place.context unknown) in
     let no : None ≡ Some found = sym none ∙ is in let b : ⊥ = cc in b
 
 -- and so the extension `i` is not

@@ -7,9 +7,9 @@ use Rattle.dp_queue.specs.declared.settings.Settings.{Settings}
 use Rattle.dp_app.specs.declared.place.Place.{Place}
 use Rattle.dp_pieces.specs.Bytes.{Bytes, IsPart, Within}
 use Rattle.dp_pieces.specs.Names.{Names}
-use Rattle.dp_pieces.specs.Pieces.{made}
+use Rattle.dp_pieces.specs.Pieces.{any_bytes_of}
 use Rattle.dp_pieces.specs.Texts.{text_pieces, text_set}
-use Rattle.dp_pieces.proofs.FitsLemmas.{fits-made}
+use Rattle.dp_pieces.proofs.FitsLemmas.{fits-any_bytes_of}
 use Rattle.dp_pieces.proofs.TextLemmas.{fits-expansion}
 use Rattle.dp_pieces.proofs.WithinLemmas.{within-all}
 use Rattle.dp_reach.specs.Areas.{Area, Covers, Includes, area_at, area_matched, names_at}
@@ -23,7 +23,7 @@ abbrev pub anything : Bytes
 anything byte = true
 
 abbrev pub everywhere : Area
-everywhere = area_at (made anything) (made anything)
+everywhere = area_at (any_bytes_of anything) (any_bytes_of anything)
 
 abbrev pub widest_names : Names
 widest_names = record { bytes = λ name. anything; exten = []; context = []; caller = anything; all = anything }
@@ -36,7 +36,7 @@ any-text text = within-all anything (λ byte. refl) text
 
 any-place : (plan : PlanOf) (place : Place) → Covers plan (everywhere ∷ []) place
 any-place plan place =
-    inr (inl (record { context = fits-made anything place.context (any-text place.context); exten = fits-made anything place.exten (any-text place.exten) }))
+    inr (inl (record { context = fits-any_bytes_of anything place.context (any-text place.context); exten = fits-any_bytes_of anything place.exten (any-text place.exten) }))
 
 module _ (duties : List ℕ → Duties) (plan : PlanOf) (settings : List Settings) where
   meets : (duty : Duty) → Meets (widest plan settings) duty

@@ -7,9 +7,9 @@ use Rattle.dp_plan.specs.Plan.{PlanOf}
 use Rattle.dp_app.specs.declared.place.Place.{Place}
 use Rattle.dp_pieces.specs.Arguments.{are_clean, shapes_of}
 use Rattle.dp_pieces.specs.Bytes.{Bytes}
-use Rattle.dp_pieces.specs.Met.{matched}
+use Rattle.dp_pieces.specs.Met.{after_match}
 use Rattle.dp_pieces.specs.Names.{Names}
-use Rattle.dp_pieces.specs.Pieces.{AnyOf, Fits, Known, OneOf, Piece, exactly, made, pieces_set}
+use Rattle.dp_pieces.specs.Pieces.{AnyOf, Fits, Known, OneOf, Piece, exactly, any_bytes_of, pieces_set}
 
 -- the shapes of the context and of the extension of a place
 pub record Area : Type 0 where
@@ -71,7 +71,7 @@ targets_of area (a ∷ b ∷ c ∷ d ∷ shapes) = []
 
 -- where any parts of these bytes may lead
 abbrev pub targets_within : Area → Bytes → List Area
-targets_within area set = areas_of (made set ∷ area.context ∷ []) (made set ∷ area.exten ∷ [])
+targets_within area set = areas_of (any_bytes_of set ∷ area.context ∷ []) (any_bytes_of set ∷ area.exten ∷ [])
 
 -- where the target of pieces may lead from an area
 abbrev pub targets : Area → List Piece → List Area
@@ -83,7 +83,7 @@ beside area exten = area_at area.context (exactly exten)
 
 -- what is known of a place of an area whose extension matches the name
 abbrev pub area_matched : Area → Meaning → Area
-area_matched area name = area_at area.context (matched area.exten name)
+area_matched area name = area_at area.context (after_match area.exten name)
 
 -- the names that the texts of a channel in an area see
 abbrev pub names_at : Names → Area → Names

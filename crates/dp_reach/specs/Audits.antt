@@ -17,11 +17,11 @@ use Rattle.dp_reach.specs.Areas.{Area, Includes, area_at}
 use Rattle.dp_reach.specs.Bounds.{Duties}
 use Rattle.dp_pieces.specs.Bytes.{Bytes, IsPart, Within}
 use Rattle.dp_pieces.specs.Names.{Names}
-use Rattle.dp_pieces.specs.Pieces.{exactly, made}
+use Rattle.dp_pieces.specs.Pieces.{exactly, any_bytes_of}
 use Rattle.dp_pieces.specs.Texts.{text_set}
 use Rattle.dp_reach.specs.Closed.{IsClosed}
 use Rattle.dp_reach.specs.Holding.{Claim}
-use Rattle.dp_reach.specs.Runs.{RunsWithin, narrowed}
+use Rattle.dp_reach.specs.Runs.{RunsWithin, with_reach}
 
 -- what may come in: the bytes of an extension and of a caller's number, and the contexts
 pub record Outside : Type 0 where
@@ -50,7 +50,7 @@ IsFromOutside outside (Reload text) = ⊥
 
 -- where such a call comes in
 abbrev pub entrance : Outside → List ℕ → Area
-entrance outside context = area_at (exactly context) (made outside.exten)
+entrance outside context = area_at (exactly context) (any_bytes_of outside.exten)
 
 -- the names that the value of a global sees: no channel, and so no extension and no context
 abbrev pub names_outside : Names → Names
@@ -59,7 +59,7 @@ names_outside names = record names { exten = []; context = [] }
 -- an audit is closed: for all calls, and for those that come in at the context
 pub record IsAudit (duties : List ℕ → Duties) (outside : Outside) (context : List ℕ) (claim : Claim) (others : EntryId → Bool) (reach : List Area) (answers : EntryId → Bool) : Type 0 where
   pub all : IsClosed duties claim others
-  pub own : IsClosed duties (narrowed claim reach) answers
+  pub own : IsClosed duties (with_reach claim reach) answers
   pub calls : AllByRecursion (λ name. Includes claim.plan claim.reach (entrance outside name)) outside.contexts
   pub call : Includes claim.plan reach (entrance outside context)
   pub caller : IsPart outside.caller claim.names.caller

@@ -3,12 +3,12 @@ use Rattle.std.specs.Prelude.{◌≡◌, ℕ, ◌+◌, List, [], ◌∷◌, ◌+
 use Rattle.std.specs.Fmt.{decimal}
 use Rattle.std.specs.List.{AllByRecursion, flat_map}
 use Rattle.dp_app.specs.Rows.{Row, Rows}
-use Rattle.dp_app.specs.declared.cell.Cell.{Cell}
+use Rattle.dp_app.specs.Cells.{CellOf}
 use Rattle.dp_machine.specs.Events.{is_digit}
 use Rattle.dp_pieces.specs.Arguments.{are_clean, shapes_of, split_pieces}
 use Rattle.dp_pieces.specs.Bytes.{Bytes, IsPart}
 use Rattle.dp_pieces.specs.Cuts.{At, Cutting, Nowhere, Unsure, cut_last, cut_pieces}
-use Rattle.dp_pieces.specs.Pieces.{Fits, Piece, bytes_in, made, pieces_set}
+use Rattle.dp_pieces.specs.Pieces.{Fits, Piece, bytes_in, any_bytes_of, pieces_set}
 use Rattle.dp_reach.specs.Areas.{Area, Covers, Includes, IsIn, area_at, beside, targets, targets_within}
 use Rattle.dp_reach.specs.Choices.{last_part, sides_in}
 use Rattle.dp_reach.specs.Holding.{Claim, IsGood, IsInside, LeadsOut}
@@ -38,7 +38,7 @@ Duties = Area → List Piece → List Duty
 
 -- a row stays inside wherever its arguments fit the pieces and what is owed is met
 abbrev pub IsBounded : Duties → Row → Type 0
-IsBounded duties row = (claim : Claim) (area : Area) (pieces : List Piece) (arguments : List ℕ) (cell : Cell) → IsGood claim cell → IsIn area cell.place
+IsBounded duties row = (claim : Claim) (area : Area) (pieces : List Piece) (arguments : List ℕ) (cell : CellOf) → IsGood claim cell → IsIn area cell.place
     → Covers claim.plan claim.reach cell.place → Fits pieces arguments → MeetsAll claim (duties area pieces) → IsInside claim cell.place (row arguments cell)
 
 -- each row of a table
@@ -85,7 +85,7 @@ gosub_duties area pieces = subroutine_duties area pieces
 
 -- the row of `GosubIf`: each side of the choice; where the sides are not known, any text of these bytes
 abbrev pub sides_or : Bytes → Option (List (List Piece)) → List (List Piece)
-sides_or set None = made set ∷ []
+sides_or set None = any_bytes_of set ∷ []
 sides_or set (Some sides) = sides
 
 abbrev pub gosub_if_duties : Duties
@@ -93,7 +93,7 @@ gosub_if_duties area pieces = flat_map (subroutine_duties area) (sides_or (piece
 
 -- a row that waits for digits: they, and a time-out, lead to extensions of the context
 abbrev pub digits_duties : Duties
-digits_duties area pieces = Leads (area_at area.context (made is_digit)) ∷ Leads (beside area (codes "t")) ∷ []
+digits_duties area pieces = Leads (area_at area.context (any_bytes_of is_digit)) ∷ Leads (beside area (codes "t")) ∷ []
 
 -- a row that leads nowhere and sets nothing
 abbrev pub nothing_owed : Duties

@@ -11,9 +11,9 @@ use Rattle.dp_queue.specs.declared.settings.Settings.{Settings}
 use Rattle.dp_machine.specs.Events.{is_digit}
 use Rattle.dp_machine.specs.Targets.{place_of, target_place}
 use Rattle.dp_machine.specs.declared.channel.Channel.{Channel}
-use Rattle.dp_machine.specs.declared.shared.Shared.{Shared}
+use Rattle.dp_machine.specs.declared.shared_state.SharedState.{SharedState}
 use Rattle.dp_app.specs.Rows.{Outcome}
-use Rattle.dp_app.specs.declared.cell.Cell.{Cell}
+use Rattle.dp_app.specs.Cells.{CellOf}
 use Rattle.dp_app.specs.declared.moves.Move.{Move}
 use Rattle.dp_app.specs.declared.moves.Move.TheVariants.{Next, Jump, Park, Hang}
 use Rattle.dp_app.specs.declared.phase.Phase.{Phase}
@@ -46,7 +46,7 @@ pub record IsKept (claim : Claim) (store : StoreOf Place) : Type 0 where
   pub back : AllByRecursion (λ (frame : Frame Place). Covers claim.plan claim.reach frame.back) store.frames
 
 -- what an application may read and write
-pub record IsGood (claim : Claim) (cell : Cell) : Type 0 where
+pub record IsGood (claim : Claim) (cell : CellOf) : Type 0 where
   pub store : IsKept claim cell.store
   pub globals : AreHeld claim.names cell.globals
   pub caller : Within claim.names.caller cell.caller
@@ -95,6 +95,6 @@ pub record IsChannelIn (claim : Claim) (c : Channel) : Type 0 where
   pub phase : IsPhaseIn claim c.place c.phase
 
 -- what all channels share
-pub record IsSharedIn (claim : Claim) (shared : Shared) : Type 0 where
+pub record IsSharedIn (claim : Claim) (shared : SharedState) : Type 0 where
   pub globals : AreHeld claim.names shared.globals
   pub settings : map (λ queue. queue.settings) shared.queues.queues ≡ claim.settings

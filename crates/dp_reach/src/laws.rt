@@ -13,7 +13,7 @@ ghost use Rattle.dp_reach.specs.Bounds.{AreBounded, Duties};
 ghost use Rattle.dp_reach.specs.Closed.{IsClosed};
 ghost use Rattle.dp_reach.specs.Finding.{MayFind};
 ghost use Rattle.dp_reach.specs.Holding.{Claim};
-ghost use Rattle.dp_reach.specs.Runs.{AreAllowed, IsNumberIn, IsWorldIn, RunsWithin, narrowed};
+ghost use Rattle.dp_reach.specs.Runs.{AreAllowed, IsNumberIn, IsWorldIn, RunsWithin, with_reach};
 ghost use Rattle.dp_reach.specs.Standard.{standard_duties};
 
 use dp_app::AppTable;
@@ -24,8 +24,8 @@ use dp_app::AppTable;
 pub fn runs<T: AppTable>()
     ensures { (duties : List ℕ → Duties) (wide : Claim) (others : EntryId → Bool) (reach : List Area) (answers : EntryId → Bool)
         (world : World) (events : List Event) (channel : ℕ)
-        → AreBounded duties T.rows → IsClosed duties wide others → IsClosed duties (narrowed wide reach) answers
-        → IsWorldIn wide world → IsNumberIn (narrowed wide reach) world channel → channel ≤ length world.channels → AreAllowed wide events
+        → AreBounded duties T.rows → IsClosed duties wide others → IsClosed duties (with_reach wide reach) answers
+        → IsWorldIn wide world → IsNumberIn (with_reach wide reach) world channel → channel ≤ length world.channels → AreAllowed wide events
         → RunsWithin T.rows answers channel world events }
 {}
 

@@ -13,7 +13,7 @@ use crate::pieces::duties::{CLAIMED, Claimed, DUTIES, Duties, FOUND, Found, REAC
 use crate::pieces::names::{NAMES, Names};
 use crate::pieces::shapes::{SHAPES, Shapes};
 use crate::pieces::texts::{TEXTS, Texts};
-use dp_questions::check;
+use dp_case_tables::check;
 use std::test::Fail;
 
 /// Pieces cut at a byte and into arguments, trimmed, and without their first bytes.

@@ -1,10 +1,10 @@
 //! Runs in threads, with the line that is printed of them and their histories, worked out by hand from the rules.
 use dp_board::Gate;
 use dp_board_fixture::{Crossed, gate_of, hold_until};
-use dp_commands::{PbxFault, run_threads};
+use dp_case_tables::{bytes_of, check_answer, check_heading};
+use dp_commands::{PbxFault, RunTexts, Sharing, run_threads};
 use dp_conf::{NoMemory, Told};
 use dp_machine::Reply;
-use dp_questions::{bytes_of, check_answer, check_heading};
 use std::alloc::Global;
 use std::process::Abort;
 use std::str;
@@ -82,36 +82,33 @@ fn check_outcome(
     check_answer(alloc, asked, &got, want)
 }
 
+/// A dialplan and a script alone.
+fn bare<'a>(plan: &'a [u8], script: &'a [u8]) -> RunTexts<'a> {
+    RunTexts {
+        plan,
+        queues: None,
+        second_plan: None,
+        script,
+    }
+}
+
 /// The status of a run of these texts, of which the history is let go.
-fn ended<R: Threads + Wait + Sync>(
+fn end_status<R: Threads + Wait + Sync>(
     rt: &R,
     alloc: Global,
+    texts: RunTexts<'_>,
     threads: u32,
-    plan: &[u8],
-    script: &[u8],
     writer: &mut Told<Vec<u8>>,
 ) -> Result<u8, PbxFault> {
-    let (status, _) = run_threads(rt, alloc, plan, None, None, script, threads, &Open, writer)?;
+    let sharing = Sharing {
+        threads,
+        gate: &Open,
+    };
+    let (status, _) = run_threads(rt, alloc, texts, sharing, writer)?;
     Ok(status)
 }
 
 /// What a run in threads prints, and what it ends with.
-fn check_shared<R: Threads + Wait + Sync>(
-    rt: &R,
-    alloc: Global,
-    threads: u32,
-    plan: &str,
-    script: &str,
-    want: &str,
-) -> Result<(), Fail> {
-    let text = format!(in alloc; "[main]\\n{plan}")?;
-    let text = bytes_of(alloc, &text)?;
-    let events = bytes_of(alloc, script)?;
-    let mut writer = Told::new(Vec::new(alloc));
-    let ended = ended(rt, alloc, threads, &text, &events, &mut writer);
-    check_outcome(alloc, script, ended, &writer.into_inner(), want)
-}
-
 fn check_row<R: Threads + Wait + Sync>(
     rt: &R,
     alloc: Global,
@@ -121,7 +118,12 @@ fn check_row<R: Threads + Wait + Sync>(
     let (threads, rest) = asked.split_once('¦').ok_or("no threads")?;
     let (plan, script) = rest.split_once('¦').ok_or("no script")?;
     let threads: u32 = threads.parse().ok().ok_or("no number")?;
-    check_shared(rt, alloc, threads, plan, script, want)
+    let text = format!(in alloc; "[main]\\n{plan}")?;
+    let text = bytes_of(alloc, &text)?;
+    let events = bytes_of(alloc, script)?;
+    let mut writer = Told::new(Vec::new(alloc));
+    let ended = end_status(rt, alloc, bare(&text, &events), threads, &mut writer);
+    check_outcome(alloc, script, ended, &writer.into_inner(), want)
 }
 
 /// Runs of scripts in threads.
@@ -155,36 +157,36 @@ const GATED: &str = r"
 3¦1¦step 1\nstep 2→settled 3 seats 2 calls\nstatus 0¦0 ran¦0 ran
 ";
 
-/// The status of a run of these events through the gate, which was called as it should be.
-fn gated<R: Threads + Wait + Abort + Sync>(
+/// The status of a run through its gate, and whether the gate was called as it should be.
+fn run_gated<R: Threads + Wait + Sync>(
     rt: &R,
     alloc: Global,
-    threads: u32,
-    events: &str,
-    script: &[u8],
-    gate: &Crossed,
+    texts: RunTexts<'_>,
+    sharing: Sharing<'_, Crossed>,
     writer: &mut Told<Vec<u8>>,
-) -> Result<u8, PbxFault> {
-    let (status, history) = run_threads(
-        rt, alloc, GATED_PLAN, None, None, script, threads, gate, writer,
-    )?;
-    let fits = gate.fits(history.entries());
-    assert!(rt; fits, "the gate of {events} in {threads} threads");
-    Ok(status)
+) -> Result<(u8, bool), PbxFault> {
+    let (status, history) = run_threads(rt, alloc, texts, sharing, writer)?;
+    Ok((status, sharing.gate.fits(history.entries())))
 }
 
 fn check_gated<R: Threads + Wait + Abort + Sync>(
     rt: &R,
     alloc: Global,
-    threads: u32,
+    sharing: Sharing<'_, Crossed>,
     events: &str,
-    gate: &Crossed,
     want: &str,
 ) -> Result<(), Fail> {
     let text = format!(in alloc; "start main s\\nstart main s\\n{events}")?;
     let script = bytes_of(alloc, &text)?;
     let mut writer = Told::new(Vec::new(alloc));
-    let ended = gated(rt, alloc, threads, events, &script, gate, &mut writer);
+    let ended = match run_gated(rt, alloc, bare(GATED_PLAN, &script), sharing, &mut writer) {
+        Ok((status, fits)) => {
+            let threads = sharing.threads;
+            assert!(rt; fits, "the gate of {events} in {threads} threads");
+            Ok(status)
+        }
+        Err(fault) => Err(fault),
+    };
     check_outcome(alloc, events, ended, &writer.into_inner(), want)
 }
 
@@ -204,7 +206,11 @@ fn check_gate<R: Threads + Wait + Abort + Sync>(
         "2" => gate_of(2, 1, first, second),
         _ => gate_of(0, 0, first, second),
     };
-    check_gated(rt, alloc, threads, events, &gate, printed)
+    let sharing = Sharing {
+        threads,
+        gate: &gate,
+    };
+    check_gated(rt, alloc, sharing, events, printed)
 }
 
 /// The gate is called round each event, with the turns of its seat, and the seats act at once.
@@ -248,7 +254,8 @@ fn run_nine<R: Threads + Wait + Sync>(
     gate: &Gathered,
     writer: &mut Told<Vec<u8>>,
 ) -> Result<u8, PbxFault> {
-    let (status, _) = run_threads(rt, alloc, GATED_PLAN, None, None, NINE, 9, gate, writer)?;
+    let sharing = Sharing { threads: 9, gate };
+    let (status, _) = run_threads(rt, alloc, bare(GATED_PLAN, NINE), sharing, writer)?;
     Ok(status)
 }
 

@@ -1,1 +1,1 @@
-pub mod NamesLemmas
+pub mod RunLemmas

@@ -1,6 +1,7 @@
 -- The table of the applications that this program has.
-use Rattle.std.specs.Prelude.{ℕ, List, codes}
+use Rattle.std.specs.Prelude.{ℕ, List, [], codes}
 use Rattle.dp_app.specs.Lawful.{IsBlind, IsLawful, IsLawfulRow}
+use Rattle.dp_app.specs.Listed.{Listed, with_listed}
 use Rattle.dp_app.specs.Rows.{Row, Rows}
 use Rattle.dp_app.specs.Tables.{no_rows, no_rows_blind, no_rows_lawful, no_touch, with_row, with_row_blind, with_row_lawful, with_touch}
 use Rattle.dp_app.specs.declared.touch.Touch.{Touch}
@@ -17,16 +18,18 @@ use Rattle.dp_qapps.specs.Pausing.{pause_member_row, unpause_member_row}
 use Rattle.dp_qapps.specs.Queueing.{queue_row}
 use Rattle.dp_qapps.specs.Touches.{variables_and_members, variables_and_waiting}
 
--- a table: the row of each name, what each may change, that each row keeps the laws with that, and that names have no case
+-- a table: the row of each name, what each may change, that each row keeps the laws with that, that names have no case, and the
+-- applications in their order
 pub record Table : Type 0 where
   pub touches : List ℕ → Touch
   pub rows : Rows
   pub lawful : IsLawful touches rows
   pub blind : IsBlind touches rows
+  pub listed : List Listed
 
 -- the table with no name
 abbrev pub no_table : Table
-no_table = record { touches = no_touch; rows = no_rows; lawful = no_rows_lawful; blind = no_rows_blind }
+no_table = record { touches = no_touch; rows = no_rows; lawful = no_rows_lawful; blind = no_rows_blind; listed = [] }
 
 -- a table with one more application: its name, what it may change, its row, and that the row keeps the laws
 abbrev pub with_application : (title : List ℕ) (touch : Touch) (row : Row) → IsLawfulRow touch row → Table → Table
@@ -35,6 +38,7 @@ with_application title touch row lawful table = record {
   rows = with_row title row table.rows;
   lawful = with_row_lawful title touch row table.touches table.rows lawful table.lawful;
   blind = with_row_blind title touch row table.touches table.rows table.blind;
+  listed = with_listed title row table.listed;
 }
 
 -- the table of this program

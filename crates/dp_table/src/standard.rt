@@ -1,7 +1,7 @@
 //! The table of the applications that this program has, after the Asterisk documentation's application reference.
 ghost use Rattle.std.specs.Prelude.{◌≡◌};
 
-use dp_app::{AppTable, Cell, Move, NoApps, With};
+use dp_app::{AppList, AppNumber, AppTable, Cell, Move, NoApps, With};
 use dp_conf::NoMemory;
 use dp_flow::{
     Answer, Background, Dial, Gosub, GosubIf, Goto, GotoIf, Hangup, NoOp, Playback, Return, Set,
@@ -43,6 +43,11 @@ impl AppTable for StandardApps {
     ghost blind = { standard_blind };
 
     #[tactic(auto, unfolding(crate::specs::Standard::standard_table))]
+    fn number_of(name: &[u8]) -> Option<AppNumber> {
+        Everyday::number_of(name)
+    }
+
+    #[tactic(auto, unfolding(crate::specs::Standard::standard_table))]
     fn dispatch(
         alloc: Global,
         name: &[u8],
@@ -52,8 +57,17 @@ impl AppTable for StandardApps {
         Everyday::dispatch(alloc, name, arguments, cell)
     }
 
-    #[tactic(auto, unfolding(crate::specs::Standard::standard_table))]
-    fn going(alloc: Global, name: &[u8], arguments: &[u8]) -> Result<Option<Move>, NoMemory> {
-        Everyday::going(alloc, name, arguments)
+    #[inline(always)]
+    fn run_by_number(
+        alloc: Global,
+        number: AppNumber,
+        name: &[u8],
+        arguments: &[u8],
+        cell: &mut Cell,
+    ) -> Result<Option<Move>, NoMemory> {
+        match Everyday::run_at(alloc, number.place, name, arguments, cell)? {
+            Some(going) => Ok(Some(going)),
+            None => Self::dispatch(alloc, name, arguments, cell),
+        }
     }
 }

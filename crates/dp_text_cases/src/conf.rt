@@ -9,7 +9,7 @@ mod texts;
 use crate::conf::args::{ARGUMENTS, Arguments, TRIMMED, Trimmed};
 use crate::conf::terms::{CUTS, Cut, NUMBERS, Number, WORDS, Words};
 use crate::conf::texts::{PLACES, Places, SAME, Same};
-use dp_questions::check;
+use dp_case_tables::check;
 use std::alloc::Global;
 use std::test::Fail;
 

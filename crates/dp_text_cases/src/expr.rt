@@ -2,8 +2,8 @@
 //!
 //! A row is a text and, after an arrow, its value, which is empty for a fault, both with the escapes of `bytes_of`.
 
+use dp_case_tables::{bytes_of, is_heading};
 use dp_expr::{evaluate, one_tree, one_value};
-use dp_questions::{bytes_of, is_heading};
 use std::alloc::{AllocError, Global};
 use std::process::Abort;
 use std::test::Fail;
@@ -502,7 +502,7 @@ fn push_part(text: &mut Vec<u8>, copies: &str, rest: &str) -> Result<(), Fail> {
 }
 
 /// The text of a cell, in which `{COUNT PIECE}` is that many copies of the piece.
-fn repeated(alloc: Global, cell: &str) -> Result<Vec<u8>, Fail> {
+fn repeat_piece(alloc: Global, cell: &str) -> Result<Vec<u8>, Fail> {
     let mut text = Vec::new(alloc);
     for part in cell.split('{') {
         match part.split_once('}') {
@@ -542,8 +542,8 @@ const REPEATED: &str = r"
 ";
 
 fn check_repeated(rt: &impl Abort, alloc: Global, text: &str, want: &str) -> Result<(), Fail> {
-    let text = repeated(alloc, text)?;
-    let want = repeated(alloc, want)?;
+    let text = repeat_piece(alloc, text)?;
+    let want = repeat_piece(alloc, want)?;
     let value = value_bytes(alloc, &text)?;
     assert!(rt; value.as_slice() == want.as_slice());
     Ok(())

@@ -5,11 +5,11 @@ mod order;
 mod reading;
 mod spelling;
 
+use dp_case_tables::{Question, bytes_of, check_all};
 use dp_pattern::{
     Class, Name, NoMemory, Parts, PatternFault, Tail, compare, compare_classes, could_match_more,
     matches, order_is_total, same,
 };
-use dp_questions::{Question, bytes_of, check_all};
 use std::alloc::Global;
 use std::cmp::Ordering;
 use std::test::Fail;

@@ -12,7 +12,7 @@ use Rattle.dp_trie.specs.Known.{Known, most_added}
 use Rattle.dp_trie.specs.Names.{own_plain, known_plain, ArePlainRanges}
 use Rattle.dp_trie.specs.steps.Ranked.{known_now, hold_of, AreNamed, IsGroup, IsPlain, IsPattern, ArePlainFirst}
 use Rattle.dp_trie.specs.Tree.{known_held, own, path_after, path_end, known_from, depth_below, IsRooted, IsRange, AreRanges, pattern_nodes, Reaches, Pushes}
-use Rattle.dp_trie.specs.declared.node.Held.{Held}
+use Rattle.dp_trie.specs.declared.node.HeldEntry.{HeldEntry}
 use Rattle.dp_trie.specs.declared.node.Leaf as leaf
 use Rattle.dp_trie.specs.declared.node.Node.{Node}
 use Rattle.dp_trie.specs.declared.node.Step.TheVariants.{Class, Leaf}
@@ -22,7 +22,7 @@ use Rattle.dp_trie.proofs.TreeLemmas.{drop-get, take-take, length-below}
 
 -- ---- one node more
 
-known_from-push : (held : List Held) (nodes : List Node) (path : List (List ℕ)) (node : Node) → known_from held path (nodes ++ node ∷ []) ≡ known_from held path nodes ++ own held (take node.depth (path_end path nodes)) node.step
+known_from-push : (held : List HeldEntry) (nodes : List Node) (path : List (List ℕ)) (node : Node) → known_from held path (nodes ++ node ∷ []) ≡ known_from held path nodes ++ own held (take node.depth (path_end path nodes)) node.step
 known_from-push held [] path node = append-nil (own held (take node.depth path) node.step)
 known_from-push held (n ∷ nodes) path node =
     ap (λ l. own held (take n.depth path) n.step ++ l) (known_from-push held nodes (path_after path n) node)
@@ -209,7 +209,7 @@ built-push ranked nodes new above classes tail from until built is_group pushed 
     known : List Known
     known = map known_now ranked
 
-    held : List Held
+    held : List HeldEntry
     held = map hold_of known
 
     l : leaf.Leaf
@@ -255,7 +255,7 @@ pub record AreBuilt (ranked : List Ranked) (names : List PlainName) (from : ℕ)
 pub names-start : (ranked : List Ranked) → AreBuilt ranked [] 0
 names-start ranked = record { within = omega arith; known = refl; ranges = tt }
 
-known_plain-push : (held : List Held) (names : List PlainName) (plain : PlainName) → known_plain held (names ++ plain ∷ []) ≡ known_plain held names ++ own_plain held plain
+known_plain-push : (held : List HeldEntry) (names : List PlainName) (plain : PlainName) → known_plain held (names ++ plain ∷ []) ≡ known_plain held names ++ own_plain held plain
 known_plain-push held [] plain = append-nil (own_plain held plain)
 known_plain-push held (n ∷ names) plain =
     ap (λ l. own_plain held n ++ l) (known_plain-push held names plain)
@@ -279,7 +279,7 @@ names-push ranked names text from until built is_group = record {
     known : List Known
     known = map known_now ranked
 
-    held : List Held
+    held : List HeldEntry
     held = map hold_of known
 
     plain : PlainName

@@ -5,24 +5,24 @@ use Rattle.std.specs.List.{list_any}
 use Rattle.std.proofs.lemmas.Bool.{cases_order, ltb-true, ltb-false, lt-ltb, le-ltb}
 use Rattle.std.proofs.lemmas.List.{length-set, length-take}
 use Rattle.std.proofs.lemmas.Option.{slice_get_past, slice_get_within, slice_get_cases, same_Some}
-use Rattle.dp_pattern.specs.Dashes.{is_dash, undashed}
+use Rattle.dp_pattern.specs.Dashes.{is_dash, without_dashes}
 use Rattle.dp_trie.specs.steps.Digits.{Stands, IsClear, AreNear}
 use Rattle.dp_trie.specs.declared.digits.Cursor.{Cursor}
 
-pub length-undashed : (text : List ℕ) → length (undashed text) ≤ length text
-length-undashed [] = omega arith
-length-undashed (b ∷ text) = by (not (is_dash b)) (length-undashed text)
+pub length-without_dashes : (text : List ℕ) → length (without_dashes text) ≤ length text
+length-without_dashes [] = omega arith
+length-without_dashes (b ∷ text) = by (not (is_dash b)) (length-without_dashes text)
   where
-    by : (t : Bool) → length (undashed text) ≤ length text → length (cond t (b ∷ undashed text) (undashed text)) ≤ suc (length text)
+    by : (t : Bool) → length (without_dashes text) ≤ length text → length (cond t (b ∷ without_dashes text) (without_dashes text)) ≤ suc (length text)
     by true rest = omega (arith, rest)
     by false rest = omega (arith, rest)
 
 -- where as many digits as bytes are counted, the digits are the bytes
-pub undashed_whole : (text : List ℕ) → length (undashed text) ≡ length text → undashed text ≡ text
+pub undashed_whole : (text : List ℕ) → length (without_dashes text) ≡ length text → without_dashes text ≡ text
 undashed_whole [] e = refl
-undashed_whole (b ∷ text) e = by (not (is_dash b)) (length-undashed text) (undashed_whole text) e
+undashed_whole (b ∷ text) e = by (not (is_dash b)) (length-without_dashes text) (undashed_whole text) e
   where
-    by : (t : Bool) → length (undashed text) ≤ length text → (length (undashed text) ≡ length text → undashed text ≡ text) → length (cond t (b ∷ undashed text) (undashed text)) ≡ suc (length text) → cond t (b ∷ undashed text) (undashed text) ≡ b ∷ text
+    by : (t : Bool) → length (without_dashes text) ≤ length text → (length (without_dashes text) ≡ length text → without_dashes text ≡ text) → length (cond t (b ∷ without_dashes text) (without_dashes text)) ≡ suc (length text) → cond t (b ∷ without_dashes text) (without_dashes text) ≡ b ∷ text
     by true few rest e = ap (λ l. b ∷ l) (rest (omega (arith, e)))
     by false few rest e = absurd (omega (arith, few, e))
 
@@ -30,7 +30,7 @@ undashed_whole (b ∷ text) e = by (not (is_dash b)) (length-undashed text) (und
 
 -- how many digits stand before a place
 abbrev pub digits_before : ℕ → List ℕ → ℕ
-digits_before p text = length (undashed (take p text))
+digits_before p text = length (without_dashes (take p text))
 
 -- a digit makes one more, and a dash none
 pub digit-step : (text : List ℕ) (p b : ℕ) → slice_get text p ≡ Some b → is_dash b ≡ false → digits_before (suc p) text ≡ suc (digits_before p text)
@@ -40,7 +40,7 @@ digit-step (x ∷ text) zero b here is =
     ap (λ t. length (cond (not t) (x ∷ []) [])) (ap is_dash same ∙ is)
 digit-step (x ∷ text) (suc p) b here is = by (not (is_dash x)) (digit-step text p b here is)
   where
-    by : (t : Bool) → digits_before (suc p) text ≡ suc (digits_before p text) → length (cond t (x ∷ undashed (take (suc p) text)) (undashed (take (suc p) text))) ≡ suc (length (cond t (x ∷ undashed (take p text)) (undashed (take p text))))
+    by : (t : Bool) → digits_before (suc p) text ≡ suc (digits_before p text) → length (cond t (x ∷ without_dashes (take (suc p) text)) (without_dashes (take (suc p) text))) ≡ suc (length (cond t (x ∷ without_dashes (take p text)) (without_dashes (take p text))))
     by true rest = ap suc rest
     by false rest = rest
 
@@ -51,19 +51,19 @@ dash-step (x ∷ text) zero b here is =
     ap (λ t. length (cond (not t) (x ∷ []) [])) (ap is_dash same ∙ is)
 dash-step (x ∷ text) (suc p) b here is = by (not (is_dash x)) (dash-step text p b here is)
   where
-    by : (t : Bool) → digits_before (suc p) text ≡ digits_before p text → length (cond t (x ∷ undashed (take (suc p) text)) (undashed (take (suc p) text))) ≡ length (cond t (x ∷ undashed (take p text)) (undashed (take p text)))
+    by : (t : Bool) → digits_before (suc p) text ≡ digits_before p text → length (cond t (x ∷ without_dashes (take (suc p) text)) (without_dashes (take (suc p) text))) ≡ length (cond t (x ∷ without_dashes (take p text)) (without_dashes (take p text)))
     by true rest = ap suc rest
     by false rest = rest
 
 -- a digit has the number of those before it
-pub digit-at : (text : List ℕ) (p b : ℕ) → slice_get text p ≡ Some b → is_dash b ≡ false → slice_get (undashed text) (digits_before p text) ≡ Some b
+pub digit-at : (text : List ℕ) (p b : ℕ) → slice_get text p ≡ Some b → is_dash b ≡ false → slice_get (without_dashes text) (digits_before p text) ≡ Some b
 digit-at [] p b here is = absurd cc
 digit-at (x ∷ text) zero b here is =
     let same : x ≡ b = same_Some x b here in
-    ap (λ t. slice_get (cond (not t) (x ∷ undashed text) (undashed text)) 0) (ap is_dash same ∙ is) ∙ ap Some same
+    ap (λ t. slice_get (cond (not t) (x ∷ without_dashes text) (without_dashes text)) 0) (ap is_dash same ∙ is) ∙ ap Some same
 digit-at (x ∷ text) (suc p) b here is = by (not (is_dash x)) (digit-at text p b here is)
   where
-    by : (t : Bool) → slice_get (undashed text) (digits_before p text) ≡ Some b → slice_get (cond t (x ∷ undashed text) (undashed text)) (length (cond t (x ∷ undashed (take p text)) (undashed (take p text)))) ≡ Some b
+    by : (t : Bool) → slice_get (without_dashes text) (digits_before p text) ≡ Some b → slice_get (cond t (x ∷ without_dashes text) (without_dashes text)) (length (cond t (x ∷ without_dashes (take p text)) (without_dashes (take p text)))) ≡ Some b
     by true rest = rest
     by false rest = rest
 
@@ -74,50 +74,50 @@ take_end (x ∷ text) zero few = absurd (omega (arith, few))
 take_end (x ∷ text) (suc p) few = ap (λ l. x ∷ l) (take_end text p (omega (arith, few)))
 
 -- at the end of the text there are no more
-pub digits-ended : (text : List ℕ) (p number : ℕ) → length text ≤ p → digits_before p text ≤ number → slice_get (undashed text) number ≡ None
+pub digits-ended : (text : List ℕ) (p number : ℕ) → length text ≤ p → digits_before p text ≤ number → slice_get (without_dashes text) number ≡ None
 digits-ended text p number few most =
-    let all : digits_before p text ≡ length (undashed text) = ap (λ l. length (undashed l)) (take_end text p few) in
-    slice_get_past (undashed text) number (omega (arith, all, most))
+    let all : digits_before p text ≡ length (without_dashes text) = ap (λ l. length (without_dashes l)) (take_end text p few) in
+    slice_get_past (without_dashes text) number (omega (arith, all, most))
 
 -- ---- the bytes that are known to be no dashes
 
 -- a text with no dash is its digits
-pub undashed-none : (text : List ℕ) → list_any (λ b. eqb b 45) text ≡ false → undashed text ≡ text
-undashed-none [] e = refl
-undashed-none (b ∷ text) e = by (eqb b 45) (undashed-none text) e
+pub without_dashes-none : (text : List ℕ) → list_any (λ b. eqb b 45) text ≡ false → without_dashes text ≡ text
+without_dashes-none [] e = refl
+without_dashes-none (b ∷ text) e = by (eqb b 45) (without_dashes-none text) e
   where
-    by : (t : Bool) → (list_any (λ b. eqb b 45) text ≡ false → undashed text ≡ text) → (t || list_any (λ b. eqb b 45) text) ≡ false → cond (not t) (b ∷ undashed text) (undashed text) ≡ b ∷ text
+    by : (t : Bool) → (list_any (λ b. eqb b 45) text ≡ false → without_dashes text ≡ text) → (t || list_any (λ b. eqb b 45) text) ≡ false → cond (not t) (b ∷ without_dashes text) (without_dashes text) ≡ b ∷ text
     by true later e = absurd cc
     by false later e = ap (λ rest. b ∷ rest) (later e)
 
 pub is-clear : (text : List ℕ) (count : ℕ) → count ≤ length text → list_any (λ b. eqb b 45) (take count text) ≡ false → IsClear text count
 is-clear text count few none = record {
   within = few;
-  before = (let size = length-take count text in let same = ap length (undashed-none (take count text) none) in omega (arith, few, size, same));
+  before = (let size = length-take count text in let same = ap length (without_dashes-none (take count text) none) in omega (arith, few, size, same));
 }
 
 before-few : (text : List ℕ) (count : ℕ) → digits_before count text ≤ count
-before-few text count = let fewer = length-undashed (take count text) in let size = length-take count text in omega (arith, fewer, size)
+before-few text count = let fewer = length-without_dashes (take count text) in let size = length-take count text in omega (arith, fewer, size)
 
-clear-place : (text : List ℕ) (count k : ℕ) → count ≤ length text → count ≡ digits_before count text → k < count → slice_get (undashed text) k ≡ slice_get text k
+clear-place : (text : List ℕ) (count k : ℕ) → count ≤ length text → count ≡ digits_before count text → k < count → slice_get (without_dashes text) k ≡ slice_get text k
 clear-place text zero k within before few = absurd (omega (arith, few))
 clear-place [] (suc count) k within before few = absurd (omega (arith, within))
 clear-place (x ∷ text) (suc count) k within before few = by (not (is_dash x)) k before few (clear-place text count)
   where
-    by : (t : Bool) (k : ℕ) → suc count ≡ length (cond t (x ∷ undashed (take count text)) (undashed (take count text))) → k < suc count → ((k : ℕ) → count ≤ length text → count ≡ digits_before count text → k < count → slice_get (undashed text) k ≡ slice_get text k) → slice_get (cond t (x ∷ undashed text) (undashed text)) k ≡ slice_get (x ∷ text) k
+    by : (t : Bool) (k : ℕ) → suc count ≡ length (cond t (x ∷ without_dashes (take count text)) (without_dashes (take count text))) → k < suc count → ((k : ℕ) → count ≤ length text → count ≡ digits_before count text → k < count → slice_get (without_dashes text) k ≡ slice_get text k) → slice_get (cond t (x ∷ without_dashes text) (without_dashes text)) k ≡ slice_get (x ∷ text) k
     by true zero before few rest = refl
     by true (suc k) before few rest = rest k (omega (arith, within)) (omega (arith, before)) (omega (arith, few))
     by false k before few rest = let fewer = before-few text count in absurd (omega (arith, before, fewer))
 
 -- they are the first digits
-pub clear-digit : (text : List ℕ) (count k : ℕ) → IsClear text count → k < count → slice_get (undashed text) k ≡ slice_get text k
+pub clear-digit : (text : List ℕ) (count k : ℕ) → IsClear text count → k < count → slice_get (without_dashes text) k ≡ slice_get text k
 clear-digit text count k clear few = clear-place text count k clear.within clear.before few
 
 -- where they are all bytes, the digits are the text
-pub clear-whole : (text : List ℕ) (count : ℕ) → IsClear text count → count ≡ length text → undashed text ≡ text
+pub clear-whole : (text : List ℕ) (count : ℕ) → IsClear text count → count ≡ length text → without_dashes text ≡ text
 clear-whole text count clear all =
     let before = clear.before in
-    let whole : digits_before count text ≡ length (undashed text) = ap (λ l. length (undashed l)) (take_end text count (omega (arith, all))) in
+    let whole : digits_before count text ≡ length (without_dashes text) = ap (λ l. length (without_dashes l)) (take_end text count (omega (arith, all))) in
     undashed_whole text (omega (arith, before, whole, all))
 
 -- a cursor a byte further
@@ -173,7 +173,7 @@ pub record AreKept (text near : List ℕ) (place number : ℕ) : Type 0 where
   pub within : place ≤ length text
   pub before : number ≡ digits_before place text
   pub few : number ≤ 32
-  pub kept : (k d : ℕ) → k < number → slice_get (undashed text) k ≡ Some d → slice_get near k ≡ Some d
+  pub kept : (k d : ℕ) → k < number → slice_get (without_dashes text) k ≡ Some d → slice_get near k ≡ Some d
 
 pub kept-digit : (text near : List ℕ) (p n b : ℕ) → slice_get text p ≡ Some b → is_dash b ≡ false → n < 32 → AreKept text near p n → AreKept text (set near n b) (p + 1) (n + 1)
 kept-digit text near p n b here is low are = record {
@@ -184,7 +184,7 @@ kept-digit text near p n b here is low are = record {
   kept = λ k d less there. elim (cases_order k n) [
     | inl same ↦
         let size = are.size in
-        let digit : b ≡ d = same_Some b d (sym (ap (slice_get (undashed text)) (same ∙ are.before) ∙ digit-at text p b here is) ∙ there) in
+        let digit : b ≡ d = same_Some b d (sym (ap (slice_get (without_dashes text)) (same ∙ are.before) ∙ digit-at text p b here is) ∙ there) in
         ap (slice_get (set near n b)) same ∙ (get-set near n b (omega (arith, size, low)) ∙ ap Some digit)
     | inr (inl before) ↦ get-set_before near n k b before ∙ are.kept k d before there
     | inr (inr after) ↦ absurd (omega (arith, after, less))
@@ -201,12 +201,12 @@ kept-dash text near p n b here is are = record {
 }
 
 -- before a place there are no more digits than in the whole
-before-most : (text : List ℕ) (p : ℕ) → digits_before p text ≤ length (undashed text)
+before-most : (text : List ℕ) (p : ℕ) → digits_before p text ≤ length (without_dashes text)
 before-most text zero = omega arith
 before-most [] (suc p) = omega arith
 before-most (x ∷ text) (suc p) = by (not (is_dash x)) (before-most text p)
   where
-    by : (t : Bool) → digits_before p text ≤ length (undashed text) → length (cond t (x ∷ undashed (take p text)) (undashed (take p text))) ≤ length (cond t (x ∷ undashed text) (undashed text))
+    by : (t : Bool) → digits_before p text ≤ length (without_dashes text) → length (cond t (x ∷ without_dashes (take p text)) (without_dashes (take p text))) ≤ length (cond t (x ∷ without_dashes text) (without_dashes text))
     by true rest = omega (arith, rest)
     by false rest = rest
 
@@ -219,12 +219,12 @@ near-full text near p n full are = record {
 
 pub near-ended : (text near : List ℕ) (p n : ℕ) → length text ≤ p → AreKept text near p n → AreNear text (record { bytes = near; count = n })
 near-ended text near p n ended are =
-    let all : digits_before p text ≡ length (undashed text) = ap (λ l. length (undashed l)) (take_end text p ended) in
+    let all : digits_before p text ≡ length (without_dashes text) = ap (λ l. length (without_dashes l)) (take_end text p ended) in
     let before = are.before in
     record {
       few = omega (arith, all, before);
       all = λ less. omega (arith, all, before);
-      kept = λ k d less there. (let inside = slice_get_within (undashed text) k d there in are.kept k d (omega (arith, all, inside, before)) there);
+      kept = λ k d less there. (let inside = slice_get_within (without_dashes text) k d there in are.kept k d (omega (arith, all, inside, before)) there);
     }
 
 -- ---- whether there is a digit

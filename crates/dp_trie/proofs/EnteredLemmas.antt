@@ -13,13 +13,13 @@ use Rattle.dp_pattern.specs.Order.{class_cmp, name_cmp}
 use Rattle.dp_pattern.specs.declared.tail.Tail.{Tail}
 use Rattle.dp_pattern.proofs.OrderLemmas.{same_names, is_eq-Equal, classes_equal, class_cmp-same}
 use Rattle.dp_plan.specs.declared.entry.EntryId.{EntryId}
-use Rattle.dp_trie.specs.Asked.{Wanted, asked, hit_of}
-use Rattle.dp_trie.specs.Entered.{pattern_classes, shared_count, nodes_below, nodes_after, nodes_added, taken_count, entered_after, entered, entered_first, one_more, tree_entered, StandOnce}
+use Rattle.dp_trie.specs.Asked.{Wanted, is_asked, hit_of}
+use Rattle.dp_trie.specs.Entered.{pattern_classes, shared_count, nodes_below, nodes_after, nodes_added, taken_count, entered_after, entered_count, entered_first, one_more, tree_entered, StandOnce}
 use Rattle.dp_trie.specs.Known.{Known, KeptContext, kept_at}
 use Rattle.dp_trie.specs.Names.{own_plain, known_plain}
 use Rattle.dp_trie.specs.steps.Ranked.{known_now, hold_of, AreNamed, IsGroup, IsPlain, IsPattern}
 use Rattle.dp_trie.specs.Tree.{known_held, own, path_after, path_end, known_from, alive, pattern_nodes}
-use Rattle.dp_trie.specs.declared.node.Held.{Held}
+use Rattle.dp_trie.specs.declared.node.HeldEntry.{HeldEntry}
 use Rattle.dp_trie.specs.declared.node.Leaf as leaf
 use Rattle.dp_trie.specs.declared.node.Node.{Node}
 use Rattle.dp_trie.specs.declared.node.Step.TheVariants.{Leaf}
@@ -155,9 +155,9 @@ unfolding name_cmp
 added-plain x y (Plain text) = refl
 added-plain x y (Pattern classes tail) = refl
 
-module _ (held : List Held) (more : Bool) (wanted : Wanted) (digits : List ℕ) where
+module _ (held : List HeldEntry) (more : Bool) (wanted : Wanted) (digits : List ℕ) where
   abbrev test : Known → Bool
-  test = asked more wanted digits
+  test = is_asked more wanted digits
 
   abbrev count_from : List (List ℕ) → List Node → ℕ
   count_from path nodes = tree_entered held more wanted digits path nodes
@@ -269,11 +269,11 @@ all-append : (P : Known → Type 0) (xs ys : List Known) → AllByRecursion P xs
 all-append P [] ys first rest = rest
 all-append P (x ∷ xs) ys first rest = (first.0, all-append P xs ys first.1 rest)
 
-pub are-plain : (held : List Held) (names : List PlainName) → AllByRecursion (λ (k : Known). IsPlain k.name) (known_plain held names)
+pub are-plain : (held : List HeldEntry) (names : List PlainName) → AllByRecursion (λ (k : Known). IsPlain k.name) (known_plain held names)
 are-plain held [] = tt
 are-plain held (plain ∷ names) = all-append (λ (k : Known). IsPlain k.name) (own_plain held plain) (known_plain held names) (each (slice_range held plain.from plain.until)) (are-plain held names)
   where
-    each : (own : List Held) → AllByRecursion (λ (k : Known). IsPlain k.name) (map (known_held (Plain plain.name)) own)
+    each : (own : List HeldEntry) → AllByRecursion (λ (k : Known). IsPlain k.name) (map (known_held (Plain plain.name)) own)
     each [] = tt
     each (one ∷ own) = (tt, each own)
 
@@ -282,7 +282,7 @@ are-plain held (plain ∷ names) = all-append (λ (k : Known). IsPlain k.name) (
 pub record IsCounted (ranked : List Ranked) (nodes : List Node) (above : List (List ℕ)) (from : ℕ) : Type 0 where
   pub shares : pattern_classes (last_name (Plain []) (take from (map known_now ranked))) ≡ above
   pub apart : (one : Ranked) → slice_get ranked from ≡ Some one → (known_now one).name ≢ last_name (Plain []) (take from (map known_now ranked))
-  pub counted : (more : Bool) (wanted : Wanted) (digits : List ℕ) → tree_entered (map hold_of (map known_now ranked)) more wanted digits [] nodes ≡ entered more wanted digits (take from (map known_now ranked))
+  pub counted : (more : Bool) (wanted : Wanted) (digits : List ℕ) → tree_entered (map hold_of (map known_now ranked)) more wanted digits [] nodes ≡ entered_count more wanted digits (take from (map known_now ranked))
 
 pub counted-start : (ranked : List Ranked) → AllByRecursion (λ (r : Ranked). IsPattern (known_now r).name) ranked → IsCounted ranked [] [] 0
 counted-start ranked each = record {
@@ -303,17 +303,17 @@ counted-push ranked nodes new above classes tail from until one built before is_
   counted = λ more wanted digits.
       ap (tree_entered held more wanted digits []) added
       ∙ (count-append held more wanted digits nodes (pattern_nodes n (drop n classes) l) []
-      ∙ (ap (λ m. m + cond (is_some (find (asked more wanted digits) (known_from held [] nodes))) 0 (tree_entered held more wanted digits (path_end [] nodes) (pattern_nodes n (drop n classes) l))) (before.counted more wanted digits)
-      ∙ (ap (λ ks. entered more wanted digits (take from known) + cond (is_some (find (asked more wanted digits) ks)) 0 (tree_entered held more wanted digits (path_end [] nodes) (pattern_nodes n (drop n classes) l))) built.known
-      ∙ (ap (λ m. entered more wanted digits (take from known) + cond (is_some (find (asked more wanted digits) (take from known))) 0 m) (same_count more wanted digits)
+      ∙ (ap (λ m. m + cond (is_some (find (is_asked more wanted digits) (known_from held [] nodes))) 0 (tree_entered held more wanted digits (path_end [] nodes) (pattern_nodes n (drop n classes) l))) (before.counted more wanted digits)
+      ∙ (ap (λ ks. entered_count more wanted digits (take from known) + cond (is_some (find (is_asked more wanted digits) ks)) 0 (tree_entered held more wanted digits (path_end [] nodes) (pattern_nodes n (drop n classes) l))) built.known
+      ∙ (ap (λ m. entered_count more wanted digits (take from known) + cond (is_some (find (is_asked more wanted digits) (take from known))) 0 m) (same_count more wanted digits)
       ∙ (sym (below-append held more wanted digits (take from known) (slice_range known from until) (Plain []))
-      ∙ ap (entered more wanted digits) (sym parts))))));
+      ∙ ap (entered_count more wanted digits) (sym parts))))));
 }
   where
     known : List Known
     known = map known_now ranked
 
-    held : List Held
+    held : List HeldEntry
     held = map hold_of known
 
     l : leaf.Leaf
@@ -359,39 +359,39 @@ counted-push ranked nodes new above classes tail from until one built before is_
 
 -- the tree has the nodes of the entries
 pub stand-once : (ranked : List Ranked) (nodes : List Node) (above : List (List ℕ)) (from : ℕ) → IsBuilt ranked nodes above from → IsCounted ranked nodes above from → StandOnce (map hold_of (map known_now ranked)) nodes
-stand-once ranked nodes above from built counted = record { each = λ more wanted digits. counted.counted more wanted digits ∙ ap (entered more wanted digits) (sym built.known) }
+stand-once ranked nodes above from built counted = record { each = λ more wanted digits. counted.counted more wanted digits ∙ ap (entered_count more wanted digits) (sym built.known) }
 
 -- ---- the plain names of a context and its tree
 
-module _ (more : Bool) (wanted : Wanted) (digits : List ℕ) (plain held : List Held) (names : List PlainName) (nodes : List Node) where
+module _ (more : Bool) (wanted : Wanted) (digits : List ℕ) (plain held : List HeldEntry) (names : List PlainName) (nodes : List Node) where
   abbrev first : List Known
   first = known_plain plain names
 
   abbrev rest : List Known
   rest = known_from held [] nodes
 
-  parts : entered more wanted digits (first ++ rest) ≡ cond (is_some (find (asked more wanted digits) first)) 0 (entered more wanted digits rest)
+  parts : entered_count more wanted digits (first ++ rest) ≡ cond (is_some (find (is_asked more wanted digits) first)) 0 (entered_count more wanted digits rest)
   parts = past-plain held more wanted digits first rest [] (are-plain plain names)
 
   -- a plain name that answers leaves nothing to be entered
-  pub plain-answers : (hit : EntryId) → Some hit ≡ option_map hit_of (find (asked more wanted digits) first) → 0 ≡ entered more wanted digits (first ++ rest)
-  plain-answers hit e = by (find (asked more wanted digits) first) e ∙ sym parts
+  pub plain-answers : (hit : EntryId) → Some hit ≡ option_map hit_of (find (is_asked more wanted digits) first) → 0 ≡ entered_count more wanted digits (first ++ rest)
+  plain-answers hit e = by (find (is_asked more wanted digits) first) e ∙ sym parts
     where
-      by : (o : Option Known) → Some hit ≡ option_map hit_of o → 0 ≡ cond (is_some o) 0 (entered more wanted digits rest)
+      by : (o : Option Known) → Some hit ≡ option_map hit_of o → 0 ≡ cond (is_some o) 0 (entered_count more wanted digits rest)
       by None e = absurd cc
       by (Some k) e = refl
 
-  pub tree-answers : None ≡ option_map hit_of (find (asked more wanted digits) first) → entered more wanted digits rest ≡ entered more wanted digits (first ++ rest)
-  tree-answers e = by (find (asked more wanted digits) first) e ∙ sym parts
+  pub tree-answers : None ≡ option_map hit_of (find (is_asked more wanted digits) first) → entered_count more wanted digits rest ≡ entered_count more wanted digits (first ++ rest)
+  tree-answers e = by (find (is_asked more wanted digits) first) e ∙ sym parts
     where
-      by : (o : Option Known) → None ≡ option_map hit_of o → entered more wanted digits rest ≡ cond (is_some o) 0 (entered more wanted digits rest)
+      by : (o : Option Known) → None ≡ option_map hit_of o → entered_count more wanted digits rest ≡ cond (is_some o) 0 (entered_count more wanted digits rest)
       by None e = refl
       by (Some k) e = absurd cc
 
 -- where there are no nodes, none is entered
-pub none-entered : (more : Bool) (wanted : Wanted) (digits : List ℕ) (held : List Held) (nodes : List Node) → (length nodes == 0) ≡ true → 0 ≡ entered more wanted digits (known_from held [] nodes)
-none-entered more wanted digits held [] none = refl
-none-entered more wanted digits held (node ∷ nodes) none = (let wrong = eqb-true (length (node ∷ nodes)) 0 none in absurd (omega (arith, wrong)))
+pub none-entered_count : (more : Bool) (wanted : Wanted) (digits : List ℕ) (held : List HeldEntry) (nodes : List Node) → (length nodes == 0) ≡ true → 0 ≡ entered_count more wanted digits (known_from held [] nodes)
+none-entered_count more wanted digits held [] none = refl
+none-entered_count more wanted digits held (node ∷ nodes) none = (let wrong = eqb-true (length (node ∷ nodes)) 0 none in absurd (omega (arith, wrong)))
 
 -- ---- contexts one after another
 
@@ -399,10 +399,10 @@ min-again : (most a b : ℕ) → min (min a most + b) most ≡ min (a + b) most
 min-again most a b = omega arith
 
 module _ (kept : List KeptContext) (more : Bool) (wanted : Wanted) (digits : List ℕ) (number : ℕ) (order : List ℕ) (count found most all : ℕ) (hit : Option EntryId)
-    (same : found ≡ entered more wanted digits (kept_at kept number)) (is_hit : hit ≡ option_map hit_of (find (asked more wanted digits) (kept_at kept number)))
+    (same : found ≡ entered_count more wanted digits (kept_at kept number)) (is_hit : hit ≡ option_map hit_of (find (is_asked more wanted digits) (kept_at kept number)))
     (sum : min (count + entered_first kept more wanted digits (number ∷ order)) most ≡ all) where
-  is_found : is_some hit ≡ is_some (find (asked more wanted digits) (kept_at kept number))
-  is_found = ap is_some is_hit ∙ by (find (asked more wanted digits) (kept_at kept number))
+  is_found : is_some hit ≡ is_some (find (is_asked more wanted digits) (kept_at kept number))
+  is_found = ap is_some is_hit ∙ by (find (is_asked more wanted digits) (kept_at kept number))
     where
       by : (o : Option Known) → is_some (option_map hit_of o) ≡ is_some o
       by None = refl
@@ -410,7 +410,7 @@ module _ (kept : List KeptContext) (more : Bool) (wanted : Wanted) (digits : Lis
 
   whole : (b : Bool) → is_some hit ≡ b → entered_first kept more wanted digits (number ∷ order) ≡ found + cond b 0 (entered_first kept more wanted digits order)
   whole b e =
-      ap (λ n. n + cond (is_some (find (asked more wanted digits) (kept_at kept number))) 0 (entered_first kept more wanted digits order)) (sym same)
+      ap (λ n. n + cond (is_some (find (is_asked more wanted digits) (kept_at kept number))) 0 (entered_first kept more wanted digits order)) (sym same)
       ∙ ap (λ t. found + cond t 0 (entered_first kept more wanted digits order)) (sym is_found ∙ e)
 
   -- a context that does not answer

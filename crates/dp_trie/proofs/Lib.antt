@@ -6,6 +6,7 @@ pub mod LabelLemmas
 pub mod LeapLemmas
 pub mod LinkLemmas
 pub mod MatchLemmas
+pub mod OrdersLemmas
 pub mod PlainLemmas
 pub mod PointLemmas
 pub mod RisingLemmas

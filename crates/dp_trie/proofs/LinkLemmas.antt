@@ -3,49 +3,49 @@ use Rattle.std.proofs.Common.{◌≡◌, ℕ, ◌+◌, ◌-◌, ◌<◌, ◌≤�
 use Rattle.std.specs.Prelude.{slice_get, slice_index, nat_lt}
 use Rattle.std.proofs.lemmas.Bool.{ltb-true, lt-ltb, le-ltb, cases_eq}
 use Rattle.std.proofs.lemmas.Option.{slice_get_within}
-use Rattle.dp_trie.specs.Tree.{skipped, IsEnd, IsEndOf, AreLinkedFrom, AreLinked}
+use Rattle.dp_trie.specs.Tree.{nodes_past, IsEnd, IsEndOf, AreLinkedFrom, AreLinked}
 use Rattle.dp_trie.specs.declared.node.Node.{Node}
 use Rattle.dp_trie.proofs.TreeLemmas.{drop-get, drop-end}
 
 -- what passes over deeper nodes passes over those that they pass over
-skip-skipped : (depth deeper : ℕ) (nodes : List Node) → depth ≤ deeper → skipped depth (skipped deeper nodes) ≡ skipped depth nodes
-skip-skipped depth deeper [] few = refl
-skip-skipped depth deeper (node ∷ nodes) few = by (nat_lt deeper node.depth) refl (skip-skipped depth deeper nodes few)
+skip-nodes_past : (depth deeper : ℕ) (nodes : List Node) → depth ≤ deeper → nodes_past depth (nodes_past deeper nodes) ≡ nodes_past depth nodes
+skip-nodes_past depth deeper [] few = refl
+skip-nodes_past depth deeper (node ∷ nodes) few = by (nat_lt deeper node.depth) refl (skip-nodes_past depth deeper nodes few)
   where
-    by : (b : Bool) → nat_lt deeper node.depth ≡ b → skipped depth (skipped deeper nodes) ≡ skipped depth nodes → skipped depth (cond b (skipped deeper nodes) (node ∷ nodes)) ≡ skipped depth (node ∷ nodes)
+    by : (b : Bool) → nat_lt deeper node.depth ≡ b → nodes_past depth (nodes_past deeper nodes) ≡ nodes_past depth nodes → nodes_past depth (cond b (nodes_past deeper nodes) (node ∷ nodes)) ≡ nodes_past depth (node ∷ nodes)
     by true e rest =
         let below = ltb-true deeper node.depth e in
-        rest ∙ ap (λ b. cond b (skipped depth nodes) (node ∷ nodes)) (sym (lt-ltb depth node.depth (omega (arith, below, few))))
+        rest ∙ ap (λ b. cond b (nodes_past depth nodes) (node ∷ nodes)) (sym (lt-ltb depth node.depth (omega (arith, below, few))))
     by false e rest = refl
 
-skip-deeper : (depth : ℕ) (node : Node) (nodes : List Node) → depth < node.depth → skipped depth (node ∷ nodes) ≡ skipped depth nodes
-skip-deeper depth node nodes below = ap (λ b. cond b (skipped depth nodes) (node ∷ nodes)) (lt-ltb depth node.depth below)
+skip-deeper : (depth : ℕ) (node : Node) (nodes : List Node) → depth < node.depth → nodes_past depth (node ∷ nodes) ≡ nodes_past depth nodes
+skip-deeper depth node nodes below = ap (λ b. cond b (nodes_past depth nodes) (node ∷ nodes)) (lt-ltb depth node.depth below)
 
-skip-higher : (depth : ℕ) (node : Node) (nodes : List Node) → node.depth ≤ depth → skipped depth (node ∷ nodes) ≡ node ∷ nodes
-skip-higher depth node nodes above = ap (λ b. cond b (skipped depth nodes) (node ∷ nodes)) (le-ltb depth node.depth above)
+skip-higher : (depth : ℕ) (node : Node) (nodes : List Node) → node.depth ≤ depth → nodes_past depth (node ∷ nodes) ≡ node ∷ nodes
+skip-higher depth node nodes above = ap (λ b. cond b (nodes_past depth nodes) (node ∷ nodes)) (le-ltb depth node.depth above)
 
 -- a jump over a deeper node passes over no more
-pub end-jump : (nodes : List Node) (depth place end : ℕ) (node : Node) → slice_get nodes end ≡ Some node → depth < node.depth → IsEnd nodes end node.depth place → skipped depth (drop place nodes) ≡ skipped depth (drop end nodes)
+pub end-jump : (nodes : List Node) (depth place end : ℕ) (node : Node) → slice_get nodes end ≡ Some node → depth < node.depth → IsEnd nodes end node.depth place → nodes_past depth (drop place nodes) ≡ nodes_past depth (drop end nodes)
 end-jump nodes depth place end node here below is_end =
-    ap (skipped depth) is_end.after
-    ∙ (skip-skipped depth node.depth (drop (end + 1) nodes) (omega (arith, below))
+    ap (nodes_past depth) is_end.after
+    ∙ (skip-nodes_past depth node.depth (drop (end + 1) nodes) (omega (arith, below))
     ∙ (sym (skip-deeper depth node (drop (end + 1) nodes) below)
-    ∙ ap (skipped depth) (sym (drop-get nodes end node here))))
+    ∙ ap (nodes_past depth) (sym (drop-get nodes end node here))))
 
 -- a node that is no deeper is the end
-pub end-found : (nodes : List Node) (depth place end : ℕ) (node : Node) → place < end → slice_get nodes end ≡ Some node → node.depth ≤ depth → skipped depth (drop end nodes) ≡ skipped depth (drop (place + 1) nodes) → IsEnd nodes place depth end
+pub end-found : (nodes : List Node) (depth place end : ℕ) (node : Node) → place < end → slice_get nodes end ≡ Some node → node.depth ≤ depth → nodes_past depth (drop end nodes) ≡ nodes_past depth (drop (place + 1) nodes) → IsEnd nodes place depth end
 end-found nodes depth place end node later here above same = record {
   later = later;
   within = (let inside = slice_get_within nodes end node here in omega (arith, inside));
-  after = drop-get nodes end node here ∙ (sym (skip-higher depth node (drop (end + 1) nodes) above) ∙ (ap (skipped depth) (sym (drop-get nodes end node here)) ∙ same));
+  after = drop-get nodes end node here ∙ (sym (skip-higher depth node (drop (end + 1) nodes) above) ∙ (ap (nodes_past depth) (sym (drop-get nodes end node here)) ∙ same));
 }
 
 -- and so is the end of all nodes
-pub end-last : (nodes : List Node) (depth place end : ℕ) → place < end → end ≤ length nodes → slice_get nodes end ≡ None → skipped depth (drop end nodes) ≡ skipped depth (drop (place + 1) nodes) → IsEnd nodes place depth end
+pub end-last : (nodes : List Node) (depth place end : ℕ) → place < end → end ≤ length nodes → slice_get nodes end ≡ None → nodes_past depth (drop end nodes) ≡ nodes_past depth (drop (place + 1) nodes) → IsEnd nodes place depth end
 end-last nodes depth place end later within none same = record {
   later = later;
   within = within;
-  after = drop-end nodes end none ∙ (ap (skipped depth) (sym (drop-end nodes end none)) ∙ same);
+  after = drop-end nodes end none ∙ (ap (nodes_past depth) (sym (drop-end nodes end none)) ∙ same);
 }
 
 -- an end is that of the node's depth

@@ -13,15 +13,15 @@ use Rattle.std.proofs.lemmas.List.Folds.{find-append}
 use Rattle.std.proofs.lemmas.Option.{slice_get_cases, same_Some}
 use Rattle.dp_pattern.specs.Name.{Meaning, Plain, Pattern, is_one_of}
 use Rattle.dp_pattern.specs.Order.{name_cmp}
-use Rattle.dp_pattern.specs.Walk.{Refused, walked, singles, classes_of}
+use Rattle.dp_pattern.specs.Walk.{Refused, walk_after, singles, classes_of}
 use Rattle.dp_pattern.specs.declared.tail.Tail.TheVariants.{End}
-use Rattle.dp_trie.specs.Asked.{Wanted, fits, is_wanted, asked, holds, hit_held, hit_of}
+use Rattle.dp_trie.specs.Asked.{Wanted, fits, is_wanted, is_asked, holds, hit_held, hit_of}
 use Rattle.dp_trie.specs.Known.{Known, class_count}
 use Rattle.dp_trie.specs.Names.{own_plain, known_plain, side_of, rank, rank_of, fitting, ArePlainRanges, RiseEach, NamesRise}
 use Rattle.dp_trie.specs.steps.Ranked.{known_cmp, AreInOrder}
 use Rattle.dp_trie.specs.Tree.{known_held, known_from}
 use Rattle.dp_plan.specs.declared.entry.EntryId.{EntryId}
-use Rattle.dp_trie.specs.declared.node.Held.{Held}
+use Rattle.dp_trie.specs.declared.node.HeldEntry.{HeldEntry}
 use Rattle.dp_trie.specs.declared.node.Node.{Node}
 use Rattle.dp_trie.specs.declared.plain.PlainName.{PlainName}
 use Rattle.dp_trie.specs.declared.plain.Side.{Side}
@@ -142,7 +142,7 @@ one_of b d Equal e = let u = ranked b d Equal e in ap (λ t. t || false) (eq-eqb
 one_of b d Greater e = let u = ranked b d Greater e in ap (λ t. t || false) (ne_eqb d b (λ same. omega (arith, u, same)))
 
 -- a name fits exactly where it stands on the side that is asked for
-pub fits-side : (more : Bool) (name digits : List ℕ) → fits more End (walked (singles name) digits) ≡ (rank (side_of name digits) == rank (fitting more))
+pub fits-side : (more : Bool) (name digits : List ℕ) → fits more End (walk_after (singles name) digits) ≡ (rank (side_of name digits) == rank (fitting more))
 fits-side false [] [] = refl
 fits-side true [] [] = refl
 fits-side false [] (d ∷ digits) = refl
@@ -150,10 +150,10 @@ fits-side true [] (d ∷ digits) = refl
 fits-side false (b ∷ name) [] = refl
 fits-side true (b ∷ name) [] = refl
 fits-side more (b ∷ name) (d ∷ digits) =
-    ap (λ t. fits more End (cond t (walked (singles name) digits) Refused)) (one_of b d (nat_cmp b d) refl)
+    ap (λ t. fits more End (cond t (walk_after (singles name) digits) Refused)) (one_of b d (nat_cmp b d) refl)
     ∙ by more (nat_cmp b d) (fits-side more name digits)
   where
-    by : (more : Bool) (o : Ordering) → fits more End (walked (singles name) digits) ≡ (rank (side_of name digits) == rank (fitting more)) → fits more End (cond (is_eq o) (walked (singles name) digits) Refused) ≡ (rank (step_side o (side_of name digits)) == rank (fitting more))
+    by : (more : Bool) (o : Ordering) → fits more End (walk_after (singles name) digits) ≡ (rank (side_of name digits) == rank (fitting more)) → fits more End (cond (is_eq o) (walk_after (singles name) digits) Refused) ≡ (rank (step_side o (side_of name digits)) == rank (fitting more))
     by more Equal rest = rest
     by false Less rest = refl
     by true Less rest = refl
@@ -203,9 +203,9 @@ not_after : (a b : List ℕ) (i j : ℕ) → ordering_then (name_cmp (Plain a) (
 unfolding name_cmp
 not_after a b i j less greater = (let wrong : Greater ≡ Less = sym (ap (λ o. ordering_then o (nat_cmp i j)) greater) ∙ less in absurd cc)
 
-module _ (held : List Held) where
+module _ (held : List HeldEntry) where
   -- a name has an entry
-  first_own : (plain : PlainName) → plain.from < plain.until → plain.until ≤ length held → (h : Held) × (slice_get (own_plain held plain) 0 ≡ Some (known_held (Plain plain.name) h))
+  first_own : (plain : PlainName) → plain.from < plain.until → plain.until ≤ length held → (h : HeldEntry) × (slice_get (own_plain held plain) 0 ≡ Some (known_held (Plain plain.name) h))
   first_own plain some within = elim (slice_get_cases (slice_range held plain.from plain.until) 0).1 [
     | inl found ↦ (found.0, map-get (known_held (Plain plain.name)) (slice_range held plain.from plain.until) 0 found.0 found.2)
     | inr past ↦
@@ -216,7 +216,7 @@ module _ (held : List Held) where
   ]
 
   -- what holds of all entries holds of one of each name
-  each_name : (P : Known → Type 0) (names : List PlainName) → ArePlainRanges (length held) names → AllByRecursion P (known_plain held names) → AllByRecursion (λ (p : PlainName). (h : Held) × P (known_held (Plain p.name) h)) names
+  each_name : (P : Known → Type 0) (names : List PlainName) → ArePlainRanges (length held) names → AllByRecursion P (known_plain held names) → AllByRecursion (λ (p : PlainName). (h : HeldEntry) × P (known_held (Plain p.name) h)) names
   each_name P [] ranges each = tt
   each_name P (p ∷ names) ranges each =
       let first = first_own p ranges.0.0 ranges.0.1 in
@@ -227,7 +227,7 @@ module _ (held : List Held) where
   names-rise (p ∷ names) ranges sorted =
       let first = first_own p ranges.0.0 ranges.0.1 in
       let across = sorted-across known_cmp (own_plain held p) (known_plain held names) 0 (known_held (Plain p.name) first.0) sorted first.1 in (
-        all-weaker (λ (q : PlainName). (h : Held) × (known_cmp (known_held (Plain p.name) first.0) (known_held (Plain q.name) h) ≡ Less)) (λ (q : PlainName). slice_cmp nat_cmp p.name q.name ≡ Greater → ⊥)
+        all-weaker (λ (q : PlainName). (h : HeldEntry) × (known_cmp (known_held (Plain p.name) first.0) (known_held (Plain q.name) h) ≡ Less)) (λ (q : PlainName). slice_cmp nat_cmp p.name q.name ≡ Greater → ⊥)
             (λ q some. not_after p.name q.name first.0.priority some.0.priority some.1)
             names (each_name (λ y. known_cmp (known_held (Plain p.name) first.0) y ≡ Less) names ranges.1 across),
         names-rise names ranges.1 (sorted-right known_cmp (own_plain held p) (known_plain held names) sorted),
@@ -240,7 +240,7 @@ module _ (held : List Held) where
 
 -- ---- what is found
 
-module _ (held : List Held) (test : Known → Bool) where
+module _ (held : List HeldEntry) (test : Known → Bool) where
   abbrev found_in : List PlainName → Option Known
   found_in names = find test (known_plain held names)
 
@@ -270,7 +270,7 @@ module _ (held : List Held) (test : Known → Bool) where
       ∙ (sym (first-of names k plain here) ∙ same)
 
   -- what is found among plain names is plain
-  images_plain : (plain : PlainName) (xs : List Held) (one : Known) → find test (map (known_held (Plain plain.name)) xs) ≡ Some one → class_count one.name ≡ 0
+  images_plain : (plain : PlainName) (xs : List HeldEntry) (one : Known) → find test (map (known_held (Plain plain.name)) xs) ≡ Some one → class_count one.name ≡ 0
   images_plain plain [] one e = absurd cc
   images_plain plain (h ∷ xs) one e = by (test (known_held (Plain plain.name) h)) e (images_plain plain xs one)
     where
@@ -306,11 +306,11 @@ module _ (held : List Held) (test : Known → Bool) where
       twice None b c = refl
       twice (Some x) b c = refl
 
-module _ (held : List Held) (wanted : Wanted) where
+module _ (held : List HeldEntry) (wanted : Wanted) where
   own-held : (plain : PlainName) → find (is_wanted wanted) (own_plain held plain) ≡ option_map (known_held (Plain plain.name)) (find (holds wanted) (slice_range held plain.from plain.until))
   own-held plain = find_images true (known_held (Plain plain.name)) (is_wanted wanted) (holds wanted) (λ h. refl) (slice_range held plain.from plain.until)
 
-  hit-twice : (plain : PlainName) (o : Option Held) → option_map hit_held o ≡ option_map hit_of (option_map (known_held (Plain plain.name)) o)
+  hit-twice : (plain : PlainName) (o : Option HeldEntry) → option_map hit_held o ≡ option_map hit_of (option_map (known_held (Plain plain.name)) o)
   hit-twice plain None = refl
   hit-twice plain (Some h) = refl
 
@@ -318,30 +318,30 @@ module _ (held : List Held) (wanted : Wanted) where
   own-wanted plain = hit-twice plain (find (holds wanted) (slice_range held plain.from plain.until)) ∙ ap (option_map hit_of) (sym (own-held plain))
 
   module _ (more : Bool) (digits : List ℕ) where
-    pub own-asked : (plain : PlainName) (b : Bool) → (rank_of digits plain == rank (fitting more)) ≡ b → find (asked more wanted digits) (own_plain held plain) ≡ cond b (find (is_wanted wanted) (own_plain held plain)) None
-    own-asked plain b e =
-        find_images (fits more End (walked (singles plain.name) digits)) (known_held (Plain plain.name)) (asked more wanted digits) (holds wanted) (λ h. refl) (slice_range held plain.from plain.until)
+    pub own-is_asked : (plain : PlainName) (b : Bool) → (rank_of digits plain == rank (fitting more)) ≡ b → find (is_asked more wanted digits) (own_plain held plain) ≡ cond b (find (is_wanted wanted) (own_plain held plain)) None
+    own-is_asked plain b e =
+        find_images (fits more End (walk_after (singles plain.name) digits)) (known_held (Plain plain.name)) (is_asked more wanted digits) (holds wanted) (λ h. refl) (slice_range held plain.from plain.until)
         ∙ (ap (λ b. cond b (option_map (known_held (Plain plain.name)) (find (holds wanted) (slice_range held plain.from plain.until))) None) (fits-side more plain.name digits ∙ e)
         ∙ ap (λ o. cond b o None) (sym (own-held plain)))
 
-    names-other : (names : List PlainName) → AllByRecursion (λ (p : PlainName). rank_of digits p ≡ rank (fitting more) → ⊥) names → find (asked more wanted digits) (known_plain held names) ≡ None
+    names-other : (names : List PlainName) → AllByRecursion (λ (p : PlainName). rank_of digits p ≡ rank (fitting more) → ⊥) names → find (is_asked more wanted digits) (known_plain held names) ≡ None
     names-other [] each = refl
     names-other (p ∷ names) each =
-        find-append (asked more wanted digits) (own_plain held p) (known_plain held names)
-        ∙ (ap (λ o. option_or o (find (asked more wanted digits) (known_plain held names))) (own-asked p false (ne_eqb (rank_of digits p) (rank (fitting more)) each.0))
+        find-append (is_asked more wanted digits) (own_plain held p) (known_plain held names)
+        ∙ (ap (λ o. option_or o (find (is_asked more wanted digits) (known_plain held names))) (own-is_asked p false (ne_eqb (rank_of digits p) (rank (fitting more)) each.0))
         ∙ names-other names each.1)
 
     -- what is asked for is not among the names that stand below those that fit
-    pub found-rest : (names : List PlainName) (n : ℕ) → AllByRecursion (λ (p : PlainName). rank_of digits p < rank (fitting more)) (take n names) → find (asked more wanted digits) (known_plain held (drop n names)) ≡ find (asked more wanted digits) (known_plain held names)
+    pub found-rest : (names : List PlainName) (n : ℕ) → AllByRecursion (λ (p : PlainName). rank_of digits p < rank (fitting more)) (take n names) → find (is_asked more wanted digits) (known_plain held (drop n names)) ≡ find (is_asked more wanted digits) (known_plain held names)
     found-rest names n lower =
-        let before : find (asked more wanted digits) (known_plain held (take n names)) ≡ None =
+        let before : find (is_asked more wanted digits) (known_plain held (take n names)) ≡ None =
         names-other (take n names) (all-weaker (λ (p : PlainName). rank_of digits p < rank (fitting more)) (λ (p : PlainName). rank_of digits p ≡ rank (fitting more) → ⊥) (λ p low same. omega (arith, low, same)) (take n names) lower) in
-        sym (ap (λ l. find (asked more wanted digits) (known_plain held l)) (sym (take-append-drop n names))
-        ∙ (found-both held (asked more wanted digits) (take n names) (drop n names)
-        ∙ ap (λ o. option_or o (find (asked more wanted digits) (known_plain held (drop n names)))) before))
+        sym (ap (λ l. find (is_asked more wanted digits) (known_plain held l)) (sym (take-append-drop n names))
+        ∙ (found-both held (is_asked more wanted digits) (take n names) (drop n names)
+        ∙ ap (λ o. option_or o (find (is_asked more wanted digits) (known_plain held (drop n names)))) before))
 
     -- and not from a name on that stands above those that fit
-    pub found-ended : (names : List PlainName) (k : ℕ) (plain : PlainName) → NamesRise names → AllByRecursion (λ (p : PlainName). rank (fitting more) ≤ rank_of digits p) names → slice_get names k ≡ Some plain → (rank_of digits plain == rank (fitting more)) ≡ false → find (asked more wanted digits) (known_plain held (drop k names)) ≡ None
+    pub found-ended : (names : List PlainName) (k : ℕ) (plain : PlainName) → NamesRise names → AllByRecursion (λ (p : PlainName). rank (fitting more) ≤ rank_of digits p) names → slice_get names k ≡ Some plain → (rank_of digits plain == rank (fitting more)) ≡ false → find (is_asked more wanted digits) (known_plain held (drop k names)) ≡ None
     found-ended names k plain rise least here other =
         let apart = eqb-false (rank_of digits plain) (rank (fitting more)) other in
         let low = all-at (λ (p : PlainName). rank (fitting more) ≤ rank_of digits p) names k plain least here in
@@ -372,7 +372,7 @@ module _ (test : Known → Bool) (first rest : List Known) where
       by (Some k) e = absurd cc
 
 -- where there are no nodes, nothing is found below them
-pub no-nodes : (test : Known → Bool) (held : List Held) (nodes : List Node) → (length nodes == 0) ≡ true → find test (known_from held [] nodes) ≡ None
+pub no-nodes : (test : Known → Bool) (held : List HeldEntry) (nodes : List Node) → (length nodes == 0) ≡ true → find test (known_from held [] nodes) ≡ None
 no-nodes test held [] none = refl
 no-nodes test held (node ∷ nodes) none = (let wrong = eqb-true (length (node ∷ nodes)) 0 none in absurd (omega (arith, wrong)))
 

@@ -13,7 +13,7 @@ use Rattle.dp_pattern.proofs.OrderLemmas.{name_cmp_total}
 use Rattle.dp_trie.specs.Asked.{Rise}
 use Rattle.dp_trie.specs.steps.Ranked.{known_cmp, AreInOrder}
 use Rattle.dp_trie.specs.Tree.{known_held, own, path_after, known_from, Rises}
-use Rattle.dp_trie.specs.declared.node.Held.{Held}
+use Rattle.dp_trie.specs.declared.node.HeldEntry.{HeldEntry}
 use Rattle.dp_trie.specs.declared.node.Node.{Node}
 use Rattle.dp_trie.specs.declared.node.Step.{Step}
 use Rattle.dp_trie.specs.declared.node.Step.TheVariants.{Class, Leaf}
@@ -77,50 +77,50 @@ of_one_name : (m : Meaning) (o : Ordering) → ordering_then (name_cmp m m) o �
 of_one_name m o less = ap (λ n. ordering_then n o) (sym (tied_itself name_cmp_total m)) ∙ less
 
 -- in order they are in the order of their priorities
-pub held-rise : (m : Meaning) (held : List Held) → AreInOrder (map (known_held m) held) → Rise held
+pub held-rise : (m : Meaning) (held : List HeldEntry) → AreInOrder (map (known_held m) held) → Rise held
 unfolding IsStrictlySortedBy
 held-rise m [] sorted = tt
 held-rise m (h ∷ held) sorted = (each held sorted.0, held-rise m held sorted.1)
   where
-    each : (held : List Held) → AllByRecursion (λ y. known_cmp (known_held m h) y ≡ Less) (map (known_held m) held) → AllByRecursion (λ (y : Held). nat_cmp h.priority y.priority ≡ Less) held
+    each : (held : List HeldEntry) → AllByRecursion (λ y. known_cmp (known_held m h) y ≡ Less) (map (known_held m) held) → AllByRecursion (λ (y : HeldEntry). nat_cmp h.priority y.priority ≡ Less) held
     each [] all = tt
     each (k ∷ held) all = (of_one_name m (nat_cmp h.priority k.priority) all.0, each held all.1)
 
 -- ---- priorities
 
-rise-at : (held : List Held) → Rise held → (i j : ℕ) (a b : Held) → i < j → slice_get held i ≡ Some a → slice_get held j ≡ Some b → a.priority < b.priority
-rise-at held rise i j a b before at_i at_j = cmp-less a.priority b.priority (sorted-at (λ (x y : Held). nat_cmp x.priority y.priority) held rise i j a b before at_i at_j)
+rise-at : (held : List HeldEntry) → Rise held → (i j : ℕ) (a b : HeldEntry) → i < j → slice_get held i ≡ Some a → slice_get held j ≡ Some b → a.priority < b.priority
+rise-at held rise i j a b before at_i at_j = cmp-less a.priority b.priority (sorted-at (λ (x y : HeldEntry). nat_cmp x.priority y.priority) held rise i j a b before at_i at_j)
 
 -- an entry of a priority is the first that has it
-pub found-at : (held : List Held) (i : ℕ) (one : Held) (t : ℕ) → Rise held → slice_get held i ≡ Some one → one.priority ≡ t → find (λ (h : Held). h.priority == t) held ≡ Some one
+pub found-at : (held : List HeldEntry) (i : ℕ) (one : HeldEntry) (t : ℕ) → Rise held → slice_get held i ≡ Some one → one.priority ≡ t → find (λ (h : HeldEntry). h.priority == t) held ≡ Some one
 unfolding IsStrictlySortedBy
 found-at [] i one t rise here is = absurd cc
 found-at (h ∷ held) zero one t rise here is =
     let same : h ≡ one = same_Some h one here in
-    ap (λ b. cond b (Some h) (find (λ (h : Held). h.priority == t) held)) (eq-eqb h.priority t (ap (λ (x : Held). x.priority) same ∙ is)) ∙ ap Some same
+    ap (λ b. cond b (Some h) (find (λ (h : HeldEntry). h.priority == t) held)) (eq-eqb h.priority t (ap (λ (x : HeldEntry). x.priority) same ∙ is)) ∙ ap Some same
 found-at (h ∷ held) (suc i) one t rise here is =
     let less = rise-at (h ∷ held) rise 0 (suc i) h one (omega arith) refl here in
-    ap (λ b. cond b (Some h) (find (λ (h : Held). h.priority == t) held)) (ne_eqb h.priority t (λ e. omega (arith, e, is, less)))
+    ap (λ b. cond b (Some h) (find (λ (h : HeldEntry). h.priority == t) held)) (ne_eqb h.priority t (λ e. omega (arith, e, is, less)))
     ∙ found-at held i one t rise.1 here is
 
-find-nothing : (test : Held → Bool) (held : List Held) → ((i : ℕ) (one : Held) → slice_get held i ≡ Some one → test one ≡ false) → find test held ≡ None
+find-nothing : (test : HeldEntry → Bool) (held : List HeldEntry) → ((i : ℕ) (one : HeldEntry) → slice_get held i ≡ Some one → test one ≡ false) → find test held ≡ None
 find-nothing test [] none = refl
 find-nothing test (h ∷ held) none =
     ap (λ b. cond b (Some h) (find test held)) (none 0 h refl) ∙ find-nothing test held (λ i one here. none (suc i) one here)
 
 -- none has the priority where the first that is not below it has another, or is not there
-pub found-none : (held : List Held) (i t : ℕ) → Rise held → IsPartitionPoint (λ (h : Held). nat_lt h.priority t ≡ true) (λ (h : Held). nat_lt h.priority t ≡ false) held i → ((one : Held) → slice_get held i ≡ Some one → one.priority ≡ t → ⊥) → find (λ (h : Held). h.priority == t) held ≡ None
-found-none held i t rise point other = find-nothing (λ (h : Held). h.priority == t) held (λ k one here. ne_eqb one.priority t (apart k one here))
+pub found-none : (held : List HeldEntry) (i t : ℕ) → Rise held → IsPartitionPoint (λ (h : HeldEntry). nat_lt h.priority t ≡ true) (λ (h : HeldEntry). nat_lt h.priority t ≡ false) held i → ((one : HeldEntry) → slice_get held i ≡ Some one → one.priority ≡ t → ⊥) → find (λ (h : HeldEntry). h.priority == t) held ≡ None
+found-none held i t rise point other = find-nothing (λ (h : HeldEntry). h.priority == t) held (λ k one here. ne_eqb one.priority t (apart k one here))
   where
-    get : (k : ℕ) (one : Held) → slice_get held k ≡ Some one → get_or held k one ≡ one
+    get : (k : ℕ) (one : HeldEntry) → slice_get held k ≡ Some one → get_or held k one ≡ one
     get k one here = (let inside = slice_get_within held k one here in same_Some (get_or held k one) one (sym (slice_get-get_or held k one inside) ∙ here))
 
-    apart : (k : ℕ) (one : Held) → slice_get held k ≡ Some one → one.priority ≡ t → ⊥
+    apart : (k : ℕ) (one : HeldEntry) → slice_get held k ≡ Some one → one.priority ≡ t → ⊥
     apart k one here is = elim (cases_order k i) [
       | inl same ↦ other one (ap (slice_get held) (sym same) ∙ here) is
       | inr (inl before) ↦
           let below = point.0 k one (omega arith) before in
-          let less = ltb-true one.priority t (ap (λ (h : Held). nat_lt h.priority t) (sym (get k one here)) ∙ below) in
+          let less = ltb-true one.priority t (ap (λ (h : HeldEntry). nat_lt h.priority t) (sym (get k one here)) ∙ below) in
           omega (arith, less, is)
       | inr (inr after) ↦
           let inside = slice_get_within held k one here in
@@ -131,7 +131,7 @@ found-none held i t rise point other = find-nothing (λ (h : Held). h.priority =
     ]
 
 -- the priorities below another stand first
-pub priorities-parted : (held : List Held) (t : ℕ) → Rise held → IsPartitionedBy (λ (h : Held). nat_lt h.priority t) held
+pub priorities-parted : (held : List HeldEntry) (t : ℕ) → Rise held → IsPartitionedBy (λ (h : HeldEntry). nat_lt h.priority t) held
 priorities-parted held t rise i j d few within below = elim (cases_order i j) [
   | inl same ↦ ap (λ k. nat_lt (get_or held k d).priority t) same ∙ below
   | inr (inl before) ↦
@@ -146,7 +146,7 @@ priorities-parted held t rise i j d few within below = elim (cases_order i j) [
 -- ---- the leaves of a tree
 
 -- what the leaves have is in order where all entries are
-pub tree-rise : (held : List Held) (nodes : List Node) (path : List (List ℕ)) → AreInOrder (known_from held path nodes) → (place : ℕ) (node : Node) → slice_get nodes place ≡ Some node → Rises held node.step
+pub tree-rise : (held : List HeldEntry) (nodes : List Node) (path : List (List ℕ)) → AreInOrder (known_from held path nodes) → (place : ℕ) (node : Node) → slice_get nodes place ≡ Some node → Rises held node.step
 tree-rise held [] path sorted place node here = absurd cc
 tree-rise held (n ∷ nodes) path sorted zero node here =
     let same : n ≡ node = same_Some n node here in

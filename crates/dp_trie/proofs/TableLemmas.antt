@@ -7,7 +7,7 @@ use Rattle.dp_trie.specs.Known.{Known, most_added, most_nodes}
 use Rattle.dp_trie.specs.Names.{known_plain, ArePlainRanges}
 use Rattle.dp_trie.specs.steps.Ranked.{known_now, hold_of, known_cmp, AreInOrder}
 use Rattle.dp_trie.specs.Tree.{known_from, AreLinked, IsRooted, AreRanges, IsTree}
-use Rattle.dp_trie.specs.declared.node.Held.{Held}
+use Rattle.dp_trie.specs.declared.node.HeldEntry.{HeldEntry}
 use Rattle.dp_trie.specs.declared.node.Node.{Node}
 use Rattle.dp_trie.specs.declared.plain.PlainName.{PlainName}
 use Rattle.dp_trie.specs.declared.ranked.Ranked.{Ranked}
@@ -28,10 +28,10 @@ pub whole-known : (n : ℕ) (ranked first rest : List Ranked) → first ≡ take
 whole-known n ranked first rest front back =
     sym (map-append known_now first rest) ∙ ap (map known_now) (ap (λ l. l ++ rest) front ∙ (ap (λ l. take n ranked ++ l) back ∙ take-append-drop n ranked))
 
-held_count : (ranked : List Ranked) (held : List Held) → held ≡ map hold_of (map known_now ranked) → length held ≡ length ranked
+held_count : (ranked : List Ranked) (held : List HeldEntry) → held ≡ map hold_of (map known_now ranked) → length held ≡ length ranked
 held_count ranked held same = ap length same ∙ (length-map (map known_now ranked) hold_of ∙ length-map ranked known_now)
 
-module _ (first : List Ranked) (plain : List Held) (names : List PlainName) (same : plain ≡ map hold_of (map known_now first)) (known : known_plain (map hold_of (map known_now first)) names ≡ map known_now first) where
+module _ (first : List Ranked) (plain : List HeldEntry) (names : List PlainName) (same : plain ≡ map hold_of (map known_now first)) (known : known_plain (map hold_of (map known_now first)) names ≡ map known_now first) where
   pub names-known : known_plain plain names ≡ map known_now first
   names-known = ap (λ h. known_plain h names) same ∙ known
 
@@ -41,7 +41,7 @@ module _ (first : List Ranked) (plain : List Held) (names : List PlainName) (sam
   pub names-ranges : ArePlainRanges (length first) names → ArePlainRanges (length plain) names
   names-ranges ranges = subst (λ n. ArePlainRanges n names) (sym (held_count first plain same)) ranges
 
-module _ (rest : List Ranked) (held : List Held) (nodes : List Node) (same : held ≡ map hold_of (map known_now rest)) (known : known_from (map hold_of (map known_now rest)) [] nodes ≡ map known_now rest) where
+module _ (rest : List Ranked) (held : List HeldEntry) (nodes : List Node) (same : held ≡ map hold_of (map known_now rest)) (known : known_from (map hold_of (map known_now rest)) [] nodes ≡ map known_now rest) where
   pub tree-known : known_from held [] nodes ≡ map known_now rest
   tree-known = ap (λ h. known_from h [] nodes) same ∙ known
 

@@ -8,13 +8,13 @@ use Rattle.std.proofs.lemmas.List.{length-take, take-append-le}
 use Rattle.std.proofs.lemmas.List.Folds.{find-append}
 use Rattle.std.proofs.lemmas.Option.{slice_get_within}
 use Rattle.dp_pattern.specs.Name.{Pattern}
-use Rattle.dp_pattern.specs.Walk.{walked, classes_of}
-use Rattle.dp_trie.specs.Asked.{Wanted, fits, asked, holds, hit_held, hit_of}
+use Rattle.dp_pattern.specs.Walk.{walk_after, classes_of}
+use Rattle.dp_trie.specs.Asked.{Wanted, fits, is_asked, holds, hit_held, hit_of}
 use Rattle.dp_trie.specs.Entered.{one_more, tree_entered}
 use Rattle.dp_trie.specs.Known.{Known}
-use Rattle.dp_trie.specs.Tree.{known_held, own, path_below, path_after, known_from, skipped, depth_below, IsRooted, IsEnd, alive, takes, allows, hold_or_pass, step_visit}
+use Rattle.dp_trie.specs.Tree.{known_held, own, path_below, path_after, known_from, nodes_past, depth_below, IsRooted, IsEnd, alive, takes, allows, hold_or_pass, step_visit}
 use Rattle.dp_plan.specs.declared.entry.EntryId.{EntryId}
-use Rattle.dp_trie.specs.declared.node.Held.{Held}
+use Rattle.dp_trie.specs.declared.node.HeldEntry.{HeldEntry}
 use Rattle.dp_trie.specs.declared.node.Leaf as leaf
 use Rattle.dp_trie.specs.declared.node.Node.{Node}
 use Rattle.dp_trie.specs.declared.node.Step.{Step}
@@ -57,7 +57,7 @@ drop-end (x ∷ xs) zero e = absurd cc
 drop-end (x ∷ xs) (suc i) e = drop-end xs i e
 
 -- the first in a list of images, where the test comes to another test or to nothing
-pub find_images : (b : Bool) (f : Held → Known) (test : Known → Bool) (inner : Held → Bool) → ((held : Held) → test (f held) ≡ (b && inner held)) → (xs : List Held) → find test (map f xs) ≡ cond b (option_map f (find inner xs)) None
+pub find_images : (b : Bool) (f : HeldEntry → Known) (test : Known → Bool) (inner : HeldEntry → Bool) → ((held : HeldEntry) → test (f held) ≡ (b && inner held)) → (xs : List HeldEntry) → find test (map f xs) ≡ cond b (option_map f (find inner xs)) None
 find_images true f test inner each [] = refl
 find_images false f test inner each [] = refl
 find_images b f test inner each (x ∷ xs) = ap (λ t. cond t (Some (f x)) (find test (map f xs))) (each x) ∙ by b (inner x) (find_images b f test inner each xs)
@@ -67,14 +67,14 @@ find_images b f test inner each (x ∷ xs) = ap (λ t. cond t (Some (f x)) (find
     by true false rest = rest
     by false i rest = rest
 
-module _ (held : List Held) (more : Bool) (wanted : Wanted) (digits : List ℕ) where
+module _ (held : List HeldEntry) (more : Bool) (wanted : Wanted) (digits : List ℕ) where
   -- what is found in the nodes from some place on
   abbrev pub found_from : List (List ℕ) → List Node → Option Known
-  found_from path nodes = find (asked more wanted digits) (known_from held path nodes)
+  found_from path nodes = find (is_asked more wanted digits) (known_from held path nodes)
 
   -- what is found at a step below a path and in the nodes after it
   abbrev found_step : List (List ℕ) → Step → List Node → Option Known
-  found_step path step nodes = find (asked more wanted digits) (own held path step ++ known_from held (path_below path step) nodes)
+  found_step path step nodes = find (is_asked more wanted digits) (own held path step ++ known_from held (path_below path step) nodes)
 
   -- how many nodes are entered from some place on
   abbrev pub count_from : List (List ℕ) → List Node → ℕ
@@ -83,21 +83,21 @@ module _ (held : List Held) (more : Bool) (wanted : Wanted) (digits : List ℕ) 
   -- how many are entered at a step below a path and after it
   abbrev pub count_step : List (List ℕ) → Step → List Node → ℕ
   count_step path step nodes =
-      one_more (alive more (path_below path step) digits) (cond (is_some (find (asked more wanted digits) (own held path step))) 0 (count_from (path_below path step) nodes))
+      one_more (alive more (path_below path step) digits) (cond (is_some (find (is_asked more wanted digits) (own held path step))) 0 (count_from (path_below path step) nodes))
 
-  find-own : (path : List (List ℕ)) (l : leaf.Leaf) → find (asked more wanted digits) (own held path (Leaf l)) ≡ cond (fits more l.tail (walked path digits)) (option_map (known_held (Pattern path l.tail)) (find (holds wanted) (slice_range held l.from l.until))) None
+  find-own : (path : List (List ℕ)) (l : leaf.Leaf) → find (is_asked more wanted digits) (own held path (Leaf l)) ≡ cond (fits more l.tail (walk_after path digits)) (option_map (known_held (Pattern path l.tail)) (find (holds wanted) (slice_range held l.from l.until))) None
   find-own path l =
-      find_images (fits more l.tail (walked path digits)) (known_held (Pattern path l.tail)) (asked more wanted digits) (holds wanted) (λ h. refl) (slice_range held l.from l.until)
+      find_images (fits more l.tail (walk_after path digits)) (known_held (Pattern path l.tail)) (is_asked more wanted digits) (holds wanted) (λ h. refl) (slice_range held l.from l.until)
 
   -- nothing at a step below a path that begins with one that does not take the digits
-  none-own : (n : ℕ) (path : List (List ℕ)) (step : Step) → alive more (take n path) digits ≡ false → find (asked more wanted digits) (own held path step) ≡ None
+  none-own : (n : ℕ) (path : List (List ℕ)) (step : Step) → alive more (take n path) digits ≡ false → find (is_asked more wanted digits) (own held path step) ≡ None
   none-own n path (Class class) dead = refl
   none-own n path (Leaf l) dead =
       find-own path l ∙ ap (λ b. cond b (option_map (known_held (Pattern path l.tail)) (find (holds wanted) (slice_range held l.from l.until))) None) (dead-fits more l.tail n path digits dead)
 
-  past-own : (path : List (List ℕ)) (step : Step) (nodes : List Node) → find (asked more wanted digits) (own held path step) ≡ None → found_step path step nodes ≡ found_from (path_below path step) nodes
+  past-own : (path : List (List ℕ)) (step : Step) (nodes : List Node) → find (is_asked more wanted digits) (own held path step) ≡ None → found_step path step nodes ≡ found_from (path_below path step) nodes
   past-own path step nodes none =
-      find-append (asked more wanted digits) (own held path step) (known_from held (path_below path step) nodes)
+      find-append (is_asked more wanted digits) (own held path step) (known_from held (path_below path step) nodes)
       ∙ ap (λ o. option_or o (found_from (path_below path step) nodes)) none
 
   take-below : (n : ℕ) (path : List (List ℕ)) (step : Step) → n ≤ length path → take n (path_below path step) ≡ take n path
@@ -109,11 +109,11 @@ module _ (held : List Held) (more : Bool) (wanted : Wanted) (digits : List ℕ) 
   longer-below path (Leaf l) = omega arith
 
   -- all that stands deeper below a path that does not take the digits is passed over
-  pub skip : (depth : ℕ) (nodes : List Node) (path : List (List ℕ)) → depth < length path → alive more (take (suc depth) path) digits ≡ false → found_from path nodes ≡ found_from (take depth path) (skipped depth nodes)
+  pub skip : (depth : ℕ) (nodes : List Node) (path : List (List ℕ)) → depth < length path → alive more (take (suc depth) path) digits ≡ false → found_from path nodes ≡ found_from (take depth path) (nodes_past depth nodes)
   skip depth [] path deep dead = refl
   skip depth (node ∷ nodes) path deep dead = by (λ p. skip depth nodes p) (nat_lt depth node.depth) refl
     where
-      deeper : ((p : List (List ℕ)) → depth < length p → alive more (take (suc depth) p) digits ≡ false → found_from p nodes ≡ found_from (take depth p) (skipped depth nodes)) → depth < node.depth → found_from path (node ∷ nodes) ≡ found_from (take depth path) (skipped depth nodes)
+      deeper : ((p : List (List ℕ)) → depth < length p → alive more (take (suc depth) p) digits ≡ false → found_from p nodes ≡ found_from (take depth p) (nodes_past depth nodes)) → depth < node.depth → found_from path (node ∷ nodes) ≡ found_from (take depth path) (nodes_past depth nodes)
       deeper inner below =
           let size = length-take node.depth path in
           let long = longer-below (take node.depth path) node.step in
@@ -123,18 +123,18 @@ module _ (held : List Held) (more : Bool) (wanted : Wanted) (digits : List ℕ) 
           let shorter : take depth (path_after path node) ≡ take depth path = take-below depth (take node.depth path) node.step (omega (arith, room)) ∙ take-take depth node.depth path (omega (arith, below)) in
           past-own (take node.depth path) node.step nodes (none-own (suc depth) (take node.depth path) node.step (ap (λ p. alive more p digits) begins ∙ dead))
           ∙ (inner (path_after path node) (omega (arith, room, long)) (ap (λ p. alive more p digits) same ∙ dead)
-          ∙ ap (λ p. found_from p (skipped depth nodes)) shorter)
+          ∙ ap (λ p. found_from p (nodes_past depth nodes)) shorter)
 
-      by : ((p : List (List ℕ)) → depth < length p → alive more (take (suc depth) p) digits ≡ false → found_from p nodes ≡ found_from (take depth p) (skipped depth nodes)) → (b : Bool) → nat_lt depth node.depth ≡ b → found_from path (node ∷ nodes) ≡ found_from (take depth path) (cond b (skipped depth nodes) (node ∷ nodes))
+      by : ((p : List (List ℕ)) → depth < length p → alive more (take (suc depth) p) digits ≡ false → found_from p nodes ≡ found_from (take depth p) (nodes_past depth nodes)) → (b : Bool) → nat_lt depth node.depth ≡ b → found_from path (node ∷ nodes) ≡ found_from (take depth path) (cond b (nodes_past depth nodes) (node ∷ nodes))
       by inner true e = deeper inner (ltb-true depth node.depth e)
       by inner false e = ap (λ p. found_step p node.step nodes) (sym (take-take node.depth depth path (ltb-false depth node.depth e)))
 
   -- and none of it is entered
-  pub skip-count : (depth : ℕ) (nodes : List Node) (path : List (List ℕ)) → depth < length path → alive more (take (suc depth) path) digits ≡ false → count_from path nodes ≡ count_from (take depth path) (skipped depth nodes)
+  pub skip-count : (depth : ℕ) (nodes : List Node) (path : List (List ℕ)) → depth < length path → alive more (take (suc depth) path) digits ≡ false → count_from path nodes ≡ count_from (take depth path) (nodes_past depth nodes)
   skip-count depth [] path deep dead = refl
   skip-count depth (node ∷ nodes) path deep dead = by (λ p. skip-count depth nodes p) (nat_lt depth node.depth) refl
     where
-      deeper : ((p : List (List ℕ)) → depth < length p → alive more (take (suc depth) p) digits ≡ false → count_from p nodes ≡ count_from (take depth p) (skipped depth nodes)) → depth < node.depth → count_from path (node ∷ nodes) ≡ count_from (take depth path) (skipped depth nodes)
+      deeper : ((p : List (List ℕ)) → depth < length p → alive more (take (suc depth) p) digits ≡ false → count_from p nodes ≡ count_from (take depth p) (nodes_past depth nodes)) → depth < node.depth → count_from path (node ∷ nodes) ≡ count_from (take depth path) (nodes_past depth nodes)
       deeper inner below =
           let size = length-take node.depth path in
           let long = longer-below (take node.depth path) node.step in
@@ -144,37 +144,37 @@ module _ (held : List Held) (more : Bool) (wanted : Wanted) (digits : List ℕ) 
           let shorter : take depth (path_after path node) ≡ take depth path = take-below depth (take node.depth path) node.step (omega (arith, room)) ∙ take-take depth node.depth path (omega (arith, below)) in
           let off = dead-whole more (suc depth) (path_after path node) digits (ap (λ p. alive more p digits) same ∙ dead) in
           let none = none-own (suc depth) (take node.depth path) node.step (ap (λ p. alive more p digits) begins ∙ dead) in
-          ap (λ b. one_more b (cond (is_some (find (asked more wanted digits) (own held (take node.depth path) node.step))) 0 (count_from (path_after path node) nodes))) off
+          ap (λ b. one_more b (cond (is_some (find (is_asked more wanted digits) (own held (take node.depth path) node.step))) 0 (count_from (path_after path node) nodes))) off
           ∙ (ap (λ o. cond (is_some o) 0 (count_from (path_after path node) nodes)) none
           ∙ (inner (path_after path node) (omega (arith, room, long)) (ap (λ p. alive more p digits) same ∙ dead)
-          ∙ ap (λ p. count_from p (skipped depth nodes)) shorter))
+          ∙ ap (λ p. count_from p (nodes_past depth nodes)) shorter))
 
-      by : ((p : List (List ℕ)) → depth < length p → alive more (take (suc depth) p) digits ≡ false → count_from p nodes ≡ count_from (take depth p) (skipped depth nodes)) → (b : Bool) → nat_lt depth node.depth ≡ b → count_from path (node ∷ nodes) ≡ count_from (take depth path) (cond b (skipped depth nodes) (node ∷ nodes))
+      by : ((p : List (List ℕ)) → depth < length p → alive more (take (suc depth) p) digits ≡ false → count_from p nodes ≡ count_from (take depth p) (nodes_past depth nodes)) → (b : Bool) → nat_lt depth node.depth ≡ b → count_from path (node ∷ nodes) ≡ count_from (take depth path) (cond b (nodes_past depth nodes) (node ∷ nodes))
       by inner true e = deeper inner (ltb-true depth node.depth e)
       by inner false e = ap (λ p. count_step p node.step nodes) (sym (take-take node.depth depth path (ltb-false depth node.depth e)))
 
   -- ---- a step of the walk
 
   -- a node that is entered without a hit has nothing that is asked for, and the path after it takes the digits
-  pub entered : (step : Step) (path : List (List ℕ)) (depth : ℕ) (nodes : List Node) → length path ≡ depth → alive more path digits ≡ true → step_visit held more wanted digits depth step ≡ Enters → (alive more (path_below path step) digits ≡ true) × (find (asked more wanted digits) (own held path step) ≡ None)
+  pub entered : (step : Step) (path : List (List ℕ)) (depth : ℕ) (nodes : List Node) → length path ≡ depth → alive more path digits ≡ true → step_visit held more wanted digits depth step ≡ Enters → (alive more (path_below path step) digits ≡ true) × (find (is_asked more wanted digits) (own held path step) ≡ None)
   entered (Class class) path depth nodes size on e =
       (alive-push more path class digits on ∙ (ap (takes more digits class) size ∙ taken (takes more digits class depth) e), refl)
     where
       taken : (b : Bool) → cond b Enters Fails ≡ Enters → b ≡ true
       taken true e = refl
       taken false e = absurd cc
-  entered (Leaf l) path depth nodes size on e = (on, find-own path l ∙ nothing (fits more l.tail (walked path digits)) agree)
+  entered (Leaf l) path depth nodes size on e = (on, find-own path l ∙ nothing (fits more l.tail (walk_after path digits)) agree)
     where
-      all : List Held
+      all : List HeldEntry
       all = slice_range held l.from l.until
 
-      agree : cond (fits more l.tail (walked path digits)) (hold_or_pass (find (holds wanted) (slice_range held l.from l.until))) Enters ≡ Enters
+      agree : cond (fits more l.tail (walk_after path digits)) (hold_or_pass (find (holds wanted) (slice_range held l.from l.until))) Enters ≡ Enters
       agree =
           ap (λ b. cond b (hold_or_pass (find (holds wanted) (slice_range held l.from l.until))) Enters)
           (fits-allows more l.tail path digits on ∙ ap (λ n. allows more l.tail n (length digits)) size)
           ∙ e
 
-      none : (o : Option Held) → hold_or_pass o ≡ Enters → option_map (known_held (Pattern path l.tail)) o ≡ None
+      none : (o : Option HeldEntry) → hold_or_pass o ≡ Enters → option_map (known_held (Pattern path l.tail)) o ≡ None
       none None e = refl
       none (Some h) e = absurd cc
 
@@ -182,22 +182,22 @@ module _ (held : List Held) (more : Bool) (wanted : Wanted) (digits : List ℕ) 
       nothing true e = none (find (holds wanted) (slice_range held l.from l.until)) e
       nothing false e = refl
 
-  entered-count : (step : Step) (path : List (List ℕ)) (nodes : List Node) → alive more (path_below path step) digits ≡ true → find (asked more wanted digits) (own held path step) ≡ None → count_step path step nodes ≡ suc (count_from (path_below path step) nodes)
+  entered-count : (step : Step) (path : List (List ℕ)) (nodes : List Node) → alive more (path_below path step) digits ≡ true → find (is_asked more wanted digits) (own held path step) ≡ None → count_step path step nodes ≡ suc (count_from (path_below path step) nodes)
   entered-count step path nodes on none =
-      ap (λ b. one_more b (cond (is_some (find (asked more wanted digits) (own held path step))) 0 (count_from (path_below path step) nodes))) on
+      ap (λ b. one_more b (cond (is_some (find (is_asked more wanted digits) (own held path step))) 0 (count_from (path_below path step) nodes))) on
       ∙ ap (λ o. suc (cond (is_some o) 0 (count_from (path_below path step) nodes))) none
 
   -- a node that fails has nothing that is asked for below it, and none of it is entered
-  pub failed : (step : Step) (path : List (List ℕ)) (depth : ℕ) (nodes : List Node) → length path ≡ depth → alive more path digits ≡ true → step_visit held more wanted digits depth step ≡ Fails → (found_step path step nodes ≡ found_from path (skipped depth nodes)) × (count_step path step nodes ≡ count_from path (skipped depth nodes))
+  pub failed : (step : Step) (path : List (List ℕ)) (depth : ℕ) (nodes : List Node) → length path ≡ depth → alive more path digits ≡ true → step_visit held more wanted digits depth step ≡ Fails → (found_step path step nodes ≡ found_from path (nodes_past depth nodes)) × (count_step path step nodes ≡ count_from path (nodes_past depth nodes))
   failed (Class class) path depth nodes size on e =
       let long = length-append path (class ∷ []) in
       let front : take depth (path ++ class ∷ []) ≡ path = ap (λ n. take n (path ++ class ∷ [])) (sym size) ∙ take-front path class in
       let off : alive more (path ++ class ∷ []) digits ≡ false = alive-push more path class digits on ∙ (ap (takes more digits class) size ∙ refused (takes more digits class depth) e) in
       let dead : alive more (take (suc depth) (path ++ class ∷ [])) digits ≡ false =
       ap (λ p. alive more p digits) (take-all (suc depth) (path ++ class ∷ []) (omega (arith, long, size))) ∙ off in (
-        skip depth nodes (path ++ class ∷ []) (omega (arith, long, size)) dead ∙ ap (λ p. found_from p (skipped depth nodes)) front,
+        skip depth nodes (path ++ class ∷ []) (omega (arith, long, size)) dead ∙ ap (λ p. found_from p (nodes_past depth nodes)) front,
         ap (λ b. one_more b (count_from (path ++ class ∷ []) nodes)) off
-            ∙ (skip-count depth nodes (path ++ class ∷ []) (omega (arith, long, size)) dead ∙ ap (λ p. count_from p (skipped depth nodes)) front),
+            ∙ (skip-count depth nodes (path ++ class ∷ []) (omega (arith, long, size)) dead ∙ ap (λ p. count_from p (nodes_past depth nodes)) front),
       )
     where
       refused : (b : Bool) → cond b Enters Fails ≡ Fails → b ≡ false
@@ -205,7 +205,7 @@ module _ (held : List Held) (more : Bool) (wanted : Wanted) (digits : List ℕ) 
       refused false e = refl
   failed (Leaf l) path depth nodes size on e = absurd (never (allows more l.tail depth (length digits)) (find (holds wanted) (slice_range held l.from l.until)) e)
     where
-      never : (b : Bool) (o : Option Held) → cond b (hold_or_pass o) Enters ≡ Fails → ⊥
+      never : (b : Bool) (o : Option HeldEntry) → cond b (hold_or_pass o) Enters ≡ Fails → ⊥
       never true None e = absurd cc
       never true (Some h) e = absurd cc
       never false o e = absurd cc
@@ -224,27 +224,27 @@ module _ (held : List Held) (more : Bool) (wanted : Wanted) (digits : List ℕ) 
       never : (b : Bool) → cond b Enters Fails ≡ Holds hit → ⊥
       never true e = absurd cc
       never false e = absurd cc
-  held_at (Leaf l) path depth nodes hit size on e = by (fits more l.tail (walked path digits)) refl (find (holds wanted) (slice_range held l.from l.until)) refl agree
+  held_at (Leaf l) path depth nodes hit size on e = by (fits more l.tail (walk_after path digits)) refl (find (holds wanted) (slice_range held l.from l.until)) refl agree
     where
-      agree : cond (fits more l.tail (walked path digits)) (hold_or_pass (find (holds wanted) (slice_range held l.from l.until))) Enters ≡ Holds hit
+      agree : cond (fits more l.tail (walk_after path digits)) (hold_or_pass (find (holds wanted) (slice_range held l.from l.until))) Enters ≡ Holds hit
       agree =
           ap (λ b. cond b (hold_or_pass (find (holds wanted) (slice_range held l.from l.until))) Enters)
           (fits-allows more l.tail path digits on ∙ ap (λ n. allows more l.tail n (length digits)) size)
           ∙ e
 
-      by : (b : Bool) → fits more l.tail (walked path digits) ≡ b → (o : Option Held) → find (holds wanted) (slice_range held l.from l.until) ≡ o → cond b (hold_or_pass o) Enters ≡ Holds hit → IsHeld path (Leaf l) nodes depth hit
+      by : (b : Bool) → fits more l.tail (walk_after path digits) ≡ b → (o : Option HeldEntry) → find (holds wanted) (slice_range held l.from l.until) ≡ o → cond b (hold_or_pass o) Enters ≡ Holds hit → IsHeld path (Leaf l) nodes depth hit
       by false fb o fo e = absurd cc
       by true fb None fo e = absurd cc
       by true fb (Some h) fo e = record {
         known = known_held (Pattern path l.tail) h;
         found =
-            find-append (asked more wanted digits) (own held path (Leaf l)) (known_from held path nodes)
+            find-append (is_asked more wanted digits) (own held path (Leaf l)) (known_from held path nodes)
             ∙ ap (λ o. option_or o (found_from path nodes))
             (find-own path l ∙ (ap (λ b. cond b (option_map (known_held (Pattern path l.tail)) (find (holds wanted) (slice_range held l.from l.until))) None) fb ∙ ap (option_map (known_held (Pattern path l.tail))) fo));
         same = (let inner : hit_held h ≡ hit = cc in inner);
         deep = size;
         counted =
-            ap (λ b. one_more b (cond (is_some (find (asked more wanted digits) (own held path (Leaf l)))) 0 (count_from path nodes))) on
+            ap (λ b. one_more b (cond (is_some (find (is_asked more wanted digits) (own held path (Leaf l)))) 0 (count_from path nodes))) on
             ∙ ap (λ o. suc (cond (is_some o) 0 (count_from path nodes)))
             (find-own path l ∙ (ap (λ b. cond b (option_map (known_held (Pattern path l.tail)) (find (holds wanted) (slice_range held l.from l.until))) None) fb ∙ ap (option_map (known_held (Pattern path l.tail))) fo));
       }
@@ -256,11 +256,11 @@ length-below path (Class class) depth size = let long = length-append path (clas
 length-below path (Leaf l) depth size = size
 
 -- what is passed over leaves nodes that are rooted
-rooted-skipped : (depth n : ℕ) (nodes : List Node) → IsRooted n nodes → IsRooted depth (skipped depth nodes)
-rooted-skipped depth n [] rooted = tt
-rooted-skipped depth n (node ∷ nodes) rooted = by (rooted-skipped depth (depth_below node.depth node.step) nodes rooted.1) (nat_lt depth node.depth) refl
+rooted-nodes_past : (depth n : ℕ) (nodes : List Node) → IsRooted n nodes → IsRooted depth (nodes_past depth nodes)
+rooted-nodes_past depth n [] rooted = tt
+rooted-nodes_past depth n (node ∷ nodes) rooted = by (rooted-nodes_past depth (depth_below node.depth node.step) nodes rooted.1) (nat_lt depth node.depth) refl
   where
-    by : IsRooted depth (skipped depth nodes) → (b : Bool) → nat_lt depth node.depth ≡ b → IsRooted depth (cond b (skipped depth nodes) (node ∷ nodes))
+    by : IsRooted depth (nodes_past depth nodes) → (b : Bool) → nat_lt depth node.depth ≡ b → IsRooted depth (cond b (nodes_past depth nodes) (node ∷ nodes))
     by inner true e = inner
     by inner false e = (ltb-false depth node.depth e, rooted.1)
 
@@ -283,7 +283,7 @@ none-after count before all e same = omega (arith, e, same)
 
 -- a walk that has come to a place: what is found from there on is what is found in all nodes, and the classes on the way
 -- take the digits; and what was entered and what is entered from there on is all that is entered
-pub record IsAt (held : List Held) (more : Bool) (wanted : Wanted) (digits : List ℕ) (nodes : List Node) (place count : ℕ) : Type 0 where
+pub record IsAt (held : List HeldEntry) (more : Bool) (wanted : Wanted) (digits : List ℕ) (nodes : List Node) (place count : ℕ) : Type 0 where
   pub path : List (List ℕ)
   pub on : alive more path digits ≡ true
   pub same : found_from held more wanted digits path (drop place nodes) ≡ found_from held more wanted digits [] nodes
@@ -293,7 +293,7 @@ pub record IsAt (held : List Held) (more : Bool) (wanted : Wanted) (digits : Lis
   pub few : count ≤ place
   pub within : place ≤ length nodes
 
-module _ (held : List Held) (more : Bool) (wanted : Wanted) (digits : List ℕ) (nodes : List Node) where
+module _ (held : List HeldEntry) (more : Bool) (wanted : Wanted) (digits : List ℕ) (nodes : List Node) where
   pub at-start : IsRooted 0 nodes → IsAt held more wanted digits nodes 0 0
   at-start rooted = record { path = []; on = refl; same = refl; counted = zero-before (count_from held more wanted digits [] nodes); rooted = rooted; deep = omega arith; few = omega arith; within = omega arith }
 
@@ -352,7 +352,7 @@ module _ (held : List Held) (more : Bool) (wanted : Wanted) (digits : List ℕ) 
           counted =
               add-here count _ _ _ _ at.counted here_count
               ((failed held more wanted digits node.step above node.depth rest size taken e).1 ∙ ap (count_from held more wanted digits above) (sym is_end.after));
-          rooted = subst (λ n. IsRooted n (drop end nodes)) (sym size) (subst (IsRooted node.depth) (sym is_end.after) (rooted-skipped node.depth (depth_below node.depth node.step) rest form.1));
+          rooted = subst (λ n. IsRooted n (drop end nodes)) (sym size) (subst (IsRooted node.depth) (sym is_end.after) (rooted-nodes_past node.depth (depth_below node.depth node.step) rest form.1));
           deep = (let deep = at.deep in let s = size in omega (arith, deep, s, few));
           few = (let few = at.few in let later = is_end.later in omega (arith, few, later));
           within = is_end.within;

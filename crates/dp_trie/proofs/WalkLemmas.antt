@@ -3,7 +3,7 @@ use Rattle.std.proofs.Common.{◌≡◌, ℕ, zero, suc, Bool, true, false, not,
 use Rattle.std.specs.Prelude.{nat_lt}
 use Rattle.std.proofs.lemmas.Bool.{ltb-true, ltb-false, lt-ltb, le-ltb}
 use Rattle.dp_pattern.specs.Name.{is_one_of}
-use Rattle.dp_pattern.specs.Walk.{Walked, Refused, Short, After, walked}
+use Rattle.dp_pattern.specs.Walk.{Walked, Refused, Short, After, walk_after}
 use Rattle.dp_pattern.specs.declared.tail.Tail.{Tail}
 use Rattle.dp_pattern.specs.declared.tail.Tail.TheVariants.{End, Dot, Bang}
 use Rattle.dp_trie.specs.Asked.{fits}
@@ -20,7 +20,7 @@ alive-push more [] class (d ∷ digits) on = by (is_one_of class d)
 alive-push more (c ∷ path) class [] on = refl
 alive-push more (c ∷ path) class (d ∷ digits) on = by (is_one_of c d) on (alive-push more path class digits)
   where
-    by : (b : Bool) → is_alive more (cond b (walked path digits) Refused) ≡ true → (alive more path digits ≡ true → alive more (path ++ class ∷ []) digits ≡ takes more digits class (length path)) → is_alive more (cond b (walked (path ++ class ∷ []) digits) Refused) ≡ takes more digits class (length path)
+    by : (b : Bool) → is_alive more (cond b (walk_after path digits) Refused) ≡ true → (alive more path digits ≡ true → alive more (path ++ class ∷ []) digits ≡ takes more digits class (length path)) → is_alive more (cond b (walk_after (path ++ class ∷ []) digits) Refused) ≡ takes more digits class (length path)
     by true on rest = rest on
     by false on rest = absurd (true≢false (sym on))
 
@@ -31,7 +31,7 @@ alive-take more (suc n) [] digits on = on
 alive-take more (suc n) (c ∷ path) [] on = on
 alive-take more (suc n) (c ∷ path) (d ∷ digits) on = by (is_one_of c d) on (alive-take more n path digits)
   where
-    by : (b : Bool) → is_alive more (cond b (walked path digits) Refused) ≡ true → (alive more path digits ≡ true → alive more (take n path) digits ≡ true) → is_alive more (cond b (walked (take n path) digits) Refused) ≡ true
+    by : (b : Bool) → is_alive more (cond b (walk_after path digits) Refused) ≡ true → (alive more path digits ≡ true → alive more (take n path) digits ≡ true) → is_alive more (cond b (walk_after (take n path) digits) Refused) ≡ true
     by true on rest = rest on
     by false on rest = on
 
@@ -54,8 +54,8 @@ dead-whole more n path digits dead = whole (alive more path digits) refl
     whole false off = off
 
 -- and it fits under no tail
-pub dead-fits : (more : Bool) (tail : Tail) (n : ℕ) (path : List (List ℕ)) (digits : List ℕ) → alive more (take n path) digits ≡ false → fits more tail (walked path digits) ≡ false
-dead-fits more tail n path digits dead = dead_fits more tail (walked path digits) (dead-whole more n path digits dead)
+pub dead-fits : (more : Bool) (tail : Tail) (n : ℕ) (path : List (List ℕ)) (digits : List ℕ) → alive more (take n path) digits ≡ false → fits more tail (walk_after path digits) ≡ false
+dead-fits more tail n path digits dead = dead_fits more tail (walk_after path digits) (dead-whole more n path digits dead)
 
 -- ---- comparisons, which do not compute at variables
 
@@ -67,7 +67,7 @@ lt_suc m n = by (nat_lt m n) refl
     by false e = let above = ltb-false m n e in sym (le-ltb (suc m) (suc n) (omega (arith, above)))
 
 -- after a path that takes the digits a tail fits exactly where the counts say so
-pub fits-allows : (more : Bool) (tail : Tail) (path : List (List ℕ)) (digits : List ℕ) → alive more path digits ≡ true → fits more tail (walked path digits) ≡ allows more tail (length path) (length digits)
+pub fits-allows : (more : Bool) (tail : Tail) (path : List (List ℕ)) (digits : List ℕ) → alive more path digits ≡ true → fits more tail (walk_after path digits) ≡ allows more tail (length path) (length digits)
 fits-allows false End [] [] on = refl
 fits-allows false End [] (d ∷ digits) on = ap not (sym (lt-ltb 0 (suc (length digits)) (omega arith)))
 fits-allows false Dot [] [] on = refl
@@ -90,6 +90,6 @@ fits-allows more tail (c ∷ path) (d ∷ digits) on = by (is_one_of c d) on (fi
     same true Dot m n = refl
     same true Bang m n = refl
 
-    by : (b : Bool) → is_alive more (cond b (walked path digits) Refused) ≡ true → (alive more path digits ≡ true → fits more tail (walked path digits) ≡ allows more tail (length path) (length digits)) → fits more tail (cond b (walked path digits) Refused) ≡ allows more tail (suc (length path)) (suc (length digits))
+    by : (b : Bool) → is_alive more (cond b (walk_after path digits) Refused) ≡ true → (alive more path digits ≡ true → fits more tail (walk_after path digits) ≡ allows more tail (length path) (length digits)) → fits more tail (cond b (walk_after path digits) Refused) ≡ allows more tail (suc (length path)) (suc (length digits))
     by true on rest = rest on ∙ same more tail (length path) (length digits)
     by false on rest = absurd (true≢false (sym on))

@@ -2,14 +2,14 @@
 use Rattle.std.specs.Prelude.{ℕ, Bool, true, false, ◌&&◌, ◌==◌, List, Option, Some, if◌then◌else◌}
 use Rattle.std.specs.List.Sorted.{IsStrictlySortedBy}
 use Rattle.std.specs.Ordering.{nat_cmp}
-use Rattle.dp_pattern.specs.Walk.{Walked, walked, classes_of, tail_of, is_match, goes_on}
+use Rattle.dp_pattern.specs.Walk.{Walked, walk_after, classes_of, tail_of, is_match, goes_on}
 use Rattle.dp_pattern.specs.declared.tail.Tail.{Tail}
 use Rattle.dp_plan.specs.Plan.{shares_label}
 use Rattle.dp_trie.specs.Known.{Known}
-use Rattle.dp_trie.specs.declared.node.Held.{Held}
+use Rattle.dp_trie.specs.declared.node.HeldEntry.{HeldEntry}
 use Rattle.dp_plan.specs.declared.entry.EntryId.{EntryId}
-use Rattle.dp_trie.specs.declared.question.Question.{Question}
-use Rattle.dp_trie.specs.declared.question.Question.TheVariants.{Priority, More}
+use Rattle.dp_trie.specs.declared.entry_question.EntryQuestion.{EntryQuestion}
+use Rattle.dp_trie.specs.declared.entry_question.EntryQuestion.TheVariants.{Priority, More}
 
 -- a test of a priority and a label
 abbrev pub Wanted : Type 0
@@ -24,26 +24,26 @@ abbrev pub is_wanted : Wanted → Known → Bool
 is_wanted wanted known = wanted known.priority known.label
 
 -- whether the entry is one that is asked for
-abbrev pub asked : Bool → Wanted → List ℕ → Known → Bool
-asked more wanted digits known =
-    fits more (tail_of known.name) (walked (classes_of known.name) digits) && wanted known.priority known.label
+abbrev pub is_asked : Bool → Wanted → List ℕ → Known → Bool
+is_asked more wanted digits known =
+    fits more (tail_of known.name) (walk_after (classes_of known.name) digits) && wanted known.priority known.label
 
 -- whether the question is which names go on
-abbrev pub is_more : Question → Bool
+abbrev pub is_more : EntryQuestion → Bool
 is_more (Priority number) = false
 is_more More = true
 
 -- what the question asks of a priority and a label
-abbrev pub wants : Question → Wanted
+abbrev pub wants : EntryQuestion → Wanted
 wants (Priority number) priority label = priority == number
 wants More priority label = priority == 1
 
 -- whether what is held of an entry is what is wanted
-abbrev pub holds : Wanted → Held → Bool
+abbrev pub holds : Wanted → HeldEntry → Bool
 holds wanted held = wanted held.priority held.label
 
 -- entries of one name are in the order of their priorities
-abbrev pub Rise : List Held → Type 0
+abbrev pub Rise : List HeldEntry → Type 0
 Rise held = IsStrictlySortedBy (λ a b. nat_cmp a.priority b.priority) held
 
 -- that an entry has the label
@@ -51,7 +51,7 @@ abbrev pub has_label : List ℕ → Wanted
 has_label text priority label = shares_label label (Some text)
 
 -- what a look-up hands on
-abbrev pub hit_held : Held → EntryId
+abbrev pub hit_held : HeldEntry → EntryId
 hit_held held = held.id
 
 abbrev pub hit_of : Known → EntryId

@@ -7,10 +7,10 @@ use Rattle.std.specs.List.{find}
 use Rattle.std.specs.Ordering.{is_eq}
 use Rattle.dp_pattern.specs.Name.{Meaning, Plain, Pattern}
 use Rattle.dp_pattern.specs.Order.{class_cmp, name_cmp}
-use Rattle.dp_trie.specs.Asked.{Wanted, asked}
+use Rattle.dp_trie.specs.Asked.{Wanted, is_asked}
 use Rattle.dp_trie.specs.Known.{Known, KeptContext, kept_at}
 use Rattle.dp_trie.specs.Tree.{own, path_after, known_from, alive}
-use Rattle.dp_trie.specs.declared.node.Held.{Held}
+use Rattle.dp_trie.specs.declared.node.HeldEntry.{HeldEntry}
 use Rattle.dp_trie.specs.declared.node.Node.{Node}
 
 -- a node, as the classes that lead down to it, with its own
@@ -52,18 +52,18 @@ abbrev pub entered_after : Bool → Wanted → List ℕ → Meaning → List Kno
 entered_after more wanted digits above [] = 0
 entered_after more wanted digits above (known ∷ entries) =
     taken_count more digits (nodes_added above known.name)
-    + (if asked more wanted digits known then 0 else entered_after more wanted digits known.name entries)
+    + (if is_asked more wanted digits known then 0 else entered_after more wanted digits known.name entries)
 
 -- how many nodes of the tree of a context are entered: above its first name stands no pattern
-abbrev pub entered : Bool → Wanted → List ℕ → List Known → ℕ
-entered more wanted digits entries = entered_after more wanted digits (Plain []) entries
+abbrev pub entered_count : Bool → Wanted → List ℕ → List Known → ℕ
+entered_count more wanted digits entries = entered_after more wanted digits (Plain []) entries
 
 -- in the contexts of these numbers in turn, up to the first that has an entry that is asked for
 abbrev pub entered_first : List KeptContext → Bool → Wanted → List ℕ → List ℕ → ℕ
 entered_first kept more wanted digits [] = 0
 entered_first kept more wanted digits (number ∷ order) =
-    entered more wanted digits (kept_at kept number)
-    + (if is_some (find (asked more wanted digits) (kept_at kept number)) then 0 else entered_first kept more wanted digits order)
+    entered_count more wanted digits (kept_at kept number)
+    + (if is_some (find (is_asked more wanted digits) (kept_at kept number)) then 0 else entered_first kept more wanted digits order)
 
 -- ---- a tree
 
@@ -72,14 +72,14 @@ abbrev pub one_more : Bool → ℕ → ℕ
 one_more holds count = if holds then suc count else count
 
 -- how many nodes of a tree are entered from some place on, where these classes stand after the node before
-abbrev pub tree_entered : List Held → Bool → Wanted → List ℕ → Down → List Node → ℕ
+abbrev pub tree_entered : List HeldEntry → Bool → Wanted → List ℕ → Down → List Node → ℕ
 tree_entered held more wanted digits path [] = 0
 tree_entered held more wanted digits path (node ∷ nodes) =
     one_more (alive more (path_after path node) digits)
-    (if is_some (find (asked more wanted digits) (own held (take node.depth path) node.step)) then 0
+    (if is_some (find (is_asked more wanted digits) (own held (take node.depth path) node.step)) then 0
     else tree_entered held more wanted digits (path_after path node) nodes)
 
 -- the tree has the nodes of its entries, each once
-pub record StandOnce (held : List Held) (nodes : List Node) : Type 0 where
+pub record StandOnce (held : List HeldEntry) (nodes : List Node) : Type 0 where
   pub each : (more : Bool) (wanted : Wanted) (digits : List ℕ)
-      → tree_entered held more wanted digits [] nodes ≡ entered more wanted digits (known_from held [] nodes)
+      → tree_entered held more wanted digits [] nodes ≡ entered_count more wanted digits (known_from held [] nodes)

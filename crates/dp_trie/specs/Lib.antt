@@ -1,5 +1,6 @@
 pub mod Asked
 pub mod Entered
+pub mod Finders
 pub mod Known
 pub mod Names
 pub mod Tree

@@ -8,17 +8,17 @@ use Rattle.dp_pattern.specs.Name.{Plain}
 use Rattle.dp_trie.specs.Asked.{Rise}
 use Rattle.dp_trie.specs.Known.{Known}
 use Rattle.dp_trie.specs.Tree.{known_held}
-use Rattle.dp_trie.specs.declared.node.Held.{Held}
+use Rattle.dp_trie.specs.declared.node.HeldEntry.{HeldEntry}
 use Rattle.dp_trie.specs.declared.plain.PlainName.{PlainName}
 use Rattle.dp_trie.specs.declared.plain.Side.{Side}
 use Rattle.dp_trie.specs.declared.plain.Side.TheVariants.{Before, Same, Longer, After}
 
 -- the entries of a plain name
-abbrev pub own_plain : List Held → PlainName → List Known
+abbrev pub own_plain : List HeldEntry → PlainName → List Known
 own_plain held plain = map (known_held (Plain plain.name)) (slice_range held plain.from plain.until)
 
 -- the entries of plain names
-abbrev pub known_plain : List Held → List PlainName → List Known
+abbrev pub known_plain : List HeldEntry → List PlainName → List Known
 known_plain held [] = []
 known_plain held (plain ∷ names) = own_plain held plain ++ known_plain held names
 
@@ -27,7 +27,7 @@ abbrev pub ArePlainRanges : ℕ → List PlainName → Type 0
 ArePlainRanges count names = AllByRecursion (λ plain. (plain.from < plain.until) × (plain.until ≤ count)) names
 
 -- those of each name are in the order of their priorities
-abbrev pub RiseEach : List Held → List PlainName → Type 0
+abbrev pub RiseEach : List HeldEntry → List PlainName → Type 0
 RiseEach held names = AllByRecursion (λ plain. Rise (slice_range held plain.from plain.until)) names
 
 -- no name is after a later one

@@ -3,12 +3,12 @@ use Rattle.std.specs.Prelude.{◌≡◌, ℕ, suc, ◌+◌, ◌<◌, ◌≤◌, 
 use Rattle.std.specs.List.{find}
 use Rattle.std.specs.Option.{option_map_or}
 use Rattle.dp_pattern.specs.Name.{Meaning, Pattern, is_one_of}
-use Rattle.dp_pattern.specs.Walk.{Walked, Refused, Short, After, walked}
+use Rattle.dp_pattern.specs.Walk.{Walked, Refused, Short, After, walk_after}
 use Rattle.dp_pattern.specs.declared.tail.Tail.{Tail}
 use Rattle.dp_pattern.specs.declared.tail.Tail.TheVariants.{End, Dot, Bang}
 use Rattle.dp_trie.specs.Asked.{Wanted, Rise, holds, hit_held}
 use Rattle.dp_trie.specs.Known.{Known}
-use Rattle.dp_trie.specs.declared.node.Held.{Held}
+use Rattle.dp_trie.specs.declared.node.HeldEntry.{HeldEntry}
 use Rattle.dp_trie.specs.declared.node.Leaf as leaves
 use Rattle.dp_trie.specs.declared.node.Node.{Node}
 use Rattle.dp_trie.specs.declared.node.Step.{Step}
@@ -17,11 +17,11 @@ use Rattle.dp_trie.specs.declared.walk.Visit.{Visit}
 use Rattle.dp_trie.specs.declared.walk.Visit.TheVariants.{Enters, Fails, Holds}
 
 -- what is held of an entry, with its name
-abbrev pub known_held : Meaning → Held → Known
+abbrev pub known_held : Meaning → HeldEntry → Known
 known_held name held = record { name = name; priority = held.priority; label = held.label; id = held.id }
 
 -- the entries of a node below these classes: a leaf has those of one pattern
-abbrev pub own : List Held → List (List ℕ) → Step → List Known
+abbrev pub own : List HeldEntry → List (List ℕ) → Step → List Known
 own held path (Class class) = []
 own held path (Leaf leaf) = map (known_held (Pattern path leaf.tail)) (slice_range held leaf.from leaf.until)
 
@@ -35,7 +35,7 @@ abbrev pub path_after : List (List ℕ) → Node → List (List ℕ)
 path_after path node = path_below (take node.depth path) node.step
 
 -- the entries of the nodes from some place on, where these classes stand after the node before
-abbrev pub known_from : List Held → List (List ℕ) → List Node → List Known
+abbrev pub known_from : List HeldEntry → List (List ℕ) → List Node → List Known
 known_from held path [] = []
 known_from held path (node ∷ nodes) = own held (take node.depth path) node.step ++ known_from held (path_after path node) nodes
 
@@ -47,9 +47,9 @@ path_end path (node ∷ nodes) = path_end (path_after path node) nodes
 -- ---- the form of a tree
 
 -- the nodes from the first on that is no deeper
-abbrev pub skipped : ℕ → List Node → List Node
-skipped depth [] = []
-skipped depth (node ∷ nodes) = if nat_lt depth node.depth then skipped depth nodes else node ∷ nodes
+abbrev pub nodes_past : ℕ → List Node → List Node
+nodes_past depth [] = []
+nodes_past depth (node ∷ nodes) = if nat_lt depth node.depth then nodes_past depth nodes else node ∷ nodes
 
 -- how many classes stand after a node of some depth
 abbrev pub depth_below : ℕ → Step → ℕ
@@ -65,7 +65,7 @@ IsRooted depth (node ∷ nodes) = (node.depth ≤ depth) × IsRooted (depth_belo
 pub record IsEnd (nodes : List Node) (place depth end : ℕ) : Type 0 where
   pub later : place < end
   pub within : end ≤ length nodes
-  pub after : drop end nodes ≡ skipped depth (drop (place + 1) nodes)
+  pub after : drop end nodes ≡ nodes_past depth (drop (place + 1) nodes)
 
 -- the end of the node at a place
 abbrev pub IsEndOf : List Node → ℕ → ℕ → Type 0
@@ -91,12 +91,12 @@ abbrev pub AreRanges : ℕ → List Node → Type 0
 AreRanges count nodes = (place : ℕ) (node : Node) → slice_get nodes place ≡ Some node → IsRange count node.step
 
 -- what a leaf has is in the order of the priorities
-abbrev pub Rises : List Held → Step → Type 0
+abbrev pub Rises : List HeldEntry → Step → Type 0
 Rises held (Class class) = Unit {0}
 Rises held (Leaf leaf) = Rise (slice_range held leaf.from leaf.until)
 
 -- the nodes are a tree over what is held
-pub record IsTree (held : List Held) (nodes : List Node) (ends : List ℕ) : Type 0 where
+pub record IsTree (held : List HeldEntry) (nodes : List Node) (ends : List ℕ) : Type 0 where
   pub linked : AreLinked nodes ends
   pub rooted : IsRooted 0 nodes
   pub ranges : AreRanges (length held) nodes
@@ -111,7 +111,7 @@ pattern_nodes depth (class ∷ classes) leaf = (record { depth = depth; step = C
 
 -- the nodes of classes stand after others, from a place of the pattern up to a depth
 pub record Reaches (old new : List Node) (classes : List (List ℕ)) (from depth : ℕ) : Type 0 where
-  pub known : (held : List Held) → known_from held [] new ≡ known_from held [] old
+  pub known : (held : List HeldEntry) → known_from held [] new ≡ known_from held [] old
   pub path : take depth (path_end [] new) ≡ take depth classes
   pub long : depth ≤ length (path_end [] new)
   pub rooted : IsRooted 0 old → IsRooted 0 new
@@ -121,7 +121,7 @@ pub record Reaches (old new : List Node) (classes : List (List ℕ)) (from depth
 
 -- the nodes of a pattern and its leaf stand after others
 pub record Pushes (old new : List Node) (classes : List (List ℕ)) (leaf : leaves.Leaf) : Type 0 where
-  pub known : (held : List Held) → known_from held [] new ≡ known_from held [] old ++ own held classes (Leaf leaf)
+  pub known : (held : List HeldEntry) → known_from held [] new ≡ known_from held [] old ++ own held classes (Leaf leaf)
   pub path : path_end [] new ≡ classes
   pub rooted : IsRooted 0 old → IsRooted 0 new
   pub ranges : (count : ℕ) → AreRanges count old → IsRange count (Leaf leaf) → AreRanges count new
@@ -141,7 +141,7 @@ is_alive more (After digits) = true
 
 -- whether the classes of a path take the digits, up to their end where names that go on are asked for
 abbrev pub alive : Bool → List (List ℕ) → List ℕ → Bool
-alive more path digits = is_alive more (walked path digits)
+alive more path digits = is_alive more (walk_after path digits)
 
 -- whether the tail allows what is left after so many of so many digits, for a match or for going on
 abbrev pub allows : Bool → Tail → ℕ → ℕ → Bool
@@ -152,12 +152,12 @@ allows true End number count = nat_lt count number
 allows true Dot number count = true
 allows true Bang number count = false
 
-abbrev pub hold_or_pass : Option Held → Visit
+abbrev pub hold_or_pass : Option HeldEntry → Visit
 hold_or_pass None = Enters
 hold_or_pass (Some held) = Holds (hit_held held)
 
 -- what a walk does at a node
-abbrev pub step_visit : List Held → Bool → Wanted → List ℕ → ℕ → Step → Visit
+abbrev pub step_visit : List HeldEntry → Bool → Wanted → List ℕ → ℕ → Step → Visit
 step_visit held more wanted digits depth (Class class) = if takes more digits class depth then Enters else Fails
 step_visit held more wanted digits depth (Leaf leaf) =
     if allows more leaf.tail depth (length digits)

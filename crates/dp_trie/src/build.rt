@@ -20,7 +20,7 @@ fn is_same(left: &Class, right: &Class) -> bool
 }
 
 /// How many classes two patterns share at their beginnings.
-fn shared(left: &[Class], right: &[Class]) -> usize
+fn count_shared(left: &[Class], right: &[Class]) -> usize
     ensures left { result ≤ length left.now }
     ensures right { result ≤ length right.now }
     ensures same { take result left.now ≡ take result right.now }
@@ -73,7 +73,7 @@ fn push_pattern(
     ensures added { OnOk result (nodes.new.items ≡ nodes.old.items ++
         pattern_nodes (shared_count above.now classes.now) (drop (shared_count above.now classes.now) classes.now) leaf) }
 {
-    let from = shared(above, classes);
+    let from = count_shared(above, classes);
     push_classes(nodes, classes, from)?;
     nodes.push(Node {
         depth: classes.len(),

@@ -1,7 +1,7 @@
 //! The digits of a dialled text: its bytes without the dashes.
 ghost use Rattle.std.specs.Prelude.{◌≡◌, ◌<◌, ◌≤◌, length, nat_lt, slice_get};
 ghost use Rattle.std.specs.Option.{ForSome};
-ghost use Rattle.dp_pattern.specs.Dashes.{undashed};
+ghost use Rattle.dp_pattern.specs.Dashes.{without_dashes};
 ghost use Rattle.dp_trie.specs.steps.Digits.{Stands, IsClear, AreNear};
 
 /// A place in a text, and how many of its digits stand before it.
@@ -19,7 +19,7 @@ const LOOKED: usize = 64;
 
 /// The first digits of a text, and how many of them there are.
 #[derive(Clone, Copy)]
-pub(crate) struct Near {
+pub(crate) struct FirstDigits {
     bytes: [u8; 32],
     count: usize,
 }
@@ -30,7 +30,7 @@ pub(crate) struct Near {
 pub(crate) struct Digits<'a> {
     text: &'a [u8],
     clear: usize,
-    near: Option<Near>,
+    near: Option<FirstDigits>,
     first: Cursor,
     ghost clears: { IsClear text.now clear },
     ghost stands: { Stands text.now first },
@@ -48,21 +48,21 @@ fn count_clear(text: &[u8]) -> usize
 }
 
 /// The first digits of the text.
-fn near_digits(text: &[u8]) -> Near
+fn near_digits(text: &[u8]) -> FirstDigits
     ensures { AreNear text.now result }
 {
     let mut bytes = [0; NEAR];
     let mut count = 0;
     for byte in text {
         if count == NEAR {
-            return Near { bytes, count };
+            return FirstDigits { bytes, count };
         }
         if *byte != b'-' {
             bytes[count] = *byte;
             count += 1;
         }
     }
-    Near { bytes, count }
+    FirstDigits { bytes, count }
 }
 
 /// Goes back until at most so many digits stand before the cursor.
@@ -86,7 +86,7 @@ fn go_on(text: &[u8], from: Cursor, number: usize) -> Cursor
     requires stands { Stands text.now from }
     requires most { from.number ≤ number }
     ensures stands { Stands text.now result }
-    ensures there { slice_get text.now result.place ≡ slice_get (undashed text.now) number }
+    ensures there { slice_get text.now result.place ≡ slice_get (without_dashes text.now) number }
 {
     let mut cursor = from;
     while let Some(byte) = text.get(cursor.place) {
@@ -104,7 +104,7 @@ fn go_on(text: &[u8], from: Cursor, number: usize) -> Cursor
 impl<'a> Digits<'a> {
     /// The digits of the text.
     pub(crate) fn of(text: &'a [u8]) -> Self
-        ensures { undashed result.text.now ≡ undashed text.now }
+        ensures { without_dashes result.text.now ≡ without_dashes text.now }
     {
         let clear = count_clear(text);
         let start = Cursor {
@@ -129,7 +129,7 @@ impl<'a> Digits<'a> {
 
     /// The text, where it is known to have no dash.
     pub(crate) fn plain(&self) -> Option<&'a [u8]>
-        ensures { ForSome result (λ text. text.now ≡ undashed self.now.text.now) }
+        ensures { ForSome result (λ text. text.now ≡ without_dashes self.now.text.now) }
     {
         if self.clear == self.text.len() {
             Some(self.text)
@@ -146,10 +146,10 @@ impl<'a> Digits<'a> {
     }
 
     /// The digit of this number, which is one of the first that stand beside the text.
-    fn near(&self, near: &Near, number: usize) -> Option<u8>
+    fn near(&self, near: &FirstDigits, number: usize) -> Option<u8>
         requires number { number < 32 }
         requires near { AreNear self.now.text.now near.now }
-        ensures { result ≡ slice_get (undashed self.now.text.now) number }
+        ensures { result ≡ slice_get (without_dashes self.now.text.now) number }
     {
         if number < near.count {
             Some(near.bytes[number])
@@ -161,7 +161,7 @@ impl<'a> Digits<'a> {
     /// The digit of this number. The cursor goes there.
     fn walk_to(&self, number: usize, cursor: &mut Cursor) -> Option<u8>
         requires { Stands self.now.text.now cursor.old }
-        ensures value { result ≡ slice_get (undashed self.now.text.now) number }
+        ensures value { result ≡ slice_get (without_dashes self.now.text.now) number }
         ensures stands { Stands self.now.text.now cursor.new }
     {
         *cursor = go_on(self.text, go_back(self.text, *cursor, number), number);
@@ -173,7 +173,7 @@ impl<'a> Digits<'a> {
     /// before.
     pub(crate) fn at(&self, number: usize, cursor: &mut Cursor) -> Option<u8>
         requires { Stands self.now.text.now cursor.old }
-        ensures value { result ≡ slice_get (undashed self.now.text.now) number }
+        ensures value { result ≡ slice_get (without_dashes self.now.text.now) number }
         ensures stands { Stands self.now.text.now cursor.new }
     {
         if number < self.clear {
@@ -191,7 +191,7 @@ impl<'a> Digits<'a> {
     /// Whether there is a digit of this number.
     pub(crate) fn has(&self, number: usize, cursor: &mut Cursor) -> bool
         requires { Stands self.now.text.now cursor.old }
-        ensures value { result ≡ nat_lt number (length (undashed self.now.text.now)) }
+        ensures value { result ≡ nat_lt number (length (without_dashes self.now.text.now)) }
         ensures stands { Stands self.now.text.now cursor.new }
     {
         self.at(number, cursor).is_some()
@@ -200,7 +200,7 @@ impl<'a> Digits<'a> {
     /// Whether there are fewer digits than this number.
     pub(crate) fn are_fewer(&self, number: usize, cursor: &mut Cursor) -> bool
         requires { Stands self.now.text.now cursor.old }
-        ensures value { result ≡ nat_lt (length (undashed self.now.text.now)) number }
+        ensures value { result ≡ nat_lt (length (without_dashes self.now.text.now)) number }
         ensures stands { Stands self.now.text.now cursor.new }
     {
         number > 0 && !self.has(number - 1, cursor)

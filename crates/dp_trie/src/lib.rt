@@ -6,18 +6,22 @@
 #![tactic(auto)]
 
 mod build;
+mod context_table;
 mod digits;
+mod entry_question;
+mod finder;
+mod label_key;
 mod labels;
 mod leap;
 mod link;
 mod matching;
 mod node;
+mod orders;
 mod plain;
-mod question;
 mod ranked;
-mod table;
 mod trie;
 mod walk;
 
-pub use dp_lookup::{Dialplan, EntryId, NoMemory, SearchOrder};
+pub use dp_lookup::{Dialplan, EntryId, NoMemory, SearchOrder, Text};
+pub use finder::Finder;
 pub use trie::Trie;

@@ -1,6 +1,6 @@
 //! Matching of the digits of a dialled text against a name.
 ghost use Rattle.std.specs.Prelude.{◌≡◌, false};
-ghost use Rattle.dp_pattern.specs.Dashes.{undashed};
+ghost use Rattle.dp_pattern.specs.Dashes.{without_dashes};
 ghost use Rattle.dp_trie.specs.steps.Labels.{is_matched};
 ghost use Rattle.dp_trie.specs.Tree.{alive};
 
@@ -11,7 +11,7 @@ use dp_pattern::{Class, Name, Parts};
 
 /// Whether each class takes a digit in turn.
 fn takes_all(classes: &[Class], digits: &Digits<'_>) -> bool
-    ensures { result ≡ alive false classes.now (undashed digits.now.text.now) }
+    ensures { result ≡ alive false classes.now (without_dashes digits.now.text.now) }
 {
     let mut cursor = digits.first();
     for number in 0..classes.len() {
@@ -24,7 +24,7 @@ fn takes_all(classes: &[Class], digits: &Digits<'_>) -> bool
 
 /// Whether the digits match the name.
 pub(crate) fn matches(name: &Name, digits: &Digits<'_>) -> bool
-    ensures { result ≡ is_matched (undashed digits.now.text.now) name.now }
+    ensures { result ≡ is_matched (without_dashes digits.now.text.now) name.now }
 {
     match name.parts() {
         Parts::Plain(text) => matches!(side_of(text, digits), Side::Same),

@@ -5,7 +5,7 @@ use dp_plan::SharedText;
 
 /// What is held of an entry beside its name. A contract sees its label here; a look-up finds it in the table of labels.
 #[derive(Drop)]
-pub(crate) struct Held {
+pub(crate) struct HeldEntry {
     pub(crate) id: EntryId,
     pub(crate) priority: u32,
     pub(crate) label: Option<SharedText>,

@@ -2,14 +2,14 @@
 ghost use Rattle.std.specs.Prelude.{◌≡◌, ℕ, ◌<◌, ◌≤◌, [], ◌∷◌, length, map, take, drop, find, nat_lt, slice_range, ◌==◌, IfOk};
 ghost use Rattle.std.specs.List.{AllByRecursion};
 ghost use Rattle.std.specs.Option.{option_map};
-ghost use Rattle.dp_pattern.specs.Dashes.{undashed};
-ghost use Rattle.dp_trie.specs.Asked.{is_more, wants, is_wanted, asked, hit_of, Rise};
+ghost use Rattle.dp_pattern.specs.Dashes.{without_dashes};
+ghost use Rattle.dp_trie.specs.Asked.{is_more, wants, is_wanted, is_asked, hit_of, Rise};
 ghost use Rattle.dp_trie.specs.Names.{own_plain, known_plain, side_of, rank, rank_of, fitting, ArePlainRanges, RiseEach, NamesRise};
 ghost use Rattle.dp_trie.specs.steps.Ranked.{known_now, hold_of, IsPlain, AreInOrder};
 
 use crate::digits::Digits;
-use crate::node::Held;
-use crate::question::{Question, first_wanted, is_more};
+use crate::entry_question::{EntryQuestion, first_wanted, is_more};
+use crate::node::HeldEntry;
 use crate::ranked::{Ranked, group_end, name_of, plain_of};
 use dp_lookup::{EntryId, NoMemory, Text};
 use std::alloc::Global;
@@ -55,7 +55,7 @@ fn side_of_text(name: &[u8], text: &[u8]) -> Side
 
 /// Where the name stands to the digits, each asked in turn.
 fn side_in_turn(name: &[u8], digits: &Digits<'_>) -> Side
-    ensures { result ≡ side_of name.now (undashed digits.now.text.now) }
+    ensures { result ≡ side_of name.now (without_dashes digits.now.text.now) }
 {
     let mut cursor = digits.first();
     for number in 0..name.len() {
@@ -77,7 +77,7 @@ fn side_in_turn(name: &[u8], digits: &Digits<'_>) -> Side
 
 /// Where the name stands to the digits.
 pub(crate) fn side_of(name: &[u8], digits: &Digits<'_>) -> Side
-    ensures { result ≡ side_of name.now (undashed digits.now.text.now) }
+    ensures { result ≡ side_of name.now (without_dashes digits.now.text.now) }
 {
     match digits.plain() {
         Some(text) => side_of_text(name, text),
@@ -109,7 +109,7 @@ const SAME: u8 = 1;
 
 /// Whether the name stands below a rank. Where that is the rank of the digits, the order of bytes alone says it.
 fn is_below(name: &[u8], digits: &Digits<'_>, limit: u8) -> bool
-    ensures { result ≡ nat_lt (rank (side_of name.now (undashed digits.now.text.now))) limit }
+    ensures { result ≡ nat_lt (rank (side_of name.now (without_dashes digits.now.text.now))) limit }
 {
     match digits.plain() {
         Some(text) if limit == SAME => name.cmp(text).is_lt(),
@@ -121,9 +121,9 @@ fn is_below(name: &[u8], digits: &Digits<'_>, limit: u8) -> bool
 fn count_below(names: &[PlainName], digits: &Digits<'_>, limit: u8) -> usize
     requires { NamesRise names.now }
     ensures within { result ≤ length names.now }
-    ensures below { AllByRecursion (λ plain. rank_of (undashed digits.now.text.now) plain < limit)
+    ensures below { AllByRecursion (λ plain. rank_of (without_dashes digits.now.text.now) plain < limit)
         (take result names.now) }
-    ensures above { AllByRecursion (λ plain. limit ≤ rank_of (undashed digits.now.text.now) plain)
+    ensures above { AllByRecursion (λ plain. limit ≤ rank_of (without_dashes digits.now.text.now) plain)
         (drop result names.now) }
 {
     names.partition_point(|plain| is_below(plain.name.bytes(), digits, limit))
@@ -131,8 +131,8 @@ fn count_below(names: &[PlainName], digits: &Digits<'_>, limit: u8) -> usize
 
 /// Whether the name is one of those that the question asks for. A name that matches is the digits themselves.
 #[inline(always)]
-fn fits(plain: &PlainName, question: Question, digits: &Digits<'_>) -> bool
-    ensures { result ≡ (rank_of (undashed digits.now.text.now) plain.now == rank (fitting (is_more question))) }
+fn fits(plain: &PlainName, question: EntryQuestion, digits: &Digits<'_>) -> bool
+    ensures { result ≡ (rank_of (without_dashes digits.now.text.now) plain.now == rank (fitting (is_more question))) }
 {
     let more = is_more(question);
     match digits.plain() {
@@ -143,7 +143,7 @@ fn fits(plain: &PlainName, question: Question, digits: &Digits<'_>) -> bool
 
 /// The first entry of one plain name that the question asks for beside its name.
 #[inline(always)]
-fn find_own(plain: &PlainName, held: &[Held], question: Question) -> Option<EntryId>
+fn find_own(plain: &PlainName, held: &[HeldEntry], question: EntryQuestion) -> Option<EntryId>
     requires from { plain.now.from ≤ plain.now.until }
     requires until { plain.now.until ≤ length held.now }
     requires rise { Rise (slice_range held.now plain.now.from plain.now.until) }
@@ -156,17 +156,17 @@ fn find_own(plain: &PlainName, held: &[Held], question: Question) -> Option<Entr
 /// does not fit ends the search.
 fn find_in_front(
     names: &[PlainName],
-    held: &[Held],
-    question: Question,
+    held: &[HeldEntry],
+    question: EntryQuestion,
     digits: &Digits<'_>,
 ) -> Option<EntryId>
     requires ranges { ArePlainRanges (length held.now) names.now }
     requires rise { RiseEach held.now names.now }
     requires order { NamesRise names.now }
     requires least { AllByRecursion (λ plain. rank (fitting (is_more question))
-        ≤ rank_of (undashed digits.now.text.now) plain) names.now }
+        ≤ rank_of (without_dashes digits.now.text.now) plain) names.now }
     ensures { result ≡ option_map hit_of
-        (find (asked (is_more question) (wants question) (undashed digits.now.text.now))
+        (find (is_asked (is_more question) (wants question) (without_dashes digits.now.text.now))
         (known_plain held.now names.now)) }
 {
     for plain in names {
@@ -185,15 +185,15 @@ fn find_in_front(
 #[inline(always)]
 fn find_only(
     plain: &PlainName,
-    held: &[Held],
-    question: Question,
+    held: &[HeldEntry],
+    question: EntryQuestion,
     digits: &Digits<'_>,
 ) -> Option<EntryId>
     requires from { plain.now.from ≤ plain.now.until }
     requires until { plain.now.until ≤ length held.now }
     requires rise { Rise (slice_range held.now plain.now.from plain.now.until) }
     ensures { result ≡ option_map hit_of
-        (find (asked (is_more question) (wants question) (undashed digits.now.text.now))
+        (find (is_asked (is_more question) (wants question) (without_dashes digits.now.text.now))
         (own_plain held.now plain.now)) }
 {
     if fits(plain, question, digits) {
@@ -206,14 +206,14 @@ fn find_only(
 /// The first entry of the plain names that the question asks for. The first of several names that fits is found by halves.
 pub(crate) fn find_plain(
     names: &[PlainName],
-    held: &[Held],
-    question: Question,
+    held: &[HeldEntry],
+    question: EntryQuestion,
     digits: &Digits<'_>,
 ) -> Option<EntryId>
     requires ranges { ArePlainRanges (length held.now) names.now }
     requires order { AreInOrder (known_plain held.now names.now) }
     ensures { result ≡ option_map hit_of
-        (find (asked (is_more question) (wants question) (undashed digits.now.text.now))
+        (find (is_asked (is_more question) (wants question) (without_dashes digits.now.text.now))
         (known_plain held.now names.now)) }
 {
     if let [only] = names {

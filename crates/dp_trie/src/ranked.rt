@@ -5,7 +5,7 @@ ghost use Rattle.dp_pattern.specs.Name.{Plain, Pattern};
 ghost use Rattle.dp_trie.specs.Known.{known_at, KeepsEntries};
 ghost use Rattle.dp_trie.specs.steps.Ranked.{known_now, hold_of, IsPattern, IsPlain, IsGroup, ArePlainFirst, AreInOrder};
 
-use crate::node::Held;
+use crate::node::HeldEntry;
 use dp_lookup::{Dialplan, EntryId, NoMemory};
 use dp_pattern::{Class, Name, Parts, Tail};
 use dp_plan::{Entry, SharedName, same_names_are_equal};
@@ -112,11 +112,11 @@ pub(crate) fn group_end(ranked: &[Ranked<'_>], from: usize, name: &SharedName) -
 }
 
 /// What is held of an entry.
-fn hold(one: Ranked<'_>) -> Result<Held, NoMemory>
+fn hold(one: Ranked<'_>) -> Result<HeldEntry, NoMemory>
     ensures { IfOk result (λ held. held ≡ hold_of (known_now one.entry)) }
 {
     let label = one.entry.label.clone()?;
-    Ok(Held {
+    Ok(HeldEntry {
         id: one.id,
         priority: one.entry.priority.get(),
         label,
@@ -124,7 +124,7 @@ fn hold(one: Ranked<'_>) -> Result<Held, NoMemory>
 }
 
 /// What is held of all entries.
-pub(crate) fn hold_all(alloc: Global, ranked: &[Ranked<'_>]) -> Result<Vec<Held>, NoMemory>
+pub(crate) fn hold_all(alloc: Global, ranked: &[Ranked<'_>]) -> Result<Vec<HeldEntry>, NoMemory>
     ensures { IfOk result (λ held. held.items ≡ map hold_of (map known_now ranked.now)) }
 {
     let mut held = Vec::with_capacity(alloc, ranked.len())?;

@@ -2,16 +2,16 @@
 ghost use Rattle.std.specs.Prelude.{◌≡◌, ◌-◌, ◌^◌, ◌≤◌, min, false, is_some, sum_by, find, IfOk, MatchOption};
 ghost use Rattle.std.specs.Option.{option_map};
 ghost use Rattle.dp_lookup.specs.FoundEntry.{found_entry, found_label, goes_on_more};
-ghost use Rattle.dp_pattern.specs.Dashes.{undashed};
+ghost use Rattle.dp_pattern.specs.Dashes.{without_dashes};
 ghost use Rattle.dp_plan.specs.Plan.{PlanOf};
-ghost use Rattle.dp_trie.specs.Asked.{is_more, wants, asked, has_label, hit_of};
-ghost use Rattle.dp_trie.specs.Entered.{entered, entered_first};
+ghost use Rattle.dp_trie.specs.Asked.{is_more, wants, is_asked, has_label, hit_of};
+ghost use Rattle.dp_trie.specs.Entered.{entered_count, entered_first};
 ghost use Rattle.dp_trie.specs.Known.{Keeps, FindsPattern, class_count, kept_at, nodes_at, most_nodes, found_first};
-ghost use Rattle.dp_trie.specs.declared.question.Question.TheVariants.{Priority};
+ghost use Rattle.dp_trie.specs.declared.entry_question.EntryQuestion.TheVariants.{Priority};
 
+use crate::context_table::ContextTable;
 use crate::digits::Digits;
-use crate::question::Question;
-use crate::table::Table;
+use crate::entry_question::EntryQuestion;
 use crate::walk::Counted;
 use dp_lookup::{Dialplan, EntryId, NoMemory, SearchOrder};
 use std::alloc::Global;
@@ -23,7 +23,7 @@ use std::marker::Model;
 /// its name means, its priority, its label and its number, in the order in which a look-up asks them; and how many nodes
 /// its tree has.
 pub struct Trie {
-    tables: Vec<Table>,
+    tables: Vec<ContextTable>,
 }
 
 impl Drop for Trie {
@@ -42,14 +42,19 @@ impl Model for Trie {
 }
 
 /// The first entry of the context of a number that the question asks for; none where there is no such context.
-fn find_at(tables: &[Table], number: usize, question: Question, digits: &Digits<'_>) -> Counted
+fn find_at(
+    tables: &[ContextTable],
+    number: usize,
+    question: EntryQuestion,
+    digits: &Digits<'_>,
+) -> Counted
     ensures hit { result.hit ≡ option_map hit_of
-        (find (asked (is_more question) (wants question) (undashed digits.now.text.now)) (kept_at tables.now number)) }
-    ensures count { result.count ≡ entered (is_more question) (wants question) (undashed digits.now.text.now)
+        (find (is_asked (is_more question) (wants question) (without_dashes digits.now.text.now)) (kept_at tables.now number)) }
+    ensures count { result.count ≡ entered_count (is_more question) (wants question) (without_dashes digits.now.text.now)
         (kept_at tables.now number) }
     ensures most { result.count ≤ nodes_at tables.now number }
     ensures least { MatchOption
-        (find (asked (is_more question) (wants question) (undashed digits.now.text.now)) (kept_at tables.now number))
+        (find (is_asked (is_more question) (wants question) (without_dashes digits.now.text.now)) (kept_at tables.now number))
         (Unit {0}) (λ known. class_count known.name ≤ result.count) }
 {
     match tables.get(number) {
@@ -62,14 +67,19 @@ fn find_at(tables: &[Table], number: usize, question: Question, digits: &Digits<
 }
 
 /// The first entry that the question asks for, in the first of the contexts of these numbers that has such an entry.
-fn find_first(tables: &[Table], order: &[usize], question: Question, digits: &Digits<'_>) -> Counted
+fn find_first(
+    tables: &[ContextTable],
+    order: &[usize],
+    question: EntryQuestion,
+    digits: &Digits<'_>,
+) -> Counted
     ensures hit { result.hit ≡ option_map hit_of
-        (found_first tables.now (asked (is_more question) (wants question) (undashed digits.now.text.now)) order.now) }
+        (found_first tables.now (is_asked (is_more question) (wants question) (without_dashes digits.now.text.now)) order.now) }
     ensures count { result.count ≡ min (entered_first tables.now (is_more question) (wants question)
-        (undashed digits.now.text.now) order.now) (2 ^ 64 - 1) }
+        (without_dashes digits.now.text.now) order.now) (2 ^ 64 - 1) }
     ensures most { result.count ≤ sum_by (nodes_at tables.now) order.now }
     ensures least { MatchOption
-        (found_first tables.now (asked (is_more question) (wants question) (undashed digits.now.text.now)) order.now)
+        (found_first tables.now (is_asked (is_more question) (wants question) (without_dashes digits.now.text.now)) order.now)
         (Unit {0}) (λ known. class_count known.name ≤ result.count) }
 {
     let mut count: usize = 0;
@@ -87,14 +97,19 @@ fn find_first(tables: &[Table], order: &[usize], question: Question, digits: &Di
 }
 
 /// The same by the text.
-fn look_up(tables: &[Table], order: &[usize], question: Question, text: &[u8]) -> Counted
+fn look_up(
+    tables: &[ContextTable],
+    order: &[usize],
+    question: EntryQuestion,
+    text: &[u8],
+) -> Counted
     ensures hit { result.hit ≡ option_map hit_of
-        (found_first tables.now (asked (is_more question) (wants question) (undashed text.now)) order.now) }
+        (found_first tables.now (is_asked (is_more question) (wants question) (without_dashes text.now)) order.now) }
     ensures count { result.count ≡ min (entered_first tables.now (is_more question) (wants question)
-        (undashed text.now) order.now) (2 ^ 64 - 1) }
+        (without_dashes text.now) order.now) (2 ^ 64 - 1) }
     ensures most { result.count ≤ sum_by (nodes_at tables.now) order.now }
     ensures least { MatchOption
-        (found_first tables.now (asked (is_more question) (wants question) (undashed text.now)) order.now)
+        (found_first tables.now (is_asked (is_more question) (wants question) (without_dashes text.now)) order.now)
         (Unit {0}) (λ known. class_count known.name ≤ result.count) }
 {
     find_first(tables, order, question, &Digits::of(text))
@@ -102,9 +117,14 @@ fn look_up(tables: &[Table], order: &[usize], question: Question, text: &[u8]) -
 
 /// The priority of the first entry of the context of a number that matches and has the label; none where there is no such
 /// context.
-fn label_at(tables: &[Table], number: usize, label: &[u8], digits: &Digits<'_>) -> Option<u32>
+fn label_at(
+    tables: &[ContextTable],
+    number: usize,
+    label: &[u8],
+    digits: &Digits<'_>,
+) -> Option<u32>
     ensures { result ≡ option_map (λ known. known.priority)
-        (find (asked false (has_label label.now) (undashed digits.now.text.now)) (kept_at tables.now number)) }
+        (find (is_asked false (has_label label.now) (without_dashes digits.now.text.now)) (kept_at tables.now number)) }
 {
     match tables.get(number) {
         Some(table) => table.find_label(label, digits),
@@ -114,9 +134,14 @@ fn label_at(tables: &[Table], number: usize, label: &[u8], digits: &Digits<'_>) 
 
 /// The priority of the first entry that matches and has the label, in the first of the contexts of these numbers that has
 /// such an entry.
-fn first_label(tables: &[Table], order: &[usize], label: &[u8], digits: &Digits<'_>) -> Option<u32>
+fn first_label(
+    tables: &[ContextTable],
+    order: &[usize],
+    label: &[u8],
+    digits: &Digits<'_>,
+) -> Option<u32>
     ensures { result ≡ option_map (λ known. known.priority)
-        (found_first tables.now (asked false (has_label label.now) (undashed digits.now.text.now)) order.now) }
+        (found_first tables.now (is_asked false (has_label label.now) (without_dashes digits.now.text.now)) order.now) }
 {
     for number in order {
         let found = label_at(tables, *number, label, digits);
@@ -128,9 +153,9 @@ fn first_label(tables: &[Table], order: &[usize], label: &[u8], digits: &Digits<
 }
 
 /// The same by the text.
-fn look_up_label(tables: &[Table], order: &[usize], label: &[u8], text: &[u8]) -> Option<u32>
+fn look_up_label(tables: &[ContextTable], order: &[usize], label: &[u8], text: &[u8]) -> Option<u32>
     ensures { result ≡ option_map (λ known. known.priority)
-        (found_first tables.now (asked false (has_label label.now) (undashed text.now)) order.now) }
+        (found_first tables.now (is_asked false (has_label label.now) (without_dashes text.now)) order.now) }
 {
     first_label(tables, order, label, &Digits::of(text))
 }
@@ -143,7 +168,7 @@ impl Trie {
         let count = plan.contexts().len();
         let mut tables = Vec::with_capacity(alloc, count)?;
         for number in 0..count {
-            let table = Table::build(alloc, plan, number)?;
+            let table = ContextTable::build(alloc, plan, number)?;
             tables.push(table)?;
         }
         Ok(Trie { tables })
@@ -165,12 +190,17 @@ impl Trie {
     fn counted_in(&self, contexts: &[usize], text: &[u8], priority: u32) -> (Option<EntryId>, usize)
         ensures found { (plan : PlanOf) → Keeps plan self.now
             → result.0 ≡ found_entry plan contexts.now text.now priority }
-        ensures count { result.1 ≡ min (entered_first self.now false (wants (Priority priority)) (undashed text.now)
+        ensures count { result.1 ≡ min (entered_first self.now false (wants (Priority priority)) (without_dashes text.now)
             contexts.now) (2 ^ 64 - 1) }
         ensures most { result.1 ≤ sum_by (nodes_at self.now) contexts.now }
         ensures least { (plan : PlanOf) → Keeps plan self.now → FindsPattern plan result.0 result.1 }
     {
-        let found = look_up(&self.tables, contexts, Question::Priority(priority), text);
+        let found = look_up(
+            &self.tables,
+            contexts,
+            EntryQuestion::Priority(priority),
+            text,
+        );
         (found.hit, found.count)
     }
 
@@ -185,7 +215,7 @@ impl Trie {
     ) -> (Option<EntryId>, usize)
         ensures found { (plan : PlanOf) → Keeps plan self.now
             → result.0 ≡ found_entry plan order.now.contexts text.now priority }
-        ensures count { result.1 ≡ min (entered_first self.now false (wants (Priority priority)) (undashed text.now)
+        ensures count { result.1 ≡ min (entered_first self.now false (wants (Priority priority)) (without_dashes text.now)
             order.now.contexts) (2 ^ 64 - 1) }
         ensures most { result.1 ≤ sum_by (nodes_at self.now) order.now.contexts }
         ensures least { (plan : PlanOf) → Keeps plan self.now → FindsPattern plan result.0 result.1 }
@@ -238,7 +268,7 @@ impl Trie {
     pub fn more_in(&self, contexts: &[usize], text: &[u8]) -> bool
         ensures { (plan : PlanOf) → Keeps plan self.now → result ≡ goes_on_more plan contexts.now text.now }
     {
-        let found = look_up(&self.tables, contexts, Question::More, text);
+        let found = look_up(&self.tables, contexts, EntryQuestion::More, text);
         found.hit.is_some()
     }
 }

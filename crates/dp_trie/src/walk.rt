@@ -2,8 +2,8 @@
 ghost use Rattle.std.specs.Prelude.{◌≡◌, ◌≤◌, length, slice_index, MatchOption, [], find, if◌then◌else◌};
 ghost use Rattle.std.specs.Option.{option_map};
 ghost use Rattle.dp_pattern.specs.Walk.{classes_of};
-ghost use Rattle.dp_trie.specs.Asked.{is_more, wants, asked, hit_of};
-ghost use Rattle.dp_pattern.specs.Dashes.{undashed};
+ghost use Rattle.dp_trie.specs.Asked.{is_more, wants, is_asked, hit_of};
+ghost use Rattle.dp_pattern.specs.Dashes.{without_dashes};
 ghost use Rattle.dp_trie.specs.Entered.{tree_entered};
 ghost use Rattle.dp_trie.specs.steps.Digits.{Stands};
 ghost use Rattle.dp_trie.specs.declared.walk.Visit.TheVariants.{Enters, Fails};
@@ -11,9 +11,9 @@ ghost use Rattle.dp_trie.specs.steps.Leaps.{AreLeaps};
 ghost use Rattle.dp_trie.specs.Tree.{takes, allows, step_visit, known_from, IsRange, IsTree, Rises};
 
 use crate::digits::{Cursor, Digits};
+use crate::entry_question::{EntryQuestion, first_wanted, is_more};
 use crate::leap::{Leap, leap_over};
-use crate::node::{Held, Leaf, Node, Step};
-use crate::question::{Question, first_wanted, is_more};
+use crate::node::{HeldEntry, Leaf, Node, Step};
 use dp_lookup::EntryId;
 use dp_pattern::{Class, Tail};
 
@@ -45,7 +45,7 @@ pub(crate) fn takes(
     more: bool,
 ) -> bool
     requires { Stands digits.now.text.now cursor.old }
-    ensures value { result ≡ takes more (undashed digits.now.text.now) class.now number }
+    ensures value { result ≡ takes more (without_dashes digits.now.text.now) class.now number }
     ensures stands { Stands digits.now.text.now cursor.new }
 {
     match digits.at(number, cursor) {
@@ -63,7 +63,7 @@ pub(crate) fn allows(
     more: bool,
 ) -> bool
     requires { Stands digits.now.text.now cursor.old }
-    ensures value { result ≡ allows more tail number (length (undashed digits.now.text.now)) }
+    ensures value { result ≡ allows more tail number (length (without_dashes digits.now.text.now)) }
     ensures stands { Stands digits.now.text.now cursor.new }
 {
     match (more, tail) {
@@ -85,7 +85,7 @@ fn visit_class(
     more: bool,
 ) -> Visit
     requires { Stands digits.now.text.now cursor.old }
-    ensures visit { result ≡ (if takes more (undashed digits.now.text.now) class.now depth then Enters else Fails) }
+    ensures visit { result ≡ (if takes more (without_dashes digits.now.text.now) class.now depth then Enters else Fails) }
     ensures stands { Stands digits.now.text.now cursor.new }
 {
     if takes(class, depth, digits, cursor, more) {
@@ -99,8 +99,8 @@ fn visit_class(
 fn visit_leaf(
     leaf: Leaf,
     depth: usize,
-    held: &[Held],
-    question: Question,
+    held: &[HeldEntry],
+    question: EntryQuestion,
     digits: &Digits<'_>,
     cursor: &mut Cursor,
 ) -> Visit
@@ -109,7 +109,7 @@ fn visit_leaf(
     requires stands { Stands digits.now.text.now cursor.old }
     ensures stands { Stands digits.now.text.now cursor.new }
     ensures visit { result ≡ step_visit held.now (is_more question) (wants question)
-        (undashed digits.now.text.now) depth
+        (without_dashes digits.now.text.now) depth
         (Step.Leaf leaf) }
 {
     if !allows(leaf.tail, depth, digits, cursor, is_more(question)) {
@@ -124,8 +124,8 @@ fn visit_leaf(
 /// What a walk does at a node.
 fn visit_node(
     node: &Node,
-    held: &[Held],
-    question: Question,
+    held: &[HeldEntry],
+    question: EntryQuestion,
     digits: &Digits<'_>,
     cursor: &mut Cursor,
 ) -> Visit
@@ -133,7 +133,7 @@ fn visit_node(
     requires rises { Rises held.now node.now.step }
     requires stands { Stands digits.now.text.now cursor.old }
     ensures stands { Stands digits.now.text.now cursor.new }
-    ensures visit { result ≡ step_visit held.now (is_more question) (wants question) (undashed digits.now.text.now)
+    ensures visit { result ≡ step_visit held.now (is_more question) (wants question) (without_dashes digits.now.text.now)
         node.now.depth node.now.step }
 {
     match &node.step {
@@ -148,20 +148,20 @@ pub(crate) fn find_in_tree(
     nodes: &[Node],
     ends: &[usize],
     leaps: &[Leap],
-    held: &[Held],
-    question: Question,
+    held: &[HeldEntry],
+    question: EntryQuestion,
     digits: &Digits<'_>,
 ) -> Counted
     requires tree { IsTree held.now nodes.now ends.now }
     requires leaps { AreLeaps nodes.now ends.now leaps.now }
     ensures hit { result.hit ≡ option_map hit_of
-        (find (asked (is_more question) (wants question) (undashed digits.now.text.now))
+        (find (is_asked (is_more question) (wants question) (without_dashes digits.now.text.now))
         (known_from held.now [] nodes.now)) }
     ensures count { result.count ≡ tree_entered held.now (is_more question) (wants question)
-        (undashed digits.now.text.now) [] nodes.now }
+        (without_dashes digits.now.text.now) [] nodes.now }
     ensures most { result.count ≤ length nodes.now }
     ensures least { MatchOption
-        (find (asked (is_more question) (wants question) (undashed digits.now.text.now))
+        (find (is_asked (is_more question) (wants question) (without_dashes digits.now.text.now))
         (known_from held.now [] nodes.now))
         (Unit {0}) (λ known. length (classes_of known.name) ≤ result.count) }
 {

@@ -1,8 +1,8 @@
 -- The bindings of a name at depths that fall.
 use Rattle.std.proofs.Common.{◌≡◌, ◌≢◌, ◌<◌, ◌≤◌, ◌⊎◌, inl, inr, ℕ, suc, Bool, true, false, cond, eqb, List, [], ◌∷◌, Some, None, refl, sym, ap, subst, ◌∙◌, true≢false, arith}
 use Rattle.std.proofs.lemmas.Bool.Decides.{eqb_tells}
-use Rattle.dp_vars.specs.Bindings.{Falls, bound, bound_below, depth_of, find, rebound, unbound}
-use Rattle.dp_vars.specs.declared.stack.Binding.{Binding}
+use Rattle.dp_vars.specs.steps.Bindings.{Falls, with_binding, bound_below, depth_of, find, rebound, unbound}
+use Rattle.dp_vars.specs.declared.binding_stack.Binding.{Binding}
 
 -- depths that differ are told apart
 pub other : (m n : ℕ) → m ≢ n → eqb m n ≡ false
@@ -25,8 +25,8 @@ find-unbound d e (b ∷ bs) differ = by (eqb_tells b.depth d)
     by (inr p) = ap (λ c. find e (cond c bs (b ∷ bs))) p.0
 
 -- what is bound at a depth is found there
-pub find-bound : (d e : ℕ) (value : List ℕ) (bs : List Binding) → find e (bound d value bs) ≡ cond (eqb d e) (Some value) (find e bs)
-find-bound d e value bs = by (eqb_tells d e)
+pub find-with_binding : (d e : ℕ) (value : List ℕ) (bs : List Binding) → find e (with_binding d value bs) ≡ cond (eqb d e) (Some value) (find e bs)
+find-with_binding d e value bs = by (eqb_tells d e)
   where
     by : ((eqb d e ≡ true) × (d ≡ e)) ⊎ ((eqb d e ≡ false) × (d ≢ e))
         → cond (eqb d e) (Some value) (find e (unbound d bs)) ≡ cond (eqb d e) (Some value) (find e bs)
@@ -73,12 +73,12 @@ find-bound_below limit d e value (b ∷ bs) falls some = by (eqb_tells b.depth d
         let below : depth_of bs < b.depth = depth_of_below b.depth bs falls.1 (omega (arith, p.1)) in
         let differ : eqb b.depth e ≡ true → eqb (depth_of bs) e ≡ false = apart (depth_of bs) b.depth e below in
         ap (λ c. find e (cond c (b ∷ rebound value bs) (rebound value (b ∷ bs)))) p.0
-        ∙ ap (cond (eqb b.depth e) (Some b.value)) (find-bound (depth_of bs) e value bs)
+        ∙ ap (cond (eqb b.depth e) (Some b.value)) (find-with_binding (depth_of bs) e value bs)
         ∙ swapped (eqb b.depth e) (eqb (depth_of bs) e) (Some b.value) (Some value) (find e bs) differ
         ∙ ap (λ c. cond (eqb (depth_of (cond c bs (b ∷ bs))) e) (Some value) (find e (b ∷ bs))) (sym p.0)
     by (inr p) =
         ap (λ c. find e (cond c (b ∷ rebound value bs) (rebound value (b ∷ bs)))) p.0
-        ∙ find-bound b.depth e value (b ∷ bs)
+        ∙ find-with_binding b.depth e value (b ∷ bs)
         ∙ ap (λ c. cond (eqb (depth_of (cond c bs (b ∷ bs))) e) (Some value) (find e (b ∷ bs))) (sym p.0)
 
 -- depths fall from further in too
@@ -94,8 +94,8 @@ falls-unbound d (b ∷ bs) falls = by (eqb_tells b.depth d)
     by (inl p) = subst (λ c. Falls d (cond c bs (b ∷ bs))) (sym p.0) (falls_under b.depth d bs (omega (arith, p.1)) falls.1)
     by (inr p) = subst (λ c. Falls d (cond c bs (b ∷ bs))) (sym p.0) ((omega (arith, p.1, falls.0)), falls.1)
 
-pub falls-bound : (d : ℕ) (value : List ℕ) (bs : List Binding) → Falls (suc d) bs → Falls (suc d) (bound d value bs)
-falls-bound d value bs falls = ((omega arith), falls-unbound d bs falls)
+pub falls-with_binding : (d : ℕ) (value : List ℕ) (bs : List Binding) → Falls (suc d) bs → Falls (suc d) (with_binding d value bs)
+falls-with_binding d value bs falls = ((omega arith), falls-unbound d bs falls)
 
 pub falls-rebound : (limit : ℕ) (value : List ℕ) (bs : List Binding) → 0 < limit → Falls limit bs → Falls limit (rebound value bs)
 falls-rebound limit value [] some falls = (some, tt)

@@ -4,10 +4,10 @@ use Rattle.std.specs.List.{position_or_len}
 use Rattle.std.specs.Cmp.Lexicographic.{pointwise}
 use Rattle.std.proofs.lemmas.Bool.Decides.{eqb_tells}
 use Rattle.std.proofs.lemmas.List.{length-append}
-use Rattle.dp_vars.specs.Bindings.{Falls, bound, bound_below, rebound, unbound}
-use Rattle.dp_vars.specs.Tables.{AreHeld, Entries, IsAmong, IsBound, IsHeld, names_of, noted, numbers_at, stack_at, stack_of, unbound_at, with_stack}
-use Rattle.dp_vars.specs.declared.frame.Held.{Held}
-use Rattle.dp_vars.specs.declared.stack.Binding.{Binding}
+use Rattle.dp_vars.specs.steps.Bindings.{Falls, with_binding, bound_below, rebound, unbound}
+use Rattle.dp_vars.specs.steps.Tables.{AreHeld, Entries, IsAmong, IsBound, IsHeld, names_of, with_number, numbers_at, stack_at, stack_of, unbound_at, with_stack}
+use Rattle.dp_vars.specs.declared.frame.HeldFrame.{HeldFrame}
+use Rattle.dp_vars.specs.declared.binding_stack.Binding.{Binding}
 use Rattle.dp_vars.proofs.BindingsLemmas.{falls_under, falls-unbound, other}
 
 one_more : (n : ℕ) → 1 + n ≡ suc n
@@ -90,7 +90,7 @@ falls_all d i (n ∷ ns) es falls met =
 
 module _ {B : Type 0} where
   -- numbers that are known stay known
-  pub held_in : (hs gs : List (Held B)) (i : ℕ) (bs : List Binding) (limit : ℕ) → Falls limit bs
+  pub held_in : (hs gs : List (HeldFrame B)) (i : ℕ) (bs : List Binding) (limit : ℕ) → Falls limit bs
       → ((place : ℕ) → suc place < limit → IsAmong i (numbers_at hs place) → IsAmong i (numbers_at gs place)) → AreHeld hs i bs → AreHeld gs i bs
   held_in hs gs i [] limit falls known held = tt
   held_in hs gs i (b ∷ bs) limit falls known held =
@@ -100,7 +100,7 @@ module _ {B : Type 0} where
       one zero below h = tt
       one (suc place) below h = known place below h
 
-  module _ (hs : List (Held B)) (i : ℕ) where
+  module _ (hs : List (HeldFrame B)) (i : ℕ) where
     pub held-unbound : (d : ℕ) (bs : List Binding) → AreHeld hs i bs → AreHeld hs i (unbound d bs)
     held-unbound d [] held = tt
     held-unbound d (b ∷ bs) held = by (eqb b.depth d)
@@ -109,8 +109,8 @@ module _ {B : Type 0} where
         by true = held.1
         by false = held
 
-    pub held-bound : (d : ℕ) (value : List ℕ) (bs : List Binding) → IsHeld hs i d → AreHeld hs i bs → AreHeld hs i (bound d value bs)
-    held-bound d value bs known held = (known, held-unbound d bs held)
+    pub held-with_binding : (d : ℕ) (value : List ℕ) (bs : List Binding) → IsHeld hs i d → AreHeld hs i bs → AreHeld hs i (with_binding d value bs)
+    held-with_binding d value bs known held = (known, held-unbound d bs held)
 
     pub held-rebound : (value : List ℕ) (bs : List Binding) → AreHeld hs i bs → AreHeld hs i (rebound value bs)
     held-rebound value [] held = (tt, tt)
@@ -125,30 +125,30 @@ module _ {B : Type 0} where
         by false = held-rebound value (b ∷ bs) held
 
   -- a store with no names
-  pub none_bound : (hs : List (Held B)) → IsBound [] hs
+  pub none_bound : (hs : List (HeldFrame B)) → IsBound [] hs
   none_bound hs = record { falls = λ number. tt; held = λ number. tt }
 
   -- the depths of a name fall
-  pub falls_of : (es : Entries) (hs : List (Held B)) (name : List ℕ) → IsBound es hs → Falls (suc (length hs)) (stack_of es name)
+  pub falls_of : (es : Entries) (hs : List (HeldFrame B)) (name : List ℕ) → IsBound es hs → Falls (suc (length hs)) (stack_of es name)
   falls_of es hs name is = subst (Falls (suc (length hs))) (stack_at-number es name) (is.falls (position_or_len (pointwise nat_eq name) (names_of es)))
 
   -- and frames know its number
-  pub held_of : (es : Entries) (hs : List (Held B)) (name : List ℕ) → IsBound es hs
+  pub held_of : (es : Entries) (hs : List (HeldFrame B)) (name : List ℕ) → IsBound es hs
       → AreHeld hs (position_or_len (pointwise nat_eq name) (names_of es)) (stack_of es name)
   held_of es hs name is =
       subst (AreHeld hs (position_or_len (pointwise nat_eq name) (names_of es))) (stack_at-number es name) (is.held (position_or_len (pointwise nat_eq name) (names_of es)))
 
   -- other bindings of a name
-  pub with_stack-bound : (es : Entries) (hs : List (Held B)) (name : List ℕ) (bs : List Binding) → IsBound es hs → Falls (suc (length hs)) bs
+  pub with_stack-with_binding : (es : Entries) (hs : List (HeldFrame B)) (name : List ℕ) (bs : List Binding) → IsBound es hs → Falls (suc (length hs)) bs
       → AreHeld hs (position_or_len (pointwise nat_eq name) (names_of es)) bs → IsBound (with_stack es name bs) hs
-  with_stack-bound es hs name bs is falls held = record {
+  with_stack-with_binding es hs name bs is falls held = record {
     falls = with_stack-keeps (λ i. Falls (suc (length hs))) es name bs is.falls falls;
     held = with_stack-keeps (λ i. AreHeld hs i) es name bs is.held held;
   }
 
   -- the first names alone
-  pub take-bound : (n : ℕ) (es : Entries) (hs : List (Held B)) → IsBound es hs → IsBound (take n es) hs
-  take-bound n es hs is = record {
+  pub take-with_binding : (n : ℕ) (es : Entries) (hs : List (HeldFrame B)) → IsBound es hs → IsBound (take n es) hs
+  take-with_binding n es hs is = record {
     falls = λ i. first (λ j. Falls (suc (length hs))) n es i (is.falls i) tt;
     held = λ i. first (λ j. AreHeld hs j) n es i (is.held i) tt;
   }
@@ -160,53 +160,53 @@ module _ {B : Type 0} where
       first P (suc n) (e ∷ es) (suc i) here none = first (λ j. P (suc j)) n es i here none
 
   -- the frames with one more number
-  pub length-noted : (n : ℕ) (hs : List (Held B)) → length (noted n hs) ≡ length hs
-  length-noted n [] = refl
-  length-noted n (h ∷ []) = refl
-  length-noted n (h ∷ g ∷ hs) = ap suc (length-noted n (g ∷ hs))
+  pub length-with_number : (n : ℕ) (hs : List (HeldFrame B)) → length (with_number n hs) ≡ length hs
+  length-with_number n [] = refl
+  length-with_number n (h ∷ []) = refl
+  length-with_number n (h ∷ g ∷ hs) = ap suc (length-with_number n (g ∷ hs))
 
-  known-noted : (n i : ℕ) (hs : List (Held B)) (place : ℕ) → IsAmong i (numbers_at hs place) → IsAmong i (numbers_at (noted n hs) place)
-  known-noted n i [] place known = known
-  known-noted n i (h ∷ []) zero known = among h.numbers known
+  known-with_number : (n i : ℕ) (hs : List (HeldFrame B)) (place : ℕ) → IsAmong i (numbers_at hs place) → IsAmong i (numbers_at (with_number n hs) place)
+  known-with_number n i [] place known = known
+  known-with_number n i (h ∷ []) zero known = among h.numbers known
     where
       among : (ns : List ℕ) → IsAmong i ns → IsAmong i (ns ++ n ∷ [])
       among [] none = absurd none
       among (m ∷ ns) (inl here) = inl here
       among (m ∷ ns) (inr there) = inr (among ns there)
-  known-noted n i (h ∷ []) (suc place) known = known
-  known-noted n i (h ∷ g ∷ hs) zero known = known
-  known-noted n i (h ∷ g ∷ hs) (suc place) known = known-noted n i (g ∷ hs) place known
+  known-with_number n i (h ∷ []) (suc place) known = known
+  known-with_number n i (h ∷ g ∷ hs) zero known = known
+  known-with_number n i (h ∷ g ∷ hs) (suc place) known = known-with_number n i (g ∷ hs) place known
 
   -- it is known in the innermost frame
-  pub noted-known : (n : ℕ) (hs : List (Held B)) → 0 < length hs → IsHeld (noted n hs) n (length hs)
-  noted-known n [] some = tt
-  noted-known n (h ∷ []) some = last h.numbers
+  pub with_number-known : (n : ℕ) (hs : List (HeldFrame B)) → 0 < length hs → IsHeld (with_number n hs) n (length hs)
+  with_number-known n [] some = tt
+  with_number-known n (h ∷ []) some = last h.numbers
     where
       last : (ns : List ℕ) → IsAmong n (ns ++ n ∷ [])
       last [] = inl refl
       last (m ∷ ns) = inr (last ns)
-  noted-known n (h ∷ g ∷ hs) some = noted-known n (g ∷ hs) (omega arith)
+  with_number-known n (h ∷ g ∷ hs) some = with_number-known n (g ∷ hs) (omega arith)
 
-  pub noted-bound : (n : ℕ) (es : Entries) (hs : List (Held B)) → IsBound es hs → IsBound es (noted n hs)
-  noted-bound n es hs is = record {
-    falls = λ i. subst (λ m. Falls (suc m) (stack_at es i)) (sym (length-noted n hs)) (is.falls i);
-    held = λ i. held_in hs (noted n hs) i (stack_at es i) (suc (length hs)) (is.falls i) (λ place below. known-noted n i hs place) (is.held i);
+  pub with_number-with_binding : (n : ℕ) (es : Entries) (hs : List (HeldFrame B)) → IsBound es hs → IsBound es (with_number n hs)
+  with_number-with_binding n es hs is = record {
+    falls = λ i. subst (λ m. Falls (suc m) (stack_at es i)) (sym (length-with_number n hs)) (is.falls i);
+    held = λ i. held_in hs (with_number n hs) i (stack_at es i) (suc (length hs)) (is.falls i) (λ place below. known-with_number n i hs place) (is.held i);
   }
 
   -- one more frame
-  pub pushed-bound : (es : Entries) (hs : List (Held B)) (h : Held B) → IsBound es hs → IsBound es (hs ++ h ∷ [])
-  pushed-bound es hs h is = record {
+  pub pushed-with_binding : (es : Entries) (hs : List (HeldFrame B)) (h : HeldFrame B) → IsBound es hs → IsBound es (hs ++ h ∷ [])
+  pushed-with_binding es hs h is = record {
     falls = λ i. falls_under (suc (length hs)) (suc (length (hs ++ h ∷ []))) (stack_at es i) (omega (arith, length-append hs (h ∷ []))) (is.falls i);
     held = λ i. held_in hs (hs ++ h ∷ []) i (stack_at es i) (suc (length hs)) (is.falls i) (λ place below. known i hs place) (is.held i);
   }
     where
-      known : (i : ℕ) (hs : List (Held B)) (place : ℕ) → IsAmong i (numbers_at hs place) → IsAmong i (numbers_at (hs ++ h ∷ []) place)
+      known : (i : ℕ) (hs : List (HeldFrame B)) (place : ℕ) → IsAmong i (numbers_at hs place) → IsAmong i (numbers_at (hs ++ h ∷ []) place)
       known i [] place is = absurd is
       known i (g ∷ gs) zero is = is
       known i (g ∷ gs) (suc place) is = known i gs place is
 
   -- what is unbound at all numbers
-  held-unbound_all : (hs : List (Held B)) (i d : ℕ) (ns : List ℕ) (es : Entries) → AreHeld hs i (stack_at es i) → AreHeld hs i (stack_at (fold (unbound_at d) es ns) i)
+  held-unbound_all : (hs : List (HeldFrame B)) (i d : ℕ) (ns : List ℕ) (es : Entries) → AreHeld hs i (stack_at es i) → AreHeld hs i (stack_at (fold (unbound_at d) es ns) i)
   held-unbound_all hs i d [] es held = held
   held-unbound_all hs i d (n ∷ ns) es held = held-unbound_all hs i d ns (unbound_at d es n)
       (subst (AreHeld hs i) (sym (stack_at-unbound_at d es n i)) (by (eqb n i)))
@@ -216,9 +216,9 @@ module _ {B : Type 0} where
       by false = held
 
   -- without the innermost frame, when what is bound there is unbound at its numbers
-  pub popped-bound : (es : Entries) (outer : List (Held B)) (h : Held B) → IsBound es (outer ++ h ∷ [])
+  pub popped-with_binding : (es : Entries) (outer : List (HeldFrame B)) (h : HeldFrame B) → IsBound es (outer ++ h ∷ [])
       → IsBound (fold (unbound_at (suc (length outer))) es h.numbers) outer
-  popped-bound es outer h is = record {
+  popped-with_binding es outer h is = record {
     falls = λ i. falls_all (suc (length outer)) i h.numbers es
         (falls_under (suc (length (outer ++ h ∷ []))) (suc (suc (length outer))) (stack_at es i) (omega (arith, length-append outer (h ∷ []))) (is.falls i))
         (met i (stack_at es i) (is.falls i) (is.held i));
@@ -230,12 +230,12 @@ module _ {B : Type 0} where
         (held-unbound_all (outer ++ h ∷ []) i (suc (length outer)) h.numbers es (is.held i));
   }
     where
-      known : (i : ℕ) (hs : List (Held B)) (place : ℕ) → place < length hs → IsAmong i (numbers_at (hs ++ h ∷ []) place) → IsAmong i (numbers_at hs place)
+      known : (i : ℕ) (hs : List (HeldFrame B)) (place : ℕ) → place < length hs → IsAmong i (numbers_at (hs ++ h ∷ []) place) → IsAmong i (numbers_at hs place)
       known i [] place within is = absurd (omega arith)
       known i (g ∷ gs) zero within is = is
       known i (g ∷ gs) (suc place) within is = known i gs place (omega arith) is
 
-      last : (hs : List (Held B)) → numbers_at (hs ++ h ∷ []) (length hs) ≡ h.numbers
+      last : (hs : List (HeldFrame B)) → numbers_at (hs ++ h ∷ []) (length hs) ≡ h.numbers
       last [] = refl
       last (g ∷ gs) = last gs
 
@@ -250,10 +250,10 @@ module _ {B : Type 0} where
           by (inr p) = inr ((omega (arith, p.1, falls.0, length-append outer (h ∷ []))), falls.1)
 
   -- a number that is written after those of the last frame is noted
-  pub noted-set : (n m : ℕ) (hs : List (Held B)) (h : Held B) → suc m ≡ length hs → h ≡ get_or hs m h
-      → set_item hs m (record { back = h.back; numbers = h.numbers ++ n ∷ [] }) ≡ noted n hs
-  noted-set n m [] h many is = absurd (omega arith)
-  noted-set n zero (x ∷ []) h many is = ap (λ (k : Held B). record { back = k.back; numbers = k.numbers ++ n ∷ [] } ∷ []) is
-  noted-set n (suc m) (x ∷ []) h many is = absurd (omega arith)
-  noted-set n zero (x ∷ y ∷ hs) h many is = absurd (omega arith)
-  noted-set n (suc m) (x ∷ y ∷ hs) h many is = ap (λ more. x ∷ more) (noted-set n m (y ∷ hs) h (omega arith) is)
+  pub with_number-set : (n m : ℕ) (hs : List (HeldFrame B)) (h : HeldFrame B) → suc m ≡ length hs → h ≡ get_or hs m h
+      → set_item hs m (record { back = h.back; numbers = h.numbers ++ n ∷ [] }) ≡ with_number n hs
+  with_number-set n m [] h many is = absurd (omega arith)
+  with_number-set n zero (x ∷ []) h many is = ap (λ (k : HeldFrame B). record { back = k.back; numbers = k.numbers ++ n ∷ [] } ∷ []) is
+  with_number-set n (suc m) (x ∷ []) h many is = absurd (omega arith)
+  with_number-set n zero (x ∷ y ∷ hs) h many is = absurd (omega arith)
+  with_number-set n (suc m) (x ∷ y ∷ hs) h many is = ap (λ more. x ∷ more) (with_number-set n m (y ∷ hs) h (omega arith) is)

@@ -12,12 +12,13 @@ use Rattle.dp_vars.specs.Sights.{Sight}
 use Rattle.dp_conf.specs.Levels.{cut_outside}
 use Rattle.dp_conf.specs.declared.groups.GroupKind.TheVariants.{Braces, Brackets}
 use Rattle.dp_expr.specs.Expression.{expression_value}
-use Rattle.dp_vars.specs.Values.{group_value, body_by, expanded, expansion}
-use Rattle.dp_vars.specs.Expanding.{Written, kinds_of, StandIn, AreWritten, with_value, closed, after}
-use Rattle.dp_vars.specs.declared.expanding.Waiting.{Waiting}
+use Rattle.dp_vars.specs.Values.{group_value, body_by, expansion_of, expansion}
+use Rattle.dp_vars.specs.Expanding.{Written, with_value, after_group, after}
+use Rattle.dp_vars.specs.steps.Expanding.{kinds_of, StandIn, AreWritten}
+use Rattle.dp_vars.specs.declared.expanding.WaitingOpening.{WaitingOpening}
 
 -- the openings stand in any larger size too
-pub StandIn-more : (waiting : List Waiting) (size more : ℕ) → size ≤ more → StandIn waiting size → StandIn waiting more
+pub StandIn-more : (waiting : List WaitingOpening) (size more : ℕ) → size ≤ more → StandIn waiting size → StandIn waiting more
 StandIn-more [] size more larger stand = tt
 StandIn-more (w ∷ waiting) size more larger stand = (omega (arith, stand.0), stand.1)
 
@@ -39,17 +40,17 @@ module _ (sight : Sight) where
       put ∙ (λ i. kept i ++ (is ∙ ap expression_value from) i)
 
   -- the expansion of the whole, by what is written, the openings that wait in it, and the levels after
-  abbrev pub come : List Waiting → List ℕ → Levels → List ℕ
-  come waiting bytes (Last rest) = bytes ++ expanded sight rest
-  come [] bytes (Within rest outer) = come [] (bytes ++ expanded sight rest) outer
-  come (w ∷ waiting) bytes (Within rest outer) = come waiting (with_value sight w (bytes ++ expanded sight rest)) outer
+  abbrev pub come : List WaitingOpening → List ℕ → Levels → List ℕ
+  come waiting bytes (Last rest) = bytes ++ expansion_of sight rest
+  come [] bytes (Within rest outer) = come [] (bytes ++ expansion_of sight rest) outer
+  come (w ∷ waiting) bytes (Within rest outer) = come waiting (with_value sight w (bytes ++ expansion_of sight rest)) outer
 
-  come-with_byte : (waiting : List Waiting) (bytes : List ℕ) (byte : ℕ) (l : Levels) → come waiting (bytes ++ byte ∷ []) l ≡ come waiting bytes (with_byte byte l)
-  unfolding expanded
-  come-with_byte waiting bytes byte (Last rest) = append_assoc bytes (byte ∷ []) (expanded sight rest)
-  come-with_byte [] bytes byte (Within rest outer) = ap (λ bs. come [] bs outer) (append_assoc bytes (byte ∷ []) (expanded sight rest))
+  come-with_byte : (waiting : List WaitingOpening) (bytes : List ℕ) (byte : ℕ) (l : Levels) → come waiting (bytes ++ byte ∷ []) l ≡ come waiting bytes (with_byte byte l)
+  unfolding expansion_of
+  come-with_byte waiting bytes byte (Last rest) = append_assoc bytes (byte ∷ []) (expansion_of sight rest)
+  come-with_byte [] bytes byte (Within rest outer) = ap (λ bs. come [] bs outer) (append_assoc bytes (byte ∷ []) (expansion_of sight rest))
   come-with_byte (w ∷ waiting) bytes byte (Within rest outer) =
-      ap (λ bs. come waiting (with_value sight w bs) outer) (append_assoc bytes (byte ∷ []) (expanded sight rest))
+      ap (λ bs. come waiting (with_value sight w bs) outer) (append_assoc bytes (byte ∷ []) (expansion_of sight rest))
 
   -- a group whose opening is written last
   pub value_at_end : (bytes body : List ℕ) (kind : GroupKind)
@@ -58,24 +59,24 @@ module _ (sight : Sight) where
       ap (with_value sight (record { kind = kind; start = length bytes })) (append_assoc bytes (36 ∷ opener kind ∷ []) body)
       ∙ (λ i. take-append_seam bytes (36 ∷ opener kind ∷ body) i ++ group_value sight kind (drop-append-add bytes (36 ∷ opener kind ∷ body) 2 i))
 
-  come-with_opening : (waiting : List Waiting) (bytes : List ℕ) (kind : GroupKind) (l : Levels)
+  come-with_opening : (waiting : List WaitingOpening) (bytes : List ℕ) (kind : GroupKind) (l : Levels)
       → come (record { kind = kind; start = length bytes } ∷ waiting) (bytes ++ 36 ∷ opener kind ∷ []) l ≡ come waiting bytes (with_opening kind l)
-  unfolding expanded
-  come-with_opening waiting bytes kind (Last rest) = append_assoc bytes (36 ∷ opener kind ∷ []) (expanded sight rest)
+  unfolding expansion_of
+  come-with_opening waiting bytes kind (Last rest) = append_assoc bytes (36 ∷ opener kind ∷ []) (expansion_of sight rest)
   come-with_opening waiting bytes kind (Within inside (Last rest)) =
-      ap (λ bs. bs ++ expanded sight rest) (value_at_end bytes (expanded sight inside) kind)
-      ∙ append_assoc bytes (group_value sight kind (expanded sight inside)) (expanded sight rest)
+      ap (λ bs. bs ++ expansion_of sight rest) (value_at_end bytes (expansion_of sight inside) kind)
+      ∙ append_assoc bytes (group_value sight kind (expansion_of sight inside)) (expansion_of sight rest)
   come-with_opening [] bytes kind (Within inside (Within rest outer)) =
-      ap (λ bs. come [] (bs ++ expanded sight rest) outer) (value_at_end bytes (expanded sight inside) kind)
-      ∙ ap (λ bs. come [] bs outer) (append_assoc bytes (group_value sight kind (expanded sight inside)) (expanded sight rest))
+      ap (λ bs. come [] (bs ++ expansion_of sight rest) outer) (value_at_end bytes (expansion_of sight inside) kind)
+      ∙ ap (λ bs. come [] bs outer) (append_assoc bytes (group_value sight kind (expansion_of sight inside)) (expansion_of sight rest))
   come-with_opening (w ∷ waiting) bytes kind (Within inside (Within rest outer)) =
-      ap (λ bs. come waiting (with_value sight w (bs ++ expanded sight rest)) outer) (value_at_end bytes (expanded sight inside) kind)
-      ∙ ap (λ bs. come waiting (with_value sight w bs) outer) (append_assoc bytes (group_value sight kind (expanded sight inside)) (expanded sight rest))
+      ap (λ bs. come waiting (with_value sight w (bs ++ expansion_of sight rest)) outer) (value_at_end bytes (expansion_of sight inside) kind)
+      ∙ ap (λ bs. come waiting (with_value sight w bs) outer) (append_assoc bytes (group_value sight kind (expansion_of sight inside)) (expansion_of sight rest))
 
-  come-end : (waiting : List Waiting) (bytes : List ℕ) (beyond : List GroupKind → ℕ → Levels)
-      → come (closed sight waiting bytes).waiting (closed sight waiting bytes).bytes (beyond (kinds_of (closed sight waiting bytes).waiting) 0)
+  come-end : (waiting : List WaitingOpening) (bytes : List ℕ) (beyond : List GroupKind → ℕ → Levels)
+      → come (after_group sight waiting bytes).waiting (after_group sight waiting bytes).bytes (beyond (kinds_of (after_group sight waiting bytes).waiting) 0)
       ≡ come waiting bytes (Within Over (beyond (outer_of (kinds_of waiting)) 0))
-  unfolding expanded
+  unfolding expansion_of
   come-end [] bytes beyond = ap (λ bs. come [] bs (beyond [] 0)) (sym (append-nil bytes))
   come-end (w ∷ waiting) bytes beyond = ap (λ bs. come waiting (with_value sight w bs) (beyond (kinds_of waiting) 0)) (sym (append-nil bytes))
 
@@ -88,8 +89,8 @@ module _ (sight : Sight) where
   come-mark (Byte byte) written beyond = come-with_byte written.waiting written.bytes byte (beyond (kinds_of written.waiting) 0)
 
   -- nothing is left
-  pub come-over : (waiting : List Waiting) (bytes : List ℕ) → come waiting bytes (levels [] (kinds_of waiting) 0) ≡ bytes
-  unfolding levels expanded
+  pub come-over : (waiting : List WaitingOpening) (bytes : List ℕ) → come waiting bytes (levels [] (kinds_of waiting) 0) ≡ bytes
+  unfolding levels expansion_of
   come-over waiting bytes = append-nil bytes
 
   -- nothing is read yet
@@ -100,7 +101,7 @@ module _ (sight : Sight) where
   pub AreWritten-after : (m : Mark) (written : Written) → AreWritten written → AreWritten (after sight m written)
   AreWritten-after End written stand = by written.waiting stand
     where
-      by : (ws : List Waiting) → StandIn ws (length written.bytes) → AreWritten (closed sight ws written.bytes)
+      by : (ws : List WaitingOpening) → StandIn ws (length written.bytes) → AreWritten (after_group sight ws written.bytes)
       by [] stand = tt
       by (w ∷ ws) stand =
           StandIn-more ws w.start (length (with_value sight w written.bytes))

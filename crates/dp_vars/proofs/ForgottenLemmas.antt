@@ -4,10 +4,10 @@ use Rattle.std.specs.List.{position_or_len}
 use Rattle.std.specs.Cmp.Lexicographic.{pointwise}
 use Rattle.std.specs.FinMap.{get}
 use Rattle.std.proofs.lemmas.List.{take-map}
-use Rattle.dp_vars.specs.Bindings.{find}
+use Rattle.dp_vars.specs.steps.Bindings.{find}
 use Rattle.dp_vars.specs.Stores.{StoreOf, slot}
-use Rattle.dp_vars.specs.Tables.{Entries, HasNamed, local_at, map_at, names_of, stack_of, store_of}
-use Rattle.dp_vars.specs.declared.frame.Held.{Held}
+use Rattle.dp_vars.specs.steps.Tables.{Entries, HasNamed, local_at, map_at, names_of, stack_of, store_of}
+use Rattle.dp_vars.specs.declared.frame.HeldFrame.{HeldFrame}
 use Rattle.dp_vars.proofs.NamesLemmas.{position_some}
 use Rattle.dp_vars.proofs.StoresLemmas.{frames-same, local_at-frames, local_at-none}
 use Rattle.dp_vars.proofs.TablesLemmas.{get-map_at, same_named, stack_of-unknown}
@@ -37,14 +37,14 @@ known_or_not names name = by (slot names name) refl
 
 module _ {B : Type 0} where
   -- the names of a store are those of its maps
-  pub has_named : (es : Entries) (hs : List (Held B)) → HasNamed (store_of es hs)
+  pub has_named : (es : Entries) (hs : List (HeldFrame B)) → HasNamed (store_of es hs)
   has_named es hs = record {
     variables = λ name none. get-map_at 0 es name ∙ ap (find 0) (stack_of-unknown es name none);
     locals = λ place name none. local_at-none 1 place es hs name (λ e. get-map_at e es name ∙ ap (find e) (stack_of-unknown es name none));
   }
 
   -- names that no map has are forgotten
-  pub forgotten : (es : Entries) (n : ℕ) (hs : List (Held B)) (before : StoreOf B) → HasNamed before → store_of es hs ≡ record before { names = names_of es }
+  pub forgotten : (es : Entries) (n : ℕ) (hs : List (HeldFrame B)) (before : StoreOf B) → HasNamed before → store_of es hs ≡ record before { names = names_of es }
       → take n (names_of es) ≡ before.names → store_of (take n es) hs ≡ before
   forgotten es n hs before named is names = λ i. record {
     variables = (maps 0 (omega arith) ∙ ap (λ store. store.variables) is) i;

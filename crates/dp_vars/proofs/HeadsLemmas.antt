@@ -13,9 +13,10 @@ use Rattle.dp_vars.specs.Far.{asked_at_most}
 use Rattle.dp_vars.specs.Heads.{head_seen, part_seen}
 use Rattle.dp_vars.specs.Parts.{asked_of, part}
 use Rattle.dp_vars.specs.Sights.{Sight}
-use Rattle.dp_vars.specs.Spans.{spanned, front_of, after_of}
-use Rattle.dp_vars.specs.Values.{called, head_by, head_value, body_by, group_value, function_of, function_value}
-use Rattle.dp_vars.specs.declared.head.Cut.{Cut}
+use Rattle.dp_vars.specs.Spans.{text_at}
+use Rattle.dp_vars.specs.steps.Spans.{front_of, after_of}
+use Rattle.dp_vars.specs.Values.{call_argument, head_by, head_value, body_by, group_value, function_of, function_value}
+use Rattle.dp_vars.specs.declared.head.CutPart.{CutPart}
 use Rattle.dp_vars.specs.declared.head.Head.{Head}
 use Rattle.dp_vars.specs.declared.head.Head.TheVariants.{Call}
 use Rattle.dp_vars.specs.declared.value.Function.{Function}
@@ -32,13 +33,13 @@ take-take_min (suc m) (suc n) (x ∷ xs) =
     let more : suc (min m n) ≡ min (suc m) (suc n) = omega arith in
     ap (λ bytes. x ∷ bytes) (take-take_min m n xs) ∙ ap (λ k. take k (x ∷ xs)) more
 
-pub spanned-front : (text : List ℕ) (span : Span) (size : ℕ) → spanned text (front_of span size) ≡ take size (spanned text span)
-spanned-front text span size =
+pub text_at-front : (text : List ℕ) (span : Span) (size : ℕ) → text_at text (front_of span size) ≡ take size (text_at text span)
+text_at-front text span size =
     let sizes : min span.to (span.from + size) - span.from ≡ min size (span.to - span.from) = omega arith in
     ap (λ n. take n (drop span.from text)) sizes ∙ sym (take-take_min size (span.to - span.from) (drop span.from text))
 
-spanned-within : (text : List ℕ) (span : Span) (size : ℕ) → span.from + size ≤ span.to → spanned text (after_of span size) ≡ drop size (spanned text span)
-spanned-within text span size within =
+text_at-within : (text : List ℕ) (span : Span) (size : ℕ) → span.from + size ≤ span.to → text_at text (after_of span size) ≡ drop size (text_at text span)
+text_at-within text span size within =
     let place : min span.to (span.from + size) ≡ span.from + size = omega arith in
     let sizes : span.to - span.from ≡ size + (span.to - (span.from + size)) = omega arith in
     ap (λ k. take (span.to - k) (drop k text)) place
@@ -46,15 +47,15 @@ spanned-within text span size within =
     ∙ sym (drop-take size (span.to - (span.from + size)) (drop span.from text))
     ∙ ap (λ n. drop size (take n (drop span.from text))) (sym sizes)
 
-spanned-past : (text : List ℕ) (span : Span) (size : ℕ) → span.to < span.from + size → spanned text (after_of span size) ≡ drop size (spanned text span)
-spanned-past text span size past =
+text_at-past : (text : List ℕ) (span : Span) (size : ℕ) → span.to < span.from + size → text_at text (after_of span size) ≡ drop size (text_at text span)
+text_at-past text span size past =
     let none : span.to - min span.to (span.from + size) ≡ 0 = omega arith in
     ap (λ n. take n (drop (min span.to (span.from + size)) text)) none
-    ∙ sym (drop_all size (spanned text span) (omega (arith, length-take (span.to - span.from) (drop span.from text))))
+    ∙ sym (drop_all size (text_at text span) (omega (arith, length-take (span.to - span.from) (drop span.from text))))
 
-pub spanned-after : (text : List ℕ) (span : Span) (size : ℕ) → spanned text (after_of span size) ≡ drop size (spanned text span)
-spanned-after text span size =
-    ⊎_elim (λ t. spanned-within text span size t.1) (λ t. spanned-past text span size t.1) (leb_tells (span.from + size) span.to)
+pub text_at-after : (text : List ℕ) (span : Span) (size : ℕ) → text_at text (after_of span size) ≡ drop size (text_at text span)
+text_at-after text span size =
+    ⊎_elim (λ t. text_at-within text span size t.1) (λ t. text_at-past text span size t.1) (leb_tells (span.from + size) span.to)
 
 -- ---- what a text is cut into stands at its front and at its end
 
@@ -127,64 +128,64 @@ before_last-front byte (b ∷ bs) front is = by (before_last byte bs) (before_la
 module _ (sight : Sight) (text : List ℕ) where
   -- a function, by its name and by what stands after the `(`
   pub call-seen : (function : Function) (name argument : List ℕ) (after : Span) → Some function ≡ function_of name
-      → Some argument ≡ before_last 41 (spanned text after)
-      → head_seen sight text (Call function (front_of after (length argument))) ≡ called sight name (before_last 41 (spanned text after))
+      → Some argument ≡ before_last 41 (text_at text after)
+      → head_seen sight text (Call function (front_of after (length argument))) ≡ call_argument sight name (before_last 41 (text_at text after))
   call-seen function name argument after function_is argument_is =
       ap (function_value sight (Some function))
-      (spanned-front text after (length argument) ∙ before_last-front 41 (spanned text after) argument (sym argument_is))
+      (text_at-front text after (length argument) ∙ before_last-front 41 (text_at text after) argument (sym argument_is))
       ∙ ap (λ f. function_value sight f argument) function_is
-      ∙ ap (called sight name) argument_is
+      ∙ ap (call_argument sight name) argument_is
 
-  pub name-seen : (place : Span) → cut_once 40 (spanned text place) ≡ None → sight.variable (spanned text place) ≡ head_value sight (spanned text place)
+  pub name-seen : (place : Span) → cut_once 40 (text_at text place) ≡ None → sight.variable (text_at text place) ≡ head_value sight (text_at text place)
   unfolding head_value
-  name-seen place none = ap (head_by sight (spanned text place)) (sym none)
+  name-seen place none = ap (head_by sight (text_at text place)) (sym none)
 
-  pub head-seen : (place : Span) (name after : List ℕ) (head : Head) → cut_once 40 (spanned text place) ≡ Some (name, after)
-      → head_seen sight text head ≡ called sight name (before_last 41 (spanned text (after_of place (length (spanned text place) - length after))))
-      → head_seen sight text head ≡ head_value sight (spanned text place)
+  pub head-seen : (place : Span) (name after : List ℕ) (head : Head) → cut_once 40 (text_at text place) ≡ Some (name, after)
+      → head_seen sight text head ≡ call_argument sight name (before_last 41 (text_at text (after_of place (length (text_at text place) - length after))))
+      → head_seen sight text head ≡ head_value sight (text_at text place)
   unfolding head_value
   head-seen place name after head cut is =
-      is ∙ ap (λ bytes. called sight name (before_last 41 bytes))
-      (spanned-after text place (length (spanned text place) - length after) ∙ (cut_once-parts 40 (spanned text place) name after cut).back)
-      ∙ ap (head_by sight (spanned text place)) (sym cut)
+      is ∙ ap (λ bytes. call_argument sight name (before_last 41 bytes))
+      (text_at-after text place (length (text_at text place) - length after) ∙ (cut_once-parts 40 (text_at text place) name after cut).back)
+      ∙ ap (head_by sight (text_at text place)) (sym cut)
 
 -- ---- parts
 
 -- 64 bits hold the length of a value
-pub part_seen-small : (text : List ℕ) (cut : Cut) (value : List ℕ) → length value < 2 ^ 64 → part_seen text cut value ≡ part cut.asked value
+pub part_seen-small : (text : List ℕ) (cut : CutPart) (value : List ℕ) → length value < 2 ^ 64 → part_seen text cut value ≡ part cut.asked value
 part_seen-small text cut value small = by (nat_lt (length value) (2 ^ 64)) refl
   where
     by : (t : Bool) → nat_lt (length value) (2 ^ 64) ≡ t
-        → cond t (part cut.asked value) (part (asked_of (Some (spanned text cut.tail))) value) ≡ part cut.asked value
+        → cond t (part cut.asked value) (part (asked_of (Some (text_at text cut.tail))) value) ≡ part cut.asked value
     by true is = refl
     by false is = absurd (omega (arith, ltb-false (length value) (2 ^ 64) is))
 
-part_seen-asked : (text : List ℕ) (cut : Cut) (tail value : List ℕ) → spanned text cut.tail ≡ tail → cut.asked ≡ asked_at_most (asked_of (Some tail))
+part_seen-asked : (text : List ℕ) (cut : CutPart) (tail value : List ℕ) → text_at text cut.tail ≡ tail → cut.asked ≡ asked_at_most (asked_of (Some tail))
     → part_seen text cut value ≡ part (asked_of (Some tail)) value
 part_seen-asked text cut tail value tail_is asked_is = by (nat_lt (length value) (2 ^ 64)) refl
   where
     by : (t : Bool) → nat_lt (length value) (2 ^ 64) ≡ t
-        → cond t (part cut.asked value) (part (asked_of (Some (spanned text cut.tail))) value) ≡ part (asked_of (Some tail)) value
+        → cond t (part cut.asked value) (part (asked_of (Some (text_at text cut.tail))) value) ≡ part (asked_of (Some tail)) value
     by true is = ap (λ asked. part asked value) asked_is ∙ part-at_most (asked_of (Some tail)) value (ltb-true (length value) (2 ^ 64) is)
     by false is = ap (λ bytes. part (asked_of (Some bytes)) value) tail_is
 
 module _ (sight : Sight) (text : List ℕ) where
   -- a body that asks for no part
-  pub full-seen : (place : Span) (head : Head) → cut_outside 58 (spanned text place) ≡ None
-      → head_seen sight text head ≡ head_value sight (spanned text place) → head_seen sight text head ≡ group_value sight Braces (spanned text place)
+  pub full-seen : (place : Span) (head : Head) → cut_outside 58 (text_at text place) ≡ None
+      → head_seen sight text head ≡ head_value sight (text_at text place) → head_seen sight text head ≡ group_value sight Braces (text_at text place)
   unfolding group_value
-  full-seen place head none is = is ∙ ap (body_by sight (spanned text place)) (sym none)
+  full-seen place head none is = is ∙ ap (body_by sight (text_at text place)) (sym none)
 
   -- a body that asks for a part
-  pub part-seen : (place : Span) (head tail : List ℕ) (cut : Cut) → cut_outside 58 (spanned text place) ≡ Some (head, tail)
-      → head_seen sight text cut.head ≡ head_value sight (spanned text (front_of place (length head)))
-      → cut.tail ≡ after_of place (length (spanned text place) - length tail)
+  pub part-seen : (place : Span) (head tail : List ℕ) (cut : CutPart) → cut_outside 58 (text_at text place) ≡ Some (head, tail)
+      → head_seen sight text cut.head ≡ head_value sight (text_at text (front_of place (length head)))
+      → cut.tail ≡ after_of place (length (text_at text place) - length tail)
       → cut.asked ≡ asked_at_most (asked_of (Some tail))
-      → part_seen text cut (head_seen sight text cut.head) ≡ group_value sight Braces (spanned text place)
+      → part_seen text cut (head_seen sight text cut.head) ≡ group_value sight Braces (text_at text place)
   unfolding group_value
   part-seen place head tail cut cut_is head_is tail_is asked_is =
-      let parts = cut_outside-parts 58 (spanned text place) head tail cut_is in
+      let parts = cut_outside-parts 58 (text_at text place) head tail cut_is in
       part_seen-asked text cut tail (head_seen sight text cut.head)
-      (ap (spanned text) tail_is ∙ spanned-after text place (length (spanned text place) - length tail) ∙ parts.back) asked_is
-      ∙ ap (part (asked_of (Some tail))) (head_is ∙ ap (head_value sight) (spanned-front text place (length head) ∙ parts.front))
-      ∙ ap (body_by sight (spanned text place)) (sym cut_is)
+      (ap (text_at text) tail_is ∙ text_at-after text place (length (text_at text place) - length tail) ∙ parts.back) asked_is
+      ∙ ap (part (asked_of (Some tail))) (head_is ∙ ap (head_value sight) (text_at-front text place (length head) ∙ parts.front))
+      ∙ ap (body_by sight (text_at text place)) (sym cut_is)

@@ -6,7 +6,7 @@ use Rattle.dp_conf.specs.Groups.{Reading, Over, Plain, opening}
 use Rattle.dp_conf.specs.GroupsRead.{Last, mark_of, with_byte, with_mark, levels, first_level, reading_of}
 use Rattle.dp_vars.specs.Openings.{has_opening}
 use Rattle.dp_vars.specs.Sights.{Sight}
-use Rattle.dp_vars.specs.Values.{expanded, expansion}
+use Rattle.dp_vars.specs.Values.{expansion_of, expansion}
 
 -- plain bytes alone
 plain : List ℕ → Reading
@@ -26,12 +26,12 @@ unfolding plain levels has_opening
 levels-plain [] none = refl
 levels-plain (b ∷ bs) none = levels-byte b bs (opening b bs) none (levels-plain bs)
 
-expanded-plain : (sight : Sight) (text : List ℕ) → expanded sight (plain text) ≡ text
-unfolding plain expanded
-expanded-plain sight [] = refl
-expanded-plain sight (b ∷ bs) = ap (λ rest. b ∷ rest) (expanded-plain sight bs)
+expansion_of-plain : (sight : Sight) (text : List ℕ) → expansion_of sight (plain text) ≡ text
+unfolding plain expansion_of
+expansion_of-plain sight [] = refl
+expansion_of-plain sight (b ∷ bs) = ap (λ rest. b ∷ rest) (expansion_of-plain sight bs)
 
 -- such a text is its own expansion
 pub expansion-same : (sight : Sight) (text : List ℕ) → has_opening text ≡ false → expansion sight text ≡ text
 unfolding reading_of
-expansion-same sight text none = ap (λ levels. expanded sight (first_level levels)) (levels-plain text none) ∙ expanded-plain sight text
+expansion-same sight text none = ap (λ levels. expansion_of sight (first_level levels)) (levels-plain text none) ∙ expansion_of-plain sight text

@@ -7,48 +7,48 @@ use Rattle.std.specs.FinMap.{empty, get-empty}
 use Rattle.std.specs.Ordering.{nat_cmp}
 use Rattle.std.specs.Cmp.Lexicographic.{slice_cmp}
 use Rattle.std.proofs.lemmas.List.{length-append}
-use Rattle.dp_vars.specs.Bindings.{Falls, bound, bound_below, depth_of, find, rebound, unbound}
+use Rattle.dp_vars.specs.steps.Bindings.{Falls, with_binding, bound_below, depth_of, find, rebound, unbound}
 use Rattle.dp_vars.specs.Stores.{innermost, popped_setting, set, set_local, with_frame, without_frame}
-use Rattle.dp_vars.specs.Tables.{Entries, IsBound, IsHeld, frames_from, map_at, names_of, noted, put_value, stack_of, store_of, unbound_at, with_stack}
-use Rattle.dp_vars.specs.declared.frame.Held.{Held}
-use Rattle.dp_vars.proofs.BindingsLemmas.{falls-bound, falls-bound_below, falls-rebound, falls-unbound, falls_under, find-bound, find-bound_below, find-none, find-unbound}
-use Rattle.dp_vars.proofs.BoundLemmas.{falls_of, held-bound, held-bound_below, held-rebound, held_of, length-noted, noted-bound, noted-known, with_stack-bound}
+use Rattle.dp_vars.specs.steps.Tables.{Entries, IsBound, IsHeld, frames_from, map_at, names_of, with_number, put_value, stack_of, store_of, unbound_at, with_stack}
+use Rattle.dp_vars.specs.declared.frame.HeldFrame.{HeldFrame}
+use Rattle.dp_vars.proofs.BindingsLemmas.{falls-with_binding, falls-bound_below, falls-rebound, falls-unbound, falls_under, find-with_binding, find-bound_below, find-none, find-unbound}
+use Rattle.dp_vars.proofs.BoundLemmas.{falls_of, held-with_binding, held-bound_below, held-rebound, held_of, length-with_number, with_number-with_binding, with_number-known, with_stack-with_binding}
 use Rattle.dp_vars.proofs.StoresLemmas.{frames-append, frames-same, set-is, set_local-is}
 use Rattle.dp_vars.proofs.TablesLemmas.{get-map_at, map_at-with_stack, names-with_stack, same_named}
 
-module _ {B : Type 0} (es : Entries) (hs : List (Held B)) (name value : List ℕ) (is : IsBound es hs) where
+module _ {B : Type 0} (es : Entries) (hs : List (HeldFrame B)) (name value : List ℕ) (is : IsBound es hs) where
   -- the value of the innermost binding is changed
   pub set_view : store_of (with_stack es name (rebound value (stack_of es name))) hs ≡ set (store_of es hs) name value
   set_view = set-is es (with_stack es name (rebound value (stack_of es name))) hs name value (stack_of es name) (falls_of es hs name is) (λ e below. refl)
       (map_at-with_stack es name (rebound value (stack_of es name)) (depth_of (stack_of es name)) (Some value)
-      (λ e. find-bound (depth_of (stack_of es name)) e value (stack_of es name)))
+      (λ e. find-with_binding (depth_of (stack_of es name)) e value (stack_of es name)))
       (names-with_stack es name (rebound value (stack_of es name)))
 
   pub set_bound : IsBound (with_stack es name (rebound value (stack_of es name))) hs
-  set_bound = with_stack-bound es hs name (rebound value (stack_of es name)) is
+  set_bound = with_stack-with_binding es hs name (rebound value (stack_of es name)) is
       (falls-rebound (suc (length hs)) value (stack_of es name) (omega arith) (falls_of es hs name is))
       (held-rebound hs (position_or_len (pointwise nat_eq name) (names_of es)) value (stack_of es name) (held_of es hs name is))
 
   -- a value is bound in the innermost frame
   pub local_view : (n : ℕ) → 0 < length hs
-      → store_of (with_stack es name (bound (length hs) value (stack_of es name))) (noted n hs) ≡ set_local (store_of es hs) name value
-  local_view n some = set_local-is n es (with_stack es name (bound (length hs) value (stack_of es name))) hs name value some
-      (map_at-with_stack es name (bound (length hs) value (stack_of es name)) (length hs) (Some value)
-      (λ e. find-bound (length hs) e value (stack_of es name)))
-      (names-with_stack es name (bound (length hs) value (stack_of es name)))
+      → store_of (with_stack es name (with_binding (length hs) value (stack_of es name))) (with_number n hs) ≡ set_local (store_of es hs) name value
+  local_view n some = set_local-is n es (with_stack es name (with_binding (length hs) value (stack_of es name))) hs name value some
+      (map_at-with_stack es name (with_binding (length hs) value (stack_of es name)) (length hs) (Some value)
+      (λ e. find-with_binding (length hs) e value (stack_of es name)))
+      (names-with_stack es name (with_binding (length hs) value (stack_of es name)))
 
   pub local_bound : (n : ℕ) → n ≡ position_or_len (pointwise nat_eq name) (names_of es) → 0 < length hs
-      → IsBound (with_stack es name (bound (length hs) value (stack_of es name))) (noted n hs)
-  local_bound n at some = with_stack-bound es (noted n hs) name (bound (length hs) value (stack_of es name)) (noted-bound n es hs is)
-      (subst (λ m. Falls (suc m) (bound (length hs) value (stack_of es name))) (sym (length-noted n hs))
-      (falls-bound (length hs) value (stack_of es name) (falls_of es hs name is)))
-      (held-bound (noted n hs) (position_or_len (pointwise nat_eq name) (names_of es)) (length hs) value (stack_of es name)
-      (subst (λ m. IsHeld (noted n hs) m (length hs)) at (noted-known n hs some))
-      (held_of es (noted n hs) name (noted-bound n es hs is)))
+      → IsBound (with_stack es name (with_binding (length hs) value (stack_of es name))) (with_number n hs)
+  local_bound n at some = with_stack-with_binding es (with_number n hs) name (with_binding (length hs) value (stack_of es name)) (with_number-with_binding n es hs is)
+      (subst (λ m. Falls (suc m) (with_binding (length hs) value (stack_of es name))) (sym (length-with_number n hs))
+      (falls-with_binding (length hs) value (stack_of es name) (falls_of es hs name is)))
+      (held-with_binding (with_number n hs) (position_or_len (pointwise nat_eq name) (names_of es)) (length hs) value (stack_of es name)
+      (subst (λ m. IsHeld (with_number n hs) m (length hs)) at (with_number-known n hs some))
+      (held_of es (with_number n hs) name (with_number-with_binding n es hs is)))
 
   -- a value is bound below the innermost frame
   pub below_bound : 0 < length hs → IsBound (with_stack es name (bound_below (length hs) value (stack_of es name))) hs
-  below_bound some = with_stack-bound es hs name (bound_below (length hs) value (stack_of es name)) is
+  below_bound some = with_stack-with_binding es hs name (bound_below (length hs) value (stack_of es name)) is
       (falls-bound_below (suc (length hs)) (length hs) value (stack_of es name) (omega arith) some (falls_of es hs name is))
       (held-bound_below hs (position_or_len (pointwise nat_eq name) (names_of es)) (length hs) value (stack_of es name) (held_of es hs name is))
 
@@ -83,12 +83,12 @@ names-unbound_all d [] es = refl
 names-unbound_all d (n ∷ ns) es = names-unbound_all d ns (unbound_at d es n) ∙ names-unbound_at d es n
 
 module _ {B : Type 0} where
-  frames-pushed : (es : Entries) (outer : List (Held B)) (h : Held B)
+  frames-pushed : (es : Entries) (outer : List (HeldFrame B)) (h : HeldFrame B)
       → frames_from 1 es (outer ++ h ∷ []) ≡ frames_from 1 es outer ++ record { back = h.back; locals = map_at (suc (length outer)) es } ∷ []
   frames-pushed es outer h = frames-append 1 es outer (h ∷ []) ∙ ap (λ e. frames_from 1 es outer ++ frames_from e es (h ∷ [])) (omega arith)
 
   -- the frames without the innermost
-  frames-front : (es : Entries) (outer : List (Held B)) (h : Held B)
+  frames-front : (es : Entries) (outer : List (HeldFrame B)) (h : HeldFrame B)
       → take (length (frames_from 1 es (outer ++ h ∷ [])) - 1) (frames_from 1 es (outer ++ h ∷ [])) ≡ frames_from 1 es outer
   frames-front es outer h =
       ap (λ fs. take (length fs - 1) fs) (frames-pushed es outer h)
@@ -97,19 +97,19 @@ module _ {B : Type 0} where
       ∙ take-push (frames_from 1 es outer) _
 
   -- the innermost frame
-  pub innermost-pushed : (es : Entries) (outer : List (Held B)) (h : Held B)
+  pub innermost-pushed : (es : Entries) (outer : List (HeldFrame B)) (h : HeldFrame B)
       → innermost (frames_from 1 es (outer ++ h ∷ [])) ≡ Some (record { back = h.back; locals = map_at (suc (length outer)) es })
   innermost-pushed es outer h =
       ap innermost (frames-pushed es outer h)
       ∙ ap (slice_get (frames_from 1 es outer ++ record { back = h.back; locals = map_at (suc (length outer)) es } ∷ [])) (length-push (frames_from 1 es outer) _)
       ∙ slice_get-push (frames_from 1 es outer) _
 
-  pub innermost-empty : (es : Entries) (hs : List (Held B)) → length hs ≡ 0 → innermost (frames_from 1 es hs) ≡ None
+  pub innermost-empty : (es : Entries) (hs : List (HeldFrame B)) → length hs ≡ 0 → innermost (frames_from 1 es hs) ≡ None
   innermost-empty es [] none = refl
   innermost-empty es (h ∷ hs) none = absurd (omega arith)
 
   -- a frame is dropped
-  pub popped_view : (es : Entries) (outer : List (Held B)) (h : Held B)
+  pub popped_view : (es : Entries) (outer : List (HeldFrame B)) (h : HeldFrame B)
       → store_of (fold (unbound_at (suc (length outer))) es h.numbers) outer ≡ without_frame (store_of es (outer ++ h ∷ []))
   popped_view es outer h = λ i. record {
     variables = map_at-unbound_all (suc (length outer)) 0 h.numbers es (omega arith) i;
@@ -119,12 +119,12 @@ module _ {B : Type 0} where
     names = names-unbound_all (suc (length outer)) h.numbers es i;
   }
 
-  pub popped_empty : (es : Entries) (hs : List (Held B)) → length hs ≡ 0 → store_of es hs ≡ without_frame (store_of es hs)
+  pub popped_empty : (es : Entries) (hs : List (HeldFrame B)) → length hs ≡ 0 → store_of es hs ≡ without_frame (store_of es hs)
   popped_empty es [] none = refl
   popped_empty es (h ∷ hs) none = absurd (omega arith)
 
   -- a name is set below the innermost frame, which is dropped then
-  pub below_view : (es : Entries) (outer : List (Held B)) (h : Held B) (name value : List ℕ) → IsBound es (outer ++ h ∷ [])
+  pub below_view : (es : Entries) (outer : List (HeldFrame B)) (h : HeldFrame B) (name value : List ℕ) → IsBound es (outer ++ h ∷ [])
       → without_frame (store_of (with_stack es name (bound_below (suc (length outer)) value (stack_of es name))) (outer ++ h ∷ []))
       ≡ set (without_frame (store_of es (outer ++ h ∷ []))) name value
   below_view es outer h name value is =
@@ -146,7 +146,7 @@ module _ {B : Type 0} where
           (omega (arith, length-append outer (h ∷ []))) (falls_of es (outer ++ h ∷ []) name is)
 
   -- a frame without locals is pushed
-  pub pushed_view : (es : Entries) (hs : List (Held B)) (h : Held B) → IsBound es hs → store_of es (hs ++ h ∷ []) ≡ with_frame (store_of es hs) h.back []
+  pub pushed_view : (es : Entries) (hs : List (HeldFrame B)) (h : HeldFrame B) → IsBound es hs → store_of es (hs ++ h ∷ []) ≡ with_frame (store_of es hs) h.back []
   pushed_view es hs h is = λ i. record {
     variables = map_at 0 es;
     frames = (frames-pushed es hs h
@@ -160,16 +160,16 @@ module _ {B : Type 0} where
           ∙ sym (get-empty (slice_cmp nat_cmp) q))
 
   -- some frames are some and a last one
-  cut_last : (hs : List (Held B)) → 0 < length hs → (outer : List (Held B)) × ((h : Held B) × (hs ≡ outer ++ h ∷ []))
+  cut_last : (hs : List (HeldFrame B)) → 0 < length hs → (outer : List (HeldFrame B)) × ((h : HeldFrame B) × (hs ≡ outer ++ h ∷ []))
   cut_last [] some = absurd (omega arith)
   cut_last (h ∷ []) some = ([], (h, refl))
   cut_last (h ∷ g ∷ hs) some = by (cut_last (g ∷ hs) (omega arith))
     where
-      by : (outer : List (Held B)) × ((l : Held B) × (g ∷ hs ≡ outer ++ l ∷ [])) → (outer : List (Held B)) × ((l : Held B) × (h ∷ g ∷ hs ≡ outer ++ l ∷ []))
+      by : (outer : List (HeldFrame B)) × ((l : HeldFrame B) × (g ∷ hs ≡ outer ++ l ∷ [])) → (outer : List (HeldFrame B)) × ((l : HeldFrame B) × (h ∷ g ∷ hs ≡ outer ++ l ∷ []))
       by (outer, (l, cut)) = (h ∷ outer, (l, ap (λ more. h ∷ more) cut))
 
   -- what `pop_frame_setting` comes to
-  pub setting_view : (es : Entries) (hs : List (Held B)) (name value : List ℕ) → IsBound es hs → 0 < length hs
+  pub setting_view : (es : Entries) (hs : List (HeldFrame B)) (name value : List ℕ) → IsBound es hs → 0 < length hs
       → popped_setting (store_of es hs) name value (innermost (frames_from 1 es hs))
       ≡ (
         without_frame (store_of (with_stack es name (bound_below (length hs) value (stack_of es name))) hs),
@@ -177,7 +177,7 @@ module _ {B : Type 0} where
       )
   setting_view es hs name value is some = by (cut_last hs some)
     where
-      P : List (Held B) → Type 0
+      P : List (HeldFrame B) → Type 0
       P gs = popped_setting (store_of es gs) name value (innermost (frames_from 1 es gs))
           ≡ (
             without_frame (store_of (with_stack es name (bound_below (length gs) value (stack_of es name))) gs),
@@ -187,10 +187,10 @@ module _ {B : Type 0} where
       below : ℕ → Entries
       below d = with_stack es name (bound_below d value (stack_of es name))
 
-      one_more : (outer : List (Held B)) (h : Held B) → suc (length outer) ≡ length (outer ++ h ∷ [])
+      one_more : (outer : List (HeldFrame B)) (h : HeldFrame B) → suc (length outer) ≡ length (outer ++ h ∷ [])
       one_more outer h = omega (arith, length-append outer (h ∷ []))
 
-      at : (outer : List (Held B)) (h : Held B) → IsBound es (outer ++ h ∷ []) → P (outer ++ h ∷ [])
+      at : (outer : List (HeldFrame B)) (h : HeldFrame B) → IsBound es (outer ++ h ∷ []) → P (outer ++ h ∷ [])
       at outer h is =
           ap (popped_setting (store_of es (outer ++ h ∷ [])) name value) (innermost-pushed es outer h)
           ∙ ap (λ store. (store, Some h.back)) (sym (below_view es outer h name value is))
@@ -199,5 +199,5 @@ module _ {B : Type 0} where
           ∙ ap (λ d. (without_frame (store_of (below d) (outer ++ h ∷ [])), option_map (λ frame. frame.back) (innermost (frames_from 1 (below d) (outer ++ h ∷ [])))))
           (one_more outer h)
 
-      by : (outer : List (Held B)) × ((h : Held B) × (hs ≡ outer ++ h ∷ [])) → P hs
+      by : (outer : List (HeldFrame B)) × ((h : HeldFrame B) × (hs ≡ outer ++ h ∷ [])) → P hs
       by (outer, (h, cut)) = subst P (sym cut) (at outer h (subst (IsBound es) cut is))

@@ -4,12 +4,12 @@ use Rattle.std.proofs.lemmas.Bool.Decides.{eqb_tells}
 use Rattle.std.proofs.lemmas.List.{map-append, reverse-append}
 use Rattle.std.specs.Option.{option_map, option_or}
 use Rattle.std.specs.FinMap.{get, insert}
-use Rattle.dp_vars.specs.Bindings.{Falls, depth_of, find, innermost_value, is_at}
+use Rattle.dp_vars.specs.steps.Bindings.{Falls, depth_of, find, innermost_value, is_at}
 use Rattle.dp_vars.specs.Stores.{Frame, all_locals, changed_at, holder, local_in, set, set_in, set_local, value_in, with_local, with_local_name, with_name}
-use Rattle.dp_vars.specs.Tables.{Entries, frames_from, local_at, map_at, names_of, noted, stack_of, store_of}
+use Rattle.dp_vars.specs.steps.Tables.{Entries, frames_from, local_at, map_at, names_of, with_number, stack_of, store_of}
 use Rattle.dp_vars.specs.Variables.{Named, first_value}
-use Rattle.dp_vars.specs.declared.frame.Held.{Held}
-use Rattle.dp_vars.specs.declared.stack.Binding.{Binding}
+use Rattle.dp_vars.specs.declared.frame.HeldFrame.{HeldFrame}
+use Rattle.dp_vars.specs.declared.binding_stack.Binding.{Binding}
 use Rattle.dp_vars.proofs.BindingsLemmas.{depth_of_below, find-none, falls_under, other}
 use Rattle.dp_vars.proofs.TablesLemmas.{get-map_at}
 
@@ -35,12 +35,12 @@ place_of (suc place) = Some place
 
 module _ {B : Type 0} where
   -- as many frames
-  pub length-frames_from : (d : ℕ) (es : Entries) (hs : List (Held B)) → length (frames_from d es hs) ≡ length hs
+  pub length-frames_from : (d : ℕ) (es : Entries) (hs : List (HeldFrame B)) → length (frames_from d es hs) ≡ length hs
   length-frames_from d es [] = refl
   length-frames_from d es (h ∷ hs) = ap suc (length-frames_from (suc d) es hs)
 
   -- the same maps make the same frames
-  pub frames-same : (d : ℕ) (es fs : Entries) (hs : List (Held B))
+  pub frames-same : (d : ℕ) (es fs : Entries) (hs : List (HeldFrame B))
       → ((e : ℕ) → d ≤ e → e < d + length hs → map_at e fs ≡ map_at e es) → frames_from d fs hs ≡ frames_from d es hs
   frames-same d es fs [] same = refl
   frames-same d es fs (h ∷ hs) same = λ i.
@@ -48,7 +48,7 @@ module _ {B : Type 0} where
       ∷ frames-same (suc d) es fs hs (λ e from below. same e (omega arith) (omega arith)) i
 
   -- a map that is put at the depth of a frame is put there
-  pub frames-set : (d place depth : ℕ) (es fs : Entries) (hs : List (Held B)) (name value : List ℕ)
+  pub frames-set : (d place depth : ℕ) (es fs : Entries) (hs : List (HeldFrame B)) (name value : List ℕ)
       → ((e : ℕ) → map_at e fs ≡ cond (eqb depth e) (insert (map_at e es) name value) (map_at e es))
       → depth ≡ d + place → place < length hs
       → frames_from d fs hs ≡ changed_at (with_local name value) place (frames_from d es hs)
@@ -62,7 +62,7 @@ module _ {B : Type 0} where
       ∷ frames-set (suc d) place depth es fs hs name value put (omega arith) (omega arith) i
 
   -- the locals of the frame at a place
-  pub local_at-frames : (d place : ℕ) (es : Entries) (hs : List (Held B)) (name : List ℕ) → place < length hs
+  pub local_at-frames : (d place : ℕ) (es : Entries) (hs : List (HeldFrame B)) (name : List ℕ) → place < length hs
       → local_at (frames_from d es hs) place name ≡ get (map_at (d + place) es) name
   local_at-frames d place es [] name within = absurd (omega arith)
   local_at-frames d zero es (h ∷ hs) name within = ap (λ e. get (map_at e es) name) (omega arith)
@@ -70,14 +70,14 @@ module _ {B : Type 0} where
       local_at-frames (suc d) place es hs name (omega arith) ∙ ap (λ e. get (map_at e es) name) (omega arith)
 
   -- a name that no map has is no local
-  pub local_at-none : (d place : ℕ) (es : Entries) (hs : List (Held B)) (name : List ℕ) → ((e : ℕ) → get (map_at e es) name ≡ None)
+  pub local_at-none : (d place : ℕ) (es : Entries) (hs : List (HeldFrame B)) (name : List ℕ) → ((e : ℕ) → get (map_at e es) name ≡ None)
       → local_at (frames_from d es hs) place name ≡ None
   local_at-none d place es [] name none = refl
   local_at-none d zero es (h ∷ hs) name none = none d
   local_at-none d (suc place) es (h ∷ hs) name none = local_at-none (suc d) place es hs name none
 
   -- the frames of one list and another
-  pub frames-append : (d : ℕ) (es : Entries) (hs gs : List (Held B)) → frames_from d es (hs ++ gs) ≡ frames_from d es hs ++ frames_from (d + length hs) es gs
+  pub frames-append : (d : ℕ) (es : Entries) (hs gs : List (HeldFrame B)) → frames_from d es (hs ++ gs) ≡ frames_from d es hs ++ frames_from (d + length hs) es gs
   frames-append d es [] gs = ap (λ e. frames_from e es gs) (omega arith)
   frames-append d es (h ∷ hs) gs =
       ap (λ fs. record { back = h.back; locals = map_at d es } ∷ fs) (frames-append (suc d) es hs gs ∙ ap (λ e. frames_from (suc d) es hs ++ frames_from e es gs) (omega arith))
@@ -89,7 +89,7 @@ module _ {B : Type 0} where
 
   module _ (es : Entries) (name : List ℕ) (bs : List Binding) where
     -- no frame further in than the bindings has the name
-    pub holder-none : (d : ℕ) (hs : List (Held B)) → Falls d bs
+    pub holder-none : (d : ℕ) (hs : List (HeldFrame B)) → Falls d bs
         → ((e : ℕ) → e < d + length hs → find e bs ≡ find e (stack_of es name)) → holder name (frames_from d es hs) ≡ None
     holder-none d [] falls finds = refl
     holder-none d (h ∷ hs) falls finds =
@@ -98,7 +98,7 @@ module _ {B : Type 0} where
         ∙ ap (λ (o : Option (List ℕ)). cond (is_some o) (Some 0) None)
         (get-map_at d es name ∙ sym (finds d (omega arith)) ∙ find-none d d bs falls (omega arith))
 
-    first-none : (d : ℕ) (hs : List (Held B)) → Falls d bs
+    first-none : (d : ℕ) (hs : List (HeldFrame B)) → Falls d bs
         → ((e : ℕ) → e < d + length hs → find e bs ≡ find e (stack_of es name)) → first_value (all_locals (frames_from d es hs)) name ≡ None
     first-none d [] falls finds = refl
     first-none d (h ∷ hs) falls finds =
@@ -109,7 +109,7 @@ module _ {B : Type 0} where
 
   module _ (es : Entries) (name : List ℕ) (b : Binding) (bs : List Binding) where
     -- the frame of the innermost binding holds the name
-    pub holder-found : (d place : ℕ) (hs : List (Held B)) → Falls (d + length hs) (b ∷ bs)
+    pub holder-found : (d place : ℕ) (hs : List (HeldFrame B)) → Falls (d + length hs) (b ∷ bs)
         → ((e : ℕ) → e < d + length hs → find e (b ∷ bs) ≡ find e (stack_of es name)) → b.depth ≡ d + place
         → holder name (frames_from d es hs) ≡ Some place
     holder-found d place [] falls finds is = absurd (omega (arith, falls.0))
@@ -123,7 +123,7 @@ module _ {B : Type 0} where
         (holder-found (suc d) place hs ((omega (arith, falls.0)), falls.1) (λ e below. finds e (omega arith)) (omega arith))
 
     -- its value is found first
-    first-found : (d place : ℕ) (hs : List (Held B)) → Falls (d + length hs) (b ∷ bs)
+    first-found : (d place : ℕ) (hs : List (HeldFrame B)) → Falls (d + length hs) (b ∷ bs)
         → ((e : ℕ) → e < d + length hs → find e (b ∷ bs) ≡ find e (stack_of es name)) → b.depth ≡ d + place
         → first_value (all_locals (frames_from d es hs)) name ≡ Some b.value
     first-found d place [] falls finds is = absurd (omega (arith, falls.0))
@@ -139,7 +139,7 @@ module _ {B : Type 0} where
         (first-found (suc d) place hs ((omega (arith, falls.0)), falls.1) (λ e below. finds e (omega arith)) (omega arith))
 
   -- the innermost binding says where a name is held
-  pub holder-is : (es : Entries) (name : List ℕ) (hs : List (Held B)) (bs : List Binding) → Falls (suc (length hs)) bs
+  pub holder-is : (es : Entries) (name : List ℕ) (hs : List (HeldFrame B)) (bs : List Binding) → Falls (suc (length hs)) bs
       → ((e : ℕ) → e < suc (length hs) → find e bs ≡ find e (stack_of es name)) → holder name (frames_from 1 es hs) ≡ place_of (depth_of bs)
   holder-is es name hs [] falls finds = holder-none es name [] 1 hs tt (λ e below. finds e (omega arith))
   holder-is es name hs (b ∷ bs) falls finds = by b.depth refl
@@ -149,7 +149,7 @@ module _ {B : Type 0} where
       by (suc place) is = holder-found es name b bs 1 place hs ((omega (arith, falls.0)), falls.1) (λ e below. finds e (omega arith)) (omega arith)
 
   -- and has the value that is found
-  pub value_in-is : (es : Entries) (name : List ℕ) (hs : List (Held B)) → Falls (suc (length hs)) (stack_of es name)
+  pub value_in-is : (es : Entries) (name : List ℕ) (hs : List (HeldFrame B)) → Falls (suc (length hs)) (stack_of es name)
       → innermost_value (stack_of es name) ≡ value_in (store_of es hs) name
   value_in-is es name hs falls =
       by (stack_of es name) falls (λ e. refl)
@@ -173,7 +173,7 @@ module _ {B : Type 0} where
       by (b ∷ bs) falls finds = deeper b bs b.depth refl falls finds
 
   -- a value that is bound at the depth of the innermost binding is set
-  pub set-is : (es fs : Entries) (hs : List (Held B)) (name value : List ℕ) (bs : List Binding) → Falls (suc (length hs)) bs
+  pub set-is : (es fs : Entries) (hs : List (HeldFrame B)) (name value : List ℕ) (bs : List Binding) → Falls (suc (length hs)) bs
       → ((e : ℕ) → e < suc (length hs) → find e bs ≡ find e (stack_of es name))
       → ((e : ℕ) → map_at e fs ≡ cond (eqb (depth_of bs) e) (insert (map_at e es) name value) (map_at e es))
       → names_of fs ≡ with_name (names_of es) name → store_of fs hs ≡ set (store_of es hs) name value
@@ -201,7 +201,7 @@ module _ {B : Type 0} where
       }
 
   -- the local of the innermost frame
-  pub local_in-is : (es : Entries) (name : List ℕ) (hs : List (Held B)) (bs : List Binding) → Falls (suc (length hs)) bs → 0 < length hs
+  pub local_in-is : (es : Entries) (name : List ℕ) (hs : List (HeldFrame B)) (bs : List Binding) → Falls (suc (length hs)) bs → 0 < length hs
       → find (length hs) bs ≡ find (length hs) (stack_of es name)
       → (if is_at (length hs) bs then innermost_value bs else None) ≡ local_in (store_of es hs) name
   local_in-is es name hs bs falls some finds =
@@ -220,34 +220,34 @@ module _ {B : Type 0} where
           one (inr p) = ap (cond (eqb b.depth (length hs)) (Some b.value)) (sym (find-none b.depth (length hs) bs falls.1 (omega (arith, p.1, falls.0))))
 
   -- with no frame there is none
-  pub local_in-none : (es : Entries) (name : List ℕ) (hs : List (Held B)) → length hs ≡ 0 → None ≡ local_in (store_of es hs) name
+  pub local_in-none : (es : Entries) (name : List ℕ) (hs : List (HeldFrame B)) → length hs ≡ 0 → None ≡ local_in (store_of es hs) name
   local_in-none es name [] none = refl
   local_in-none es name (h ∷ hs) none = absurd (omega arith)
 
   -- numbers that are noted leave the frames
-  pub frames-noted : (d n : ℕ) (es : Entries) (hs : List (Held B)) → frames_from d es (noted n hs) ≡ frames_from d es hs
-  frames-noted d n es [] = refl
-  frames-noted d n es (h ∷ []) = refl
-  frames-noted d n es (h ∷ g ∷ hs) = ap (λ fs. record { back = h.back; locals = map_at d es } ∷ fs) (frames-noted (suc d) n es (g ∷ hs))
+  pub frames-with_number : (d n : ℕ) (es : Entries) (hs : List (HeldFrame B)) → frames_from d es (with_number n hs) ≡ frames_from d es hs
+  frames-with_number d n es [] = refl
+  frames-with_number d n es (h ∷ []) = refl
+  frames-with_number d n es (h ∷ g ∷ hs) = ap (λ fs. record { back = h.back; locals = map_at d es } ∷ fs) (frames-with_number (suc d) n es (g ∷ hs))
 
   -- a value that is bound in the innermost frame is a local that is set
-  pub set_local-is : (n : ℕ) (es fs : Entries) (hs : List (Held B)) (name value : List ℕ) → 0 < length hs
+  pub set_local-is : (n : ℕ) (es fs : Entries) (hs : List (HeldFrame B)) (name value : List ℕ) → 0 < length hs
       → ((e : ℕ) → map_at e fs ≡ cond (eqb (length hs) e) (insert (map_at e es) name value) (map_at e es))
-      → names_of fs ≡ with_name (names_of es) name → store_of fs (noted n hs) ≡ set_local (store_of es hs) name value
+      → names_of fs ≡ with_name (names_of es) name → store_of fs (with_number n hs) ≡ set_local (store_of es hs) name value
   unfolding set_local
   set_local-is n es fs hs name value some put names = λ i. record {
     variables = (put 0 ∙ ap (λ b. cond b (insert (map_at 0 es) name value) (map_at 0 es)) (other (length hs) 0 (λ same. omega arith))) i;
-    frames = (frames-noted 1 n fs hs ∙ frames-set 1 (length hs - 1) (length hs) es fs hs name value put (omega arith) (omega arith)
+    frames = (frames-with_number 1 n fs hs ∙ frames-set 1 (length hs - 1) (length hs) es fs hs name value put (omega arith) (omega arith)
         ∙ ap (λ m. changed_at (with_local name value) (m - 1) (frames_from 1 es hs)) (sym (length-frames_from 1 es hs))) i;
     names = (names ∙ by hs some) i;
   }
     where
-      by : (hs : List (Held B)) → 0 < length hs → with_name (names_of es) name ≡ with_local_name (frames_from 1 es hs) (names_of es) name
+      by : (hs : List (HeldFrame B)) → 0 < length hs → with_name (names_of es) name ≡ with_local_name (frames_from 1 es hs) (names_of es) name
       by [] some = absurd (omega arith)
       by (h ∷ hs) some = refl
 
   -- with no frame nothing is set
-  pub set_local-none : (es : Entries) (hs : List (Held B)) (name value : List ℕ) → length hs ≡ 0 → store_of es hs ≡ set_local (store_of es hs) name value
+  pub set_local-none : (es : Entries) (hs : List (HeldFrame B)) (name value : List ℕ) → length hs ≡ 0 → store_of es hs ≡ set_local (store_of es hs) name value
   unfolding set_local
   set_local-none es [] name value none = refl
   set_local-none es (h ∷ hs) name value none = absurd (omega arith)

@@ -10,11 +10,11 @@ use Rattle.std.specs.Map.{lookup, remove_entry}
 use Rattle.std.specs.Option.{option_map}
 use Rattle.std.proofs.lemmas.List.{map-append}
 use Rattle.dp_vars.proofs.VariablesLemmas.{apart, has_bytes, lookup-by_bytes, lookup-inserted, lookup-removed, shadowed, swapped}
-use Rattle.dp_vars.specs.Bindings.{find, unbound}
+use Rattle.dp_vars.specs.steps.Bindings.{find, unbound}
 use Rattle.dp_vars.specs.Stores.{slot, with_name}
-use Rattle.dp_vars.specs.Tables.{AreNumbered, Entries, map_at, names_of, put_value, stack_of, unbound_at, with_stack}
+use Rattle.dp_vars.specs.steps.Tables.{AreNumbered, Entries, map_at, names_of, put_value, stack_of, unbound_at, with_stack}
 use Rattle.dp_vars.specs.Variables.{Named, by_bytes, in_order}
-use Rattle.dp_vars.specs.declared.stack.Binding.{Binding}
+use Rattle.dp_vars.specs.declared.binding_stack.Binding.{Binding}
 use Rattle.dp_vars.proofs.NamesLemmas.{distinct-but_last, distinct-none, distinct-push, last-new, length-names, new_of, position_none, slot-cons, slot-push}
 
 -- maps with the same values are the same

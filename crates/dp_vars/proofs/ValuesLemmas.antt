@@ -5,7 +5,7 @@ use Rattle.std.specs.FinMap.{get}
 use Rattle.std.specs.Map.{lookup}
 use Rattle.dp_conf.specs.Words.{same_text}
 use Rattle.dp_vars.specs.Sights.{ChannelView, given_by, given_names, given_value, channel_map}
-use Rattle.dp_vars.specs.declared.value.Given.{Given}
+use Rattle.dp_vars.specs.declared.value.GivenName.{GivenName}
 use Rattle.dp_vars.specs.Variables.{Named, first_value, value_or_empty}
 use Rattle.dp_vars.proofs.StoresLemmas.{first_value-append}
 use Rattle.dp_vars.proofs.VariablesLemmas.{get-texts}
@@ -28,7 +28,7 @@ get-channel_map channel name = get-texts name (given_by channel) ∙ lookup-map 
 
 module _ (channel : Option ChannelView) (stored : List Named) (globals : Named) (name : List ℕ) where
   -- a name that the channel gives
-  pub value-given : (given : Given) → Some given ≡ lookup (same_text name) given_names
+  pub value-given : (given : GivenName) → Some given ≡ lookup (same_text name) given_names
       → given_value channel given ≡ value_or_empty (channel_map channel ∷ (stored ++ globals ∷ [])) name
   value-given given is =
       ap (λ o. unwrap_or (option_or o (first_value (stored ++ globals ∷ []) name)) [])

@@ -2,20 +2,20 @@
 use Rattle.std.specs.Prelude.{ℕ, ◌^◌, List, [], Some, length, nat_lt, if◌then◌else◌}
 use Rattle.dp_vars.specs.Parts.{asked_of, part}
 use Rattle.dp_vars.specs.Sights.{Sight}
-use Rattle.dp_vars.specs.Spans.{spanned}
+use Rattle.dp_vars.specs.Spans.{text_at}
 use Rattle.dp_vars.specs.Values.{function_value}
 use Rattle.dp_vars.specs.declared.head.Head.{Head}
 use Rattle.dp_vars.specs.declared.head.Head.TheVariants.{Name, Call, Empty}
-use Rattle.dp_vars.specs.declared.head.Cut.{Cut}
+use Rattle.dp_vars.specs.declared.head.CutPart.{CutPart}
 
 -- the value of a variable or of a function, by where its name or its argument stands in the text
 abbrev pub head_seen : Sight → List ℕ → Head → List ℕ
-head_seen sight text (Name name) = sight.variable (spanned text name)
-head_seen sight text (Call function argument) = function_value sight (Some function) (spanned text argument)
+head_seen sight text (Name name) = sight.variable (text_at text name)
+head_seen sight text (Call function argument) = function_value sight (Some function) (text_at text argument)
 head_seen sight text Empty = []
 
 -- the part that is asked for of a value of which 64 bits hold the length; of any other, that which the text after the cut
 -- asks for
-abbrev pub part_seen : List ℕ → Cut → List ℕ → List ℕ
+abbrev pub part_seen : List ℕ → CutPart → List ℕ → List ℕ
 part_seen text cut value =
-    if nat_lt (length value) (2 ^ 64) then part cut.asked value else part (asked_of (Some (spanned text cut.tail))) value
+    if nat_lt (length value) (2 ^ 64) then part cut.asked value else part (asked_of (Some (text_at text cut.tail))) value

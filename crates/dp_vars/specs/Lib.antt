@@ -1,4 +1,3 @@
-pub mod Bindings
 pub mod Expanding
 pub mod Far
 pub mod Heads
@@ -8,7 +7,6 @@ pub mod Pieces
 pub mod Sights
 pub mod Spans
 pub mod Stores
-pub mod Tables
 pub mod Values
 pub mod Variables
 pub mod steps

@@ -7,11 +7,11 @@ use Rattle.std.specs.Ordering.{nat_cmp}
 use Rattle.std.specs.Cmp.Lexicographic.{slice_cmp}
 use Rattle.std.specs.FinMap.{from_entries}
 use Rattle.dp_vars.specs.Variables.{Named, value_or_empty}
-use Rattle.dp_vars.specs.Stores.{StoreOf, searched, local_in}
+use Rattle.dp_vars.specs.Stores.{StoreOf, searched_maps, local_in}
 use Rattle.dp_vars.specs.declared.scope.ChannelSeen.{ChannelSeen}
 use Rattle.dp_vars.specs.declared.scope.Scope.{Scope}
-use Rattle.dp_vars.specs.declared.value.Given.{Given}
-use Rattle.dp_vars.specs.declared.value.Given.TheVariants.{Exten, Context, Priority, Channel}
+use Rattle.dp_vars.specs.declared.value.GivenName.{GivenName}
+use Rattle.dp_vars.specs.declared.value.GivenName.TheVariants.{Exten, Context, Priority, Channel}
 
 -- the value of each name, of each global, of each local of the innermost frame alone, the caller's number, and how many
 -- wait in each queue
@@ -45,11 +45,11 @@ abbrev pub channel_name : ℕ → List ℕ
 channel_name number = codes "Channel/" ++ decimal number
 
 -- the names that a channel gives
-abbrev pub given_names : List (List ℕ × Given)
+abbrev pub given_names : List (List ℕ × GivenName)
 given_names = (codes "EXTEN", Exten) ∷ (codes "CONTEXT", Context) ∷ (codes "PRIORITY", Priority) ∷ (codes "CHANNEL", Channel) ∷ []
 
 -- their values; where there is no channel each of them is empty, and so no variable of that name is seen
-abbrev pub given_value : Option ChannelView → Given → List ℕ
+abbrev pub given_value : Option ChannelView → GivenName → List ℕ
 given_value None given = []
 given_value (Some channel) Exten = channel.extension
 given_value (Some channel) Context = channel.context
@@ -76,7 +76,7 @@ module _ {B : Type 0} where
   -- the maps of a store, where there is one: the locals from the innermost frame outwards, and the channel's variables
   abbrev pub stored_maps : Option (StoreOf B) → List Named
   stored_maps None = []
-  stored_maps (Some store) = searched store
+  stored_maps (Some store) = searched_maps store
 
   -- the local of the innermost frame alone
   abbrev pub local_seen : Option (StoreOf B) → List ℕ → List ℕ

@@ -1,19 +1,7 @@
 -- Places in a text.
-use Rattle.std.specs.Prelude.{ℕ, ◌+◌, ◌-◌, List, drop, min, take}
+use Rattle.std.specs.Prelude.{ℕ, ◌-◌, List, drop, take}
 use Rattle.dp_vars.specs.declared.span.Span.{Span}
 
--- nothing, at a place
-abbrev pub span_at : ℕ → Span
-span_at place = record { from = place; to = place }
-
 -- what stands between two places of a text, as far as the text goes
-abbrev pub spanned : List ℕ → Span → List ℕ
-spanned text span = take (span.to - span.from) (drop span.from text)
-
--- the first so many bytes of what stands there
-abbrev pub front_of : Span → ℕ → Span
-front_of span size = record { from = span.from; to = min span.to (span.from + size) }
-
--- what stands after those
-abbrev pub after_of : Span → ℕ → Span
-after_of span size = record { from = min span.to (span.from + size); to = span.to }
+abbrev pub text_at : List ℕ → Span → List ℕ
+text_at text span = take (span.to - span.from) (drop span.from text)

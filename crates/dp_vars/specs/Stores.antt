@@ -40,12 +40,12 @@ module _ {B : Type 0} where
   all_locals frames = map (λ frame. frame.locals) (reverse frames)
 
   -- the maps in which a name is searched: those locals, and then the variables
-  abbrev pub searched : StoreOf B → List Named
-  searched store = all_locals store.frames ++ store.variables ∷ []
+  abbrev pub searched_maps : StoreOf B → List Named
+  searched_maps store = all_locals store.frames ++ store.variables ∷ []
 
   -- the value that the store has for a name
   abbrev pub value_in : StoreOf B → List ℕ → Option (List ℕ)
-  value_in store name = first_value (searched store) name
+  value_in store name = first_value (searched_maps store) name
 
   -- the innermost frame
   abbrev pub innermost : List (Frame B) → Option (Frame B)

@@ -37,14 +37,14 @@ function_value sight (Some CallerId) argument = caller_value sight.caller argume
 function_value sight (Some QueueWaitingCount) argument = decimal (sight.waiting argument)
 
 -- a function has its argument between its first `(` and the last `)` after it; with no such `)` it is empty
-abbrev pub called : Sight → List ℕ → Option (List ℕ) → List ℕ
-called sight name None = []
-called sight name (Some argument) = function_value sight (function_of name) argument
+abbrev pub call_argument : Sight → List ℕ → Option (List ℕ) → List ℕ
+call_argument sight name None = []
+call_argument sight name (Some argument) = function_value sight (function_of name) argument
 
 -- a head with a `(` is a function, and any other the name of a variable
 abbrev pub head_by : Sight → List ℕ → Option (List ℕ × List ℕ) → List ℕ
 head_by sight head None = sight.variable head
-head_by sight head (Some cut) = called sight cut.0 (before_last 41 cut.1)
+head_by sight head (Some cut) = call_argument sight cut.0 (before_last 41 cut.1)
 
 -- the value of a head
 unfoldable pub head_value : Sight → List ℕ → List ℕ
@@ -62,11 +62,11 @@ group_value sight Braces body = body_by sight body (cut_outside 58 body)
 group_value sight Brackets body = expression_value body
 
 -- a reading with each group replaced by the value of its expanded body; values are not read again
-unfoldable pub expanded : Sight → Reading → List ℕ
-expanded sight Over = []
-expanded sight (Plain byte rest) = byte ∷ expanded sight rest
-expanded sight (Group kind inside rest) = group_value sight kind (expanded sight inside) ++ expanded sight rest
+unfoldable pub expansion_of : Sight → Reading → List ℕ
+expansion_of sight Over = []
+expansion_of sight (Plain byte rest) = byte ∷ expansion_of sight rest
+expansion_of sight (Group kind inside rest) = group_value sight kind (expansion_of sight inside) ++ expansion_of sight rest
 
 -- the same of a text by its one reading
 abbrev pub expansion : Sight → List ℕ → List ℕ
-expansion sight text = expanded sight (reading_of text)
+expansion sight text = expansion_of sight (reading_of text)

@@ -1,2 +1,7 @@
 -- What private functions say of their steps. No public clause rests on it.
+pub mod Bindings
+pub mod Expanding
+pub mod Pieces
 pub mod Shown
+pub mod Spans
+pub mod Tables

@@ -4,14 +4,15 @@ ghost use Rattle.dp_conf.specs.Groups as groups;
 ghost use Rattle.dp_conf.specs.GroupsRead.{first_of};
 ghost use Rattle.dp_conf.specs.declared.groups.GroupKind.TheVariants as kinds;
 ghost use Rattle.dp_vars.specs.Expanding as steps;
+ghost use Rattle.dp_vars.specs.steps.Expanding as steps_steps;
 ghost use Rattle.dp_vars.specs.Pieces.{past, past_all};
 ghost use Rattle.dp_vars.specs.Sights as sights;
 ghost use Rattle.dp_vars.specs.Values as values;
 
 use crate::head::{Head, push_cut, push_full};
-use crate::piece::Piece;
 use crate::reference::{push_reference, read_reference};
 use crate::scope::{Counts, Scope};
+use crate::text_piece::TextPiece;
 use dp_conf::{GroupKind, Mark, NoMemory};
 use dp_expr::evaluate;
 use smallvec::SmallVec;
@@ -20,16 +21,16 @@ use std::marker::Model;
 
 /// An opening that waits for its end, with the place of its `$` in what is written.
 #[derive(Clone, Copy)]
-pub(crate) struct Waiting {
+pub(crate) struct WaitingOpening {
     kind: GroupKind,
     start: usize,
 }
 
-impl Default for Waiting {
+impl Default for WaitingOpening {
     ghost is_default = { λ waiting. waiting ≡ record { kind = kinds.Braces; start = 0 } };
 
     fn default() -> Self {
-        Waiting {
+        WaitingOpening {
             kind: GroupKind::Braces,
             start: 0,
         }
@@ -41,7 +42,7 @@ impl Default for Waiting {
 #[derive(Drop)]
 pub(crate) struct Expanding {
     bytes: Vec<u8>,
-    waiting: SmallVec<Waiting, 2>,
+    waiting: SmallVec<WaitingOpening, 2>,
 }
 
 impl Model for Expanding {
@@ -92,7 +93,7 @@ fn put_value<B, C: Counts>(
     alloc: Global,
     scope: &Scope<'_, B, C>,
     bytes: &mut Vec<u8>,
-    waiting: Waiting,
+    waiting: WaitingOpening,
 ) -> Result<(), NoMemory>
     requires { waiting.start + 2 ≤ vec_len bytes.old }
     ensures { OnOk result (bytes.new.items ≡ steps.with_value (sights.sight_of C.count scope.now) waiting bytes.old.items) }
@@ -127,7 +128,7 @@ impl Expanding {
 
     /// The kind of the innermost opening that waits.
     pub(crate) fn innermost(&self) -> Option<GroupKind>
-        ensures { result ≡ first_of (steps.kinds_of self.now.waiting) }
+        ensures { result ≡ first_of (steps_steps.kinds_of self.now.waiting) }
     {
         match self.waiting.as_slice().last() {
             Some(waiting) => Some(waiting.kind),
@@ -143,7 +144,7 @@ impl Expanding {
         }) }
     {
         let start = self.bytes.len();
-        self.waiting.push(Waiting { kind, start })?;
+        self.waiting.push(WaitingOpening { kind, start })?;
         self.bytes.push(b'$')?;
         self.bytes.push(opener(kind))?;
         Ok(())
@@ -155,8 +156,8 @@ impl Expanding {
         alloc: Global,
         scope: &Scope<'_, B, C>,
     ) -> Result<(), NoMemory>
-        requires { steps.AreWritten self.old }
-        ensures { OnOk result (self.new ≡ steps.closed (sights.sight_of C.count scope.now) self.old.waiting self.old.bytes) }
+        requires { steps_steps.AreWritten self.old }
+        ensures { OnOk result (self.new ≡ steps.after_group (sights.sight_of C.count scope.now) self.old.waiting self.old.bytes) }
     {
         match self.waiting.pop() {
             Some(waiting) => put_value(alloc, scope, &mut self.bytes, waiting),
@@ -171,7 +172,7 @@ impl Expanding {
         scope: &Scope<'_, B, C>,
         mark: Mark,
     ) -> Result<(), NoMemory>
-        requires { steps.AreWritten self.old }
+        requires { steps_steps.AreWritten self.old }
         ensures { OnOk result (self.new ≡ steps.after (sights.sight_of C.count scope.now) mark self.old) }
     {
         match mark {
@@ -190,23 +191,23 @@ impl Expanding {
         alloc: Global,
         scope: &Scope<'_, B, C>,
         text: &[u8],
-        piece: &Piece,
+        piece: &TextPiece,
     ) -> Result<(), NoMemory>
-        requires { steps.AreWritten self.old }
+        requires { steps_steps.AreWritten self.old }
         ensures { OnOk result (self.new ≡ past (sights.sight_of C.count scope.now) text.now self.old piece.now) }
     {
         let bytes = &mut self.bytes;
         match piece {
-            Piece::Run(span) => bytes.extend_from_slice(span.of(text)),
-            Piece::Name(name) => push_full(alloc, scope, text, Head::Name(*name), bytes),
-            Piece::Call(function, argument) => {
+            TextPiece::Run(span) => bytes.extend_from_slice(span.of(text)),
+            TextPiece::Name(name) => push_full(alloc, scope, text, Head::Name(*name), bytes),
+            TextPiece::Call(function, argument) => {
                 push_full(alloc, scope, text, Head::Call(*function, *argument), bytes)
             }
-            Piece::Part(cut) => push_cut(alloc, scope, text, **cut, bytes),
-            Piece::Known(value) => bytes.extend_from_slice(value),
-            Piece::Empty => Ok(()),
-            Piece::Begins(kind) => self.open(*kind),
-            Piece::Ends => self.close(alloc, scope),
+            TextPiece::Part(cut) => push_cut(alloc, scope, text, **cut, bytes),
+            TextPiece::Known(value) => bytes.extend_from_slice(value),
+            TextPiece::Empty => Ok(()),
+            TextPiece::Begins(kind) => self.open(*kind),
+            TextPiece::Ends => self.close(alloc, scope),
         }
     }
 
@@ -225,7 +226,7 @@ pub(crate) fn write_pieces<B, C: Counts>(
     alloc: Global,
     scope: &Scope<'_, B, C>,
     text: &[u8],
-    pieces: &[Piece],
+    pieces: &[TextPiece],
 ) -> Result<Vec<u8>, NoMemory>
     ensures { IfOk result (λ bytes. bytes.items ≡ (past_all (sights.sight_of C.count scope.now) text.now pieces.now).bytes) }
 {

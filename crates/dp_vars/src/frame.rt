@@ -1,6 +1,6 @@
 //! The frames of a channel, which may have locals.
 ghost use Rattle.std.specs.Prelude.{◌≡◌, ◌∷◌, ◌++◌, [], OnErr, OnOk};
-ghost use Rattle.dp_vars.specs.Tables.{noted};
+ghost use Rattle.dp_vars.specs.steps.Tables.{with_number};
 
 use dp_conf::NoMemory;
 use smallvec::SmallVec;
@@ -9,11 +9,11 @@ use std::marker::Model;
 
 /// The numbers of names, of which two take no memory.
 #[derive(Drop)]
-pub(crate) struct Numbers {
+pub(crate) struct NameNumbers {
     held: SmallVec<usize, 2>,
 }
 
-impl Model for Numbers {
+impl Model for NameNumbers {
     ghost use Rattle.std.specs.Prelude.{ℕ, List};
 
     ghost Value = { List ℕ };
@@ -21,12 +21,12 @@ impl Model for Numbers {
     ghost view = { λ numbers. numbers.held.items };
 }
 
-impl Numbers {
+impl NameNumbers {
     /// No numbers. It takes no memory.
     pub(crate) fn new(alloc: Global) -> Self
         ensures { result ≡ [] }
     {
-        Numbers {
+        NameNumbers {
             held: SmallVec::new(alloc),
         }
     }
@@ -50,14 +50,14 @@ impl Numbers {
 
 /// Where a subroutine goes back to, and the numbers of its locals, whose values a table has.
 #[derive(Drop)]
-pub(crate) struct Held<B> {
+pub(crate) struct HeldFrame<B> {
     pub(crate) back: B,
-    pub(crate) numbers: Numbers,
+    pub(crate) numbers: NameNumbers,
 }
 
 /// Adds a number to those of the innermost frame, which is the last. After a refused growth all is as before.
-pub(crate) fn note<B>(frames: &mut Vec<Held<B>>, number: usize) -> Result<(), NoMemory>
-    ensures ok { OnOk result (frames.new.items ≡ noted number frames.old.items) }
+pub(crate) fn note<B>(frames: &mut Vec<HeldFrame<B>>, number: usize) -> Result<(), NoMemory>
+    ensures ok { OnOk result (frames.new.items ≡ with_number number frames.old.items) }
     ensures err { OnErr result (frames.new.items ≡ frames.old.items) }
 {
     if let Some(frame) = frames.last_mut() {

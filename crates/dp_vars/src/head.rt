@@ -2,16 +2,16 @@
 ghost use Rattle.std.specs.Prelude.{◌≡◌, ◌++◌, OnOk};
 ghost use Rattle.dp_conf.specs.Cut.{before_last};
 ghost use Rattle.dp_vars.specs.Heads as spec;
-ghost use Rattle.dp_vars.specs.steps.Shown.{shown};
+ghost use Rattle.dp_vars.specs.steps.Shown.{value_bytes};
 ghost use Rattle.dp_vars.specs.Sights.{Sight, sight_of};
-ghost use Rattle.dp_vars.specs.Spans.{spanned};
+ghost use Rattle.dp_vars.specs.Spans.{text_at};
 ghost use Rattle.dp_vars.specs.Values as values;
 
 use crate::part::Selection;
 use crate::reference::{Reference, push_reference};
 use crate::scope::{Counts, Scope};
 use crate::span::Span;
-use crate::value::{Function, Value, function_of, function_value, variable};
+use crate::value::{FoundValue, Function, function_of, function_value, variable};
 use dp_conf::{NoMemory, before_last, cut_once};
 use std::alloc::Global;
 
@@ -28,7 +28,7 @@ pub(crate) enum Head {
 
 /// A part of the value of a head, with what stands after the cut.
 #[derive(Clone, Copy)]
-pub(crate) struct Cut {
+pub(crate) struct CutPart {
     pub(crate) head: Head,
     pub(crate) tail: Span,
     pub(crate) asked: Selection,
@@ -37,7 +37,7 @@ pub(crate) struct Cut {
 /// The function of this name, with its argument in what stands after the `(`.
 fn read_call(text: &[u8], name: &[u8], after: Span) -> Head
     ensures { (sight : Sight) → spec.head_seen sight text.now result
-        ≡ values.called sight name.now (before_last 41 (spanned text.now after)) }
+        ≡ values.call_argument sight name.now (before_last 41 (text_at text.now after)) }
 {
     match (function_of(name), before_last(after.of(text), b')')) {
         (Some(function), Some(argument)) => Head::Call(function, after.front(argument.len())),
@@ -47,7 +47,7 @@ fn read_call(text: &[u8], name: &[u8], after: Span) -> Head
 
 /// The head that stands there.
 pub(crate) fn read_head(text: &[u8], place: Span) -> Head
-    ensures { (sight : Sight) → spec.head_seen sight text.now result ≡ values.head_value sight (spanned text.now place) }
+    ensures { (sight : Sight) → spec.head_seen sight text.now result ≡ values.head_value sight (text_at text.now place) }
 {
     let head = place.of(text);
     match cut_once(head, b'(') {
@@ -57,13 +57,13 @@ pub(crate) fn read_head(text: &[u8], place: Span) -> Head
 }
 
 /// The value that a head has now.
-fn head_now<'a, B, C: Counts>(scope: &Scope<'a, B, C>, text: &[u8], head: Head) -> Value<'a>
-    ensures { shown result ≡ spec.head_seen (sight_of C.count scope.now) text.now head }
+fn head_now<'a, B, C: Counts>(scope: &Scope<'a, B, C>, text: &[u8], head: Head) -> FoundValue<'a>
+    ensures { value_bytes result ≡ spec.head_seen (sight_of C.count scope.now) text.now head }
 {
     match head {
         Head::Name(name) => variable(scope, name.of(text)),
         Head::Call(function, argument) => function_value(scope, function, argument.of(text)),
-        Head::Empty => Value::Bytes(b""),
+        Head::Empty => FoundValue::Bytes(b""),
     }
 }
 
@@ -72,7 +72,7 @@ pub(crate) fn push_cut<B, C: Counts>(
     alloc: Global,
     scope: &Scope<'_, B, C>,
     text: &[u8],
-    cut: Cut,
+    cut: CutPart,
     out: &mut Vec<u8>,
 ) -> Result<(), NoMemory>
     ensures { OnOk result (out.new.items

@@ -5,6 +5,8 @@
 //! `expand_text` with a text that was not read before, and `value_of` is the value of one name.
 #![tactic(auto)]
 
+mod binding_stack;
+mod binding_table;
 mod change;
 mod expanding;
 mod frame;
@@ -15,15 +17,13 @@ mod local_name;
 mod opening;
 mod parsing;
 mod part;
-mod piece;
 mod pieces;
 mod reference;
 mod scope;
 mod span;
-mod stack;
 mod store;
-mod table;
 mod template;
+mod text_piece;
 mod value;
 mod variables;
 

@@ -2,13 +2,13 @@
 ghost use Rattle.std.specs.Prelude.{◌≡◌, ◌≤◌, [], ◌∷◌, ◌++◌, IfOk, OnOk, drop, reverse};
 ghost use Rattle.dp_conf.specs.GroupsRead.{first_of, outer_of};
 ghost use Rattle.dp_vars.specs.Expanding.{after};
-ghost use Rattle.dp_vars.specs.Pieces as spec;
+ghost use Rattle.dp_vars.specs.steps.Pieces as spec;
 ghost use Rattle.dp_vars.specs.Sights.{Sight};
-ghost use Rattle.dp_vars.specs.Spans.{span_at};
+ghost use Rattle.dp_vars.specs.steps.Spans.{span_at};
 ghost use Rattle.dp_vars.specs.Values.{expansion};
 
-use crate::piece::Piece;
 use crate::span::Span;
+use crate::text_piece::TextPiece;
 use dp_conf::{GroupKind, Mark, NoMemory, next_mark};
 use std::alloc::Global;
 use std::marker::Model;
@@ -16,14 +16,14 @@ use std::marker::Model;
 /// The pieces so far, the openings that wait for their ends, and the plain bytes after the last piece.
 #[derive(Drop)]
 pub(crate) struct Parsing {
-    pieces: Vec<Piece>,
+    pieces: Vec<TextPiece>,
     waiting: Vec<GroupKind>,
     run: Span,
 }
 
 impl Model for Parsing {
     ghost use Rattle.std.specs.Prelude.{reverse};
-    ghost use Rattle.dp_vars.specs.Pieces.{ReadSoFar};
+    ghost use Rattle.dp_vars.specs.steps.Pieces.{ReadSoFar};
 
     ghost Value = { ReadSoFar };
 
@@ -61,7 +61,7 @@ impl Parsing {
         ensures { result ≡ spec.opening_last self.now.pieces }
     {
         match self.pieces.last() {
-            Some(Piece::Begins(kind)) => Some(*kind),
+            Some(TextPiece::Begins(kind)) => Some(*kind),
             _ => None,
         }
     }
@@ -71,7 +71,7 @@ impl Parsing {
         ensures { OnOk result (self.new ≡ record self.old { pieces = spec.with_run self.old.run self.old.pieces }) }
     {
         if self.run.from < self.run.to {
-            self.pieces.push(Piece::Run(self.run))?;
+            self.pieces.push(TextPiece::Run(self.run))?;
         }
         Ok(())
     }
@@ -79,20 +79,20 @@ impl Parsing {
     /// Goes after an opening, which waits from now on.
     fn begin(&mut self, kind: GroupKind, place: usize) -> Result<(), NoMemory>
         ensures { OnOk result (self.new ≡ record {
-          pieces = Piece.Begins kind ∷ spec.with_run self.old.run self.old.pieces;
+          pieces = TextPiece.Begins kind ∷ spec.with_run self.old.run self.old.pieces;
           waiting = kind ∷ self.old.waiting;
           run = span_at place;
         }) }
     {
         self.end_run()?;
-        self.pieces.push(Piece::Begins(kind))?;
+        self.pieces.push(TextPiece::Begins(kind))?;
         self.waiting.push(kind)?;
         self.run = Span::at(place);
         Ok(())
     }
 
     /// Puts the piece of a group that holds no group in place of its opening.
-    fn put_group(&mut self, piece: Piece) -> Result<(), NoMemory>
+    fn put_group(&mut self, piece: TextPiece) -> Result<(), NoMemory>
         ensures { OnOk result (self.new ≡ record self.old { pieces = piece ∷ spec.without_last self.old.pieces }) }
     {
         let _opening = self.pieces.pop();
@@ -102,10 +102,10 @@ impl Parsing {
 
     /// Puts the end of a group that holds groups.
     fn put_end(&mut self) -> Result<(), NoMemory>
-        ensures { OnOk result (self.new ≡ record self.old { pieces = Piece.Ends ∷ spec.with_run self.old.run self.old.pieces }) }
+        ensures { OnOk result (self.new ≡ record self.old { pieces = TextPiece.Ends ∷ spec.with_run self.old.run self.old.pieces }) }
     {
         self.end_run()?;
-        self.pieces.push(Piece::Ends)?;
+        self.pieces.push(TextPiece::Ends)?;
         Ok(())
     }
 
@@ -123,7 +123,7 @@ impl Parsing {
     {
         match self.last_opening() {
             Some(kind) => {
-                let piece = Piece::read(alloc, text, kind, self.run)?;
+                let piece = TextPiece::read(alloc, text, kind, self.run)?;
                 self.put_group(piece)?;
             }
             None => self.put_end()?,
@@ -147,7 +147,7 @@ impl Parsing {
     }
 
     /// The pieces, and the place after them, from which all bytes are plain.
-    pub(crate) fn finish(self) -> (Vec<Piece>, usize)
+    pub(crate) fn finish(self) -> (Vec<TextPiece>, usize)
         ensures pieces { reverse result.0.items ≡ self.pieces }
         ensures tail { result.1 ≡ self.run.from }
     {

@@ -6,8 +6,8 @@ ghost use Rattle.dp_vars.specs.Values.{expansion};
 
 use crate::expanding::write_pieces;
 use crate::parsing::parse;
-use crate::piece::Piece;
 use crate::scope::{Counts, Scope};
+use crate::text_piece::TextPiece;
 use dp_conf::NoMemory;
 use std::alloc::Global;
 use std::marker::Model;
@@ -16,7 +16,7 @@ use std::marker::Model;
 ///
 /// A contract says of which text they are; they are expanded with that text.
 pub struct Pieces {
-    pieces: Vec<Piece>,
+    pieces: Vec<TextPiece>,
     tail: usize,
 }
 

@@ -4,21 +4,21 @@ ghost use Rattle.std.specs.String.{string_bytes};
 ghost use Rattle.std.specs.Fmt.{decimal};
 ghost use Rattle.dp_conf.specs.Levels.{cut_outside};
 ghost use Rattle.dp_vars.specs.Parts.{part};
-ghost use Rattle.dp_vars.specs.steps.Shown.{shown};
+ghost use Rattle.dp_vars.specs.steps.Shown.{value_bytes};
 ghost use Rattle.dp_vars.specs.Sights as sights;
 ghost use Rattle.dp_vars.specs.Values as values;
 ghost use Rattle.dp_vars.specs.Variables.{value_or_empty};
 
 use crate::part::{Selection, part, read_asked};
 use crate::scope::{Counts, Scope};
-use crate::value::{Value, head_value, variable};
+use crate::value::{FoundValue, head_value, variable};
 use dp_conf::{NoMemory, cut_outside};
 use std::alloc::Global;
 
 /// A value, and which part of it is asked for.
 #[derive(Clone, Copy)]
 pub(crate) struct Reference<'a> {
-    pub(crate) value: Value<'a>,
+    pub(crate) value: FoundValue<'a>,
     pub(crate) asked: Selection,
 }
 
@@ -27,7 +27,7 @@ pub(crate) fn read_reference<'a, B, C: Counts>(
     scope: &Scope<'a, B, C>,
     body: &[u8],
 ) -> Reference<'a>
-    ensures { length (shown result.value) < 2 ^ 64 → part result.asked (shown result.value)
+    ensures { length (value_bytes result.value) < 2 ^ 64 → part result.asked (value_bytes result.value)
         ≡ values.body_by (sights.sight_of C.count scope.now) body.now (cut_outside 58 body.now) }
 {
     match cut_outside(body, b':') {
@@ -56,16 +56,16 @@ pub(crate) fn push_reference(
     out: &mut Vec<u8>,
     reference: Reference<'_>,
 ) -> Result<(), NoMemory>
-    ensures ok { OnOk result (out.new.items ≡ out.old.items ++ part reference.entry.asked (shown reference.entry.value)) }
-    ensures small { OnOk result (length (shown reference.entry.value) < 2 ^ 64) }
+    ensures ok { OnOk result (out.new.items ≡ out.old.items ++ part reference.entry.asked (value_bytes reference.entry.value)) }
+    ensures small { OnOk result (length (value_bytes reference.entry.value) < 2 ^ 64) }
 {
     match reference.value {
-        Value::Bytes(bytes) => push_part(out, bytes, reference.asked),
-        Value::Number(number) => {
+        FoundValue::Bytes(bytes) => push_part(out, bytes, reference.asked),
+        FoundValue::Number(number) => {
             let text = format!(in alloc; "{number}")?;
             push_part(out, text.as_bytes(), reference.asked)
         }
-        Value::Channel(number) => {
+        FoundValue::Channel(number) => {
             let text = format!(in alloc; "Channel/{number}")?;
             push_part(out, text.as_bytes(), reference.asked)
         }

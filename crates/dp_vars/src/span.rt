@@ -1,6 +1,7 @@
 //! Places in a text.
 ghost use Rattle.std.specs.Prelude.{◌≡◌, ◌-◌, drop, min, take};
-ghost use Rattle.dp_vars.specs.Spans.{after_of, front_of, spanned};
+ghost use Rattle.dp_vars.specs.Spans.{text_at};
+ghost use Rattle.dp_vars.specs.steps.Spans.{after_of, front_of};
 
 /// What stands in a text from a place up to another.
 #[derive(Clone, Copy)]
@@ -56,7 +57,7 @@ impl Span {
 
     /// What stands there in the text, as far as the text goes.
     pub(crate) fn of(self, text: &[u8]) -> &[u8]
-        ensures { result.now ≡ spanned text.now self }
+        ensures { result.now ≡ text_at text.now self }
     {
         front(after(text, self.from), self.to.saturating_sub(self.from))
     }

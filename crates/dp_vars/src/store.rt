@@ -3,12 +3,12 @@ ghost use Rattle.std.specs.Prelude.{◌≡◌, ◌<◌, List, IfOk, OnErr, OnOk,
 ghost use Rattle.std.specs.Option.{option_map};
 ghost use Rattle.dp_vars.specs.Stores as stores;
 ghost use Rattle.dp_vars.specs.Stores.{StoreOf};
-ghost use Rattle.dp_vars.specs.Tables.{HasNamed};
+ghost use Rattle.dp_vars.specs.steps.Tables.{HasNamed};
 
+use crate::binding_table::BindingTable;
 use crate::change::{Change, Nothing};
-use crate::frame::{self, Held, Numbers};
+use crate::frame::{self, HeldFrame, NameNumbers};
 use crate::local::Local;
-use crate::table::Table;
 use dp_conf::{NoMemory, Text};
 use std::alloc::Global;
 use std::marker::Model;
@@ -19,8 +19,8 @@ use std::marker::Model;
 /// given to the store in the order of their numbers. Names are case sensitive. After a refused growth a call leaves all
 /// as before. A read and a `set` look at no frame, however many there are.
 pub struct Store<B> {
-    table: Table,
-    frames: Vec<Held<B>>,
+    table: BindingTable,
+    frames: Vec<HeldFrame<B>>,
 }
 
 impl<B: Drop> Drop for Store<B> {
@@ -36,7 +36,7 @@ impl<B: Drop> Drop for Store<B> {
 impl<B> Model for Store<B> {
     ghost use Rattle.std.specs.Coded.{codes};
     ghost use Rattle.dp_vars.specs.Stores.{StoreOf};
-    ghost use Rattle.dp_vars.specs.Tables.{IsBound, store_of};
+    ghost use Rattle.dp_vars.specs.steps.Tables.{IsBound, store_of};
     ghost use Rattle.dp_vars.specs.Variables.{named_code};
 
     ghost Value = { StoreOf B };
@@ -54,7 +54,7 @@ impl<B> Store<B> {
         ensures { result ≡ stores.nothing }
     {
         Store {
-            table: Table::new(alloc),
+            table: BindingTable::new(alloc),
             frames: Vec::new(alloc),
         }
     }
@@ -179,8 +179,8 @@ impl<B> Store<B> {
         ensures err { OnErr result (self.new ≡ self.old) }
     {
         let known = self.table.len();
-        let numbers = Numbers::new(alloc);
-        self.frames.push(Held { back, numbers })?;
+        let numbers = NameNumbers::new(alloc);
+        self.frames.push(HeldFrame { back, numbers })?;
         let held = self.hold_locals(alloc, locals);
         if held.is_err() {
             let _back = self.pop_frame();
@@ -197,7 +197,7 @@ impl<B> Store<B> {
     {
         let depth = self.frames.len();
         let frame = self.frames.pop()?;
-        let Held { back, numbers } = frame;
+        let HeldFrame { back, numbers } = frame;
         self.table.unbind_all(depth, &numbers);
         Some(back)
     }

@@ -4,7 +4,7 @@ ghost use Rattle.dp_conf.specs.Groups.{Reading, IsReading};
 ghost use Rattle.dp_conf.specs.GroupsRead.{nesting_of};
 ghost use Rattle.dp_vars.specs.declared.template.TemplateFault.TheVariants as faults;
 ghost use Rattle.dp_vars.specs.Sights.{sight_of};
-ghost use Rattle.dp_vars.specs.Values.{expanded, expansion};
+ghost use Rattle.dp_vars.specs.Values.{expansion_of, expansion};
 
 use crate::expanding::Expanding;
 use crate::pieces::Pieces;
@@ -105,7 +105,7 @@ pub fn expand<B, C: Counts>(
 ) -> Result<Vec<u8>, NoMemory>
     // By the text's one reading.
     ensures reading { (reading : Reading) → IsReading template.now reading
-        → IfOk result (λ bytes. bytes.items ≡ expanded (sight_of C.count scope.now) reading) }
+        → IfOk result (λ bytes. bytes.items ≡ expansion_of (sight_of C.count scope.now) reading) }
     // The same by a function.
     ensures exact { IfOk result (λ bytes. bytes.items ≡ expansion (sight_of C.count scope.now) template.now) }
 {

@@ -4,7 +4,7 @@ ghost use Rattle.std.specs.Option.{option_map, option_map_or};
 ghost use Rattle.std.specs.Map.{lookup};
 ghost use Rattle.dp_conf.specs.Cut as cuts;
 ghost use Rattle.dp_conf.specs.Words.{same_text};
-ghost use Rattle.dp_vars.specs.steps.Shown.{shown};
+ghost use Rattle.dp_vars.specs.steps.Shown.{value_bytes};
 ghost use Rattle.dp_vars.specs.Sights as sights;
 ghost use Rattle.dp_vars.specs.Stores as stores;
 ghost use Rattle.dp_vars.specs.Values as values;
@@ -16,7 +16,7 @@ use dp_conf::{before_last, cut_once};
 
 /// A value as it was found, of which no copy is made.
 #[derive(Clone, Copy)]
-pub(crate) enum Value<'a> {
+pub(crate) enum FoundValue<'a> {
     Bytes(&'a [u8]),
     Number(u64),
     /// The name of the channel of this number.
@@ -25,7 +25,7 @@ pub(crate) enum Value<'a> {
 
 /// A name that a channel gives.
 #[derive(Clone, Copy)]
-pub(crate) enum Given {
+pub(crate) enum GivenName {
     Exten,
     Context,
     Priority,
@@ -43,39 +43,39 @@ pub enum Function {
 }
 
 /// The name that a channel gives.
-fn given_of(name: &[u8]) -> Option<Given>
+fn given_of(name: &[u8]) -> Option<GivenName>
     ensures { result ≡ lookup (same_text name.now) sights.given_names }
 {
     if name == b"EXTEN".as_slice() {
-        Some(Given::Exten)
+        Some(GivenName::Exten)
     } else if name == b"CONTEXT".as_slice() {
-        Some(Given::Context)
+        Some(GivenName::Context)
     } else if name == b"PRIORITY".as_slice() {
-        Some(Given::Priority)
+        Some(GivenName::Priority)
     } else if name == b"CHANNEL".as_slice() {
-        Some(Given::Channel)
+        Some(GivenName::Channel)
     } else {
         None
     }
 }
 
 /// The value of a name that a channel gives; empty where there is no channel.
-fn given_value<'a>(channel: Option<ChannelSeen<'a>>, given: Given) -> Value<'a>
-    ensures { shown result ≡ sights.given_value (option_map sights.view_of channel.entry) given }
+fn given_value<'a>(channel: Option<ChannelSeen<'a>>, given: GivenName) -> FoundValue<'a>
+    ensures { value_bytes result ≡ sights.given_value (option_map sights.view_of channel.entry) given }
 {
     let Some(channel) = channel else {
-        return Value::Bytes(b"");
+        return FoundValue::Bytes(b"");
     };
     match given {
-        Given::Exten => Value::Bytes(channel.extension),
-        Given::Context => Value::Bytes(channel.context),
-        Given::Priority => Value::Number(u64::from(channel.priority)),
-        Given::Channel => Value::Channel(channel.number),
+        GivenName::Exten => FoundValue::Bytes(channel.extension),
+        GivenName::Context => FoundValue::Bytes(channel.context),
+        GivenName::Priority => FoundValue::Number(u64::from(channel.priority)),
+        GivenName::Channel => FoundValue::Channel(channel.number),
     }
 }
 
 /// The value that a store has for a name, where there is a store.
-fn stored<'a, B>(store: Option<&'a Store<B>>, name: &[u8]) -> Option<&'a [u8]>
+fn stored_value<'a, B>(store: Option<&'a Store<B>>, name: &[u8]) -> Option<&'a [u8]>
     ensures { option_map (λ value. value.now) result
         ≡ first_value (sights.stored_maps (sights.after store.entry)) name.now }
 {
@@ -86,15 +86,15 @@ fn stored<'a, B>(store: Option<&'a Store<B>>, name: &[u8]) -> Option<&'a [u8]>
 }
 
 /// The value of a name, by what the channel gives and else by the variables and the globals.
-pub(crate) fn variable<'a, B, C>(scope: &Scope<'a, B, C>, name: &[u8]) -> Value<'a>
-    ensures { shown result ≡ value_or_empty (sights.maps_of scope.now) name.now }
+pub(crate) fn variable<'a, B, C>(scope: &Scope<'a, B, C>, name: &[u8]) -> FoundValue<'a>
+    ensures { value_bytes result ≡ value_or_empty (sights.maps_of scope.now) name.now }
 {
     if let Some(given) = given_of(name) {
         return given_value(scope.channel, given);
     }
-    match stored(scope.store, name) {
-        Some(value) => Value::Bytes(value),
-        None => Value::Bytes(scope.globals.at(name)),
+    match stored_value(scope.store, name) {
+        Some(value) => FoundValue::Bytes(value),
+        None => FoundValue::Bytes(scope.globals.at(name)),
     }
 }
 
@@ -148,35 +148,39 @@ pub(crate) fn function_value<'a, B, C: Counts>(
     scope: &Scope<'a, B, C>,
     function: Function,
     argument: &[u8],
-) -> Value<'a>
-    ensures { shown result ≡ values.function_value (sights.sight_of C.count scope.now) (Some function) argument.now }
+) -> FoundValue<'a>
+    ensures { value_bytes result ≡ values.function_value (sights.sight_of C.count scope.now) (Some function) argument.now }
 {
     match function {
-        Function::Global => Value::Bytes(scope.globals.at(argument)),
-        Function::Local => Value::Bytes(local(scope.store, argument)),
-        Function::Len => Value::Number(argument.len() as u64),
-        Function::CallerId => Value::Bytes(caller(scope.channel, argument)),
-        Function::QueueWaitingCount => Value::Number(scope.counts.waiting(argument) as u64),
+        Function::Global => FoundValue::Bytes(scope.globals.at(argument)),
+        Function::Local => FoundValue::Bytes(local(scope.store, argument)),
+        Function::Len => FoundValue::Number(argument.len() as u64),
+        Function::CallerId => FoundValue::Bytes(caller(scope.channel, argument)),
+        Function::QueueWaitingCount => FoundValue::Number(scope.counts.waiting(argument) as u64),
     }
 }
 
 /// The value of a function by its name and by what stands after the `(`.
-fn called<'a, B, C: Counts>(scope: &Scope<'a, B, C>, name: &[u8], after: &[u8]) -> Value<'a>
-    ensures { shown result ≡ values.called (sights.sight_of C.count scope.now) name.now (cuts.before_last 41 after.now) }
+fn call_value<'a, B, C: Counts>(
+    scope: &Scope<'a, B, C>,
+    name: &[u8],
+    after: &[u8],
+) -> FoundValue<'a>
+    ensures { value_bytes result ≡ values.call_argument (sights.sight_of C.count scope.now) name.now (cuts.before_last 41 after.now) }
 {
     match (function_of(name), before_last(after, b')')) {
         (Some(function), Some(argument)) => function_value(scope, function, argument),
-        _ => Value::Bytes(b""),
+        _ => FoundValue::Bytes(b""),
     }
 }
 
 /// The value of a variable, or of a function where there is a `(`.
 #[tactic(auto, unfolding(crate::specs::Values::head_value))]
-pub(crate) fn head_value<'a, B, C: Counts>(scope: &Scope<'a, B, C>, head: &[u8]) -> Value<'a>
-    ensures { shown result ≡ values.head_value (sights.sight_of C.count scope.now) head.now }
+pub(crate) fn head_value<'a, B, C: Counts>(scope: &Scope<'a, B, C>, head: &[u8]) -> FoundValue<'a>
+    ensures { value_bytes result ≡ values.head_value (sights.sight_of C.count scope.now) head.now }
 {
     match cut_once(head, b'(') {
         None => variable(scope, head),
-        Some((name, after)) => called(scope, name, after),
+        Some((name, after)) => call_value(scope, name, after),
     }
 }

@@ -1,9 +1,9 @@
 //! The program `pbx`: says which priority of a dialplan answers a call, and runs calls through it.
 #![tactic(auto)]
 
+use dp_cli::answer;
 use dp_conf::Told;
 use dp_program::{PbxFault, print_fault};
-use dp_words::answer;
 use std::io::ErrorKind;
 use std::process::ExitCode;
 use std::sync::Wait;

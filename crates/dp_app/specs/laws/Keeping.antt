@@ -6,7 +6,7 @@ use Rattle.dp_queue.specs.Queues.{QueuesOf}
 use Rattle.dp_vars.specs.Stores.{StoreOf}
 use Rattle.dp_app.specs.Lawful.{ParksNowhere, IsLawfulRow, KeepsQueues, KeepsStore, KeepsUntouched, MayGo, waiting_after, waiting_lists}
 use Rattle.dp_app.specs.Rows.{Row}
-use Rattle.dp_app.specs.declared.cell.Cell.{Cell}
+use Rattle.dp_app.specs.Cells.{CellOf}
 use Rattle.dp_app.specs.declared.moves.Move.{Move}
 use Rattle.dp_app.specs.declared.moves.Move.TheVariants.{Next, Jump, Park, Hang}
 use Rattle.dp_app.specs.declared.phase.Phase.{Phase}
@@ -22,7 +22,7 @@ pub queues_kept : (touch : Touch) (queues : QueuesOf) → KeepsQueues touch queu
 queues_kept touch queues = search (rules, take-length)
 
 -- a cell that stays as it is
-pub cell_kept : (touch : Touch) (cell : Cell) → KeepsUntouched touch cell cell
+pub cell_kept : (touch : Touch) (cell : CellOf) → KeepsUntouched touch cell cell
 cell_kept touch cell = search (store_kept, queues_kept)
 
 -- a move that parks the channel nowhere keeps the park law
@@ -45,9 +45,9 @@ not_parked going phase g parks = absurd (subst (λ move. ParksNowhere move) park
 
 -- a row that parks the channel nowhere and leaves the queues keeps the laws, if it keeps the touch law
 pub going_lawful : (touch : Touch) (row : Row)
-    → ((arguments : List ℕ) (cell : Cell) → KeepsUntouched touch cell (row arguments cell).cell)
-    → ((arguments : List ℕ) (cell : Cell) → (row arguments cell).cell.queues ≡ cell.queues)
-    → ((arguments : List ℕ) (cell : Cell) → ParksNowhere (row arguments cell).next)
+    → ((arguments : List ℕ) (cell : CellOf) → KeepsUntouched touch cell (row arguments cell).cell)
+    → ((arguments : List ℕ) (cell : CellOf) → (row arguments cell).cell.queues ≡ cell.queues)
+    → ((arguments : List ℕ) (cell : CellOf) → ParksNowhere (row arguments cell).next)
     → IsLawfulRow touch row
 going_lawful touch row keeps same goes = record {
   keeps = keeps;

@@ -6,7 +6,7 @@ use Rattle.dp_vars.specs.Variables.{Named}
 use Rattle.dp_vars.specs.declared.local.Local.{Local}
 use Rattle.dp_app.specs.laws.Keeping.{store_kept, queues_kept}
 use Rattle.dp_app.specs.Lawful.{KeepsStore, KeepsUntouched, places_of}
-use Rattle.dp_app.specs.declared.cell.Cell.{Cell}
+use Rattle.dp_app.specs.Cells.{CellOf}
 use Rattle.dp_app.specs.declared.place.Place.{Place}
 use Rattle.dp_app.specs.declared.touch.Touch.{Touch}
 
@@ -75,7 +75,7 @@ set_local_kept touch store name value touches =
     (changed-places name value (length store.frames - 1) store.frames)
 
 -- a cell of which the store alone changes is kept if the store is
-pub with_store_kept : (touch : Touch) (cell : Cell) (store : StoreOf Place) → KeepsStore touch cell.store store
+pub with_store_kept : (touch : Touch) (cell : CellOf) (store : StoreOf Place) → KeepsStore touch cell.store store
     → KeepsUntouched touch cell (record cell { store = store })
 with_store_kept touch cell store kept = record {
   number = refl;
@@ -88,7 +88,7 @@ with_store_kept touch cell store kept = record {
 }
 
 -- a cell of which the globals alone change
-pub with_globals_kept : (touch : Touch) (cell : Cell) (globals : Named) → touch.globals ≡ true → KeepsUntouched touch cell (record cell { globals = globals })
+pub with_globals_kept : (touch : Touch) (cell : CellOf) (globals : Named) → touch.globals ≡ true → KeepsUntouched touch cell (record cell { globals = globals })
 with_globals_kept touch cell globals touches = record {
   number = refl;
   place = refl;
@@ -100,7 +100,7 @@ with_globals_kept touch cell globals touches = record {
 }
 
 -- a cell of which the caller's number alone changes
-pub with_caller_kept : (touch : Touch) (cell : Cell) (caller : List ℕ) → touch.caller ≡ true → KeepsUntouched touch cell (record cell { caller = caller })
+pub with_caller_kept : (touch : Touch) (cell : CellOf) (caller : List ℕ) → touch.caller ≡ true → KeepsUntouched touch cell (record cell { caller = caller })
 with_caller_kept touch cell caller touches = record {
   number = refl;
   place = refl;

@@ -23,8 +23,8 @@ use Rattle.dp_audit.specs.Unset.{names_read, unset_names}
 use Rattle.dp_audit.specs.declared.finding.Finding.TheVariants.{Cycle, NoApplication, NoTarget, Gap, Hidden, NoFirst, Unset, Unused}
 
 -- a table with one name
-abbrev known : List ℕ → Bool
-known name = pointwise nat_eq (codes "NoOp") name
+abbrev is_no_op : List ℕ → Bool
+is_no_op name = pointwise nat_eq (codes "NoOp") name
 
 abbrev plan_of : List PlanContext → PlanOf
 plan_of contexts = record { globals = []; contexts = contexts }
@@ -48,7 +48,7 @@ cycles = plan_of (
     ∷ context_of (codes "c") [] (codes "c" ∷ [])
     ∷ context_of (codes "d") [] (codes "a" ∷ []) ∷ [])
 
-found-cycles : findings_of known cycles ≡ Cycle 0 ∷ Cycle 1 ∷ Cycle 2 ∷ []
+found-cycles : findings_of is_no_op cycles ≡ Cycle 0 ∷ Cycle 1 ∷ Cycle 2 ∷ []
 unfolding findings_of visit
 found-cycles = refl
 
@@ -60,7 +60,7 @@ applications = plan_of (
     entry_of (Plain (codes "1")) 1 (codes "NoOp")
     ∷ entry_of (Plain (codes "1")) 2 (codes "Nope") ∷ []) [] ∷ [])
 
-found-applications : findings_of known applications ≡ NoApplication (id_of 0 1) ∷ []
+found-applications : findings_of is_no_op applications ≡ NoApplication (id_of 0 1) ∷ []
 unfolding findings_of visit found_entry name_cmp spelling missing_targets hidden_from unset_names names_read is_unused
 found-applications = refl
 
@@ -78,7 +78,7 @@ gaps = plan_of (
     ∷ entry_of (Plain (codes "2")) 1 (codes "NoOp") ∷ []) (codes "b" ∷ [])
     ∷ context_of (codes "b") (entry_of (Pattern [] Dot) 2 (codes "NoOp") ∷ []) [] ∷ [])
 
-found-gaps : findings_of known gaps ≡ Gap (id_of 0 2) ∷ NoFirst (id_of 1 0) ∷ []
+found-gaps : findings_of is_no_op gaps ≡ Gap (id_of 0 2) ∷ NoFirst (id_of 1 0) ∷ []
 unfolding findings_of visit found_entry name_cmp spelling missing_targets hidden_from unset_names names_read is_unused
 found-gaps = refl
 
@@ -89,7 +89,7 @@ patterns = plan_of (
     entry_of (Pattern [] Dot) 1 (codes "NoOp")
     ∷ entry_of (Pattern [] Dot) 3 (codes "NoOp") ∷ []) [] ∷ [])
 
-found-patterns : findings_of known patterns ≡ []
+found-patterns : findings_of is_no_op patterns ≡ []
 unfolding findings_of visit found_entry name_cmp spelling missing_targets hidden_from unset_names names_read is_unused
 found-patterns = refl
 
@@ -105,7 +105,7 @@ beginnings = plan_of (
     ∷ entry_of (Plain (codes "3")) 1 (codes "NoOp") ∷ []) (codes "b" ∷ [])
     ∷ context_of (codes "b") (entry_of (Plain (codes "2")) 1 (codes "NoOp") ∷ []) [] ∷ [])
 
-found-beginnings : findings_of known beginnings ≡ NoFirst (id_of 0 1) ∷ []
+found-beginnings : findings_of is_no_op beginnings ≡ NoFirst (id_of 0 1) ∷ []
 unfolding findings_of visit found_entry name_cmp spelling missing_targets hidden_from unset_names names_read is_unused
 found-beginnings = refl
 
@@ -117,15 +117,15 @@ pattern_beginnings = plan_of (
     ∷ entry_of (Pattern [] Dot) 2 (codes "NoOp") ∷ []) (codes "b" ∷ [])
     ∷ context_of (codes "b") (entry_of (Pattern [] Dot) 1 (codes "NoOp") ∷ []) [] ∷ [])
 
-found-pattern_beginnings : findings_of known pattern_beginnings ≡ NoFirst (id_of 0 0) ∷ []
+found-pattern_beginnings : findings_of is_no_op pattern_beginnings ≡ NoFirst (id_of 0 0) ∷ []
 unfolding findings_of visit found_entry name_cmp spelling missing_targets hidden_from unset_names names_read is_unused
 found-pattern_beginnings = refl
 
 -- ---- hidden entries
 
 -- `a` includes `b`: `1` of `b` is hidden from it at priority 1 and not at 2, `2` has no other, and from `b` nothing is hidden
-abbrev hidden : PlanOf
-hidden = plan_of (
+abbrev hidden_plan : PlanOf
+hidden_plan = plan_of (
     context_of (codes "a") (
     entry_of (Plain (codes "1")) 1 (codes "NoOp") ∷ []) (codes "b" ∷ [])
     ∷ context_of (codes "b") (
@@ -133,9 +133,9 @@ hidden = plan_of (
     ∷ entry_of (Plain (codes "1")) 2 (codes "NoOp")
     ∷ entry_of (Plain (codes "2")) 1 (codes "NoOp") ∷ []) [] ∷ [])
 
-found-hidden : findings_of known hidden ≡ Hidden (id_of 1 0) 0 ∷ []
+found-hidden_plan : findings_of is_no_op hidden_plan ≡ Hidden (id_of 1 0) 0 ∷ []
 unfolding findings_of visit found_entry name_cmp spelling missing_targets hidden_from unset_names names_read is_unused
-found-hidden = refl
+found-hidden_plan = refl
 
 -- `a` and `b` include each other, and each hides the other's `1`
 abbrev hidden_in_cycle : PlanOf
@@ -143,7 +143,7 @@ hidden_in_cycle = plan_of (
     context_of (codes "a") (entry_of (Plain (codes "1")) 1 (codes "NoOp") ∷ []) (codes "b" ∷ [])
     ∷ context_of (codes "b") (entry_of (Plain (codes "1")) 1 (codes "NoOp") ∷ []) (codes "a" ∷ []) ∷ [])
 
-found-hidden_in_cycle : findings_of known hidden_in_cycle ≡ Cycle 0 ∷ Hidden (id_of 0 0) 1 ∷ Cycle 1 ∷ Hidden (id_of 1 0) 0 ∷ []
+found-hidden_in_cycle : findings_of is_no_op hidden_in_cycle ≡ Cycle 0 ∷ Hidden (id_of 0 0) 1 ∷ Cycle 1 ∷ Hidden (id_of 1 0) 0 ∷ []
 unfolding findings_of visit found_entry name_cmp spelling missing_targets hidden_from unset_names names_read is_unused
 found-hidden_in_cycle = refl
 
@@ -155,7 +155,7 @@ hidden_by_way = plan_of (
     ∷ context_of (codes "c") (entry_of (Pattern ((50 ∷ []) ∷ []) Dot) 1 (codes "NoOp") ∷ []) []
     ∷ context_of (codes "d") (entry_of (Pattern ((50 ∷ []) ∷ []) Dot) 1 (codes "NoOp") ∷ []) [] ∷ [])
 
-found-hidden_by_way : findings_of known hidden_by_way ≡ Hidden (id_of 3 0) 0 ∷ Hidden (id_of 3 0) 1 ∷ []
+found-hidden_by_way : findings_of is_no_op hidden_by_way ≡ Hidden (id_of 3 0) 0 ∷ Hidden (id_of 3 0) 1 ∷ []
 unfolding findings_of visit found_entry name_cmp spelling missing_targets hidden_from unset_names names_read is_unused
 found-hidden_by_way = refl
 
@@ -171,7 +171,7 @@ texts = plan_of (
     record (with_arguments (entry_of (Plain (codes "1")) 1 (codes "Goto")) (codes "9")) { label = Some (codes "x") }
     ∷ with_arguments (entry_of (Plain (codes "1")) 2 (codes "NoOp")) (codes "${X:1} ${EXTEN}") ∷ []) [] ∷ [])
 
-found-texts : findings_of known texts
+found-texts : findings_of is_no_op texts
     ≡ NoApplication (id_of 0 0) ∷ NoTarget (id_of 0 0) (codes "9") ∷ Unused (id_of 0 0) ∷ Unset (id_of 0 1) (codes "X") ∷ []
 unfolding findings_of visit found_entry name_cmp spelling missing_targets hidden_from unset_names names_read is_unused answers parts_of has_opening
 found-texts = refl
@@ -191,7 +191,7 @@ held_labels = plan_of (
     ∷ context_of (codes "b") (
     with_arguments (entry_of (Plain (codes "1")) 1 (codes "Later")) (codes "1?x: z ,s,1") ∷ []) [] ∷ [])
 
-found-held_labels : findings_of known held_labels ≡ Unused (id_of 0 1) ∷ NoApplication (id_of 1 0) ∷ []
+found-held_labels : findings_of is_no_op held_labels ≡ Unused (id_of 0 1) ∷ NoApplication (id_of 1 0) ∷ []
 unfolding findings_of visit found_entry name_cmp spelling missing_targets hidden_from unset_names names_read is_unused answers parts_of has_opening
 found-held_labels = refl
 
@@ -201,6 +201,6 @@ known_labels = plan_of (
     context_of (codes "a") (
     with_label (with_arguments (entry_of (Plain (codes "1")) 1 (codes "NoOp")) (codes "1?x: z ,s,1")) (codes "x") ∷ []) [] ∷ [])
 
-found-known_labels : findings_of known known_labels ≡ Unused (id_of 0 0) ∷ []
+found-known_labels : findings_of is_no_op known_labels ≡ Unused (id_of 0 0) ∷ []
 unfolding findings_of visit found_entry name_cmp spelling missing_targets hidden_from unset_names names_read is_unused answers parts_of has_opening
 found-known_labels = refl

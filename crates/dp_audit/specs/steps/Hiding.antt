@@ -13,28 +13,28 @@ use Rattle.dp_plan.specs.declared.entry.Entry.{Entry}
 use Rattle.dp_plan.specs.declared.entry.EntryId.{EntryId}
 use Rattle.dp_audit.specs.Candidates.{same_id}
 use Rattle.dp_audit.specs.Hidden.{hidden_from, is_hidden, some_shares}
-use Rattle.dp_audit.specs.declared.place.Place.{Place}
+use Rattle.dp_audit.specs.declared.entry_place.EntryPlace.{EntryPlace}
 
 -- ---- places
 
 -- the place of an entry
-abbrev pub place_of : Entry → Place
+abbrev pub place_of : Entry → EntryPlace
 place_of entry = record { name = spelling entry.name; priority = entry.priority }
 
-abbrev pub same_place : Place → Place → Bool
+abbrev pub same_place : EntryPlace → EntryPlace → Bool
 same_place a b = pointwise nat_eq a.name b.name && a.priority == b.priority
 
 -- the entry has the place
-abbrev pub is_at : Place → Entry → Bool
+abbrev pub is_at : EntryPlace → Entry → Bool
 is_at place entry = same_place place (place_of entry)
 
 -- an entry of the contexts has the place
-abbrev pub some_at : PlanOf → List ℕ → Place → Bool
+abbrev pub some_at : PlanOf → List ℕ → EntryPlace → Bool
 some_at plan contexts place = list_any (λ number. list_any (is_at place) (entries_at plan number)) contexts
 
 -- a place is among the new ones where it is among the old ones, or passes the test
-abbrev pub Adds : (Place → Bool) → List Place → List Place → Type 0
-Adds test old new = (place : Place) → list_any (same_place place) new ≡ (list_any (same_place place) old || test place)
+abbrev pub Adds : (EntryPlace → Bool) → List EntryPlace → List EntryPlace → Type 0
+Adds test old new = (place : EntryPlace) → list_any (same_place place) new ≡ (list_any (same_place place) old || test place)
 
 -- ---- notes
 
@@ -59,11 +59,11 @@ abbrev pub Grows : Notes → Notes → (EntryId → List ℕ) → Type 0
 Grows old new more = (id : EntryId) → noted_at new id ≡ option_map (λ noted. noted ++ more id) (noted_at old id)
 
 -- the place of the entry is among these
-abbrev pub is_among : List Place → Entry → Bool
+abbrev pub is_among : List EntryPlace → Entry → Bool
 is_among places entry = list_any (same_place (place_of entry)) places
 
 -- a number for the entry of these numbers, where its place is among these
-abbrev pub for_one : List Place → EntryId → Entry → ℕ → EntryId → List ℕ
+abbrev pub for_one : List EntryPlace → EntryId → Entry → ℕ → EntryId → List ℕ
 for_one places id entry from other = if same_id other id && is_among places entry then from ∷ [] else []
 
 -- a number for each entry of a context that passes the test
@@ -71,10 +71,10 @@ abbrev pub for_each : PlanOf → (Entry → Bool) → ℕ → ℕ → EntryId �
 for_each plan test number from id = if id.context == number && passes plan test id then from ∷ [] else []
 
 -- a number for each entry of an order's contexts that shares its place with one of a context before its own
-abbrev pub asked : PlanOf → ℕ → List ℕ → List ℕ → EntryId → List ℕ
-asked plan from earlier [] id = []
-asked plan from earlier (number ∷ order) id =
-    for_each plan (some_shares plan earlier) number from id ++ asked plan from (earlier ++ number ∷ []) order id
+abbrev pub numbers_asked : PlanOf → ℕ → List ℕ → List ℕ → EntryId → List ℕ
+numbers_asked plan from earlier [] id = []
+numbers_asked plan from earlier (number ∷ order) id =
+    for_each plan (some_shares plan earlier) number from id ++ numbers_asked plan from (earlier ++ number ∷ []) order id
 
 -- the first so many contexts from which each entry is hidden
 abbrev pub all_hidden : PlanOf → ℕ → EntryId → List ℕ

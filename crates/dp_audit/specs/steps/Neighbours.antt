@@ -18,8 +18,8 @@ abbrev pub is_followed : List Entry → List EntryId → ℕ → Bool
 is_followed entries ids place = are_of_one_name (ranked_entry entries ids place) (ranked_entry entries ids (place + 1))
 
 -- the marks with that of the entry at the place, where there is one
-abbrev pub marked : List EntryId → ℕ → List Bool → List Bool
-marked ids place marks = option_map_or (λ id. slice_set marks id.entry true) (slice_get ids place) marks
+abbrev pub with_mark : List EntryId → ℕ → List Bool → List Bool
+with_mark ids place marks = option_map_or (λ id. slice_set marks id.entry true) (slice_get ids place) marks
 
 -- the entry of the number stands so far after one of the first places that has one of its name after it
 pub record IsAfter (entries : List Entry) (ids : List EntryId) (shift count number : ℕ) : Type 0 where

@@ -1,7 +1,7 @@
 //! What an audit finds.
+use dp_case_tables::{Question, bytes_of, check};
 use dp_commands::audit;
-use dp_commands_fixture::{make_sink, told};
-use dp_questions::{Question, bytes_of, check};
+use dp_commands_fixture::{make_sink, outcome_text};
 use std::alloc::Global;
 use std::test::Fail;
 
@@ -113,7 +113,7 @@ abc\n→fault 2 NoSection line 1
 fn findings_of(alloc: Global, plan: &[u8]) -> Result<String, Fail> {
     let mut writer = make_sink(alloc, 4096, None);
     let ended = audit(alloc, plan, &mut writer);
-    let lines = told(alloc, ended, writer)?;
+    let lines = outcome_text(alloc, ended, writer)?;
     Ok(lines)
 }
 

@@ -1,8 +1,8 @@
 //! All extensions that match a dialled text, and what decides about each.
+use dp_case_tables::{Question, bytes_of, check};
 use dp_commands::match_all;
-use dp_commands_fixture::{make_sink, told};
+use dp_commands_fixture::{make_sink, outcome_text};
 use dp_plan::Priority;
-use dp_questions::{Question, bytes_of, check};
 use std::alloc::Global;
 use std::test::Fail;
 
@@ -21,7 +21,7 @@ fn lines_of(alloc: Global, plan: &[u8], asked: &str) -> Result<String, Fail> {
         priority,
         &mut writer,
     );
-    let lines = told(alloc, ended, writer)?;
+    let lines = outcome_text(alloc, ended, writer)?;
     Ok(lines)
 }
 

@@ -1,10 +1,10 @@
 //! The numbers and the printed names of the faults.
 use dp_board::{Disagree, SettleFault};
+use dp_case_tables::check_same;
 use dp_commands::{Code, PbxFault};
 use dp_commands_fixture::push_fault;
 use dp_conf::{LineKind, NoMemory, ReadFault};
 use dp_plan::{NameFault, PlanKind, Word};
-use dp_questions::check_same;
 use std::test::Fail;
 
 /// All codes.

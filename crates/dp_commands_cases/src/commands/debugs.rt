@@ -1,8 +1,8 @@
 //! Debugged runs, with all that is printed of them, worked out by hand from the rules.
+use dp_case_tables::{Question, check_all};
 use dp_commands::debug_script;
-use dp_commands_fixture::{Texts, make_sink, read_texts, told};
+use dp_commands_fixture::{Texts, make_sink, outcome_text, read_texts};
 use dp_conf::NoMemory;
-use dp_questions::{Question, check_all};
 use std::alloc::Global;
 use std::test::Fail;
 
@@ -95,16 +95,8 @@ main,s,1¦¦¦¦[main→end 0\nstatus 0
 /// All that a debugged run of these texts writes, and what it ends with after it.
 fn answer_to(alloc: Global, held: &str, texts: &Texts) -> Result<String, NoMemory> {
     let mut writer = make_sink(alloc, 4096, None);
-    let ended = debug_script(
-        alloc,
-        &texts.plan,
-        Some(&texts.queues),
-        texts.second_plan.as_deref(),
-        &texts.script,
-        held.as_bytes(),
-        &mut writer,
-    );
-    told(alloc, ended, writer)
+    let ended = debug_script(alloc, texts.lend(), held.as_bytes(), &mut writer);
+    outcome_text(alloc, ended, writer)
 }
 
 /// The same of the texts of a case.

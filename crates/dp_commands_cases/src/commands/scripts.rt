@@ -1,9 +1,9 @@
 //! Scripts with their lines or their fault, worked out by hand from the rules.
+use dp_case_tables::{Question, bytes_of, check, push_bytes};
 use dp_commands::{PbxFault, ScriptLine, Turn, read_script};
 use dp_commands_fixture::push_fault;
 use dp_conf::NoMemory;
 use dp_machine::Event;
-use dp_questions::{Question, bytes_of, check, push_bytes};
 use std::alloc::Global;
 use std::test::Fail;
 
@@ -194,7 +194,10 @@ fn push_line(out: &mut String, line: &ScriptLine) -> Result<(), NoMemory> {
     }
 }
 
-fn shown(alloc: Global, read: &Result<Vec<ScriptLine>, PbxFault>) -> Result<String, NoMemory> {
+fn show_script(
+    alloc: Global,
+    read: &Result<Vec<ScriptLine>, PbxFault>,
+) -> Result<String, NoMemory> {
     let mut out = String::new(alloc);
     match read {
         Ok(lines) => {
@@ -213,7 +216,7 @@ struct Scripts;
 impl Question for Scripts {
     fn answer(alloc: Global, asked: &str) -> Result<String, Fail> {
         let text = bytes_of(alloc, asked)?;
-        let out = shown(alloc, &read_script(alloc, None, &text))?;
+        let out = show_script(alloc, &read_script(alloc, None, &text))?;
         Ok(out)
     }
 }
@@ -226,7 +229,7 @@ impl Question for BesideSecond {
         let (second_plan, script) = asked.split_once('¦').ok_or("no script")?;
         let second_plan = bytes_of(alloc, second_plan)?;
         let script = bytes_of(alloc, script)?;
-        let out = shown(alloc, &read_script(alloc, Some(&second_plan), &script))?;
+        let out = show_script(alloc, &read_script(alloc, Some(&second_plan), &script))?;
         Ok(out)
     }
 }

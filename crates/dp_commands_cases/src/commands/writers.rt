@@ -1,5 +1,5 @@
 //! Writers that fail.
-use dp_commands::{PbxFault, match_one, run_script};
+use dp_commands::{PbxFault, RunTexts, match_one, run_script};
 use dp_commands_fixture::{Check, Command, Run, Sink, check_into, make_sink};
 use dp_conf::{NoMemory, Told};
 use dp_plan::Priority;
@@ -37,14 +37,13 @@ struct RingAll;
 
 impl Command for RingAll {
     fn serve(alloc: Global, text: &[u8], writer: &mut Told<Sink>) -> Result<u8, PbxFault> {
-        run_script(
-            alloc,
-            RING_ALL_PLAN,
-            Some(RING_ALL_QUEUES),
-            None,
-            text,
-            writer,
-        )
+        let texts = RunTexts {
+            plan: RING_ALL_PLAN,
+            queues: Some(RING_ALL_QUEUES),
+            second_plan: None,
+            script: text,
+        };
+        run_script(alloc, texts, writer)
     }
 }
 

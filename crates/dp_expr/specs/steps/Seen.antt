@@ -2,7 +2,7 @@
 use Rattle.std.specs.Prelude.{◌≡◌, ℕ, ◌<◌, false, List, [], ◌∷◌, length, ⊤}
 use Rattle.dp_expr.specs.declared.token.Token.{Token as BorrowedToken}
 use Rattle.dp_expr.specs.declared.token.Token.TheVariants as borrowed
-use Rattle.dp_expr.specs.declared.token.Cut.{Cut as BorrowedCut}
+use Rattle.dp_expr.specs.declared.token.TokenCut.{TokenCut as BorrowedCut}
 use Rattle.dp_expr.specs.Tokens.{Token, Operand, Sign, Bang, Opening, Closing, Stray, Cut, is_blank, tokens_of}
 
 -- a token, with the bytes that it borrows

@@ -1,7 +1,7 @@
 -- A step of the code: how definitions see its stack, which is the list of the frames of `walk` of Walk.
 use Rattle.std.specs.Prelude.{List}
 use Rattle.dp_expr.specs.declared.stack.Stack.{Stack}
-use Rattle.dp_expr.specs.declared.place.Place.{Place}
+use Rattle.dp_expr.specs.declared.walk_place.WalkPlace.{WalkPlace}
 use Rattle.dp_expr.specs.steps.Frames.{frames_seen}
 use Rattle.dp_expr.specs.steps.Places.{place_seen}
 use Rattle.dp_expr.specs.Values.{Outcome}
@@ -12,5 +12,5 @@ abbrev pub stack_seen : Stack → List (Frame Outcome)
 stack_seen stack = frames_seen stack.frames.items
 
 -- the state of a walk at a place, with that stack
-abbrev pub state_seen : Place → Stack → State Outcome
+abbrev pub state_seen : WalkPlace → Stack → State Outcome
 state_seen place stack = place_seen place (stack_seen stack)

@@ -3,15 +3,15 @@
 use Rattle.std.specs.Prelude.{ℕ, List, Option, Some, None}
 use Rattle.std.specs.Fmt.{signed_decimal}
 use Rattle.dp_expr.specs.Values.{Outcome}
-use Rattle.dp_expr.specs.declared.text.Text.{Text}
-use Rattle.dp_expr.specs.declared.text.Text.TheVariants.{Written, Computed}
+use Rattle.dp_expr.specs.declared.text_value.TextValue.{TextValue}
+use Rattle.dp_expr.specs.declared.text_value.TextValue.TheVariants.{Written, Computed}
 
 -- the bytes of a text
-abbrev pub text_seen : Text → List ℕ
+abbrev pub text_seen : TextValue → List ℕ
 text_seen (Written operand) = operand.text.now
 text_seen (Computed number) = signed_decimal number
 
 -- a value: a text, or none for a fault
-abbrev pub value_seen : Option Text → Outcome
+abbrev pub value_seen : Option TextValue → Outcome
 value_seen None = None
 value_seen (Some text) = Some (text_seen text)

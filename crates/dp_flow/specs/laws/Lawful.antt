@@ -9,13 +9,13 @@ use Rattle.dp_conf.specs.Words.{same_text}
 use Rattle.dp_vars.specs.Stores.{Frame, innermost, popped_setting, set, set_local, with_frame, without_frame}
 use Rattle.dp_app.specs.laws.Keeping.{cell_kept, going_lawful, not_parked, store_kept}
 use Rattle.dp_app.specs.Lawful.{ParksNowhere, IsLawfulRow, KeepsUntouched, MayGo, MayPark, waiting_after, waiting_lists, waiting_parked}
-use Rattle.dp_app.specs.declared.cell.Cell.{Cell}
+use Rattle.dp_app.specs.Cells.{CellOf}
 use Rattle.dp_app.specs.declared.phase.Phase.{Phase}
 use Rattle.dp_app.specs.declared.phase.Phase.TheVariants.{Dialling, Digits, Pause}
 use Rattle.dp_app.specs.declared.place.Place.{Place}
 use Rattle.dp_app.specs.declared.moves.Move.{Move}
 use Rattle.dp_app.specs.declared.moves.Move.TheVariants.{Next, Park, Hang}
-use Rattle.dp_flow.specs.Conditions.{chosen}
+use Rattle.dp_flow.specs.Conditions.{chosen_side}
 use Rattle.dp_app.specs.Parts.{has_option, is_given, part}
 use Rattle.dp_flow.specs.Dialling as dialling
 use Rattle.dp_flow.specs.Jumps as jumps
@@ -27,7 +27,7 @@ use Rattle.dp_flow.specs.Touches.{nothing, settable, the_frames, the_variables, 
 use Rattle.dp_flow.specs.Waiting as waits
 
 -- a row that leaves the cell as it is and parks the channel nowhere
-staying : (move_of : List ℕ → Cell → Move) → ((arguments : List ℕ) (cell : Cell) → ParksNowhere (move_of arguments cell))
+staying : (move_of : List ℕ → CellOf → Move) → ((arguments : List ℕ) (cell : CellOf) → ParksNowhere (move_of arguments cell))
     → IsLawfulRow nothing (λ arguments cell. jumps.stays cell (move_of arguments cell))
 staying move_of goes =
     going_lawful nothing (λ arguments cell. jumps.stays cell (move_of arguments cell)) (λ arguments cell. cell_kept nothing cell) (λ arguments cell. refl) goes
@@ -42,7 +42,7 @@ going_if (Some side) = tt
 
 -- the row of `GotoIf`
 pub goto_if_lawful : IsLawfulRow nothing jumps.goto_if_row
-goto_if_lawful = staying (λ arguments cell. jumps.jump_if (chosen arguments)) (λ arguments cell. going_if (chosen arguments))
+goto_if_lawful = staying (λ arguments cell. jumps.jump_if (chosen_side arguments)) (λ arguments cell. going_if (chosen_side arguments))
 
 -- a row that goes on
 pub next_lawful : IsLawfulRow nothing plain.next_row
@@ -57,17 +57,17 @@ abbrev front_of : List (List ℕ) → List (List ℕ)
 front_of parts = take (length parts - 1) parts
 
 -- a subroutine that is entered pushes a frame at most
-entered_kept : (cell : Cell) (parts : List (List ℕ)) (o : Option SubroutineCall) → KeepsUntouched the_frames cell (jumps.entered cell parts o).cell
+entered_kept : (cell : CellOf) (parts : List (List ℕ)) (o : Option SubroutineCall) → KeepsUntouched the_frames cell (jumps.enter_subroutine cell parts o).cell
 entered_kept cell parts None = cell_kept the_frames cell
 entered_kept cell parts (Some c) =
-    with_store_kept the_frames cell (with_frame cell.store (jumps.place_after cell.place) (jumps.numbered 1 c.arguments))
-    (pushed_kept the_frames cell.store (jumps.place_after cell.place) (jumps.numbered 1 c.arguments) refl)
+    with_store_kept the_frames cell (with_frame cell.store (jumps.place_after cell.place) (jumps.argument_locals 1 c.arguments))
+    (pushed_kept the_frames cell.store (jumps.place_after cell.place) (jumps.argument_locals 1 c.arguments) refl)
 
-entered_same : (cell : Cell) (parts : List (List ℕ)) (o : Option SubroutineCall) → (jumps.entered cell parts o).cell.queues ≡ cell.queues
+entered_same : (cell : CellOf) (parts : List (List ℕ)) (o : Option SubroutineCall) → (jumps.enter_subroutine cell parts o).cell.queues ≡ cell.queues
 entered_same cell parts None = refl
 entered_same cell parts (Some c) = refl
 
-entered_going : (cell : Cell) (parts : List (List ℕ)) (o : Option SubroutineCall) → ParksNowhere (jumps.entered cell parts o).next
+entered_going : (cell : CellOf) (parts : List (List ℕ)) (o : Option SubroutineCall) → ParksNowhere (jumps.enter_subroutine cell parts o).next
 entered_going cell parts None = tt
 entered_going cell parts (Some c) = tt
 
@@ -75,47 +75,47 @@ entered_going cell parts (Some c) = tt
 pub gosub_lawful : IsLawfulRow the_frames jumps.gosub_row
 unfolding jumps.gosub_row
 gosub_lawful = going_lawful the_frames jumps.gosub_row
-    (λ arguments cell. entered_kept cell (front_of (arguments_of arguments)) (jumps.called (arguments_of arguments)))
-    (λ arguments cell. entered_same cell (front_of (arguments_of arguments)) (jumps.called (arguments_of arguments)))
-    (λ arguments cell. entered_going cell (front_of (arguments_of arguments)) (jumps.called (arguments_of arguments)))
+    (λ arguments cell. entered_kept cell (front_of (arguments_of arguments)) (jumps.subroutine_call (arguments_of arguments)))
+    (λ arguments cell. entered_same cell (front_of (arguments_of arguments)) (jumps.subroutine_call (arguments_of arguments)))
+    (λ arguments cell. entered_going cell (front_of (arguments_of arguments)) (jumps.subroutine_call (arguments_of arguments)))
 
-gosub_if_kept : (cell : Cell) (side : Option (List ℕ)) → KeepsUntouched the_frames cell (jumps.gosub_if side cell).cell
+gosub_if_kept : (cell : CellOf) (side : Option (List ℕ)) → KeepsUntouched the_frames cell (jumps.gosub_if side cell).cell
 gosub_if_kept cell None = cell_kept the_frames cell
 gosub_if_kept cell (Some side) = gosub_lawful.keeps side cell
 
-gosub_if_same : (cell : Cell) (side : Option (List ℕ)) → (jumps.gosub_if side cell).cell.queues ≡ cell.queues
+gosub_if_same : (cell : CellOf) (side : Option (List ℕ)) → (jumps.gosub_if side cell).cell.queues ≡ cell.queues
 unfolding jumps.gosub_row
 gosub_if_same cell None = refl
-gosub_if_same cell (Some side) = entered_same cell (front_of (arguments_of side)) (jumps.called (arguments_of side))
+gosub_if_same cell (Some side) = entered_same cell (front_of (arguments_of side)) (jumps.subroutine_call (arguments_of side))
 
-gosub_if_going : (cell : Cell) (side : Option (List ℕ)) → ParksNowhere (jumps.gosub_if side cell).next
+gosub_if_going : (cell : CellOf) (side : Option (List ℕ)) → ParksNowhere (jumps.gosub_if side cell).next
 unfolding jumps.gosub_row
 gosub_if_going cell None = tt
-gosub_if_going cell (Some side) = entered_going cell (front_of (arguments_of side)) (jumps.called (arguments_of side))
+gosub_if_going cell (Some side) = entered_going cell (front_of (arguments_of side)) (jumps.subroutine_call (arguments_of side))
 
 -- the row of `GosubIf`
 pub gosub_if_lawful : IsLawfulRow the_frames jumps.gosub_if_row
 unfolding jumps.gosub_if_row
 gosub_if_lawful = going_lawful the_frames jumps.gosub_if_row
-    (λ arguments cell. gosub_if_kept cell (chosen arguments))
-    (λ arguments cell. gosub_if_same cell (chosen arguments))
-    (λ arguments cell. gosub_if_going cell (chosen arguments))
+    (λ arguments cell. gosub_if_kept cell (chosen_side arguments))
+    (λ arguments cell. gosub_if_same cell (chosen_side arguments))
+    (λ arguments cell. gosub_if_going cell (chosen_side arguments))
 
 -- the end of a subroutine, by the frame that goes
-module _ (cell : Cell) (value : List ℕ) where
+module _ (cell : CellOf) (value : List ℕ) where
   return_kept : (o : Option (Frame Place))
-      → KeepsUntouched variables_and_frames cell (jumps.returned cell (popped_setting cell.store (codes "GOSUB_RETVAL") value o)).cell
+      → KeepsUntouched variables_and_frames cell (jumps.return_outcome cell (popped_setting cell.store (codes "GOSUB_RETVAL") value o)).cell
   return_kept None = with_store_kept variables_and_frames cell cell.store (store_kept variables_and_frames cell.store)
   return_kept (Some frame) =
       with_store_kept variables_and_frames cell (set (without_frame cell.store) (codes "GOSUB_RETVAL") value)
       (set_kept variables_and_frames cell.store (without_frame cell.store) (codes "GOSUB_RETVAL") value refl
       (dropped_kept variables_and_frames cell.store refl))
 
-  return_same : (o : Option (Frame Place)) → (jumps.returned cell (popped_setting cell.store (codes "GOSUB_RETVAL") value o)).cell.queues ≡ cell.queues
+  return_same : (o : Option (Frame Place)) → (jumps.return_outcome cell (popped_setting cell.store (codes "GOSUB_RETVAL") value o)).cell.queues ≡ cell.queues
   return_same None = refl
   return_same (Some frame) = refl
 
-  return_going : (o : Option (Frame Place)) → ParksNowhere (jumps.returned cell (popped_setting cell.store (codes "GOSUB_RETVAL") value o)).next
+  return_going : (o : Option (Frame Place)) → ParksNowhere (jumps.return_outcome cell (popped_setting cell.store (codes "GOSUB_RETVAL") value o)).next
   return_going None = tt
   return_going (Some frame) = tt
 
@@ -134,11 +134,11 @@ stack_pop_lawful = going_lawful the_frames jumps.stack_pop_row
     (λ arguments cell. refl) (λ arguments cell. tt)
 
 -- what a name that is set leaves of a cell
-record SetsOnly (before after : Cell) : Type 0 where
+record SetsOnly (before after : CellOf) : Type 0 where
   keeps : KeepsUntouched settable before after
   same : after.queues ≡ before.queues
 
-module _ (cell : Cell) (argument value : List ℕ) where
+module _ (cell : CellOf) (argument value : List ℕ) where
   caller_only : (b : Bool) → SetsOnly cell (if b then record cell { caller = value } else cell)
   caller_only true = record { keeps = with_caller_kept settable cell value refl; same = refl }
   caller_only false = record { keeps = cell_kept settable cell; same = refl }
@@ -162,17 +162,17 @@ module _ (cell : Cell) (argument value : List ℕ) where
     same = refl;
   }
 
-called_only : (cell : Cell) (function value : List ℕ) (o : Option (List ℕ)) → SetsOnly cell (settings.with_called cell function o value)
+called_only : (cell : CellOf) (function value : List ℕ) (o : Option (List ℕ)) → SetsOnly cell (settings.with_called cell function o value)
 called_only cell function value None = record { keeps = cell_kept settable cell; same = refl }
 called_only cell function value (Some argument) =
     function_only cell argument value (same_text function (codes "GLOBAL")) (same_text function (codes "LOCAL"))
     (same_text function (codes "CALLERID")) (same_text argument (codes "num"))
 
-name_only : (cell : Cell) (name value : List ℕ) (o : Option (List ℕ × List ℕ)) → SetsOnly cell (settings.with_name cell name o value)
+name_only : (cell : CellOf) (name value : List ℕ) (o : Option (List ℕ × List ℕ)) → SetsOnly cell (settings.with_name cell name o value)
 name_only cell name value None = variable_only cell [] value name
 name_only cell name value (Some cut) = called_only cell cut.0 value (settings.argument_of cut.1)
 
-pair_only : (cell : Cell) (o : Option (List ℕ × List ℕ)) → SetsOnly cell (settings.with_pair cell o)
+pair_only : (cell : CellOf) (o : Option (List ℕ × List ℕ)) → SetsOnly cell (settings.with_pair cell o)
 pair_only cell None = record { keeps = cell_kept settable cell; same = refl }
 pair_only cell (Some cut) = name_only cell (trim cut.0) cut.1 (cut_once 40 (trim cut.0))
 
@@ -190,25 +190,25 @@ false_is_true e = cc
 -- a wait in a phase in which a channel may be parked, and which leaves the waiting lists
 module _ (phase : Phase) (may : (count : ℕ) → MayPark count phase)
     (leaves : (lists : List (List ℕ)) (number : ℕ) → lists ≡ waiting_parked lists number phase) where
-  parked_parks : (count : ℕ) (b : Bool) → MayGo count (waits.parked phase b)
+  parked_parks : (count : ℕ) (b : Bool) → MayGo count (waits.park_move phase b)
   parked_parks count true = tt
   parked_parks count false = may count
 
-  parked_waits : (lists : List (List ℕ)) (number : ℕ) (b : Bool) → lists ≡ waiting_after lists number (waits.parked phase b)
+  parked_waits : (lists : List (List ℕ)) (number : ℕ) (b : Bool) → lists ≡ waiting_after lists number (waits.park_move phase b)
   parked_waits lists number true = refl
   parked_waits lists number false = leaves lists number
 
-  parked_closes : (b : Bool) → b ≡ true → ParksNowhere (waits.parked phase b)
+  parked_closes : (b : Bool) → b ≡ true → ParksNowhere (waits.park_move phase b)
   parked_closes true closing = tt
   parked_closes false closing = absurd (false_is_true closing)
 
-  parked_lawful : IsLawfulRow nothing (λ arguments cell. jumps.stays cell (waits.parked phase cell.is_closing))
+  parked_lawful : IsLawfulRow nothing (λ arguments cell. jumps.stays cell (waits.park_move phase cell.is_closing))
   parked_lawful = record {
     keeps = λ arguments cell. cell_kept nothing cell;
     parks = λ arguments cell. parked_parks (length cell.queues.queues) cell.is_closing;
     waits = λ arguments cell. parked_waits (map (λ queue. queue.waiting) cell.queues.queues) cell.number cell.is_closing;
     closes = λ arguments cell closing. parked_closes cell.is_closing closing;
-    hangs = λ arguments cell asked closing parks. ap (λ b. jumps.stays cell (waits.parked phase b)) closing;
+    hangs = λ arguments cell asked closing parks. ap (λ b. jumps.stays cell (waits.park_move phase b)) closing;
   }
 
 -- the row of `Wait`
@@ -224,33 +224,33 @@ pub background_lawful : IsLawfulRow nothing waits.background_row
 background_lawful = parked_lawful (Digits [] true) (λ count. refl) (λ lists number. refl)
 
 -- a call to devices, where there are any
-module _ (cell : Cell) (goes_on has_timer : Bool) where
-  dialled_kept : (given : Bool) → KeepsUntouched the_variables cell (dialling.dialled given cell goes_on has_timer).cell
+module _ (cell : CellOf) (goes_on has_timer : Bool) where
+  dialled_kept : (given : Bool) → KeepsUntouched the_variables cell (dialling.dial_outcome given cell goes_on has_timer).cell
   dialled_kept false =
       with_store_kept the_variables cell (set cell.store (codes "DIALSTATUS") (codes "CHANUNAVAIL"))
       (set_kept the_variables cell.store cell.store (codes "DIALSTATUS") (codes "CHANUNAVAIL") refl (store_kept the_variables cell.store))
   dialled_kept true = cell_kept the_variables cell
 
-  dialled_parks : (count : ℕ) (given : Bool) → MayGo count (dialling.dialled given cell goes_on has_timer).next
+  dialled_parks : (count : ℕ) (given : Bool) → MayGo count (dialling.dial_outcome given cell goes_on has_timer).next
   dialled_parks count false = tt
   dialled_parks count true = parked_parks (Dialling goes_on has_timer) (λ count. tt) (λ lists number. refl) count cell.is_closing
 
-  dialled_waits : (given : Bool) → waiting_lists (dialling.dialled given cell goes_on has_timer).cell.queues
-      ≡ waiting_after (waiting_lists cell.queues) cell.number (dialling.dialled given cell goes_on has_timer).next
+  dialled_waits : (given : Bool) → waiting_lists (dialling.dial_outcome given cell goes_on has_timer).cell.queues
+      ≡ waiting_after (waiting_lists cell.queues) cell.number (dialling.dial_outcome given cell goes_on has_timer).next
   dialled_waits false = refl
   dialled_waits true =
       parked_waits (Dialling goes_on has_timer) (λ count. tt) (λ lists number. refl) (waiting_lists cell.queues) cell.number cell.is_closing
 
-  dialled_closes : (given : Bool) → cell.is_closing ≡ true → ParksNowhere (dialling.dialled given cell goes_on has_timer).next
+  dialled_closes : (given : Bool) → cell.is_closing ≡ true → ParksNowhere (dialling.dial_outcome given cell goes_on has_timer).next
   dialled_closes false closing = tt
   dialled_closes true closing = parked_closes (Dialling goes_on has_timer) (λ count. tt) (λ lists number. refl) cell.is_closing closing
 
   -- where it would wait without the mark, the call ends with nothing changed
   dialled_hangs : (given : Bool) (phase : Phase) → cell.is_closing ≡ true
-      → (dialling.dialled given (record cell { is_closing = false }) goes_on has_timer).next ≡ Park phase
-      → dialling.dialled given cell goes_on has_timer ≡ record { cell = cell; next = Hang }
+      → (dialling.dial_outcome given (record cell { is_closing = false }) goes_on has_timer).next ≡ Park phase
+      → dialling.dial_outcome given cell goes_on has_timer ≡ record { cell = cell; next = Hang }
   dialled_hangs false phase closing parks = not_parked Next phase tt parks
-  dialled_hangs true phase closing parks = ap (λ b. jumps.stays cell (waits.parked (Dialling goes_on has_timer) b)) closing
+  dialled_hangs true phase closing parks = ap (λ b. jumps.stays cell (waits.park_move (Dialling goes_on has_timer) b)) closing
 
 -- what `Dial` reads of its arguments
 abbrev has_devices : List ℕ → Bool

@@ -126,10 +126,10 @@ unfolding found_entry name_cmp
 found-none = refl
 
 -- two entries of one name and priority, which no loaded dialplan has, and a name that no text means
-abbrev doubled : PlanOf
-doubled = plan_of (
+abbrev doubled_plan : PlanOf
+doubled_plan = plan_of (
     (record {
-      name = codes "doubled";
+      name = codes "doubled_plan";
       entries =
           entry_of (Plain (codes "1")) 2 None
           ∷ entry_of (Plain (codes "7")) 1 None
@@ -140,7 +140,7 @@ doubled = plan_of (
     ∷ [])
 
 -- of entries that tie, the first in the file
-found-first_of_two : found_entry doubled (0 ∷ []) (codes "7") 1 ≡ id_of 0 1
+found-first_of_two : found_entry doubled_plan (0 ∷ []) (codes "7") 1 ≡ id_of 0 1
 unfolding found_entry name_cmp
 found-first_of_two = refl
 
@@ -175,6 +175,6 @@ unfolding goes_on_more name_cmp
 more-no_priority_1 = refl
 
 -- a class of no member is waited for, though no ending has a member of it: so the law asks for names that texts mean
-more-no_member : goes_on_more doubled (1 ∷ []) [] ≡ true
+more-no_member : goes_on_more doubled_plan (1 ∷ []) [] ≡ true
 unfolding goes_on_more name_cmp
 more-no_member = refl

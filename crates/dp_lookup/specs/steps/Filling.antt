@@ -3,18 +3,18 @@
 use Rattle.std.specs.Prelude.{◌≡◌, ℕ, zero, suc, ◌+◌, ◌<◌, ◌≤◌, Bool, List, [], ◌∷◌, ◌++◌, length, drop, slice_get, Some, if◌then◌else◌}
 use Rattle.dp_plan.specs.Plan.{PlanOf}
 use Rattle.dp_lookup.specs.SearchOrder.{context_count, links_at, has, AreContexts}
-use Rattle.dp_lookup.specs.declared.visit.Frame.{Frame}
+use Rattle.dp_lookup.specs.declared.visit.ContextVisit.{ContextVisit}
 
 -- there is a mark for each number below some bound, and it says whether the order has the number
 abbrev pub IsMarked : List ℕ → List Bool → Type 0
 IsMarked order marks = (number : ℕ) → number < length marks → slice_get marks number ≡ Some (has order number)
 
 -- the includes of a context that are still to come
-abbrev pub links_left : PlanOf → Frame → List ℕ
+abbrev pub links_left : PlanOf → ContextVisit → List ℕ
 links_left plan frame = drop frame.next (links_at plan frame.context)
 
 -- all that are still to come; those of the last context come first
-abbrev pub pending : PlanOf → List Frame → List ℕ
+abbrev pub pending : PlanOf → List ContextVisit → List ℕ
 pending plan [] = []
 pending plan (frame ∷ frames) = pending plan frames ++ links_left plan frame
 
@@ -31,11 +31,11 @@ abbrev pub link_count : PlanOf → ℕ → ℕ
 link_count plan number = length (links_at plan number)
 
 -- how many includes are still to be asked
-abbrev pub work : PlanOf → List ℕ → List Frame → ℕ
+abbrev pub work : PlanOf → List ℕ → List ContextVisit → ℕ
 work plan order frames = unseen (link_count plan) (context_count plan) order + length (pending plan frames)
 
 -- the marks are those of the order, which has no context twice; and each context that is gone through stands in it
-pub record IsFilling (plan : PlanOf) (order : List ℕ) (marks : List Bool) (frames : List Frame) : Type 0 where
+pub record IsFilling (plan : PlanOf) (order : List ℕ) (marks : List Bool) (frames : List ContextVisit) : Type 0 where
   pub marked : IsMarked order marks
   pub counted : unseen one (context_count plan) order + length order ≡ context_count plan
   pub short : length frames ≤ length order

@@ -3,11 +3,11 @@
 use Rattle.std.specs.Prelude.{ℕ, Bool, List}
 use Rattle.dp_plan.specs.declared.entry.Entry.{Entry}
 use Rattle.dp_lookup.specs.FoundEntry.{has_priority, has_label, begins_later}
-use Rattle.dp_lookup.specs.declared.look_up.Question.{Question}
-use Rattle.dp_lookup.specs.declared.look_up.Question.TheVariants.{Priority, Label, More}
+use Rattle.dp_lookup.specs.declared.look_up.LookUp.{LookUp}
+use Rattle.dp_lookup.specs.declared.look_up.LookUp.TheVariants.{Priority, Label, More}
 
 -- whether the entry is one that the question asks for
-abbrev pub asks : Question → List ℕ → Entry → Bool
+abbrev pub asks : LookUp → List ℕ → Entry → Bool
 asks (Priority number) text entry = has_priority text number entry
 asks (Label label) text entry = has_label text label.now entry
 asks More text entry = begins_later text entry

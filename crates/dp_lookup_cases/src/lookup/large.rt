@@ -1,5 +1,5 @@
 //! Long chains of includes.
-use crate::lookup::render::{loaded, order_from};
+use crate::lookup::render::{load_plan, order_from};
 use dp_lookup::{Dialplan, EntryId, NoMemory, find};
 use std::alloc::Global;
 use std::process::Abort;
@@ -19,7 +19,7 @@ fn push_chain(out: &mut String, last_line: &str) -> Result<(), NoMemory> {
 fn chain(alloc: Global, last_line: &str) -> Result<Dialplan, Fail> {
     let mut text = String::new(alloc);
     push_chain(&mut text, last_line)?;
-    loaded(alloc, text.as_bytes())
+    load_plan(alloc, text.as_bytes())
 }
 
 /// The entry of `77` from a context, and how long the context's order is.

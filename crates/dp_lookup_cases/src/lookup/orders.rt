@@ -2,7 +2,7 @@
 ghost use Rattle.std.specs.Prelude.{◌≤◌};
 ghost use Rattle.dp_lookup.specs.SearchOrder.{context_count};
 
-use crate::lookup::render::{loaded, push_order};
+use crate::lookup::render::{load_plan, push_order};
 use dp_lookup::{Dialplan, SearchOrder, Text, visit_is_the_visit};
 use std::alloc::Global;
 use std::process::Abort;
@@ -94,6 +94,6 @@ fn check_orders(rt: &impl Abort, alloc: Global, plan: &Dialplan) -> Result<(), F
 #[test]
 fn orders_are_depth_first(rt: HostRuntime) -> Result<(), Fail> {
     visit_is_the_visit();
-    let plan = loaded(rt.alloc(), PLAN)?;
+    let plan = load_plan(rt.alloc(), PLAN)?;
     check_orders(&rt, rt.alloc(), &plan)
 }

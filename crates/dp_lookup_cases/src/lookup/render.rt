@@ -1,8 +1,8 @@
 //! Dialplans that are asked the questions of a table, and their answers as text.
+use dp_case_tables::{bytes_of, is_heading};
 use dp_lookup::{
     Dialplan, EntryId, NoMemory, SearchOrder, Text, could_be_more, exists, find, find_label,
 };
-use dp_questions::{bytes_of, is_heading};
 use std::alloc::Global;
 use std::test::Fail;
 
@@ -186,7 +186,7 @@ fn check_contexts(alloc: Global, plan: &Dialplan, of: &str, contexts: &str) -> R
 }
 
 /// The dialplan of a text, without its notes.
-pub(crate) fn loaded(alloc: Global, text: &[u8]) -> Result<Dialplan, Fail> {
+pub(crate) fn load_plan(alloc: Global, text: &[u8]) -> Result<Dialplan, Fail> {
     let (plan, _) = Dialplan::load(alloc, text)?;
     Ok(plan)
 }
@@ -198,7 +198,7 @@ fn plan_of(alloc: Global, head: &str) -> Result<Dialplan, Fail> {
         None => head,
     };
     let text = bytes_of(alloc, if is_heading(line) { "" } else { line })?;
-    loaded(alloc, &text)
+    load_plan(alloc, &text)
 }
 
 fn check_block(alloc: Global, block: &str) -> Result<(), Fail> {

@@ -1,5 +1,5 @@
 //! Generated dialplans, of which the tries and the look-up in the dialplan are asked the same questions.
-use crate::lookup::render::loaded;
+use crate::lookup::render::load_plan;
 use crate::trie::render::{TrieFrom, trie_from};
 use dp_lookup::{could_be_more, find, find_label};
 use dp_trie::{Dialplan, NoMemory};
@@ -116,7 +116,7 @@ fn check_trie(
 }
 
 fn check_plan(rt: &impl Abort, alloc: Global, text: &str, seed: &mut u32) -> Result<(), Fail> {
-    let plan = loaded(alloc, text.as_bytes())?;
+    let plan = load_plan(alloc, text.as_bytes())?;
     check_trie(rt, alloc, text, &plan, seed)
 }
 

@@ -1,5 +1,5 @@
 //! A long name, and an extension of many labels.
-use crate::lookup::render::loaded;
+use crate::lookup::render::load_plan;
 use crate::trie::render::{TrieFrom, trie_from};
 use dp_lookup::find;
 use dp_trie::{Dialplan, EntryId, NoMemory};
@@ -21,7 +21,7 @@ fn push_long_name(out: &mut String) -> Result<(), NoMemory> {
 fn long_name(alloc: Global) -> Result<Dialplan, Fail> {
     let mut text = String::new(alloc);
     push_long_name(&mut text)?;
-    loaded(alloc, text.as_bytes())
+    load_plan(alloc, text.as_bytes())
 }
 
 /// The entry of so many digits, as the trie and as the look-up in the dialplan find it.
@@ -86,7 +86,7 @@ fn push_many_labels(out: &mut String) -> Result<(), NoMemory> {
 fn many_labels(alloc: Global) -> Result<Dialplan, Fail> {
     let mut text = String::new(alloc);
     push_many_labels(&mut text)?;
-    loaded(alloc, text.as_bytes())
+    load_plan(alloc, text.as_bytes())
 }
 
 fn check_label(rt: &impl Abort, alloc: Global, from: &TrieFrom, priority: u32) -> Result<(), Fail> {

@@ -1,6 +1,6 @@
 //! Dialplans whose tries are asked the questions of a table, and their answers as text.
-use crate::lookup::render::{loaded, order_from, push_found, push_label, push_more};
-use dp_questions::check_same;
+use crate::lookup::render::{load_plan, order_from, push_found, push_label, push_more};
+use dp_case_tables::check_same;
 use dp_trie::{Dialplan, NoMemory, SearchOrder, Trie};
 use std::alloc::Global;
 use std::test::Fail;
@@ -70,7 +70,12 @@ fn push_told(out: &mut String, plan: &Dialplan, from: &TrieFrom, asked: &str) ->
     push_word(out, plan, from, word, text.as_bytes(), other)
 }
 
-fn told(alloc: Global, plan: &Dialplan, from: &TrieFrom, asked: &str) -> Result<String, Fail> {
+fn trie_answer(
+    alloc: Global,
+    plan: &Dialplan,
+    from: &TrieFrom,
+    asked: &str,
+) -> Result<String, Fail> {
     let mut out = String::new(alloc);
     push_told(&mut out, plan, from, asked)?;
     Ok(out)
@@ -78,7 +83,7 @@ fn told(alloc: Global, plan: &Dialplan, from: &TrieFrom, asked: &str) -> Result<
 
 fn check_told(alloc: Global, plan: &Dialplan, from: &TrieFrom, row: &str) -> Result<(), Fail> {
     let (asked, want) = row.split_once('→').ok_or("no answer")?;
-    let got = told(alloc, plan, from, asked)?;
+    let got = trie_answer(alloc, plan, from, asked)?;
     check_same(asked, &got, want)
 }
 
@@ -105,6 +110,6 @@ pub(super) fn check_tries(
     context: &[u8],
     rows: &str,
 ) -> Result<(), Fail> {
-    let plan = loaded(alloc, text)?;
+    let plan = load_plan(alloc, text)?;
     check_from(alloc, &plan, context, rows)
 }

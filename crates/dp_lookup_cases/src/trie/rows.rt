@@ -1,5 +1,5 @@
 //! Worked cases, with their answers.
-use crate::lookup::render::loaded;
+use crate::lookup::render::load_plan;
 use crate::trie::render::check_tries;
 use dp_trie::{Dialplan, Trie};
 use std::alloc::Global;
@@ -56,7 +56,7 @@ fn check_trie(rt: &impl Abort, alloc: Global, plan: &Dialplan) -> Result<(), Fai
 
 /// A tree of four nodes, and none where there is no such context.
 fn check_nodes(rt: &impl Abort, alloc: Global, text: &[u8]) -> Result<(), Fail> {
-    let plan = loaded(alloc, text)?;
+    let plan = load_plan(alloc, text)?;
     check_trie(rt, alloc, &plan)
 }
 

@@ -54,8 +54,8 @@ abbrev dials : Bool → Bool → Channel
 dials goes_on has_timer = channel (at (codes "s") 1) (Dialling goes_on has_timer)
 
 -- the channel with the status of its call to devices
-abbrev told : List ℕ → Channel → Channel
-told status c = record c { store = set nothing (codes "DIALSTATUS") status }
+abbrev with_dial_status_of : List ℕ → Channel → Channel
+with_dial_status_of status c = record c { store = set nothing (codes "DIALSTATUS") status }
 
 -- the channel that goes on, and the one that is hung up and runs `h`
 abbrev goes : Channel
@@ -70,16 +70,16 @@ world c = world_of plan (c ∷ []) (record { globals = empty; queues = record { 
 abbrev after : Channel → Event → World × Reply
 after c event = event_row no_rows (world c) event
 
-result-busy : after (dials false true) (DialResult 1 Busy) ≡ (world (told (codes "BUSY") goes), Done)
+result-busy : after (dials false true) (DialResult 1 Busy) ≡ (world (with_dial_status_of (codes "BUSY") goes), Done)
 unfolding dial_result_row
 result-busy = refl
 
-result-answer : after (dials false true) (DialResult 1 Answer) ≡ (world (told (codes "ANSWER") closes), Done)
+result-answer : after (dials false true) (DialResult 1 Answer) ≡ (world (with_dial_status_of (codes "ANSWER") closes), Done)
 unfolding dial_result_row hung_up is_found found_entry visit set
 result-answer = refl
 
 -- with the option `g` it goes on
-result-goes_on : after (dials true false) (DialResult 1 Answer) ≡ (world (told (codes "ANSWER") goes), Done)
+result-goes_on : after (dials true false) (DialResult 1 Answer) ≡ (world (with_dial_status_of (codes "ANSWER") goes), Done)
 unfolding dial_result_row
 result-goes_on = refl
 
@@ -91,15 +91,15 @@ result-over : after (channel (at (codes "s") 1) over) (DialResult 1 Busy) ≡ (w
 unfolding dial_result_row
 result-over = refl
 
-timeout-told : after (dials false true) (Timeout 1) ≡ (world (told (codes "NOANSWER") goes), Done)
+timeout-with_dial_status_of : after (dials false true) (Timeout 1) ≡ (world (with_dial_status_of (codes "NOANSWER") goes), Done)
 unfolding timeout_row
-timeout-told = refl
+timeout-with_dial_status_of = refl
 
 timeout-untimed : after (dials true false) (Timeout 1) ≡ (world (dials true false), Refused NoTimer)
 unfolding timeout_row
 timeout-untimed = refl
 
-hangup-cancels : after (dials false true) (Hangup 1) ≡ (world (told (codes "CANCEL") closes), Done)
+hangup-cancels : after (dials false true) (Hangup 1) ≡ (world (with_dial_status_of (codes "CANCEL") closes), Done)
 unfolding hang_up_row hung_up is_found found_entry visit set
 hangup-cancels = refl
 

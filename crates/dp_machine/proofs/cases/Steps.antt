@@ -10,7 +10,7 @@ use Rattle.dp_pattern.specs.Name.{Plain}
 use Rattle.dp_plan.specs.Plan.{PlanOf}
 use Rattle.dp_plan.specs.declared.entry.Entry.{Entry}
 use Rattle.dp_vars.specs.Stores.{nothing, set}
-use Rattle.dp_vars.specs.Values.{expanded, group_value, head_value}
+use Rattle.dp_vars.specs.Values.{expansion_of, group_value, head_value}
 use Rattle.dp_app.specs.Rows.{Row, Rows}
 use Rattle.dp_app.specs.Tables.{no_rows, with_row}
 use Rattle.dp_app.specs.declared.moves.Move.TheVariants.{Next, Jump, Park}
@@ -19,7 +19,7 @@ use Rattle.dp_app.specs.declared.phase.Phase.{Phase}
 use Rattle.dp_app.specs.declared.phase.Phase.TheVariants.{Ready, Pause, Ended as phase_ended}
 use Rattle.dp_app.specs.declared.place.Place.{Place}
 use Rattle.dp_machine.specs.Channels.{hung_up}
-use Rattle.dp_machine.specs.Events.{Own, event_row, started, step_row, unfound}
+use Rattle.dp_machine.specs.Events.{Own, event_row, start_call, step_row, unfound}
 use Rattle.dp_machine.specs.Found.{entry_found, is_found, label_found}
 use Rattle.dp_machine.specs.Replay.{replies_to}
 use Rattle.dp_machine.specs.Seen.{arguments_seen, globals_of}
@@ -29,7 +29,7 @@ use Rattle.dp_machine.specs.declared.channel.Channel.{Channel}
 use Rattle.dp_machine.specs.declared.event.Event.TheVariants.{Start, Step}
 use Rattle.dp_machine.specs.declared.refusal.Refusal.TheVariants.{NoChannel, NotReady, Ended}
 use Rattle.dp_machine.specs.declared.reply.Reply.TheVariants.{Started, Ran, Invalid, NoEntry, Refused}
-use Rattle.dp_machine.specs.declared.shared.Shared.{Shared}
+use Rattle.dp_machine.specs.declared.shared_state.SharedState.{SharedState}
 
 -- an entry of a plain name
 abbrev entry : List ℕ → ℕ → Option (List ℕ) → List ℕ → List ℕ → Entry
@@ -151,8 +151,8 @@ abbrev rows : Rows
 rows = with_row (codes "Call") call (with_row (codes "Goto") goto (with_row (codes "Wait") wait no_rows))
 
 -- no globals, and no queues
-abbrev shared : Shared
-shared = record { globals = empty; queues = record { queues = []; agents = []; finished = 0 } }
+abbrev blank_shared : SharedState
+blank_shared = record { globals = empty; queues = record { queues = []; agents = []; finished = 0 } }
 
 -- a call by `7` with no variables
 abbrev channel : Place → Phase → Bool → Channel
@@ -160,54 +160,54 @@ channel place phase closing = record { place = place; phase = phase; is_closing 
 
 -- a step of the channel of number 1
 abbrev step : Channel → Own
-step c = step_row rows plan shared 1 c
+step c = step_row rows plan blank_shared 1 c
 
 -- arguments are expanded for the channel, and the application writes the channel
 step-next : step (channel (at (codes "100") 1) Ready false) ≡
-    record { channel = record (channel (at (codes "100") 2) Ready false) { caller = codes "57" }; shared = shared; reply = Ran (record { context = 0; entry = 0 }) }
-unfolding step_row entry_found found_entry visit arguments_seen reading_of levels expanded group_value head_value cut_outside
+    record { channel = record (channel (at (codes "100") 2) Ready false) { caller = codes "57" }; shared = blank_shared; reply = Ran (record { context = 0; entry = 0 }) }
+unfolding step_row entry_found found_entry visit arguments_seen reading_of levels expansion_of group_value head_value cut_outside
 step-next = refl
 
 -- names are compared in any ASCII case
 step-jump : step (channel (at (codes "100") 2) Ready false) ≡
-    record { channel = channel (at (codes "100") 3) Ready false; shared = shared; reply = Ran (record { context = 0; entry = 1 }) }
-unfolding step_row entry_found found_entry visit arguments_seen reading_of levels expanded parts_place label_found found_label
+    record { channel = channel (at (codes "100") 3) Ready false; shared = blank_shared; reply = Ran (record { context = 0; entry = 1 }) }
+unfolding step_row entry_found found_entry visit arguments_seen reading_of levels expansion_of parts_place label_found found_label
 step-jump = refl
 
 step-park : step (channel (at (codes "100") 3) Ready false) ≡
-    record { channel = channel (at (codes "100") 3) Pause false; shared = shared; reply = Ran (record { context = 0; entry = 2 }) }
-unfolding step_row entry_found found_entry visit arguments_seen reading_of levels expanded
+    record { channel = channel (at (codes "100") 3) Pause false; shared = blank_shared; reply = Ran (record { context = 0; entry = 2 }) }
+unfolding step_row entry_found found_entry visit arguments_seen reading_of levels expansion_of
 step-park = refl
 
 -- a target that is not there is a hang-up, which goes on at `h`
 step-no_target : step (channel (at (codes "200") 2) Ready false) ≡
-    record { channel = channel (at (codes "h") 1) Ready true; shared = shared; reply = Ran (record { context = 0; entry = 4 }) }
-unfolding step_row entry_found found_entry visit arguments_seen reading_of levels expanded parts_place label_found found_label hung_up is_found
+    record { channel = channel (at (codes "h") 1) Ready true; shared = blank_shared; reply = Ran (record { context = 0; entry = 4 }) }
+unfolding step_row entry_found found_entry visit arguments_seen reading_of levels expansion_of parts_place label_found found_label hung_up is_found
 step-no_target = refl
 
 -- and so is an application that the table lacks
 step-unknown : step (channel (at (codes "200") 4) Ready false) ≡
-    record { channel = channel (at (codes "h") 1) Ready true; shared = shared; reply = Ran (record { context = 0; entry = 5 }) }
-unfolding step_row entry_found found_entry visit arguments_seen reading_of levels expanded hung_up is_found
+    record { channel = channel (at (codes "h") 1) Ready true; shared = blank_shared; reply = Ran (record { context = 0; entry = 5 }) }
+unfolding step_row entry_found found_entry visit arguments_seen reading_of levels expansion_of hung_up is_found
 step-unknown = refl
 
 -- a channel that is closing is over after a hang-up
 step-closing : step (channel (at (codes "h") 1) Ready true) ≡
-    record { channel = channel (at (codes "h") 1) phase_ended true; shared = shared; reply = Ran (record { context = 0; entry = 7 }) }
-unfolding step_row entry_found found_entry visit arguments_seen reading_of levels expanded parts_place label_found found_label hung_up is_found
+    record { channel = channel (at (codes "h") 1) phase_ended true; shared = blank_shared; reply = Ran (record { context = 0; entry = 7 }) }
+unfolding step_row entry_found found_entry visit arguments_seen reading_of levels expansion_of parts_place label_found found_label hung_up is_found
 step-closing = refl
 
 -- and so is one in whose context there is no `h`
 step-no_h : step (channel (bare (codes "100") 1) Ready false) ≡
-    record { channel = channel (bare (codes "100") 1) phase_ended false; shared = shared; reply = Ran (record { context = 1; entry = 0 }) }
-unfolding step_row entry_found found_entry visit arguments_seen reading_of levels expanded parts_place label_found found_label hung_up is_found
+    record { channel = channel (bare (codes "100") 1) phase_ended false; shared = blank_shared; reply = Ran (record { context = 1; entry = 0 }) }
+unfolding step_row entry_found found_entry visit arguments_seen reading_of levels expansion_of parts_place label_found found_label hung_up is_found
 step-no_h = refl
 
 -- an extension that is not there leads to `i`, which reads what was dialled
 step-invalid : step (channel (at (codes "9") 1) Ready false) ≡
     record {
       channel = record (channel (at (codes "i") 1) Ready false) { store = record { variables = insert empty (codes "INVALID_EXTEN") (codes "9"); frames = []; names = codes "INVALID_EXTEN" ∷ [] } };
-      shared = shared;
+      shared = blank_shared;
       reply = Invalid;
     }
 unfolding step_row entry_found found_entry visit unfound is_found set
@@ -215,23 +215,23 @@ step-invalid = refl
 
 -- a priority that is not there is a hang-up
 step-no_priority : step (channel (at (codes "200") 3) Ready false) ≡
-    record { channel = channel (at (codes "h") 1) Ready true; shared = shared; reply = NoEntry }
+    record { channel = channel (at (codes "h") 1) Ready true; shared = blank_shared; reply = NoEntry }
 unfolding step_row entry_found found_entry visit unfound is_found hung_up
 step-no_priority = refl
 
 -- and so is an extension that is not there, in a context with no `i`
 step-no_i : step (channel (bare (codes "9") 1) Ready false) ≡
-    record { channel = channel (bare (codes "9") 1) phase_ended false; shared = shared; reply = NoEntry }
+    record { channel = channel (bare (codes "9") 1) phase_ended false; shared = blank_shared; reply = NoEntry }
 unfolding step_row entry_found found_entry visit unfound is_found hung_up
 step-no_i = refl
 
 step-not_ready : step (channel (at (codes "100") 1) Pause false) ≡
-    record { channel = channel (at (codes "100") 1) Pause false; shared = shared; reply = Refused NotReady }
+    record { channel = channel (at (codes "100") 1) Pause false; shared = blank_shared; reply = Refused NotReady }
 unfolding step_row
 step-not_ready = refl
 
 step-ended : step (channel (at (codes "100") 1) phase_ended false) ≡
-    record { channel = channel (at (codes "100") 1) phase_ended false; shared = shared; reply = Refused Ended }
+    record { channel = channel (at (codes "100") 1) phase_ended false; shared = blank_shared; reply = Refused Ended }
 unfolding step_row
 step-ended = refl
 
@@ -240,7 +240,7 @@ abbrev first : Channel
 first = channel (at (codes "100") 2) Ready false
 
 abbrev world : World
-world = world_of plan (first ∷ []) shared
+world = world_of plan (first ∷ []) blank_shared
 
 -- channels are numbered from 1
 channel-zero : channel_at (first ∷ []) 0 ≡ None
@@ -254,13 +254,13 @@ channel-above = refl
 
 -- a call that comes in has the next number, and stands at priority 1
 event-start : event_row rows world (Start (codes "main") (codes "2") (codes "7")) ≡
-    (world_of plan (first ∷ channel (at (codes "2") 1) Ready false ∷ []) shared, Started 2)
-unfolding started
+    (world_of plan (first ∷ channel (at (codes "2") 1) Ready false ∷ []) blank_shared, Started 2)
+unfolding start_call
 event-start = refl
 
 event-step : event_row rows world (Step 1) ≡
-    (world_of plan (channel (at (codes "100") 3) Ready false ∷ []) shared, Ran (record { context = 0; entry = 1 }))
-unfolding step_row entry_found found_entry visit arguments_seen reading_of levels expanded parts_place label_found found_label
+    (world_of plan (channel (at (codes "100") 3) Ready false ∷ []) blank_shared, Ran (record { context = 0; entry = 1 }))
+unfolding step_row entry_found found_entry visit arguments_seen reading_of levels expansion_of parts_place label_found found_label
 event-step = refl
 
 event-no_channel : event_row rows world (Step 2) ≡ (world, Refused NoChannel)
@@ -270,7 +270,7 @@ value-no_channel : value_in world 2 (codes "EXTEN") ≡ []
 value-no_channel = refl
 
 -- a call from its start until its application sends it nowhere, and one step more
-replies-first_run : replies_to rows (opening plan shared.queues) (Start (codes "bare") (codes "100") [] ∷ Step 1 ∷ Step 1 ∷ []) ≡
+replies-first_run : replies_to rows (opening plan blank_shared.queues) (Start (codes "bare") (codes "100") [] ∷ Step 1 ∷ Step 1 ∷ []) ≡
     Started 1 ∷ Ran (record { context = 1; entry = 0 }) ∷ Refused Ended ∷ []
-unfolding started step_row entry_found found_entry visit arguments_seen reading_of levels expanded parts_place label_found found_label hung_up is_found globals_of
+unfolding start_call step_row entry_found found_entry visit arguments_seen reading_of levels expansion_of parts_place label_found found_label hung_up is_found globals_of
 replies-first_run = refl

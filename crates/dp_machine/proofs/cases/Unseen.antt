@@ -16,7 +16,7 @@ use Rattle.dp_app.specs.Tables.{no_rows}
 use Rattle.dp_app.specs.declared.phase.Phase.{Phase}
 use Rattle.dp_app.specs.declared.phase.Phase.TheVariants.{Digits, Queued, Ended as over}
 use Rattle.dp_machine.specs.Channels.{hung_up}
-use Rattle.dp_machine.specs.Events.{dial_in, digit_row, hang_up_row, is_digit, is_over, opened, own_event, refuse, started, timeout_row}
+use Rattle.dp_machine.specs.Events.{dial_in, digit_row, hang_up_row, is_digit, is_over, new_channel, own_event, refuse, start_call, timeout_row}
 use Rattle.dp_machine.specs.Found.{could_go_on, is_found}
 use Rattle.dp_machine.specs.Isolation.{IsPrivate, IsUnseen, replies_without, without}
 use Rattle.dp_machine.specs.Replay.{replies_to, world_after, final_world}
@@ -27,7 +27,7 @@ use Rattle.dp_machine.specs.declared.event.Event.{Event}
 use Rattle.dp_machine.specs.declared.event.Event.TheVariants.{Start, Digit, Timeout, Hangup}
 use Rattle.dp_machine.specs.declared.refusal.Refusal.TheVariants.{BadDigit, NotWaiting}
 use Rattle.dp_machine.specs.declared.reply.Reply.TheVariants.{Started, Done, Refused}
-use Rattle.dp_machine.specs.declared.shared.Shared.{Shared}
+use Rattle.dp_machine.specs.declared.shared_state.SharedState.{SharedState}
 use Rattle.dp_machine.proofs.IsolationLemmas.{none-of, unseen-more, unseen-none}
 
 -- what is pressed in a menu is private, in every world
@@ -75,11 +75,11 @@ without-second : without 2 events ≡ others
 without-second = refl
 
 replies-all : replies_to no_rows both events ≡ Done ∷ Done ∷ Refused NotWaiting ∷ Done ∷ Started 3 ∷ []
-unfolding digit_row timeout_row hang_up_row hung_up started could_go_on goes_on_more is_found found_entry visit
+unfolding digit_row timeout_row hang_up_row hung_up start_call could_go_on goes_on_more is_found found_entry visit
 replies-all = refl
 
 replies-others : replies_to no_rows both others ≡ Done ∷ Done ∷ Started 3 ∷ []
-unfolding digit_row timeout_row hang_up_row hung_up started could_go_on goes_on_more is_found found_entry visit
+unfolding digit_row timeout_row hang_up_row hung_up start_call could_go_on goes_on_more is_found found_entry visit
 replies-others = refl
 
 replies-without_second : replies_without 2 events (Done ∷ Done ∷ Refused NotWaiting ∷ Done ∷ Started 3 ∷ []) ≡ Done ∷ Done ∷ Started 3 ∷ []
@@ -87,30 +87,30 @@ replies-without_second = refl
 
 -- the second one stays in the menu where it is silent
 world-others : world_after no_rows both others ≡
-    world (channel (codes "6") over ∷ channel (codes "s") (Digits [] false) ∷ opened (codes "menu") (codes "s") (codes "8") ∷ [])
-unfolding digit_row timeout_row hang_up_row hung_up started could_go_on goes_on_more is_found found_entry visit
+    world (channel (codes "6") over ∷ channel (codes "s") (Digits [] false) ∷ new_channel (codes "menu") (codes "s") (codes "8") ∷ [])
+unfolding digit_row timeout_row hang_up_row hung_up start_call could_go_on goes_on_more is_found found_entry visit
 world-others = refl
 
 -- the world that the event of a place in the list meets
-abbrev met : ℕ → World
-met number = world_after no_rows both (take number events)
+abbrev world_met : ℕ → World
+world_met number = world_after no_rows both (take number events)
 
-second-dials : IsPrivate no_rows (met 0) (Digit 2 (byte "5"))
+second-dials : IsPrivate no_rows (world_met 0) (Digit 2 (byte "5"))
 unfolding digit_row could_go_on goes_on_more visit
 second-dials = record { plan = refl; shared = refl }
 
-second-is_late : IsPrivate no_rows (met 2) (Timeout 2)
+second-is_late : IsPrivate no_rows (world_met 2) (Timeout 2)
 unfolding digit_row timeout_row could_go_on goes_on_more visit
 second-is_late = record { plan = refl; shared = refl }
 
 second-unseen : IsUnseen no_rows 2 both events
 second-unseen =
-    unseen-more no_rows 2 (met 0) (Digit 2 (byte "5")) (drop 1 events) (λ is. second-dials)
-    (unseen-more no_rows 2 (met 1) (Digit 1 (byte "6")) (drop 2 events) none-of
-    (unseen-more no_rows 2 (met 2) (Timeout 2) (drop 3 events) (λ is. second-is_late)
-    (unseen-more no_rows 2 (met 3) (Hangup 1) (drop 4 events) none-of
-    (unseen-more no_rows 2 (met 4) (Start (codes "menu") (codes "s") (codes "8")) [] none-of
-    (unseen-none no_rows 2 (met 5))))))
+    unseen-more no_rows 2 (world_met 0) (Digit 2 (byte "5")) (drop 1 events) (λ is. second-dials)
+    (unseen-more no_rows 2 (world_met 1) (Digit 1 (byte "6")) (drop 2 events) none-of
+    (unseen-more no_rows 2 (world_met 2) (Timeout 2) (drop 3 events) (λ is. second-is_late)
+    (unseen-more no_rows 2 (world_met 3) (Hangup 1) (drop 4 events) none-of
+    (unseen-more no_rows 2 (world_met 4) (Start (codes "menu") (codes "s") (codes "8")) [] none-of
+    (unseen-none no_rows 2 (world_met 5))))))
 
 -- a queue in which these wait
 abbrev one_queue : List ℕ → QueuesOf
@@ -127,18 +127,18 @@ one_queue waiting = record {
 }
 
 -- who hangs up in a queue is seen: nobody waits there any more
-abbrev queued : World
-queued = world_of plan (channel (codes "s") (Queued 0 true false) ∷ []) (record { globals = empty; queues = one_queue (1 ∷ []) })
+abbrev queued_world : World
+queued_world = world_of plan (channel (codes "s") (Queued 0 true false) ∷ []) (record { globals = empty; queues = one_queue (1 ∷ []) })
 
-hang_up-frees : (final_world no_rows queued (Hangup 1)).shared ≡ record { globals = empty; queues = one_queue [] }
+hang_up-frees : (final_world no_rows queued_world (Hangup 1)).shared ≡ record { globals = empty; queues = one_queue [] }
 unfolding hang_up_row hung_up is_found found_entry visit
 hang_up-frees = refl
 
 -- how many wait in the first queue
-abbrev waiting_first : Shared → ℕ
+abbrev waiting_first : SharedState → ℕ
 waiting_first shared = unwrap_or (option_map (λ q. length q.waiting) (slice_get shared.queues.queues 0)) 0
 
-hang_up-seen : IsPrivate no_rows queued (Hangup 1) → ⊥
+hang_up-seen : IsPrivate no_rows queued_world (Hangup 1) → ⊥
 hang_up-seen private =
     let same : 0 ≡ 1 = ap waiting_first (sym hang_up-frees ∙ private.shared) in
     omega (arith, same)

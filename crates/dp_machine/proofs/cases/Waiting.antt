@@ -22,7 +22,7 @@ use Rattle.dp_app.specs.declared.phase.Phase.{Phase}
 use Rattle.dp_app.specs.declared.phase.Phase.TheVariants.{Ready, Digits, Pause, Queued, Talking, Ended as over}
 use Rattle.dp_app.specs.declared.place.Place.{Place}
 use Rattle.dp_machine.specs.Channels.{hung_up}
-use Rattle.dp_machine.specs.Events.{agent_done, answered, declined, digit_row, event_row, hang_up_row, offered, poll_row, timeout_row}
+use Rattle.dp_machine.specs.Events.{agent_done, serve_answer, serve_decline, digit_row, event_row, hang_up_row, serve_offer, poll_row, timeout_row}
 use Rattle.dp_machine.specs.Found.{could_go_on, is_found}
 use Rattle.dp_machine.specs.World.{World, world_of}
 use Rattle.dp_machine.specs.declared.channel.Channel.{Channel}
@@ -68,8 +68,8 @@ abbrev channel : Place → Phase → Channel
 channel place phase = record { place = place; phase = phase; is_closing = false; caller = codes "7"; store = nothing }
 
 -- the channel with a status of its queue
-abbrev told : List ℕ → Channel → Channel
-told status c = record c { store = set nothing (codes "QUEUESTATUS") status }
+abbrev with_queue_status_of : List ℕ → Channel → Channel
+with_queue_status_of status c = record c { store = set nothing (codes "QUEUESTATUS") status }
 
 -- a member that is the agent of a number, and has finished so many calls
 abbrev member : ℕ → ℕ → Member
@@ -206,7 +206,7 @@ unfolding timeout_row
 timeout-pause = refl
 
 timeout-queue : after (channel (main 1) (Queued 0 false true)) (queues Idle (Ringing 0 1) (1 ∷ [])) (Timeout 1) ≡
-    (world (told (codes "TIMEOUT") (channel (main 2) Ready)) none_waits, Done)
+    (world (with_queue_status_of (codes "TIMEOUT") (channel (main 2) Ready)) none_waits, Done)
 unfolding timeout_row
 timeout-queue = refl
 
@@ -230,7 +230,7 @@ abbrev too_empty : List ℕ → QueuesOf
 too_empty waiting = record { queues = queue Yes [] waiting ∷ []; agents = []; finished = 0 }
 
 poll-too_empty : after (channel (main 1) (Queued 0 true true)) (too_empty (1 ∷ [])) (Poll 1) ≡
-    (world (told (codes "LEAVEEMPTY") (channel (main 2) Ready)) (too_empty []), Done)
+    (world (with_queue_status_of (codes "LEAVEEMPTY") (channel (main 2) Ready)) (too_empty []), Done)
 unfolding poll_row
 poll-too_empty = refl
 
@@ -289,50 +289,50 @@ waiting = channel (main 1) (Queued 0 true false)
 
 -- a name of a queue is read in any ASCII case
 offer-both : after waiting one_waits (Offer (codes "Q")) ≡ (world waiting (queues (Ringing 0 1) (Ringing 0 1) (1 ∷ [])), Offered 1 2)
-unfolding offered
+unfolding serve_offer
 offer-both = refl
 
 offer-no_queue : after waiting one_waits (Offer (codes "z")) ≡ (world waiting one_waits, Refused NoQueue)
-unfolding offered
+unfolding serve_offer
 offer-no_queue = refl
 
 offer-nobody_waits : after waiting (queues (Ringing 0 1) Idle (1 ∷ [])) (Offer (codes "q")) ≡
     (world waiting (queues (Ringing 0 1) Idle (1 ∷ [])), Refused NobodyWaiting)
-unfolding offered
+unfolding serve_offer
 offer-nobody_waits = refl
 
 offer-no_member : after waiting (too_empty (1 ∷ [])) (Offer (codes "q")) ≡ (world waiting (too_empty (1 ∷ [])), Refused NoMember)
-unfolding offered
+unfolding serve_offer
 offer-no_member = refl
 
 -- the other agent that rings is idle
 answer-rings : after waiting (queues (Ringing 0 1) (Ringing 0 1) (1 ∷ [])) (Answer (codes "Line/2")) ≡
     (world (channel (main 1) (Talking 0 1 true)) (queues Idle (Talks 0 1) []), Done)
-unfolding answered
+unfolding serve_answer
 answer-rings = refl
 
 answer-idle : after waiting one_waits (Answer (codes "Line/2")) ≡ (world waiting one_waits, Refused NotRinging)
-unfolding answered
+unfolding serve_answer
 answer-idle = refl
 
 -- the name of an agent is read with its case
 answer-unknown : after waiting (queues (Ringing 0 1) Idle (1 ∷ [])) (Answer (codes "line/1")) ≡
     (world waiting (queues (Ringing 0 1) Idle (1 ∷ [])), Refused NotRinging)
-unfolding answered
+unfolding serve_answer
 answer-unknown = refl
 
 decline-rings : after waiting (queues (Ringing 0 1) (Ringing 0 1) (1 ∷ [])) (Decline (codes "Line/1")) ≡
     (world waiting (queues Idle (Ringing 0 1) (1 ∷ [])), Done)
-unfolding declined
+unfolding serve_decline
 decline-rings = refl
 
 decline-talks : after (channel (main 1) (Talking 0 0 true)) (queues (Talks 0 1) Idle []) (Decline (codes "Line/1")) ≡
     (world (channel (main 1) (Talking 0 0 true)) (queues (Talks 0 1) Idle []), Refused NotRinging)
-unfolding declined
+unfolding serve_decline
 decline-talks = refl
 
 done-goes_on : after (channel (main 1) (Talking 0 0 true)) (queues (Talks 0 1) Idle []) (AgentDone (codes "Line/1")) ≡
-    (world (told (codes "CONTINUE") (channel (main 2) Ready)) one_finished, Done)
+    (world (with_queue_status_of (codes "CONTINUE") (channel (main 2) Ready)) one_finished, Done)
 unfolding agent_done
 done-goes_on = refl
 

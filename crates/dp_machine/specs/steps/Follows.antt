@@ -1,14 +1,14 @@
 -- What a call of an event comes to: where it is answered, and where memory was wanting.
 use Rattle.std.specs.Prelude.{◌≡◌, false, Option, Result, IfOk, OnErr}
 use Rattle.std.specs.declared.alloc.AllocError.{AllocError as NoMemory}
-use Rattle.dp_app.specs.declared.cell.Cell.{Cell}
+use Rattle.dp_app.specs.Cells.{CellOf}
 use Rattle.dp_app.specs.declared.moves.Move.{Move}
-use Rattle.dp_machine.specs.Events.{Own, applied, is_refused_at_once}
+use Rattle.dp_machine.specs.Events.{Own, application_outcome, is_refused_at_once}
 use Rattle.dp_machine.specs.World.{World}
 use Rattle.dp_machine.specs.declared.channel.Channel.{Channel}
 use Rattle.dp_machine.specs.declared.exchange.Exchange.{Exchange}
 use Rattle.dp_machine.specs.declared.reply.Reply.{Reply}
-use Rattle.dp_machine.specs.declared.shared.Shared.{Shared}
+use Rattle.dp_machine.specs.declared.shared_state.SharedState.{SharedState}
 
 -- an exchange and a channel after an event of which this is known: answered, they are so; where memory was wanting they are as
 -- before, and the event is none that is refused at once. The dialplan stays
@@ -21,8 +21,8 @@ pub record Follows (own : Own) (before after : Exchange) (c d : Channel) (result
 
 -- what all channels share and a channel after an application, which leaves the cell and goes so; where memory was wanting they are
 -- as before
-pub record Runs (beyond : Cell × Option Move) (before after : Shared) (c d : Channel) (result : Result (Option Move) NoMemory) : Type 0 where
-  pub ok : IfOk result (λ going. applied c beyond ≡ record { channel = d; shared = after; going = going })
+pub record Runs (beyond : CellOf × Option Move) (before after : SharedState) (c d : Channel) (result : Result (Option Move) NoMemory) : Type 0 where
+  pub ok : IfOk result (λ going. application_outcome c beyond ≡ record { channel = d; shared = after; going = going })
   pub channel : OnErr result (d ≡ c)
   pub shared : OnErr result (after ≡ before)
 

@@ -3,11 +3,11 @@ use crate::manual::calls::CALLS;
 use crate::manual::examples::EXAMPLES;
 use crate::manual::faults::FAULTS;
 use crate::manual::values::VALUES;
+use dp_case_tables::is_heading;
+use dp_cli::answer;
 use dp_commands::{Code, PbxFault};
 use dp_conf::{NoMemory, Told};
 use dp_program::ReadFiles;
-use dp_questions::is_heading;
-use dp_words::answer;
 use std::alloc::Global;
 use std::process::Abort;
 use std::str;
@@ -67,7 +67,7 @@ fn words_of(alloc: Global, line: &str) -> Result<Vec<String>, NoMemory> {
 }
 
 /// All that the words print with this input over the files of a text, and the status as a last line `? STATUS`.
-fn printed<R: Threads + Wait + Sync + AllocGlobal>(
+fn output_of<R: Threads + Wait + Sync + AllocGlobal>(
     rt: &R,
     files: &str,
     words: &[String],
@@ -95,7 +95,7 @@ fn printed<R: Threads + Wait + Sync + AllocGlobal>(
 }
 
 /// All that a command line prints over the files of a text. After ` < ` stands the file that is its input.
-fn answered<R: Threads + Wait + Sync + AllocGlobal>(
+fn answer_of<R: Threads + Wait + Sync + AllocGlobal>(
     rt: &R,
     files: &str,
     line: &str,
@@ -103,7 +103,7 @@ fn answered<R: Threads + Wait + Sync + AllocGlobal>(
     let (line, file) = line.split_once(" < ").unwrap_or((line, ""));
     let words = words_of(rt.alloc(), line)?;
     let input = file_in(rt.alloc(), files, file)?.unwrap_or("");
-    printed(rt, files, &words, input)
+    output_of(rt, files, &words, input)
 }
 
 /// Asserts that what stands after a command line is all that it prints.
@@ -113,7 +113,7 @@ fn check_command<R: Threads + Wait + Sync + Abort + AllocGlobal>(
     after: &str,
 ) -> Result<(), Fail> {
     let (line, want) = after.split_once('\n').unwrap_or((after, ""));
-    let got = answered(rt, files, line)?;
+    let got = answer_of(rt, files, line)?;
     assert!(rt; want.starts_with(got.as_str()), "{line} prints {got}");
     Ok(())
 }
@@ -144,7 +144,7 @@ fn check_input<R: Threads + Wait + Sync + Abort + AllocGlobal>(
     want: &str,
 ) -> Result<(), Fail> {
     let words = words_of(rt.alloc(), "pbx")?;
-    let got = printed(rt, "", &words, input)?;
+    let got = output_of(rt, "", &words, input)?;
     assert_eq!(rt; got.as_str(), want, "of {of}");
     Ok(())
 }

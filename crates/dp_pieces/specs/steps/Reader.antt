@@ -27,13 +27,13 @@ abbrev pub with_group : Names → Open → List Piece → List Piece
 with_group names w pieces = take w.start pieces ++ group_pieces names w.kind (drop (w.start + 2) pieces)
 
 -- after the end of the innermost group
-abbrev pub closed : Names → List Open → List Piece → Read
-closed names [] pieces = record { pieces = pieces; waiting = [] }
-closed names (w ∷ waiting) pieces = record { pieces = with_group names w pieces; waiting = waiting }
+abbrev pub after_group : Names → List Open → List Piece → Read
+after_group names [] pieces = record { pieces = pieces; waiting = [] }
+after_group names (w ∷ waiting) pieces = record { pieces = with_group names w pieces; waiting = waiting }
 
 -- after a mark
 abbrev pub after : Names → Mark → Read → Read
-after names End read = closed names read.waiting read.pieces
+after names End read = after_group names read.waiting read.pieces
 after names (Opening kind) read = record {
   pieces = read.pieces ++ Known 36 ∷ Known (opener kind) ∷ [];
   waiting = record { kind = kind; start = length read.pieces } ∷ read.waiting;

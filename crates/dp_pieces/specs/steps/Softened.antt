@@ -4,7 +4,7 @@ use Rattle.std.specs.Option.{option_map_or}
 use Rattle.dp_conf.specs.Blanks.{is_blank}
 use Rattle.dp_pieces.specs.Bytes.{Bytes, has_blank}
 use Rattle.dp_pieces.specs.Pieces.{AnyOf, Known, OneOf, Piece, byte_of}
-use Rattle.dp_pieces.specs.Trimmed.{loosened}
+use Rattle.dp_pieces.specs.Trimmed.{loose_front}
 
 -- a known blank
 abbrev pub blank_of : Piece → Bool
@@ -33,14 +33,14 @@ losing_set (AnyOf set) = Some set
 -- the start of pieces of which the first is no known blank
 abbrev pub loosened_by : Option Bytes → Piece → List Piece → List Piece
 loosened_by None piece pieces = piece ∷ pieces
-loosened_by (Some set) piece pieces = loosened set pieces
+loosened_by (Some set) piece pieces = loose_front set pieces
 
 abbrev pub start_by : List Piece → List Piece
 start_by [] = []
 start_by (piece ∷ pieces) = loosened_by (losing_set piece) piece pieces
 
 -- a piece before others that may lose their blanks: where its byte may be a blank, it may be lost too
-abbrev pub softened : Piece → Piece
-softened (Known byte) = if is_blank byte then AnyOf (λ b. b == byte) else Known byte
-softened (OneOf set) = if has_blank set then AnyOf set else OneOf set
-softened (AnyOf set) = AnyOf set
+abbrev pub soft_piece : Piece → Piece
+soft_piece (Known byte) = if is_blank byte then AnyOf (λ b. b == byte) else Known byte
+soft_piece (OneOf set) = if has_blank set then AnyOf set else OneOf set
+soft_piece (AnyOf set) = AnyOf set

@@ -1,9 +1,9 @@
 //! Known texts and shapes.
-ghost use Rattle.std.specs.Prelude.{◌≡◌, false, IsFalse, IsTrue};
+ghost use Rattle.std.specs.Prelude.{IsFalse, IsTrue};
 ghost use Rattle.dp_pieces.specs.Bytes.{Within};
-ghost use Rattle.dp_pieces.specs.Pieces.{Fits, piece_set};
+ghost use Rattle.dp_pieces.specs.Pieces.{Fits};
 ghost use Rattle.dp_pieces.specs.Sets.{set_by};
-ghost use Rattle.dp_pieces.specs.Shown.{shown, shown_all};
+ghost use Rattle.dp_pieces.specs.Shown.{shown_all};
 
 use crate::byte_set::ByteSet;
 use crate::piece::{Piece, bytes_of};
@@ -19,16 +19,6 @@ fn has_all(set: &ByteSet, text: &[u8]) -> bool
         }
     }
     true
-}
-
-/// Whether the byte is one of the piece's.
-fn has_byte(piece: &Piece, byte: u8) -> bool
-    ensures { IsFalse result → piece_set (shown piece.now) byte ≡ false }
-{
-    match piece {
-        Piece::Known(only) => byte == *only,
-        Piece::OneOf(set) | Piece::AnyOf(set) => set.has(byte),
-    }
 }
 
 /// Whether the last byte of the shape is known, and the text ends with another. Names of contexts often begin alike, so this tells most
@@ -64,7 +54,7 @@ pub fn may_fit(pieces: &[Piece], text: &[u8]) -> bool
         let Some((byte, after)) = rest.split_first() else {
             return false;
         };
-        if !has_byte(piece, *byte) {
+        if !piece.may_be(*byte) {
             return false;
         }
         left = later;

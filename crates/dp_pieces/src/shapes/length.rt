@@ -1,14 +1,14 @@
 //! How long the texts of pieces are.
 ghost use Rattle.std.specs.Prelude.{◌≡◌, ◌≤◌, IsTrue, length};
 ghost use Rattle.dp_pieces.specs.ShapeSteps.{AreTextsOf, IsNothing, is_any, least_of};
-ghost use Rattle.dp_pieces.specs.Shown.{shown, shown_all};
+ghost use Rattle.dp_pieces.specs.Shown.{shown_piece, shown_all};
 
 use crate::piece::Piece;
 use crate::shapes::sets::is_none;
 
 /// Whether the piece is any bytes of a set, and not one.
 pub(crate) fn is_any(piece: &Piece) -> bool
-    ensures { result ≡ is_any (shown piece.now) }
+    ensures { result ≡ is_any (shown_piece piece.now) }
 {
     match piece {
         Piece::Known(_) | Piece::OneOf(_) => false,
@@ -31,7 +31,7 @@ pub(crate) fn least_of(pieces: &[Piece]) -> usize
 
 /// Whether the piece is any bytes of the empty set.
 fn is_nothing(piece: &Piece) -> bool
-    ensures { IsTrue result → IsNothing (shown piece.now) }
+    ensures { IsTrue result → IsNothing (shown_piece piece.now) }
 {
     match piece {
         Piece::Known(_) | Piece::OneOf(_) => false,

@@ -10,9 +10,9 @@ ghost use Rattle.dp_pieces.specs.ShapeSteps.{AlwaysTakes, AlwaysTakesWithin, Are
 ghost use Rattle.dp_pieces.specs.Shown.{shown_all};
 
 use crate::byte_set::ByteSet;
-use crate::piece::{Piece, bytes_of};
+use crate::piece::{Piece, bytes_of, may_have};
 use crate::shapes::length::{is_any, least_of, skip_nothing};
-use crate::shapes::place::{all_be, all_stand, may_be, may_stand, next_place, tail_of};
+use crate::shapes::name_place::{all_be, all_stand, may_be, may_stand, next_place, tail_of};
 use crate::shapes::sets::is_none;
 use dp_pattern::{Name, Parts, Tail};
 
@@ -76,9 +76,8 @@ fn may_meet(pieces: &[Piece], parts: Parts<'_>) -> bool
 pub fn may_match(pieces: &[Piece], name: &Name) -> bool
     ensures { IsFalse result → (text : List ℕ) → Fits (shown_all pieces.now) text → Matches name.now text → ⊥ }
 {
-    let set = bytes_of(pieces);
-    if set.has(b'-') {
-        return may_hold(&set, 0, name.parts());
+    if may_have(pieces, b'-') {
+        return may_hold(&bytes_of(pieces), 0, name.parts());
     }
     may_meet(pieces, name.parts())
 }
@@ -142,5 +141,6 @@ fn all_meet(pieces: &[Piece], parts: Parts<'_>) -> bool
 pub fn covers(pieces: &[Piece], name: &Name) -> bool
     ensures { IsTrue result → (text : List ℕ) → Fits (shown_all pieces.now) text → Matches name.now text }
 {
-    !bytes_of(pieces).has(b'-') && all_meet(pieces, name.parts())
+    // Most names are told apart at their first place.
+    all_meet(pieces, name.parts()) && !may_have(pieces, b'-')
 }

@@ -1,14 +1,14 @@
 //! Shapes met with names.
 ghost use Rattle.std.specs.Prelude.{◌≡◌, true, ◌++◌, IfOk, MatchOption, OnOk};
-ghost use Rattle.dp_pieces.specs.Met.{matched, met_classes};
-ghost use Rattle.dp_pieces.specs.Pieces.{exactly, made};
+ghost use Rattle.dp_pieces.specs.Met.{after_match, met_classes};
+ghost use Rattle.dp_pieces.specs.Pieces.{exactly, any_bytes_of};
 ghost use Rattle.dp_pieces.specs.Sets.{set_by};
 ghost use Rattle.dp_pieces.specs.ShapeSteps.{AreAllBytes, AreBytes, IsMet, is_any};
-ghost use Rattle.dp_pieces.specs.Shown.{shown, shown_all};
+ghost use Rattle.dp_pieces.specs.Shown.{shown_piece, shown_all};
 
 use crate::byte_set::ByteSet;
-use crate::piece::{Piece, bytes_of};
-use crate::shapes::place::{Place, meet};
+use crate::piece::{Piece, bytes_of, may_have};
+use crate::shapes::name_place::{NamePlace, meet};
 use crate::shapes::sets::push_all;
 use dp_conf::NoMemory;
 use dp_pattern::{Class, Name, Parts, Tail};
@@ -23,10 +23,10 @@ fn push_any(
 ) -> Result<(), NoMemory>
     requires { AreAllBytes classes.now }
     ensures { OnOk result (shown_all pieces.new.items
-        ≡ shown_all pieces.old.items ++ met_classes (made (set_by set.now)) classes.now tail) }
+        ≡ shown_all pieces.old.items ++ met_classes (any_bytes_of (set_by set.now)) classes.now tail) }
 {
     for class in classes {
-        pieces.push(Piece::OneOf(meet(set, Place::Class(class))))?;
+        pieces.push(Piece::OneOf(meet(set, NamePlace::Class(class))))?;
     }
     match tail {
         Tail::End => (),
@@ -38,11 +38,11 @@ fn push_any(
 /// A piece that is one byte, met with the class of this.
 fn meet_one(piece: &Piece, class: &Class) -> Option<Piece>
     requires { AreBytes class.now }
-    ensures { MatchOption result (is_any (shown piece.now) ≡ true) (λ met. IsMet (shown piece.now) class.now (shown met)) }
+    ensures { MatchOption result (is_any (shown_piece piece.now) ≡ true) (λ met. IsMet (shown_piece piece.now) class.now (shown_piece met)) }
 {
     match piece {
         Piece::Known(byte) => Some(Piece::Known(*byte)),
-        Piece::OneOf(set) => Some(Piece::OneOf(meet(set, Place::Class(class)))),
+        Piece::OneOf(set) => Some(Piece::OneOf(meet(set, NamePlace::Class(class)))),
         Piece::AnyOf(_) => None,
     }
 }
@@ -101,10 +101,10 @@ fn most_pieces(pieces: &[Piece], name: &Name) -> usize {
 ///
 /// Dashes do not count for a match, so a shape that may have one stays as it is.
 pub fn matched(alloc: Global, pieces: &[Piece], name: &Name) -> Result<Vec<Piece>, NoMemory>
-    ensures { IfOk result (λ met. shown_all met.items ≡ matched (shown_all pieces.now) name.now) }
+    ensures { IfOk result (λ met. shown_all met.items ≡ after_match (shown_all pieces.now) name.now) }
 {
     let mut met = Vec::with_capacity(alloc, most_pieces(pieces, name))?;
-    if bytes_of(pieces).has(b'-') {
+    if may_have(pieces, b'-') {
         push_all(&mut met, pieces)?;
         return Ok(met);
     }

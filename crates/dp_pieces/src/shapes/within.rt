@@ -1,9 +1,9 @@
 //! Shapes whose texts are all texts of another.
 ghost use Rattle.std.specs.Prelude.{◌≡◌, ℕ, List, ◌∷◌, IfSome, IsTrue};
-ghost use Rattle.dp_pieces.specs.Pieces.{Fits, made};
+ghost use Rattle.dp_pieces.specs.Pieces.{Fits, any_bytes_of};
 ghost use Rattle.dp_pieces.specs.Sets.{set_by};
 ghost use Rattle.dp_pieces.specs.ShapeSteps.{IsWithinPiece};
-ghost use Rattle.dp_pieces.specs.Shown.{shown, shown_all};
+ghost use Rattle.dp_pieces.specs.Shown.{shown_piece, shown_all};
 
 use crate::byte_set::ByteSet;
 use crate::piece::{Piece, bytes_of};
@@ -11,7 +11,7 @@ use crate::shapes::length::skip_nothing;
 
 /// Whether each text of the one piece is one of the other, and both are one byte or both any bytes.
 fn is_within_piece(piece: &Piece, wide: &Piece) -> bool
-    ensures { IsTrue result → IsWithinPiece (shown piece.now) (shown wide.now) }
+    ensures { IsTrue result → IsWithinPiece (shown_piece piece.now) (shown_piece wide.now) }
 {
     match (piece, wide) {
         (Piece::Known(byte), Piece::Known(other)) => byte == other,
@@ -26,7 +26,7 @@ fn is_within_piece(piece: &Piece, wide: &Piece) -> bool
 
 /// The set of a shape that is any bytes of one, by its first piece and those after it.
 fn only_set<'a>(first: &'a Piece, after: &[Piece]) -> Option<&'a ByteSet>
-    ensures { IfSome result (λ set. shown_all (first.now ∷ after.now) ≡ made (set_by set.now)) }
+    ensures { IfSome result (λ set. shown_all (first.now ∷ after.now) ≡ any_bytes_of (set_by set.now)) }
 {
     match (first, after) {
         (Piece::AnyOf(set), []) => Some(set),

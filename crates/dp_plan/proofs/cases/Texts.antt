@@ -11,7 +11,7 @@ use Rattle.dp_pattern.specs.Spelling.{spelling}
 use Rattle.dp_pattern.specs.declared.fault.NameFault.TheVariants.{BadByte}
 use Rattle.dp_plan.specs.Items.{context_item}
 use Rattle.dp_plan.specs.EntryLine.{name_of, written_priority, number_after, application_of, exten_entry, same_entry}
-use Rattle.dp_plan.specs.Loaded.{loaded}
+use Rattle.dp_plan.specs.Loaded.{plan_and_notes}
 use Rattle.dp_plan.specs.Plan.{plan_of, notes_of}
 use Rattle.dp_plan.specs.declared.fault.LoadFault.TheVariants.{Conf, Pattern, Plan}
 use Rattle.dp_plan.specs.declared.fault.PlanKind.TheVariants.{BadPriority, NoPrevious, BadLabel, BadApplication, LeftOut, TooDeep, NoExten, PriorityLimit, ShortLine}
@@ -93,9 +93,9 @@ application-old_form = refl
 
 -- ---- whole texts
 
-loaded-empty : loaded [] ≡ Ok (record { globals = []; contexts = [] }, [])
-unfolding loaded lines_of plan_of notes_of context_item
-loaded-empty = refl
+plan_and_notes-empty : plan_and_notes [] ≡ Ok (record { globals = []; contexts = [] }, [])
+unfolding plan_and_notes lines_of plan_of notes_of context_item
+plan_and_notes-empty = refl
 
 -- as many groups inside each other
 nested : ℕ → List ℕ
@@ -103,32 +103,32 @@ nested zero = []
 nested (suc depth) = codes "${" ++ (nested depth ++ codes "}")
 
 -- 33 groups inside each other are too deep, 32 are not
-loaded-too_deep : loaded (codes "[globals]" ++ 10 ∷ codes "A=" ++ nested 33) ≡ Err (Plan 2 TooDeep)
-unfolding loaded lines_of context_item nesting_of reading_of levels depth_of nested
-loaded-too_deep = refl
+plan_and_notes-too_deep : plan_and_notes (codes "[globals]" ++ 10 ∷ codes "A=" ++ nested 33) ≡ Err (Plan 2 TooDeep)
+unfolding plan_and_notes lines_of context_item nesting_of reading_of levels depth_of nested
+plan_and_notes-too_deep = refl
 
-loaded-deep : loaded (codes "[globals]" ++ 10 ∷ codes "A=" ++ nested 32)
+plan_and_notes-deep : plan_and_notes (codes "[globals]" ++ 10 ∷ codes "A=" ++ nested 32)
     ≡ Ok (record { globals = (record { name = codes "A"; value = nested 32 }) ∷ []; contexts = [] }, [])
-unfolding loaded lines_of plan_of notes_of context_item nesting_of reading_of levels depth_of nested
-loaded-deep = refl
+unfolding plan_and_notes lines_of plan_of notes_of context_item nesting_of reading_of levels depth_of nested
+plan_and_notes-deep = refl
 
 -- a malformed application has no arguments of which the depth could be asked
-loaded-bad_application : loaded (codes "[m]" ++ 10 ∷ codes "exten=s,1,A(" ++ nested 33) ≡ Err (Plan 2 BadApplication)
-unfolding loaded lines_of exten_entry name_of meaning_of spelling written_priority application_of context_item nesting_of reading_of levels depth_of nested
-loaded-bad_application = refl
+plan_and_notes-bad_application : plan_and_notes (codes "[m]" ++ 10 ∷ codes "exten=s,1,A(" ++ nested 33) ≡ Err (Plan 2 BadApplication)
+unfolding plan_and_notes lines_of exten_entry name_of meaning_of spelling written_priority application_of context_item nesting_of reading_of levels depth_of nested
+plan_and_notes-bad_application = refl
 
 -- a line with one comma is short, whatever its name
-loaded-short : loaded (codes "[m]" ++ 10 ∷ codes "exten=a b,1") ≡ Err (Plan 2 ShortLine)
-unfolding loaded lines_of exten_entry context_item
-loaded-short = refl
+plan_and_notes-short : plan_and_notes (codes "[m]" ++ 10 ∷ codes "exten=a b,1") ≡ Err (Plan 2 ShortLine)
+unfolding plan_and_notes lines_of exten_entry context_item
+plan_and_notes-short = refl
 
 -- a line that repeats no extension, though it is short
-loaded-no_exten : loaded (codes "[m]" ++ 10 ∷ codes "same=1") ≡ Err (Plan 2 NoExten)
-unfolding loaded lines_of same_entry context_item
-loaded-no_exten = refl
+plan_and_notes-no_exten : plan_and_notes (codes "[m]" ++ 10 ∷ codes "same=1") ≡ Err (Plan 2 NoExten)
+unfolding plan_and_notes lines_of same_entry context_item
+plan_and_notes-no_exten = refl
 
 -- the first line of a place stands, also over the sections of a context
-loaded-double : loaded (codes "[a]" ++ 10 ∷ codes "exten=s,1,A" ++ 10 ∷ codes "[b]" ++ 10 ∷ codes "x=" ++ 10 ∷ codes "[a]" ++ 10 ∷ codes "exten=-s,1,B")
+plan_and_notes-double : plan_and_notes (codes "[a]" ++ 10 ∷ codes "exten=s,1,A" ++ 10 ∷ codes "[b]" ++ 10 ∷ codes "x=" ++ 10 ∷ codes "[a]" ++ 10 ∷ codes "exten=-s,1,B")
     ≡ Ok (
       record {
         globals = [];
@@ -138,11 +138,11 @@ loaded-double : loaded (codes "[a]" ++ 10 ∷ codes "exten=s,1,A" ++ 10 ∷ code
       },
       (record { line = 4; kind = UnknownKey }) ∷ (record { line = 6; kind = DoublePriority }) ∷ [],
     )
-unfolding loaded lines_of plan_of notes_of exten_entry name_of meaning_of spelling written_priority application_of context_item nesting_of reading_of levels depth_of
-loaded-double = refl
+unfolding plan_and_notes lines_of plan_of notes_of exten_entry name_of meaning_of spelling written_priority application_of context_item nesting_of reading_of levels depth_of
+plan_and_notes-double = refl
 
 -- `n` counts on after a line that is dropped; a label is taken once; an include of a context that comes later is known
-loaded-next : loaded (codes "[a]" ++ 10 ∷ codes "exten=s,1(x),A" ++ 10 ∷ codes "same=n(x),B" ++ 10 ∷ codes "same=n,C" ++ 10 ∷ codes "include=b" ++ 10 ∷ codes "include=c" ++ 10 ∷ codes "[b]")
+plan_and_notes-next : plan_and_notes (codes "[a]" ++ 10 ∷ codes "exten=s,1(x),A" ++ 10 ∷ codes "same=n(x),B" ++ 10 ∷ codes "same=n,C" ++ 10 ∷ codes "include=b" ++ 10 ∷ codes "include=c" ++ 10 ∷ codes "[b]")
     ≡ Ok (
       record {
         globals = [];
@@ -158,22 +158,22 @@ loaded-next : loaded (codes "[a]" ++ 10 ∷ codes "exten=s,1(x),A" ++ 10 ∷ cod
       },
       (record { line = 3; kind = DoubleLabel }) ∷ (record { line = 6; kind = UnknownContext }) ∷ [],
     )
-unfolding loaded lines_of plan_of notes_of exten_entry same_entry name_of meaning_of spelling written_priority application_of context_item nesting_of reading_of levels depth_of
-loaded-next = refl
+unfolding plan_and_notes lines_of plan_of notes_of exten_entry same_entry name_of meaning_of spelling written_priority application_of context_item nesting_of reading_of levels depth_of
+plan_and_notes-next = refl
 
-loaded-globals : loaded (codes "[GLOBALS]" ++ 10 ∷ codes "A=1" ++ 10 ∷ codes "=2" ++ 10 ∷ codes "A=")
+plan_and_notes-globals : plan_and_notes (codes "[GLOBALS]" ++ 10 ∷ codes "A=1" ++ 10 ∷ codes "=2" ++ 10 ∷ codes "A=")
     ≡ Ok (
       record { globals = (record { name = codes "A"; value = codes "1" }) ∷ (record { name = codes "A"; value = [] }) ∷ []; contexts = [] },
       (record { line = 3; kind = UnknownKey }) ∷ [],
     )
-unfolding loaded lines_of plan_of notes_of context_item nesting_of reading_of levels depth_of
-loaded-globals = refl
+unfolding plan_and_notes lines_of plan_of notes_of context_item nesting_of reading_of levels depth_of
+plan_and_notes-globals = refl
 
 -- a fault of the text comes before a fault of an earlier line
-loaded-text_first : loaded (codes "[m]" ++ 10 ∷ codes "exten=s,0,A" ++ 10 ∷ codes "abc") ≡ Err (Conf (At 3 NoEquals))
-unfolding loaded lines_of context_item
-loaded-text_first = refl
+plan_and_notes-text_first : plan_and_notes (codes "[m]" ++ 10 ∷ codes "exten=s,0,A" ++ 10 ∷ codes "abc") ≡ Err (Conf (At 3 NoEquals))
+unfolding plan_and_notes lines_of context_item
+plan_and_notes-text_first = refl
 
-loaded-lowest_line : loaded (codes "[m]" ++ 10 ∷ codes "exten=s,1" ++ 10 ∷ codes "exten=s,0,A") ≡ Err (Plan 2 ShortLine)
-unfolding loaded lines_of exten_entry context_item
-loaded-lowest_line = refl
+plan_and_notes-lowest_line : plan_and_notes (codes "[m]" ++ 10 ∷ codes "exten=s,1" ++ 10 ∷ codes "exten=s,0,A") ≡ Err (Plan 2 ShortLine)
+unfolding plan_and_notes lines_of exten_entry context_item
+plan_and_notes-lowest_line = refl

@@ -8,8 +8,10 @@ use Rattle.dp_conf.specs.Words.{same_text}
 use Rattle.dp_plan.specs.Contexts.{PlanContext, with_entry, with_include}
 use Rattle.dp_plan.specs.steps.Numbers.{with_number}
 use Rattle.dp_plan.specs.steps.Places.{same_slot}
+use Rattle.dp_plan.specs.steps.Table.{Table, number_in}
+use Rattle.dp_plan.specs.Extensions.{extension_of}
 use Rattle.dp_plan.specs.Plan.{is_named, include_note}
-use Rattle.dp_plan.specs.declared.places.Slot.{Slot}
+use Rattle.dp_plan.specs.declared.taken_places.Slot.{Slot}
 use Rattle.dp_plan.specs.declared.label.Label.{Label}
 use Rattle.dp_plan.specs.declared.remark.Remark.{Remark}
 use Rattle.dp_plan.specs.declared.remark.Remark.TheVariants.{Noted, Asks}
@@ -67,11 +69,6 @@ with_context d name =
       numbers = d.numbers ++ [] ∷ [];
     }
 
--- the names with one more, where there is one and it is not among them already
-abbrev pub with_name : List (List ℕ) → Option (List ℕ) → List (List ℕ)
-with_name names None = names
-with_name names (Some name) = if is_named names name then names else names ++ name ∷ []
-
 -- the place is taken
 abbrev pub is_slot_taken : Drafted → Slot → Bool
 is_slot_taken d slot = list_any (same_slot slot) d.taken
@@ -89,42 +86,34 @@ with_label d label = if is_marked d label then d else record d { labels = d.labe
 abbrev pub with_note : Drafted → ℕ → NoteKind → Drafted
 with_note d line kind = record d { remarks = d.remarks ++ Noted (record { line = line; kind = kind }) ∷ [] }
 
--- the context of the name, which is there already, is changed
-abbrev pub changed_context : Drafted → (PlanContext → PlanContext) → List ℕ → List PlanContext
-changed_context d change name = changed_at change (position_or_len (same_text name) d.names) d.contexts
-
--- the numbers of the context of the name, which is there already, with one more
-abbrev pub numbers_with : Drafted → ℕ → List ℕ → List (List ℕ)
-numbers_with d number name = changed_at (with_number number) (position_or_len (same_text name) d.names) d.numbers
-
 -- what an entry is noted for, where its place or its label is taken
-abbrev pub doubled : Drafted → Slot → Option Label → Option NoteKind
-doubled d slot label =
+abbrev pub double_kind : Drafted → Slot → Option Label → Option NoteKind
+double_kind d slot label =
     if is_slot_taken d slot then Some DoublePriority else if is_marked d label then Some DoubleLabel else None
 
 -- the draft with the place and the label taken, unless one of them is taken already
-abbrev pub claimed : Drafted → Slot → Option Label → Drafted
-claimed d slot label =
+abbrev pub take_place : Drafted → Slot → Option Label → Drafted
+take_place d slot label =
     if is_slot_taken d slot then d
     else if is_marked d label then d
     else record d { taken = d.taken ++ slot ∷ []; labels = d.labels ++ option_to_list label }
 
--- the draft with the entry in its context, which is there already, unless its place or its label is taken
-abbrev pub with_addition : Drafted → ℕ → List ℕ → ℕ → Entry → Drafted
-with_addition d line context number entry =
+-- the draft with the entry in the context of the place, unless its place or its label is taken
+abbrev pub with_addition : Drafted → ℕ → ℕ → ℕ → Entry → Drafted
+with_addition d line place number entry =
     if is_slot_taken d (slot_of number entry) then with_note d line DoublePriority
     else if is_marked d (label_of number entry) then with_note d line DoubleLabel
     else record d {
-      contexts = changed_context d (with_entry entry) context;
-      numbers = numbers_with d number context;
+      contexts = changed_at (with_entry entry) place d.contexts;
+      numbers = changed_at (with_number number) place d.numbers;
       taken = d.taken ++ slot_of number entry ∷ [];
       labels = d.labels ++ option_to_list (label_of number entry);
     }
 
--- the draft with the include in its context, which is there already; whether its name is known shows in the end
-abbrev pub with_inclusion : Drafted → ℕ → List ℕ → List ℕ → Drafted
-with_inclusion d line context name = record d {
-  contexts = changed_context d (with_include name) context;
+-- the draft with the include in the context of the place; whether its name is known shows in the end
+abbrev pub with_inclusion : Drafted → ℕ → ℕ → List ℕ → Drafted
+with_inclusion d line place name = record d {
+  contexts = changed_at (with_include name) place d.contexts;
   remarks = d.remarks ++ Asks line name ∷ [];
 }
 
@@ -134,15 +123,27 @@ with_section d General = d
 with_section d Globals = d
 with_section d (Context name) = with_context d name
 
--- the draft with one more item; where it is an entry, its extension has the number
-abbrev pub added : Drafted → ℕ → Item → Drafted
-added d number (Begins section) = with_section d section
-added d number (Sets global) = record d { globals = d.globals ++ global ∷ [] }
-added d number (Adds line context entry) = with_addition (with_context d context) line context number entry
-added d number (Includes line context name) = with_inclusion (with_context d context) line context name
-added d number (Unknown line) = with_note d line UnknownKey
+-- the place of the context of a name, which is there already
+abbrev pub place_of : Drafted → List ℕ → ℕ
+place_of d name = position_or_len (same_text name) d.names
+
+-- the draft with one more entry, or one more include, in the context of a name, which is there already
+abbrev pub with_entry_of : Drafted → ℕ → List ℕ → ℕ → Entry → Drafted
+with_entry_of d line context number entry = with_addition d line (place_of d context) number entry
+
+abbrev pub with_include_of : Drafted → ℕ → List ℕ → List ℕ → Drafted
+with_include_of d line context name = with_inclusion d line (place_of d context) name
+
+-- the draft with one more item, where the extensions of the items before it have their numbers
+abbrev pub with_item : Drafted → Table → Item → Drafted
+with_item d table (Begins section) = with_section d section
+with_item d table (Sets global) = record d { globals = d.globals ++ global ∷ [] }
+with_item d table (Adds line context entry) =
+    with_entry_of (with_context d context) line context (number_in table (extension_of context entry.name)) entry
+with_item d table (Includes line context name) = with_include_of (with_context d context) line context name
+with_item d table (Unknown line) = with_note d line UnknownKey
 
 -- the note of a remark, by the names of all contexts
-abbrev pub settled : List (List ℕ) → Remark → List Note
-settled names (Noted note) = note ∷ []
-settled names (Asks line name) = include_note line names name
+abbrev pub remark_notes : List (List ℕ) → Remark → List Note
+remark_notes names (Noted note) = note ∷ []
+remark_notes names (Asks line name) = include_note line names name

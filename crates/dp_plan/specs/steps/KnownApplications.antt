@@ -8,5 +8,5 @@ abbrev pub is_known : List (List ℕ) → List ℕ → Bool
 is_known names name = list_any (same_text name) names
 
 -- the names with one more, which is held where it is new and fewer than 32 are
-abbrev pub kept : List (List ℕ) → List ℕ → List (List ℕ)
-kept names name = if is_known names name then names else if nat_lt (length names) 32 then names ++ name ∷ [] else names
+abbrev pub with_known_name : List (List ℕ) → List ℕ → List (List ℕ)
+with_known_name names name = if is_known names name then names else if nat_lt (length names) 32 then names ++ name ∷ [] else names

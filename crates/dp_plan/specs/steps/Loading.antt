@@ -1,12 +1,18 @@
 -- A step of the code: what the lines so far leave for the next one and have made, line by line. What all lines of a text
 -- make is `loaded` of Loaded.
-use Rattle.std.specs.Prelude.{ℕ, List, fold, Option, Some, None, Result, Ok, Err}
+use Rattle.std.specs.Prelude.{ℕ, List, fold, Option, Result, Ok}
 use Rattle.dp_conf.specs.Answers.{◌>>=◌}
+use Rattle.dp_conf.specs.FirstFaults.{made_or_fault}
 use Rattle.dp_conf.specs.Lines.{LineOf, lines_of}
-use Rattle.dp_plan.specs.steps.Draft.{Drafted, nothing, added}
-use Rattle.dp_plan.specs.Faults.{text_fault}
+use Rattle.dp_conf.specs.declared.first_fault.FaultyLine.{FaultyLine}
+use Rattle.dp_plan.specs.steps.Draft.{Drafted, nothing, with_item}
+use Rattle.dp_plan.specs.Faults.{fault_of_line, text_fault}
 use Rattle.dp_plan.specs.Items.{line_item}
+use Rattle.dp_plan.specs.steps.Open.{reading_in}
+use Rattle.dp_plan.specs.declared.lines.Lines.{Lines}
+use Rattle.dp_plan.specs.declared.section.OpenSection.{OpenSection}
 use Rattle.dp_plan.specs.steps.Reader.{Reading, unread, after, history_in}
+use Rattle.dp_plan.specs.declared.fault.ItemKind.{ItemKind}
 use Rattle.dp_plan.specs.declared.fault.LoadFault.{LoadFault}
 use Rattle.dp_plan.specs.Item.{Item}
 
@@ -14,6 +20,10 @@ use Rattle.dp_plan.specs.Item.{Item}
 pub record MadeOf : Type 0 where
   pub reading : Reading
   pub draft : Drafted
+
+-- what the lines have made, where the section is open
+abbrev pub made_in : OpenSection → Lines → MadeOf
+made_in opened lines = record { reading = reading_in opened lines.reader; draft = lines.draft }
 
 -- before the first line
 abbrev pub unmade : MadeOf
@@ -23,7 +33,7 @@ unmade = record { reading = unread; draft = nothing }
 abbrev pub after_item : MadeOf → Item → MadeOf
 after_item made item = record {
   reading = after made.reading item;
-  draft = added made.draft (after made.reading item).extensions.last item;
+  draft = with_item made.draft made.reading.extensions item;
 }
 
 -- after the item of one more line, or the line's fault
@@ -43,14 +53,13 @@ abbrev pub after_one : Result MadeOf LoadFault → LineOf → Result MadeOf Load
 after_one state line = state >>= λ made. after_line made line
 
 -- what was made, or the fault that is kept aside
-abbrev pub outcome : Option LoadFault → MadeOf → Result MadeOf LoadFault
-outcome None made = Ok made
-outcome (Some fault) made = Err fault
+abbrev pub outcome : Option (FaultyLine ItemKind) → MadeOf → Result MadeOf LoadFault
+outcome = made_or_fault fault_of_line
 
 -- the draft of what was made
-abbrev pub finished : Result MadeOf LoadFault → Result Drafted LoadFault
-finished state = state >>= λ made. Ok made.draft
+abbrev pub draft_made : Result MadeOf LoadFault → Result Drafted LoadFault
+draft_made state = state >>= λ made. Ok made.draft
 
 -- what all lines of a text make: a fault of the text comes before those of a context
 unfoldable pub drafted_of : List ℕ → Result Drafted LoadFault
-drafted_of text = text_fault (lines_of text) >>= λ lines. finished (fold after_one (Ok unmade) lines)
+drafted_of text = text_fault (lines_of text) >>= λ lines. draft_made (fold after_one (Ok unmade) lines)

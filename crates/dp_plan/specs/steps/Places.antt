@@ -1,9 +1,9 @@
 -- A step of the code: the places that entries have taken, and how they are kept.
 use Rattle.std.specs.Prelude.{ℕ, ◌≤◌, Bool, ◌&&◌, ◌==◌, List, get_or}
 use Rattle.std.specs.List.{AllByRecursion}
-use Rattle.dp_plan.specs.declared.places.Kept.{Kept}
-use Rattle.dp_plan.specs.declared.places.Kept.TheVariants.{Listed, Looked}
-use Rattle.dp_plan.specs.declared.places.Slot.{Slot}
+use Rattle.dp_plan.specs.declared.taken_places.Kept.{Kept}
+use Rattle.dp_plan.specs.declared.taken_places.Kept.TheVariants.{Listed, Looked}
+use Rattle.dp_plan.specs.declared.taken_places.Slot.{Slot}
 
 -- two slots are the same place
 abbrev pub same_slot : Slot → Slot → Bool

@@ -1,39 +1,28 @@
--- A step of the code: the extensions of the lines so far, each with its last priority, and which one the last line has.
-use Rattle.std.specs.Prelude.{ℕ, Bool, false, List, [], slice_get}
-use Rattle.std.specs.List.{position_or_len}
-use Rattle.std.specs.Option.{option_map_or}
+-- A step of the code: the extensions of the lines so far, each with its last priority and its number.
+use Rattle.std.specs.Prelude.{◌≡◌, ℕ, Bool, true, List, Option, slice_get}
+use Rattle.std.specs.Option.{option_and_then, option_map}
+use Rattle.std.specs.List.{list_any, position_or_len}
 use Rattle.std.specs.Map.{keys_of}
-use Rattle.indexmap.specs.IndexMap.{insert_entry}
-use Rattle.dp_conf.specs.Words.{same_text}
-use Rattle.dp_pattern.specs.Name.{Meaning}
-use Rattle.dp_pattern.specs.Spelling.{spelling}
 use Rattle.dp_plan.specs.Extensions.{same_extension}
 use Rattle.dp_plan.specs.declared.extension.Extension.{Extension}
 
--- each extension with its last priority, in the order of first appearance, and the number of the last line's extension
-pub record Table : Type 0 where
-  pub priorities : List (Extension × ℕ)
-  pub last : ℕ
+-- an element passes the test, and the first one that does stands at the place
+pub record StandsAt {X : Type 0} (test : X → Bool) (xs : List X) (place : ℕ) : Type 0 where
+  pub there : list_any test xs ≡ true
+  pub at : place ≡ position_or_len test xs
 
--- before the first line
-abbrev pub empty : Table
-empty = record { priorities = []; last = 0 }
+-- each extension with its last priority, in the order of first appearance
+abbrev pub Table : Type 0
+Table = List (Extension × ℕ)
 
 -- the number of an extension, which is the count of all where it is not among them
-abbrev pub number_in : List (Extension × ℕ) → Extension → ℕ
-number_in priorities extension = position_or_len (same_extension extension) (keys_of priorities)
+abbrev pub number_in : Table → Extension → ℕ
+number_in table extension = position_or_len (same_extension extension) (keys_of table)
 
--- the extension is that of the last line
-abbrev pub is_last : Table → Extension → Bool
-is_last table extension = option_map_or (λ entry. same_extension extension entry.0) (slice_get table.priorities table.last) false
+-- the extension is among them and has the number
+abbrev pub HasNumber : Table → Extension → ℕ → Type 0
+HasNumber table extension = StandsAt (same_extension extension) (keys_of table)
 
--- the extension of the last line has the name
-abbrev pub names_last : Table → Meaning → Bool
-names_last table name = option_map_or (λ entry. same_text (spelling name) entry.0.spelling) (slice_get table.priorities table.last) false
-
--- after a line of an extension with a priority
-abbrev pub written : Table → Extension → ℕ → Table
-written table extension priority = record {
-  priorities = insert_entry same_extension table.priorities extension priority;
-  last = number_in table.priorities extension;
-}
+-- the last priority of the extension of the number, where there is one
+abbrev pub priority_at : Table → Option ℕ → Option ℕ
+priority_at table number = option_and_then (λ n. option_map (λ entry. entry.1) (slice_get table n)) number

@@ -1,6 +1,6 @@
 //! Dialplans that are cut short.
+use dp_case_tables::{Question, bytes_of};
 use dp_plan::{ConfFault, Dialplan, LoadFault, NoMemory};
-use dp_questions::{Question, bytes_of};
 use std::alloc::Global;
 use std::test::Fail;
 

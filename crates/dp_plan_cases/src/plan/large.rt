@@ -1,7 +1,7 @@
 //! The greatest text.
-use crate::plan::render::shown;
+use crate::plan::render::plan_text;
+use dp_case_tables::check_same;
 use dp_plan::Dialplan;
-use dp_questions::check_same;
 use std::alloc::Global;
 use std::test::Fail;
 
@@ -11,7 +11,7 @@ const MOST_BYTES: usize = 16_777_216;
 fn check_line_feeds(alloc: Global) -> Result<(), Fail> {
     let text = vec![in alloc; b'\n'; MOST_BYTES]?;
     let read = Dialplan::load(alloc, &text);
-    let got = shown(alloc, &read)?;
+    let got = plan_text(alloc, &read)?;
     check_same("a text of 16,777,216 line feeds", &got, "")
 }
 

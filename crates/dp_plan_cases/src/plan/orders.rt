@@ -1,8 +1,8 @@
 //! The order in which a look-up asks the entries of a context.
 use crate::plan::render::ranking;
 use crate::plan::rows::RANKED;
+use dp_case_tables::{Question, bytes_of, check_all};
 use dp_plan::Dialplan;
-use dp_questions::{Question, bytes_of, check_all};
 use std::alloc::Global;
 use std::test::Fail;
 

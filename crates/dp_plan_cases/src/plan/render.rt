@@ -1,9 +1,9 @@
 //! Loaded dialplans and faults, rendered as one line of text.
+use dp_case_tables::{Question, bytes_of};
 use dp_plan::{
     ConfFault, Context, Dialplan, Entry, LoadFault, Name, NoMemory, Note, PlanKind, SharedText,
     Text,
 };
-use dp_questions::{Question, bytes_of};
 use std::alloc::Global;
 use std::test::Fail;
 
@@ -14,7 +14,7 @@ impl Question for Loads {
     fn answer(alloc: Global, asked: &str) -> Result<String, Fail> {
         let text = bytes_of(alloc, asked)?;
         let read = Dialplan::load(alloc, &text);
-        let got = shown(alloc, &read)?;
+        let got = plan_text(alloc, &read)?;
         Ok(got)
     }
 }
@@ -100,7 +100,7 @@ fn push_fault(out: &mut String, fault: LoadFault) -> Result<(), NoMemory> {
 /// `<NAME,PRIORITY,APPLICATION(ARGUMENTS)>`, or `<NAME,PRIORITY(LABEL),APPLICATION(ARGUMENTS)>` where there is a label,
 /// and with its includes `{+NAME}`, and its notes ` note LINE KIND`; a fault as `fault CODE line L`, and as
 /// `fault 24 WORD line L` where the line asks for what is left out.
-pub(super) fn shown(
+pub(super) fn plan_text(
     alloc: Global,
     read: &Result<(Dialplan, Vec<Note>), LoadFault>,
 ) -> Result<String, NoMemory> {

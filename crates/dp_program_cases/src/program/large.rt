@@ -9,7 +9,7 @@ use std::thread::Threads;
 use std::{fs, process};
 
 /// A text so many times.
-fn repeated(alloc: Global, piece: &str, count: u32) -> Result<String, NoMemory> {
+fn repeat_piece(alloc: Global, piece: &str, count: u32) -> Result<String, NoMemory> {
     let mut all = String::new(alloc);
     for _turn in 0..count {
         all.push_str(piece)?;
@@ -39,9 +39,9 @@ fn check_tall<R: Files + Threads + Wait + Sync + AllocGlobal>(
     rt: &R,
     folder: &str,
 ) -> Result<(), Fail> {
-    let mut plan = repeated(rt.alloc(), "\n", 70_000)?;
+    let mut plan = repeat_piece(rt.alloc(), "\n", 70_000)?;
     plan.push_str("[main]\nabc\n")?;
-    let mut script = repeated(rt.alloc(), "\n", 70_000)?;
+    let mut script = repeat_piece(rt.alloc(), "\n", 70_000)?;
     script.push_str("step 1\njump\n")?;
     write_file(rt, folder, "tall", plan.as_bytes())?;
     write_file(rt, folder, "tall.script", script.as_bytes())?;
@@ -88,7 +88,7 @@ fn check_wide<R: Files + Threads + Wait + Sync + AllocGlobal>(
     rt: &R,
     folder: &str,
 ) -> Result<(), Fail> {
-    let name = repeated(rt.alloc(), "1234567890", 30)?;
+    let name = repeat_piece(rt.alloc(), "1234567890", 30)?;
     let plan = wide_plan(rt.alloc(), &name)?;
     let script = wide_script(rt.alloc(), &name)?;
     let want = wide_trace(rt.alloc(), &name)?;

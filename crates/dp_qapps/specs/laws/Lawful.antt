@@ -2,7 +2,7 @@
 use Rattle.std.specs.Prelude.{◌≡◌, ℕ, ◌<◌, Bool, true, false, List, length, codes, refl}
 use Rattle.std.proofs.Common.{ap}
 use Rattle.dp_conf.specs.Levels.{arguments_of}
-use Rattle.dp_queue.specs.Joining.{IsWithin, joined, would_join}
+use Rattle.dp_queue.specs.Joining.{IsWithin, after_join, would_join}
 use Rattle.dp_queue.specs.Members.{add_row, remove_row}
 use Rattle.dp_queue.specs.Queues.{QueuesOf}
 use Rattle.dp_queue.specs.declared.join.Join.{Join}
@@ -10,7 +10,7 @@ use Rattle.dp_queue.specs.declared.join.Join.TheVariants.{Unknown, Empty, Full, 
 use Rattle.dp_app.specs.laws.Keeping.{cell_kept, not_parked, queues_kept, store_kept}
 use Rattle.dp_app.specs.Lawful.{ParksNowhere, IsLawfulRow, KeepsQueues, KeepsUntouched, MayGo, waiting_after, waiting_lists}
 use Rattle.dp_app.specs.laws.StoreKept.{set_kept}
-use Rattle.dp_app.specs.declared.cell.Cell.{Cell}
+use Rattle.dp_app.specs.Cells.{CellOf}
 use Rattle.dp_app.specs.declared.moves.Move.TheVariants.{Next, Park, Hang}
 use Rattle.dp_app.specs.declared.phase.Phase.{Phase}
 use Rattle.dp_app.specs.declared.touch.Touch.{Touch}
@@ -18,7 +18,7 @@ use Rattle.dp_qapps.specs.Membership as membership
 use Rattle.dp_qapps.specs.Pausing as pausing
 use Rattle.dp_qapps.specs.Queueing as queueing
 use Rattle.dp_qapps.specs.laws.QueuesKept.{add_kept, joined_kept, joins_within, lists-joined, pause_kept, remove_kept}
-use Rattle.dp_qapps.specs.Reports.{interface_of, penalty_of, reported}
+use Rattle.dp_qapps.specs.Reports.{interface_of, penalty_of, with_report}
 use Rattle.dp_app.specs.Parts.{has_option, is_given, part}
 use Rattle.dp_qapps.specs.Touches.{variables_and_members, variables_and_waiting}
 
@@ -26,8 +26,8 @@ false_is_true : false ≡ true → ⊥
 false_is_true e = cc
 
 -- a report leaves what the change of the queues leaves
-reported_kept : (touch : Touch) (cell : Cell) (queues : QueuesOf) (name status : List ℕ) → touch.variables ≡ true
-    → KeepsQueues touch cell.queues queues → KeepsUntouched touch cell (reported cell queues name status).cell
+reported_kept : (touch : Touch) (cell : CellOf) (queues : QueuesOf) (name status : List ℕ) → touch.variables ≡ true
+    → KeepsQueues touch cell.queues queues → KeepsUntouched touch cell (with_report cell queues name status).cell
 reported_kept touch cell queues name status touches kept = record {
   number = refl;
   place = refl;
@@ -39,9 +39,9 @@ reported_kept touch cell queues name status touches kept = record {
 }
 
 -- a row that reports a change of the members keeps the laws
-members_lawful : (queues : List ℕ → Cell → QueuesOf) (name : List ℕ) (status : List ℕ → Cell → List ℕ)
-    → ((arguments : List ℕ) (cell : Cell) → KeepsQueues variables_and_members cell.queues (queues arguments cell))
-    → IsLawfulRow variables_and_members (λ arguments cell. reported cell (queues arguments cell) name (status arguments cell))
+members_lawful : (queues : List ℕ → CellOf → QueuesOf) (name : List ℕ) (status : List ℕ → CellOf → List ℕ)
+    → ((arguments : List ℕ) (cell : CellOf) → KeepsQueues variables_and_members cell.queues (queues arguments cell))
+    → IsLawfulRow variables_and_members (λ arguments cell. with_report cell (queues arguments cell) name (status arguments cell))
 members_lawful queues name status kept = record {
   keeps = λ arguments cell. reported_kept variables_and_members cell (queues arguments cell) name (status arguments cell) refl (kept arguments cell);
   parks = λ arguments cell. tt;
@@ -72,9 +72,9 @@ remove_member_lawful = members_lawful
 pub pausing_lawful : (is_paused : Bool) → IsLawfulRow variables_and_members (pausing.pausing_row is_paused)
 unfolding pausing.pausing_row
 pausing_lawful is_paused = members_lawful
-    (λ arguments cell. (pausing.paused cell.queues (pausing.queue_asked (part 0 (arguments_of arguments))) (part 1 (arguments_of arguments)) is_paused).0)
+    (λ arguments cell. (pausing.after_pausing cell.queues (pausing.queue_asked (part 0 (arguments_of arguments))) (part 1 (arguments_of arguments)) is_paused).0)
     (pausing.pause_variable is_paused)
-    (λ arguments cell. pausing.pause_status is_paused (pausing.paused cell.queues (pausing.queue_asked (part 0 (arguments_of arguments))) (part 1 (arguments_of arguments)) is_paused).1)
+    (λ arguments cell. pausing.pause_status is_paused (pausing.after_pausing cell.queues (pausing.queue_asked (part 0 (arguments_of arguments))) (part 1 (arguments_of arguments)) is_paused).1)
     (λ arguments cell. pause_kept cell.queues (pausing.queue_asked (part 0 (arguments_of arguments))) (part 1 (arguments_of arguments)) is_paused)
 
 -- the row of `PauseQueueMember`
@@ -86,14 +86,14 @@ pub unpause_member_lawful : IsLawfulRow variables_and_members pausing.unpause_me
 unpause_member_lawful = pausing_lawful false
 
 -- a call that asks to join, by what it is told
-module _ (cell : Cell) (goes_on has_timer : Bool) where
+module _ (cell : CellOf) (goes_on has_timer : Bool) where
   -- a call that does not wait changes the variables alone
-  refused_kept : (status : List ℕ) → KeepsUntouched variables_and_waiting cell (queueing.refused cell status).cell
+  refused_kept : (status : List ℕ) → KeepsUntouched variables_and_waiting cell (queueing.stays_out cell status).cell
   refused_kept status = reported_kept variables_and_waiting cell cell.queues (codes "QUEUESTATUS") status refl (queues_kept variables_and_waiting cell.queues)
 
   -- one that waits changes the waiting lists alone
   queued_kept : (number : ℕ) (b : Bool)
-      → KeepsUntouched variables_and_waiting cell (queueing.queued b cell (joined cell.queues cell.number (Joined number)) number goes_on has_timer).cell
+      → KeepsUntouched variables_and_waiting cell (queueing.wait_in_queue b cell (after_join cell.queues cell.number (Joined number)) number goes_on has_timer).cell
   queued_kept number true = cell_kept variables_and_waiting cell
   queued_kept number false = record {
     number = refl;
@@ -105,7 +105,7 @@ module _ (cell : Cell) (goes_on has_timer : Bool) where
     queues = joined_kept cell.queues cell.number number;
   }
 
-  asked_kept : (j : Join) → KeepsUntouched variables_and_waiting cell (queueing.asked cell goes_on has_timer (joined cell.queues cell.number j) j).cell
+  asked_kept : (j : Join) → KeepsUntouched variables_and_waiting cell (queueing.join_outcome cell goes_on has_timer (after_join cell.queues cell.number j) j).cell
   asked_kept Unknown = refused_kept (codes "UNKNOWN")
   asked_kept Empty = refused_kept (codes "JOINEMPTY")
   asked_kept Full = refused_kept (codes "FULL")
@@ -113,11 +113,11 @@ module _ (cell : Cell) (goes_on has_timer : Bool) where
 
   -- it waits in one of the queues
   queued_parks : (count number : ℕ) (b : Bool) (queues : QueuesOf) → number < count
-      → MayGo count (queueing.queued b cell queues number goes_on has_timer).next
+      → MayGo count (queueing.wait_in_queue b cell queues number goes_on has_timer).next
   queued_parks count number true queues within = tt
   queued_parks count number false queues within = within
 
-  asked_parks : (count : ℕ) (queues : QueuesOf) (j : Join) → IsWithin count j → MayGo count (queueing.asked cell goes_on has_timer queues j).next
+  asked_parks : (count : ℕ) (queues : QueuesOf) (j : Join) → IsWithin count j → MayGo count (queueing.join_outcome cell goes_on has_timer queues j).next
   asked_parks count queues Unknown within = tt
   asked_parks count queues Empty within = tt
   asked_parks count queues Full within = tt
@@ -125,25 +125,25 @@ module _ (cell : Cell) (goes_on has_timer : Bool) where
 
   -- it stands last in the waiting list of that queue
   queued_waits : (number : ℕ) (b : Bool)
-      → waiting_lists (queueing.queued b cell (joined cell.queues cell.number (Joined number)) number goes_on has_timer).cell.queues
-      ≡ waiting_after (waiting_lists cell.queues) cell.number (queueing.queued b cell (joined cell.queues cell.number (Joined number)) number goes_on has_timer).next
+      → waiting_lists (queueing.wait_in_queue b cell (after_join cell.queues cell.number (Joined number)) number goes_on has_timer).cell.queues
+      ≡ waiting_after (waiting_lists cell.queues) cell.number (queueing.wait_in_queue b cell (after_join cell.queues cell.number (Joined number)) number goes_on has_timer).next
   queued_waits number true = refl
   queued_waits number false = lists-joined cell.number number cell.queues.queues
 
   asked_waits : (j : Join)
-      → waiting_lists (queueing.asked cell goes_on has_timer (joined cell.queues cell.number j) j).cell.queues
-      ≡ waiting_after (waiting_lists cell.queues) cell.number (queueing.asked cell goes_on has_timer (joined cell.queues cell.number j) j).next
+      → waiting_lists (queueing.join_outcome cell goes_on has_timer (after_join cell.queues cell.number j) j).cell.queues
+      ≡ waiting_after (waiting_lists cell.queues) cell.number (queueing.join_outcome cell goes_on has_timer (after_join cell.queues cell.number j) j).next
   asked_waits Unknown = refl
   asked_waits Empty = refl
   asked_waits Full = refl
   asked_waits (Joined number) = queued_waits number cell.is_closing
 
   -- one that is closing does not wait
-  queued_closes : (number : ℕ) (b : Bool) (queues : QueuesOf) → b ≡ true → ParksNowhere (queueing.queued b cell queues number goes_on has_timer).next
+  queued_closes : (number : ℕ) (b : Bool) (queues : QueuesOf) → b ≡ true → ParksNowhere (queueing.wait_in_queue b cell queues number goes_on has_timer).next
   queued_closes number true queues closing = tt
   queued_closes number false queues closing = absurd (false_is_true closing)
 
-  asked_closes : (queues : QueuesOf) (j : Join) → cell.is_closing ≡ true → ParksNowhere (queueing.asked cell goes_on has_timer queues j).next
+  asked_closes : (queues : QueuesOf) (j : Join) → cell.is_closing ≡ true → ParksNowhere (queueing.join_outcome cell goes_on has_timer queues j).next
   asked_closes queues Unknown closing = tt
   asked_closes queues Empty closing = tt
   asked_closes queues Full closing = tt
@@ -151,12 +151,12 @@ module _ (cell : Cell) (goes_on has_timer : Bool) where
 
   -- where it would wait without the mark, its call ends with nothing changed
   asked_hangs : (queues : QueuesOf) (j : Join) (phase : Phase) → cell.is_closing ≡ true
-      → (queueing.asked (record cell { is_closing = false }) goes_on has_timer queues j).next ≡ Park phase
-      → queueing.asked cell goes_on has_timer queues j ≡ record { cell = cell; next = Hang }
+      → (queueing.join_outcome (record cell { is_closing = false }) goes_on has_timer queues j).next ≡ Park phase
+      → queueing.join_outcome cell goes_on has_timer queues j ≡ record { cell = cell; next = Hang }
   asked_hangs queues Unknown phase closing parks = not_parked Next phase tt parks
   asked_hangs queues Empty phase closing parks = not_parked Next phase tt parks
   asked_hangs queues Full phase closing parks = not_parked Next phase tt parks
-  asked_hangs queues (Joined number) phase closing parks = ap (λ b. queueing.queued b cell queues number goes_on has_timer) closing
+  asked_hangs queues (Joined number) phase closing parks = ap (λ b. queueing.wait_in_queue b cell queues number goes_on has_timer) closing
 
 -- what the options of `Queue` ask for, by its parts
 abbrev goes_on_of : List ℕ → Bool
@@ -166,19 +166,19 @@ abbrev has_timer_of : List ℕ → Bool
 has_timer_of arguments = is_given (part 4 (arguments_of arguments))
 
 -- what a call that asks to join is told
-abbrev told : List ℕ → Cell → Join
-told arguments cell = would_join cell.queues.queues (part 0 (arguments_of arguments))
+abbrev join_told : List ℕ → CellOf → Join
+join_told arguments cell = would_join cell.queues.queues (part 0 (arguments_of arguments))
 
 -- the row of `Queue`
 pub queue_lawful : IsLawfulRow variables_and_waiting queueing.queue_row
 unfolding queueing.queue_row
 queue_lawful = record {
-  keeps = λ arguments cell. asked_kept cell (goes_on_of arguments) (has_timer_of arguments) (told arguments cell);
+  keeps = λ arguments cell. asked_kept cell (goes_on_of arguments) (has_timer_of arguments) (join_told arguments cell);
   parks = λ arguments cell. asked_parks cell (goes_on_of arguments) (has_timer_of arguments) (length cell.queues.queues)
-      (joined cell.queues cell.number (told arguments cell)) (told arguments cell) (joins_within cell.queues.queues (part 0 (arguments_of arguments)));
-  waits = λ arguments cell. asked_waits cell (goes_on_of arguments) (has_timer_of arguments) (told arguments cell);
+      (after_join cell.queues cell.number (join_told arguments cell)) (join_told arguments cell) (joins_within cell.queues.queues (part 0 (arguments_of arguments)));
+  waits = λ arguments cell. asked_waits cell (goes_on_of arguments) (has_timer_of arguments) (join_told arguments cell);
   closes = λ arguments cell closing. asked_closes cell (goes_on_of arguments) (has_timer_of arguments)
-      (joined cell.queues cell.number (told arguments cell)) (told arguments cell) closing;
+      (after_join cell.queues cell.number (join_told arguments cell)) (join_told arguments cell) closing;
   hangs = λ arguments cell phase closing parks. asked_hangs cell (goes_on_of arguments) (has_timer_of arguments)
-      (joined cell.queues cell.number (told arguments cell)) (told arguments cell) phase closing parks;
+      (after_join cell.queues cell.number (join_told arguments cell)) (join_told arguments cell) phase closing parks;
 }

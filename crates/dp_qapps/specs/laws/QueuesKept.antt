@@ -19,7 +19,7 @@ use Rattle.dp_queue.specs.declared.join.Join.TheVariants.{Unknown, Empty, Full, 
 use Rattle.dp_queue.specs.declared.member.Member.{Member}
 use Rattle.dp_app.specs.laws.Keeping.{queues_kept}
 use Rattle.dp_app.specs.Lawful.{KeepsQueues}
-use Rattle.dp_qapps.specs.Pausing.{paused}
+use Rattle.dp_qapps.specs.Pausing.{after_pausing}
 use Rattle.dp_qapps.specs.Touches.{variables_and_members, variables_and_waiting}
 
 true_is_false : true ≡ false → ⊥
@@ -190,7 +190,7 @@ paused_kept q a is_paused (Some number) = one_kept q (paused_queue a is_paused) 
 
 -- a pause is kept
 pub pause_kept : (q : QueuesOf) (queue : Option (List ℕ)) (interface : List ℕ) (is_paused : Bool)
-    → KeepsQueues variables_and_members q (paused q queue interface is_paused).0
+    → KeepsQueues variables_and_members q (after_pausing q queue interface is_paused).0
 pause_kept q queue [] is_paused = queues_kept variables_and_members q
 pause_kept q None (b ∷ bs) is_paused =
     all_kept q (paused_queue (agent_number q.agents (b ∷ bs)) is_paused) (λ queue. refl) (λ queue. refl) (λ queue. refl)

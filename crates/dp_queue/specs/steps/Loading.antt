@@ -1,20 +1,33 @@
 -- A step of the code: what the lines so far made, line by line. What all lines of a text make is `loaded` of File.
-use Rattle.std.specs.Prelude.{ℕ, List, Option, Some, None, Result, Ok, Err}
+use Rattle.std.specs.Prelude.{ℕ, List, Option, Result, Ok, Err}
 use Rattle.dp_conf.specs.Answers.{◌>>=◌}
+use Rattle.dp_conf.specs.FirstFaults.{line_reason as whole_reason, made_or_fault}
 use Rattle.dp_conf.specs.Lines.{LineOf, lines_of}
-use Rattle.dp_queue.specs.Faults.{text_fault}
+use Rattle.dp_conf.specs.declared.first_fault.FaultyLine.{FaultyLine}
+use Rattle.dp_conf.specs.declared.first_fault.TakeFault.{TakeFault}
+use Rattle.dp_conf.specs.declared.first_fault.TakeFault.TheVariants.{Line}
+use Rattle.dp_queue.specs.Faults.{fault_of_line, text_fault}
 use Rattle.dp_queue.specs.File.{FileOf, unread, after_line, after_lines}
 use Rattle.dp_queue.specs.declared.fault.QueueFault.{QueueFault}
+use Rattle.dp_queue.specs.declared.fault.QueueKind.{QueueKind}
 
 -- after one more line, where a line before it may have a fault, which is kept aside
 abbrev pub after_one : Result FileOf QueueFault → LineOf → Result FileOf QueueFault
 after_one state line = state >>= λ file. after_line file line
 
+-- why nothing went after a line; want of memory is no reason
+abbrev pub line_reason : TakeFault QueueKind → Option QueueFault
+line_reason = whole_reason fault_of_line
+
+-- what was read of a line, or the fault of the line
+abbrev pub line_read : {X : Type 0} → ℕ → Result X QueueKind → Result X (TakeFault QueueKind)
+line_read line (Ok x) = Ok x
+line_read line (Err kind) = Err (Line (record { line = line; kind = kind }))
+
 -- what was made, or the fault that is kept aside
-abbrev pub outcome : Option QueueFault → FileOf → Result FileOf QueueFault
-outcome None file = Ok file
-outcome (Some fault) file = Err fault
+abbrev pub outcome : Option (FaultyLine QueueKind) → FileOf → Result FileOf QueueFault
+outcome = made_or_fault fault_of_line
 
 -- what all lines of a text make: a fault of the text comes before those of queues
-unfoldable pub filed : List ℕ → Result FileOf QueueFault
-filed text = text_fault (lines_of text) >>= λ lines. after_lines unread lines
+unfoldable pub file_of : List ℕ → Result FileOf QueueFault
+file_of text = text_fault (lines_of text) >>= λ lines. after_lines unread lines

@@ -8,16 +8,16 @@ use Rattle.dp_queue.specs.Agents.{rings_for, state_at, talks_with}
 use Rattle.dp_queue.specs.Joining.{waits_in}
 use Rattle.dp_queue.specs.Queues.{QueueOf}
 use Rattle.dp_queue.specs.declared.agent.Agent.{Agent}
-use Rattle.dp_queue.specs.declared.seat.Sitting.{Sitting}
-use Rattle.dp_queue.specs.declared.seat.Sitting.TheVariants.{Waits, Talks}
-use Rattle.dp_queue.specs.declared.seat.Seat.{Seat}
+use Rattle.dp_queue.specs.declared.waiting_seat.Sitting.{Sitting}
+use Rattle.dp_queue.specs.declared.waiting_seat.Sitting.TheVariants.{Waits, Talks}
+use Rattle.dp_queue.specs.declared.waiting_seat.WaitingSeat.{WaitingSeat}
 
 -- the seats by the numbers of the channels that wait or talk
 abbrev pub SeatsOf : Type 0
 SeatsOf = HashMap ℕ Sitting (BuildHasherDefault FoldHasher)
 
 -- the seat of one that waits
-abbrev pub seat_of : Option Sitting → Option Seat
+abbrev pub seat_of : Option Sitting → Option WaitingSeat
 seat_of None = None
 seat_of (Some (Waits seat arrival)) = Some seat
 seat_of (Some (Talks agent)) = None
@@ -35,7 +35,7 @@ agent_of (Some (Waits seat arrival)) = None
 agent_of (Some (Talks agent)) = Some agent
 
 -- the seat of a channel that waits
-abbrev pub seat_at : SeatsOf → ℕ → Option Seat
+abbrev pub seat_at : SeatsOf → ℕ → Option WaitingSeat
 seat_at seats c = seat_of (get nat_eq seats c)
 
 -- the number of the agent that talks with a channel
@@ -60,7 +60,7 @@ rung_count [] c = 0
 rung_count (agent ∷ agents) c = (if rings_for c agent.state then 1 else 0) + rung_count agents c
 
 -- the seat of a channel that waits in this queue
-abbrev pub seat_in : List Agent → ℕ → ℕ → Seat
+abbrev pub seat_in : List Agent → ℕ → ℕ → WaitingSeat
 seat_in agents c queue = record { queue = queue; rung = rung_count agents c }
 
 -- the seats say in which queue each channel waits, and how many agents ring for it
@@ -68,7 +68,7 @@ abbrev pub AreSeated : SeatsOf → List QueueOf → List Agent → Type 0
 AreSeated seats queues agents = (c : ℕ) → seat_at seats c ≡ option_map (seat_in agents c) (waits_in queues c)
 
 -- the seats are as before but for one channel's
-abbrev pub ReplacesSeat : ℕ → Option Seat → SeatsOf → SeatsOf → Type 0
+abbrev pub ReplacesSeat : ℕ → Option WaitingSeat → SeatsOf → SeatsOf → Type 0
 ReplacesSeat c seat old new = (d : ℕ) → seat_at new d ≡ (if c == d then seat else seat_at old d)
 
 -- each agent that talks is found by its channel
@@ -80,7 +80,7 @@ abbrev pub ReplacesTalk : ℕ → Option ℕ → SeatsOf → SeatsOf → Type 0
 ReplacesTalk c agent old new = (d : ℕ) → talk_at new d ≡ (if c == d then agent else talk_at old d)
 
 -- by its seat, no agent rings for the channel
-abbrev pub is_unrung_in : Option Seat → Bool
+abbrev pub is_unrung_in : Option WaitingSeat → Bool
 is_unrung_in None = true
 is_unrung_in (Some seat) = seat.rung == 0
 

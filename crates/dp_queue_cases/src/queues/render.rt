@@ -129,7 +129,10 @@ pub(super) fn push_fault(out: &mut String, fault: QueueFault) -> Result<(), NoMe
 }
 
 /// What a file of queues loads as.
-pub(super) fn shown(alloc: Global, read: &Result<Queues, QueueFault>) -> Result<String, NoMemory> {
+pub(super) fn queues_text(
+    alloc: Global,
+    read: &Result<Queues, QueueFault>,
+) -> Result<String, NoMemory> {
     let mut out = String::new(alloc);
     match read {
         Ok(queues) => push_queues(&mut out, queues, true)?,

@@ -55,19 +55,13 @@ fn is_talking(agents: &[Agent], channel: u32) -> bool
 }
 
 /// Joins, unless the channel waits or talks.
-fn join(
-    alloc: Global,
-    out: &mut String,
-    queues: &mut Queues,
-    queue: &str,
-    channel: u32,
-) -> Result<(), NoMemory> {
+fn join(out: &mut String, queues: &mut Queues, queue: &str, channel: u32) -> Result<(), NoMemory> {
     if is_talking(queues.agents(), channel) {
         return out.push_str("talks");
     }
     match queues.waits_in(channel) {
         Some(_) => out.push_str("waits"),
-        None => match queues.join(alloc, queue.as_bytes(), channel)? {
+        None => match queues.join(queue.as_bytes(), channel)? {
             Join::Unknown => out.push_str("unknown"),
             Join::Empty => out.push_str("empty"),
             Join::Full => out.push_str("full"),
@@ -183,7 +177,7 @@ pub(super) fn take(
 ) -> Result<(), NoMemory> {
     let words = words_of(step);
     match words.verb {
-        "join" => join(alloc, out, queues, words.first, number_of(words.second)),
+        "join" => join(out, queues, words.first, number_of(words.second)),
         "offer" => offer(out, queues, words.first),
         "empty" => push_yes(out, queues.should_leave(number_of(words.first) as usize)),
         "count" => write!(out, "{}", queues.waiting(words.first.as_bytes())),

@@ -1,7 +1,7 @@
 //! Groups, and openings without their ends.
 use crate::vars::{World, expansion};
+use dp_case_tables::{Question, bytes_of, check};
 use dp_conf::{NoMemory, nesting};
-use dp_questions::{Question, bytes_of, check};
 use std::alloc::Global;
 use std::test::Fail;
 
@@ -87,7 +87,7 @@ ${${${→0
 $${a}→1
 ";
 
-fn repeated(alloc: Global, openings: usize, ends: usize) -> Result<Vec<u8>, NoMemory> {
+fn repeat_piece(alloc: Global, openings: usize, ends: usize) -> Result<Vec<u8>, NoMemory> {
     let mut text = Vec::new(alloc);
     for _ in 0..openings {
         text.extend_from_slice(b"${")?;
@@ -106,20 +106,20 @@ impl Question for Deep {
         let (openings, ends) = asked.split_once(' ').ok_or("no question")?;
         let openings: usize = openings.parse().ok().ok_or("no number")?;
         let ends: usize = ends.parse().ok().ok_or("no number")?;
-        let text = repeated(alloc, openings, ends)?;
+        let text = repeat_piece(alloc, openings, ends)?;
         deep_answer(alloc, &text)
     }
 }
 
 /// The expansion of a text in a world of nothing.
-fn expanded(alloc: Global, text: &[u8]) -> Result<String, Fail> {
+fn expand_alone(alloc: Global, text: &[u8]) -> Result<String, Fail> {
     let world = World::new(alloc);
     Ok(expansion(alloc, &world, text)?)
 }
 
 fn deep_answer(alloc: Global, text: &[u8]) -> Result<String, Fail> {
     let depth = nesting(alloc, text)?;
-    let out = expanded(alloc, text)?;
+    let out = expand_alone(alloc, text)?;
     deep_line(alloc, depth, &out)
 }
 

@@ -1,7 +1,7 @@
 //! Names of a store by their numbers.
 use crate::vars::{World, take_all};
+use dp_case_tables::{Question, check_all};
 use dp_conf::NoMemory;
-use dp_questions::{Question, check_all};
 use std::alloc::Global;
 use std::test::Fail;
 

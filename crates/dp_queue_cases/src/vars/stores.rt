@@ -81,7 +81,7 @@ fn check_doubled(rt: &impl Abort, store: &Store<u32>) {
 }
 
 /// The later of two locals of one name stands.
-fn doubled(rt: &impl Abort, alloc: Global) -> Result<(), Fail> {
+fn check_doubled_local(rt: &impl Abort, alloc: Global) -> Result<(), Fail> {
     let mut store: Store<u32> = Store::new(alloc);
     push_doubled(alloc, &mut store)?;
     check_doubled(rt, &store);
@@ -112,7 +112,7 @@ fn check_refused(rt: &impl Abort, alloc: Global, world: &mut World) {
 }
 
 /// A name whose change is refused gets no number.
-fn refused(rt: &impl Abort, alloc: Global) {
+fn check_refused_change(rt: &impl Abort, alloc: Global) {
     let mut world = World::new(alloc);
     check_refused(rt, alloc, &mut world);
 }
@@ -133,9 +133,9 @@ fn globals(rt: &impl Abort, alloc: Global) -> Result<(), Fail> {
 
 fn check_stores(rt: &impl Abort, alloc: Global) -> Result<(), Fail> {
     frames(rt, alloc)?;
-    doubled(rt, alloc)?;
+    check_doubled_local(rt, alloc)?;
     local(rt, alloc)?;
-    refused(rt, alloc);
+    check_refused_change(rt, alloc);
     globals(rt, alloc)
 }
 

@@ -1,7 +1,7 @@
 //! What is told of the calls that come in at a context, worked out by hand from the rules.
 use dp_answer::{Ask, report_on};
+use dp_case_tables::{Question, text_of};
 use dp_plan::Dialplan;
-use dp_questions::{Question, text_of};
 use dp_queue::Queues;
 use std::alloc::Global;
 use std::test::Fail;
@@ -45,7 +45,7 @@ fn lines_of(alloc: Global, text: &str) -> Result<String, Fail> {
 }
 
 /// What is given.
-fn given(word: Option<&str>) -> Option<&[u8]> {
+fn given_word(word: Option<&str>) -> Option<&[u8]> {
     let word = word.unwrap_or("");
     if word.is_empty() {
         return None;
@@ -72,10 +72,10 @@ impl Question for Answers {
         };
         let ask = Ask {
             context: words.next().unwrap_or("").as_bytes(),
-            target: given(words.next()),
-            starts: given(words.next()),
-            exten: given(words.next()),
-            caller: given(words.next()),
+            target: given_word(words.next()),
+            starts: given_word(words.next()),
+            exten: given_word(words.next()),
+            caller: given_word(words.next()),
         };
         let report = report_on(alloc, &plan, &queues, &ask)?;
         let mut out = String::new(alloc);

@@ -1,11 +1,11 @@
 //! Pieces that are cut and trimmed, worked out by hand from the rules.
 use crate::pieces::notation::{pieces_of, push_pieces};
+use dp_case_tables::{Question, text_of};
 use dp_conf::read_number;
 use dp_pieces::{
     Cutting, Piece, are_clean, bytes_of, cut_known, cut_last, cut_level, cut_pieces, front,
     shapes_of, trimmed, without,
 };
-use dp_questions::{Question, text_of};
 use std::alloc::{AllocError, Global};
 use std::test::Fail;
 

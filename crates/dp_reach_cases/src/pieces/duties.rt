@@ -1,10 +1,10 @@
 //! What applications owe by the pieces of their arguments, and what a reach has, worked out by hand from the rules.
 use crate::pieces::notation::{pieces_of, push_pieces};
+use dp_case_tables::{Question, text_of};
 use dp_closed::{Area, Claim, Duty, Reach, duties, found_shape};
 use dp_conf::read_number;
 use dp_pieces::{ByteSet, NameTable, Piece};
 use dp_plan::Dialplan;
-use dp_questions::{Question, text_of};
 use std::alloc::Global;
 use std::test::Fail;
 

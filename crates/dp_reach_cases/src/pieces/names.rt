@@ -1,7 +1,7 @@
 //! What is known of the values of names, by a table, worked out by hand from the rules.
 use crate::pieces::notation::push_pieces;
+use dp_case_tables::Question;
 use dp_pieces::{ByteSet, NameTable, Piece};
-use dp_questions::Question;
 use std::alloc::Global;
 use std::test::Fail;
 

@@ -1,7 +1,7 @@
 //! Pieces as a line writes them: a byte as it stands, `{SET}` for one byte of a set and `{SET}*` for any bytes of one, where `a-b` in a
 //! set is a range.
+use dp_case_tables::bytes_of;
 use dp_pieces::{ByteSet, Piece};
-use dp_questions::bytes_of;
 use std::alloc::{AllocError, Global};
 
 /// Puts a range of bytes in the set.

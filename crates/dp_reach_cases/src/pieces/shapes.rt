@@ -1,8 +1,8 @@
 //! Shapes and the names that their texts may match, worked out by hand from the rules.
 use crate::pieces::notation::{pieces_of, push_pieces};
+use dp_case_tables::{Question, text_of};
 use dp_pattern::Name;
 use dp_pieces::{Piece, covers, is_within, matched, may_fit, may_match};
-use dp_questions::{Question, text_of};
 use std::alloc::Global;
 use std::test::Fail;
 

@@ -1,8 +1,8 @@
 //! Texts that are not expanded yet, read as pieces by what is known of names, worked out by hand from the rules.
 use crate::pieces::names::set_of;
 use crate::pieces::notation::{pieces_of, push_pieces};
+use dp_case_tables::Question;
 use dp_pieces::{NameTable, NamesAt, read_pieces};
-use dp_questions::Question;
 use std::alloc::Global;
 use std::test::Fail;
 

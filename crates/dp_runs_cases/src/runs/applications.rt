@@ -1,8 +1,8 @@
 //! Each application by its arguments, worked out by hand from the rules: with empty and missing parts, with blanks, with its
 //! name in another case, and with values that come from an expansion.
 use crate::runs::calls::answer_of;
+use dp_case_tables::{check_answer, check_heading};
 use dp_conf::NoMemory;
-use dp_questions::{check_answer, check_heading};
 use std::alloc::Global;
 use std::test::Fail;
 
@@ -462,7 +462,7 @@ fn status_of(trace: &str) -> u8 {
 }
 
 /// The answer that is wanted to a case with this trace: the trace after the call and its step, and the status.
-fn wanted(alloc: Global, trace: &str) -> Result<String, NoMemory> {
+fn wanted_answer(alloc: Global, trace: &str) -> Result<String, NoMemory> {
     format!(in alloc;
         "started 1\\nran 1 main,s,1 {trace}\\nstatus {}",
         status_of(trace)
@@ -479,7 +479,7 @@ fn run_of(alloc: Global, lines: &str, after: &str) -> Result<String, NoMemory> {
 fn check_row(alloc: Global, asked: &str, trace: &str) -> Result<(), Fail> {
     let (lines, after) = asked.split_once('¦').ok_or("no script")?;
     let got = run_of(alloc, lines, after)?;
-    let want = wanted(alloc, trace)?;
+    let want = wanted_answer(alloc, trace)?;
     check_answer(alloc, asked, &got, &want)
 }
 

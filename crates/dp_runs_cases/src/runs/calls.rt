@@ -1,9 +1,9 @@
 //! Calls through dialplans with queues, with all that is printed of them, worked out by hand from the rules.
 use crate::runs::manual::PAGES;
+use dp_case_tables::{Question, check_all};
 use dp_commands::run_script;
-use dp_commands_fixture::{Texts, make_sink, read_texts, told};
+use dp_commands_fixture::{Texts, make_sink, outcome_text, read_texts};
 use dp_conf::NoMemory;
-use dp_questions::{Question, check_all};
 use std::alloc::Global;
 use std::test::Fail;
 
@@ -193,15 +193,8 @@ const TABLES: &[&str] = &[ROWS, DIALOGUES, ENDS, QUEUES, RELOADS, FAULTS, PAGES]
 /// All that a run of these texts writes, and what it ends with after it.
 fn answer_to(alloc: Global, texts: &Texts) -> Result<String, NoMemory> {
     let mut writer = make_sink(alloc, 4096, None);
-    let ended = run_script(
-        alloc,
-        &texts.plan,
-        Some(&texts.queues),
-        texts.second_plan.as_deref(),
-        &texts.script,
-        &mut writer,
-    );
-    told(alloc, ended, writer)
+    let ended = run_script(alloc, texts.lend(), &mut writer);
+    outcome_text(alloc, ended, writer)
 }
 
 /// The same of the texts of a case.

@@ -1,7 +1,7 @@
 //! Joined texts with all that they write and what they end with, worked out by hand from the rules.
-use dp_commands::run_script;
-use dp_commands_fixture::{Run, check_table, make_sink, told};
-use dp_questions::check_same;
+use dp_case_tables::check_same;
+use dp_commands::{RunTexts, run_script};
+use dp_commands_fixture::{Run, check_table, make_sink, outcome_text};
 use std::alloc::Global;
 use std::test::Fail;
 
@@ -293,8 +293,14 @@ const TABLES: &[&str] = &[
 /// Whether the run of a script on a dialplan writes this and ends so.
 fn check_apart(alloc: Global, plan: &[u8], script: &str, want: &str) -> Result<(), Fail> {
     let mut writer = make_sink(alloc, 4096, None);
-    let ended = run_script(alloc, plan, None, None, script.as_bytes(), &mut writer);
-    let got = told(alloc, ended, writer)?;
+    let texts = RunTexts {
+        plan,
+        queues: None,
+        second_plan: None,
+        script: script.as_bytes(),
+    };
+    let ended = run_script(alloc, texts, &mut writer);
+    let got = outcome_text(alloc, ended, writer)?;
     check_same(script, &got, want)
 }
 

@@ -1,6 +1,6 @@
 //! Texts with their arguments, worked out by hand from the rules.
+use dp_case_tables::{Question, bytes_of, push_bytes};
 use dp_conf::{NoMemory, split_args, trim};
-use dp_questions::{Question, bytes_of, push_bytes};
 use std::alloc::Global;
 use std::test::Fail;
 

@@ -36,7 +36,7 @@ fn push_printed(out: &mut String) -> Result<(), NoMemory> {
 }
 
 /// The code and the name of each fault, each on a line, and some faults as they are printed.
-fn shown(alloc: Global) -> Result<String, NoMemory> {
+fn show_codes(alloc: Global) -> Result<String, NoMemory> {
     let mut out = String::new(alloc);
     push_of_lines(&mut out)?;
     push_of_reader(&mut out, ReadFault::ReadFailed)?;
@@ -64,7 +64,7 @@ Template line 12, out of memory, TooLong, WriteFailed
 /// Faults of lines, of readers and of writers, and how faults are printed.
 #[test]
 fn faults_have_these_codes_and_names(rt: HostRuntime) -> Result<(), Fail> {
-    let got = shown(rt.alloc())?;
+    let got = show_codes(rt.alloc())?;
     assert_eq!(rt; got.as_str(), FAULTS);
     Ok(())
 }

@@ -1,6 +1,6 @@
 //! Readers and writers that end, fail or are too long.
+use dp_case_tables::{Question, check, push_bytes};
 use dp_conf::{MOST_BYTES, NoMemory, ReadFault, ReadTold, Told, WriteTold, read_whole};
-use dp_questions::{Question, check, push_bytes};
 use std::alloc::Global;
 use std::io;
 use std::io::{Cursor, ErrorKind, Read, Write};

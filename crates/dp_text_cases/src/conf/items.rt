@@ -1,6 +1,6 @@
 //! Configuration texts with their items or their fault, worked out by hand from the rules.
+use dp_case_tables::{Question, bytes_of, check, check_all, text_of};
 use dp_conf::{ConfFault, ConfLine, Line, NoMemory, TakeLine, Text, read_lines, take_lines};
-use dp_questions::{Question, bytes_of, check, check_all, text_of};
 use std::alloc::Global;
 use std::marker::Model;
 use std::test::Fail;

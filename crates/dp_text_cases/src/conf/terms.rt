@@ -1,6 +1,6 @@
 //! Words, numbers and texts cut once, worked out by hand from the rules.
+use dp_case_tables::{Question, bytes_of, push_bytes, text_of};
 use dp_conf::{NoMemory, cut_once, read_number, same_word};
-use dp_questions::{Question, bytes_of, push_bytes, text_of};
 use std::alloc::Global;
 use std::test::Fail;
 

@@ -1,6 +1,6 @@
 //! Texts as their bytes.
+use dp_case_tables::{Question, bytes_of, push_bytes};
 use dp_conf::{NoMemory, Text};
-use dp_questions::{Question, bytes_of, push_bytes};
 use std::alloc::Global;
 use std::collections::HashMap;
 use std::test::Fail;

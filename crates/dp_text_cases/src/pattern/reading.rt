@@ -84,7 +84,7 @@ fn push_faults(out: &mut String) -> Result<(), NoMemory> {
     write!(out, "{}\n", PatternFault::NoMemory)
 }
 
-fn shown(alloc: Global) -> Result<String, NoMemory> {
+fn show_reading(alloc: Global) -> Result<String, NoMemory> {
     let mut out = String::new(alloc);
     push_faults(&mut out)?;
     Ok(out)
@@ -102,7 +102,7 @@ out of memory
 
 #[test]
 fn faults_have_these_codes_and_names(rt: HostRuntime) -> Result<(), Fail> {
-    let got = shown(rt.alloc())?;
+    let got = show_reading(rt.alloc())?;
     assert_eq!(rt; got.as_str(), PRINTED);
     Ok(())
 }

@@ -5,17 +5,17 @@ use Rattle.dp_pattern.specs.Name.{Meaning, Plain, Pattern}
 use Rattle.dp_pattern.specs.Order.{name_cmp}
 use Rattle.dp_pattern.specs.declared.tail.Tail.TheVariants.{End, Dot, Bang}
 use Rattle.dp_trie.specs.Asked.{wants}
-use Rattle.dp_trie.specs.Entered.{entered, entered_first, nodes_added}
+use Rattle.dp_trie.specs.Entered.{entered_count, entered_first, nodes_added}
 use Rattle.dp_trie.specs.Known.{Known, KeptContext}
-use Rattle.dp_trie.specs.declared.question.Question.TheVariants.{Priority}
+use Rattle.dp_trie.specs.declared.entry_question.EntryQuestion.TheVariants.{Priority}
 
 -- an entry of this name and priority
-abbrev known : Meaning → ℕ → Known
-known name priority = record { name = name; priority = priority; label = None; id = record { context = 0; entry = 0 } }
+abbrev known_entry : Meaning → ℕ → Known
+known_entry name priority = record { name = name; priority = priority; label = None; id = record { context = 0; entry = 0 } }
 
 -- how many nodes are entered for a text and a priority, among entries in their order
 abbrev count : List Known → List ℕ → ℕ → ℕ
-count entries digits priority = entered false (wants (Priority priority)) digits entries
+count entries digits priority = entered_count false (wants (Priority priority)) digits entries
 
 abbrev one : List ℕ
 one = codes "1"
@@ -25,7 +25,7 @@ any = codes "0123456789"
 
 -- `_1X` with priority 1 and `_1.` with priority 2, of which `1` stands once: four nodes
 abbrev two_patterns : List Known
-two_patterns = known (Pattern (one ∷ any ∷ []) End) 1 ∷ known (Pattern (one ∷ []) Dot) 2 ∷ []
+two_patterns = known_entry (Pattern (one ∷ any ∷ []) End) 1 ∷ known_entry (Pattern (one ∷ []) Dot) 2 ∷ []
 
 nodes-first : nodes_added (Plain []) (Pattern (one ∷ any ∷ []) End) ≡ (one ∷ []) ∷ (one ∷ any ∷ []) ∷ (one ∷ any ∷ []) ∷ []
 unfolding name_cmp
@@ -66,7 +66,7 @@ count-empty = refl
 
 -- `_X` with two priorities has one end, whichever of them is asked for
 abbrev two_priorities : List Known
-two_priorities = known (Pattern (any ∷ []) End) 1 ∷ known (Pattern (any ∷ []) End) 2 ∷ []
+two_priorities = known_entry (Pattern (any ∷ []) End) 1 ∷ known_entry (Pattern (any ∷ []) End) 2 ∷ []
 
 count-priority_1 : count two_priorities (codes "5") 1 ≡ 2
 unfolding name_cmp
@@ -83,7 +83,7 @@ count-priority_3 = refl
 -- `_.` and `_!` are ends with no class, which are entered for every text; a plain name is no node, and one that answers
 -- leaves nothing to be entered
 abbrev ends : List Known
-ends = known (Plain (codes "12")) 1 ∷ known (Pattern [] Dot) 1 ∷ known (Pattern [] Bang) 2 ∷ []
+ends = known_entry (Plain (codes "12")) 1 ∷ known_entry (Pattern [] Dot) 1 ∷ known_entry (Pattern [] Bang) 2 ∷ []
 
 count-plain : count ends (codes "12") 1 ≡ 0
 unfolding name_cmp
@@ -99,22 +99,22 @@ count-both_ends = refl
 
 -- ---- several contexts
 
-abbrev kept : List KeptContext
-kept =
-    (record { entries = known (Pattern (any ∷ []) End) 4 ∷ []; size = 2 })
-    ∷ (record { entries = two_patterns ++ known (Pattern (any ∷ []) End) 2 ∷ []; size = 6 }) ∷ []
+abbrev kept_contexts : List KeptContext
+kept_contexts =
+    (record { entries = known_entry (Pattern (any ∷ []) End) 4 ∷ []; size = 2 })
+    ∷ (record { entries = two_patterns ++ known_entry (Pattern (any ∷ []) End) 2 ∷ []; size = 6 }) ∷ []
 
 -- the first context answers
-first-answers : entered_first kept false (wants (Priority 4)) (codes "5") (0 ∷ 1 ∷ []) ≡ 2
+first-answers : entered_first kept_contexts false (wants (Priority 4)) (codes "5") (0 ∷ 1 ∷ []) ≡ 2
 unfolding name_cmp
 first-answers = refl
 
 -- the second one does, after the two nodes of the first; a number that no context has adds none
-second-answers : entered_first kept false (wants (Priority 2)) (codes "5") (0 ∷ 9 ∷ 1 ∷ []) ≡ 4
+second-answers : entered_first kept_contexts false (wants (Priority 2)) (codes "5") (0 ∷ 9 ∷ 1 ∷ []) ≡ 4
 unfolding name_cmp
 second-answers = refl
 
 -- none does: two nodes, and `1`, the end of `_1.`, `X` and its end
-none-answers : entered_first kept false (wants (Priority 7)) (codes "1") (0 ∷ 1 ∷ []) ≡ 6
+none-answers : entered_first kept_contexts false (wants (Priority 7)) (codes "1") (0 ∷ 1 ∷ []) ≡ 6
 unfolding name_cmp
 none-answers = refl

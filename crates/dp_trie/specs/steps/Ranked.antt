@@ -7,7 +7,7 @@ use Rattle.std.specs.declared.cmp.Ordering.{Ordering}
 use Rattle.dp_pattern.specs.Name.{Meaning, Plain, Pattern}
 use Rattle.dp_pattern.specs.Order.{name_cmp}
 use Rattle.dp_trie.specs.Known.{Known, known_of}
-use Rattle.dp_trie.specs.declared.node.Held.{Held}
+use Rattle.dp_trie.specs.declared.node.HeldEntry.{HeldEntry}
 use Rattle.dp_trie.specs.declared.ranked.Ranked.{Ranked}
 
 -- what is kept of an entry beside its number
@@ -15,7 +15,7 @@ abbrev pub known_now : Ranked → Known
 known_now ranked = known_of ranked.id ranked.entry.now
 
 -- what is held of an entry beside its name
-abbrev pub hold_of : Known → Held
+abbrev pub hold_of : Known → HeldEntry
 hold_of known = record { id = known.id; priority = known.priority; label = known.label }
 
 -- the name is a pattern

@@ -6,7 +6,7 @@ use Rattle.dp_conf.specs.Levels.{cut_outside}
 use Rattle.dp_conf.specs.Words.{same_text}
 use Rattle.dp_vars.specs.Parts.{asked_of, part}
 use Rattle.dp_vars.specs.Sights.{Sight}
-use Rattle.dp_vars.specs.Values.{group_value, head_value, expanded, expansion}
+use Rattle.dp_vars.specs.Values.{group_value, head_value, expansion_of, expansion}
 
 -- `X` is `abcdef`, `A` is `${X}`, the global `G` is `g`, and two wait in each queue
 sight : Sight
@@ -44,24 +44,24 @@ part-far = refl
 
 -- a part of a function's value
 row-length : expansion sight (codes "${LEN(abcdefghijkl):-1}") ≡ codes "2"
-unfolding sight reading_of levels expanded group_value head_value cut_outside digits
+unfolding sight reading_of levels expansion_of group_value head_value cut_outside digits
 row-length = refl
 
 -- what stands between the last `)` and the cut has no effect
 row-after : expansion sight (codes "${LEN(a)b:1}|${LEN(a)b}") ≡ codes "|1"
-unfolding sight reading_of levels expanded group_value head_value cut_outside digits
+unfolding sight reading_of levels expansion_of group_value head_value cut_outside digits
 row-after = refl
 
 -- a value is not expanded again
 row-once : expansion sight (codes "${A}${LEN(${A})}") ≡ codes "${X}4"
-unfolding sight reading_of levels expanded group_value head_value cut_outside digits
+unfolding sight reading_of levels expansion_of group_value head_value cut_outside digits
 row-once = refl
 
 -- a function with no `)` is empty, and an opening without its end is plain
 row-open : expansion sight (codes "${F(}${a${X:5}") ≡ codes "${af"
-unfolding sight reading_of levels expanded group_value head_value cut_outside digits
+unfolding sight reading_of levels expansion_of group_value head_value cut_outside digits
 row-open = refl
 
 row-functions : expansion sight (codes "${GLOBAL(G)}${CALLERID(num):-4}${CALLERID( num)}${QUEUE_WAITING_COUNT(q)}${len(x)}") ≡ codes "g12342"
-unfolding sight reading_of levels expanded group_value head_value cut_outside digits
+unfolding sight reading_of levels expansion_of group_value head_value cut_outside digits
 row-functions = refl

@@ -1,7 +1,7 @@
 use Rattle.std.proofs.Common.{◌≡◌, ℕ, false, List, ◌++◌, map, subst, sym, rules}
 use Rattle.std.specs.Global.{Vec}
 use Rattle.dp_answer.specs.Asks.{AskOf, ask_of, is_lacking}
-use Rattle.dp_answer.specs.Reports.{assumed, unproved}
+use Rattle.dp_answer.specs.Reports.{assumptions, no_proof_line}
 use Rattle.dp_answer.specs.Steps.{IsTold, answers_of, shown_report}
 use Rattle.dp_closed.specs.Answers.{shown_outside}
 use Rattle.dp_closed.specs.Claimed.{AreWays}
@@ -20,5 +20,5 @@ returns c =
     c.in_ok-found.found.search.marks c.in_ok-outside.ensures
     (runs-told (shown_outside c.in_ok-outside.outside) ask.context c.args.plan.now settings c.in_ok-found.found.is_proved c.in_ok-found.found.search.marks
     (λ proved. c.in_ok-found.ensures proved settings ways))
-    (subst (λ (starts : List (Vec ℕ)). IsTold c.args.plan.now (assumed ask (map (λ name. name.items) starts) ++ unproved c.in_ok-found.found.is_proved)
+    (subst (λ (starts : List (Vec ℕ)). IsTold c.args.plan.now (assumptions ask (map (λ name. name.items) starts) ++ no_proof_line c.in_ok-found.found.is_proved)
     (answers_of c.in_ok-found.found) ask.target (shown_report c.in_ok-report.report)) c.deref-3.ensures.value c.in_ok-report.ensures))

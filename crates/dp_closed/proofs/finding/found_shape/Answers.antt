@@ -1,7 +1,7 @@
 use Rattle.std.proofs.Common.{◌≡◌, ℕ, Some, slice_get, ap, ◌∙◌, subst}
 use Rattle.std.proofs.lemmas.Option.{MatchOption-at_none, MatchOption-at_some}
 use Rattle.dp_pattern.specs.Name.{Meaning}
-use Rattle.dp_pieces.specs.Met.{matched}
+use Rattle.dp_pieces.specs.Met.{after_match}
 use Rattle.dp_pieces.specs.Shown.{shown_all}
 use Rattle.dp_plan.specs.declared.entry.Entry.{Entry}
 use Rattle.dp_closed.specs.Found.{Hides, IsUnmatched}
@@ -15,4 +15,4 @@ pub returns-then-is_hidden : goal.returns-then-is_hidden
 returns-then-is_hidden c =
     let hidden : (k : ℕ) × (other : Entry) × (slice_get c.args.entries.now k ≡ Some other) × Hides (shown_all c.deref.result.now) c.args.entry.now other = c.is_hidden.ensures c.if-is_hidden.true in
     hidden-unfound c.args.entries.now c.args.entry.now hidden.1 hidden.0 (shown_all c.args.exten.now) (shown_all c.deref.result.now)
-    (ap shown_all c.deref.ensures.value ∙ (MatchOption-at_some _ _ c.in-Some.met c.in-Some.is c.in_ok-matching.ensures ∙ ap (matched (shown_all c.args.exten.now)) c.name.ensures)) hidden.2 hidden.3
+    (ap shown_all c.deref.ensures.value ∙ (MatchOption-at_some _ _ c.in-Some.met c.in-Some.is c.in_ok-matching.ensures ∙ ap (after_match (shown_all c.args.exten.now)) c.name.ensures)) hidden.2 hidden.3

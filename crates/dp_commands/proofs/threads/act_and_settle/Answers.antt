@@ -3,8 +3,9 @@ use Rattle.std.specs.List.{range_with_len}
 use Rattle.std.proofs.Math.Seq.{take-append_seam}
 use Rattle.dp_board.specs.Settled.{AllPresent}
 use Rattle.dp_board.specs.Sittings.{Sitting, unheard}
-use Rattle.dp_commands.specs.Threads.{GaveFront, dealt}
-use Rattle.dp_commands.proofs.ThreadsLemmas.{fresh-many, fresh-present, fresh-seats, is-dealt-if, present-kept}
+use Rattle.dp_commands.specs.Threads.{items_of_seat}
+use Rattle.dp_commands.specs.steps.Deals.{GaveFront}
+use Rattle.dp_commands.proofs.ThreadsLemmas.{fresh-many, fresh-present, fresh-seats, is-items_of_seat-if, present-kept}
 use Rattle.dp_commands.proofs.threads.act_and_settle.Goals as goal
 
 pub act_at_once-requires-clause-some : goal.act_at_once-requires-clause-some
@@ -15,8 +16,8 @@ pub act_at_once-requires-clause-fresh : goal.act_at_once-requires-clause-fresh
 act_at_once-requires-clause-fresh g c κs within = fresh-seats c.args.board c.deref_mut.result.now (c.deref_mut.ensures.value ∙ c.requires.seats)
 
 -- the seats keep their numbers while they act
-pub settled-requires : goal.settled-requires
-settled-requires g c =
+pub settled_history-requires : goal.settled_history-requires
+settled_history-requires g c =
     let old = c.deref_mut.result.now in
     let new = c.act_at_once.new.seats in
     let rest = drop (length new) c.args.seats.items in
@@ -36,8 +37,8 @@ returns-then-have_acted-clause-dealt g c =
     let rest = drop (length acted_on) c.args.seats.items in
     let as_many : length acted_on ≡ c.args.seats.len = search (rules, many) in
     let now : acted_on ≡ seats = sym (c.deref.ensures.value ∙ subst (λ n. take n (acted_on ++ rest) ≡ acted_on) as_many (take-append_seam acted_on rest)) in
-    let fronts : All (GaveFront count c.args.events.now) seats =
-    subst (λ (xs : List Sitting). All (GaveFront count c.args.events.now) xs) now (subst (λ n. All (GaveFront n c.args.events.now) c.act_at_once.new.seats) many c.act_at_once.ensures.gave) in
-    let acted : All (λ (seat : Sitting). length (dealt (length seats) seat.number c.args.events.now) ≤ length seat.told) seats = c.have_acted.ensures (search rules) in
-    is-dealt-if g.S.Session.opening c.args.board count c.args.events.now seats c.settled.result c.requires.some (search rules) (sym (fresh-many c.args.board c.args.seats.items c.requires.seats)) fronts
-    (subst (λ n. All (λ (seat : Sitting). length (dealt n seat.number c.args.events.now) ≤ length seat.told) seats) same acted)
+    let fronts : All (GaveFront count c.args.deal.events.now) seats =
+    subst (λ (xs : List Sitting). All (GaveFront count c.args.deal.events.now) xs) now (subst (λ n. All (GaveFront n c.args.deal.events.now) c.act_at_once.new.seats) many c.act_at_once.ensures.gave) in
+    let acted : All (λ (seat : Sitting). length (items_of_seat (length seats) seat.number c.args.deal.events.now) ≤ length seat.told) seats = c.have_acted.ensures (search rules) in
+    is-items_of_seat-if g.S.Session.opening c.args.board count c.args.deal.events.now seats c.settled_history.result c.requires.some (search rules) (sym (fresh-many c.args.board c.args.seats.items c.requires.seats)) fronts
+    (subst (λ n. All (λ (seat : Sitting). length (items_of_seat n seat.number c.args.deal.events.now) ≤ length seat.told) seats) same acted)

@@ -1,15 +1,16 @@
 use Rattle.std.proofs.Common.{ap, sym, ◌∙◌, map}
-use Rattle.dp_flow.specs.Jumps.{entered}
-use Rattle.dp_flow.proofs.CallsLemmas.{entered-push}
+use Rattle.dp_app.specs.Cells.{cell_now}
+use Rattle.dp_flow.specs.Jumps.{enter_subroutine}
+use Rattle.dp_flow.proofs.CallsLemmas.{enter_subroutine-push}
 use Rattle.dp_flow.proofs.gosub.enter_by_parts.Goals as goal
 
 pub returns-in_default-called_by-clause-ok : goal.returns-in_default-called_by-clause-ok
 returns-in_default-called_by-clause-ok c =
-    entered-push (λ part. part.now) c.args.parts.now c.in-Some.front.now c.in-Some.last.now c.args.cell.now c.in-Some.ensures.cases.0
-    ∙ ap (entered c.args.cell.now (map (λ part. part.now) c.in-Some.front.now)) (sym c.in_default-called_by.ensures)
+    enter_subroutine-push (λ part. part.now) c.args.parts.now c.in-Some.front.now c.in-Some.last.now (cell_now c.args.cell.now) c.in-Some.ensures.cases.0
+    ∙ ap (enter_subroutine (cell_now c.args.cell.now) (map (λ part. part.now) c.in-Some.front.now)) (sym c.in_default-called_by.ensures)
 
 pub returns-clause-ok : goal.returns-clause-ok
 returns-clause-ok c =
-    entered-push (λ part. part.now) c.args.parts.now c.in-Some.front.now c.in-Some.last.now c.args.cell.now c.in-Some.ensures.cases.0
-    ∙ ap (entered c.args.cell.now (map (λ part. part.now) c.in-Some.front.now)) (sym c.in-Some-called_by.ensures)
+    enter_subroutine-push (λ part. part.now) c.args.parts.now c.in-Some.front.now c.in-Some.last.now (cell_now c.args.cell.now) c.in-Some.ensures.cases.0
+    ∙ ap (enter_subroutine (cell_now c.args.cell.now) (map (λ part. part.now) c.in-Some.front.now)) (sym c.in-Some-called_by.ensures)
     ∙ c.in_ok-going.ensures.ok

@@ -2,4 +2,4 @@ use Rattle.std.proofs.Common.{rules}
 use Rattle.dp_machine.proofs.exchange.renew.Goals as goal
 
 pub returns-clause-globals : goal.returns-clause-globals
-returns-clause-globals c = search rules
+returns-clause-globals g c = search rules

@@ -14,4 +14,4 @@ pub returns-clause-serves : goal.returns-clause-serves
 returns-clause-serves g c =
     report_read c.args.file.now (g.F.ReadFiles.source_at c.args.files.now c.args.file.now) (check_by c.args.explains c.args.file.now) (g.W.WriteTold.contents c.args.output.now) (g.W.WriteTold.contents c.check_by.new.output) c.in_ok-plan.plan.items
     c.deref-2.result.now c.deref.result.now c.deref-2.ensures.value c.deref.ensures.value
-    c.check_by.result c.placed.result c.in_ok-plan.ensures.read c.placed.ensures.same c.check_by.ensures.reports c.placed.ensures.stands
+    c.check_by.result c.with_place.result c.in_ok-plan.ensures.read c.with_place.ensures.same c.check_by.ensures.reports c.with_place.ensures.stands

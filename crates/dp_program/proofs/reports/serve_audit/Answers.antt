@@ -12,4 +12,4 @@ pub returns-clause-serves : goal.returns-clause-serves
 returns-clause-serves g c =
     audit_read c.args.file.now (g.F.ReadFiles.source_at c.args.files.now c.args.file.now) (g.W.WriteTold.contents c.args.output.now) (g.W.WriteTold.contents c.audit_told.new.output) c.in_ok-plan.plan.items
     c.deref-2.result.now c.deref.result.now c.deref-2.ensures.value c.deref.ensures.value
-    c.audit_told.result c.placed.result c.in_ok-plan.ensures.read c.placed.ensures.same c.audit_told.ensures.audits c.placed.ensures.stands c.audit_told.ensures.tells
+    c.audit_told.result c.with_place.result c.in_ok-plan.ensures.read c.with_place.ensures.same c.audit_told.ensures.audits c.with_place.ensures.stands c.audit_told.ensures.tells

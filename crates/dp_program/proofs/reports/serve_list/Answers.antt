@@ -13,4 +13,4 @@ pub returns-clause-serves : goal.returns-clause-serves
 returns-clause-serves g c =
     report_read c.args.file.now (g.F.ReadFiles.source_at c.args.files.now c.args.file.now) list_of (g.W.WriteTold.contents c.args.output.now) (g.W.WriteTold.contents c.list_plan.new.writer) c.in_ok-plan.plan.items
     c.deref-2.result.now c.deref.result.now c.deref-2.ensures.value c.deref.ensures.value
-    c.list_plan.result c.placed.result c.in_ok-plan.ensures.read c.placed.ensures.same c.list_plan.ensures.writes c.placed.ensures.stands
+    c.list_plan.result c.with_place.result c.in_ok-plan.ensures.read c.with_place.ensures.same c.list_plan.ensures.writes c.with_place.ensures.stands

@@ -14,4 +14,4 @@ pub returns-clause-serves : goal.returns-clause-serves
 returns-clause-serves g c =
     look_up_read (lookup_of c.args.lookup.now) (g.F.ReadFiles.source_at c.args.files.now c.args.lookup.now.file.now) c.args.manner.all c.args.manner.explains (g.W.WriteTold.contents c.args.output.now)
     (g.W.WriteTold.contents c.look_up_told.new.output) c.in_ok-plan.plan.items c.deref-2.result.now c.deref.result.now c.deref-2.ensures.value c.deref.ensures.value
-    c.look_up_told.result c.placed.result c.in_ok-plan.ensures.read c.placed.ensures.same c.look_up_told.ensures.reports c.placed.ensures.stands c.look_up_told.ensures.tells
+    c.look_up_told.result c.with_place.result c.in_ok-plan.ensures.read c.with_place.ensures.same c.look_up_told.ensures.reports c.with_place.ensures.stands c.look_up_told.ensures.tells

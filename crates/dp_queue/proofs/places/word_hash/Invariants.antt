@@ -1,6 +1,6 @@
 use Rattle.std.proofs.Common.{◌≡◌, take, fold}
 use Rattle.std.specs.Hash.FoldHasher.{initial}
-use Rattle.dp_queue.specs.Places.{with_letter}
+use Rattle.dp_queue.specs.steps.Places.{with_letter}
 use Rattle.dp_queue.proofs.places.word_hash.Given as goal
 
 abbrev pub invariant-loop-letter : goal.invariant-loop-letter

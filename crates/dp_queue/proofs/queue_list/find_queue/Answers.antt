@@ -1,6 +1,6 @@
 use Rattle.std.proofs.Common.{ap, subst, ◌∙◌, sym, arith}
-use Rattle.dp_queue.specs.Places.{last_place}
-use Rattle.dp_queue.proofs.PlacesLemmas.{cut, before-less}
+use Rattle.dp_queue.specs.steps.Places.{last_place}
+use Rattle.dp_queue.proofs.PlacesLemmas.{size_through, before-less}
 use Rattle.dp_queue.proofs.WordLemmas.{IsWalkedTo, queue-first, queue-next, queue-found, queue-none}
 use Rattle.dp_queue.proofs.queue_list.find_queue.Goals as goal
 
@@ -19,7 +19,7 @@ loop-at-preserved c =
     (subst (IsWalkedTo c.args.name.now c.args.queues.now) c.in-Some.is c.loop-at.invariant) (sym c.is_worded.ensures ∙ c.if-is_worded.false) c.before-at.ensures
 
 pub loop-at-smaller : goal.loop-at-smaller
-loop-at-smaller c = omega (arith, before-less c.args.places.now c.in-Some.number c.before-at.result c.before-at.ensures, ap cut c.in-Some.is)
+loop-at-smaller c = omega (arith, before-less c.args.places.now c.in-Some.number c.before-at.result c.before-at.ensures, ap size_through c.in-Some.is)
 
 pub returns : goal.returns
 returns c = queue-none c.args.name.now c.args.places.now c.args.queues.now c.requires

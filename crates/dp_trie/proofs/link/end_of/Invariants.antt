@@ -1,5 +1,5 @@
 use Rattle.std.proofs.Common.{◌≡◌, ◌<◌, ◌≤◌, ◌-◌, ◌+◌, length, drop}
-use Rattle.dp_trie.specs.Tree.{skipped}
+use Rattle.dp_trie.specs.Tree.{nodes_past}
 use Rattle.dp_trie.proofs.link.end_of.Given as goal
 
 -- what the node passes over is what it passes over from here on
@@ -7,7 +7,7 @@ abbrev pub invariant-loop-node : goal.invariant-loop-node
 invariant-loop-node l = record {
   later : l.place < l.end;
   within : l.end ≤ length l.nodes;
-  same : skipped l.depth (drop l.end l.nodes) ≡ skipped l.depth (drop (l.place + 1) l.nodes);
+  same : nodes_past l.depth (drop l.end l.nodes) ≡ nodes_past l.depth (drop (l.place + 1) l.nodes);
 }
 
 abbrev pub decreases-loop-node : goal.decreases-loop-node

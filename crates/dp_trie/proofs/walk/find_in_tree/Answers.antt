@@ -1,7 +1,7 @@
 use Rattle.std.proofs.Common.{sym, refl, arith, length, ◌-◌, ◌<◌}
 use Rattle.std.specs.Prelude.{slice_index}
 use Rattle.std.proofs.lemmas.Option.{slice_get_read, slice_get_within}
-use Rattle.dp_pattern.specs.Dashes.{undashed}
+use Rattle.dp_pattern.specs.Dashes.{without_dashes}
 use Rattle.dp_trie.specs.Asked.{is_more, wants}
 use Rattle.dp_trie.proofs.LeapLemmas.{after-leap}
 use Rattle.dp_trie.proofs.TreeLemmas.{after-enter, after-fail, after-hold}
@@ -11,21 +11,21 @@ pub returns-in-Holds-clause-hit : goal.returns-in-Holds-clause-hit
 returns-in-Holds-clause-hit c =
     let found = c.in-Some.ensures.lookup.3 in
     let here = slice_get_read c.args.nodes.now _ c.loop-node.place c.in-Some.node.now refl found.0 (found.1 c.in-Some.node.now) in
-    let hold = after-hold c.args.held.now (is_more c.args.question) (wants c.args.question) (undashed c.args.digits.now.text.now) c.args.nodes.now c.loop-node.place c.loop-node.count c.loop-node.invariant.at c.in-Some.node.now here c.in-Holds.hit (sym c.in-Holds.ensures.visit) in
+    let hold = after-hold c.args.held.now (is_more c.args.question) (wants c.args.question) (without_dashes c.args.digits.now.text.now) c.args.nodes.now c.loop-node.place c.loop-node.count c.loop-node.invariant.at c.in-Some.node.now here c.in-Holds.hit (sym c.in-Holds.ensures.visit) in
     hold.found
 
 pub returns-in-Holds-clause-least : goal.returns-in-Holds-clause-least
 returns-in-Holds-clause-least c =
     let found = c.in-Some.ensures.lookup.3 in
     let here = slice_get_read c.args.nodes.now _ c.loop-node.place c.in-Some.node.now refl found.0 (found.1 c.in-Some.node.now) in
-    let hold = after-hold c.args.held.now (is_more c.args.question) (wants c.args.question) (undashed c.args.digits.now.text.now) c.args.nodes.now c.loop-node.place c.loop-node.count c.loop-node.invariant.at c.in-Some.node.now here c.in-Holds.hit (sym c.in-Holds.ensures.visit) in
+    let hold = after-hold c.args.held.now (is_more c.args.question) (wants c.args.question) (without_dashes c.args.digits.now.text.now) c.args.nodes.now c.loop-node.place c.loop-node.count c.loop-node.invariant.at c.in-Some.node.now here c.in-Holds.hit (sym c.in-Holds.ensures.visit) in
     hold.least
 
 pub returns-in-Holds-clause-count : goal.returns-in-Holds-clause-count
 returns-in-Holds-clause-count c =
     let found = c.in-Some.ensures.lookup.3 in
     let here = slice_get_read c.args.nodes.now _ c.loop-node.place c.in-Some.node.now refl found.0 (found.1 c.in-Some.node.now) in
-    let hold = after-hold c.args.held.now (is_more c.args.question) (wants c.args.question) (undashed c.args.digits.now.text.now) c.args.nodes.now c.loop-node.place c.loop-node.count c.loop-node.invariant.at c.in-Some.node.now here c.in-Holds.hit (sym c.in-Holds.ensures.visit) in
+    let hold = after-hold c.args.held.now (is_more c.args.question) (wants c.args.question) (without_dashes c.args.digits.now.text.now) c.args.nodes.now c.loop-node.place c.loop-node.count c.loop-node.invariant.at c.in-Some.node.now here c.in-Holds.hit (sym c.in-Holds.ensures.visit) in
     hold.counted
 
 pub loop-node-preserved-in-Enters : goal.loop-node-preserved-in-Enters
@@ -34,7 +34,7 @@ loop-node-preserved-in-Enters c =
     let here = slice_get_read c.args.nodes.now _ c.loop-node.place c.in-Some.node.now refl found.0 (found.1 c.in-Some.node.now) in
     record {
       stands = c.visit_node.ensures.stands;
-      at = after-enter c.args.held.now (is_more c.args.question) (wants c.args.question) (undashed c.args.digits.now.text.now) c.args.nodes.now c.loop-node.place c.loop-node.count c.loop-node.invariant.at c.in-Some.node.now here (sym c.in-Enters.ensures.visit);
+      at = after-enter c.args.held.now (is_more c.args.question) (wants c.args.question) (without_dashes c.args.digits.now.text.now) c.args.nodes.now c.loop-node.place c.loop-node.count c.loop-node.invariant.at c.in-Some.node.now here (sym c.in-Enters.ensures.visit);
     }
 
 pub loop-node-preserved : goal.loop-node-preserved
@@ -43,7 +43,7 @@ loop-node-preserved c =
     let here = slice_get_read c.args.nodes.now _ c.loop-node.place c.in-Some.node.now refl found.0 (found.1 c.in-Some.node.now) in
     record {
       stands = c.visit_node.ensures.stands;
-      at = after-fail c.args.held.now (is_more c.args.question) (wants c.args.question) (undashed c.args.digits.now.text.now) c.args.nodes.now c.loop-node.place c.loop-node.count c.loop-node.invariant.at c.in-Some.node.now here
+      at = after-fail c.args.held.now (is_more c.args.question) (wants c.args.question) (without_dashes c.args.digits.now.text.now) c.args.nodes.now c.loop-node.place c.loop-node.count c.loop-node.invariant.at c.in-Some.node.now here
           (slice_index c.args.ends.now c.loop-node.place) (c.requires.tree.linked.each c.loop-node.place c.in-Some.node.now here) (sym c.in-Fails.ensures.visit);
     }
 
@@ -71,6 +71,6 @@ visit_node-requires-clause-rises c =
 pub loop-node-preserved-in-Some-leap_over : goal.loop-node-preserved-in-Some-leap_over
 loop-node-preserved-in-Some-leap_over c = record {
   stands = c.loop-node.invariant.stands;
-  at = after-leap c.args.held.now (is_more c.args.question) (wants c.args.question) (undashed c.args.digits.now.text.now) c.args.nodes.now c.args.ends.now c.requires.tree.linked
+  at = after-leap c.args.held.now (is_more c.args.question) (wants c.args.question) (without_dashes c.args.digits.now.text.now) c.args.nodes.now c.args.ends.now c.requires.tree.linked
       c.args.leaps.now c.loop-node.place c.in-Some-leap_over.until c.loop-node.count c.at-first.result c.requires.leaps c.at-first.ensures.value c.in-Some-leap_over.ensures c.loop-node.invariant.at;
 }

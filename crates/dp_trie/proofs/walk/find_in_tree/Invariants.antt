@@ -1,5 +1,5 @@
 use Rattle.std.proofs.Common.{◌-◌, length}
-use Rattle.dp_pattern.specs.Dashes.{undashed}
+use Rattle.dp_pattern.specs.Dashes.{without_dashes}
 use Rattle.dp_trie.specs.Asked.{is_more, wants}
 use Rattle.dp_trie.specs.steps.Digits.{Stands}
 use Rattle.dp_trie.proofs.TreeLemmas.{IsAt}
@@ -8,7 +8,7 @@ use Rattle.dp_trie.proofs.walk.find_in_tree.Given as goal
 abbrev pub invariant-loop-node : goal.invariant-loop-node
 invariant-loop-node l = record {
   stands : Stands l.digits.text.now l.cursor;
-  at : IsAt l.held (is_more l.question) (wants l.question) (undashed l.digits.text.now) l.nodes l.place l.count;
+  at : IsAt l.held (is_more l.question) (wants l.question) (without_dashes l.digits.text.now) l.nodes l.place l.count;
 }
 
 abbrev pub decreases-loop-node : goal.decreases-loop-node

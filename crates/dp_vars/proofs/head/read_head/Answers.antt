@@ -1,7 +1,8 @@
 use Rattle.std.proofs.Common.{sym, ap, ◌∙◌, length, ◌-◌}
 use Rattle.dp_conf.specs.Cut.{before_last, cut_once}
-use Rattle.dp_vars.specs.Spans.{after_of, spanned}
-use Rattle.dp_vars.specs.Values.{called}
+use Rattle.dp_vars.specs.Spans.{text_at}
+use Rattle.dp_vars.specs.steps.Spans.{after_of}
+use Rattle.dp_vars.specs.Values.{call_argument}
 use Rattle.dp_vars.proofs.HeadsLemmas.{name-seen, head-seen}
 use Rattle.dp_vars.proofs.head.read_head.Goals as goal
 
@@ -14,5 +15,5 @@ returns-in-Some c sight =
     head-seen sight c.args.text.now c.args.place c.in-Some.name.now c.in-Some.after.now c.read_call.result
     (ap (cut_once 40) (sym c.of-head.ensures) ∙ c.in-Some.ensures)
     (c.read_call.ensures sight
-    ∙ ap (λ span. called sight c.in-Some.name.now (before_last 41 (spanned c.args.text.now span)))
+    ∙ ap (λ span. call_argument sight c.in-Some.name.now (before_last 41 (text_at c.args.text.now span)))
     (c.after.ensures ∙ ap (λ bytes. after_of c.args.place (length bytes - length c.in-Some.after.now)) c.of-head.ensures))

@@ -3,11 +3,11 @@ use Rattle.std.proofs.Common.{ap, ◌∙◌, subst, sym}
 use Rattle.dp_conf.proofs.GroupsLemmas.{one_reading}
 use Rattle.dp_vars.specs.Pieces.{AreOf}
 use Rattle.dp_vars.specs.Sights.{sight_of}
-use Rattle.dp_vars.specs.Values.{expanded, expansion}
+use Rattle.dp_vars.specs.Values.{expansion_of, expansion}
 use Rattle.dp_vars.proofs.template.expand.Goals as goal
 
 pub returns-clause-reading : goal.returns-clause-reading
 returns-clause-reading g c reading reads =
     c.in_ok-bytes.ensures (subst (λ text. AreOf text c.template.inside.pieces) (sym c.deref.ensures.value) c.template.invariant)
     ∙ ap (expansion (sight_of g.C.Counts.count c.args.scope.now)) (c.deref.ensures.value ∙ c.template.view_is)
-    ∙ ap (expanded (sight_of g.C.Counts.count c.args.scope.now)) (sym ((one_reading c.args.template.now reading).0 reads))
+    ∙ ap (expansion_of (sight_of g.C.Counts.count c.args.scope.now)) (sym ((one_reading c.args.template.now reading).0 reads))

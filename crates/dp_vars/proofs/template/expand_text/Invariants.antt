@@ -1,6 +1,6 @@
 use Rattle.std.proofs.Common.{◌≡◌, length}
 use Rattle.dp_conf.specs.GroupsRead.{levels}
-use Rattle.dp_vars.specs.Expanding.{kinds_of, AreWritten}
+use Rattle.dp_vars.specs.steps.Expanding.{kinds_of, AreWritten}
 use Rattle.dp_vars.specs.Sights.{sight_of}
 use Rattle.dp_vars.specs.Values.{expansion}
 use Rattle.dp_vars.proofs.ExpandingLemmas.{come}

@@ -1,6 +1,6 @@
 use Rattle.std.proofs.Common.{subst, arith}
 use Rattle.dp_machine.specs.declared.event.Event.TheVariants.{Step as step}
-use Rattle.dp_board.specs.Attending.{IsEnd, added}
+use Rattle.dp_board.specs.Attending.{IsEnd, calls_since}
 use Rattle.dp_board.specs.Sittings.{call_of}
 use Rattle.dp_board.proofs.StepsLemmas.{AddsSteps-more, GoesOnAfter-more, GoesOnToLast-all, GoesOnToLast-more, IsReason-end, count-more, last-more}
 use Rattle.dp_board.proofs.board.Board.attend.Goals as goal
@@ -12,7 +12,7 @@ returns-in-Some-clause-why g c =
     let told = call_of place (step c.args.channel) reply in
     let rows = g.T.AppTable.rows in
     let first = g.S.Session.opening in
-    IsReason-end rows first c.args.channel c.args.turns c.in-Some.why told (added c.args.seat.now c.turn.new.seat)
+    IsReason-end rows first c.args.channel c.args.turns c.in-Some.why told (calls_since c.args.seat.now c.turn.new.seat)
     (subst (IsEnd rows first c.args.channel told) c.in-Some.is c.in_ok-_place.ensures.end)
     (last-more c.args.channel c.args.seat.now c.loop-turn.seat c.turn.new.seat place reply c.loop-turn.invariant.steps c.in_ok-_place.ensures.ok)
 
@@ -25,7 +25,7 @@ returns-in-Some-clause-on g c =
     GoesOnToLast-more g.T.AppTable.rows g.S.Session.opening c.args.channel c.args.seat.now c.loop-turn.seat c.turn.new.seat c.in_ok-_place._place c.in_ok-_place._reply c.loop-turn.invariant.steps c.in_ok-_place.ensures.ok c.loop-turn.invariant.on
 
 pub returns-clause-on : goal.returns-clause-on
-returns-clause-on g c = GoesOnToLast-all g.T.AppTable.rows g.S.Session.opening c.args.channel (added c.args.seat.now c.loop-turn.seat) c.loop-turn.invariant.on
+returns-clause-on g c = GoesOnToLast-all g.T.AppTable.rows g.S.Session.opening c.args.channel (calls_since c.args.seat.now c.loop-turn.seat) c.loop-turn.invariant.on
 
 pub loop-turn-preserved : goal.loop-turn-preserved
 loop-turn-preserved g c =

@@ -1,10 +1,10 @@
 use Rattle.std.specs.Prelude.{◌≡◌, ◌+◌, length}
-use Rattle.dp_board.specs.Attending.{AddsSteps, GoesOnAfter, added}
+use Rattle.dp_board.specs.Attending.{AddsSteps, GoesOnAfter, calls_since}
 use Rattle.dp_board.proofs.board.Board.attend.Given as goal
 
 abbrev pub invariant-loop-turn : goal.invariant-loop-turn
 invariant-loop-turn g l = record {
   steps : AddsSteps l.channel l.fn.seat l.seat;
   count : length l.seat.told ≡ length l.fn.seat.told + l.turn;
-  on : GoesOnAfter g.T.AppTable.rows g.S.Session.opening l.channel (added l.fn.seat l.seat);
+  on : GoesOnAfter g.T.AppTable.rows g.S.Session.opening l.channel (calls_since l.fn.seat l.seat);
 }

@@ -2,7 +2,7 @@ use Rattle.std.proofs.Common.{IsTrue, List}
 use Rattle.std.specs.Prelude.{option_map}
 use Rattle.std.proofs.lemmas.Result.{IfOk-weaker}
 use Rattle.dp_closed.specs.Answers.{answers_in, shown_outside}
-use Rattle.dp_closed.specs.Claimed.{AreWays, claimed}
+use Rattle.dp_closed.specs.Claimed.{AreWays, kept_claim}
 use Rattle.dp_queue.specs.declared.settings.Settings.{Settings}
 use Rattle.dp_reach.specs.Audits.{RunsOnly}
 use Rattle.dp_reach.specs.Closed.{IsClosed}
@@ -16,7 +16,7 @@ returns-clause-runs c =
     let audit = c.args.self in
     let answers = answers_in (option_map (λ marks. marks.now) c.args.answers) in
     IfOk-weaker c.is_closed-2.result
-    (λ yes. IsTrue yes → (settings : List Settings) → AreWays settings audit.wide.ways.now → IsClosed standard_duties (claimed (narrow_of audit) settings) answers)
+    (λ yes. IsTrue yes → (settings : List Settings) → AreWays settings audit.wide.ways.now → IsClosed standard_duties (kept_claim (narrow_of audit) settings) answers)
     (λ yes. IsTrue yes → (settings : List Settings) → AreWays settings audit.wide.ways.now
     → RunsOnly standard_rows (shown_outside audit.outside.now) audit.context.now audit.wide.plan.now settings answers)
     (λ yes closed is settings are.

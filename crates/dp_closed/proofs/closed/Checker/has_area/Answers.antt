@@ -1,7 +1,7 @@
 use Rattle.std.proofs.Common.{◌≡◌, IsTrue, ℕ, List, ap, subst, sym, true}
 use Rattle.std.proofs.lemmas.Result.{IfOk-weaker}
 use Rattle.std.specs.Prelude.{codes}
-use Rattle.dp_closed.specs.Claimed.{claimed}
+use Rattle.dp_closed.specs.Claimed.{kept_claim}
 use Rattle.dp_closed.specs.Reach.{areas_in}
 use Rattle.dp_closed.specs.Shown.{shown_area}
 use Rattle.dp_closed.specs.Steps.{Closes, IsEntryIn}
@@ -25,7 +25,7 @@ returns c =
     (λ yes. IsTrue yes → (name : List ℕ) → area.context ≡ exactly name → c.args.order.now ≡ search_order plan name
     → Closes c.args.self (λ claim answers. IsAreaClosed standard_duties claim answers area))
     (λ yes closed is name exact ordered settings are. record {
-      named = subst (λ (a : Area). IsNamed (claimed c.args.self.claim settings) a)
+      named = subst (λ (a : Area). IsNamed (kept_claim c.args.self.claim settings) a)
           (λ i. area_at (shown_all (c.deref.ensures.value i)) (shown_all (c.deref-2.ensures.value i))) (c.is_area_named.ensures c.if-not-is_area_named.false settings);
       hang = subst (λ (ps : List Piece). Includes plan reach (area_at ps (exactly (codes "h")))) (ap shown_all c.deref-3.ensures.value) (c.in_ok-has_letter.ensures c.if-not-branch.false);
       invalid = subst (λ (ps : List Piece). Includes plan reach (area_at ps (exactly (codes "i")))) (ap shown_all c.deref-4.ensures.value) (c.in_ok-has_letter-2.ensures c.if-not-branch-2.false);

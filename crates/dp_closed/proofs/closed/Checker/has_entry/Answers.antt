@@ -1,7 +1,7 @@
 use Rattle.std.proofs.Common.{◌≡◌, IsTrue, Some}
 use Rattle.std.proofs.lemmas.Option.{MatchOption-at_none, MatchOption-at_some}
 use Rattle.std.proofs.lemmas.Result.{IfOk-weaker}
-use Rattle.dp_closed.specs.Claimed.{claimed}
+use Rattle.dp_closed.specs.Claimed.{kept_claim}
 use Rattle.dp_closed.specs.Found.{IsMeeting}
 use Rattle.dp_closed.specs.Shown.{shown_area}
 use Rattle.dp_closed.specs.Steps.{Closes, IsEntryIn, answers_of}
@@ -24,6 +24,6 @@ returns c =
     (λ yes. IsTrue yes → entry_at c.args.self.claim.plan.now c.args.id ≡ Some c.args.entry.now → (area : Area) → IsMeeting area c.args.meeting.now
     → c.args.entry.now.name ≡ c.args.meeting.now.name.now → Closes c.args.self (λ claim answers. IsEntryIn claim answers area c.args.id))
     (λ yes closed is there area met same settings are.
-    found-entry (claimed c.args.self.claim settings) (answers_of c.args.self) area (shown_area c.in-Some.met.now) c.args.id c.args.entry.now there
+    found-entry (kept_claim c.args.self.claim settings) (answers_of c.args.self) area (shown_area c.in-Some.met.now) c.args.id c.args.entry.now there
     (MatchOption-at_some _ _ c.in-Some.met c.in-Some.is (c.found.ensures area met same)) (closed is settings are))
     c.has_met.ensures

@@ -1,6 +1,6 @@
 use Rattle.std.proofs.Common.{◌≡◌, IsTrue, List, ap, sym, ◌∙◌, subst}
 use Rattle.std.proofs.lemmas.Result.{IfOk-weaker}
-use Rattle.dp_closed.specs.Claimed.{AreWays, claimed}
+use Rattle.dp_closed.specs.Claimed.{AreWays, kept_claim}
 use Rattle.dp_closed.specs.Shown.{shown_area, shown_duties}
 use Rattle.dp_closed.specs.Steps.{Closes}
 use Rattle.dp_pieces.specs.Shown.{shown_all}
@@ -23,11 +23,11 @@ returns c =
     ap shown_duties c.deref-3.ensures.value ∙ (c.in_ok-owed.ensures ∙ (λ i. standard_duties (c.bytes.ensures i) area
     (text_pieces (names_by c.args.self.claim.names.now (shown_all (c.deref.ensures.value i)) (shown_all (c.deref-2.ensures.value i))) (c.bytes-2.ensures.value i)))) in
     IfOk-weaker c.meets_all.result
-    (λ yes. IsTrue yes → (settings : List Settings) → AreWays settings c.args.self.claim.ways.now → MeetsAll (claimed c.args.self.claim settings) (shown_duties c.deref-3.result.now))
+    (λ yes. IsTrue yes → (settings : List Settings) → AreWays settings c.args.self.claim.ways.now → MeetsAll (kept_claim c.args.self.claim settings) (shown_duties c.deref-3.result.now))
     (λ yes. IsTrue yes → Closes c.args.self (λ claim answers. IsEntry standard_duties claim answers area c.args.id c.args.entry.now))
     (λ yes met is settings are. record {
       answer = sym c.is_answered.ensures ∙ c.if-not-is_answered.false;
       pieces = text_pieces names arguments;
       fits = λ sight within. fits-expansion names sight within arguments;
-      met = subst (λ (ds : List Duty). MeetsAll (claimed c.args.self.claim settings) ds) owed_are (met is settings are);
+      met = subst (λ (ds : List Duty). MeetsAll (kept_claim c.args.self.claim settings) ds) owed_are (met is settings are);
     }) c.meets_all.ensures

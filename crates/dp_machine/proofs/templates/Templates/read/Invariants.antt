@@ -4,7 +4,7 @@ use Rattle.dp_machine.proofs.TemplatesLemmas.{Goes}
 use Rattle.dp_machine.proofs.templates.Templates.read.Given as goal
 
 abbrev pub invariant-loop-context : goal.invariant-loop-context
-invariant-loop-context l = Goes (λ context held. AreOf context.entries held) l.contexts l.left l.held.items
+invariant-loop-context g l = Goes (λ context held. AreOf context.entries held) l.contexts l.left l.held.items
 
 abbrev pub decreases-loop-context : goal.decreases-loop-context
-decreases-loop-context l = length l.left
+decreases-loop-context g l = length l.left

@@ -3,7 +3,7 @@ use Rattle.dp_pattern.specs.Kept.{parts_meaning}
 use Rattle.dp_pattern.specs.Walk.{classes_of, tail_of}
 use Rattle.dp_pieces.specs.Sets.{set_by}
 use Rattle.dp_pieces.specs.ShapeSteps.{AreAllBytes, class_at}
-use Rattle.dp_pieces.specs.Shown.{shown, shown_all}
+use Rattle.dp_pieces.specs.Shown.{shown_piece, shown_all}
 use Rattle.dp_pieces.proofs.TakesLemmas.{always-end, always-step, always-within}
 use Rattle.dp_pieces.proofs.shapes.matching.all_meet.Goals as goal
 
@@ -15,7 +15,7 @@ returns-then-is_any c =
 pub loop-place-preserved : goal.loop-place-preserved
 loop-place-preserved c = record {
   bytes = (subst AreAllBytes c.in-Some.ensures.0 c.loop-place.invariant.bytes).1;
-  takes = λ always. c.loop-place.invariant.takes (λ digits fits. always-step (shown_all c.skip_nothing.result.now) (shown_all c.in-Some-split_first.later.now) (shown c.in-Some-split_first.piece.now)
+  takes = λ always. c.loop-place.invariant.takes (λ digits fits. always-step (shown_all c.skip_nothing.result.now) (shown_all c.in-Some-split_first.later.now) (shown_piece c.in-Some-split_first.piece.now)
       (classes_of (parts_meaning c.loop-place.rest)) (classes_of (parts_meaning c.in-Some.after)) (class_at c.in-Some.place) (tail_of (parts_meaning c.loop-place.rest))
       (tail_of (parts_meaning c.in-Some.after)) (ap shown_all c.in-Some-split_first.ensures.cases.0) c.in-Some.ensures.0 c.in-Some.ensures.1 (sym c.is_any.ensures ∙ c.if-is_any.false)
       (c.all_be.ensures c.if-not-all_be.false) always digits (c.skip_nothing.ensures.same.1 digits fits));

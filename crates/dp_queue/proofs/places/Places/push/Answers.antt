@@ -1,7 +1,7 @@
 use Rattle.std.proofs.Common.{◌≡◌, List, ◌++◌, ◌∷◌, [], ap, ◌∙◌, sym, subst, arith, if◌then◌else◌}
 use Rattle.std.proofs.lemmas.List.{length-map, map-append}
 use Rattle.std.specs.Result.{is_ok}
-use Rattle.dp_queue.specs.Places.{hashes_of, AreLasts, AreChained}
+use Rattle.dp_queue.specs.steps.Places.{hashes_of, AreLasts, AreChained}
 use Rattle.dp_queue.specs.declared.places.Link.{Link}
 use Rattle.dp_queue.proofs.PlacesLemmas.{lasts-push, chained-push}
 use Rattle.dp_queue.proofs.places.Places.push.Goals as goal

@@ -1,6 +1,6 @@
 use Rattle.std.proofs.Common.{refl, ap, ◌∙◌}
 use Rattle.dp_queue.specs.Members.{paused_queue}
-use Rattle.dp_queue.specs.Places.{words_of}
+use Rattle.dp_queue.specs.steps.Places.{words_of}
 use Rattle.dp_queue.proofs.WordLemmas.{worded-kept, words-mapped}
 use Rattle.dp_queue.proofs.queue_list.QueueList.pause_all.Goals as goal
 

@@ -1,12 +1,12 @@
 use Rattle.std.proofs.Common.{◌-◌, ◌^◌, min, List, Option, ◌∙◌, refl, sym, ap, subst}
 use Rattle.std.specs.Option.{option_map}
 use Rattle.dp_lookup.specs.FoundEntry.{found_entry, has_priority}
-use Rattle.dp_pattern.specs.Dashes.{undashed}
+use Rattle.dp_pattern.specs.Dashes.{without_dashes}
 use Rattle.dp_plan.specs.declared.entry.EntryId.{EntryId}
-use Rattle.dp_trie.specs.Asked.{is_more, wants, asked, hit_of}
+use Rattle.dp_trie.specs.Asked.{is_more, wants, is_asked, hit_of}
 use Rattle.dp_trie.specs.Entered.{entered_first}
 use Rattle.dp_trie.specs.Known.{KeptContext, found_first, FindsPattern}
-use Rattle.dp_trie.specs.declared.question.Question.TheVariants.{Priority}
+use Rattle.dp_trie.specs.declared.entry_question.EntryQuestion.TheVariants.{Priority}
 use Rattle.dp_trie.proofs.KeepLemmas.{found-first, found-pattern}
 use Rattle.dp_trie.proofs.PlainLemmas.{HasAtMost}
 use Rattle.dp_trie.proofs.trie.Trie.counted_in.Goals as goal
@@ -14,7 +14,7 @@ use Rattle.dp_trie.proofs.trie.Trie.counted_in.Goals as goal
 pub returns-clause-found : goal.returns-clause-found
 unfolding found_entry
 returns-clause-found c = λ plan keeps.
-    let test = asked (is_more (Priority c.args.priority)) (wants (Priority c.args.priority)) (undashed c.args.text.now) in
+    let test = is_asked (is_more (Priority c.args.priority)) (wants (Priority c.args.priority)) (without_dashes c.args.text.now) in
     let order = c.args.contexts.now in
     c.look_up-found.ensures.hit
     ∙ (ap (λ (kept : List KeptContext). option_map hit_of (found_first kept test order)) (c.deref.ensures.value ∙ c.self.view_is)
@@ -23,11 +23,11 @@ returns-clause-found c = λ plan keeps.
 pub returns-clause-count : goal.returns-clause-count
 returns-clause-count c =
     c.look_up-found.ensures.count
-    ∙ ap (λ (kept : List KeptContext). min (entered_first kept (is_more (Priority c.args.priority)) (wants (Priority c.args.priority)) (undashed c.args.text.now) c.args.contexts.now) (2 ^ 64 - 1)) (c.deref.ensures.value ∙ c.self.view_is)
+    ∙ ap (λ (kept : List KeptContext). min (entered_first kept (is_more (Priority c.args.priority)) (wants (Priority c.args.priority)) (without_dashes c.args.text.now) c.args.contexts.now) (2 ^ 64 - 1)) (c.deref.ensures.value ∙ c.self.view_is)
 
 pub returns-clause-least : goal.returns-clause-least
 returns-clause-least c = λ plan keeps.
-    let test = asked (is_more (Priority c.args.priority)) (wants (Priority c.args.priority)) (undashed c.args.text.now) in
+    let test = is_asked (is_more (Priority c.args.priority)) (wants (Priority c.args.priority)) (without_dashes c.args.text.now) in
     let order = c.args.contexts.now in
     let same =
     c.look_up-found.ensures.hit ∙ ap (λ (kept : List KeptContext). option_map hit_of (found_first kept test order)) (c.deref.ensures.value ∙ c.self.view_is) in

@@ -2,8 +2,8 @@ use Rattle.std.proofs.Common.{List, ◌∙◌, false, refl, sym, ap}
 use Rattle.std.specs.Option.{option_map, option_and_then}
 use Rattle.dp_lookup.specs.FoundEntry as entries
 use Rattle.dp_lookup.specs.FoundEntry.{found_label, priority_at}
-use Rattle.dp_pattern.specs.Dashes.{undashed}
-use Rattle.dp_trie.specs.Asked.{asked, has_label}
+use Rattle.dp_pattern.specs.Dashes.{without_dashes}
+use Rattle.dp_trie.specs.Asked.{is_asked, has_label}
 use Rattle.dp_trie.specs.Known.{Known, KeptContext, found_first}
 use Rattle.dp_trie.proofs.KeepLemmas.{found-first, found-priority}
 use Rattle.dp_trie.proofs.trie.Trie.find_label_in.Goals as goal
@@ -11,7 +11,7 @@ use Rattle.dp_trie.proofs.trie.Trie.find_label_in.Goals as goal
 pub returns : goal.returns
 unfolding found_label
 returns c = λ plan keeps.
-    let test = asked false (has_label c.args.label.now) (undashed c.args.text.now) in
+    let test = is_asked false (has_label c.args.label.now) (without_dashes c.args.text.now) in
     let order = c.args.contexts.now in
     c.look_up_label.ensures
     ∙ (ap (λ (kept : List KeptContext). option_map (λ (k : Known). k.priority) (found_first kept test order)) (c.deref.ensures.value ∙ c.self.view_is)

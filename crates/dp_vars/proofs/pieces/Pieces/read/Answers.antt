@@ -1,5 +1,6 @@
 use Rattle.std.proofs.Common.{sym, ap, ◌∙◌, ◌++◌, drop}
-use Rattle.dp_vars.specs.Pieces.{past_all, past_last}
+use Rattle.dp_vars.specs.Pieces.{past_all}
+use Rattle.dp_vars.specs.steps.Pieces.{past_last}
 use Rattle.dp_vars.proofs.PiecesLemmas.{past-reverse}
 use Rattle.dp_vars.proofs.pieces.Pieces.read.Goals as goal
 

@@ -1,12 +1,12 @@
 use Rattle.std.proofs.Common.{◌∙◌, ap, sym, subst, take}
-use Rattle.dp_vars.specs.Tables.{IsBound, store_of}
-use Rattle.dp_vars.proofs.BoundLemmas.{take-bound}
+use Rattle.dp_vars.specs.steps.Tables.{IsBound, store_of}
+use Rattle.dp_vars.proofs.BoundLemmas.{take-with_binding}
 use Rattle.dp_vars.proofs.ForgottenLemmas.{forgotten}
 use Rattle.dp_vars.proofs.store.Store.forget.Goals as goal
 
 pub invariant_of-self : goal.invariant_of-self
 invariant_of-self g c = subst (λ es. IsBound es c.self.inside.frames.items) (sym c.truncate.ensures)
-    (take-bound c.args.known c.self.inside.table c.self.inside.frames.items c.self.invariant)
+    (take-with_binding c.args.known c.self.inside.table c.self.inside.frames.items c.self.invariant)
 
 pub returns : goal.returns
 returns g c = λ before named is names.

@@ -1,5 +1,5 @@
 use Rattle.std.proofs.Common.{ap, sym, ◌∙◌, Some, None}
-use Rattle.dp_vars.specs.Bindings.{innermost_value}
+use Rattle.dp_vars.specs.steps.Bindings.{innermost_value}
 use Rattle.dp_vars.specs.Stores.{value_in}
 use Rattle.dp_vars.proofs.BoundLemmas.{falls_of}
 use Rattle.dp_vars.proofs.StoresLemmas.{value_in-is}

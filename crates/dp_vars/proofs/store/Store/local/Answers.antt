@@ -1,6 +1,6 @@
 use Rattle.std.proofs.Common.{◌≡◌, ◌<◌, ap, sym, ◌∙◌, Some, None, length, if◌then◌else◌, arith, refl}
 use Rattle.std.proofs.lemmas.Grind.{common_steps}
-use Rattle.dp_vars.specs.Bindings.{innermost_value, is_at}
+use Rattle.dp_vars.specs.steps.Bindings.{innermost_value, is_at}
 use Rattle.dp_vars.specs.Stores.{local_in}
 use Rattle.dp_vars.proofs.BoundLemmas.{falls_of}
 use Rattle.dp_vars.proofs.StoresLemmas.{local_in-is}

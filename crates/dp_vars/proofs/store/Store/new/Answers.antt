@@ -1,5 +1,5 @@
 use Rattle.std.proofs.Common.{sym, subst}
-use Rattle.dp_vars.specs.Tables.{IsBound}
+use Rattle.dp_vars.specs.steps.Tables.{IsBound}
 use Rattle.dp_vars.proofs.BoundLemmas.{none_bound}
 use Rattle.dp_vars.proofs.store.Store.new.Goals as goal
 

@@ -2,8 +2,8 @@ use Rattle.std.proofs.Common.{◌≡◌, ◌∙◌, suc, [], ◌∷◌, ◌++◌
 use Rattle.std.specs.Option.{option_map}
 use Rattle.std.proofs.lemmas.List.{length-append}
 use Rattle.dp_vars.specs.Stores.{innermost, without_frame}
-use Rattle.dp_vars.specs.Tables.{IsBound, frames_from, store_of, unbound_at}
-use Rattle.dp_vars.proofs.BoundLemmas.{popped-bound}
+use Rattle.dp_vars.specs.steps.Tables.{IsBound, frames_from, store_of, unbound_at}
+use Rattle.dp_vars.proofs.BoundLemmas.{popped-with_binding}
 use Rattle.dp_vars.proofs.SettingLemmas.{innermost-pushed, popped_view}
 use Rattle.dp_vars.proofs.store.Store.pop_frame.Goals as goal
 
@@ -14,7 +14,7 @@ invariant_of-self-2 g c =
     omega (arith, length-append c.pop.new.self.items (c.in_ok-frame.frame ∷ []), ap length cut, c.self.inside.frames.ok) in
     subst (λ es. IsBound es c.pop.new.self.items)
     (sym (c.unbind_all.ensures ∙ ap (λ d. fold (unbound_at d) c.self.inside.table c.in_ok-frame.frame.numbers) deep))
-    (popped-bound c.self.inside.table c.pop.new.self.items c.in_ok-frame.frame (subst (IsBound c.self.inside.table) cut c.self.invariant))
+    (popped-with_binding c.self.inside.table c.pop.new.self.items c.in_ok-frame.frame (subst (IsBound c.self.inside.table) cut c.self.invariant))
 
 pub returns-clause-left : goal.returns-clause-left
 returns-clause-left g c =

@@ -1,9 +1,9 @@
 use Rattle.std.proofs.Common.{◌≡◌, ◌<◌, ◌∙◌, ap, sym, subst, length, arith}
 use Rattle.std.proofs.lemmas.Grind.{common_steps}
 use Rattle.std.specs.Option.{option_map}
-use Rattle.dp_vars.specs.Bindings.{bound_below}
+use Rattle.dp_vars.specs.steps.Bindings.{bound_below}
 use Rattle.dp_vars.specs.Stores.{innermost, popped_setting, without_frame}
-use Rattle.dp_vars.specs.Tables.{IsBound, stack_of, store_of, with_stack}
+use Rattle.dp_vars.specs.steps.Tables.{IsBound, stack_of, store_of, with_stack}
 use Rattle.dp_vars.proofs.SettingLemmas.{below_bound, setting_view}
 use Rattle.dp_vars.proofs.store.Store.pop_frame_setting.Goals as goal
 

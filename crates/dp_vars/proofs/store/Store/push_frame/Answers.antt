@@ -1,8 +1,8 @@
 -- The frame has the locals, and without it only the names have grown.
 use Rattle.std.proofs.Common.{◌≡◌, [], ap, sym, subst, ◌∙◌, length, take}
 use Rattle.dp_vars.specs.Stores.{with_frame, with_names, without_frame}
-use Rattle.dp_vars.specs.Tables.{HasNamed, IsBound, store_of}
-use Rattle.dp_vars.proofs.BoundLemmas.{pushed-bound}
+use Rattle.dp_vars.specs.steps.Tables.{HasNamed, IsBound, store_of}
+use Rattle.dp_vars.proofs.BoundLemmas.{pushed-with_binding}
 use Rattle.dp_vars.proofs.ForgottenLemmas.{has_named}
 use Rattle.dp_vars.proofs.NamesLemmas.{length-names}
 use Rattle.dp_vars.proofs.PushedLemmas.{of_err, of_ok, pushed_popped, take-with_names}
@@ -11,7 +11,7 @@ use Rattle.dp_vars.proofs.store.Store.push_frame.Goals as goal
 
 pub invariant_of-self-2 : goal.invariant_of-self-2
 invariant_of-self-2 g c = subst (IsBound c.self.inside.table) (sym c.in_ok-push.ensures.items)
-    (pushed-bound c.self.inside.table c.self.inside.frames.items (record { back = c.args.back; numbers = c.new-numbers.result }) c.self.invariant)
+    (pushed-with_binding c.self.inside.table c.self.inside.frames.items (record { back = c.args.back; numbers = c.new-numbers.result }) c.self.invariant)
 
 pub returns-then-is_err-clause-err : goal.returns-then-is_err-clause-err
 returns-then-is_err-clause-err g c =

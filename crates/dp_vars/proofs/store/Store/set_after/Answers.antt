@@ -1,6 +1,6 @@
 use Rattle.std.proofs.Common.{ap, sym, subst, ◌∙◌}
 use Rattle.dp_vars.specs.Stores.{set}
-use Rattle.dp_vars.specs.Tables.{IsBound, store_of}
+use Rattle.dp_vars.specs.steps.Tables.{IsBound, store_of}
 use Rattle.dp_vars.proofs.SettingLemmas.{set_bound, set_view}
 use Rattle.dp_vars.proofs.store.Store.set_after.Goals as goal
 

@@ -1,9 +1,0 @@
--- Extensions by their bytes.
-use Rattle.std.specs.Prelude.{ℕ, List, [], ◌∷◌}
-use Rattle.dp_app.specs.declared.exten.Held.{Held}
-use Rattle.dp_app.specs.declared.exten.Held.TheVariants.{Text, Byte}
-
--- the bytes of an extension, however they are held
-abbrev pub held_bytes : Held → List ℕ
-held_bytes (Text text) = text
-held_bytes (Byte byte) = byte ∷ []

@@ -1,0 +1,3 @@
+-- What private functions say of their steps. No public clause rests on it.
+pub mod Extensions
+pub mod Targets

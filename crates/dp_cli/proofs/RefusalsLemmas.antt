@@ -1,0 +1,62 @@
+-- The kinds with which words are refused.
+use Rattle.std.proofs.Common.{◌≡◌, ◌⊎◌, Bool, true, false, cond, List, ℕ, [], ◌∷◌, Option, Some, None, is_some, codes, inl, inr, refl}
+use Rattle.std.specs.Option.{option_and_then, option_map}
+use Rattle.clap.specs.Kinds.{IsAmong, Kinds, or_else}
+use Rattle.clap.specs.Walk.{Row, first_of}
+use Rattle.clap.specs.declared.error.kind.ErrorKind.{ErrorKind}
+use Rattle.clap.specs.declared.error.kind.ErrorKind.TheVariants.{OutOfMemory}
+use Rattle.dp_conf.specs.Words.{same_text}
+use Rattle.dp_program.specs.Requests.{RequestOf, explaining}
+use Rattle.dp_cli.specs.CommandLine.{asked_by, audit_asked, check_asked, command_asked, debug_asked, explain_asked, fault_in, list_asked, match_asked, match_at, priority_in, reach_asked, run_asked, run_by, run_in, threads_in}
+use Rattle.dp_cli.specs.Refusals.{command_kinds, kinds_by, number_kinds, unless_number}
+
+-- one of the first kinds is one of all
+pub has_first : (kinds next : Kinds) (kind : ErrorKind) → (kind ≡ OutOfMemory) ⊎ IsAmong kind kinds → (kind ≡ OutOfMemory) ⊎ IsAmong kind (or_else kinds next)
+has_first [] next kind (inl memory) = inl memory
+has_first [] next kind (inr among) = absurd among
+has_first (first ∷ kinds) next kind has = has
+
+-- a word that was read as a number has no fault
+unless_asked : {X : Type 0} (number : Option ℕ) (next : ℕ → Option X) → is_some (option_and_then next number) ≡ true → unless_number number ≡ []
+unless_asked None next is = absurd cc
+unless_asked (Some number) next is = refl
+
+match_numbers : (words : List Row) (word : Option (List ℕ)) → is_some (option_and_then (λ word. option_and_then (match_at words) (priority_in word)) word) ≡ true
+    → number_kinds priority_in word ≡ []
+match_numbers words None is = refl
+match_numbers words (Some word) is = unless_asked (priority_in word) (match_at words) is
+
+-- the same, where nothing else is wanted
+unless_mapped : {X : Type 0} (number : Option ℕ) (next : ℕ → X) → is_some (option_map next number) ≡ true → unless_number number ≡ []
+unless_mapped None next is = absurd cc
+unless_mapped (Some number) next is = refl
+
+explain_numbers : (word : Option (List ℕ)) → is_some (option_and_then (λ word. option_map explaining (fault_in word)) word) ≡ true → number_kinds fault_in word ≡ []
+explain_numbers None is = refl
+explain_numbers (Some word) is = unless_mapped (fault_in word) explaining is
+
+run_numbers : (words : List Row) (word : Option (List ℕ)) → is_some (run_by words word) ≡ true → number_kinds threads_in word ≡ []
+run_numbers words None is = refl
+run_numbers words (Some word) is = unless_asked (threads_in word) (λ threads. run_in words (Some threads)) is
+
+-- of a choice
+either : (b : Bool) (first later : Option RequestOf) (kinds others : Kinds) → (is_some first ≡ true → kinds ≡ []) → (is_some later ≡ true → others ≡ [])
+    → is_some (cond b first later) ≡ true → cond b kinds others ≡ []
+either true first later kinds others is are some = is some
+either false first later kinds others is are some = are some
+
+command_numbers : (name : List ℕ) (words : List Row) → is_some (command_asked name words) ≡ true → command_kinds name words ≡ []
+command_numbers name words =
+    either (same_text name (codes "check")) (check_asked words) _ [] _ (λ some. refl)
+    (either (same_text name (codes "list")) (list_asked words) _ [] _ (λ some. refl)
+    (either (same_text name (codes "match")) (match_asked words) _ _ _ (match_numbers words (first_of (codes "PRIORITY") words))
+    (either (same_text name (codes "run")) (run_asked words) _ _ _ (run_numbers words (first_of (codes "N") words))
+    (either (same_text name (codes "debug")) (debug_asked words) _ [] _ (λ some. refl)
+    (either (same_text name (codes "audit")) (audit_asked words) _ [] _ (λ some. refl)
+    (either (same_text name (codes "reach")) (reach_asked words) _ [] _ (λ some. refl)
+    (either (same_text name (codes "explain")) (explain_asked words) _ _ [] (explain_numbers (first_of (codes "CODE") words)) (λ some. refl))))))))
+
+-- words that ask for something have no number out of its range
+pub asked_numbers : (command : Option (List ℕ × List Row)) → is_some (asked_by command) ≡ true → kinds_by command ≡ []
+asked_numbers None is = refl
+asked_numbers (Some command) is = command_numbers command.0 command.1 is

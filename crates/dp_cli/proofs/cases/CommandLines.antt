@@ -1,0 +1,192 @@
+-- Command lines, computed on the definition.
+use Rattle.std.proofs.Common.{◌≡◌, false, [], ◌∷◌, Some, None, codes, refl, true}
+use Rattle.clap.proofs.OnLiterals.{clap_on_literals}
+use Rattle.clap.specs.Faults.{fault_of}
+use Rattle.clap.specs.declared.error.kind.ErrorKind.TheVariants as kind
+use Rattle.dp_program.specs.Entries.{found_entry, found_number}
+use Rattle.dp_program.specs.Requests.{joined, check, check_queues, check_both, listing, auditing, matching, explaining, run, debug}
+use Rattle.dp_cli.specs.CommandLine.{pbx_app, asked_of, explains_of}
+use Rattle.dp_cli.specs.Refusals.{refusals_of}
+
+no_command : asked_of (codes "pbx" ∷ []) ≡ Some joined
+unfolding clap_on_literals asked_of
+no_command = refl
+
+checked : asked_of (codes "pbx" ∷ codes "check" ∷ codes "a.conf" ∷ []) ≡ Some (check (codes "a.conf"))
+unfolding clap_on_literals asked_of
+checked = refl
+
+checked_queues : asked_of (codes "pbx" ∷ codes "check" ∷ codes "--queues" ∷ codes "q.conf" ∷ []) ≡ Some (check_queues (codes "q.conf"))
+unfolding clap_on_literals asked_of
+checked_queues = refl
+
+checked_both : asked_of (codes "pbx" ∷ codes "check" ∷ codes "a.conf" ∷ codes "--queues" ∷ codes "q.conf" ∷ []) ≡ Some (check_both (codes "a.conf") (codes "q.conf"))
+unfolding clap_on_literals asked_of
+checked_both = refl
+
+listed : asked_of (codes "pbx" ∷ codes "list" ∷ codes "a.conf" ∷ []) ≡ Some (listing (codes "a.conf"))
+unfolding clap_on_literals asked_of
+listed = refl
+
+matched : asked_of (codes "pbx" ∷ codes "match" ∷ codes "a.conf" ∷ codes "main" ∷ codes "555-1234" ∷ []) ≡ Some (matching (record { file = codes "a.conf"; context = codes "main"; text = codes "555-1234"; priority = 1 }) false)
+unfolding clap_on_literals asked_of
+matched = refl
+
+matched_at : asked_of (codes "pbx" ∷ codes "match" ∷ codes "a.conf" ∷ codes "main" ∷ codes "5" ∷ codes "07" ∷ []) ≡ Some (matching (record { file = codes "a.conf"; context = codes "main"; text = codes "5"; priority = 7 }) false)
+unfolding clap_on_literals asked_of
+matched_at = refl
+
+matched_nowhere : asked_of (codes "pbx" ∷ codes "match" ∷ codes "a.conf" ∷ codes "main" ∷ codes "5" ∷ codes "0" ∷ []) ≡ None
+unfolding clap_on_literals asked_of
+matched_nowhere = refl
+
+matched_dashes : asked_of (codes "pbx" ∷ codes "match" ∷ codes "--" ∷ codes "a.conf" ∷ codes "-in-" ∷ codes "-1" ∷ []) ≡ Some (matching (record { file = codes "a.conf"; context = codes "-in-"; text = codes "-1"; priority = 1 }) false)
+unfolding clap_on_literals asked_of
+matched_dashes = refl
+
+matched_all : asked_of (codes "pbx" ∷ codes "match" ∷ codes "--all" ∷ codes "a.conf" ∷ codes "main" ∷ codes "5" ∷ codes "2" ∷ []) ≡ Some (matching (record { file = codes "a.conf"; context = codes "main"; text = codes "5"; priority = 2 }) true)
+unfolding clap_on_literals asked_of
+matched_all = refl
+
+matched_all_after : asked_of (codes "pbx" ∷ codes "match" ∷ codes "a.conf" ∷ codes "main" ∷ codes "5" ∷ codes "--all" ∷ []) ≡ Some (matching (record { file = codes "a.conf"; context = codes "main"; text = codes "5"; priority = 1 }) true)
+unfolding clap_on_literals asked_of
+matched_all_after = refl
+
+audited : asked_of (codes "pbx" ∷ codes "audit" ∷ codes "a.conf" ∷ []) ≡ Some (auditing (codes "a.conf"))
+unfolding clap_on_literals asked_of found_entry
+audited = refl
+
+explained : asked_of (codes "pbx" ∷ codes "explain" ∷ codes "71" ∷ []) ≡ Some (explaining 71)
+unfolding clap_on_literals asked_of found_entry
+explained = refl
+
+explained_zeros : asked_of (codes "pbx" ∷ codes "explain" ∷ codes "020" ∷ []) ≡ Some (explaining 20)
+unfolding clap_on_literals asked_of found_entry
+explained_zeros = refl
+
+explained_refusal : asked_of (codes "pbx" ∷ codes "explain" ∷ codes "53" ∷ []) ≡ Some (explaining 53)
+unfolding clap_on_literals asked_of found_entry
+explained_refusal = refl
+
+explained_name : asked_of (codes "pbx" ∷ codes "explain" ∷ codes "NoEquals" ∷ []) ≡ Some (explaining 4)
+unfolding clap_on_literals asked_of found_entry found_number
+explained_name = refl
+
+ran : asked_of (codes "pbx" ∷ codes "run" ∷ codes "a.conf" ∷ codes "b.script" ∷ []) ≡ Some (run (record { plan = codes "a.conf"; queues = None; second_plan = None; script = codes "b.script" }) None)
+unfolding clap_on_literals asked_of
+ran = refl
+
+ran_with_queues : asked_of (codes "pbx" ∷ codes "run" ∷ codes "--queues" ∷ codes "q.conf" ∷ codes "a.conf" ∷ codes "b.script" ∷ []) ≡ Some (run (record { plan = codes "a.conf"; queues = Some (codes "q.conf"); second_plan = None; script = codes "b.script" }) None)
+unfolding clap_on_literals asked_of
+ran_with_queues = refl
+
+ran_in_threads : asked_of (codes "pbx" ∷ codes "run" ∷ codes "--threads" ∷ codes "2" ∷ codes "a.conf" ∷ codes "b.script" ∷ []) ≡ Some (run (record { plan = codes "a.conf"; queues = None; second_plan = None; script = codes "b.script" }) (Some 2))
+unfolding clap_on_literals asked_of
+ran_in_threads = refl
+
+ran_in_threads_with_queues : asked_of (codes "pbx" ∷ codes "run" ∷ codes "--queues" ∷ codes "q.conf" ∷ codes "--threads" ∷ codes "64" ∷ codes "a.conf" ∷ codes "b.script" ∷ []) ≡ Some (run (record { plan = codes "a.conf"; queues = Some (codes "q.conf"); second_plan = None; script = codes "b.script" }) (Some 64))
+unfolding clap_on_literals asked_of
+ran_in_threads_with_queues = refl
+
+debugged : asked_of (codes "pbx" ∷ codes "debug" ∷ codes "--break" ∷ codes "main,s,1" ∷ codes "a.conf" ∷ codes "b.script" ∷ []) ≡ Some (debug (record { plan = codes "a.conf"; queues = None; second_plan = None; script = codes "b.script" }) (codes "main,s,1"))
+unfolding clap_on_literals asked_of
+debugged = refl
+
+debugged_with_queues : asked_of (codes "pbx" ∷ codes "debug" ∷ codes "--queues" ∷ codes "q.conf" ∷ codes "--break" ∷ codes "x" ∷ codes "a.conf" ∷ codes "b.script" ∷ []) ≡ Some (debug (record { plan = codes "a.conf"; queues = Some (codes "q.conf"); second_plan = None; script = codes "b.script" }) (codes "x"))
+unfolding clap_on_literals asked_of
+debugged_with_queues = refl
+
+ran_with_second_plan : asked_of (codes "pbx" ∷ codes "run" ∷ codes "--reload" ∷ codes "c.conf" ∷ codes "--threads" ∷ codes "2" ∷ codes "a.conf" ∷ codes "b.script" ∷ []) ≡ Some (run (record { plan = codes "a.conf"; queues = None; second_plan = Some (codes "c.conf"); script = codes "b.script" }) (Some 2))
+unfolding clap_on_literals asked_of
+ran_with_second_plan = refl
+
+debugged_with_second_plan : asked_of (codes "pbx" ∷ codes "debug" ∷ codes "--break" ∷ codes "x" ∷ codes "--reload" ∷ codes "c.conf" ∷ codes "a.conf" ∷ codes "b.script" ∷ []) ≡ Some (debug (record { plan = codes "a.conf"; queues = None; second_plan = Some (codes "c.conf"); script = codes "b.script" }) (codes "x"))
+unfolding clap_on_literals asked_of
+debugged_with_second_plan = refl
+
+-- whether each fault is to be explained
+no_command_explains : explains_of (codes "pbx" ∷ []) ≡ false
+unfolding clap_on_literals explains_of
+no_command_explains = refl
+
+check_explains : explains_of (codes "pbx" ∷ codes "check" ∷ codes "a.conf" ∷ codes "--explain" ∷ []) ≡ true
+unfolding clap_on_literals explains_of
+check_explains = refl
+
+match_explains_not : explains_of (codes "pbx" ∷ codes "match" ∷ codes "--all" ∷ codes "a.conf" ∷ codes "main" ∷ codes "5" ∷ []) ≡ false
+unfolding clap_on_literals explains_of
+match_explains_not = refl
+
+debug_explains : explains_of (codes "pbx" ∷ codes "debug" ∷ codes "--explain" ∷ codes "--break" ∷ codes "x" ∷ codes "a.conf" ∷ codes "b.script" ∷ []) ≡ true
+unfolding clap_on_literals explains_of
+debug_explains = refl
+
+dashes_explain_not : explains_of (codes "pbx" ∷ codes "run" ∷ codes "a.conf" ∷ codes "--" ∷ codes "--explain" ∷ []) ≡ false
+unfolding clap_on_literals explains_of
+dashes_explain_not = refl
+
+explain_beside_all : asked_of (codes "pbx" ∷ codes "match" ∷ codes "--all" ∷ codes "--explain" ∷ codes "a.conf" ∷ codes "main" ∷ codes "5" ∷ []) ≡ Some (matching (record { file = codes "a.conf"; context = codes "main"; text = codes "5"; priority = 1 }) true)
+unfolding clap_on_literals asked_of
+explain_beside_all = refl
+
+-- words that are refused, and words that are not
+explain_alone : fault_of pbx_app (codes "pbx" ∷ codes "--explain" ∷ []) ≡ kind.UnknownArgument ∷ []
+unfolding clap_on_literals
+explain_alone = refl
+
+no_fault : fault_of pbx_app (codes "pbx" ∷ codes "check" ∷ codes "a.conf" ∷ []) ≡ []
+unfolding clap_on_literals
+no_fault = refl
+
+unknown_command : fault_of pbx_app (codes "pbx" ∷ codes "frob" ∷ []) ≡ kind.UnknownArgument ∷ kind.InvalidSubcommand ∷ []
+unfolding clap_on_literals
+unknown_command = refl
+
+extra_word : fault_of pbx_app (codes "pbx" ∷ codes "check" ∷ codes "a.conf" ∷ codes "b.conf" ∷ []) ≡ kind.UnknownArgument ∷ []
+unfolding clap_on_literals
+extra_word = refl
+
+missing_word : fault_of pbx_app (codes "pbx" ∷ codes "run" ∷ codes "a.conf" ∷ []) ≡ kind.MissingRequiredArgument ∷ []
+unfolding clap_on_literals
+missing_word = refl
+
+missing_break : fault_of pbx_app (codes "pbx" ∷ codes "debug" ∷ codes "a.conf" ∷ codes "b.script" ∷ []) ≡ kind.MissingRequiredArgument ∷ []
+unfolding clap_on_literals
+missing_break = refl
+
+version : refusals_of (codes "pbx" ∷ codes "--version" ∷ []) ≡ kind.DisplayVersion ∷ []
+unfolding clap_on_literals refusals_of
+version = refl
+
+no_version_of_a_command : fault_of pbx_app (codes "pbx" ∷ codes "check" ∷ codes "--version" ∷ []) ≡ kind.UnknownArgument ∷ []
+unfolding clap_on_literals
+no_version_of_a_command = refl
+
+nothing_to_check : refusals_of (codes "pbx" ∷ codes "check" ∷ codes "--explain" ∷ []) ≡ kind.MissingRequiredArgument ∷ []
+unfolding clap_on_literals refusals_of
+nothing_to_check = refl
+
+-- words that are refused for their number alone
+no_priority : refusals_of (codes "pbx" ∷ codes "match" ∷ codes "a.conf" ∷ codes "main" ∷ codes "5" ∷ codes "0" ∷ []) ≡ kind.ValueValidation ∷ []
+unfolding clap_on_literals refusals_of
+no_priority = refl
+
+no_threads : refusals_of (codes "pbx" ∷ codes "run" ∷ codes "--threads" ∷ codes "65" ∷ codes "a.conf" ∷ codes "b.script" ∷ []) ≡ kind.ValueValidation ∷ []
+unfolding clap_on_literals refusals_of
+no_threads = refl
+
+no_fault_number : refusals_of (codes "pbx" ∷ codes "explain" ∷ codes "16" ∷ []) ≡ kind.ValueValidation ∷ []
+unfolding clap_on_literals refusals_of found_entry found_number
+no_fault_number = refl
+
+two_faults : refusals_of (codes "pbx" ∷ codes "explain" ∷ codes "LeftOut" ∷ []) ≡ kind.ValueValidation ∷ []
+unfolding clap_on_literals refusals_of found_entry found_number
+two_faults = refl
+
+all_twice : refusals_of (codes "pbx" ∷ codes "match" ∷ codes "--all" ∷ codes "--all" ∷ codes "a.conf" ∷ codes "main" ∷ codes "5" ∷ []) ≡ kind.ArgumentConflict ∷ []
+unfolding clap_on_literals refusals_of
+all_twice = refl
+
+all_numbers : refusals_of (codes "pbx" ∷ codes "run" ∷ codes "--threads" ∷ codes "64" ∷ codes "a.conf" ∷ codes "b.script" ∷ []) ≡ []
+unfolding clap_on_literals refusals_of
+all_numbers = refl

@@ -1,0 +1,271 @@
+-- What the words of a command line ask for. Which word belongs to which name of a command is what clap's definitions say
+-- of the commands below.
+use Rattle.std.specs.Prelude.{ℕ, Bool, true, false, String, string_bytes, List, [], ◌∷◌, Option, Some, None, nat_lt, map, codes, if◌then◌else◌}
+use Rattle.std.specs.Option.{option_and_then, option_map, option_map_or}
+use Rattle.std.specs.declared.alloc.Global.{Global}
+use Rattle.clap.specs.Simple.{App, new_app, new_rule, on_top, with_rule, with_subcommand, subcommand_of}
+use Rattle.clap.specs.Walk.{Row, Rule, first_of}
+use Rattle.clap.specs.declared.builder.action.ArgAction.TheVariants.{SetTrue}
+use Rattle.dp_conf.specs.Words.{same_text}
+use Rattle.dp_commands.specs.Script.{number_within}
+use Rattle.dp_conf.specs.Numbers.{most_priority}
+use Rattle.dp_program.specs.Entries.{fault_named, fault_numbered}
+use Rattle.dp_program.specs.Requests.{RequestOf, joined, check, check_queues, check_both, listing, auditing, matching, explaining, run, debug, reaching, QuestionOf}
+use Rattle.dp_program.specs.Texts.{OfRun}
+
+-- a word that has to be given
+abbrev pub required_word : List ℕ → Rule
+required_word name = record (new_rule name) { required = true }
+
+-- a word that may be left out
+abbrev pub free_word : List ℕ → Rule
+free_word name = new_rule name
+
+-- a word that may be left out, with what stands for it then
+abbrev pub word_or : List ℕ → List ℕ → Rule
+word_or name default = record (new_rule name) { defaults = default ∷ [] }
+
+-- a word that may be given after `--` and a name
+abbrev pub named_word : List ℕ → List ℕ → Rule
+named_word name long = record (new_rule name) { long = Some long }
+
+-- a word that has to be given after `--` and a name
+abbrev pub required_named_word : List ℕ → List ℕ → Rule
+required_named_word name long = record (named_word name long) { required = true }
+
+-- a flag that may be given after `--`
+abbrev pub flag : List ℕ → List ℕ → Rule
+flag name long = record (named_word name long) { action = Some SetTrue }
+
+-- the word of a dialplan's file
+abbrev pub file_word : Rule
+file_word = required_word (codes "FILE")
+
+-- a command with the flag that asks for an explanation of each fault
+abbrev pub with_explain : App → App
+with_explain app = with_rule app (flag (codes "explain") (codes "explain"))
+
+-- a command whose one word is a dialplan's file
+abbrev pub file_app : List ℕ → App
+file_app name = with_explain (with_rule (new_app name) file_word)
+
+-- a command with the word of a file of queues
+abbrev pub with_queues : App → App
+with_queues app = with_rule app (named_word (codes "QUEUES") (codes "queues"))
+
+-- a command with the words of the files that a run may have: those of its queues and of its second dialplan
+abbrev pub with_more_files : App → App
+with_more_files app =
+    with_rule (with_queues app) (named_word (codes "DIALPLAN") (codes "reload"))
+
+-- a command with the words of the files that a run has: those of its dialplan and of its script
+abbrev pub with_files : App → App
+with_files app = with_rule (with_rule app file_word) (required_word (codes "SCRIPT"))
+
+-- a command with the words of a look-up: those of its context, of what was dialled, and of the priority that is asked for
+abbrev pub with_lookup : App → App
+with_lookup app =
+    with_rule (with_rule (with_rule app (required_word (codes "CONTEXT"))) (required_word (codes "TEXT")))
+    (word_or (codes "PRIORITY") (codes "1"))
+
+-- `check [--queues QUEUES] [--explain] [FILE]`
+abbrev pub check_app : App
+check_app = with_explain (with_rule (with_queues (new_app (codes "check"))) (free_word (codes "FILE")))
+
+-- `list [--explain] FILE`
+abbrev pub list_app : App
+list_app = file_app (codes "list")
+
+-- `match [--all] [--explain] FILE CONTEXT TEXT [PRIORITY]`
+abbrev pub match_app : App
+match_app =
+    with_explain (with_lookup (with_rule (with_rule (new_app (codes "match")) (flag (codes "all") (codes "all"))) file_word))
+
+-- `audit [--explain] FILE`
+abbrev pub audit_app : App
+audit_app = file_app (codes "audit")
+
+-- `explain [--explain] CODE`
+abbrev pub explain_app : App
+explain_app = with_explain (with_rule (new_app (codes "explain")) (required_word (codes "CODE")))
+
+-- `run [--queues QUEUES] [--reload DIALPLAN] [--threads N] [--explain] FILE SCRIPT`
+abbrev pub run_app : App
+run_app =
+    with_explain (with_files (with_rule (with_more_files (new_app (codes "run"))) (named_word (codes "N") (codes "threads"))))
+
+-- `debug [--queues QUEUES] [--reload DIALPLAN] --break CONTEXT,EXTEN,PRIORITY [--explain] FILE SCRIPT`
+abbrev pub debug_app : App
+debug_app =
+    with_explain (with_files (with_rule (with_more_files (new_app (codes "debug")))
+    (required_named_word (codes "CONTEXT,EXTEN,PRIORITY") (codes "break"))))
+
+-- the words of what may come in: the contexts where calls do, and the bytes of extensions and of callers' numbers
+abbrev pub with_outside : App → App
+with_outside app =
+    with_rule (with_rule (with_rule app (named_word (codes "CONTEXTS") (codes "start"))) (named_word (codes "BYTES") (codes "exten")))
+    (named_word (codes "NUMBERS") (codes "caller"))
+
+-- `reach [--queues QUEUES] [--start CONTEXTS] [--exten BYTES] [--caller NUMBERS] [--to TARGET] [--explain] FILE CONTEXT`
+abbrev pub reach_app : App
+reach_app =
+    with_explain (with_rule (with_rule (with_rule (with_outside (with_queues (new_app (codes "reach")))) (named_word (codes "TARGET") (codes "to")))
+    file_word) (required_word (codes "CONTEXT")))
+
+-- a command that says its version after `--version` or `-V`
+abbrev pub with_version : App → App
+with_version app = on_top (λ shape. record shape { has_version = true }) app
+
+-- the program without its commands
+abbrev pub bare_app : App
+bare_app = with_version (new_app (codes "pbx"))
+
+-- the program's commands
+abbrev pub pbx_app : App
+pbx_app =
+    with_subcommand (with_subcommand (with_subcommand (with_subcommand (with_subcommand (with_subcommand (with_subcommand (with_subcommand bare_app
+    check_app.top) list_app.top) match_app.top) run_app.top) debug_app.top) audit_app.top) reach_app.top) explain_app.top
+
+-- the priority that a word writes: digits, and a number from 1 to the greatest priority
+abbrev pub priority_in : List ℕ → Option ℕ
+priority_in word = option_and_then (λ n. if nat_lt 0 n then Some n else None) (number_within most_priority word)
+
+-- the greatest number of threads of a run
+abbrev pub most_threads : ℕ
+most_threads = 64
+
+-- the number of threads that a word writes: digits, and a number from 1 to the greatest
+abbrev pub threads_in : List ℕ → Option ℕ
+threads_in word = option_and_then (λ n. if nat_lt 0 n then Some n else None) (number_within most_threads word)
+
+-- the greatest number that is read as that of a fault
+abbrev pub most_code : ℕ
+most_code = 4294967295
+
+-- the first of two, where it is there, and else the second
+abbrev pub or_next : Option ℕ → Option ℕ → Option ℕ
+or_next None second = second
+or_next (Some first) second = Some first
+
+-- the fault of which a word writes the number, in digits, or the name, where just one has it
+abbrev pub fault_in : List ℕ → Option ℕ
+fault_in word = or_next (option_and_then fault_numbered (number_within most_code word)) (fault_named word)
+
+-- whether a flag is given, which has the value `true` then, and `false` else
+abbrev pub is_set : List ℕ → List Row → Bool
+is_set name words = option_map_or (λ value. same_text value (codes "true")) (first_of name words) false
+
+-- what `check` asks for, by the file of its dialplan and that of its queues; with neither it asks for nothing
+abbrev pub check_request : Option (List ℕ) → Option (List ℕ) → Option RequestOf
+check_request None None = None
+check_request None (Some queues) = Some (check_queues queues)
+check_request (Some file) None = Some (check file)
+check_request (Some file) (Some queues) = Some (check_both file queues)
+
+-- the same, by its words
+abbrev pub check_asked : List Row → Option RequestOf
+check_asked words = check_request (first_of (codes "FILE") words) (first_of (codes "QUEUES") words)
+
+-- what `list` asks for, by its words
+abbrev pub list_asked : List Row → Option RequestOf
+list_asked words = option_map listing (first_of (codes "FILE") words)
+
+-- what `match` asks for at a priority, by its other words
+abbrev pub match_at : List Row → ℕ → Option RequestOf
+match_at words priority =
+    option_and_then (λ file. option_and_then (λ context. option_map
+    (λ text. matching (record { file = file; context = context; text = text; priority = priority }) (is_set (codes "all") words))
+    (first_of (codes "TEXT") words)) (first_of (codes "CONTEXT") words)) (first_of (codes "FILE") words)
+
+-- what `match` asks for, by its words
+abbrev pub match_asked : List Row → Option RequestOf
+match_asked words =
+    option_and_then (λ word. option_and_then (match_at words) (priority_in word)) (first_of (codes "PRIORITY") words)
+
+-- what `audit` asks for, by its words
+abbrev pub audit_asked : List Row → Option RequestOf
+audit_asked words = option_map auditing (first_of (codes "FILE") words)
+
+-- what `explain` asks for, by its words
+abbrev pub explain_asked : List Row → Option RequestOf
+explain_asked words = option_and_then (λ word. option_map explaining (fault_in word)) (first_of (codes "CODE") words)
+
+-- the files of a run, by its words
+abbrev pub run_paths : List Row → Option (OfRun (List ℕ))
+run_paths words =
+    option_and_then (λ file. option_map (λ script.
+    record { plan = file; queues = first_of (codes "QUEUES") words; second_plan = first_of (codes "DIALPLAN") words; script = script })
+    (first_of (codes "SCRIPT") words)) (first_of (codes "FILE") words)
+
+-- what `run` asks for in so many threads, where their number is given, by its other words
+abbrev pub run_in : List Row → Option ℕ → Option RequestOf
+run_in words threads = option_map (λ paths. run paths threads) (run_paths words)
+
+-- what `run` asks for, by its words and the one after `--threads`
+abbrev pub run_by : List Row → Option (List ℕ) → Option RequestOf
+run_by words None = run_in words None
+run_by words (Some word) = option_and_then (λ threads. run_in words (Some threads)) (threads_in word)
+
+-- what `run` asks for, by its words
+abbrev pub run_asked : List Row → Option RequestOf
+run_asked words = run_by words (first_of (codes "N") words)
+
+-- what `debug` asks for, by its words
+abbrev pub debug_asked : List Row → Option RequestOf
+debug_asked words =
+    option_and_then (λ paths. option_map (debug paths) (first_of (codes "CONTEXT,EXTEN,PRIORITY") words)) (run_paths words)
+
+-- what `reach` asks of a file and a context, by its other words
+abbrev pub reach_at : List Row → List ℕ → List ℕ → QuestionOf
+reach_at words file context = record {
+  file = file;
+  queues = first_of (codes "QUEUES") words;
+  ask = record {
+    context = context;
+    target = first_of (codes "TARGET") words;
+    starts = first_of (codes "CONTEXTS") words;
+    exten = first_of (codes "BYTES") words;
+    caller = first_of (codes "NUMBERS") words;
+  };
+}
+
+-- what `reach` asks for, by its words
+abbrev pub reach_asked : List Row → Option RequestOf
+reach_asked words =
+    option_and_then (λ file. option_map (λ context. reaching (reach_at words file context)) (first_of (codes "CONTEXT") words))
+    (first_of (codes "FILE") words)
+
+-- what a command of a name asks for, by its words
+abbrev pub command_asked : List ℕ → List Row → Option RequestOf
+command_asked name words =
+    if same_text name (codes "check") then check_asked words
+    else if same_text name (codes "list") then list_asked words
+    else if same_text name (codes "match") then match_asked words
+    else if same_text name (codes "run") then run_asked words
+    else if same_text name (codes "debug") then debug_asked words
+    else if same_text name (codes "audit") then audit_asked words
+    else if same_text name (codes "reach") then reach_asked words
+    else if same_text name (codes "explain") then explain_asked words
+    else None
+
+-- the same, where there is no command too
+abbrev pub asked_by : Option (List ℕ × List Row) → Option RequestOf
+asked_by None = Some joined
+asked_by (Some command) = command_asked command.0 command.1
+
+-- the words as their bytes
+abbrev pub texts : List (String Global) → List (List ℕ)
+texts words = map string_bytes words
+
+-- what a command line asks for, by all its words, the first of which is the program's own name
+unfoldable pub asked_of : List (List ℕ) → Option RequestOf
+asked_of words = asked_by (subcommand_of pbx_app words)
+
+-- whether each fault is to be explained, by the words of a command; where there is none it is not
+abbrev pub explains_by : Option (List ℕ × List Row) → Bool
+explains_by None = false
+explains_by (Some command) = is_set (codes "explain") command.1
+
+-- the same, by all words of a command line
+unfoldable pub explains_of : List (List ℕ) → Bool
+explains_of words = explains_by (subcommand_of pbx_app words)

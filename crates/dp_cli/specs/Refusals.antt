@@ -1,0 +1,52 @@
+-- The kinds with which words are refused. Those of words that are no command line of the program's are clap's; after them
+-- stand those of words that are one, but for a number.
+use Rattle.std.specs.Prelude.{ℕ, List, [], ◌∷◌, Option, Some, None, codes, if◌then◌else◌}
+use Rattle.clap.specs.Faults.{fault_of}
+use Rattle.clap.specs.Kinds.{Kinds, or_else}
+use Rattle.clap.specs.Simple.{subcommand_of}
+use Rattle.clap.specs.Walk.{Row, first_of}
+use Rattle.clap.specs.declared.error.kind.ErrorKind.TheVariants.{MissingRequiredArgument, ValueValidation}
+use Rattle.dp_conf.specs.Words.{same_text}
+use Rattle.dp_program.specs.Requests.{RequestOf}
+use Rattle.dp_cli.specs.CommandLine.{pbx_app, asked_by, fault_in, priority_in, threads_in}
+
+-- the kind of an invalid value where there is no number
+abbrev pub unless_number : Option ℕ → Kinds
+unless_number None = ValueValidation ∷ []
+unless_number (Some number) = []
+
+-- the kinds of a word that has to write a number, where it is given
+abbrev pub number_kinds : (List ℕ → Option ℕ) → Option (List ℕ) → Kinds
+number_kinds number_in None = []
+number_kinds number_in (Some word) = unless_number (number_in word)
+
+-- those of a command: of the priority of `match`, of the threads of `run`, and of the number of `explain`
+abbrev pub command_kinds : List ℕ → List Row → Kinds
+command_kinds name words =
+    if same_text name (codes "check") then []
+    else if same_text name (codes "list") then []
+    else if same_text name (codes "match") then number_kinds priority_in (first_of (codes "PRIORITY") words)
+    else if same_text name (codes "run") then number_kinds threads_in (first_of (codes "N") words)
+    else if same_text name (codes "debug") then []
+    else if same_text name (codes "audit") then []
+    else if same_text name (codes "reach") then []
+    else if same_text name (codes "explain") then number_kinds fault_in (first_of (codes "CODE") words)
+    else []
+
+-- the same, where there is no command too
+abbrev pub kinds_by : Option (List ℕ × List Row) → Kinds
+kinds_by None = []
+kinds_by (Some command) = command_kinds command.0 command.1
+
+-- the kind of words that ask for nothing, since one that is required is missing
+abbrev pub missing_kinds : Option RequestOf → Kinds
+missing_kinds None = MissingRequiredArgument ∷ []
+missing_kinds (Some asked) = []
+
+-- those of what clap made of the words
+abbrev pub subcommand_kinds : Option (List ℕ × List Row) → Kinds
+subcommand_kinds command = or_else (kinds_by command) (missing_kinds (asked_by command))
+
+-- the kinds with which words are refused, the first of which is the program's own name; none where they ask for something
+unfoldable pub refusals_of : List (List ℕ) → Kinds
+refusals_of words = or_else (fault_of pbx_app words) (subcommand_kinds (subcommand_of pbx_app words))

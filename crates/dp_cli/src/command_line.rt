@@ -1,0 +1,378 @@
+//! The command line: what its words ask for.
+ghost use Rattle.std.specs.Prelude.{◌≡◌, IfOk, IfErr, Some, is_some, codes, option_map, true};
+ghost use Rattle.std.specs.Option.{option_and_then};
+ghost use Rattle.clap.specs.Faults.{fault_of};
+ghost use Rattle.clap.specs.Kinds.{FailsBy};
+ghost use Rattle.clap.specs.Matches.{found_of};
+ghost use Rattle.clap.specs.Simple.{subcommand_of, subcommand_rows_of};
+ghost use Rattle.clap.specs.Takes.{takes};
+ghost use Rattle.clap.specs.Values.{kind_of};
+ghost use Rattle.clap.specs.Walk.{first_of, rows_of};
+ghost use Rattle.clap.specs.declared.error.kind.ErrorKind.TheVariants.{MissingRequiredArgument, OutOfMemory, ValueValidation};
+ghost use Rattle.dp_commands.specs.Script.{number_within};
+ghost use Rattle.dp_program.specs.Entries.{fault_numbered};
+ghost use Rattle.dp_program.specs.Requests.{request_asked};
+ghost use Rattle.dp_program.specs.Texts.{paths_of};
+ghost use Rattle.dp_cli.specs.CommandLine as spec;
+ghost use Rattle.dp_cli.specs.Refusals as refusals;
+
+use crate::commands::{
+    check_of_dialplan, explain_command, match_command, pbx_command, run_command,
+};
+use clap::error::ErrorKind;
+use clap::{ArgMatches, Command, Error};
+use dp_commands::number_within;
+use dp_plan::{MOST_PRIORITY, NoMemory, Priority};
+use dp_program::{CheckFiles, FaultNumber, Lookup, ReachQuestion, Request, RunFiles};
+use std::alloc::Global;
+
+/// What a command line asks for.
+#[derive(Clone, Copy, Debug, PartialEq, Eq)]
+pub struct Invocation<'a> {
+    /// What the program is to do.
+    pub request: Request<'a>,
+    /// Whether each fault is to be explained: the flag `--explain` stands among the words of the command.
+    pub explains: bool,
+}
+
+/// The greatest number of threads of a run; this is the program's own limit.
+const MOST_THREADS: u32 = 64;
+
+/// The priority that a word writes: digits, and a number from 1 to 2,147,483,647.
+fn read_priority(word: &str) -> Option<Priority>
+    ensures { result ≡ spec.priority_in word.now }
+{
+    let number = number_within(MOST_PRIORITY, word.as_bytes())?;
+    Priority::new(number)
+}
+
+/// The refusal of a command line for a command, which help calls by its whole name.
+fn refuse<'a>(
+    command: Result<Command<'a>, NoMemory>,
+    name: &'a str,
+    kind: ErrorKind,
+    message: &str,
+) -> Result<Error, NoMemory>
+    ensures { IfOk result (λ error. kind_of error ≡ kind) }
+{
+    command?.bin_name(name)?.error(kind, message)
+}
+
+/// The refusal of a word that writes no priority.
+fn refuse_priority(alloc: Global, word: &str) -> Result<Error, NoMemory>
+    ensures { IfOk result (λ error. kind_of error ≡ ValueValidation) }
+{
+    let message = format!(in alloc;
+        "invalid value '{word}' for '[PRIORITY]': a priority is a number from 1 to {MOST_PRIORITY}"
+    )?;
+    refuse(
+        match_command(alloc),
+        "pbx match",
+        ErrorKind::ValueValidation,
+        &message,
+    )
+}
+
+/// The number of threads that a word writes: digits, and a number from 1 to 64.
+fn read_threads(word: &str) -> Option<u32>
+    ensures { result ≡ spec.threads_in word.now }
+{
+    let number = number_within(MOST_THREADS, word.as_bytes())?;
+    if number == 0 {
+        return None;
+    }
+    Some(number)
+}
+
+/// The refusal of a word that writes no number of threads.
+fn refuse_threads(alloc: Global, word: &str) -> Result<Error, NoMemory>
+    ensures { IfOk result (λ error. kind_of error ≡ ValueValidation) }
+{
+    let message = format!(in alloc;
+        "invalid value '{word}' for '--threads <N>': the number of threads is from 1 to {MOST_THREADS}"
+    )?;
+    refuse(
+        run_command(alloc),
+        "pbx run",
+        ErrorKind::ValueValidation,
+        &message,
+    )
+}
+
+/// The fault of which a word writes the number, in digits.
+fn read_fault_number(word: &str) -> Option<FaultNumber>
+    ensures { result ≡ option_and_then fault_numbered (number_within spec.most_code word.now) }
+{
+    let number = number_within(u32::MAX, word.as_bytes())?;
+    FaultNumber::new(number)
+}
+
+/// The fault of which a word writes the number, or the name.
+fn read_fault(word: &str) -> Option<FaultNumber>
+    ensures { result ≡ spec.fault_in word.now }
+{
+    match read_fault_number(word) {
+        Some(fault) => Some(fault),
+        None => FaultNumber::named(word),
+    }
+}
+
+/// The refusal of a word that writes no fault.
+fn refuse_fault(alloc: Global, word: &str) -> Result<Error, NoMemory>
+    ensures { IfOk result (λ error. kind_of error ≡ ValueValidation) }
+{
+    let message = format!(in alloc;
+        "invalid value '{word}' for '<CODE>': neither the number of a fault nor the name of just one"
+    )?;
+    refuse(
+        explain_command(alloc),
+        "pbx explain",
+        ErrorKind::ValueValidation,
+        &message,
+    )
+}
+
+/// The word of this name among those of a command.
+fn word_of<'a>(given: &ArgMatches<'a>, name: &str) -> Option<&'a str>
+    ensures { option_map (λ word. word.now) result ≡ first_of name.now (rows_of (found_of given.now)) }
+{
+    given.get_str(name)
+}
+
+/// Whether the flag of this name is given.
+fn is_set(given: &ArgMatches<'_>, name: &str) -> bool
+    ensures { result ≡ spec.is_set name.now (rows_of (found_of given.now)) }
+{
+    match word_of(given, name) {
+        Some(word) => word == "true",
+        None => false,
+    }
+}
+
+/// What the words of `check` ask for, or None where they name no file.
+fn check_request<'a>(given: &ArgMatches<'a>) -> Option<Request<'a>>
+    ensures { option_map request_asked result ≡ spec.check_asked (rows_of (found_of given.now)) }
+{
+    match (word_of(given, "FILE"), word_of(given, "QUEUES")) {
+        (None, None) => None,
+        (None, Some(queues)) => Some(Request::CheckQueues { queues }),
+        (Some(file), None) => Some(Request::Check { file }),
+        (Some(plan), Some(queues)) => Some(Request::CheckBoth {
+            files: CheckFiles { plan, queues },
+        }),
+    }
+}
+
+/// What the words of `list` ask for.
+fn list_request<'a>(given: &ArgMatches<'a>) -> Option<Request<'a>>
+    ensures { option_map request_asked result ≡ spec.list_asked (rows_of (found_of given.now)) }
+{
+    Some(Request::Listing {
+        file: word_of(given, "FILE")?,
+    })
+}
+
+/// What the words of `audit` ask for.
+fn audit_request<'a>(given: &ArgMatches<'a>) -> Option<Request<'a>>
+    ensures { option_map request_asked result ≡ spec.audit_asked (rows_of (found_of given.now)) }
+{
+    Some(Request::Audit {
+        file: word_of(given, "FILE")?,
+    })
+}
+
+/// What the words of `match` ask for, or its refusal where they name no priority.
+fn match_request<'a>(alloc: Global, given: &ArgMatches<'a>) -> Result<Option<Request<'a>>, Error>
+    ensures asked { IfOk result (λ request. option_map request_asked request
+        ≡ spec.match_asked (rows_of (found_of given.now))) }
+    ensures kinds { FailsBy (refusals.number_kinds spec.priority_in
+        (first_of (codes "PRIORITY") (rows_of (found_of given.now)))) result }
+{
+    let Some(word) = word_of(given, "PRIORITY") else {
+        return Ok(None);
+    };
+    match read_priority(word) {
+        Some(priority) => Ok(match_at(given, priority)),
+        None => Err(refuse_priority(alloc, word)?),
+    }
+}
+
+/// What the other words of `match` ask for at a priority.
+fn match_at<'a>(given: &ArgMatches<'a>, priority: Priority) -> Option<Request<'a>>
+    ensures { option_map request_asked result ≡ spec.match_at (rows_of (found_of given.now)) priority }
+{
+    let lookup = Lookup {
+        file: word_of(given, "FILE")?,
+        context: word_of(given, "CONTEXT")?,
+        text: word_of(given, "TEXT")?,
+        priority,
+    };
+    let all = is_set(given, "all");
+    Some(Request::Match { lookup, all })
+}
+
+/// What the words of `explain` ask for, or its refusal where they name no fault.
+fn explain_request<'a>(alloc: Global, given: &ArgMatches<'a>) -> Result<Option<Request<'a>>, Error>
+    ensures asked { IfOk result (λ request. option_map request_asked request
+        ≡ spec.explain_asked (rows_of (found_of given.now))) }
+    ensures kinds { FailsBy (refusals.number_kinds spec.fault_in
+        (first_of (codes "CODE") (rows_of (found_of given.now)))) result }
+{
+    let Some(word) = word_of(given, "CODE") else {
+        return Ok(None);
+    };
+    match read_fault(word) {
+        Some(fault) => Ok(Some(Request::Explain { fault })),
+        None => Err(refuse_fault(alloc, word)?),
+    }
+}
+
+/// The files that the words of a run name.
+fn run_files<'a>(given: &ArgMatches<'a>) -> Option<RunFiles<'a>>
+    ensures { option_map paths_of result ≡ spec.run_paths (rows_of (found_of given.now)) }
+{
+    Some(RunFiles {
+        plan: word_of(given, "FILE")?,
+        queues: word_of(given, "QUEUES"),
+        second_plan: word_of(given, "DIALPLAN"),
+        script: word_of(given, "SCRIPT")?,
+    })
+}
+
+/// What the words of `run` ask for, or its refusal where they name threads but no number of them.
+fn run_request<'a>(alloc: Global, given: &ArgMatches<'a>) -> Result<Option<Request<'a>>, Error>
+    ensures asked { IfOk result (λ request. option_map request_asked request ≡ spec.run_asked (rows_of (found_of given.now))) }
+    ensures kinds { FailsBy (refusals.number_kinds spec.threads_in
+        (first_of (codes "N") (rows_of (found_of given.now)))) result }
+{
+    let Some(word) = word_of(given, "N") else {
+        return Ok(run_in(given, None));
+    };
+    match read_threads(word) {
+        Some(threads) => Ok(run_in(given, Some(threads))),
+        None => Err(refuse_threads(alloc, word)?),
+    }
+}
+
+/// What the other words of `run` ask for, in threads where their number is given.
+fn run_in<'a>(given: &ArgMatches<'a>, threads: Option<u32>) -> Option<Request<'a>>
+    ensures { option_map request_asked result ≡ spec.run_in (rows_of (found_of given.now)) threads }
+{
+    Some(Request::Run {
+        files: run_files(given)?,
+        threads,
+    })
+}
+
+/// What the words of `debug` ask for.
+fn debug_request<'a>(given: &ArgMatches<'a>) -> Option<Request<'a>>
+    ensures { option_map request_asked result ≡ spec.debug_asked (rows_of (found_of given.now)) }
+{
+    Some(Request::Debug {
+        files: run_files(given)?,
+        held: word_of(given, "CONTEXT,EXTEN,PRIORITY")?,
+    })
+}
+
+/// What the words of `reach` ask for.
+fn reach_request<'a>(given: &ArgMatches<'a>) -> Option<Request<'a>>
+    ensures { option_map request_asked result ≡ spec.reach_asked (rows_of (found_of given.now)) }
+{
+    let question = ReachQuestion {
+        file: word_of(given, "FILE")?,
+        queues: word_of(given, "QUEUES"),
+        context: word_of(given, "CONTEXT")?,
+        target: word_of(given, "TARGET"),
+        starts: word_of(given, "CONTEXTS"),
+        exten: word_of(given, "BYTES"),
+        caller: word_of(given, "NUMBERS"),
+    };
+    Some(Request::Reach { question })
+}
+
+/// What the words of a command ask for, or None where one that is required is missing.
+fn command_request<'a>(
+    alloc: Global,
+    name: &str,
+    given: &ArgMatches<'a>,
+) -> Result<Option<Request<'a>>, Error>
+    ensures asked { IfOk result (λ request. option_map request_asked request
+        ≡ spec.command_asked name.now (rows_of (found_of given.now))) }
+    ensures kinds { FailsBy (refusals.command_kinds name.now (rows_of (found_of given.now))) result }
+{
+    match name {
+        "check" => Ok(check_request(given)),
+        "list" => Ok(list_request(given)),
+        "match" => match_request(alloc, given),
+        "run" => run_request(alloc, given),
+        "debug" => Ok(debug_request(given)),
+        "audit" => Ok(audit_request(given)),
+        "reach" => Ok(reach_request(given)),
+        "explain" => explain_request(alloc, given),
+        _ => Ok(None),
+    }
+}
+
+/// Whether the matches of the program's commands ask that each fault be explained.
+fn explains(matches: &ArgMatches<'_>) -> bool
+    ensures { result ≡ spec.explains_by (subcommand_rows_of matches.now) }
+{
+    match matches.subcommand() {
+        Some((_, given)) => is_set(given, "explain"),
+        None => false,
+    }
+}
+
+/// What the matches of the program's commands ask for, or None where a word that is required is missing.
+fn request_of<'a>(alloc: Global, matches: &ArgMatches<'a>) -> Result<Option<Request<'a>>, Error>
+    ensures asked { IfOk result (λ request. option_map request_asked request ≡ spec.asked_by (subcommand_rows_of matches.now)) }
+    ensures kinds { FailsBy (refusals.kinds_by (subcommand_rows_of matches.now)) result }
+{
+    match matches.subcommand() {
+        Some((name, given)) => command_request(alloc, name, given),
+        None => Ok(Some(Request::Joined)),
+    }
+}
+
+/// The refusal of a command line that lacks a word that is required. Of each command but `check` the definition of its words refuses it
+/// before, so that it is told of the dialplan that `check` lacks where it has no queues either.
+fn refuse_missing(alloc: Global, explains: bool) -> Result<Error, NoMemory>
+    ensures { IfOk result (λ error. kind_of error ≡ MissingRequiredArgument) }
+{
+    refuse(
+        check_of_dialplan(alloc, explains),
+        "pbx check",
+        ErrorKind::MissingRequiredArgument,
+        "the following required arguments were not provided:\n  <FILE>",
+    )
+}
+
+/// What `clap` makes of the words.
+fn read_matches<'a>(alloc: Global, words: &'a [String]) -> Result<ArgMatches<'a>, Error>
+    ensures command { IfOk result (λ matches. subcommand_rows_of matches
+        ≡ subcommand_of spec.pbx_app (spec.texts words.now)) }
+    ensures refused { IfErr result (λ error. takes spec.pbx_app (spec.texts words.now) ≡ true
+        → kind_of error ≡ OutOfMemory) }
+    ensures faults { FailsBy (fault_of spec.pbx_app (spec.texts words.now)) result }
+{
+    let commands = pbx_command(alloc)?;
+    commands.try_get_matches_from(words)
+}
+
+/// What a command line asks for, the program's own name first among its words; or the help that it asks for, or what is
+/// wrong with it.
+#[tactic(auto, unfolding(crate::specs::CommandLine::asked_of, crate::specs::CommandLine::explains_of, crate::specs::Refusals::refusals_of))]
+pub fn read_words<'a>(alloc: Global, words: &'a [String]) -> Result<Invocation<'a>, Error>
+    ensures asked { IfOk result (λ read. spec.asked_of (spec.texts words.now) ≡ Some (request_asked read.request)) }
+    ensures explains { IfOk result (λ read. spec.explains_of (spec.texts words.now) ≡ read.explains) }
+    ensures refused { IfErr result (λ error. takes spec.pbx_app (spec.texts words.now) ≡ true
+        → is_some (spec.asked_of (spec.texts words.now)) ≡ true → kind_of error ≡ OutOfMemory) }
+    ensures kinds { FailsBy (refusals.refusals_of (spec.texts words.now)) result }
+{
+    let matches = read_matches(alloc, words)?;
+    let explains = explains(&matches);
+    match request_of(alloc, &matches)? {
+        Some(request) => Ok(Invocation { request, explains }),
+        None => Err(refuse_missing(alloc, explains)?),
+    }
+}

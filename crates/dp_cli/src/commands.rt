@@ -1,0 +1,453 @@
+//! The program's commands, with what their help says. Each function takes what was made before, or its refusal for want of
+//! memory, which it hands on.
+ghost use Rattle.std.specs.Prelude.{◌≡◌, false};
+ghost use Rattle.clap.specs.Simple.{App, app_of, new_app, with_rule, with_subcommand};
+ghost use Rattle.clap.specs.Walk.{rule_of};
+ghost use Rattle.clap.specs.declared.builder.command.Command.TheViews.{out-Command as fields_of};
+ghost use Rattle.dp_cli.specs.CommandLine as spec;
+ghost use Rattle.dp_cli.specs.steps.Made.{Makes};
+
+use crate::help::{
+    AUDIT_NOTES, CHECK_NOTES, DEBUG_NOTES, EXPLAIN_NOTES, LIST_NOTES, MATCH_NOTES, PBX_NOTES,
+    REACH_NOTES, RUN_NOTES, VERSION,
+};
+use clap::{Arg, ArgAction, Command};
+use dp_plan::NoMemory;
+use std::alloc::Global;
+
+/// A command with no words yet, and what its help says above and below them.
+fn command_of<'a>(
+    alloc: Global,
+    name: &'a str,
+    about: &'a str,
+    notes: &'a str,
+) -> Result<Command<'a>, NoMemory>
+    ensures { Makes (new_app name.now) result }
+{
+    Ok(Command::new(alloc, name).about(about).after_help(notes))
+}
+
+/// The command with one more word.
+fn with_word<'a>(
+    command: Result<Command<'a>, NoMemory>,
+    word: Arg<'a>,
+) -> Result<Command<'a>, NoMemory>
+    requires { word.global ≡ false }
+    ensures { (app : App) → Makes app command.entry → Makes (with_rule app (rule_of word.entry)) result }
+{
+    let with = command?.arg(word)?;
+    Ok(with)
+}
+
+/// A word that has to be given.
+fn required_word<'a>(alloc: Global, name: &'a str, help: &'a str) -> Arg<'a>
+    ensures rule { rule_of result ≡ spec.required_word name.now }
+    ensures local { result.global ≡ false }
+{
+    Arg::new(alloc, name).required(true).help(help)
+}
+
+/// A word that may be left out.
+fn free_word<'a>(alloc: Global, name: &'a str, help: &'a str) -> Arg<'a>
+    ensures rule { rule_of result ≡ spec.free_word name.now }
+    ensures local { result.global ≡ false }
+{
+    Arg::new(alloc, name).help(help)
+}
+
+/// A word that may be left out, with what stands for it then.
+fn optional_word<'a>(alloc: Global, name: &'a str, help: &'a str, default: &'a str) -> Arg<'a>
+    ensures rule { rule_of result ≡ spec.word_or name.now default.now }
+    ensures local { result.global ≡ false }
+{
+    Arg::new(alloc, name).help(help).default_value(default)
+}
+
+/// A word that may be given after `--` and a name.
+fn named_word<'a>(alloc: Global, name: &'a str, long: &'a str, help: &'a str) -> Arg<'a>
+    ensures rule { rule_of result ≡ spec.named_word name.now long.now }
+    ensures local { result.global ≡ false }
+{
+    Arg::new(alloc, name).long(long).help(help)
+}
+
+/// A word that has to be given after `--` and a name.
+fn required_named_word<'a>(alloc: Global, name: &'a str, long: &'a str, help: &'a str) -> Arg<'a>
+    ensures rule { rule_of result ≡ spec.required_named_word name.now long.now }
+    ensures local { result.global ≡ false }
+{
+    Arg::new(alloc, name).long(long).required(true).help(help)
+}
+
+/// A flag that may be given after `--`.
+fn flag<'a>(alloc: Global, name: &'a str, long: &'a str, help: &'a str) -> Arg<'a>
+    ensures rule { rule_of result ≡ spec.flag name.now long.now }
+    ensures local { result.global ≡ false }
+{
+    Arg::new(alloc, name)
+        .long(long)
+        .action(ArgAction::SetTrue)
+        .help(help)
+}
+
+/// The command with the word of its dialplan's file.
+fn with_dialplan<'a>(
+    alloc: Global,
+    command: Result<Command<'a>, NoMemory>,
+) -> Result<Command<'a>, NoMemory>
+    ensures { (app : App) → Makes app command.entry → Makes (with_rule app spec.file_word) result }
+{
+    let file = required_word(alloc, "FILE", "The dialplan, as extensions.conf");
+    with_word(command, file)
+}
+
+/// The command with the flag `--explain`, which each command has as the last of its options.
+fn with_explain<'a>(
+    alloc: Global,
+    command: Result<Command<'a>, NoMemory>,
+) -> Result<Command<'a>, NoMemory>
+    ensures { (app : App) → Makes app command.entry → Makes (spec.with_explain app) result }
+{
+    let explain = flag(
+        alloc,
+        "explain",
+        "explain",
+        "Print below each fault, and below each note of `check`, where it stands and what the manual says of it",
+    );
+    with_word(command, explain)
+}
+
+/// A command whose one word is its dialplan's file.
+fn file_command<'a>(
+    alloc: Global,
+    name: &'a str,
+    about: &'a str,
+    notes: &'a str,
+) -> Result<Command<'a>, NoMemory>
+    ensures { Makes (spec.file_app name.now) result }
+{
+    let command = command_of(alloc, name, about, notes);
+    let command = with_dialplan(alloc, command);
+    with_explain(alloc, command)
+}
+
+/// The command with the words of the files that a run has: those of its dialplan and of its script.
+fn with_files<'a>(
+    alloc: Global,
+    command: Result<Command<'a>, NoMemory>,
+) -> Result<Command<'a>, NoMemory>
+    ensures { (app : App) → Makes app command.entry → Makes (spec.with_files app) result }
+{
+    let with = with_dialplan(alloc, command);
+    let script = required_word(alloc, "SCRIPT", "The script of events");
+    with_word(with, script)
+}
+
+/// The command with the word of a file of queues.
+fn with_queues<'a>(
+    alloc: Global,
+    command: Result<Command<'a>, NoMemory>,
+    help: &'a str,
+) -> Result<Command<'a>, NoMemory>
+    ensures { (app : App) → Makes app command.entry → Makes (spec.with_queues app) result }
+{
+    let queues = named_word(alloc, "QUEUES", "queues", help);
+    with_word(command, queues)
+}
+
+/// The command with the words of the files that a run may have: those of its queues and of its second dialplan.
+fn with_more_files<'a>(
+    alloc: Global,
+    command: Result<Command<'a>, NoMemory>,
+) -> Result<Command<'a>, NoMemory>
+    ensures { (app : App) → Makes app command.entry → Makes (spec.with_more_files app) result }
+{
+    let with = with_queues(
+        alloc,
+        command,
+        "The queues, as queues.conf; without it there are none",
+    );
+    let second_plan = named_word(
+        alloc,
+        "DIALPLAN",
+        "reload",
+        "The second dialplan, which a line `reload` of the script puts in force",
+    );
+    with_word(with, second_plan)
+}
+
+/// A command that was made, with one more command below it.
+fn add_command<'a>(
+    command: Command<'a>,
+    below: Result<Command<'a>, NoMemory>,
+) -> Result<Command<'a>, NoMemory>
+    ensures { (below_app : App) → (fields_of command.entry).has_globals ≡ false → Makes below_app below.entry
+        → Makes (with_subcommand (app_of command.entry) below_app.top) result }
+{
+    let with = command.subcommand(below?)?;
+    Ok(with)
+}
+
+/// The program's command with one more command below it.
+fn with_command<'a>(
+    command: Result<Command<'a>, NoMemory>,
+    below: Result<Command<'a>, NoMemory>,
+) -> Result<Command<'a>, NoMemory>
+    ensures { (app below_app : App) → Makes app command.entry → Makes below_app below.entry
+        → Makes (with_subcommand app below_app.top) result }
+{
+    add_command(command?, below)
+}
+
+/// The command `check`.
+fn check_command<'a>(alloc: Global) -> Result<Command<'a>, NoMemory>
+    ensures { Makes spec.check_app result }
+{
+    let check = command_of(
+        alloc,
+        "check",
+        "Load a dialplan, queues or both, and print notes and counts",
+        CHECK_NOTES,
+    );
+    let check = with_queues(alloc, check, "The queues, as queues.conf");
+    let file = free_word(alloc, "FILE", "The dialplan, as extensions.conf");
+    let check = with_word(check, file);
+    with_explain(alloc, check)
+}
+
+/// The command `check` as it is told where no file is given: with a dialplan, and with the flag `--explain` where that is.
+pub(crate) fn check_of_dialplan<'a>(
+    alloc: Global,
+    explains: bool,
+) -> Result<Command<'a>, NoMemory> {
+    let check = Ok(Command::new(alloc, "check"));
+    let check = with_dialplan(alloc, check);
+    if explains {
+        with_word(
+            check,
+            Arg::new(alloc, "explain")
+                .long("explain")
+                .required(true)
+                .action(ArgAction::SetTrue),
+        )
+    } else {
+        check
+    }
+}
+
+/// The command `audit`.
+fn audit_command<'a>(alloc: Global) -> Result<Command<'a>, NoMemory>
+    ensures { Makes spec.audit_app result }
+{
+    file_command(
+        alloc,
+        "audit",
+        "Print what the writer of a dialplan may not have meant",
+        AUDIT_NOTES,
+    )
+}
+
+/// The command `list`.
+fn list_command<'a>(alloc: Global) -> Result<Command<'a>, NoMemory>
+    ensures { Makes spec.list_app result }
+{
+    file_command(
+        alloc,
+        "list",
+        "Print a dialplan in its canonical text",
+        LIST_NOTES,
+    )
+}
+
+/// The command with the words of a look-up: those of its context, of what was dialled, and of the priority that is asked for.
+fn with_lookup<'a>(
+    alloc: Global,
+    command: Result<Command<'a>, NoMemory>,
+) -> Result<Command<'a>, NoMemory>
+    ensures { (app : App) → Makes app command.entry → Makes (spec.with_lookup app) result }
+{
+    let context = required_word(alloc, "CONTEXT", "The context where the call begins");
+    let with = with_word(command, context);
+    let text = required_word(alloc, "TEXT", "What was dialled");
+    let with = with_word(with, text);
+    let priority = optional_word(
+        alloc,
+        "PRIORITY",
+        "The priority that is asked for, from 1 to 2147483647",
+        "1",
+    );
+    with_word(with, priority)
+}
+
+/// The command `match`.
+pub(crate) fn match_command<'a>(alloc: Global) -> Result<Command<'a>, NoMemory>
+    ensures { Makes spec.match_app result }
+{
+    let matching = command_of(
+        alloc,
+        "match",
+        "Print which entry of a dialplan answers a call",
+        MATCH_NOTES,
+    );
+    let all = flag(
+        alloc,
+        "all",
+        "all",
+        "Print below it what becomes of each extension that matches",
+    );
+    let matching = with_word(matching, all);
+    let matching = with_dialplan(alloc, matching);
+    let matching = with_lookup(alloc, matching);
+    with_explain(alloc, matching)
+}
+
+/// The command `explain`.
+pub(crate) fn explain_command<'a>(alloc: Global) -> Result<Command<'a>, NoMemory>
+    ensures { Makes spec.explain_app result }
+{
+    let explain = command_of(
+        alloc,
+        "explain",
+        "Print what the manual says of a fault",
+        EXPLAIN_NOTES,
+    );
+    let code = required_word(
+        alloc,
+        "CODE",
+        "The number of the fault, from 1 to 71, or its name",
+    );
+    let explain = with_word(explain, code);
+    with_explain(alloc, explain)
+}
+
+/// The command `run`.
+pub(crate) fn run_command<'a>(alloc: Global) -> Result<Command<'a>, NoMemory>
+    ensures { Makes spec.run_app result }
+{
+    let run = command_of(
+        alloc,
+        "run",
+        "Run a script of events on a dialplan, and print the trace",
+        RUN_NOTES,
+    );
+    let run = with_more_files(alloc, run);
+    let threads = named_word(
+        alloc,
+        "N",
+        "threads",
+        "Give the events in so many threads at once, from 1 to 64",
+    );
+    let run = with_word(run, threads);
+    let run = with_files(alloc, run);
+    with_explain(alloc, run)
+}
+
+/// The command `debug`.
+fn debug_command<'a>(alloc: Global) -> Result<Command<'a>, NoMemory>
+    ensures { Makes spec.debug_app result }
+{
+    let debug = command_of(
+        alloc,
+        "debug",
+        "Run a script of events on a dialplan, and halt before the steps at a place",
+        DEBUG_NOTES,
+    );
+    let debug = with_more_files(alloc, debug);
+    let held = required_named_word(
+        alloc,
+        "CONTEXT,EXTEN,PRIORITY",
+        "break",
+        "The place where the run halts",
+    );
+    let debug = with_word(debug, held);
+    let debug = with_files(alloc, debug);
+    with_explain(alloc, debug)
+}
+
+/// The command with the words of what may come in.
+fn with_outside<'a>(
+    alloc: Global,
+    command: Result<Command<'a>, NoMemory>,
+) -> Result<Command<'a>, NoMemory>
+    ensures { (app : App) → Makes app command.entry → Makes (spec.with_outside app) result }
+{
+    let starts = named_word(
+        alloc,
+        "CONTEXTS",
+        "start",
+        "The contexts where other calls come in, separated by commas; without it every context",
+    );
+    let with = with_word(command, starts);
+    let exten = named_word(
+        alloc,
+        "BYTES",
+        "exten",
+        "What may be dialled, as 0-9*#; without it 0-9A-Za-z*#+_.",
+    );
+    let with = with_word(with, exten);
+    let caller = named_word(
+        alloc,
+        "NUMBERS",
+        "caller",
+        "What a caller's number may have; without it 0-9+",
+    );
+    with_word(with, caller)
+}
+
+/// The command `reach`.
+fn reach_command<'a>(alloc: Global) -> Result<Command<'a>, NoMemory>
+    ensures { Makes spec.reach_app result }
+{
+    let reach = command_of(
+        alloc,
+        "reach",
+        "Prove which entries a call from a context can never run",
+        REACH_NOTES,
+    );
+    let reach = with_queues(
+        alloc,
+        reach,
+        "The queues, as queues.conf; without it there are none",
+    );
+    let reach = with_outside(alloc, reach);
+    let target = named_word(
+        alloc,
+        "TARGET",
+        "to",
+        "Say of this context alone whether the call may reach it",
+    );
+    let reach = with_word(reach, target);
+    let reach = with_dialplan(alloc, reach);
+    let context = required_word(alloc, "CONTEXT", "The context where the call comes in");
+    let reach = with_word(reach, context);
+    with_explain(alloc, reach)
+}
+
+/// The program's own part of its commands.
+fn bare_command<'a>(alloc: Global) -> Result<Command<'a>, NoMemory>
+    ensures { Makes spec.bare_app result }
+{
+    let pbx = command_of(
+        alloc,
+        "pbx",
+        "Say which priority of an Asterisk dialplan answers a call, and run calls through it",
+        PBX_NOTES,
+    );
+    let pbx = pbx?.bin_name("pbx")?;
+    Ok(pbx.version(VERSION))
+}
+
+/// The program's commands.
+pub(crate) fn pbx_command<'a>(alloc: Global) -> Result<Command<'a>, NoMemory>
+    ensures { Makes spec.pbx_app result }
+{
+    let pbx = bare_command(alloc);
+    let pbx = with_command(pbx, check_command(alloc));
+    let pbx = with_command(pbx, list_command(alloc));
+    let pbx = with_command(pbx, match_command(alloc));
+    let pbx = with_command(pbx, run_command(alloc));
+    let pbx = with_command(pbx, debug_command(alloc));
+    let pbx = with_command(pbx, audit_command(alloc));
+    let pbx = with_command(pbx, reach_command(alloc));
+    with_command(pbx, explain_command(alloc))
+}

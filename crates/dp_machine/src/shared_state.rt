@@ -1,0 +1,73 @@
+//! What all channels share.
+ghost use Rattle.std.specs.Prelude.{◌≡◌, IfOk, OnOk};
+ghost use Rattle.dp_vars.specs.Sights.{sight_of};
+ghost use Rattle.dp_machine.specs.Seen as seen;
+
+use dp_app::Place;
+use dp_plan::{GlobalVariable, NoMemory};
+use dp_queue::Queues;
+use dp_vars::{Counts, Globals, Scope, expand_text};
+use std::alloc::Global;
+
+/// What all channels share: the global variables, and the queues.
+#[derive(Drop)]
+pub struct SharedState {
+    pub globals: Globals,
+    pub queues: Queues,
+}
+
+/// What the value of a global sees: the globals as they are then, how many wait in queues, and no channel.
+fn scope_of_globals<'a, C: Counts>(globals: &'a Globals, counts: &'a C) -> Scope<'a, Place, C>
+    ensures { sight_of C.count result ≡ seen.sight_of_globals (C.count counts.now) globals.now }
+{
+    Scope {
+        channel: None,
+        store: None,
+        globals,
+        counts,
+    }
+}
+
+/// The value of a global that is written so.
+#[tactic(auto, unfolding(crate::specs::Seen::global_value))]
+fn expand_global<C: Counts>(
+    alloc: Global,
+    globals: &Globals,
+    counts: &C,
+    value: &[u8],
+) -> Result<Vec<u8>, NoMemory>
+    ensures { IfOk result (λ bytes. bytes.items ≡ seen.global_value (C.count counts.now) globals.now value.now) }
+{
+    let scope = scope_of_globals(globals, counts);
+    let bytes = expand_text(alloc, value, &scope)?;
+    Ok(bytes)
+}
+
+/// Gives a global its value.
+fn set_global<C: Counts>(
+    alloc: Global,
+    globals: &mut Globals,
+    counts: &C,
+    variable: &GlobalVariable,
+) -> Result<(), NoMemory>
+    ensures { OnOk result (globals.new ≡ seen.with_global (C.count counts.now) globals.old variable.now) }
+{
+    let value = expand_global(alloc, globals, counts, variable.value.bytes())?;
+    globals.put(alloc, variable.name.bytes(), &value)?;
+    Ok(())
+}
+
+/// Sets the globals of a dialplan one after another, each of which is expanded over those that are then.
+pub(crate) fn set_globals<C: Counts>(
+    alloc: Global,
+    globals: &mut Globals,
+    counts: &C,
+    variables: &[GlobalVariable],
+) -> Result<(), NoMemory>
+    ensures { OnOk result (globals.new ≡ seen.globals_set (C.count counts.now) globals.old variables.now) }
+{
+    for variable in variables {
+        set_global(alloc, globals, counts, variable)?;
+    }
+    Ok(())
+}

@@ -1,9 +1,0 @@
-use Rattle.std.proofs.Common.{◌≡◌, ◌∷◌, [], IfSome, subst, sym}
-use Rattle.dp_pattern.specs.Classes.{kept_members}
-use Rattle.dp_pattern.specs.Spelling.{class_spelling}
-use Rattle.dp_pattern.specs.declared.members.Members.{Members}
-use Rattle.dp_pattern.proofs.members.Members.letter.Goals as goal
-
-pub returns-in-Digits : goal.returns-in-Digits
-returns-in-Digits c =
-    subst (λ (kept : Members). IfSome c.letter_of.result (λ letter. class_spelling (kept_members kept) ≡ letter ∷ [])) (sym c.in-Digits.is) c.letter_of.ensures

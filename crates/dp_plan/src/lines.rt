@@ -1,0 +1,206 @@
+//! The lines so far, and what one more of a context does.
+ghost use Rattle.std.specs.Prelude.{◌≡◌, OnOk, IfSome};
+ghost use Rattle.dp_conf.specs.Answers.{Answers};
+ghost use Rattle.dp_plan.specs.EntryLine.{exten_entry, same_entry};
+ghost use Rattle.dp_plan.specs.Extensions.{extension_of};
+ghost use Rattle.dp_plan.specs.Item.{Adds};
+ghost use Rattle.dp_plan.specs.Items as items;
+ghost use Rattle.dp_plan.specs.steps.ItemFaults.{item_reason};
+ghost use Rattle.dp_plan.specs.steps.Loading as spec;
+ghost use Rattle.dp_plan.specs.steps.Open.{IsOpen, history_at};
+ghost use Rattle.dp_plan.specs.steps.Table.{HasNumber};
+
+use crate::application::read_shallow;
+use crate::draft::Draft;
+use crate::entry_line::{LineEntry, read_exten, read_same};
+use crate::fault::{ItemFault, PlanKind, Word, fault};
+use crate::note::NoteKind;
+use crate::plan::GlobalVariable;
+use crate::reader::Reader;
+use crate::section::{LastExtension, OpenContext, OpenSection};
+use dp_conf::{NoMemory, Text, same_word};
+use std::alloc::Global;
+
+/// What the lines so far leave for the next ones beside their section, and the dialplan in the making.
+#[derive(Drop)]
+pub(crate) struct Lines {
+    pub(crate) reader: Reader,
+    pub(crate) draft: Draft,
+}
+
+/// Why a key of a context is refused, where it is one of those that this program leaves out.
+fn refused_key(key: &[u8]) -> Option<PlanKind>
+    ensures { result ≡ items.refused_key key.now }
+{
+    if same_word(key, b"switch") || same_word(key, b"lswitch") || same_word(key, b"eswitch") {
+        return Some(PlanKind::LeftOut(Word::Switch));
+    }
+    if same_word(key, b"ignorepat") {
+        return Some(PlanKind::LeftOut(Word::IgnorePat));
+    }
+    None
+}
+
+impl Lines {
+    /// Sets the global variable of a pair, which is none where its key is empty.
+    pub(crate) fn set_global(
+        &mut self,
+        alloc: Global,
+        line: usize,
+        key: &[u8],
+        value: &[u8],
+    ) -> Result<(), ItemFault>
+        ensures { Answers (λ done. spec.made_in OpenSection.Variables self.new) item_reason result
+            (spec.after_read (spec.made_in OpenSection.Variables self.old) (items.global_item line key.now value.now)) }
+    {
+        if key.is_empty() {
+            self.draft.note(line, NoteKind::UnknownKey)?;
+            return Ok(());
+        }
+        let value = read_shallow(alloc, line, value)?;
+        let name = Text::copy_of(alloc, key)?;
+        self.draft.set_global(GlobalVariable { name, value })?;
+        Ok(())
+    }
+
+    /// Adds an entry to the open context.
+    #[tactic(auto, using(crate::proofs::AdditionLemmas::added_open, crate::proofs::TableLemmas::stands_within, crate::proofs::TableLemmas::number_after_written))]
+    #[inline(always)]
+    fn add_entry(
+        &mut self,
+        alloc: Global,
+        line: usize,
+        context: &mut OpenContext,
+        read: LineEntry,
+    ) -> Result<(), NoMemory>
+        requires opened { IsOpen self.old.draft.names self.old.reader context.old }
+        requires number { IfSome read.number (HasNumber self.old.reader (extension_of context.old.name read.entry.name)) }
+        ensures added { OnOk result (spec.made_in (OpenSection.Entries context.new) self.new
+            ≡ spec.after_item (spec.made_in (OpenSection.Entries context.old) self.old) (Adds line context.old.name read.entry)) }
+        ensures opened { IsOpen self.new.draft.names self.new.reader context.new }
+    {
+        let LineEntry { entry, number } = read;
+        context.last = None;
+        let name = entry.name.clone()?;
+        let number = self
+            .reader
+            .write(&context.name, &entry.name, number, entry.priority)?;
+        context.last = Some(LastExtension { name, number });
+        self.draft
+            .add_entry(alloc, line, context.place, number, entry)
+    }
+
+    /// Adds the entry of an `exten` line.
+    #[inline(always)]
+    fn take_exten(
+        &mut self,
+        alloc: Global,
+        line: usize,
+        context: &mut OpenContext,
+        value: &[u8],
+    ) -> Result<(), ItemFault>
+        requires { IsOpen self.old.draft.names self.old.reader context.old }
+        ensures read { Answers (λ done. spec.made_in (OpenSection.Entries context.new) self.new) item_reason result
+            (spec.after_read (spec.made_in (OpenSection.Entries context.old) self.old) (items.entry_item context.old.name line
+            (exten_entry (history_at context.old self.old.reader) line context.old.name value.now))) }
+        ensures opened { IsOpen self.new.draft.names self.new.reader context.new }
+    {
+        let read = read_exten(alloc, &mut self.reader, context, line, value)?;
+        self.add_entry(alloc, line, context, read)?;
+        Ok(())
+    }
+
+    /// Adds the entry of a `same` line.
+    #[inline(always)]
+    fn take_same(
+        &mut self,
+        alloc: Global,
+        line: usize,
+        context: &mut OpenContext,
+        value: &[u8],
+    ) -> Result<(), ItemFault>
+        requires { IsOpen self.old.draft.names self.old.reader context.old }
+        ensures read { Answers (λ done. spec.made_in (OpenSection.Entries context.new) self.new) item_reason result
+            (spec.after_read (spec.made_in (OpenSection.Entries context.old) self.old) (items.entry_item context.old.name line
+            (same_entry (history_at context.old self.old.reader) line context.old.name value.now))) }
+        ensures opened { IsOpen self.new.draft.names self.new.reader context.new }
+    {
+        let read = read_same(alloc, &mut self.reader, context, line, value)?;
+        self.add_entry(alloc, line, context, read)?;
+        Ok(())
+    }
+
+    /// Adds the include of a line.
+    #[tactic(auto, using(crate::proofs::AdditionLemmas::included_open, crate::proofs::TableLemmas::stands_within))]
+    fn take_include(
+        &mut self,
+        alloc: Global,
+        line: usize,
+        context: &OpenContext,
+        name: &[u8],
+    ) -> Result<(), ItemFault>
+        requires { IsOpen self.old.draft.names self.old.reader context.now }
+        ensures read { Answers (λ done. spec.made_in (OpenSection.Entries context.now) self.new) item_reason result
+            (spec.after_read (spec.made_in (OpenSection.Entries context.now) self.old)
+            (items.include_item line context.now.name name.now)) }
+        ensures opened { IsOpen self.new.draft.names self.new.reader context.now }
+    {
+        if name.contains(&b',') {
+            return Err(fault(line, PlanKind::LeftOut(Word::IncludeTimes)));
+        }
+        let name = Text::copy_of(alloc, name)?;
+        self.draft.add_include(line, context.place, name)?;
+        Ok(())
+    }
+
+    /// Goes after a line with a key that is none of a context's.
+    fn take_other(
+        &mut self,
+        line: usize,
+        context: &OpenContext,
+        key: &[u8],
+    ) -> Result<(), ItemFault>
+        requires { IsOpen self.old.draft.names self.old.reader context.now }
+        ensures read { Answers (λ done. spec.made_in (OpenSection.Entries context.now) self.new) item_reason result
+            (spec.after_read (spec.made_in (OpenSection.Entries context.now) self.old)
+            (items.other_item line (items.refused_key key.now))) }
+        ensures opened { IsOpen self.new.draft.names self.new.reader context.now }
+    {
+        match refused_key(key) {
+            Some(kind) => Err(fault(line, kind)),
+            None => {
+                self.draft.note(line, NoteKind::UnknownKey)?;
+                Ok(())
+            }
+        }
+    }
+
+    /// Goes after a pair of the open context.
+    #[tactic(auto, unfolding(crate::specs::Items::context_item))]
+    #[inline(always)]
+    pub(crate) fn take(
+        &mut self,
+        alloc: Global,
+        line: usize,
+        context: &mut OpenContext,
+        key: &[u8],
+        value: &[u8],
+    ) -> Result<(), ItemFault>
+        requires { IsOpen self.old.draft.names self.old.reader context.old }
+        ensures read { Answers (λ done. spec.made_in (OpenSection.Entries context.new) self.new) item_reason result
+            (spec.after_read (spec.made_in (OpenSection.Entries context.old) self.old)
+            (items.context_item (history_at context.old self.old.reader) context.old.name line key.now value.now)) }
+        ensures opened { IsOpen self.new.draft.names self.new.reader context.new }
+    {
+        if same_word(key, b"exten") {
+            return self.take_exten(alloc, line, context, value);
+        }
+        if same_word(key, b"same") {
+            return self.take_same(alloc, line, context, value);
+        }
+        if same_word(key, b"include") {
+            return self.take_include(alloc, line, context, value);
+        }
+        self.take_other(line, context, key)
+    }
+}

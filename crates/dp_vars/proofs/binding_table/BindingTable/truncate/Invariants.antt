@@ -1,0 +1,9 @@
+use Rattle.std.proofs.Common.{◌≡◌, length, take}
+use Rattle.dp_vars.proofs.binding_table.BindingTable.truncate.Given as goal
+
+-- what is left is a beginning of the names, and as long as is wanted where all of it is
+abbrev pub invariant-loop-self : goal.invariant-loop-self
+invariant-loop-self l = take l.len l.self ≡ take l.len l.fn.self
+
+abbrev pub decreases-loop-self : goal.decreases-loop-self
+decreases-loop-self l = length l.self

@@ -1,6 +1,0 @@
-use Rattle.std.proofs.Common.{◌≡◌, fold, take}
-use Rattle.dp_vars.specs.Tables.{unbound_at}
-use Rattle.dp_vars.proofs.table.Table.unbind_all.Given as goal
-
-abbrev pub invariant-loop-number : goal.invariant-loop-number
-invariant-loop-number l = l.self ≡ fold (unbound_at l.depth) l.fn.self (take l.number-index l.number-items)

@@ -1,0 +1,79 @@
+-- A text on the way to its pieces.
+use Rattle.std.specs.Prelude.{◌≡◌, ℕ, ◌≤◌, List, [], ◌∷◌, ◌++◌, Option, Some, None, if◌then◌else◌, nat_lt}
+use Rattle.dp_conf.specs.GroupsRead.{outer_of}
+use Rattle.dp_conf.specs.declared.groups.GroupKind.{GroupKind}
+use Rattle.dp_conf.specs.declared.groups.Mark.{Mark}
+use Rattle.dp_conf.specs.declared.groups.Mark.TheVariants.{End, Opening, Byte}
+use Rattle.dp_vars.specs.Expanding.{Written, after}
+use Rattle.dp_vars.specs.Sights.{Sight}
+use Rattle.dp_vars.specs.Spans.{text_at}
+use Rattle.dp_vars.specs.Values.{group_value}
+use Rattle.dp_vars.specs.Pieces.{blank, past, with_bytes}
+use Rattle.dp_vars.specs.declared.text_piece.TextPiece.{TextPiece}
+use Rattle.dp_vars.specs.declared.text_piece.TextPiece.TheVariants.{Run, Name, Call, Part, Known, Empty, Begins, Ends}
+use Rattle.dp_vars.specs.declared.span.Span.{Span}
+
+-- the piece stands for the group of this kind whose body stands there, whatever is seen
+abbrev pub IsGroup : List ℕ → GroupKind → Span → TextPiece → Type 0
+IsGroup text kind body piece =
+    (sight : Sight) (written : Written) → past sight text written piece ≡ with_bytes written (group_value sight kind (text_at text body))
+
+-- a text on the way to its pieces: those so far, the last one first, the kinds of the openings that wait, the innermost
+-- first, and the plain bytes after the last piece
+pub record ReadSoFar : Type 0 where
+  pub pieces : List TextPiece
+  pub waiting : List GroupKind
+  pub run : Span
+
+-- after pieces of which the last stands first
+abbrev pub past_last : Sight → List ℕ → List TextPiece → Written
+past_last sight text [] = blank
+past_last sight text (piece ∷ pieces) = past sight text (past_last sight text pieces) piece
+
+-- after all that is read so far
+abbrev pub written_in : Sight → List ℕ → ReadSoFar → Written
+written_in sight text so_far = with_bytes (past_last sight text so_far.pieces) (text_at text so_far.run)
+
+-- the openings that wait after a mark
+abbrev pub waiting_after : Mark → List GroupKind → List GroupKind
+waiting_after End waiting = outer_of waiting
+waiting_after (Opening kind) waiting = kind ∷ waiting
+waiting_after (Byte byte) waiting = waiting
+
+-- a mark that is a plain byte stands after these bytes, and ends at this place
+abbrev pub StandsAfter : List ℕ → Span → Mark → ℕ → Type 0
+StandsAfter text run End place = Unit {0}
+StandsAfter text run (Opening kind) place = Unit {0}
+StandsAfter text run (Byte byte) place = text_at text (record { from = run.from; to = place }) ≡ text_at text run ++ byte ∷ []
+
+-- what is read goes after a mark that ends at this place, whatever is seen
+pub record GoesAfter (text : List ℕ) (mark : Mark) (place : ℕ) (old new : ReadSoFar) : Type 0 where
+  pub written : (sight : Sight) → written_in sight text new ≡ after sight mark (written_in sight text old)
+  pub waiting : new.waiting ≡ waiting_after mark old.waiting
+  pub ends : new.run.to ≡ place
+  pub begins : new.run.from ≤ place
+
+-- the pieces with plain bytes after them, where there are any
+abbrev pub with_run : Span → List TextPiece → List TextPiece
+with_run run pieces = if nat_lt run.from run.to then Run run ∷ pieces else pieces
+
+-- the kind of an opening
+abbrev pub opening_of : TextPiece → Option GroupKind
+opening_of (Begins kind) = Some kind
+opening_of (Run span) = None
+opening_of (Name name) = None
+opening_of (Call function argument) = None
+opening_of (Part cut) = None
+opening_of (Known value) = None
+opening_of Empty = None
+opening_of Ends = None
+
+-- the kind of the last piece, where that is an opening
+abbrev pub opening_last : List TextPiece → Option GroupKind
+opening_last [] = None
+opening_last (piece ∷ pieces) = opening_of piece
+
+-- the pieces without the last one
+abbrev pub without_last : List TextPiece → List TextPiece
+without_last [] = []
+without_last (piece ∷ pieces) = pieces

@@ -1,0 +1,15 @@
+-- Places in a text, made of others.
+use Rattle.std.specs.Prelude.{ℕ, ◌+◌, min}
+use Rattle.dp_vars.specs.declared.span.Span.{Span}
+
+-- nothing, at a place
+abbrev pub span_at : ℕ → Span
+span_at place = record { from = place; to = place }
+
+-- the first so many bytes of what stands there
+abbrev pub front_of : Span → ℕ → Span
+front_of span size = record { from = span.from; to = min span.to (span.from + size) }
+
+-- what stands after those
+abbrev pub after_of : Span → ℕ → Span
+after_of span size = record { from = min span.to (span.from + size); to = span.to }

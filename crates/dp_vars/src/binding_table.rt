@@ -1,0 +1,263 @@
+//! The names of a store by their numbers, each with its values.
+ghost use Rattle.std.specs.Prelude.{◌≡◌, None, [], length, nat_eq, fold, take, ◌-◌, OnErr, OnOk};
+ghost use Rattle.std.specs.BTreeMap.{get, insert_entry};
+ghost use Rattle.std.specs.Cmp.Lexicographic.{pointwise};
+ghost use Rattle.std.specs.Map.{lookup};
+ghost use Rattle.std.specs.Option.{option_map};
+ghost use Rattle.dp_vars.specs.steps.Bindings.{with_binding, bound_below, rebound};
+ghost use Rattle.dp_vars.specs.Stores.{slot as slot_of};
+ghost use Rattle.dp_vars.specs.steps.Tables.{names_of, stack_of, unbound_at, with_stack};
+ghost use Rattle.dp_vars.specs.Variables.{in_order};
+
+use crate::binding_stack::BindingStack;
+use crate::change::{Change, Nothing};
+use crate::frame::NameNumbers;
+use dp_conf::{NoMemory, Text};
+use std::alloc::Global;
+use std::collections::BTreeMap;
+use std::marker::Model;
+
+/// A name with its bindings.
+#[derive(Drop)]
+struct NamedBindings {
+    name: Text,
+    stack: BindingStack,
+}
+
+impl Model for NamedBindings {
+    ghost use Rattle.std.specs.Prelude.{ℕ, List};
+    ghost use Rattle.dp_vars.specs.declared.binding_stack.Binding.{Binding};
+
+    ghost Value = { List ℕ × List Binding };
+
+    ghost view = { λ entry. (entry.name, entry.stack) };
+}
+
+/// Names with their bindings. The number of a name is its place here.
+///
+/// A map has the number of each name. It is ordered, so that a look-up costs the logarithm of how many names there are,
+/// whatever names a dialplan chooses.
+#[derive(Drop)]
+pub(crate) struct BindingTable {
+    entries: Vec<NamedBindings>,
+    numbers: BTreeMap<Vec<u8>, usize>,
+}
+
+impl Model for BindingTable {
+    ghost use Rattle.dp_vars.specs.steps.Tables.{AreNumbered, Entries, names_of};
+    ghost use Rattle.dp_vars.specs.Variables.{by_bytes};
+
+    ghost Value = { Entries };
+
+    ghost view = { λ table. table.entries.items };
+
+    ghost invariant = { λ table. AreNumbered (by_bytes (λ name. name.items) table.numbers.entries) (names_of table.entries.items) };
+}
+
+/// Gives a name that had no number this one, once this change is made. After a refused growth all is as before.
+fn number_after<T, C: Change<T>>(
+    alloc: Global,
+    numbers: &mut BTreeMap<Vec<u8>, usize>,
+    name: Vec<u8>,
+    number: usize,
+    change: &C,
+    target: &mut T,
+) -> Result<(), NoMemory>
+    requires { get (in_order (λ key. key.items)) numbers.old name ≡ None }
+    ensures ok { OnOk result (numbers.new.entries
+        ≡ insert_entry (in_order (λ key. key.items)) numbers.old.entries name number) }
+    ensures changed { OnOk result (target.new ≡ C.after change.now target.old) }
+    ensures err { OnErr result (numbers.new.entries ≡ numbers.old.entries) }
+    ensures unchanged { OnErr result (target.new ≡ target.old) }
+{
+    // The entry has room for the number, and puts none where the change is refused.
+    let entry = numbers.entry(name)?;
+    let changed = change.run(alloc, target);
+    entry.or_try_insert_with(|| match changed {
+        Ok(()) => Ok(number),
+        Err(no_memory) => Err(no_memory),
+    })?;
+    Ok(())
+}
+
+impl BindingTable {
+    /// No names. It takes no memory.
+    pub(crate) fn new(alloc: Global) -> Self
+        ensures { result ≡ [] }
+    {
+        BindingTable {
+            entries: Vec::new(alloc),
+            numbers: BTreeMap::new(alloc),
+        }
+    }
+
+    /// How many names there are.
+    pub(crate) fn len(&self) -> usize
+        ensures { result ≡ length self.now }
+    {
+        self.entries.len()
+    }
+
+    /// The number of a name.
+    pub(crate) fn slot(&self, name: &[u8]) -> Option<usize>
+        ensures { result ≡ slot_of (names_of self.now) name.now }
+    {
+        match self.numbers.get(name) {
+            Some(number) => Some(*number),
+            None => None,
+        }
+    }
+
+    /// The bindings of a name.
+    pub(crate) fn stack(&self, name: &[u8]) -> Option<&BindingStack>
+        ensures { option_map (λ stack. stack.now) result ≡ lookup (pointwise nat_eq name.now) self.now }
+    {
+        let Some(number) = self.slot(name) else {
+            return None;
+        };
+        let entry = &self.entries[number];
+        Some(&entry.stack)
+    }
+
+    /// Puts a new name with a value at a depth after the others, once this change is made. After a refused growth all is as
+    /// before.
+    fn add_after<T, C: Change<T>>(
+        &mut self,
+        alloc: Global,
+        name: &[u8],
+        depth: usize,
+        value: Text,
+        change: &C,
+        target: &mut T,
+    ) -> Result<(), NoMemory>
+        requires { slot_of (names_of self.old) name.now ≡ None }
+        ensures ok { OnOk result (self.new ≡ with_stack self.old name.now (with_binding depth value [])) }
+        ensures changed { OnOk result (target.new ≡ C.after change.now target.old) }
+        ensures err { OnErr result (self.new ≡ self.old) }
+        ensures unchanged { OnErr result (target.new ≡ target.old) }
+    {
+        let key = Vec::from_slice(alloc, name)?;
+        let name = Text::copy_of(alloc, name)?;
+        let stack = BindingStack::of(alloc, depth, value)?;
+        self.entries.reserve(1)?;
+        let number = self.entries.len();
+        number_after(alloc, &mut self.numbers, key, number, change, target)?;
+        self.entries.push_reserved(NamedBindings { name, stack });
+        Ok(())
+    }
+
+    /// Puts a new name with a value at a depth after the others. After a refused growth all is as before.
+    fn add(&mut self, alloc: Global, name: &[u8], depth: usize, value: Text) -> Result<(), NoMemory>
+        requires { slot_of (names_of self.old) name.now ≡ None }
+        ensures ok { OnOk result (self.new ≡ with_stack self.old name.now (with_binding depth value [])) }
+        ensures err { OnErr result (self.new ≡ self.old) }
+    {
+        self.add_after(alloc, name, depth, value, &Nothing, &mut ())
+    }
+
+    /// Binds a value at a depth for a name of this number, or for a new one where it has none yet, in the place of the
+    /// innermost binding where that one stands there. After a refused growth all is as before.
+    pub(crate) fn bind(
+        &mut self,
+        alloc: Global,
+        slot: Option<usize>,
+        name: &[u8],
+        depth: usize,
+        value: Text,
+    ) -> Result<(), NoMemory>
+        requires { slot ≡ slot_of (names_of self.old) name.now }
+        ensures ok { OnOk result (self.new ≡ with_stack self.old name.now (with_binding depth value (stack_of self.old name.now))) }
+        ensures err { OnErr result (self.new ≡ self.old) }
+    {
+        let Some(number) = slot else {
+            self.add(alloc, name, depth, value)?;
+            return Ok(());
+        };
+        let entry = &mut self.entries[number];
+        entry.stack.bind(depth, value)?;
+        Ok(())
+    }
+
+    /// Gives the innermost binding of a name another value, or binds one in the channel where there is none, after this
+    /// change. After a refused growth all is as before.
+    pub(crate) fn rebind_after<T, C: Change<T>>(
+        &mut self,
+        alloc: Global,
+        name: &[u8],
+        value: &[u8],
+        change: &C,
+        target: &mut T,
+    ) -> Result<(), NoMemory>
+        ensures ok { OnOk result (self.new ≡ with_stack self.old name.now (rebound value.now (stack_of self.old name.now))) }
+        ensures changed { OnOk result (target.new ≡ C.after change.now target.old) }
+        ensures err { OnErr result (self.new ≡ self.old) }
+        ensures unchanged { OnErr result (target.new ≡ target.old) }
+    {
+        let value = Text::copy_of(alloc, value)?;
+        let Some(number) = self.slot(name) else {
+            self.add_after(alloc, name, 0, value, change, target)?;
+            return Ok(());
+        };
+        let entry = &mut self.entries[number];
+        entry.stack.rebind_after(alloc, value, change, target)?;
+        Ok(())
+    }
+
+    /// The same below the innermost binding, where that one stands at this depth.
+    pub(crate) fn bind_below(
+        &mut self,
+        alloc: Global,
+        name: &[u8],
+        depth: usize,
+        value: &[u8],
+    ) -> Result<(), NoMemory>
+        ensures ok { OnOk result (self.new ≡ with_stack self.old name.now (bound_below depth value.now (stack_of self.old name.now))) }
+        ensures err { OnErr result (self.new ≡ self.old) }
+    {
+        let value = Text::copy_of(alloc, value)?;
+        let Some(number) = self.slot(name) else {
+            self.add(alloc, name, 0, value)?;
+            return Ok(());
+        };
+        let entry = &mut self.entries[number];
+        entry.stack.bind_below(depth, value)?;
+        Ok(())
+    }
+
+    /// Takes the binding at a depth away, where it is the innermost of the name of a number.
+    fn unbind(&mut self, depth: usize, number: usize)
+        ensures { self.new ≡ unbound_at depth self.old number }
+    {
+        if number < self.entries.len() {
+            let entry = &mut self.entries[number];
+            entry.stack.unbind(depth);
+        }
+    }
+
+    /// The same for each of some numbers.
+    pub(crate) fn unbind_all(&mut self, depth: usize, numbers: &NameNumbers)
+        ensures { self.new ≡ fold (unbound_at depth) self.old numbers.now }
+    {
+        for number in numbers.all() {
+            self.unbind(depth, *number);
+        }
+    }
+
+    /// Takes the last name away.
+    fn pop(&mut self)
+        ensures { self.new ≡ take (length self.old - 1) self.old }
+    {
+        if let Some(entry) = self.entries.pop() {
+            let _number = self.numbers.remove(entry.name.bytes());
+        }
+    }
+
+    /// Keeps the first names alone, so many of them. It costs what it takes away.
+    pub(crate) fn truncate(&mut self, len: usize)
+        ensures { self.new ≡ take len self.old }
+    {
+        while self.entries.len() > len {
+            self.pop();
+        }
+    }
+}

@@ -1,0 +1,101 @@
+//! The pieces of a text with groups.
+ghost use Rattle.std.specs.Prelude.{◌≡◌, ℕ, List, IfOk};
+ghost use Rattle.dp_vars.specs.Expanding.{Written};
+ghost use Rattle.dp_vars.specs.Heads.{head_seen};
+ghost use Rattle.dp_vars.specs.Pieces.{past, with_bytes};
+ghost use Rattle.dp_vars.specs.steps.Pieces.{IsGroup};
+ghost use Rattle.dp_vars.specs.Sights.{Sight};
+
+use crate::head::{CutPart, Head, read_head};
+use crate::part::read_asked;
+use crate::span::Span;
+use crate::value::Function;
+use dp_conf::{GroupKind, NoMemory, cut_outside};
+use dp_expr::evaluate;
+use std::alloc::Global;
+use std::mem::size_of;
+
+/// A piece of a text: plain bytes, a group that holds no group, as what it stands for, or where another group begins or
+/// ends.
+#[derive(Drop)]
+pub(crate) enum TextPiece {
+    /// Plain bytes.
+    Run(Span),
+    /// The variable of the name that stands there.
+    Name(Span),
+    /// The function of the argument that stands there.
+    Call(Function, Span),
+    /// A part of the value of one of these.
+    Part(Box<CutPart>),
+    /// The value of an expression.
+    Known(Box<Vec<u8>>),
+    /// A value that is always empty.
+    Empty,
+    /// An opening. What never closes is plain.
+    Begins(GroupKind),
+    /// The end of the innermost group.
+    Ends,
+}
+
+// A dialplan has some for each of its lines, so their size counts.
+const _: () = prove!(size_of::<TextPiece>() == 24);
+
+/// The whole value of a head.
+fn full(head: Head) -> TextPiece
+    ensures { (sight : Sight) (text : List ℕ) (written : Written)
+        → past sight text written result ≡ with_bytes written (head_seen sight text head) }
+{
+    match head {
+        Head::Name(name) => TextPiece::Name(name),
+        Head::Call(function, argument) => TextPiece::Call(function, argument),
+        Head::Empty => TextPiece::Empty,
+    }
+}
+
+/// The group whose body stands there, in braces.
+fn read_braces(alloc: Global, text: &[u8], place: Span) -> Result<TextPiece, NoMemory>
+    ensures { IfOk result (IsGroup text.now GroupKind.Braces place) }
+{
+    let body = place.of(text);
+    match cut_outside(body, b':') {
+        None => Ok(full(read_head(text, place))),
+        Some((head, tail)) => {
+            let cut = CutPart {
+                head: read_head(text, place.front(head.len())),
+                tail: place.after(body.len() - tail.len()),
+                asked: read_asked(tail),
+            };
+            let cut = Box::new(alloc, cut)?;
+            Ok(TextPiece::Part(cut))
+        }
+    }
+}
+
+/// The group whose body stands there, in brackets.
+#[tactic(auto, unfolding(crate::specs::Values::group_value))]
+fn read_brackets(alloc: Global, text: &[u8], place: Span) -> Result<TextPiece, NoMemory>
+    ensures { IfOk result (IsGroup text.now GroupKind.Brackets place) }
+{
+    let value = evaluate(alloc, place.of(text))?;
+    let mut bytes = Vec::new(alloc);
+    value.push_onto(&mut bytes)?;
+    let bytes = Box::new(alloc, bytes)?;
+    Ok(TextPiece::Known(bytes))
+}
+
+impl TextPiece {
+    /// The group of this kind whose body stands there, in which no group stands.
+    pub(crate) fn read(
+        alloc: Global,
+        text: &[u8],
+        kind: GroupKind,
+        body: Span,
+    ) -> Result<Self, NoMemory>
+        ensures { IfOk result (IsGroup text.now kind body) }
+    {
+        match kind {
+            GroupKind::Braces => read_braces(alloc, text, body),
+            GroupKind::Brackets => read_brackets(alloc, text, body),
+        }
+    }
+}
