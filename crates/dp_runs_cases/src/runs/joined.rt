@@ -291,7 +291,7 @@ const TABLES: &[&str] = &[
 ];
 
 /// Whether the run of a script on a dialplan writes this and ends so.
-fn check_apart(alloc: Global, plan: &[u8], script: &str, want: &str) -> Result<(), Fail> {
+fn check_apart<'a>(alloc: Global, plan: &'a [u8], script: &'a str, want: &str) -> Result<(), Fail> {
     let mut writer = make_sink(alloc, 4096, None);
     let texts = RunTexts {
         plan,
