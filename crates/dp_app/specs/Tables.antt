@@ -6,12 +6,16 @@ use Rattle.std.proofs.Common.{ap, subst, sym, ◌∙◌}
 use Rattle.std.proofs.lemmas.Option.{none-some, same_Some}
 use Rattle.dp_conf.specs.Words.{same_word}
 use Rattle.dp_app.specs.Lawful.{IsBlind, IsLawful, IsLawfulRow}
-use Rattle.dp_app.specs.Rows.{Row, Rows}
+use Rattle.dp_app.specs.Rows.{Meanings, Row, Rows, with_standard_functions}
 use Rattle.dp_app.specs.declared.touch.Touch.{Touch}
 
 -- the table with no name
 abbrev pub no_rows : Rows
 no_rows name = None
+
+-- the same with the functions of this program
+abbrev pub no_meanings : Meanings
+no_meanings = with_standard_functions no_rows
 
 -- the touch of a name that the table lacks
 abbrev pub no_touch : List ℕ → Touch

@@ -11,6 +11,7 @@ use crate::moves::Move;
 use crate::number::AppNumber;
 use crate::touch::Touch;
 use dp_conf::NoMemory;
+use dp_vars::Functions;
 use std::alloc::Global;
 
 /// An application of a dialplan, after the Asterisk documentation's application reference: what it does to the channel
@@ -58,6 +59,9 @@ pub trait AppTable {
     ghost lawful: { IsLawful touches rows };
 
     ghost blind: { IsBlind touches rows };
+
+    /// The functions of the texts that are expanded for the table's applications.
+    type Functions: Functions;
 
     /// The number of the application of this name, by which `run_by_number` finds it; None where the table lacks the name.
     fn number_of(name: &[u8]) -> Option<AppNumber>

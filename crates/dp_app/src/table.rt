@@ -11,6 +11,7 @@ use crate::cell::Cell;
 use crate::moves::Move;
 use crate::number::AppNumber;
 use dp_conf::{NoMemory, same_word};
+use dp_vars::StandardFunctions;
 use std::alloc::Global;
 use std::marker::PhantomData;
 
@@ -61,6 +62,8 @@ impl AppTable for NoApps {
 
     ghost blind = { no_rows_blind };
 
+    type Functions = StandardFunctions;
+
     fn number_of(_name: &[u8]) -> Option<AppNumber> {
         None
     }
@@ -85,6 +88,8 @@ impl<A: Application, T: AppTable> AppTable for With<A, T> {
     ghost lawful = { with_row_lawful A.title A.TOUCH A.meaning T.touches T.rows A.lawful T.lawful };
 
     ghost blind = { with_row_blind A.title A.TOUCH A.meaning T.touches T.rows T.blind };
+
+    type Functions = T::Functions;
 
     fn number_of(name: &[u8]) -> Option<AppNumber> {
         if is_name_of::<A>(name) {

@@ -1,4 +1,5 @@
-//! Cases of applications, of variables in their arguments, and of a machine with another table of applications.
+//! Cases of applications, of variables in their arguments, of a machine with another table of applications, and of what is unknown to a
+//! table.
 //!
 //! A crate with tests is proved twice, so the cases of the libraries stand in crates of their own, where each is proved once.
 #![tactic(auto)]
@@ -13,5 +14,7 @@ mod dial;
 mod nameless;
 #[cfg(test)]
 mod own;
+#[cfg(test)]
+mod unknown;
 #[cfg(test)]
 mod variables;

@@ -2,7 +2,7 @@
 use Rattle.std.proofs.Common.{zero, suc, ◌≡◌, ℕ, ◌+◌, ◌<◌, ◌≤◌, ◌==◌, Bool, true, false, not, List, [], ◌∷◌, map, filter, get_or, if◌then◌else◌, refl, sym, ap, subst, ◌∙◌, arith, All}
 use Rattle.std.specs.List.{zip}
 use Rattle.std.specs.List.Sorted.{IsStrictlyIncreasing}
-use Rattle.dp_app.specs.Rows.{Rows}
+use Rattle.dp_app.specs.Rows.{Meanings}
 use Rattle.dp_machine.proofs.IsolationLemmas.{IsIsolated, isolated}
 use Rattle.dp_machine.specs.Isolation.{AreSameBut, IsUnseen, is_of, replies_without, without}
 use Rattle.dp_machine.specs.Replay.{world_after}
@@ -75,12 +75,12 @@ replies-without number (entry ∷ entries) = by (replies-without number entries)
   by later false = ap (λ (replies : List Reply). entry.reply ∷ replies) later
 
 -- a log that replays, in which a channel is unseen
-pub MayBeSilent-of : (rows : Rows) (first : World) (number : ℕ) (history : Log) → Replays rows first history
-    → IsUnseen rows number first (events_in history.entries) → MayBeSilent rows first number history
-MayBeSilent-of rows first number history replays unseen =
+pub MayBeSilent-of : (meanings : Meanings) (first : World) (number : ℕ) (history : Log) → Replays meanings first history
+    → IsUnseen meanings number first (events_in history.entries) → MayBeSilent meanings first number history
+MayBeSilent-of meanings first number history replays unseen =
     let events = events_in history.entries in
-    let apart : IsIsolated rows number first first events = isolated rows first events number unseen in
+    let apart : IsIsolated meanings number first first events = isolated meanings first events number unseen in
     record {
       replies = apart.replies ∙ (ap (replies_without number events) (sym replays.replies) ∙ replies-without number history.entries);
-      world = subst (AreSameBut number (world_after rows first (without number events))) (sym replays.world) apart.world;
+      world = subst (AreSameBut number (world_after meanings first (without number events))) (sym replays.world) apart.world;
     }

@@ -6,7 +6,7 @@ use Rattle.std.proofs.lemmas.List.{append_assoc, take_more}
 use Rattle.std.proofs.lemmas.List.Elements.{All-push}
 use Rattle.std.proofs.lemmas.List.Sorted.{sum_by-IsPermutation, IsPermutation-reverse}
 use Rattle.dp_board.specs.Difference.{told_to, FirstDiffers}
-use Rattle.dp_app.specs.Rows.{Rows}
+use Rattle.dp_app.specs.Rows.{Meanings}
 use Rattle.dp_machine.specs.World.{World}
 use Rattle.dp_board.specs.Log.{Log, Replays, AreSeated}
 use Rattle.dp_board.specs.Settled.{Agrees, AllPresent, IsLeastDifference, IsWhole, lesser, calls_of}
@@ -76,7 +76,7 @@ pub seated-within : (parts count : ℕ) (entries : List Entry) → parts ≡ cou
 seated-within parts count entries is seated k d lt = omega (arith, is, seated k d lt)
 
 -- the history of a board whose parts were joined
-pub IsWhole-of : (rows : Rows) (first : World) (parts count amount : ℕ) (seats : List Sitting) (history shared : Log) → history ≡ shared → Replays rows first shared → AllPresent count seats → length shared.entries ≡ amount → amount ≡ calls_of seats → AreSeated parts shared.entries → parts ≡ count + 1 → IsWhole rows first count seats history
-IsWhole-of rows first parts count amount seats history shared same replays present calls counted seated is =
-    subst (IsWhole rows first count seats) (sym same)
+pub IsWhole-of : (meanings : Meanings) (first : World) (parts count amount : ℕ) (seats : List Sitting) (history shared : Log) → history ≡ shared → Replays meanings first shared → AllPresent count seats → length shared.entries ≡ amount → amount ≡ calls_of seats → AreSeated parts shared.entries → parts ≡ count + 1 → IsWhole meanings first count seats history
+IsWhole-of meanings first parts count amount seats history shared same replays present calls counted seated is =
+    subst (IsWhole meanings first count seats) (sym same)
     (record { replays = replays; present = present; calls = calls ∙ counted; seated = seated-within parts count shared.entries is seated })

@@ -4,7 +4,7 @@ use Rattle.std.proofs.Math.Seq.{drop-append_seam, take-append_seam}
 use Rattle.std.proofs.lemmas.List.{append-nil, append_assoc, length-append}
 use Rattle.std.proofs.lemmas.List.Elements.{All-push, All-nil, All-take}
 use Rattle.dp_machine.specs.declared.event.Event.TheVariants.{Step as step}
-use Rattle.dp_app.specs.Rows.{Rows}
+use Rattle.dp_app.specs.Rows.{Meanings}
 use Rattle.dp_machine.specs.World.{World}
 use Rattle.dp_machine.specs.declared.refusal.Refusal.TheVariants.{NoChannel}
 use Rattle.dp_machine.specs.declared.reply.Reply.{Reply}
@@ -67,37 +67,37 @@ last-more channel old seat new place reply before one =
     ap last_call (calls_since-more channel old seat new place reply before one) ∙ last-push (calls_since old seat) (call_of place (step channel) reply)
 
 -- before the first step nothing has ended it
-pub GoesOnAfter-none : (rows : Rows) (first : World) (channel : ℕ) (seat : Sitting) → GoesOnAfter rows first channel (calls_since seat seat)
-GoesOnAfter-none rows first channel seat = subst (GoesOnAfter rows first channel) (sym (calls_since-is seat seat [] (sym (append-nil seat.told)))) (All-nil (GoesOn rows first channel))
+pub GoesOnAfter-none : (meanings : Meanings) (first : World) (channel : ℕ) (seat : Sitting) → GoesOnAfter meanings first channel (calls_since seat seat)
+GoesOnAfter-none meanings first channel seat = subst (GoesOnAfter meanings first channel) (sym (calls_since-is seat seat [] (sym (append-nil seat.told)))) (All-nil (GoesOn meanings first channel))
 
 -- nor after one step more, where that does not
-pub GoesOnAfter-more : (rows : Rows) (first : World) (channel : ℕ) (old seat new : Sitting) (place : ℕ) (reply : Reply) → AddsSteps channel old seat → new ≡ with_step seat channel place reply → GoesOnAfter rows first channel (calls_since old seat) → GoesOn rows first channel (call_of place (step channel) reply) → GoesOnAfter rows first channel (calls_since old new)
-GoesOnAfter-more rows first channel old seat new place reply before one on goes =
-    subst (GoesOnAfter rows first channel) (sym (calls_since-more channel old seat new place reply before one)) (All-push (GoesOn rows first channel) (calls_since old seat) (call_of place (step channel) reply) on goes)
+pub GoesOnAfter-more : (meanings : Meanings) (first : World) (channel : ℕ) (old seat new : Sitting) (place : ℕ) (reply : Reply) → AddsSteps channel old seat → new ≡ with_step seat channel place reply → GoesOnAfter meanings first channel (calls_since old seat) → GoesOn meanings first channel (call_of place (step channel) reply) → GoesOnAfter meanings first channel (calls_since old new)
+GoesOnAfter-more meanings first channel old seat new place reply before one on goes =
+    subst (GoesOnAfter meanings first channel) (sym (calls_since-more channel old seat new place reply before one)) (All-push (GoesOn meanings first channel) (calls_since old seat) (call_of place (step channel) reply) on goes)
 
 -- the last step may end it
-pub GoesOnToLast-more : (rows : Rows) (first : World) (channel : ℕ) (old seat new : Sitting) (place : ℕ) (reply : Reply) → AddsSteps channel old seat → new ≡ with_step seat channel place reply → GoesOnAfter rows first channel (calls_since old seat) → GoesOnToLast rows first channel (calls_since old new)
-GoesOnToLast-more rows first channel old seat new place reply before one on =
+pub GoesOnToLast-more : (meanings : Meanings) (first : World) (channel : ℕ) (old seat new : Sitting) (place : ℕ) (reply : Reply) → AddsSteps channel old seat → new ≡ with_step seat channel place reply → GoesOnAfter meanings first channel (calls_since old seat) → GoesOnToLast meanings first channel (calls_since old new)
+GoesOnToLast-more meanings first channel old seat new place reply before one on =
     let more : List SeatCall = calls_since old seat ++ (call_of place (step channel) reply) ∷ [] in
     let count : length more - 1 ≡ length (calls_since old seat) = omega (arith, length-append (calls_since old seat) ((call_of place (step channel) reply) ∷ [])) in
-    subst (GoesOnToLast rows first channel) (sym (calls_since-more channel old seat new place reply before one))
-    (subst (GoesOnAfter rows first channel) (sym (ap (λ n. take n more) count ∙ take-append_seam (calls_since old seat) ((call_of place (step channel) reply) ∷ []))) on)
+    subst (GoesOnToLast meanings first channel) (sym (calls_since-more channel old seat new place reply before one))
+    (subst (GoesOnAfter meanings first channel) (sym (ap (λ n. take n more) count ∙ take-append_seam (calls_since old seat) ((call_of place (step channel) reply) ∷ []))) on)
 
 -- where it goes on after all it goes on after all but the last
-pub GoesOnToLast-all : (rows : Rows) (first : World) (channel : ℕ) (given : List SeatCall) → GoesOnAfter rows first channel given → GoesOnToLast rows first channel given
-GoesOnToLast-all rows first channel given on = All-take (GoesOn rows first channel) (length given - 1) given on
+pub GoesOnToLast-all : (meanings : Meanings) (first : World) (channel : ℕ) (given : List SeatCall) → GoesOnAfter meanings first channel given → GoesOnToLast meanings first channel given
+GoesOnToLast-all meanings first channel given on = All-take (GoesOn meanings first channel) (length given - 1) given on
 
 -- whether it is over, by the reply and by what the step left
-pub IsEnd-left : (rows : Rows) (first : World) (channel : ℕ) (told : SeatCall) (ended : Bool) (end : Option Why) → Leaves rows first channel told ended → IsEndAfter ended told.reply end → IsEnd rows first channel told end
-IsEnd-left rows first channel told ended None left after =
-    record { left = subst (Leaves rows first channel told) after.0 left; not_over = after.1; there = after.2 }
-IsEnd-left rows first channel told ended (Some Ended) left after = λ other. subst (Leaves rows first channel told) (after other) left
-IsEnd-left rows first channel told ended (Some TurnsSpent) left after = absurd after
-IsEnd-left rows first channel told ended (Some (Refused reason)) left after = (after.1, after.2)
+pub IsEnd-left : (meanings : Meanings) (first : World) (channel : ℕ) (told : SeatCall) (ended : Bool) (end : Option Why) → Leaves meanings first channel told ended → IsEndAfter ended told.reply end → IsEnd meanings first channel told end
+IsEnd-left meanings first channel told ended None left after =
+    record { left = subst (Leaves meanings first channel told) after.0 left; not_over = after.1; there = after.2 }
+IsEnd-left meanings first channel told ended (Some Ended) left after = λ other. subst (Leaves meanings first channel told) (after other) left
+IsEnd-left meanings first channel told ended (Some TurnsSpent) left after = absurd after
+IsEnd-left meanings first channel told ended (Some (Refused reason)) left after = (after.1, after.2)
 
 -- the reason after the last step
-pub IsReason-end : (rows : Rows) (first : World) (channel turns : ℕ) (why : Why) (told : SeatCall) (given : List SeatCall) → IsEnd rows first channel told (Some why) → last_call given ≡ Some told → IsReason rows first channel why turns given
-IsReason-end rows first channel turns Ended told given end last = subst (λ call. MatchOption call ⊥ (IsOver rows first channel)) (sym last) end
-IsReason-end rows first channel turns TurnsSpent told given end last = absurd end
-IsReason-end rows first channel turns (Refused reason) told given end last =
+pub IsReason-end : (meanings : Meanings) (first : World) (channel turns : ℕ) (why : Why) (told : SeatCall) (given : List SeatCall) → IsEnd meanings first channel told (Some why) → last_call given ≡ Some told → IsReason meanings first channel why turns given
+IsReason-end meanings first channel turns Ended told given end last = subst (λ call. MatchOption call ⊥ (IsOver meanings first channel)) (sym last) end
+IsReason-end meanings first channel turns TurnsSpent told given end last = absurd end
+IsReason-end meanings first channel turns (Refused reason) told given end last =
     (end.0, subst (λ call. MatchOption call ⊥ (λ (one : SeatCall). one.reply ≡ refused NoChannel)) (sym last) end.1)

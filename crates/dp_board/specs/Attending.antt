@@ -1,6 +1,6 @@
 -- What a seat gains that attends a channel.
 use Rattle.std.specs.Prelude.{◌≡◌, ◌≢◌, ℕ, ◌-◌, Bool, true, false, List, [], ◌∷◌, ◌++◌, length, take, drop, Option, Some, None, MatchOption, All}
-use Rattle.dp_app.specs.Rows.{Rows}
+use Rattle.dp_app.specs.Rows.{Meanings}
 use Rattle.dp_machine.specs.World.{World}
 use Rattle.dp_machine.specs.declared.event.Event.TheVariants.{Step as step}
 use Rattle.dp_machine.specs.declared.refusal.Refusal.TheVariants.{NoChannel, Ended as is_over}
@@ -38,33 +38,33 @@ last_call (told ∷ []) = Some told
 last_call (told ∷ next ∷ rest) = last_call (next ∷ rest)
 
 -- a log that replays from the first world and ends with this step of the channel, and whether the channel has ended in its world
-pub record Leaves (rows : Rows) (first : World) (channel : ℕ) (told : SeatCall) (ended : Bool) : Type 0 where
+pub record Leaves (meanings : Meanings) (first : World) (channel : ℕ) (told : SeatCall) (ended : Bool) : Type 0 where
   pub before : List Entry
   pub seat : ℕ
   pub log : Log
-  pub replays : Replays rows first log
+  pub replays : Replays meanings first log
   pub entries : log.entries ≡ before ++ (record { seat = seat; event = step channel; reply = told.reply }) ∷ []
   pub place : told.place ≡ length before
   pub state : has_ended log channel ≡ ended
 
 -- an attendance goes on after this call: it left the channel not ended, and was refused neither since the channel has ended nor since there
 -- is no such channel
-pub record GoesOn (rows : Rows) (first : World) (channel : ℕ) (told : SeatCall) : Type 0 where
-  pub left : Leaves rows first channel told false
+pub record GoesOn (meanings : Meanings) (first : World) (channel : ℕ) (told : SeatCall) : Type 0 where
+  pub left : Leaves meanings first channel told false
   pub not_over : told.reply ≢ refused is_over
   pub there : told.reply ≢ refused NoChannel
 
 -- it goes on after each of these calls
-abbrev pub GoesOnAfter : Rows → World → ℕ → List SeatCall → Type 0
-GoesOnAfter rows first channel given = All (GoesOn rows first channel) given
+abbrev pub GoesOnAfter : Meanings → World → ℕ → List SeatCall → Type 0
+GoesOnAfter meanings first channel given = All (GoesOn meanings first channel) given
 
 -- it goes on after each of them but the last
-abbrev pub GoesOnToLast : Rows → World → ℕ → List SeatCall → Type 0
-GoesOnToLast rows first channel given = GoesOnAfter rows first channel (take (length given - 1) given)
+abbrev pub GoesOnToLast : Meanings → World → ℕ → List SeatCall → Type 0
+GoesOnToLast meanings first channel given = GoesOnAfter meanings first channel (take (length given - 1) given)
 
 -- the call left the channel ended, or its reply says that the channel had ended
-abbrev pub IsOver : Rows → World → ℕ → SeatCall → Type 0
-IsOver rows first channel told = told.reply ≢ refused is_over → Leaves rows first channel told true
+abbrev pub IsOver : Meanings → World → ℕ → SeatCall → Type 0
+IsOver meanings first channel told = told.reply ≢ refused is_over → Leaves meanings first channel told true
 
 -- whether an attendance is over after a reply, by it and by whether the channel has ended then
 abbrev pub IsEndAfter : Bool → Reply → Option Why → Type 0
@@ -74,16 +74,16 @@ IsEndAfter ended reply (Some TurnsSpent) = ⊥
 IsEndAfter ended reply (Some (Refused reason)) = (ended ≡ false) × (reason ≡ NoChannel) × (reply ≡ refused NoChannel)
 
 -- whether an attendance is over after this call
-abbrev pub IsEnd : Rows → World → ℕ → SeatCall → Option Why → Type 0
-IsEnd rows first channel told None = GoesOn rows first channel told
-IsEnd rows first channel told (Some Ended) = IsOver rows first channel told
-IsEnd rows first channel told (Some TurnsSpent) = ⊥
-IsEnd rows first channel told (Some (Refused reason)) = (reason ≡ NoChannel) × (told.reply ≡ refused NoChannel)
+abbrev pub IsEnd : Meanings → World → ℕ → SeatCall → Option Why → Type 0
+IsEnd meanings first channel told None = GoesOn meanings first channel told
+IsEnd meanings first channel told (Some Ended) = IsOver meanings first channel told
+IsEnd meanings first channel told (Some TurnsSpent) = ⊥
+IsEnd meanings first channel told (Some (Refused reason)) = (reason ≡ NoChannel) × (told.reply ≡ refused NoChannel)
 
 -- the reason of an attendance, by the calls that it gave: the channel has ended after the last of them, the turns are spent where all
 -- were taken and none ended it, and it was refused where there is a last one, to which the reply says so
-abbrev pub IsReason : Rows → World → ℕ → Why → ℕ → List SeatCall → Type 0
-IsReason rows first channel Ended turns given = MatchOption (last_call given) ⊥ (IsOver rows first channel)
-IsReason rows first channel TurnsSpent turns given = (length given ≡ turns) × GoesOnAfter rows first channel given
-IsReason rows first channel (Refused reason) turns given =
+abbrev pub IsReason : Meanings → World → ℕ → Why → ℕ → List SeatCall → Type 0
+IsReason meanings first channel Ended turns given = MatchOption (last_call given) ⊥ (IsOver meanings first channel)
+IsReason meanings first channel TurnsSpent turns given = (length given ≡ turns) × GoesOnAfter meanings first channel given
+IsReason meanings first channel (Refused reason) turns given =
     (reason ≡ NoChannel) × MatchOption (last_call given) ⊥ (λ told. told.reply ≡ refused NoChannel)

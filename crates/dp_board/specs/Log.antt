@@ -1,6 +1,6 @@
 -- The log of a shared world: the world, and the calls that led to it.
 use Rattle.std.specs.Prelude.{◌≡◌, ℕ, ◌+◌, ◌<◌, Bool, true, false, List, [], map, Option, Some, None, All}
-use Rattle.dp_app.specs.Rows.{Rows}
+use Rattle.dp_app.specs.Rows.{Meanings}
 use Rattle.dp_app.specs.declared.phase.Phase.{Phase}
 use Rattle.dp_app.specs.declared.phase.Phase.TheVariants.{Ready, Digits, Pause, Queued, Talking, Dialling, Ended}
 use Rattle.dp_queue.specs.Queues.{no_queues}
@@ -26,13 +26,13 @@ abbrev pub replies_in : List Entry → List Reply
 replies_in entries = map (λ entry. entry.reply) entries
 
 -- the world and the replies are those of the events, one after another, from the opening world
-pub record Replays (rows : Rows) (first : World) (log : Log) : Type 0 where
-  pub world : log.world ≡ world_after rows first (events_in log.entries)
-  pub replies : replies_in log.entries ≡ replies_to rows first (events_in log.entries)
+pub record Replays (meanings : Meanings) (first : World) (log : Log) : Type 0 where
+  pub world : log.world ≡ world_after meanings first (events_in log.entries)
+  pub replies : replies_in log.entries ≡ replies_to meanings first (events_in log.entries)
 
 -- one event leads from the world of a log to that of another, with this reply
-abbrev pub IsRow : Rows → Log → Event → Reply → Log → Type 0
-IsRow rows before event reply after = event_row rows before.world event ≡ (after.world, reply)
+abbrev pub IsRow : Meanings → Log → Event → Reply → Log → Type 0
+IsRow meanings before event reply after = event_row meanings before.world event ≡ (after.world, reply)
 
 -- each call is one of a seat of a ledger of so many parts, one of which is no seat's
 abbrev pub AreSeated : ℕ → List Entry → Type 0

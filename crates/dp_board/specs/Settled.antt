@@ -1,7 +1,7 @@
 -- What is known once all seats of a board have come together.
 use Rattle.std.specs.Prelude.{◌≡◌, ℕ, ◌<◌, ◌==◌, nat_lt, Bool, true, false, List, ◌∷◌, ◌++◌, length, Option, Some, None, All, if◌then◌else◌}
 use Rattle.std.specs.List.{list_any, sum_by}
-use Rattle.dp_app.specs.Rows.{Rows}
+use Rattle.dp_app.specs.Rows.{Meanings}
 use Rattle.dp_machine.specs.World.{World}
 use Rattle.dp_board.specs.Difference.{told_to, FirstDiffers}
 use Rattle.dp_board.specs.Log.{Log, Replays}
@@ -43,15 +43,15 @@ pub record IsLeastDifference (entries : List Entry) (seats : List Sitting) (foun
 
 -- the calls of all seats, in one history: it replays from the first world, all seats of the board are there, and it has as
 -- many entries as their records have items
-pub record IsWhole (rows : Rows) (first : World) (count : ℕ) (seats : List Sitting) (history : Log) : Type 0 where
-  pub replays : Replays rows first history
+pub record IsWhole (meanings : Meanings) (first : World) (count : ℕ) (seats : List Sitting) (history : Log) : Type 0 where
+  pub replays : Replays meanings first history
   pub present : AllPresent count seats
   pub calls : length history.entries ≡ calls_of seats
   pub seated : All (λ entry. entry.seat < count) history.entries
 
 -- a settled history: the entries of each seat, with their places, are its record
-pub record IsSettled (rows : Rows) (first : World) (count : ℕ) (seats : List Sitting) (history : Log) : Type 0 where
-  pub whole : IsWhole rows first count seats history
+pub record IsSettled (meanings : Meanings) (first : World) (count : ℕ) (seats : List Sitting) (history : Log) : Type 0 where
+  pub whole : IsWhole meanings first count seats history
   pub records : All (Agrees history.entries) seats
 
 -- of two differences the one of the lesser seat

@@ -1,6 +1,6 @@
 -- A history in which one channel is silent.
 use Rattle.std.specs.Prelude.{◌≡◌, ℕ, not, List, filter}
-use Rattle.dp_app.specs.Rows.{Rows}
+use Rattle.dp_app.specs.Rows.{Meanings}
 use Rattle.dp_machine.specs.Isolation.{AreSameBut, is_of, without}
 use Rattle.dp_machine.specs.Replay.{replies_to, world_after}
 use Rattle.dp_machine.specs.World.{World}
@@ -13,6 +13,6 @@ entries_without number entries = filter (λ entry. not (is_of number entry.event
 
 -- a channel may as well have been silent: the events without its own give each other call the reply of its entry, and the same last
 -- world but for this channel
-pub record MayBeSilent (rows : Rows) (first : World) (number : ℕ) (history : Log) : Type 0 where
-  pub replies : replies_to rows first (without number (events_in history.entries)) ≡ replies_in (entries_without number history.entries)
-  pub world : AreSameBut number (world_after rows first (without number (events_in history.entries))) history.world
+pub record MayBeSilent (meanings : Meanings) (first : World) (number : ℕ) (history : Log) : Type 0 where
+  pub replies : replies_to meanings first (without number (events_in history.entries)) ≡ replies_in (entries_without number history.entries)
+  pub world : AreSameBut number (world_after meanings first (without number (events_in history.entries))) history.world

@@ -1,6 +1,6 @@
 -- What is known where a board was not settled.
 use Rattle.std.specs.Prelude.{◌≡◌, ℕ, List}
-use Rattle.dp_app.specs.Rows.{Rows}
+use Rattle.dp_app.specs.Rows.{Meanings}
 use Rattle.dp_machine.specs.World.{World}
 use Rattle.dp_board.specs.Log.{Log}
 use Rattle.dp_board.specs.Settled.{IsLeastAbsent, IsLeastDifference, IsWhole}
@@ -17,12 +17,12 @@ IsOpenFault count seats (SeatMissing seat) = IsLeastAbsent count seats seat
 IsOpenFault count seats (Differs found) = ⊥
 
 -- a fault that leaves a history
-abbrev pub IsClosedFault : Rows → World → ℕ → List Sitting → SettleFault → Log → Type 0
-IsClosedFault rows first count seats NoMemory history = ⊥
-IsClosedFault rows first count seats (SeatMissing seat) history = ⊥
-IsClosedFault rows first count seats (Differs found) history = IsWhole rows first count seats history × IsLeastDifference history.entries seats found
+abbrev pub IsClosedFault : Meanings → World → ℕ → List Sitting → SettleFault → Log → Type 0
+IsClosedFault meanings first count seats NoMemory history = ⊥
+IsClosedFault meanings first count seats (SeatMissing seat) history = ⊥
+IsClosedFault meanings first count seats (Differs found) history = IsWhole meanings first count seats history × IsLeastDifference history.entries seats found
 
 -- why a board of so many seats was not settled, and what is handed back: the board or the history, and the seats
-abbrev pub IsUnsettled : {T S : Type 0} → Rows → World → ℕ → List Sitting → SettleFault → Back T S → Type 0
-IsUnsettled rows first count seats fault (Open board back) = IsOpenFault count seats fault × (board ≡ count) × (back.items ≡ seats)
-IsUnsettled rows first count seats fault (Closed history back) = IsClosedFault rows first count seats fault history × (back.items ≡ seats)
+abbrev pub IsUnsettled : {T S F : Type 0} → Meanings → World → ℕ → List Sitting → SettleFault → Back T S F → Type 0
+IsUnsettled meanings first count seats fault (Open board back) = IsOpenFault count seats fault × (board ≡ count) × (back.items ≡ seats)
+IsUnsettled meanings first count seats fault (Closed history back) = IsClosedFault meanings first count seats fault history × (back.items ≡ seats)

@@ -1,5 +1,6 @@
 //! Attending a channel: step after step, until it ends or the turns are spent.
 ghost use Rattle.std.specs.Prelude.{◌≡◌, ◌+◌, ◌≤◌, length, IfOk, OnErr};
+ghost use Rattle.dp_app.specs.Rows.{with_functions};
 ghost use Rattle.dp_board.specs.Attending as steps;
 ghost use Rattle.dp_board.specs.Sittings as sittings;
 ghost use Rattle.dp_machine.specs.declared.event.Event.TheVariants.{Step};
@@ -71,7 +72,7 @@ impl<T: AppTable, S: Session> Board<T, S> {
         channel: u32,
     ) -> Result<(usize, Reply, bool), NoMemory>
         ensures ok { IfOk result (λ answer. seat.new ≡ steps.with_step seat.old channel answer.0 answer.1) }
-        ensures left { IfOk result (λ answer. steps.Leaves T.rows S.opening channel
+        ensures left { IfOk result (λ answer. steps.Leaves (with_functions T.rows T.Functions.table) S.opening channel
             (sittings.call_of answer.0 (Step channel) answer.1) answer.2) }
         ensures err { OnErr result (seat.new ≡ seat.old) }
     {
@@ -94,7 +95,7 @@ impl<T: AppTable, S: Session> Board<T, S> {
         turn: u64,
     ) -> Result<(usize, Reply, Option<Why>), NoMemory>
         ensures ok { IfOk result (λ answer. seat.new ≡ steps.with_step seat.old channel answer.0 answer.1) }
-        ensures end { IfOk result (λ answer. steps.IsEnd T.rows S.opening channel
+        ensures end { IfOk result (λ answer. steps.IsEnd (with_functions T.rows T.Functions.table) S.opening channel
             (sittings.call_of answer.0 (Step channel) answer.1) answer.2) }
         ensures err { OnErr result (seat.new ≡ seat.old) }
     {
@@ -122,8 +123,8 @@ impl<T: AppTable, S: Session> Board<T, S> {
         ensures steps { steps.AddsSteps channel seat.old seat.new }
         ensures bound { length seat.new.told ≤ length seat.old.told + turns }
         ensures count { IfOk result (λ attended. length seat.new.told ≡ length seat.old.told + attended.steps) }
-        ensures on { steps.GoesOnToLast T.rows S.opening channel (steps.calls_since seat.old seat.new) }
-        ensures why { IfOk result (λ attended. steps.IsReason T.rows S.opening channel attended.why turns
+        ensures on { steps.GoesOnToLast (with_functions T.rows T.Functions.table) S.opening channel (steps.calls_since seat.old seat.new) }
+        ensures why { IfOk result (λ attended. steps.IsReason (with_functions T.rows T.Functions.table) S.opening channel attended.why turns
             (steps.calls_since seat.old seat.new)) }
     {
         for turn in 0..turns {

@@ -1,6 +1,6 @@
 //! Laws of settled histories.
 ghost use Rattle.std.specs.Prelude.{ℕ, List, All};
-ghost use Rattle.dp_app.specs.Rows.{Rows};
+ghost use Rattle.dp_app.specs.Rows.{Meanings};
 ghost use Rattle.dp_machine.specs.Isolation.{IsUnseen};
 ghost use Rattle.dp_machine.specs.World.{World};
 ghost use Rattle.dp_board.specs.Log.{Log, events_in};
@@ -11,14 +11,14 @@ ghost use Rattle.dp_board.specs.Sittings.{PlacesRise, Sitting};
 /// The places in each seat's record rise: each of its calls stands in the history once, and they stand there in the order in
 /// which the seat made them. It does nothing.
 pub fn places_rise()
-    ensures { (rows : Rows) (first : World) (count : ℕ) (seats : List Sitting) (history : Log)
-        → IsSettled rows first count seats history → All PlacesRise seats }
+    ensures { (meanings : Meanings) (first : World) (count : ℕ) (seats : List Sitting) (history : Log)
+        → IsSettled meanings first count seats history → All PlacesRise seats }
 {}
 
 /// A channel that is unseen in the events of a history may as well be silent: without its events each other call has the
 /// reply that stands in its entry, and the last world is the same but for this channel. It does nothing.
 pub fn silence()
-    ensures { (rows : Rows) (first : World) (count : ℕ) (seats : List Sitting) (history : Log) (channel : ℕ)
-        → IsSettled rows first count seats history → IsUnseen rows channel first (events_in history.entries)
-        → MayBeSilent rows first channel history }
+    ensures { (meanings : Meanings) (first : World) (count : ℕ) (seats : List Sitting) (history : Log) (channel : ℕ)
+        → IsSettled meanings first count seats history → IsUnseen meanings channel first (events_in history.entries)
+        → MayBeSilent meanings first channel history }
 {}

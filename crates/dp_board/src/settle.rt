@@ -1,6 +1,7 @@
 //! Settling a board: once all seats have come together, its calls stand in one history.
 ghost use Rattle.std.specs.Prelude.{◌≡◌, ◌+◌, ◌<◌, ◌≤◌, [], All, IfOk, IfErr, MatchOption, length, replicate};
 ghost use Rattle.std.specs.Prelude.{vec_len, vec_capacity};
+ghost use Rattle.dp_app.specs.Rows.{with_functions};
 ghost use Rattle.dp_board.specs.Difference as difference;
 ghost use Rattle.dp_board.specs.Settled as settled;
 ghost use Rattle.dp_board.specs.steps.Places as places;
@@ -131,7 +132,7 @@ fn history_of<T: AppTable, S: Session>(
 ) -> History<T>
     requires present { settled.AllPresent board seats.old.items × (board ≤ length seats.old.items) }
     requires room { (sheets.items ≡ []) × (vec_len seats.old ≤ vec_capacity sheets) }
-    ensures whole { settled.IsWhole T.rows S.opening board seats.old.items result }
+    ensures whole { settled.IsWhole (with_functions T.rows T.Functions.table) S.opening board seats.old.items result }
     ensures same { seats.new.items ≡ seats.old.items }
 {
     let shared = board.shared.into_inner();
@@ -151,8 +152,8 @@ fn close<T: AppTable, S: Session>(
     requires present { settled.AllPresent board seats.items × (board ≤ length seats.items) }
     requires sheets { (room.sheets.items ≡ []) × (vec_len seats ≤ vec_capacity room.sheets) }
     requires counts { room.counts.items ≡ replicate board 0 }
-    ensures ok { IfOk result (λ history. settled.IsSettled T.rows S.opening board seats.items history) }
-    ensures err { IfErr result (λ it. unsettled.IsUnsettled T.rows S.opening board seats.items it.fault it.back) }
+    ensures ok { IfOk result (λ history. settled.IsSettled (with_functions T.rows T.Functions.table) S.opening board seats.items history) }
+    ensures err { IfErr result (λ it. unsettled.IsUnsettled (with_functions T.rows T.Functions.table) S.opening board seats.items it.fault it.back) }
 {
     let history = history_of(board, room.sheets, &mut seats);
     match least_difference(room.counts, history.entries(), &seats) {
@@ -172,8 +173,8 @@ impl<T: AppTable, S: Session> Board<T, S> {
     ///
     /// Refused memory comes first, then the least number that is absent, then the least seat that differs.
     pub fn settle(self, alloc: Global, seats: Vec<Seat<S>>) -> Result<History<T>, Unsettled<T, S>>
-        ensures ok { IfOk result (λ history. settled.IsSettled T.rows S.opening self seats.items history) }
-        ensures err { IfErr result (λ it. unsettled.IsUnsettled T.rows S.opening self seats.items it.fault it.back) }
+        ensures ok { IfOk result (λ history. settled.IsSettled (with_functions T.rows T.Functions.table) S.opening self seats.items history) }
+        ensures err { IfErr result (λ it. unsettled.IsUnsettled (with_functions T.rows T.Functions.table) S.opening self seats.items it.fault it.back) }
     {
         match room_for(alloc, self.seats, &seats) {
             Ok(room) => close(self, room, seats),

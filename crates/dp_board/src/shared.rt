@@ -1,5 +1,6 @@
 //! What lies under the lock of a board.
 ghost use Rattle.std.specs.Prelude.{◌≡◌, ◌++◌, ◌∷◌, ◌<◌, [], length, vec_len, vec_capacity, IfOk, OnOk, OnErr};
+ghost use Rattle.dp_app.specs.Rows.{with_functions};
 ghost use Rattle.dp_board.specs.Log as log;
 ghost use Rattle.dp_board.specs.Sittings as sittings;
 ghost use Rattle.dp_machine.specs.Events as events;
@@ -38,6 +39,7 @@ impl<T: AppTable, S: Session> Model for Shared<T, S> {
     ghost use Rattle.std.specs.Prelude.{◌≡◌, length};
     ghost use Rattle.std.specs.Coded.{codes};
     ghost use Rattle.dp_vars.specs.Variables.{named_code};
+    ghost use Rattle.dp_app.specs.Rows.{with_functions};
     ghost use Rattle.dp_board.specs.Log.{Log, Replays, AreSeated};
 
     ghost Value = { Log };
@@ -47,7 +49,7 @@ impl<T: AppTable, S: Session> Model for Shared<T, S> {
     ghost view = { λ shared. record { world = shared.machine; entries = shared.entries.items } };
 
     ghost invariant = { λ shared.
-        Replays T.rows S.opening (record { world = shared.machine; entries = shared.entries.items })
+        Replays (with_functions T.rows T.Functions.table) S.opening (record { world = shared.machine; entries = shared.entries.items })
         × (length shared.entries.items ≡ shared.calls.total)
         × AreSeated S.parts shared.entries.items };
 }
@@ -106,7 +108,7 @@ fn apply_copied<T: AppTable>(
     ensures room { OnOk result ((vec_len entries.new < vec_capacity entries.new) ×
         (vec_len told.new < vec_capacity told.new)) }
     ensures copy { IfOk result (λ applied. applied.0 ≡ event.now) }
-    ensures row { IfOk result (λ applied. events.event_row T.rows machine.old event.now ≡ (machine.new, applied.1)) }
+    ensures row { IfOk result (λ applied. events.event_row (with_functions T.rows T.Functions.table) machine.old event.now ≡ (machine.new, applied.1)) }
     ensures err { OnErr result (machine.new ≡ machine.old) }
 {
     make_room(entries, told)?;
@@ -139,11 +141,11 @@ impl<T: AppTable, S: Session> Shared<T, S> {
         seat: &mut Seat<S>,
         event: Event,
     ) -> Result<(usize, Reply), NoMemory>
-        ensures row { IfOk result (λ told. log.IsRow T.rows self.old event told.1 self.new) }
+        ensures row { IfOk result (λ told. log.IsRow (with_functions T.rows T.Functions.table) self.old event told.1 self.new) }
         ensures place { IfOk result (λ told. told.0 ≡ length self.old.entries) }
         ensures logged { IfOk result (λ told. self.new.entries
             ≡ self.old.entries ++ record { seat = seat.old.number; event = event; reply = told.1 } ∷ []) }
-        ensures replays { IfOk result (λ _. log.Replays T.rows S.opening self.new) }
+        ensures replays { IfOk result (λ _. log.Replays (with_functions T.rows T.Functions.table) S.opening self.new) }
         ensures kept { IfOk result (λ told. seat.new ≡ sittings.with_call seat.old told.0 event told.1) }
         ensures err { OnErr result ((self.new ≡ self.old) × (seat.new ≡ seat.old)) }
     {
@@ -200,7 +202,7 @@ impl<T: AppTable, S: Session> Shared<T, S> {
     pub(crate) fn into_history(self, all: &mut Share<S>) -> History<T>
         requires { all.old.parts ≡ S.parts }
         ensures history { result ≡ self }
-        ensures replays { log.Replays T.rows S.opening self }
+        ensures replays { log.Replays (with_functions T.rows T.Functions.table) S.opening self }
         ensures calls { length self.entries ≡ all.old.amount }
         ensures seated { log.AreSeated S.parts self.entries }
         ensures same { (all.new.parts ≡ all.old.parts) × (all.new.amount ≡ all.old.amount) }

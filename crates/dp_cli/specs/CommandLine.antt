@@ -89,16 +89,20 @@ audit_app = file_app (codes "audit")
 abbrev pub explain_app : App
 explain_app = with_explain (with_rule (new_app (codes "explain")) (required_word (codes "CODE")))
 
--- `run [--queues QUEUES] [--reload DIALPLAN] [--threads N] [--explain] FILE SCRIPT`
+-- a command with the flag that asks for more above the lines of a run
+abbrev pub with_verbose : App → App
+with_verbose app = with_rule app (flag (codes "verbose") (codes "verbose"))
+
+-- `run [--queues QUEUES] [--reload DIALPLAN] [--threads N] [--verbose] [--explain] FILE SCRIPT`
 abbrev pub run_app : App
 run_app =
-    with_explain (with_files (with_rule (with_more_files (new_app (codes "run"))) (named_word (codes "N") (codes "threads"))))
+    with_explain (with_files (with_verbose (with_rule (with_more_files (new_app (codes "run"))) (named_word (codes "N") (codes "threads")))))
 
--- `debug [--queues QUEUES] [--reload DIALPLAN] --break CONTEXT,EXTEN,PRIORITY [--explain] FILE SCRIPT`
+-- `debug [--queues QUEUES] [--reload DIALPLAN] --break CONTEXT,EXTEN,PRIORITY [--verbose] [--explain] FILE SCRIPT`
 abbrev pub debug_app : App
 debug_app =
-    with_explain (with_files (with_rule (with_more_files (new_app (codes "debug")))
-    (required_named_word (codes "CONTEXT,EXTEN,PRIORITY") (codes "break"))))
+    with_explain (with_files (with_verbose (with_rule (with_more_files (new_app (codes "debug")))
+    (required_named_word (codes "CONTEXT,EXTEN,PRIORITY") (codes "break")))))
 
 -- the words of what may come in: the contexts where calls do, and the bytes of extensions and of callers' numbers
 abbrev pub with_outside : App → App
@@ -199,7 +203,7 @@ run_paths words =
 
 -- what `run` asks for in so many threads, where their number is given, by its other words
 abbrev pub run_in : List Row → Option ℕ → Option RequestOf
-run_in words threads = option_map (λ paths. run paths threads) (run_paths words)
+run_in words threads = option_map (λ paths. run paths threads (is_set (codes "verbose") words)) (run_paths words)
 
 -- what `run` asks for, by its words and the one after `--threads`
 abbrev pub run_by : List Row → Option (List ℕ) → Option RequestOf
@@ -213,7 +217,8 @@ run_asked words = run_by words (first_of (codes "N") words)
 -- what `debug` asks for, by its words
 abbrev pub debug_asked : List Row → Option RequestOf
 debug_asked words =
-    option_and_then (λ paths. option_map (debug paths) (first_of (codes "CONTEXT,EXTEN,PRIORITY") words)) (run_paths words)
+    option_and_then (λ paths. option_map (λ held. debug paths held (is_set (codes "verbose") words))
+    (first_of (codes "CONTEXT,EXTEN,PRIORITY") words)) (run_paths words)
 
 -- what `reach` asks of a file and a context, by its other words
 abbrev pub reach_at : List Row → List ℕ → List ℕ → QuestionOf

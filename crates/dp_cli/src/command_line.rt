@@ -261,6 +261,7 @@ fn run_in<'a>(given: &ArgMatches<'a>, threads: Option<u32>) -> Option<Request<'a
     Some(Request::Run {
         files: run_files(given)?,
         threads,
+        is_verbose: is_set(given, "verbose"),
     })
 }
 
@@ -271,6 +272,7 @@ fn debug_request<'a>(given: &ArgMatches<'a>) -> Option<Request<'a>>
     Some(Request::Debug {
         files: run_files(given)?,
         held: word_of(given, "CONTEXT,EXTEN,PRIORITY")?,
+        is_verbose: is_set(given, "verbose"),
     })
 }
 

@@ -117,6 +117,22 @@ fn with_explain<'a>(
     with_word(command, explain)
 }
 
+/// The command with the flag `--verbose`, which the commands have that run a script.
+fn with_verbose<'a>(
+    alloc: Global,
+    command: Result<Command<'a>, NoMemory>,
+) -> Result<Command<'a>, NoMemory>
+    ensures { (app : App) → Makes app command.entry → Makes (spec.with_verbose app) result }
+{
+    let verbose = flag(
+        alloc,
+        "verbose",
+        "verbose",
+        "Print above each step the line of its entry, and above each refusal what the manual says of it",
+    );
+    with_word(command, verbose)
+}
+
 /// A command whose one word is its dialplan's file.
 fn file_command<'a>(
     alloc: Global,
@@ -338,6 +354,7 @@ pub(crate) fn run_command<'a>(alloc: Global) -> Result<Command<'a>, NoMemory>
         "Give the events in so many threads at once, from 1 to 64",
     );
     let run = with_word(run, threads);
+    let run = with_verbose(alloc, run);
     let run = with_files(alloc, run);
     with_explain(alloc, run)
 }
@@ -360,6 +377,7 @@ fn debug_command<'a>(alloc: Global) -> Result<Command<'a>, NoMemory>
         "The place where the run halts",
     );
     let debug = with_word(debug, held);
+    let debug = with_verbose(alloc, debug);
     let debug = with_files(alloc, debug);
     with_explain(alloc, debug)
 }

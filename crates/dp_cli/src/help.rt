@@ -123,6 +123,9 @@ Prints a line for each of them.
 With --threads N the calls that the script begins with come in first. Then N threads give the other events at once, each in
 turn one, and each thread its own in their order; `show` is passed over. One line is printed: `settled N seats M calls`.
 
+With --verbose the line `  FILE:LINE APP(ARGS)` stands above that of each step that runs an entry, and what `pbx explain` prints above
+that of each refusal. It has no effect beside --threads.
+
 Example:
   $ cat calls.script
   start main 100
@@ -136,7 +139,8 @@ Example:
 pub(crate) const DEBUG_NOTES: &str = "\
 Runs the script as `run` does, but passes over `show`. Before a step of a channel that is ready at the place of the break it prints
 `break TAKEN`, and goes on; last it prints `end TAKEN`. TAKEN is how many events of the script were taken. The context and the
-extension are compared byte by byte with those of the channel: a pattern, or a context that is included, is no place.
+extension are compared byte by byte with those of the channel: a pattern, or a context that is included, is no place. With --verbose it
+prints more, as `run` does.
 
 Example:
   $ cat calls.script

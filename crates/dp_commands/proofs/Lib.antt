@@ -7,3 +7,4 @@ mod RunnersLemmas
 mod StreamsLemmas
 mod TextsLemmas
 mod ThreadsLemmas
+mod VerboseLemmas

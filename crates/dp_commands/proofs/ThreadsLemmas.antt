@@ -7,7 +7,7 @@ use Rattle.std.specs.Io.KnownBytes.{Appends}
 use Rattle.std.specs.List.{prefix_len, list_any, range_with_len}
 use Rattle.std.proofs.lemmas.List.FromFn.{length-map-range_with_len}
 use Rattle.std.proofs.lemmas.List.Elements.{All-map}
-use Rattle.dp_app.specs.Rows.{Rows}
+use Rattle.dp_app.specs.Rows.{Meanings}
 use Rattle.dp_board.specs.Difference.{told_to}
 use Rattle.dp_board.specs.Log.{Log}
 use Rattle.dp_board.specs.Settled.{Agrees, AllPresent, IsSettled, has_seat}
@@ -20,7 +20,7 @@ use Rattle.dp_board.specs.declared.settle.Back.{Back}
 use Rattle.dp_board.specs.declared.settle.Back.TheVariants.{Open, Closed}
 use Rattle.dp_machine.specs.World.{World}
 use Rattle.dp_machine.specs.declared.event.Event.{Event}
-use Rattle.dp_table.specs.Standard.{standard_rows}
+use Rattle.dp_table.specs.Standard.{standard_meanings}
 use Rattle.dp_conf.specs.Answers.{Refuses}
 use Rattle.dp_machine.specs.Events.{is_refused}
 use Rattle.dp_commands.proofs.DealLemmas.{calls-items_of_seat, items_of_seat-front}
@@ -70,7 +70,7 @@ told-all : (count : ℕ) (events : List Event) (seat : Sitting) → GaveFront co
 told-all count events seat front many = front ∙ take_all (length seat.told) (items_of_seat count seat.number events) many
 
 -- the history of seats that gave all of their events
-pub is-items_of_seat : (first : World) (count : ℕ) (events : List Event) (seats : List Sitting) (history : Log) → 0 < count → IsSettled standard_rows first count seats history → All (GaveFront count events) seats → All (λ (seat : Sitting). length (items_of_seat count seat.number events) ≤ length seat.told) seats → IsDealt first count events history
+pub is-items_of_seat : (first : World) (count : ℕ) (events : List Event) (seats : List Sitting) (history : Log) → 0 < count → IsSettled standard_meanings first count seats history → All (GaveFront count events) seats → All (λ (seat : Sitting). length (items_of_seat count seat.number events) ≤ length seat.told) seats → IsDealt first count events history
 is-items_of_seat first count events seats history some settled fronts acted =
     let P : Sitting → Type 0 = λ s. Agrees history.entries s × (events_told s.told ≡ items_of_seat count s.number events) in
     let in_turn : (number : ℕ) → number < count → events_told (told_to number history.entries) ≡ items_of_seat count number events = λ number lt.
@@ -84,7 +84,7 @@ is-items_of_seat first count events seats history some settled fronts acted =
     }
 
 -- the same of what settling answers
-pub is-items_of_seat-if : (first : World) (count many : ℕ) (events : List Event) (seats : List Sitting) (result : Result Log PbxFault) → 0 < count → IfOk result (λ history. IsSettled standard_rows first count seats history) → count ≡ many → All (GaveFront many events) seats → All (λ (seat : Sitting). length (items_of_seat many seat.number events) ≤ length seat.told) seats → IfOk result (λ history. IsDealt first count events history)
+pub is-items_of_seat-if : (first : World) (count many : ℕ) (events : List Event) (seats : List Sitting) (result : Result Log PbxFault) → 0 < count → IfOk result (λ history. IsSettled standard_meanings first count seats history) → count ≡ many → All (GaveFront many events) seats → All (λ (seat : Sitting). length (items_of_seat many seat.number events) ≤ length seat.told) seats → IfOk result (λ history. IsDealt first count events history)
 is-items_of_seat-if first count many events seats (Err fault) some settled same fronts acted = tt
 is-items_of_seat-if first count many events seats (Ok history) some settled same fronts acted =
     is-items_of_seat first count events seats history some settled
@@ -189,9 +189,9 @@ true_is_false : true ≡ false → ⊥
 true_is_false e = cc
 
 -- settling misses no seat where every seat is handed in
-pub misses-none : {T S : Type 0} (rows : Rows) (first : World) (count : ℕ) (seats : List Sitting) (fault : SettleFault) (back : Back T S) → AllPresent count seats → IsUnsettled rows first count seats fault back → misses_no_seat fault ≡ true
-misses-none rows first count seats (Differs found) back present unsettled = refl
-misses-none rows first count seats settle_no_memory back present unsettled = refl
-misses-none rows first count seats (SeatMissing seat) (Open board back) present unsettled =
+pub misses-none : {T S F : Type 0} (meanings : Meanings) (first : World) (count : ℕ) (seats : List Sitting) (fault : SettleFault) (back : Back T S F) → AllPresent count seats → IsUnsettled meanings first count seats fault back → misses_no_seat fault ≡ true
+misses-none meanings first count seats (Differs found) back present unsettled = refl
+misses-none meanings first count seats settle_no_memory back present unsettled = refl
+misses-none meanings first count seats (SeatMissing seat) (Open board back) present unsettled =
     absurd (true_is_false (sym (present seat unsettled.0.within) ∙ unsettled.0.absent))
-misses-none rows first count seats (SeatMissing seat) (Closed history back) present unsettled = absurd unsettled.0
+misses-none meanings first count seats (SeatMissing seat) (Closed history back) present unsettled = absurd unsettled.0

@@ -12,7 +12,7 @@ use Rattle.dp_machine.specs.Replay.{final_world}
 use Rattle.dp_machine.specs.World.{World}
 use Rattle.dp_conf.specs.Numbers.{most_priority}
 use Rattle.dp_queue.specs.Changes.{one_more}
-use Rattle.dp_table.specs.Standard.{standard_rows}
+use Rattle.dp_table.specs.Standard.{standard_meanings}
 use Rattle.dp_commands.specs.Run.{Run}
 use Rattle.dp_commands.specs.Script.{number_within}
 use Rattle.dp_commands.specs.Trace.{event_line}
@@ -71,9 +71,9 @@ halt_text halted taken = if halted then halt_line taken else []
 abbrev pub debug_turn : Watch × World → Turn → Taken (Watch × World)
 debug_turn at (turn_event event) =
     record {
-      state = (record { held = at.0.held; taken = one_more at.0.taken }, final_world standard_rows at.1 event);
+      state = (record { held = at.0.held; taken = one_more at.0.taken }, final_world standard_meanings at.1 event);
       lines = halt_text (is_some (first_before at.1 event (at.0.held ∷ []))) at.0.taken ++ event_line at.1 event;
-      refused = is_refused (event_row standard_rows at.1 event).1;
+      refused = is_refused (event_row standard_meanings at.1 event).1;
     }
 debug_turn at (Show number name) = record { state = at; lines = []; refused = false }
 

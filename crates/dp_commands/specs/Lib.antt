@@ -12,4 +12,5 @@ pub mod Script
 pub mod Threads
 pub mod Trace
 pub mod Turns
+pub mod Verbose
 pub mod steps

@@ -12,8 +12,8 @@ use Rattle.dp_machine.specs.Events.{is_refused}
 use Rattle.dp_machine.specs.Replay.{replies_to, world_after}
 use Rattle.dp_machine.specs.World.{World}
 use Rattle.dp_machine.specs.declared.event.Event.{Event}
-use Rattle.dp_machine.specs.declared.event.Event.TheVariants.{Start, Step, Digit, Timeout, Poll, Hangup, DialResult, Offer, Answer, Decline, AgentDone, Reload}
-use Rattle.dp_table.specs.Standard.{standard_rows}
+use Rattle.dp_machine.specs.declared.event.Event.TheVariants.{Start, Step, Digit, Timeout, Poll, Hangup, DialResult, Offer, Answer, Decline, AgentDone, Reload, Assign, Redirect}
+use Rattle.dp_table.specs.Standard.{standard_meanings}
 use Rattle.dp_commands.specs.Run.{Run, status_by}
 use Rattle.dp_commands.specs.declared.fault.Code.TheVariants.{Line, Name, Plan, QueueLine, Queue, ReadFailed, TooLong, WriteFailed, Settle, BadScript, BadBreak}
 use Rattle.dp_commands.specs.declared.fault.PbxFault.{PbxFault}
@@ -44,6 +44,8 @@ is_start (Answer agent) = false
 is_start (Decline agent) = false
 is_start (AgentDone agent) = false
 is_start (Reload text) = false
+is_start (Assign channel name value) = false
+is_start (Redirect channel place) = false
 
 -- the calls that come in before any other event
 abbrev pub leading_calls : List Event → List Event
@@ -70,14 +72,14 @@ events_told told = map (λ call. call.event) told
 -- a history of the events as they are dealt to so many seats: it replays from the first world, each seat's entries are its own
 -- events, in their order, and there are as many entries as events
 pub record IsDealt (first : World) (count : ℕ) (events : List Event) (history : Log) : Type 0 where
-  pub replays : Replays standard_rows first history
+  pub replays : Replays standard_meanings first history
   pub seated : All (λ entry. entry.seat < count) history.entries
   pub in_turn : (seat : ℕ) → seat < count → events_told (told_to seat history.entries) ≡ items_of_seat count seat events
   pub calls : length history.entries ≡ length events
 
 -- the world after the leading calls of a run, in which its board opens
 abbrev pub opened_world : Run → World
-opened_world run = world_after standard_rows run.world (leading_calls (events_in run.turns))
+opened_world run = world_after standard_meanings run.world (leading_calls (events_in run.turns))
 
 -- the events of a run that its seats share
 abbrev pub shared_in : Run → List Event
@@ -85,7 +87,7 @@ shared_in run = shared_events (events_in run.turns)
 
 -- whether a call that comes in first is refused
 abbrev pub is_call_refused : Run → Bool
-is_call_refused run = list_any is_refused (replies_to standard_rows run.world (leading_calls (events_in run.turns)))
+is_call_refused run = list_any is_refused (replies_to standard_meanings run.world (leading_calls (events_in run.turns)))
 
 -- the line that is printed of a settled history
 abbrev pub settled_line : ℕ → ℕ → List ℕ

@@ -16,7 +16,7 @@ use Rattle.dp_app.specs.declared.place.Place.{Place}
 use Rattle.dp_app.specs.declared.phase.Phase.{Phase}
 use Rattle.dp_app.specs.declared.phase.Phase.TheVariants.{Ready, Digits, Pause, Queued, Talking, Dialling, Ended}
 use Rattle.dp_queue.specs.Queues.{QueuesOf}
-use Rattle.dp_table.specs.Standard.{standard_rows}
+use Rattle.dp_table.specs.Standard.{standard_meanings}
 use Rattle.dp_machine.specs.declared.event.Event.{Event}
 use Rattle.dp_machine.specs.declared.refusal.Refusal.{Refusal}
 use Rattle.dp_machine.specs.declared.refusal.Refusal.TheVariants.{NoChannel}
@@ -100,7 +100,7 @@ reply_text w number (Refused refusal) = refusal_text refusal
 -- the line of an event that a world meets
 unfoldable pub event_line : World → Event → List ℕ
 event_line w event =
-    reply_text (final_world standard_rows w event) (channel_of event) (event_row standard_rows w event).1 ++ 10 ∷ []
+    reply_text (final_world standard_meanings w event) (channel_of event) (event_row standard_meanings w event).1 ++ 10 ∷ []
 
 -- what is shown of a name, by the phase of the channel, where there is one
 abbrev pub show_by : World → ℕ → List ℕ → Option Phase → List ℕ
@@ -120,9 +120,9 @@ pub record Turned : Type 0 where
 abbrev pub after_turn : World → Turn → Turned
 after_turn w (turn_event event) =
     record {
-      world = final_world standard_rows w event;
+      world = final_world standard_meanings w event;
       line = event_line w event;
-      refused = is_refused (event_row standard_rows w event).1;
+      refused = is_refused (event_row standard_meanings w event).1;
     }
 after_turn w (Show number name) =
     record { world = w; line = show_text w number name ++ 10 ∷ []; refused = is_none (phase_at w number) }

@@ -3,7 +3,7 @@ ghost use Rattle.std.specs.Prelude.{◌≡◌, ◌++◌, ◌||◌, ◌∷◌, []
 ghost use Rattle.dp_conf.specs.Answers.{Answers};
 ghost use Rattle.dp_debug.specs.Breaks.{first_before};
 ghost use Rattle.dp_machine.specs.Events.{event_row};
-ghost use Rattle.dp_table.specs.Standard.{standard_rows};
+ghost use Rattle.dp_table.specs.Standard.{standard_meanings};
 ghost use Rattle.dp_commands.specs.Debug as spec;
 ghost use Rattle.dp_commands.specs.Faults.{is_write_failed, reason_of};
 ghost use Rattle.dp_commands.specs.Run.{run_of_texts};
@@ -74,7 +74,7 @@ fn cut_break(alloc: Global, text: &[u8]) -> Result<Option<Break>, NoMemory>
 
 /// The break of a text, or its fault.
 #[tactic(auto, unfolding(crate::specs::Debug::break_of))]
-fn read_break(alloc: Global, text: &[u8]) -> Result<Break, PbxFault>
+pub(crate) fn read_break(alloc: Global, text: &[u8]) -> Result<Break, PbxFault>
     ensures held { Answers (λ held. held) reason_of result (spec.break_of text.now) }
     ensures quiet { is_write_failed result ≡ false }
 {
@@ -89,7 +89,7 @@ fn read_break(alloc: Global, text: &[u8]) -> Result<Break, PbxFault>
 }
 
 /// Adds the line of a halt after so many events.
-fn push_halt(out: &mut Block, taken: u64) -> Result<(), NoMemory>
+pub(crate) fn push_halt(out: &mut Block, taken: u64) -> Result<(), NoMemory>
     ensures kept { out.new.whole ≡ out.old.whole }
     ensures ok { OnOk result (out.new.begun ≡ out.old.begun ++ spec.halt_line taken) }
 {
@@ -100,9 +100,9 @@ fn push_halt(out: &mut Block, taken: u64) -> Result<(), NoMemory>
 
 /// What became of an event under the debugger: whether it has halted before the event, and the reply.
 #[derive(Clone, Copy)]
-struct Stepped {
-    halted: bool,
-    reply: Reply,
+pub(crate) struct Stepped {
+    pub(crate) halted: bool,
+    pub(crate) reply: Reply,
 }
 
 /// Adds the line of a reply to what waits, and before it that of a halt, where there was one.
@@ -134,8 +134,8 @@ fn go_on(
     held: &Break,
 ) -> Result<Reply, NoMemory>
     requires { debugger.old ≡ [] }
-    ensures reply { IfOk result (λ reply. reply ≡ (event_row standard_rows machine.old event.now).1) }
-    ensures world { OnOk result (machine.new ≡ (event_row standard_rows machine.old event.now).0) }
+    ensures reply { IfOk result (λ reply. reply ≡ (event_row standard_meanings machine.old event.now).1) }
+    ensures world { OnOk result (machine.new ≡ (event_row standard_meanings machine.old event.now).0) }
 {
     let events = slice::from_ref(event);
     let halt = debugger.resume(alloc, machine, events, 0, slice::from_ref(held));
@@ -146,7 +146,7 @@ fn go_on(
 }
 
 /// Gives the debugger one event. Where it halts before the event it goes on with it.
-fn step(
+pub(crate) fn step(
     alloc: Global,
     debugger: &mut Debugger,
     machine: &mut Machine<StandardApps>,
@@ -155,8 +155,8 @@ fn step(
 ) -> Result<Stepped, NoMemory>
     ensures halted { IfOk result (λ stepped. stepped.halted
         ≡ is_some (first_before machine.old event.now (held.now ∷ []))) }
-    ensures reply { IfOk result (λ stepped. stepped.reply ≡ (event_row standard_rows machine.old event.now).1) }
-    ensures world { OnOk result (machine.new ≡ (event_row standard_rows machine.old event.now).0) }
+    ensures reply { IfOk result (λ stepped. stepped.reply ≡ (event_row standard_meanings machine.old event.now).1) }
+    ensures world { OnOk result (machine.new ≡ (event_row standard_meanings machine.old event.now).0) }
 {
     let halt = debugger.run(
         alloc,
@@ -219,7 +219,7 @@ impl Taker for Watched {
 }
 
 /// Adds the last line to what waits.
-fn push_end(block: &mut Block, taken: u64) -> Result<(), NoMemory>
+pub(crate) fn push_end(block: &mut Block, taken: u64) -> Result<(), NoMemory>
     ensures ok { OnOk result (block.new.whole ≡ block.old.whole ++ spec.end_line taken) }
     ensures err { OnErr result (block.new.whole ≡ block.old.whole) }
 {

@@ -6,7 +6,7 @@ ghost use Rattle.dp_board.specs.Settled.{AllPresent, IsSettled};
 ghost use Rattle.dp_board.specs.Sittings.{unheard};
 ghost use Rattle.dp_machine.specs.Events.{is_refused as refuses};
 ghost use Rattle.dp_machine.specs.Replay.{replies_to, world_after};
-ghost use Rattle.dp_table.specs.Standard.{standard_rows};
+ghost use Rattle.dp_table.specs.Standard.{standard_meanings};
 ghost use Rattle.dp_commands.specs.Block.{waiting};
 ghost use Rattle.dp_commands.specs.Faults.{is_write_failed, reason_of};
 ghost use Rattle.dp_conf.specs.Answers.{Answers};
@@ -54,7 +54,7 @@ fn settled_history<S: Session>(
     seats: Vec<Seat<S>>,
 ) -> Result<History<StandardApps>, PbxFault>
     requires { AllPresent board seats.items }
-    ensures settled { IfOk result (λ history. IsSettled standard_rows S.opening board seats.items history) }
+    ensures settled { IfOk result (λ history. IsSettled standard_meanings S.opening board seats.items history) }
     ensures code { IfErr result (λ fault. spec.is_settle_fault fault ≡ true) }
 {
     match board.settle(alloc, seats) {
@@ -97,9 +97,9 @@ fn run_events(
     machine: &mut Machine<StandardApps>,
     events: &[Event],
 ) -> Result<bool, NoMemory>
-    ensures world { OnOk result (machine.new ≡ world_after standard_rows machine.old events.now) }
+    ensures world { OnOk result (machine.new ≡ world_after standard_meanings machine.old events.now) }
     ensures refused { IfOk result (λ refused. refused
-        ≡ list_any refuses (replies_to standard_rows machine.old events.now)) }
+        ≡ list_any refuses (replies_to standard_meanings machine.old events.now)) }
 {
     let mut replies = Vec::new(alloc);
     machine.run(alloc, events, &mut replies)?;
@@ -126,11 +126,11 @@ fn give_calls(
     machine: &mut Machine<StandardApps>,
     lines: &[ScriptLine],
 ) -> Result<GivenEvents, NoMemory>
-    ensures world { OnOk result (machine.new ≡ world_after standard_rows machine.old
+    ensures world { OnOk result (machine.new ≡ world_after standard_meanings machine.old
         (spec.leading_calls (spec.events_in (turns_of lines.now)))) }
     ensures events { IfOk result (λ given. given.events.items ≡ spec.events_in (turns_of lines.now)) }
     ensures refused { IfOk result (λ given. given.is_refused
-        ≡ list_any refuses (replies_to standard_rows machine.old
+        ≡ list_any refuses (replies_to standard_meanings machine.old
         (spec.leading_calls (spec.events_in (turns_of lines.now))))) }
 {
     let events = events_of(alloc, lines)?;

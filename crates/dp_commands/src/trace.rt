@@ -328,7 +328,7 @@ fn push_value(
 
 /// Adds the value of a name in a channel, or the refusal where no channel has the number.
 #[tactic(auto, unfolding(crate::specs::Trace::show_text))]
-fn push_show(
+pub(crate) fn push_show(
     alloc: Global,
     out: &mut Block,
     machine: &Machine<StandardApps>,

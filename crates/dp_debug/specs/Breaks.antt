@@ -13,7 +13,7 @@ use Rattle.dp_machine.specs.Events.{next_entry}
 use Rattle.dp_machine.specs.World.{World, channel_at}
 use Rattle.dp_machine.specs.declared.channel.Channel.{Channel}
 use Rattle.dp_machine.specs.declared.event.Event.{Event}
-use Rattle.dp_machine.specs.declared.event.Event.TheVariants.{Start, Step, Digit, Timeout, Poll, Hangup, DialResult, Offer, Answer, Decline, AgentDone, Reload}
+use Rattle.dp_machine.specs.declared.event.Event.TheVariants.{Start, Step, Digit, Timeout, Poll, Hangup, DialResult, Offer, Answer, Decline, AgentDone, Reload, Assign, Redirect}
 use Rattle.dp_debug.specs.declared.breaks.Break.{Break}
 use Rattle.dp_debug.specs.declared.breaks.Break.TheVariants.{At, App}
 
@@ -79,3 +79,5 @@ first_before w (Answer agent) breaks = None
 first_before w (Decline agent) breaks = None
 first_before w (AgentDone agent) breaks = None
 first_before w (Reload text) breaks = None
+first_before w (Assign channel name value) breaks = None
+first_before w (Redirect number place) breaks = None

@@ -1,7 +1,7 @@
 -- Where a debugged run halts: before the least event, of those whose breaks are asked, before which a break holds.
 use Rattle.std.specs.Prelude.{◌≡◌, ℕ, ◌≤◌, ◌<◌, List, ◌++◌, length, slice_get, slice_range, take, Option, Some, None}
 use Rattle.std.specs.Option.{option_and_then}
-use Rattle.dp_app.specs.Rows.{Rows}
+use Rattle.dp_app.specs.Rows.{Meanings}
 use Rattle.dp_machine.specs.Replay.{replies_to, world_after}
 use Rattle.dp_machine.specs.World.{World}
 use Rattle.dp_machine.specs.declared.event.Event.{Event}
@@ -13,9 +13,9 @@ use Rattle.dp_debug.specs.declared.halt.Why.{Why}
 use Rattle.dp_debug.specs.declared.halt.Why.TheVariants.{End, Break as at_break, NoMemory}
 
 -- the first break that holds before the event of a number, in the world after the events from one number up to it
-unfoldable pub first_at : Rows → World → List Event → ℕ → List Break → ℕ → Option ℕ
-first_at rows w events from breaks number =
-    option_and_then (λ event. first_before (world_after rows w (slice_range events from number)) event breaks) (slice_get events number)
+unfoldable pub first_at : Meanings → World → List Event → ℕ → List Break → ℕ → Option ℕ
+first_at meanings w events from breaks number =
+    option_and_then (λ event. first_before (world_after meanings w (slice_range events from number)) event breaks) (slice_get events number)
 
 -- why a run halts before the event of a number: all were taken, or the first break that holds there is this one and the breaks
 -- are asked there, or a growth was refused
@@ -26,17 +26,17 @@ IsWhy count asked taken first NoMemory = Unit {0}
 
 -- a run over the events from one number on, which asks the breaks from another on: where it halts, the replies after it and the
 -- world. Before no event that it took and asked did a break hold
-pub record IsRun (rows : Rows) (w : World) (events : List Event) (breaks : List Break) (from asked : ℕ) (old : List Reply) (halt : Halt)
+pub record IsRun (meanings : Meanings) (w : World) (events : List Event) (breaks : List Break) (from asked : ℕ) (old : List Reply) (halt : Halt)
     (new : List Reply) (after : World) : Type 0 where
   pub begun : from ≤ halt.taken
   pub within : halt.taken ≤ length events
-  pub world : after ≡ world_after rows w (slice_range events from halt.taken)
-  pub replies : new ≡ old ++ replies_to rows w (slice_range events from halt.taken)
-  pub none : (number : ℕ) → asked ≤ number → number < halt.taken → first_at rows w events from breaks number ≡ None
-  pub why : IsWhy (length events) asked halt.taken (first_at rows w events from breaks halt.taken) halt.why
+  pub world : after ≡ world_after meanings w (slice_range events from halt.taken)
+  pub replies : new ≡ old ++ replies_to meanings w (slice_range events from halt.taken)
+  pub none : (number : ℕ) → asked ≤ number → number < halt.taken → first_at meanings w events from breaks number ≡ None
+  pub why : IsWhy (length events) asked halt.taken (first_at meanings w events from breaks halt.taken) halt.why
 
 -- so many events were taken, the first of the list: the replies to them, and the world after them
-pub record HasTaken (rows : Rows) (w : World) (events : List Event) (taken : ℕ) (trace : List Reply) (after : World) : Type 0 where
+pub record HasTaken (meanings : Meanings) (w : World) (events : List Event) (taken : ℕ) (trace : List Reply) (after : World) : Type 0 where
   pub within : taken ≤ length events
-  pub replies : trace ≡ replies_to rows w (take taken events)
-  pub world : after ≡ world_after rows w (take taken events)
+  pub replies : trace ≡ replies_to meanings w (take taken events)
+  pub world : after ≡ world_after meanings w (take taken events)

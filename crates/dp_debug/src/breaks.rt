@@ -157,6 +157,8 @@ pub(crate) fn first_before<T: AppTable>(
         | Event::Answer { .. }
         | Event::Decline { .. }
         | Event::AgentDone { .. }
-        | Event::Reload { .. } => None,
+        | Event::Reload { .. }
+        | Event::Assign { .. }
+        | Event::Redirect { .. } => None,
     }
 }

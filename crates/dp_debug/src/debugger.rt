@@ -1,5 +1,6 @@
 //! The debugger.
 ghost use Rattle.std.specs.Prelude.{◌≡◌, ◌≤◌, ◌<◌, ◌+◌, ◌++◌, ◌∷◌, [], length, IfNone, IfSome, None, OnErr, OnOk};
+ghost use Rattle.dp_app.specs.Rows.{with_functions};
 ghost use Rattle.dp_machine.specs.Events.{event_row};
 ghost use Rattle.dp_debug.specs.Breaks.{first_before};
 ghost use Rattle.dp_debug.specs.Cut.{IsRun, IsWhy};
@@ -55,7 +56,7 @@ impl Debugger {
         events: &[Event],
         breaks: &[Break],
     ) -> Halt
-        ensures { IsRun T.rows machine.old events.now breaks.now 0 0 [] result self.new machine.new }
+        ensures { IsRun (with_functions T.rows T.Functions.table) machine.old events.now breaks.now 0 0 [] result self.new machine.new }
     {
         self.trace.clear();
         go_on(alloc, &mut self.trace, machine, events, 0, breaks)
@@ -73,7 +74,7 @@ impl Debugger {
         breaks: &[Break],
     ) -> Halt
         ensures on { taken < length events.now
-            → IsRun T.rows machine.old events.now breaks.now taken (taken + 1) self.old result self.new machine.new }
+            → IsRun (with_functions T.rows T.Functions.table) machine.old events.now breaks.now taken (taken + 1) self.old result self.new machine.new }
         ensures end { length events.now ≤ taken → result ≡ record { taken = length events.now; why = End } }
         ensures trace { length events.now ≤ taken → self.new ≡ self.old }
         ensures world { length events.now ≤ taken → machine.new ≡ machine.old }
@@ -104,7 +105,7 @@ fn go_on<T: AppTable>(
     breaks: &[Break],
 ) -> Halt
     requires { from ≤ length events.now }
-    ensures { IsRun T.rows machine.old events.now breaks.now from from trace.old.items result trace.new.items machine.new }
+    ensures { IsRun (with_functions T.rows T.Functions.table) machine.old events.now breaks.now from from trace.old.items result trace.new.items machine.new }
 {
     for taken in from..events.len() {
         if let Some(why) = turn(alloc, trace, machine, &events[taken], breaks) {
@@ -127,8 +128,8 @@ fn turn<T: AppTable>(
 ) -> Option<Why>
     ensures none { IfNone result (first_before machine.old event.now breaks.now ≡ None) }
     ensures trace { IfNone result (trace.new.items
-        ≡ trace.old.items ++ (event_row T.rows machine.old event.now).1 ∷ []) }
-    ensures world { IfNone result (machine.new ≡ (event_row T.rows machine.old event.now).0) }
+        ≡ trace.old.items ++ (event_row (with_functions T.rows T.Functions.table) machine.old event.now).1 ∷ []) }
+    ensures world { IfNone result (machine.new ≡ (event_row (with_functions T.rows T.Functions.table) machine.old event.now).0) }
     ensures why { IfSome result (λ why. IsWhy 1 0 0 (first_before machine.old event.now breaks.now) why) }
     ensures same_trace { IfSome result (λ why. trace.new.items ≡ trace.old.items) }
     ensures same_world { IfSome result (λ why. machine.new ≡ machine.old) }
@@ -149,8 +150,8 @@ fn take<T: AppTable>(
     machine: &mut Machine<T>,
     event: &Event,
 ) -> Result<(), NoMemory>
-    ensures ok { OnOk result (trace.new.items ≡ trace.old.items ++ (event_row T.rows machine.old event.now).1 ∷ []) }
-    ensures world { OnOk result (machine.new ≡ (event_row T.rows machine.old event.now).0) }
+    ensures ok { OnOk result (trace.new.items ≡ trace.old.items ++ (event_row (with_functions T.rows T.Functions.table) machine.old event.now).1 ∷ []) }
+    ensures world { OnOk result (machine.new ≡ (event_row (with_functions T.rows T.Functions.table) machine.old event.now).0) }
     ensures trace { OnErr result (trace.new.items ≡ trace.old.items) }
     ensures err { OnErr result (machine.new ≡ machine.old) }
 {

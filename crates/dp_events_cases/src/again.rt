@@ -148,7 +148,7 @@ fn push_reply(out: &mut String, reply: Reply) -> Result<(), NoMemory> {
 }
 
 /// Gives an event so, and adds the reply.
-fn push_given(
+pub(crate) fn push_given(
     out: &mut String,
     alloc: Global,
     machine: &mut Exchange,
@@ -200,7 +200,7 @@ fn push_line(
     Ok(())
 }
 
-fn push_lines(
+pub(crate) fn push_lines(
     out: &mut String,
     alloc: Global,
     machine: &mut Exchange,
@@ -239,7 +239,7 @@ fn end_again(
     Ok(out)
 }
 
-fn machine_of(alloc: Global, plan: &[u8], queues: &[u8]) -> Result<Exchange, Fail> {
+pub(crate) fn machine_of(alloc: Global, plan: &[u8], queues: &[u8]) -> Result<Exchange, Fail> {
     let (plan, _) = Dialplan::load(alloc, plan)?;
     let queues = Queues::load(alloc, queues)?;
     let machine = Machine::new(alloc, plan, queues)?;

@@ -3,7 +3,7 @@ use Rattle.std.proofs.Common.{◌≡◌, ℕ, ◌+◌, ◌-◌, ◌<◌, ◌==�
 use Rattle.std.proofs.lemmas.List.{set-get_or}
 use Rattle.std.proofs.lemmas.Option.{same_Some, slice_get_read}
 use Rattle.std.specs.declared.alloc.AllocError.{AllocError as NoMemory}
-use Rattle.dp_app.specs.Rows.{Rows}
+use Rattle.dp_app.specs.Rows.{Meanings}
 use Rattle.dp_machine.specs.Events.{Own, asked_event, own_event, own_row, world_with_own, is_refused_at_once}
 use Rattle.dp_machine.specs.steps.Follows.{Follows, Makes}
 use Rattle.dp_machine.specs.GoodWorld.{IsGoodWorld, IsSoundAsked, IsSoundAfter, MayAct}
@@ -36,7 +36,7 @@ module _ (before : Exchange) (channels : List Channel) (number index : ℕ) (c :
   kept-at : (d : Channel) → d ≡ c → slice_set channels index d ≡ channels
   kept-at d same = ap (slice_set channels index) (same ∙ value) ∙ set-get_or channels index c
 
-  module _ (rows : Rows) (asked : ChannelEvent) (d : Channel) (after : Exchange) where
+  module _ (meanings : Meanings) (asked : ChannelEvent) (d : Channel) (after : Exchange) where
     -- the world before the event
     abbrev w : World
     w = world_in before channels
@@ -47,14 +47,14 @@ module _ (before : Exchange) (channels : List Channel) (number index : ℕ) (c :
 
     -- what its row says of the channel
     abbrev own : Own
-    own = own_row rows asked before.plan before.shared number c
+    own = own_row meanings asked before.plan before.shared number c
 
     -- what its row says of the world
-    asked_here : asked_event rows w number asked ≡ world_with_own w number own
-    asked_here = ap (own_event w number (own_row rows asked)) here
+    asked_here : asked_event meanings w number asked ≡ world_with_own w number own
+    asked_here = ap (own_event w number (own_row meanings asked)) here
 
     -- what its row makes of it, it makes of the world
-    pub makes-at : (r : Result Reply NoMemory) → Follows own before after c d r → Makes (asked_event rows w number asked) w beyond r
+    pub makes-at : (r : Result Reply NoMemory) → Follows own before after c d r → Makes (asked_event meanings w number asked) w beyond r
     makes-at (Ok reply) follows = record {
       ok =
           let written : slice_set channels (number - 1) d ≡ slice_set channels index d = ap (λ i. slice_set channels i d) before_number in
@@ -71,9 +71,9 @@ module _ (before : Exchange) (channels : List Channel) (number index : ℕ) (c :
     }
 
     -- after a step the channel is sound
-    pub sound-at : (r : Result Reply NoMemory) → Follows own before after c d r → IsSoundAfter asked d → OnOk r (IsSoundAsked rows w number asked)
+    pub sound-at : (r : Result Reply NoMemory) → Follows own before after c d r → IsSoundAfter asked d → OnOk r (IsSoundAsked meanings w number asked)
     sound-at (Ok reply) follows sound = λ e found.
         let is : c ≡ e = same_Some c e (sym here ∙ found) in
-        subst (λ x. IsSoundAfter asked (own_row rows asked before.plan before.shared number x).channel) is
+        subst (λ x. IsSoundAfter asked (own_row meanings asked before.plan before.shared number x).channel) is
         (subst (λ (o : Own). IsSoundAfter asked o.channel) (sym follows.ok) sound)
     sound-at (Err x) follows sound = tt

@@ -4,16 +4,17 @@ use Rattle.std.specs.Prelude.{◌≢◌}
 use Rattle.std.proofs.lemmas.List.{length-append}
 use Rattle.dp_plan.specs.Loaded.{plan_and_notes}
 use Rattle.dp_plan.specs.Plan.{PlanOf}
-use Rattle.dp_app.specs.Rows.{Rows}
+use Rattle.dp_vars.specs.Functions.{FunctionTable}
+use Rattle.dp_app.specs.Rows.{Meanings}
 use Rattle.dp_machine.specs.Channels.{after_change}
-use Rattle.dp_machine.specs.Events.{Own, Served, agent_done, agent_event, serve_answer, serve_decline, dial_result_row, digit_row, world_with_call, event_row, hang_up_row, serve_offer, new_channel, own_event, poll_row, served_channels, start_call, step_row, timeout_row}
+use Rattle.dp_machine.specs.Events.{Own, Served, agent_done, agent_event, serve_answer, serve_decline, dial_result_row, digit_row, world_with_call, event_row, hang_up_row, serve_offer, new_channel, own_event, poll_row, served_channels, start_call, step_row, timeout_row, assign_row, redirect_row, with_shared_global}
 use Rattle.dp_machine.specs.Isolation.{AreSameBut, IsUnseen, IsPrivate, is_of, replies_without, without}
 use Rattle.dp_machine.specs.Reloading.{plan_in, reloaded_by, shared_with}
 use Rattle.dp_machine.specs.Replay.{replies_to, world_after, final_world}
 use Rattle.dp_machine.specs.World.{World, channel_at, most_channels, with_channel, world_of}
 use Rattle.dp_machine.specs.declared.channel.Channel.{Channel}
 use Rattle.dp_machine.specs.declared.event.Event.{Event}
-use Rattle.dp_machine.specs.declared.event.Event.TheVariants.{Start, Step, Digit, Timeout, Poll, Hangup, DialResult, Offer, Answer, Decline, AgentDone, Reload}
+use Rattle.dp_machine.specs.declared.event.Event.TheVariants.{Start, Step, Digit, Timeout, Poll, Hangup, DialResult, Offer, Answer, Decline, AgentDone, Reload, Assign, Redirect}
 use Rattle.dp_machine.specs.declared.refusal.Refusal.TheVariants.{NumbersSpent}
 use Rattle.dp_machine.specs.declared.reply.Reply.{Reply}
 use Rattle.dp_machine.specs.declared.reply.Reply.TheVariants.{Refused, Started}
@@ -159,31 +160,35 @@ module _ (number : ℕ) (plan : PlanOf) (shared : SharedState) (xs ys : List Cha
   alike-agent s = record { reply = refl; world = same_worlds number plan s.shared _ _ (same-served s) }
 
   -- another dialplan
-  alike-reloaded : (plan : Option PlanOf) → Alike number (reloaded_by v plan) (reloaded_by w plan)
-  alike-reloaded None = record { reply = refl; world = same_worlds number plan shared xs ys same }
-  alike-reloaded (Some p) = record { reply = refl; world = same_worlds number p (shared_with shared p.globals) xs ys same }
+  alike-reloaded : (functions : FunctionTable) (plan : Option PlanOf) → Alike number (reloaded_by functions v plan) (reloaded_by functions w plan)
+  alike-reloaded functions None = record { reply = refl; world = same_worlds number plan shared xs ys same }
+  alike-reloaded functions (Some p) = record { reply = refl; world = same_worlds number p (shared_with functions shared p.globals) xs ys same }
 
   -- each event that is not of the channel
-  alike-row : (rows : Rows) (event : Event) → is_of number event ≡ false → Alike number (event_row rows v event) (event_row rows w event)
-  alike-row rows (Start context exten caller) other = alike-start_call context exten caller
-  alike-row rows (Step channel) other = alike-own channel (step_row rows) other
-  alike-row rows (Digit channel digit) other = alike-own channel (digit_row digit) other
-  alike-row rows (Timeout channel) other = alike-own channel timeout_row other
-  alike-row rows (Poll channel) other = alike-own channel poll_row other
-  alike-row rows (Hangup channel) other = alike-own channel hang_up_row other
-  alike-row rows (DialResult channel status) other = alike-own channel (dial_result_row status) other
-  alike-row rows (Offer queue) other = alike-agent (serve_offer shared queue)
-  alike-row rows (Answer agent) other = alike-agent (serve_answer shared agent)
-  alike-row rows (Decline agent) other = alike-agent (serve_decline shared agent)
-  alike-row rows (AgentDone agent) other = alike-agent (agent_done shared agent)
-  alike-row rows (Reload text) other = alike-reloaded (plan_in (plan_and_notes text))
+  alike-row : (meanings : Meanings) (event : Event) → is_of number event ≡ false → Alike number (event_row meanings v event) (event_row meanings w event)
+  alike-row meanings (Start context exten caller) other = alike-start_call context exten caller
+  alike-row meanings (Step channel) other = alike-own channel (step_row meanings) other
+  alike-row meanings (Digit channel digit) other = alike-own channel (digit_row digit) other
+  alike-row meanings (Timeout channel) other = alike-own channel timeout_row other
+  alike-row meanings (Poll channel) other = alike-own channel poll_row other
+  alike-row meanings (Hangup channel) other = alike-own channel hang_up_row other
+  alike-row meanings (DialResult channel status) other = alike-own channel (dial_result_row status) other
+  alike-row meanings (Offer queue) other = alike-agent (serve_offer shared queue)
+  alike-row meanings (Answer agent) other = alike-agent (serve_answer shared agent)
+  alike-row meanings (Decline agent) other = alike-agent (serve_decline shared agent)
+  alike-row meanings (AgentDone agent) other = alike-agent (agent_done shared agent)
+  alike-row meanings (Reload text) other = alike-reloaded meanings.functions (plan_in (plan_and_notes text))
+  alike-row meanings (Assign None name value) other =
+      record { reply = refl; world = same_worlds number plan (with_shared_global shared name value) xs ys same }
+  alike-row meanings (Assign (Some channel) name value) other = alike-own channel (assign_row meanings.functions name value) other
+  alike-row meanings (Redirect channel place) other = alike-own channel (redirect_row place) other
 
 -- an event that is not of the channel has the same reply in both worlds, and leaves them so
-alike-event : (rows : Rows) (number : ℕ) (v w : World) (event : Event) → is_of number event ≡ false → AreSameBut number v w
-    → Alike number (event_row rows v event) (event_row rows w event)
-alike-event rows number v w event other same =
-    subst (λ u. Alike number (event_row rows v event) (event_row rows u event)) (λ i. world_of (same.plan i) w.channels (same.shared i))
-    (alike-row number v.plan v.shared v.channels w.channels (record { count = same.count; others = same.others }) rows event other)
+alike-event : (meanings : Meanings) (number : ℕ) (v w : World) (event : Event) → is_of number event ≡ false → AreSameBut number v w
+    → Alike number (event_row meanings v event) (event_row meanings w event)
+alike-event meanings number v w event other same =
+    subst (λ u. Alike number (event_row meanings v event) (event_row meanings u event)) (λ i. world_of (same.plan i) w.channels (same.shared i))
+    (alike-row number v.plan v.shared v.channels w.channels (record { count = same.count; others = same.others }) meanings event other)
 
 -- a channel's own event changes no other channel
 own-alone : (w : World) (number other : ℕ) (row : PlanOf → SharedState → ℕ → Channel → Own) → (other == number) ≡ true
@@ -199,48 +204,51 @@ own-alone w number other row is =
 pub none-of : {A : Type 0} → false ≡ true → A
 none-of is = absurd (let no : false ≡ true = is in let b : ⊥ = cc in b)
 
-others-alone : (rows : Rows) (number : ℕ) (w : World) (event : Event) → is_of number event ≡ true
-    → SameOthers number (final_world rows w event).channels w.channels
-others-alone rows number w (Start context exten caller) is = none-of is
-others-alone rows number w (Step channel) is = own-alone w number channel (step_row rows) is
-others-alone rows number w (Digit channel digit) is = own-alone w number channel (digit_row digit) is
-others-alone rows number w (Timeout channel) is = own-alone w number channel timeout_row is
-others-alone rows number w (Poll channel) is = own-alone w number channel poll_row is
-others-alone rows number w (Hangup channel) is = own-alone w number channel hang_up_row is
-others-alone rows number w (DialResult channel status) is = own-alone w number channel (dial_result_row status) is
-others-alone rows number w (Offer queue) is = none-of is
-others-alone rows number w (Answer agent) is = none-of is
-others-alone rows number w (Decline agent) is = none-of is
-others-alone rows number w (AgentDone agent) is = none-of is
-others-alone rows number w (Reload text) is = none-of is
+others-alone : (meanings : Meanings) (number : ℕ) (w : World) (event : Event) → is_of number event ≡ true
+    → SameOthers number (final_world meanings w event).channels w.channels
+others-alone meanings number w (Start context exten caller) is = none-of is
+others-alone meanings number w (Step channel) is = own-alone w number channel (step_row meanings) is
+others-alone meanings number w (Digit channel digit) is = own-alone w number channel (digit_row digit) is
+others-alone meanings number w (Timeout channel) is = own-alone w number channel timeout_row is
+others-alone meanings number w (Poll channel) is = own-alone w number channel poll_row is
+others-alone meanings number w (Hangup channel) is = own-alone w number channel hang_up_row is
+others-alone meanings number w (DialResult channel status) is = own-alone w number channel (dial_result_row status) is
+others-alone meanings number w (Offer queue) is = none-of is
+others-alone meanings number w (Answer agent) is = none-of is
+others-alone meanings number w (Decline agent) is = none-of is
+others-alone meanings number w (AgentDone agent) is = none-of is
+others-alone meanings number w (Reload text) is = none-of is
+others-alone meanings number w (Assign None name value) is = none-of is
+others-alone meanings number w (Assign (Some channel) name value) is = own-alone w number channel (assign_row meanings.functions name value) is
+others-alone meanings number w (Redirect channel place) is = own-alone w number channel (redirect_row place) is
 
 -- the list without the events of an unseen channel: the others have the same replies, and the last world is the same but for the channel
-pub record IsIsolated (rows : Rows) (number : ℕ) (v w : World) (events : List Event) : Type 0 where
-  pub replies : replies_to rows v (without number events) ≡ replies_without number events (replies_to rows w events)
-  pub world : AreSameBut number (world_after rows v (without number events)) (world_after rows w events)
+pub record IsIsolated (meanings : Meanings) (number : ℕ) (v w : World) (events : List Event) : Type 0 where
+  pub replies : replies_to meanings v (without number events) ≡ replies_without number events (replies_to meanings w events)
+  pub world : AreSameBut number (world_after meanings v (without number events)) (world_after meanings w events)
 
 -- one more event in front
-isolated-more : (rows : Rows) (number : ℕ) (v w : World) (event : Event) (events : List Event) → AreSameBut number v w
-    → IsUnseen rows number w (event ∷ events)
-    → ((u : World) → AreSameBut number u (final_world rows w event) → IsIsolated rows number u (final_world rows w event) events)
-    → IsIsolated rows number v w (event ∷ events)
-isolated-more rows number v w event events same unseen later = by (is_of number event) refl
+isolated-more : (meanings : Meanings) (number : ℕ) (v w : World) (event : Event) (events : List Event) → AreSameBut number v w
+    → IsUnseen meanings number w (event ∷ events)
+    → ((u : World) → AreSameBut number u (final_world meanings w event) → IsIsolated meanings number u (final_world meanings w event) events)
+    → IsIsolated meanings number v w (event ∷ events)
+isolated-more meanings number v w event events same unseen later = by (is_of number event) refl
   where
     left : List Event
     left = without number events
 
     told : List (Event × Reply)
-    told = filter (λ t. not (is_of number t.0)) (zip events (replies_to rows (final_world rows w event) events))
+    told = filter (λ t. not (is_of number t.0)) (zip events (replies_to meanings (final_world meanings w event) events))
 
     Says : Bool → Type 0
-    Says b = (replies_to rows v (if not b then event ∷ left else left) ≡ map (λ t. t.1) (if not b then (event, (event_row rows w event).1) ∷ told else told))
-        × AreSameBut number (world_after rows v (if not b then event ∷ left else left)) (world_after rows (final_world rows w event) events)
+    Says b = (replies_to meanings v (if not b then event ∷ left else left) ≡ map (λ t. t.1) (if not b then (event, (event_row meanings w event).1) ∷ told else told))
+        × AreSameBut number (world_after meanings v (if not b then event ∷ left else left)) (world_after meanings (final_world meanings w event) events)
 
     of_it : is_of number event ≡ true → Says true
     of_it is =
-        let leaves : IsPrivate rows w event = unseen [] event events refl is in
-        let alone : SameOthers number (final_world rows w event).channels w.channels = others-alone rows number w event is in
-        let rest : IsIsolated rows number v (final_world rows w event) events = later v (record {
+        let leaves : IsPrivate meanings w event = unseen [] event events refl is in
+        let alone : SameOthers number (final_world meanings w event).channels w.channels = others-alone meanings number w event is in
+        let rest : IsIsolated meanings number v (final_world meanings w event) events = later v (record {
           plan = same.plan ∙ sym leaves.plan;
           shared = same.shared ∙ sym leaves.shared;
           count = same.count ∙ sym alone.count;
@@ -250,11 +258,11 @@ isolated-more rows number v w event events same unseen later = by (is_of number 
 
     of_another : is_of number event ≡ false → Says false
     of_another other =
-        let alike : Alike number (event_row rows v event) (event_row rows w event) = alike-event rows number v w event other same in
-        let rest : IsIsolated rows number (final_world rows v event) (final_world rows w event) events = later (final_world rows v event) alike.world in
+        let alike : Alike number (event_row meanings v event) (event_row meanings w event) = alike-event meanings number v w event other same in
+        let rest : IsIsolated meanings number (final_world meanings v event) (final_world meanings w event) events = later (final_world meanings v event) alike.world in
         ((λ i. alike.reply i ∷ rest.replies i), rest.world)
 
-    by : (b : Bool) → is_of number event ≡ b → IsIsolated rows number v w (event ∷ events)
+    by : (b : Bool) → is_of number event ≡ b → IsIsolated meanings number v w (event ∷ events)
     by true is =
         let says : Says (is_of number event) = subst Says (sym is) (of_it is) in
         record { replies = says.0; world = says.1 }
@@ -262,30 +270,30 @@ isolated-more rows number v w event events same unseen later = by (is_of number 
         let says : Says (is_of number event) = subst Says (sym other) (of_another other) in
         record { replies = says.0; world = says.1 }
 
-isolated-from : (rows : Rows) (number : ℕ) (v w : World) (events : List Event) → AreSameBut number v w → IsUnseen rows number w events
-    → IsIsolated rows number v w events
-isolated-from rows number v w [] same unseen = record { replies = refl; world = same }
-isolated-from rows number v w (event ∷ events) same unseen = isolated-more rows number v w event events same unseen
-    (λ u alike. isolated-from rows number u (final_world rows w event) events alike
+isolated-from : (meanings : Meanings) (number : ℕ) (v w : World) (events : List Event) → AreSameBut number v w → IsUnseen meanings number w events
+    → IsIsolated meanings number v w events
+isolated-from meanings number v w [] same unseen = record { replies = refl; world = same }
+isolated-from meanings number v w (event ∷ events) same unseen = isolated-more meanings number v w event events same unseen
+    (λ u alike. isolated-from meanings number u (final_world meanings w event) events alike
     (λ before e after whole is. unseen (event ∷ before) e after (ap (λ es. event ∷ es) whole) is))
 
 -- from any world
-pub isolated : (rows : Rows) (w : World) (events : List Event) (number : ℕ) → IsUnseen rows number w events → IsIsolated rows number w w events
-isolated rows w events number unseen = isolated-from rows number w w events
+pub isolated : (meanings : Meanings) (w : World) (events : List Event) (number : ℕ) → IsUnseen meanings number w events → IsIsolated meanings number w w events
+isolated meanings w events number unseen = isolated-from meanings number w w events
     (record { plan = refl; shared = refl; count = refl; others = λ other apart. refl }) unseen
 
 -- in no events each channel is unseen
-pub unseen-none : (rows : Rows) (number : ℕ) (w : World) → IsUnseen rows number w []
-unseen-none rows number w [] event later whole is = absurd (omega (arith, ap length whole))
-unseen-none rows number w (b ∷ before) event later whole is = absurd (omega (arith, ap length whole))
+pub unseen-none : (meanings : Meanings) (number : ℕ) (w : World) → IsUnseen meanings number w []
+unseen-none meanings number w [] event later whole is = absurd (omega (arith, ap length whole))
+unseen-none meanings number w (b ∷ before) event later whole is = absurd (omega (arith, ap length whole))
 
 -- and in one more event in front, if it is private where it is one of the channel
-pub unseen-more : (rows : Rows) (number : ℕ) (w : World) (event : Event) (events : List Event)
-    → (is_of number event ≡ true → IsPrivate rows w event) → IsUnseen rows number (final_world rows w event) events
-    → IsUnseen rows number w (event ∷ events)
-unseen-more rows number w event events here rest [] e later whole is =
+pub unseen-more : (meanings : Meanings) (number : ℕ) (w : World) (event : Event) (events : List Event)
+    → (is_of number event ≡ true → IsPrivate meanings w event) → IsUnseen meanings number (final_world meanings w event) events
+    → IsUnseen meanings number w (event ∷ events)
+unseen-more meanings number w event events here rest [] e later whole is =
     let same : event ≡ e = ap (λ es. get_or es 0 event) whole in
-    subst (IsPrivate rows w) same (here (ap (is_of number) same ∙ is))
-unseen-more rows number w event events here rest (b ∷ before) e later whole is =
+    subst (IsPrivate meanings w) same (here (ap (is_of number) same ∙ is))
+unseen-more meanings number w event events here rest (b ∷ before) e later whole is =
     let same : event ≡ b = ap (λ es. get_or es 0 event) whole in
-    subst (λ f. IsPrivate rows (world_after rows (final_world rows w f) before) e) same (rest before e later (ap (drop 1) whole) is)
+    subst (λ f. IsPrivate meanings (world_after meanings (final_world meanings w f) before) e) same (rest before e later (ap (drop 1) whole) is)

@@ -1,6 +1,6 @@
 -- What is known of the entry whose numbers a look-up answers.
 use Rattle.std.proofs.Common.{◌≡◌, ◌≤◌, ℕ, Option, Some, None, MatchOption, IsSome, refl, sym, ap, subst, ◌∙◌}
-use Rattle.std.proofs.lemmas.Option.{same_Some}
+use Rattle.std.proofs.lemmas.Option.{none-some, same_Some}
 use Rattle.std.specs.Option.{option_and_then, option_map}
 use Rattle.dp_lookup.specs.Found.{HasPriority, NoneAsked, IsFound}
 use Rattle.dp_lookup.specs.SearchOrder.{search_order}
@@ -11,8 +11,12 @@ use Rattle.dp_plan.specs.Priority.{IsPriority}
 use Rattle.dp_conf.specs.Numbers.{most_priority}
 use Rattle.dp_plan.specs.declared.entry.Entry.{Entry}
 use Rattle.dp_plan.specs.declared.entry.EntryId.{EntryId}
+use Rattle.dp_app.specs.declared.phase.Phase.{Phase}
+use Rattle.dp_app.specs.declared.phase.Phase.TheVariants.{Ready, Digits, Pause, Queued, Talking, Dialling, Ended}
 use Rattle.dp_app.specs.declared.place.Place.{Place}
+use Rattle.dp_machine.specs.Events.{located_in, next_in}
 use Rattle.dp_machine.specs.Found.{Located, entry_found, id_at, id_found, located_entry}
+use Rattle.dp_machine.specs.declared.channel.Channel.{Channel}
 
 -- it is the least of those that are asked for
 least_at : (plan : PlanOf) (place : Place) (id : EntryId) → id_at plan place ≡ Some id
@@ -61,3 +65,34 @@ located_id plan place = by (id_at plan place) refl
     by (Some id) found =
         let least : IsFound plan (search_order plan place.context) place.exten place.priority id = least_at plan place id found in
         ap (option_map (λ (found : Located). found.id)) (found_there plan place id least.entry found (sym least.least.stands.there)) ∙ sym found
+
+-- the numbers of the entry that the next step of a channel would run: it stands in the dialplan
+pub ahead_stands : (p : Phase) (plan : PlanOf) (c : Channel) (id : EntryId) → Some id ≡ next_in p plan c → IsSome (entry_at plan id)
+ahead_stands Ready plan c id is = stands_there plan c.place id (sym (located_id plan c.place) ∙ sym is)
+ahead_stands (Digits text is_background) plan c id is = absurd (none-some id (sym is))
+ahead_stands Pause plan c id is = absurd (none-some id (sym is))
+ahead_stands (Queued queue goes_on has_timer) plan c id is = absurd (none-some id (sym is))
+ahead_stands (Talking queue agent goes_on) plan c id is = absurd (none-some id (sym is))
+ahead_stands (Dialling goes_on has_timer) plan c id is = absurd (none-some id (sym is))
+ahead_stands Ended plan c id is = absurd (none-some id (sym is))
+
+-- it is the entry that is located there
+pub ahead_located : (p : Phase) (plan : PlanOf) (c : Channel) (id : EntryId) (entry : Entry) → Some id ≡ next_in p plan c → Some entry ≡ entry_at plan id
+    → located_in p plan c ≡ Some (record { id = id; entry = entry })
+ahead_located Ready plan c id entry is there = found_there plan c.place id entry (sym (located_id plan c.place) ∙ sym is) there
+ahead_located (Digits text is_background) plan c id entry is there = absurd (none-some id (sym is))
+ahead_located Pause plan c id entry is there = absurd (none-some id (sym is))
+ahead_located (Queued queue goes_on has_timer) plan c id entry is there = absurd (none-some id (sym is))
+ahead_located (Talking queue agent goes_on) plan c id entry is there = absurd (none-some id (sym is))
+ahead_located (Dialling goes_on has_timer) plan c id entry is there = absurd (none-some id (sym is))
+ahead_located Ended plan c id entry is there = absurd (none-some id (sym is))
+
+-- and where there are none, none is located
+pub ahead_none : (p : Phase) (plan : PlanOf) (c : Channel) → None ≡ next_in p plan c → located_in p plan c ≡ None
+ahead_none Ready plan c is = not_found plan c.place (sym (located_id plan c.place) ∙ sym is)
+ahead_none (Digits text is_background) plan c is = refl
+ahead_none Pause plan c is = refl
+ahead_none (Queued queue goes_on has_timer) plan c is = refl
+ahead_none (Talking queue agent goes_on) plan c is = refl
+ahead_none (Dialling goes_on has_timer) plan c is = refl
+ahead_none Ended plan c is = refl

@@ -14,7 +14,9 @@ use Rattle.dp_queue.proofs.RefusedLemmas.{offer-refused}
 use Rattle.dp_queue.specs.declared.agent.AgentState.{AgentState}
 use Rattle.dp_queue.specs.declared.agent.AgentState.TheVariants.{Idle, Ringing as agent_rings, Talking as agent_talks}
 use Rattle.dp_queue.specs.declared.fault.OfferFault.{OfferFault}
-use Rattle.dp_app.specs.Rows.{Rows}
+use Rattle.dp_vars.specs.Functions.{FunctionTable, SettingTarget, Variable, Global, Local, Caller, Nothing}
+use Rattle.dp_app.specs.Rows.{Meanings}
+use Rattle.dp_app.specs.declared.place.Place.{Place}
 use Rattle.dp_app.specs.declared.phase.Phase.{Phase}
 use Rattle.dp_app.specs.declared.phase.Phase.TheVariants.{Ready, Digits, Pause, Queued, Talking, Dialling, Ended}
 use Rattle.dp_machine.specs.Channels.{invalid, is_invalid, hung_up, ready_at}
@@ -25,12 +27,12 @@ use Rattle.dp_machine.specs.Reloading.{plan_in, reloaded_by}
 use Rattle.dp_machine.specs.Targets.{place_of}
 use Rattle.dp_machine.specs.World.{World, channel_at, most_channels, with_channel}
 use Rattle.dp_machine.specs.declared.channel_event.ChannelEvent.{ChannelEvent}
-use Rattle.dp_machine.specs.declared.channel_event.ChannelEvent.TheVariants.{Step as asked_step, Digit as asked_digit, Timeout as asked_timeout, Poll as asked_poll, Hangup as asked_hangup, DialResult as asked_result}
+use Rattle.dp_machine.specs.declared.channel_event.ChannelEvent.TheVariants.{Step as asked_step, Digit as asked_digit, Timeout as asked_timeout, Poll as asked_poll, Hangup as asked_hangup, DialResult as asked_result, Assign as asked_assign, Redirect as asked_redirect}
 use Rattle.dp_machine.specs.declared.channel.Channel.{Channel}
 use Rattle.dp_machine.specs.declared.dial_status.DialStatus.{DialStatus}
 use Rattle.dp_machine.specs.declared.event.Event.{Event}
-use Rattle.dp_machine.specs.declared.event.Event.TheVariants.{Start, Step, Digit, Timeout, Poll, Hangup, DialResult, Offer, Answer, Decline, AgentDone, Reload}
-use Rattle.dp_machine.specs.declared.refusal.Refusal.TheVariants.{BadDigit, NotRinging, NumbersSpent}
+use Rattle.dp_machine.specs.declared.event.Event.TheVariants.{Start, Step, Digit, Timeout, Poll, Hangup, DialResult, Offer, Answer, Decline, AgentDone, Reload, Assign, Redirect}
+use Rattle.dp_machine.specs.declared.refusal.Refusal.TheVariants.{BadDigit, Ended as refused_ended, NotRinging, NumbersSpent}
 use Rattle.dp_machine.specs.declared.reply.Reply.{Reply}
 use Rattle.dp_machine.specs.declared.reply.Reply.TheVariants.{Done, Invalid, NoEntry, Refused, Started}
 use Rattle.dp_machine.specs.declared.shared_state.SharedState.{SharedState}
@@ -52,18 +54,18 @@ module _ (plan : PlanOf) (shared : SharedState) (number : ℕ) (c : Channel) whe
   unfolding spec.unfound
   unfound_kept = unfound_by (is_invalid plan c.place)
 
-  step_at_kept : (rows : Rows) (o : Option Located) → OwnKept shared c (spec.step_at rows plan shared number c o)
-  step_at_kept rows None = unfound_kept
-  step_at_kept rows (Some found) = λ h. not_refused h
+  step_at_kept : (meanings : Meanings) (o : Option Located) → OwnKept shared c (spec.step_at meanings plan shared number c o)
+  step_at_kept meanings None = unfound_kept
+  step_at_kept meanings (Some found) = λ h. not_refused h
 
-  step_kept : (rows : Rows) (p : Phase) → OwnKept shared c (spec.step_in rows p plan shared number c)
-  step_kept rows Ready = step_at_kept rows (entry_found plan c.place)
-  step_kept rows (Digits digits is_background) = λ h. (refl, refl)
-  step_kept rows Pause = λ h. (refl, refl)
-  step_kept rows (Queued queue goes_on has_timer) = λ h. (refl, refl)
-  step_kept rows (Talking queue agent goes_on) = λ h. (refl, refl)
-  step_kept rows (Dialling goes_on has_timer) = λ h. (refl, refl)
-  step_kept rows Ended = λ h. (refl, refl)
+  step_kept : (meanings : Meanings) (p : Phase) → OwnKept shared c (spec.step_in meanings p plan shared number c)
+  step_kept meanings Ready = step_at_kept meanings (entry_found plan c.place)
+  step_kept meanings (Digits digits is_background) = λ h. (refl, refl)
+  step_kept meanings Pause = λ h. (refl, refl)
+  step_kept meanings (Queued queue goes_on has_timer) = λ h. (refl, refl)
+  step_kept meanings (Talking queue agent goes_on) = λ h. (refl, refl)
+  step_kept meanings (Dialling goes_on has_timer) = λ h. (refl, refl)
+  step_kept meanings Ended = λ h. (refl, refl)
 
   way_out_by : (digit : ℕ) (context : List ℕ) (b : Bool) → OwnKept shared c (if◌then◌else◌ {A = Own} b
       (spec.take_event (spec.without_caller shared number) (ready_at c (place_of context (digit ∷ []) 1))) (spec.take_event shared c))
@@ -137,15 +139,46 @@ module _ (plan : PlanOf) (shared : SharedState) (number : ℕ) (c : Channel) whe
   result_kept status (Dialling goes_on has_timer) = λ h. not_refused h
   result_kept status Ended = λ h. (refl, refl)
 
+  assigned_kept : (target : SettingTarget) (value : List ℕ) → OwnKept shared c (spec.assigned target value shared c)
+  assigned_kept (Variable name) value = λ h. not_refused h
+  assigned_kept (Global name) value = λ h. not_refused h
+  assigned_kept (Local name) value = λ h. not_refused h
+  assigned_kept Caller value = λ h. not_refused h
+  assigned_kept Nothing value = λ h. not_refused h
+
+  assign_by : (target : SettingTarget) (value : List ℕ) (b : Bool) → OwnKept shared c
+      (if◌then◌else◌ {A = Own} b (spec.refuse refused_ended shared c) (spec.assigned target value shared c))
+  assign_by target value true = λ h. (refl, refl)
+  assign_by target value false = assigned_kept target value
+
+  assign_kept : (functions : FunctionTable) (name value : List ℕ) → OwnKept shared c (spec.assign_row functions name value plan shared number c)
+  unfolding spec.assign_row
+  assign_kept functions name value = assign_by (functions.target name) value (spec.is_over c.phase)
+
+  redirect_kept : (place : Place) (p : Phase) → OwnKept shared c (spec.redirect_in p place plan shared number c)
+  redirect_kept place Ready = λ h. not_refused h
+  redirect_kept place (Digits digits is_background) = λ h. not_refused h
+  redirect_kept place Pause = λ h. not_refused h
+  redirect_kept place (Queued queue goes_on has_timer) = λ h. (refl, refl)
+  redirect_kept place (Talking queue agent goes_on) = λ h. (refl, refl)
+  redirect_kept place (Dialling goes_on has_timer) = λ h. (refl, refl)
+  redirect_kept place Ended = λ h. (refl, refl)
+
+  redirect_row_kept : (place : Place) → OwnKept shared c (spec.redirect_row place plan shared number c)
+  unfolding spec.redirect_row
+  redirect_row_kept place = redirect_kept place c.phase
+
   -- the row of each of a channel's events
-  own_kept : (rows : Rows) (asked : ChannelEvent) → OwnKept shared c (spec.own_row rows asked plan shared number c)
+  own_kept : (meanings : Meanings) (asked : ChannelEvent) → OwnKept shared c (spec.own_row meanings asked plan shared number c)
   unfolding spec.step_row spec.timeout_row spec.poll_row spec.hang_up_row spec.dial_result_row
-  own_kept rows asked_step = step_kept rows c.phase
-  own_kept rows (asked_digit digit) = digit_kept digit
-  own_kept rows asked_timeout = timeout_kept c.phase
-  own_kept rows asked_poll = poll_kept c.phase
-  own_kept rows asked_hangup = hang_up_kept c.phase
-  own_kept rows (asked_result status) = result_kept status c.phase
+  own_kept meanings asked_step = step_kept meanings c.phase
+  own_kept meanings (asked_digit digit) = digit_kept digit
+  own_kept meanings asked_timeout = timeout_kept c.phase
+  own_kept meanings asked_poll = poll_kept c.phase
+  own_kept meanings asked_hangup = hang_up_kept c.phase
+  own_kept meanings (asked_result status) = result_kept status c.phase
+  own_kept meanings (asked_assign name value) = assign_kept meanings.functions name.now value.now
+  own_kept meanings (asked_redirect place) = redirect_row_kept place.now
 
 -- what stands at a place, written there again
 set-get : {X : Type 0} (xs : List X) (k : ℕ) (x : X) → slice_get xs k ≡ Some x → slice_set xs k x ≡ xs
@@ -169,12 +202,17 @@ owned_kept w number c own here kept h =
     let same : (own.channel ≡ c) × (own.shared ≡ w.shared) = kept h in
     λ i. record { plan = w.plan; channels = (ap (with_channel w.channels number) same.0 ∙ with_channel-same w.channels number c here) i; shared = same.1 i }
 
-asked_kept : (rows : Rows) (w : World) (number : ℕ) (asked : ChannelEvent) → IsKept w (spec.own_event w number (spec.own_row rows asked) (channel_at w.channels number))
-asked_kept rows w number asked = by (channel_at w.channels number) refl
+-- a row that leaves each channel that it refuses
+row_kept : (w : World) (number : ℕ) (row : PlanOf → SharedState → ℕ → Channel → Own) → ((c : Channel) → OwnKept w.shared c (row w.plan w.shared number c))
+    → IsKept w (spec.own_event w number row (channel_at w.channels number))
+row_kept w number row kept = by (channel_at w.channels number) refl
   where
-    by : (o : Option Channel) → channel_at w.channels number ≡ o → IsKept w (spec.own_event w number (spec.own_row rows asked) o)
+    by : (o : Option Channel) → channel_at w.channels number ≡ o → IsKept w (spec.own_event w number row o)
     by None here = λ h. refl
-    by (Some c) here = owned_kept w number c (spec.own_row rows asked w.plan w.shared number c) here (own_kept w.plan w.shared number c rows asked)
+    by (Some c) here = owned_kept w number c (row w.plan w.shared number c) here (kept c)
+
+asked_kept : (meanings : Meanings) (w : World) (number : ℕ) (asked : ChannelEvent) → IsKept w (spec.own_event w number (spec.own_row meanings asked) (channel_at w.channels number))
+asked_kept meanings w number asked = row_kept w number (spec.own_row meanings asked) (λ c. own_kept w.plan w.shared number c meanings asked)
 
 -- an offer that is refused
 offer_by : (w : World) (queues : QueuesOf) (found : Result Rung OfferFault) → ((fault : OfferFault) → found ≡ Err fault → queues ≡ w.shared.queues)
@@ -232,28 +270,32 @@ unfolding spec.start_call
 start_kept w context exten caller = start_by w context exten caller (nat_lt (length w.channels) most_channels)
 
 -- a dialplan with a fault
-reload_by : (w : World) (plan : Option PlanOf) → IsKept w (reloaded_by w plan)
-reload_by w None = λ h. refl
-reload_by w (Some plan) = λ h. not_refused h
+reload_by : (functions : FunctionTable) (w : World) (plan : Option PlanOf) → IsKept w (reloaded_by functions w plan)
+reload_by functions w None = λ h. refl
+reload_by functions w (Some plan) = λ h. not_refused h
 
 -- a refused event leaves the world as it was
-pub refused-kept : (rows : Rows) (w : World) (event : Event) → IsKept w (spec.event_row rows w event)
-refused-kept rows w (Start context exten caller) = start_kept w context exten caller
-refused-kept rows w (Step number) = asked_kept rows w number asked_step
-refused-kept rows w (Digit number digit) = asked_kept rows w number (asked_digit digit)
-refused-kept rows w (Timeout number) = asked_kept rows w number asked_timeout
-refused-kept rows w (Poll number) = asked_kept rows w number asked_poll
-refused-kept rows w (Hangup number) = asked_kept rows w number asked_hangup
-refused-kept rows w (DialResult number status) = asked_kept rows w number (asked_result status)
-refused-kept rows w (Offer queue) = offer_kept w queue
-refused-kept rows w (Answer agent) = answer_kept w agent
-refused-kept rows w (Decline agent) = decline_kept w agent
-refused-kept rows w (AgentDone agent) = done_kept w agent
-refused-kept rows w (Reload text) = reload_by w (plan_in (plan_and_notes text))
+pub refused-kept : (meanings : Meanings) (w : World) (event : Event) → IsKept w (spec.event_row meanings w event)
+refused-kept meanings w (Start context exten caller) = start_kept w context exten caller
+refused-kept meanings w (Step number) = asked_kept meanings w number asked_step
+refused-kept meanings w (Digit number digit) = asked_kept meanings w number (asked_digit digit)
+refused-kept meanings w (Timeout number) = asked_kept meanings w number asked_timeout
+refused-kept meanings w (Poll number) = asked_kept meanings w number asked_poll
+refused-kept meanings w (Hangup number) = asked_kept meanings w number asked_hangup
+refused-kept meanings w (DialResult number status) = asked_kept meanings w number (asked_result status)
+refused-kept meanings w (Offer queue) = offer_kept w queue
+refused-kept meanings w (Answer agent) = answer_kept w agent
+refused-kept meanings w (Decline agent) = decline_kept w agent
+refused-kept meanings w (AgentDone agent) = done_kept w agent
+refused-kept meanings w (Reload text) = reload_by meanings.functions w (plan_in (plan_and_notes text))
+refused-kept meanings w (Assign None name value) = λ h. not_refused h
+refused-kept meanings w (Assign (Some number) name value) =
+    row_kept w number (spec.assign_row meanings.functions name value) (λ c. assign_kept w.plan w.shared number c meanings.functions name value)
+refused-kept meanings w (Redirect number place) = row_kept w number (spec.redirect_row place) (λ c. redirect_row_kept w.plan w.shared number c place)
 
 -- so what an event answers says whether it changed anything
-pub refused_after : (rows : Rows) (w after : World) (event : Event) (result : Result Reply NoMemory)
-    → IfOk result (λ reply. spec.event_row rows w event ≡ (after, reply)) → IfOk result (λ reply. is_refused reply ≡ true → after ≡ w)
-refused_after rows w after event (Ok reply) row =
-    λ h. sym (ap (λ p. p.0) row) ∙ refused-kept rows w event (ap (λ p. is_refused p.1) row ∙ h)
-refused_after rows w after event (Err fault) row = tt
+pub refused_after : (meanings : Meanings) (w after : World) (event : Event) (result : Result Reply NoMemory)
+    → IfOk result (λ reply. spec.event_row meanings w event ≡ (after, reply)) → IfOk result (λ reply. is_refused reply ≡ true → after ≡ w)
+refused_after meanings w after event (Ok reply) row =
+    λ h. sym (ap (λ p. p.0) row) ∙ refused-kept meanings w event (ap (λ p. is_refused p.1) row ∙ h)
+refused_after meanings w after event (Err fault) row = tt

@@ -5,7 +5,7 @@ use Rattle.dp_plan.specs.declared.entry.Entry.{Entry}
 use Rattle.dp_plan.specs.declared.entry.EntryId.{EntryId}
 use Rattle.dp_app.specs.Lawful.{ParksNowhere, IsLawful, IsLawfulRow, MayGo, MayPark, MayRun}
 use Rattle.dp_conf.specs.Numbers.{most_priority}
-use Rattle.dp_app.specs.Rows.{Row, Rows, after_dispatch}
+use Rattle.dp_app.specs.Rows.{Meanings, Row, Rows, after_dispatch}
 use Rattle.dp_app.specs.Cells.{CellOf}
 use Rattle.dp_app.specs.declared.moves.Move.{Move}
 use Rattle.dp_app.specs.declared.moves.Move.TheVariants.{Next, Jump, Park, Hang}
@@ -102,21 +102,21 @@ unfound_taken plan shared c =
     (record { channel = hung_up plan c; shared = shared; reply = NoEntry }) refl refl
 
 -- nor is one that finds its entry
-pub found_taken : (rows : Rows) (plan : PlanOf) (shared : SharedState) (number : ℕ) (c : Channel) (found : Option Located)
-    → is_refused_at_once (step_at rows plan shared number c found).reply ≡ false
-found_taken rows plan shared number c None = unfound_taken plan shared c
-found_taken rows plan shared number c (Some found) = refl
+pub found_taken : (meanings : Meanings) (plan : PlanOf) (shared : SharedState) (number : ℕ) (c : Channel) (found : Option Located)
+    → is_refused_at_once (step_at meanings plan shared number c found).reply ≡ false
+found_taken meanings plan shared number c None = unfound_taken plan shared c
+found_taken meanings plan shared number c (Some found) = refl
 
 -- a step that finds its entry, runs its application and goes where that sends the channel
-pub follows-found : (rows : Rows) (number : ℕ) (before after : Exchange) (c d beyond : Channel) (shared : SharedState) (id : EntryId) (entry : Entry) (going : Option Move)
+pub follows-found : (meanings : Meanings) (number : ℕ) (before after : Exchange) (c d beyond : Channel) (shared : SharedState) (id : EntryId) (entry : Entry) (going : Option Move)
     → entry_found before.plan c.place ≡ Some (record { id = id; entry = entry })
-    → application_outcome c (after_dispatch (rows entry.application) (arguments_seen before.shared number c entry.arguments) (cell_of before.shared number c))
+    → application_outcome c (after_dispatch (meanings.rows entry.application) (arguments_seen meanings.functions before.shared number c entry.arguments) (cell_of before.shared number c))
     ≡ record { channel = beyond; shared = shared; going = going }
     → d ≡ after_application before.plan beyond going → after.plan ≡ before.plan → after.shared ≡ shared
-    → Follows (step_at rows before.plan before.shared number c (entry_found before.plan c.place)) before after c d (Ok (Ran id))
-follows-found rows number before after c d beyond shared id entry going found run after_application same_plan same_shared = record {
+    → Follows (step_at meanings before.plan before.shared number c (entry_found before.plan c.place)) before after c d (Ok (Ran id))
+follows-found meanings number before after c d beyond shared id entry going found run after_application same_plan same_shared = record {
   ok =
-      ap (step_at rows before.plan before.shared number c) found
+      ap (step_at meanings before.plan before.shared number c) found
       ∙ (ap (after_run before.plan id) run ∙ (λ i. record { channel = sym after_application i; shared = sym same_shared i; reply = Ran id }));
   plan = same_plan;
   channel = tt;

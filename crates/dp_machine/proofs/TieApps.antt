@@ -5,7 +5,7 @@ use Rattle.dp_plan.specs.Plan.{PlanOf}
 use Rattle.dp_plan.specs.declared.entry.EntryId.{EntryId}
 use Rattle.dp_conf.specs.Numbers.{most_priority}
 use Rattle.dp_app.specs.Lawful.{ParksNowhere, IsLawful, IsLawfulRow, MayGo, MayPark}
-use Rattle.dp_app.specs.Rows.{Row, Rows, after_dispatch}
+use Rattle.dp_app.specs.Rows.{Row, Meanings, after_dispatch}
 use Rattle.dp_app.specs.Cells.{CellOf}
 use Rattle.dp_app.specs.declared.moves.Move.{Move}
 use Rattle.dp_app.specs.declared.moves.Move.TheVariants.{Next, Jump, Park, Hang}
@@ -71,9 +71,9 @@ module _ (plan : PlanOf) (shared : SharedState) (number : ℕ) (c : Channel) (ti
         sound = hung_up-sound plan c;
       }
 
-  module _ (touches : List ℕ → Touch) (rows : Rows) (lawful : IsLawful touches rows) where
+  module _ (touches : List ℕ → Touch) (meanings : Meanings) (lawful : IsLawful touches meanings.rows) where
     -- a channel after its application is tied to the queues
-    app-ties : (id : EntryId) (name arguments : List ℕ) (o : Option Row) → rows name ≡ o → Rests c.phase
+    app-ties : (id : EntryId) (name arguments : List ℕ) (o : Option Row) → meanings.rows name ≡ o → Rests c.phase
         → IsTied number shared.queues (after_run plan id (application_outcome c (after_dispatch o arguments (cell_of shared number c))))
     app-ties id name arguments None is rests =
         let d : Channel = record c { caller = c.caller; store = c.store } in
@@ -86,7 +86,7 @@ module _ (plan : PlanOf) (shared : SharedState) (number : ℕ) (c : Channel) (ti
         (record c { caller = after.caller; store = after.store }) (row arguments cell).next c.phase ties rests (law.parks arguments cell) (law.waits arguments cell)
 
     -- and sound
-    app-sound : (id : EntryId) (name arguments : List ℕ) (o : Option Row) → rows name ≡ o → c.place.priority ≤ most_priority
+    app-sound : (id : EntryId) (name arguments : List ℕ) (o : Option Row) → meanings.rows name ≡ o → c.place.priority ≤ most_priority
         → IsSoundOwn (after_run plan id (application_outcome c (after_dispatch o arguments (cell_of shared number c))))
     app-sound id name arguments None is within = hung_up-sound plan (record c { caller = c.caller; store = c.store })
     app-sound id name arguments (Some row) is within =
@@ -97,19 +97,19 @@ module _ (plan : PlanOf) (shared : SharedState) (number : ℕ) (c : Channel) (ti
         (law.parks arguments cell) (law.closes arguments cell) within
 
     -- a step of a channel that is ready, by the entry that is found
-    at-ties : (o : Option Located) → Rests c.phase → IsTied number shared.queues (step_at rows plan shared number c o)
+    at-ties : (o : Option Located) → Rests c.phase → IsTied number shared.queues (step_at meanings plan shared number c o)
     at-ties None rests = (unfound-acts rests).ties
-    at-ties (Some found) rests = app-ties found.id found.entry.application (arguments_seen shared number c found.entry.arguments)
-        (rows found.entry.application) refl rests
+    at-ties (Some found) rests = app-ties found.id found.entry.application (arguments_seen meanings.functions shared number c found.entry.arguments)
+        (meanings.rows found.entry.application) refl rests
 
     at-sound : (o : Option Located) → Rests c.phase → ((found : Located) → o ≡ Some found → c.place.priority ≤ most_priority)
-        → IsSoundOwn (step_at rows plan shared number c o)
+        → IsSoundOwn (step_at meanings plan shared number c o)
     at-sound None rests within = (unfound-acts rests).sound
-    at-sound (Some found) rests within = app-sound found.id found.entry.application (arguments_seen shared number c found.entry.arguments)
-        (rows found.entry.application) refl (within found refl)
+    at-sound (Some found) rests within = app-sound found.id found.entry.application (arguments_seen meanings.functions shared number c found.entry.arguments)
+        (meanings.rows found.entry.application) refl (within found refl)
 
     -- a step by the channel's phase
-    in-ties : (p : Phase) → c.phase ≡ p → IsTied number shared.queues (step_in rows p plan shared number c)
+    in-ties : (p : Phase) → c.phase ≡ p → IsTied number shared.queues (step_in meanings p plan shared number c)
     in-ties Ready is = at-ties (entry_found plan c.place) (ap queue_in is, ap talk_in is)
     in-ties (Digits digits is_background) is = ties
     in-ties Pause is = ties
@@ -120,7 +120,7 @@ module _ (plan : PlanOf) (shared : SharedState) (number : ℕ) (c : Channel) (ti
 
     in-sound : (p : Phase) → c.phase ≡ p → IsSoundIn c.phase c
         → ((found : Located) → entry_found plan c.place ≡ Some found → c.place.priority ≤ most_priority)
-        → IsSoundOwn (step_in rows p plan shared number c)
+        → IsSoundOwn (step_in meanings p plan shared number c)
     in-sound Ready is sound within = at-sound (entry_found plan c.place) (ap queue_in is, ap talk_in is) within
     in-sound (Digits digits is_background) is sound within = sound
     in-sound Pause is sound within = sound
@@ -130,12 +130,12 @@ module _ (plan : PlanOf) (shared : SharedState) (number : ℕ) (c : Channel) (ti
     in-sound phase_ended is sound within = sound
 
     -- the event `Step`: the channel is tied to the queues after it
-    pub step-ties : IsTied number shared.queues (step_row rows plan shared number c)
+    pub step-ties : IsTied number shared.queues (step_row meanings plan shared number c)
     unfolding step_row
     step-ties = in-ties c.phase refl
 
     -- and is sound, where its place is at a priority of an entry if an entry is found there
     pub step-sound : IsSoundIn c.phase c → ((found : Located) → entry_found plan c.place ≡ Some found → c.place.priority ≤ most_priority)
-        → IsSoundOwn (step_row rows plan shared number c)
+        → IsSoundOwn (step_row meanings plan shared number c)
     unfolding step_row
     step-sound sound within = in-sound c.phase refl sound within

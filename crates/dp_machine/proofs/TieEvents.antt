@@ -10,17 +10,19 @@ use Rattle.dp_queue.proofs.RestLemmas.{state_at-at_rest, waits_in-at_rest}
 use Rattle.dp_plan.specs.Loaded.{plan_and_notes}
 use Rattle.dp_plan.specs.Plan.{PlanOf}
 use Rattle.dp_app.specs.Lawful.{IsLawful}
-use Rattle.dp_app.specs.Rows.{Rows}
+use Rattle.dp_vars.specs.Functions.{FunctionTable}
+use Rattle.dp_app.specs.Rows.{Meanings}
+use Rattle.dp_app.specs.declared.place.Place.{Place}
 use Rattle.dp_app.specs.declared.touch.Touch.{Touch}
-use Rattle.dp_machine.specs.Events.{Own, dial_result_row, digit_row, world_with_call, event_row, hang_up_row, new_channel, own_event, world_with_own, poll_row, start_call, step_row, timeout_row}
+use Rattle.dp_machine.specs.Events.{Own, dial_result_row, digit_row, world_with_call, event_row, hang_up_row, new_channel, own_event, world_with_own, poll_row, start_call, step_row, timeout_row, assign_row, redirect_row}
 use Rattle.dp_machine.specs.steps.Follows.{Makes}
 use Rattle.dp_machine.specs.GoodWorld.{AreTied, IsGoodWorld, IsSoundAt, IsSoundOwn, StepsSoundly, queue_of, talk_of}
 use Rattle.dp_machine.specs.Reloading.{plan_in, reloaded_by}
-use Rattle.dp_machine.specs.World.{World, channel_at, most_channels, opening, world_in}
+use Rattle.dp_machine.specs.World.{World, channel_at, most_channels, opening_with, world_in}
 use Rattle.dp_machine.specs.declared.channel.Channel.{Channel}
 use Rattle.dp_machine.specs.declared.dial_status.DialStatus.{DialStatus}
 use Rattle.dp_machine.specs.declared.event.Event.{Event}
-use Rattle.dp_machine.specs.declared.event.Event.TheVariants.{Start, Step, Digit, Timeout, Poll, Hangup, DialResult, Offer, Answer, Decline, AgentDone, Reload}
+use Rattle.dp_machine.specs.declared.event.Event.TheVariants.{Start, Step, Digit, Timeout, Poll, Hangup, DialResult, Offer, Answer, Decline, AgentDone, Reload, Assign, Redirect}
 use Rattle.dp_machine.specs.declared.exchange.Exchange.{Exchange}
 use Rattle.dp_machine.specs.declared.refusal.Refusal.TheVariants.{NumbersSpent}
 use Rattle.dp_machine.specs.declared.reply.Reply.{Reply}
@@ -29,7 +31,7 @@ use Rattle.dp_machine.specs.declared.shared_state.SharedState.{SharedState}
 use Rattle.dp_machine.proofs.TieApps.{IsTied, step-ties}
 use Rattle.dp_machine.proofs.TieLemmas.{IsTiedWorld, Ties}
 use Rattle.dp_machine.proofs.TieQueues.{talking_not_idle, ties-self}
-use Rattle.dp_machine.proofs.TieRows.{Acts, dial_result_row-acts, digit-acts, hang_up_row-acts, poll_row-acts, timeout_row-acts}
+use Rattle.dp_machine.proofs.TieRows.{Acts, assign_row-acts, redirect_row-acts, dial_result_row-acts, digit-acts, hang_up_row-acts, poll_row-acts, timeout_row-acts}
 use Rattle.dp_machine.proofs.TieServed.{good-agent_done, good-serve_answer, good-changed, good-serve_decline, good-serve_offer}
 use borrow.Author.Tests.{ltb-true}
 
@@ -42,8 +44,8 @@ none-at m = by (m == 0)
     by false = refl
 
 -- before the first call
-good-opening : (plan : PlanOf) (queues : QueuesOf) → IsAtRest queues → IsTiedWorld (opening plan queues)
-good-opening plan queues rest = record {
+good-opening : (functions : FunctionTable) (plan : PlanOf) (queues : QueuesOf) → IsAtRest queues → IsTiedWorld (opening_with functions plan queues)
+good-opening functions plan queues rest = record {
   within = omega arith;
   tied = record {
     waits = λ m. waits_in-at_rest queues.queues rest.nobody_waits m ∙ sym (ap queue_of (none-at m));
@@ -142,11 +144,21 @@ module _ (w : World) (number : ℕ) (c : Channel) (good : IsTiedWorld w) (linked
   good-dial_result status = acted (dial_result_row status w.plan w.shared number c)
       (dial_result_row-acts w.plan w.shared number c linked ties (subst IsSoundAt here (good.tied.sound number)) status)
 
+  -- a value that is set from outside
+  pub good-assign : (functions : FunctionTable) (name value : List ℕ) → IsTiedWorld (world_with_own w number (assign_row functions name value w.plan w.shared number c)).0
+  good-assign functions name value = acted (assign_row functions name value w.plan w.shared number c)
+      (assign_row-acts w.plan w.shared number c linked ties (subst IsSoundAt here (good.tied.sound number)) functions name value)
+
+  -- a redirection
+  pub good-redirect : (place : Place) → IsTiedWorld (world_with_own w number (redirect_row place w.plan w.shared number c)).0
+  good-redirect place = acted (redirect_row place w.plan w.shared number c)
+      (redirect_row-acts w.plan w.shared number c linked ties (subst IsSoundAt here (good.tied.sound number)) place)
+
   -- a step over a lawful table, after which the channel is sound
-  pub good-step : (touches : List ℕ → Touch) (rows : Rows) → IsLawful touches rows → IsSoundOwn (step_row rows w.plan w.shared number c)
-      → IsTiedWorld (world_with_own w number (step_row rows w.plan w.shared number c)).0
-  good-step touches rows lawful sound = good-world_with_own w number c (step_row rows w.plan w.shared number c) good here
-      (step-ties w.plan w.shared number c ties touches rows lawful) sound
+  pub good-step : (touches : List ℕ → Touch) (meanings : Meanings) → IsLawful touches meanings.rows → IsSoundOwn (step_row meanings w.plan w.shared number c)
+      → IsTiedWorld (world_with_own w number (step_row meanings w.plan w.shared number c)).0
+  good-step touches meanings lawful sound = good-world_with_own w number c (step_row meanings w.plan w.shared number c) good here
+      (step-ties w.plan w.shared number c ties touches meanings lawful) sound
 
 -- the event of a channel that there may not be
 pub good-own_event : (w : World) (number : ℕ) (row : PlanOf → SharedState → ℕ → Channel → Own) → IsTiedWorld w
@@ -159,52 +171,57 @@ good-own_event w number row good acts = by (channel_at w.channels number) refl
     by (Some c) here = acts c here
 
 -- another dialplan, where its text has no fault
-good-reloaded : (w : World) (plan : Option PlanOf) → IsTiedWorld w → IsTiedWorld (reloaded_by w plan).0
-good-reloaded w None good = good
-good-reloaded w (Some plan) good = record { within = good.within; tied = good.tied }
+good-reloaded : (functions : FunctionTable) (w : World) (plan : Option PlanOf) → IsTiedWorld w → IsTiedWorld (reloaded_by functions w plan).0
+good-reloaded functions w None good = good
+good-reloaded functions w (Some plan) good = record { within = good.within; tied = good.tied }
 
 -- the world stays good after each event, over a lawful table
-pub good-event : (touches : List ℕ → Touch) (rows : Rows) (w : World) (event : Event) → IsLawful touches rows → IsGood w.shared.queues → IsTiedWorld w
-    → StepsSoundly rows w event → IsTiedWorld (event_row rows w event).0
-good-event touches rows w (Start context exten caller) lawful linked good steps = good-start_call w context exten caller good
-good-event touches rows w (Step number) lawful linked good steps = good-own_event w number (step_row rows) good
-    (λ c here. good-step w number c good linked here touches rows lawful (steps c here))
-good-event touches rows w (Digit number digit) lawful linked good steps = good-own_event w number (digit_row digit) good
+pub good-event : (touches : List ℕ → Touch) (meanings : Meanings) (w : World) (event : Event) → IsLawful touches meanings.rows → IsGood w.shared.queues → IsTiedWorld w
+    → StepsSoundly meanings w event → IsTiedWorld (event_row meanings w event).0
+good-event touches meanings w (Start context exten caller) lawful linked good steps = good-start_call w context exten caller good
+good-event touches meanings w (Step number) lawful linked good steps = good-own_event w number (step_row meanings) good
+    (λ c here. good-step w number c good linked here touches meanings lawful (steps c here))
+good-event touches meanings w (Digit number digit) lawful linked good steps = good-own_event w number (digit_row digit) good
     (λ c here. good-digit w number c good linked here digit)
-good-event touches rows w (Timeout number) lawful linked good steps = good-own_event w number timeout_row good
+good-event touches meanings w (Timeout number) lawful linked good steps = good-own_event w number timeout_row good
     (λ c here. good-timeout w number c good linked here)
-good-event touches rows w (Poll number) lawful linked good steps = good-own_event w number poll_row good
+good-event touches meanings w (Poll number) lawful linked good steps = good-own_event w number poll_row good
     (λ c here. good-poll w number c good linked here)
-good-event touches rows w (Hangup number) lawful linked good steps = good-own_event w number hang_up_row good
+good-event touches meanings w (Hangup number) lawful linked good steps = good-own_event w number hang_up_row good
     (λ c here. good-hang_up w number c good linked here)
-good-event touches rows w (DialResult number status) lawful linked good steps = good-own_event w number (dial_result_row status) good
+good-event touches meanings w (DialResult number status) lawful linked good steps = good-own_event w number (dial_result_row status) good
     (λ c here. good-dial_result w number c good linked here status)
-good-event touches rows w (Offer queue) lawful linked good steps = good-serve_offer w queue good
-good-event touches rows w (Answer agent) lawful linked good steps = good-serve_answer w good linked agent
-good-event touches rows w (Decline agent) lawful linked good steps = good-serve_decline w agent good
-good-event touches rows w (AgentDone agent) lawful linked good steps = good-agent_done w good linked agent
-good-event touches rows w (Reload text) lawful linked good steps = good-reloaded w (plan_in (plan_and_notes text)) good
+good-event touches meanings w (Offer queue) lawful linked good steps = good-serve_offer w queue good
+good-event touches meanings w (Answer agent) lawful linked good steps = good-serve_answer w good linked agent
+good-event touches meanings w (Decline agent) lawful linked good steps = good-serve_decline w agent good
+good-event touches meanings w (AgentDone agent) lawful linked good steps = good-agent_done w good linked agent
+good-event touches meanings w (Reload text) lawful linked good steps = good-reloaded meanings.functions w (plan_in (plan_and_notes text)) good
+good-event touches meanings w (Assign None name value) lawful linked good steps = record { within = good.within; tied = good.tied }
+good-event touches meanings w (Assign (Some number) name value) lawful linked good steps = good-own_event w number (assign_row meanings.functions name value) good
+    (λ c here. good-assign w number c good linked here meanings.functions name value)
+good-event touches meanings w (Redirect number place) lawful linked good steps = good-own_event w number (redirect_row place) good
+    (λ c here. good-redirect w number c good linked here place)
 
 -- so channels and queues are tied after what a call of the machine answers: the world of the event's row, or the world as it was
-tied-after : (touches : List ℕ → Touch) (rows : Rows) (before after : World) (event : Event) (r : Result Reply NoMemory)
-    → IsLawful touches rows → IsGood before.shared.queues → IsTiedWorld before → Makes (event_row rows before event) before after r
-    → OnOk r (StepsSoundly rows before event) → IsTiedWorld after
-tied-after touches rows before after event (Ok reply) lawful linked tied makes steps =
-    subst IsTiedWorld (ap (λ (p : World × Reply). p.0) makes.ok) (good-event touches rows before event lawful linked tied steps)
-tied-after touches rows before after event (Err e) lawful linked tied makes steps = subst IsTiedWorld (sym makes.err) tied
+tied-after : (touches : List ℕ → Touch) (meanings : Meanings) (before after : World) (event : Event) (r : Result Reply NoMemory)
+    → IsLawful touches meanings.rows → IsGood before.shared.queues → IsTiedWorld before → Makes (event_row meanings before event) before after r
+    → OnOk r (StepsSoundly meanings before event) → IsTiedWorld after
+tied-after touches meanings before after event (Ok reply) lawful linked tied makes steps =
+    subst IsTiedWorld (ap (λ (p : World × Reply). p.0) makes.ok) (good-event touches meanings before event lawful linked tied steps)
+tied-after touches meanings before after event (Err e) lawful linked tied makes steps = subst IsTiedWorld (sym makes.err) tied
 
 -- and the world is good there, since its queues are
-pub good-after : (touches : List ℕ → Touch) (rows : Rows) (before after : World) (event : Event) (r : Result Reply NoMemory)
-    → IsLawful touches rows → IsGoodWorld before → Makes (event_row rows before event) before after r
-    → OnOk r (StepsSoundly rows before event) → IsGood after.shared.queues → IsGoodWorld after
-good-after touches rows before after event r lawful good makes steps queues =
-    let tied : IsTiedWorld after = tied-after touches rows before after event r lawful good.queues (record { within = good.within; tied = good.tied }) makes steps in
+pub good-after : (touches : List ℕ → Touch) (meanings : Meanings) (before after : World) (event : Event) (r : Result Reply NoMemory)
+    → IsLawful touches meanings.rows → IsGoodWorld before → Makes (event_row meanings before event) before after r
+    → OnOk r (StepsSoundly meanings before event) → IsGood after.shared.queues → IsGoodWorld after
+good-after touches meanings before after event r lawful good makes steps queues =
+    let tied : IsTiedWorld after = tied-after touches meanings before after event r lawful good.queues (record { within = good.within; tied = good.tied }) makes steps in
     record { within = tied.within; tied = tied.tied; queues = queues }
 
 -- and so is the world of an exchange before the first call, with no channel
-pub good-fresh : (plan : PlanOf) (queues : QueuesOf) (exchange : Exchange) (channels : List Channel) → channels ≡ []
-    → world_in exchange [] ≡ opening plan queues → IsAtRest queues → IsGood exchange.shared.queues → IsGoodWorld (world_in exchange channels)
-good-fresh plan queues exchange channels none first rest linked =
+pub good-fresh : (functions : FunctionTable) (plan : PlanOf) (queues : QueuesOf) (exchange : Exchange) (channels : List Channel) → channels ≡ []
+    → world_in exchange [] ≡ opening_with functions plan queues → IsAtRest queues → IsGood exchange.shared.queues → IsGoodWorld (world_in exchange channels)
+good-fresh functions plan queues exchange channels none first rest linked =
     let tied : IsTiedWorld (world_in exchange channels) = subst (λ cs. IsTiedWorld (world_in exchange cs)) (sym none)
-    (subst IsTiedWorld (sym first) (good-opening plan queues rest)) in
+    (subst IsTiedWorld (sym first) (good-opening functions plan queues rest)) in
     record { within = tied.within; tied = tied.tied; queues = linked }

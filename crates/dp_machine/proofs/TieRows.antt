@@ -5,18 +5,20 @@ use Rattle.dp_queue.specs.Good.{IsGood}
 use Rattle.dp_queue.specs.Joining.{should_leave}
 use Rattle.dp_queue.specs.Queues.{QueuesOf}
 use Rattle.dp_plan.specs.Plan.{PlanOf}
+use Rattle.dp_vars.specs.Functions.{FunctionTable, SettingTarget, Variable, Global, Local, Caller, Nothing}
+use Rattle.dp_vars.specs.Stores.{StoreOf, set, set_local}
 use Rattle.dp_app.specs.declared.phase.Phase.{Phase}
 use Rattle.dp_app.specs.declared.phase.Phase.TheVariants.{Ready, Digits, Pause, Queued, Talking, Dialling, Ended as phase_ended}
 use Rattle.dp_app.specs.declared.place.Place.{Place}
 use Rattle.dp_machine.specs.Channels.{after_cancel, after_digit, after_dialling, ends_call, going_on, hung_up, left_queue, ready_at, ready_in, timed_out, after_no_answer, after_wait, with_dial_status}
-use Rattle.dp_machine.specs.Events.{Own, dial_in, dial_result_in, dial_result_row, digit_row, hang_up_in, hang_up_row, is_digit, is_over, poll_in, poll_queue, poll_row, refuse, take_event, timeout_in, timeout_row, way_out_of, without_caller}
+use Rattle.dp_machine.specs.Events.{Own, dial_in, dial_result_in, assign_row, assigned, dial_result_row, digit_row, hang_up_in, hang_up_row, is_digit, is_over, poll_in, poll_queue, poll_row, redirect_in, redirect_row, refuse, take_event, timeout_in, timeout_row, way_out_of, without_caller}
 use Rattle.dp_machine.specs.Codes.{status_name}
 use Rattle.dp_machine.specs.Found.{could_go_on, is_found}
 use Rattle.dp_machine.specs.GoodWorld.{IsSoundIn, queue_in, talk_in}
 use Rattle.dp_machine.specs.Targets.{place_of}
 use Rattle.dp_machine.specs.declared.channel.Channel.{Channel}
 use Rattle.dp_machine.specs.declared.dial_status.DialStatus.{DialStatus}
-use Rattle.dp_machine.specs.declared.refusal.Refusal.TheVariants.{BadDigit, Ended, NoTimer, NotDialling, NotWaiting}
+use Rattle.dp_machine.specs.declared.refusal.Refusal.TheVariants.{BadDigit, Ended, NoTimer, NotDialling, NotReady, NotWaiting}
 use Rattle.dp_machine.specs.declared.reply.Reply.{Reply}
 use Rattle.dp_machine.specs.declared.reply.Reply.TheVariants.{Done, Refused}
 use Rattle.dp_machine.specs.declared.shared_state.SharedState.{SharedState}
@@ -58,6 +60,20 @@ after_dialling-quiet plan c status goes_on = by (ends_call status goes_on)
     by : (b : Bool) → IsQuiet (if b then hung_up plan (with_dial_status c (status_name status)) else going_on (with_dial_status c (status_name status)))
     by true = hung_up-quiet plan (with_dial_status c (status_name status))
     by false = ((refl, refl), tt)
+
+-- a channel that is not over stays sound with other variables and another caller
+sound-kept : (p : Phase) (c : Channel) (store : StoreOf Place) (caller : List ℕ) → is_over p ≡ false → IsSoundIn p c
+    → IsSoundIn p (record c { store = store; caller = caller })
+sound-kept Ready c store caller alive sound = tt
+sound-kept (Digits digits is_background) c store caller alive sound = sound
+sound-kept Pause c store caller alive sound = sound
+sound-kept (Queued queue goes_on has_timer) c store caller alive sound = sound
+sound-kept (Talking queue agent goes_on) c store caller alive sound = sound
+sound-kept (Dialling goes_on has_timer) c store caller alive sound = sound
+sound-kept phase_ended c store caller alive sound = absurd (over alive)
+  where
+    over : true ≡ false → ⊥
+    over is = cc
 
 -- a channel of which this is known acts
 module _ (plan : PlanOf) (shared : SharedState) (number : ℕ) (c : Channel) (good : IsGood shared.queues)
@@ -183,6 +199,40 @@ module _ (plan : PlanOf) (shared : SharedState) (number : ℕ) (c : Channel) (go
   pub hang_up_row-acts : Acts number shared.queues (hang_up_row plan shared number c)
   unfolding hang_up_row
   hang_up_row-acts = hang_up-acts c.phase refl
+
+  -- a value that is set from outside
+  assigned-acts : (target : SettingTarget) (value : List ℕ) → is_over c.phase ≡ false → Acts number shared.queues (assigned target value shared c)
+  assigned-acts (Variable name) value alive = record { ties = ties; sound = sound-kept c.phase c (set c.store name value) c.caller alive sound }
+  assigned-acts (Global name) value alive = record { ties = ties; sound = sound }
+  assigned-acts (Local name) value alive = record { ties = ties; sound = sound-kept c.phase c (set_local c.store name value) c.caller alive sound }
+  assigned-acts Caller value alive = record { ties = ties; sound = sound-kept c.phase c c.store value alive sound }
+  assigned-acts Nothing value alive = record { ties = ties; sound = sound }
+
+  -- the event `Assign` with a channel
+  pub assign_row-acts : (functions : FunctionTable) (name value : List ℕ) → Acts number shared.queues (assign_row functions name value plan shared number c)
+  unfolding assign_row
+  assign_row-acts functions name value = by (is_over c.phase) refl
+    where
+      by : (b : Bool) → is_over c.phase ≡ b
+          → Acts number shared.queues (if b then refuse Ended shared c else assigned (functions.target name) value shared c)
+      by true over = still (Refused Ended)
+      by false alive = assigned-acts (functions.target name) value alive
+
+  -- the channel goes to a place
+  redirect-acts : (place : Place) (p : Phase) → c.phase ≡ p → Acts number shared.queues (redirect_in p place plan shared number c)
+  redirect-acts place Ready is = quiet (ready_at c place) Done (rests_by Ready is (refl, refl)) ((refl, refl), tt)
+  redirect-acts place (Digits digits is_background) is =
+      quiet (ready_at c place) Done (rests_by (Digits digits is_background) is (refl, refl)) ((refl, refl), tt)
+  redirect-acts place Pause is = quiet (ready_at c place) Done (rests_by Pause is (refl, refl)) ((refl, refl), tt)
+  redirect-acts place (Queued queue goes_on has_timer) is = still (Refused NotReady)
+  redirect-acts place (Talking queue agent goes_on) is = still (Refused NotReady)
+  redirect-acts place (Dialling goes_on has_timer) is = still (Refused NotReady)
+  redirect-acts place phase_ended is = still (Refused Ended)
+
+  -- the event `Redirect`
+  pub redirect_row-acts : (place : Place) → Acts number shared.queues (redirect_row place plan shared number c)
+  unfolding redirect_row
+  redirect_row-acts place = redirect-acts place c.phase refl
 
   -- what came of a call to devices
   result-acts : (status : DialStatus) (p : Phase) → c.phase ≡ p → Acts number shared.queues (dial_result_in p status plan shared number c)

@@ -11,24 +11,27 @@ use Rattle.dp_queue.specs.declared.call.Call.{Call}
 use Rattle.dp_queue.specs.declared.fault.OfferFault.{OfferFault}
 use Rattle.dp_queue.specs.declared.fault.OfferFault.TheVariants.{NoQueue as no_queue, NobodyWaiting as nobody_waiting, NoMember as no_member}
 use Rattle.dp_queue.specs.declared.offer.Offered.{Offered as Rung}
-use Rattle.dp_vars.specs.Stores.{nothing}
-use Rattle.dp_app.specs.Rows.{Rows, after_dispatch}
+use Rattle.std.specs.FinMap.{insert}
+use Rattle.dp_vars.specs.Functions.{FunctionTable, SettingTarget, Variable, Global, Local, Caller, Nothing}
+use Rattle.dp_vars.specs.Stores.{nothing, set_local}
+use Rattle.dp_app.specs.Rows.{Meanings, after_dispatch}
 use Rattle.dp_app.specs.Cells.{CellOf}
 use Rattle.dp_app.specs.declared.moves.Move.{Move}
 use Rattle.dp_app.specs.declared.phase.Phase.{Phase}
 use Rattle.dp_app.specs.declared.phase.Phase.TheVariants.{Ready, Digits, Pause, Queued, Talking, Dialling, Ended as phase_ended}
-use Rattle.dp_machine.specs.Channels.{Change, Stays, Talks, TalkEnds, after_cancel, after_change, after_digit, after_dialling, going_on, hung_up, invalid, is_invalid, left_queue, ready_at, timed_out, after_no_answer, after_application}
+use Rattle.dp_machine.specs.Channels.{Change, Stays, Talks, TalkEnds, after_cancel, after_change, after_digit, after_dialling, going_on, hung_up, invalid, is_invalid, left_queue, ready_at, timed_out, after_no_answer, after_application, with_value}
 use Rattle.dp_machine.specs.Found.{Located, could_go_on, entry_found, is_found}
 use Rattle.dp_machine.specs.Reloading.{after_reload}
 use Rattle.dp_machine.specs.Seen.{arguments_seen}
 use Rattle.dp_machine.specs.Targets.{place_of}
 use Rattle.dp_machine.specs.World.{World, most_channels, channel_at, with_channel}
+use Rattle.dp_app.specs.declared.place.Place.{Place}
 use Rattle.dp_machine.specs.declared.channel.Channel.{Channel}
 use Rattle.dp_machine.specs.declared.event.Event.{Event}
-use Rattle.dp_machine.specs.declared.event.Event.TheVariants.{Start, Step, Digit, Timeout, Poll, Hangup, DialResult, Offer, Answer, Decline, AgentDone, Reload}
+use Rattle.dp_machine.specs.declared.event.Event.TheVariants.{Start, Step, Digit, Timeout, Poll, Hangup, DialResult, Offer, Answer, Decline, AgentDone, Reload, Assign, Redirect}
 use Rattle.dp_machine.specs.declared.dial_status.DialStatus.{DialStatus}
 use Rattle.dp_machine.specs.declared.channel_event.ChannelEvent.{ChannelEvent}
-use Rattle.dp_machine.specs.declared.channel_event.ChannelEvent.TheVariants.{Step as asked_step, Digit as asked_digit, Timeout as asked_timeout, Poll as asked_poll, Hangup as asked_hangup, DialResult as asked_result}
+use Rattle.dp_machine.specs.declared.channel_event.ChannelEvent.TheVariants.{Step as asked_step, Digit as asked_digit, Timeout as asked_timeout, Poll as asked_poll, Hangup as asked_hangup, DialResult as asked_result, Assign as asked_assign, Redirect as asked_redirect}
 use Rattle.dp_machine.specs.declared.refusal.Refusal.{Refusal}
 use Rattle.dp_machine.specs.declared.refusal.Refusal.TheVariants.{NoChannel, NotReady, NotWaiting, NoTimer, NoQueue, NobodyWaiting, NoMember, NotRinging, NotTalking, Ended, NumbersSpent, BadDigit, BadPlan, NotDialling}
 use Rattle.dp_machine.specs.declared.reply.Reply.{Reply}
@@ -71,6 +74,10 @@ take_event shared c = record { channel = c; shared = shared; reply = Done }
 abbrev pub with_queues : SharedState → QueuesOf → SharedState
 with_queues shared queues = record { globals = shared.globals; queues = queues }
 
+-- the shared part with a global set
+abbrev pub with_shared_global : SharedState → List ℕ → List ℕ → SharedState
+with_shared_global shared name value = record shared { globals = insert shared.globals name value }
+
 -- the shared part after a channel that leaves its queue: the agents that rang for it are idle
 abbrev pub without_caller : SharedState → ℕ → SharedState
 without_caller shared number = with_queues shared (leave_row shared.queues number).0
@@ -110,24 +117,24 @@ unfound plan shared c =
     else record { channel = hung_up plan c; shared = shared; reply = NoEntry }
 
 -- a step, by the entry at the channel's place: its application is run with its arguments expanded
-abbrev pub step_at : Rows → PlanOf → SharedState → ℕ → Channel → Option Located → Own
-step_at rows plan shared number c None = unfound plan shared c
-step_at rows plan shared number c (Some found) =
-    after_run plan found.id (application_outcome c (after_dispatch (rows found.entry.application) (arguments_seen shared number c found.entry.arguments) (cell_of shared number c)))
+abbrev pub step_at : Meanings → PlanOf → SharedState → ℕ → Channel → Option Located → Own
+step_at meanings plan shared number c None = unfound plan shared c
+step_at meanings plan shared number c (Some found) =
+    after_run plan found.id (application_outcome c (after_dispatch (meanings.rows found.entry.application) (arguments_seen meanings.functions shared number c found.entry.arguments) (cell_of shared number c)))
 
 -- a step, by the channel's phase
-abbrev pub step_in : Rows → Phase → PlanOf → SharedState → ℕ → Channel → Own
-step_in rows Ready plan shared number c = step_at rows plan shared number c (entry_found plan c.place)
-step_in rows (Digits digits is_background) plan shared number c = refuse NotReady shared c
-step_in rows Pause plan shared number c = refuse NotReady shared c
-step_in rows (Queued queue goes_on has_timer) plan shared number c = refuse NotReady shared c
-step_in rows (Talking queue agent goes_on) plan shared number c = refuse NotReady shared c
-step_in rows (Dialling goes_on has_timer) plan shared number c = refuse NotReady shared c
-step_in rows phase_ended plan shared number c = refuse Ended shared c
+abbrev pub step_in : Meanings → Phase → PlanOf → SharedState → ℕ → Channel → Own
+step_in meanings Ready plan shared number c = step_at meanings plan shared number c (entry_found plan c.place)
+step_in meanings (Digits digits is_background) plan shared number c = refuse NotReady shared c
+step_in meanings Pause plan shared number c = refuse NotReady shared c
+step_in meanings (Queued queue goes_on has_timer) plan shared number c = refuse NotReady shared c
+step_in meanings (Talking queue agent goes_on) plan shared number c = refuse NotReady shared c
+step_in meanings (Dialling goes_on has_timer) plan shared number c = refuse NotReady shared c
+step_in meanings phase_ended plan shared number c = refuse Ended shared c
 
 -- the event `Step`
-unfoldable pub step_row : Rows → PlanOf → SharedState → ℕ → Channel → Own
-step_row rows plan shared number c = step_in rows c.phase plan shared number c
+unfoldable pub step_row : Meanings → PlanOf → SharedState → ℕ → Channel → Own
+step_row meanings plan shared number c = step_in meanings c.phase plan shared number c
 
 -- the digits of a telephone
 abbrev pub is_digit : ℕ → Bool
@@ -251,14 +258,43 @@ dial_result_in phase_ended status plan shared number c = refuse Ended shared c
 unfoldable pub dial_result_row : DialStatus → PlanOf → SharedState → ℕ → Channel → Own
 dial_result_row status plan shared number c = dial_result_in c.phase status plan shared number c
 
+-- a value that is set from outside, by what its name sets
+abbrev pub assigned : SettingTarget → List ℕ → SharedState → Channel → Own
+assigned (Variable name) value shared c = take_event shared (with_value c name value)
+assigned (Global name) value shared c = take_event (with_shared_global shared name value) c
+assigned (Local name) value shared c = take_event shared (record c { store = set_local c.store name value })
+assigned Caller value shared c = take_event shared (record c { caller = value })
+assigned Nothing value shared c = take_event shared c
+
+-- the event `Assign` with a channel: one that is over keeps what it has
+unfoldable pub assign_row : FunctionTable → List ℕ → List ℕ → PlanOf → SharedState → ℕ → Channel → Own
+assign_row functions name value plan shared number c =
+    if is_over c.phase then refuse Ended shared c else assigned (functions.target name) value shared c
+
+-- the event `Redirect`, by the channel's phase: one that waits for an agent or a far side, or talks, is refused
+abbrev pub redirect_in : Phase → Place → PlanOf → SharedState → ℕ → Channel → Own
+redirect_in Ready place plan shared number c = take_event shared (ready_at c place)
+redirect_in (Digits digits is_background) place plan shared number c = take_event shared (ready_at c place)
+redirect_in Pause place plan shared number c = take_event shared (ready_at c place)
+redirect_in (Queued queue goes_on has_timer) place plan shared number c = refuse NotReady shared c
+redirect_in (Talking queue agent goes_on) place plan shared number c = refuse NotReady shared c
+redirect_in (Dialling goes_on has_timer) place plan shared number c = refuse NotReady shared c
+redirect_in phase_ended place plan shared number c = refuse Ended shared c
+
+-- the event `Redirect`
+unfoldable pub redirect_row : Place → PlanOf → SharedState → ℕ → Channel → Own
+redirect_row place plan shared number c = redirect_in c.phase place plan shared number c
+
 -- an event of one channel, by what it asks
-abbrev pub own_row : Rows → ChannelEvent → PlanOf → SharedState → ℕ → Channel → Own
-own_row rows asked_step = step_row rows
-own_row rows (asked_digit digit) = digit_row digit
-own_row rows asked_timeout = timeout_row
-own_row rows asked_poll = poll_row
-own_row rows asked_hangup = hang_up_row
-own_row rows (asked_result status) = dial_result_row status
+abbrev pub own_row : Meanings → ChannelEvent → PlanOf → SharedState → ℕ → Channel → Own
+own_row meanings asked_step = step_row meanings
+own_row meanings (asked_digit digit) = digit_row digit
+own_row meanings asked_timeout = timeout_row
+own_row meanings asked_poll = poll_row
+own_row meanings asked_hangup = hang_up_row
+own_row meanings (asked_result status) = dial_result_row status
+own_row meanings (asked_assign name value) = assign_row meanings.functions name.now value.now
+own_row meanings (asked_redirect place) = redirect_row place.now
 
 -- a channel that a call opens at a place
 abbrev pub new_channel : List ℕ → List ℕ → List ℕ → Channel
@@ -334,8 +370,8 @@ own_event w number row None = (w, Refused NoChannel)
 own_event w number row (Some c) = world_with_own w number (row w.plan w.shared number c)
 
 -- the world after an event of the channel of a number, by what it asks, and the reply
-abbrev pub asked_event : Rows → World → ℕ → ChannelEvent → World × Reply
-asked_event rows w number asked = own_event w number (own_row rows asked) (channel_at w.channels number)
+abbrev pub asked_event : Meanings → World → ℕ → ChannelEvent → World × Reply
+asked_event meanings w number asked = own_event w number (own_row meanings asked) (channel_at w.channels number)
 
 -- the channels after an agent's event
 abbrev pub served_channels : World → Served → Option Channel → List Channel
@@ -346,20 +382,31 @@ served_channels w s (Some c) = with_channel w.channels s.who (after_change w.pla
 abbrev pub agent_event : World → Served → World × Reply
 agent_event w s = (record w { channels = served_channels w s (channel_at w.channels s.who); shared = s.shared }, s.reply)
 
+-- a global that is set from outside
+abbrev pub global_assigned : World → List ℕ → List ℕ → World × Reply
+global_assigned w name value = (record w { shared = with_shared_global w.shared name value }, Done)
+
+-- the event `Assign`: of a channel, or of a global
+abbrev pub assign_event : FunctionTable → World → Option ℕ → List ℕ → List ℕ → World × Reply
+assign_event functions w None name value = global_assigned w name value
+assign_event functions w (Some number) name value = own_event w number (assign_row functions name value) (channel_at w.channels number)
+
 -- the world after an event, and the reply
-abbrev pub event_row : Rows → World → Event → World × Reply
-event_row rows w (Start context exten caller) = world_with_call w (start_call w.channels context exten caller)
-event_row rows w (Step number) = own_event w number (step_row rows) (channel_at w.channels number)
-event_row rows w (Digit number digit) = own_event w number (digit_row digit) (channel_at w.channels number)
-event_row rows w (Timeout number) = own_event w number timeout_row (channel_at w.channels number)
-event_row rows w (Poll number) = own_event w number poll_row (channel_at w.channels number)
-event_row rows w (Hangup number) = own_event w number hang_up_row (channel_at w.channels number)
-event_row rows w (DialResult number status) = own_event w number (dial_result_row status) (channel_at w.channels number)
-event_row rows w (Offer queue) = agent_event w (serve_offer w.shared queue)
-event_row rows w (Answer agent) = agent_event w (serve_answer w.shared agent)
-event_row rows w (Decline agent) = agent_event w (serve_decline w.shared agent)
-event_row rows w (AgentDone agent) = agent_event w (agent_done w.shared agent)
-event_row rows w (Reload text) = after_reload w text
+abbrev pub event_row : Meanings → World → Event → World × Reply
+event_row meanings w (Start context exten caller) = world_with_call w (start_call w.channels context exten caller)
+event_row meanings w (Step number) = own_event w number (step_row meanings) (channel_at w.channels number)
+event_row meanings w (Digit number digit) = own_event w number (digit_row digit) (channel_at w.channels number)
+event_row meanings w (Timeout number) = own_event w number timeout_row (channel_at w.channels number)
+event_row meanings w (Poll number) = own_event w number poll_row (channel_at w.channels number)
+event_row meanings w (Hangup number) = own_event w number hang_up_row (channel_at w.channels number)
+event_row meanings w (DialResult number status) = own_event w number (dial_result_row status) (channel_at w.channels number)
+event_row meanings w (Offer queue) = agent_event w (serve_offer w.shared queue)
+event_row meanings w (Answer agent) = agent_event w (serve_answer w.shared agent)
+event_row meanings w (Decline agent) = agent_event w (serve_decline w.shared agent)
+event_row meanings w (AgentDone agent) = agent_event w (agent_done w.shared agent)
+event_row meanings w (Reload text) = after_reload meanings.functions w text
+event_row meanings w (Assign channel name value) = assign_event meanings.functions w channel name value
+event_row meanings w (Redirect number place) = own_event w number (redirect_row place) (channel_at w.channels number)
 
 -- the entry that the next step of a channel would run, by its phase
 abbrev pub next_in : Phase → PlanOf → Channel → Option EntryId
@@ -375,6 +422,25 @@ next_in phase_ended plan c = None
 abbrev pub next_entry : World → ℕ → Option EntryId
 next_entry w number = option_and_then (λ c. next_in c.phase w.plan c) (channel_at w.channels number)
 
+-- the entry at a channel's place, where its next step would run it
+abbrev pub located_in : Phase → PlanOf → Channel → Option Located
+located_in Ready plan c = entry_found plan c.place
+located_in (Digits digits is_background) plan c = None
+located_in Pause plan c = None
+located_in (Queued queue goes_on has_timer) plan c = None
+located_in (Talking queue agent goes_on) plan c = None
+located_in (Dialling goes_on has_timer) plan c = None
+located_in phase_ended plan c = None
+
+-- the expanded arguments of the entry that the next step of a channel would run
+abbrev pub arguments_in : FunctionTable → World → ℕ → Channel → Option (List ℕ)
+arguments_in functions w number c =
+    option_map (λ found. arguments_seen functions w.shared number c found.entry.arguments) (located_in c.phase w.plan c)
+
+-- the same of the channel of a number
+abbrev pub arguments_ahead : FunctionTable → World → ℕ → Option (List ℕ)
+arguments_ahead functions w number = option_and_then (λ c. arguments_in functions w number c) (channel_at w.channels number)
+
 -- the channel that an event names, and 0, which no channel has, where it names none
 abbrev pub channel_of : Event → ℕ
 channel_of (Start context exten caller) = 0
@@ -389,6 +455,8 @@ channel_of (Answer agent) = 0
 channel_of (Decline agent) = 0
 channel_of (AgentDone agent) = 0
 channel_of (Reload text) = 0
+channel_of (Assign channel name value) = unwrap_or channel 0
+channel_of (Redirect number place) = number
 
 -- whether a reply is a refusal
 abbrev pub is_refused : Reply → Bool

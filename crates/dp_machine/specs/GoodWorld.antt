@@ -7,16 +7,16 @@ use Rattle.dp_queue.specs.Joining.{waits_in}
 use Rattle.dp_queue.specs.Queues.{QueuesOf}
 use Rattle.dp_queue.specs.declared.agent.AgentState.TheVariants.{Talking as AgentTalking}
 use Rattle.dp_conf.specs.Numbers.{most_priority}
-use Rattle.dp_app.specs.Rows.{Rows}
+use Rattle.dp_app.specs.Rows.{Meanings}
 use Rattle.dp_app.specs.declared.phase.Phase.{Phase}
 use Rattle.dp_app.specs.declared.phase.Phase.TheVariants.{Ready, Digits, Pause, Queued, Talking, Dialling, Ended}
 use Rattle.dp_machine.specs.Events.{Own, own_row, step_row}
 use Rattle.dp_machine.specs.World.{World, most_channels, channel_at}
 use Rattle.dp_machine.specs.declared.channel_event.ChannelEvent.{ChannelEvent}
-use Rattle.dp_machine.specs.declared.channel_event.ChannelEvent.TheVariants.{Step as asked_step, Digit as asked_digit, Timeout as asked_timeout, Poll as asked_poll, Hangup as asked_hangup, DialResult as asked_result}
+use Rattle.dp_machine.specs.declared.channel_event.ChannelEvent.TheVariants.{Step as asked_step, Digit as asked_digit, Timeout as asked_timeout, Poll as asked_poll, Hangup as asked_hangup, DialResult as asked_result, Assign as asked_assign, Redirect as asked_redirect}
 use Rattle.dp_machine.specs.declared.channel.Channel.{Channel}
 use Rattle.dp_machine.specs.declared.event.Event.{Event}
-use Rattle.dp_machine.specs.declared.event.Event.TheVariants.{Start, Step, Digit, Timeout, Poll, Hangup, DialResult, Offer, Answer, Decline, AgentDone, Reload}
+use Rattle.dp_machine.specs.declared.event.Event.TheVariants.{Start, Step, Digit, Timeout, Poll, Hangup, DialResult, Offer, Answer, Decline, AgentDone, Reload, Assign, Redirect}
 use Rattle.dp_machine.specs.declared.shared_state.SharedState.{SharedState}
 
 -- the queue in which a channel waits by its phase
@@ -98,23 +98,27 @@ IsSoundAfter asked_timeout c = Unit {0}
 IsSoundAfter asked_poll c = Unit {0}
 IsSoundAfter asked_hangup c = Unit {0}
 IsSoundAfter (asked_result status) c = Unit {0}
+IsSoundAfter (asked_assign name value) c = Unit {0}
+IsSoundAfter (asked_redirect place) c = Unit {0}
 
 -- where a step is asked, the channel of a number is sound after it
-abbrev pub IsSoundAsked : Rows → World → ℕ → ChannelEvent → Type 0
-IsSoundAsked rows w number asked = (c : Channel) → channel_at w.channels number ≡ Some c
-    → IsSoundAfter asked (own_row rows asked w.plan w.shared number c).channel
+abbrev pub IsSoundAsked : Meanings → World → ℕ → ChannelEvent → Type 0
+IsSoundAsked meanings w number asked = (c : Channel) → channel_at w.channels number ≡ Some c
+    → IsSoundAfter asked (own_row meanings asked w.plan w.shared number c).channel
 
 -- where the event is a step, the channel is sound after it
-abbrev pub StepsSoundly : Rows → World → Event → Type 0
-StepsSoundly rows w (Start context exten caller) = Unit {0}
-StepsSoundly rows w (Step number) = (c : Channel) → channel_at w.channels number ≡ Some c → IsSoundOwn (step_row rows w.plan w.shared number c)
-StepsSoundly rows w (Digit number digit) = Unit {0}
-StepsSoundly rows w (Timeout number) = Unit {0}
-StepsSoundly rows w (Poll number) = Unit {0}
-StepsSoundly rows w (Hangup number) = Unit {0}
-StepsSoundly rows w (DialResult number status) = Unit {0}
-StepsSoundly rows w (Offer queue) = Unit {0}
-StepsSoundly rows w (Answer agent) = Unit {0}
-StepsSoundly rows w (Decline agent) = Unit {0}
-StepsSoundly rows w (AgentDone agent) = Unit {0}
-StepsSoundly rows w (Reload text) = Unit {0}
+abbrev pub StepsSoundly : Meanings → World → Event → Type 0
+StepsSoundly meanings w (Start context exten caller) = Unit {0}
+StepsSoundly meanings w (Step number) = (c : Channel) → channel_at w.channels number ≡ Some c → IsSoundOwn (step_row meanings w.plan w.shared number c)
+StepsSoundly meanings w (Digit number digit) = Unit {0}
+StepsSoundly meanings w (Timeout number) = Unit {0}
+StepsSoundly meanings w (Poll number) = Unit {0}
+StepsSoundly meanings w (Hangup number) = Unit {0}
+StepsSoundly meanings w (DialResult number status) = Unit {0}
+StepsSoundly meanings w (Offer queue) = Unit {0}
+StepsSoundly meanings w (Answer agent) = Unit {0}
+StepsSoundly meanings w (Decline agent) = Unit {0}
+StepsSoundly meanings w (AgentDone agent) = Unit {0}
+StepsSoundly meanings w (Reload text) = Unit {0}
+StepsSoundly meanings w (Assign channel name value) = Unit {0}
+StepsSoundly meanings w (Redirect number place) = Unit {0}

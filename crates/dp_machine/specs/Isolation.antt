@@ -1,15 +1,15 @@
 -- A channel whose events touch nothing that is shared, and a list of events without them.
-use Rattle.std.specs.Prelude.{◌≡◌, ◌≢◌, ℕ, ◌==◌, Bool, true, false, not, List, ◌∷◌, ◌++◌, length, map, filter}
+use Rattle.std.specs.Prelude.{◌≡◌, ◌≢◌, ℕ, ◌==◌, Bool, true, false, not, Some, None, List, ◌∷◌, ◌++◌, length, map, filter}
 use Rattle.std.specs.List.{zip}
-use Rattle.dp_app.specs.Rows.{Rows}
+use Rattle.dp_app.specs.Rows.{Meanings}
 use Rattle.dp_machine.specs.Replay.{final_world, world_after}
 use Rattle.dp_machine.specs.World.{World, channel_at}
 use Rattle.dp_machine.specs.declared.event.Event.{Event}
-use Rattle.dp_machine.specs.declared.event.Event.TheVariants.{Start, Step, Digit, Timeout, Poll, Hangup, DialResult, Offer, Answer, Decline, AgentDone, Reload}
+use Rattle.dp_machine.specs.declared.event.Event.TheVariants.{Start, Step, Digit, Timeout, Poll, Hangup, DialResult, Offer, Answer, Decline, AgentDone, Reload, Assign, Redirect}
 use Rattle.dp_machine.specs.declared.reply.Reply.{Reply}
 
--- whether an event is one of the channel of a number; a call that comes in is of no channel, nor is an event of an agent or another
--- dialplan
+-- whether an event is one of the channel of a number; a call that comes in is of no channel, nor is an event of an agent, another
+-- dialplan, or a global that is set from outside
 abbrev pub is_of : ℕ → Event → Bool
 is_of number (Start context exten caller) = false
 is_of number (Step channel) = channel == number
@@ -23,17 +23,20 @@ is_of number (Answer agent) = false
 is_of number (Decline agent) = false
 is_of number (AgentDone agent) = false
 is_of number (Reload text) = false
+is_of number (Assign None name value) = false
+is_of number (Assign (Some channel) name value) = channel == number
+is_of number (Redirect channel place) = channel == number
 
 -- an event of a channel is private in a world if it leaves the dialplan and what all channels share as they are: the globals, the
 -- queues, the agents, and the count of finished calls
-pub record IsPrivate (rows : Rows) (w : World) (event : Event) : Type 0 where
-  pub plan : (final_world rows w event).plan ≡ w.plan
-  pub shared : (final_world rows w event).shared ≡ w.shared
+pub record IsPrivate (meanings : Meanings) (w : World) (event : Event) : Type 0 where
+  pub plan : (final_world meanings w event).plan ≡ w.plan
+  pub shared : (final_world meanings w event).shared ≡ w.shared
 
 -- the channel of a number is unseen in the events: each of its own is private in the world that it meets
-abbrev pub IsUnseen : Rows → ℕ → World → List Event → Type 0
-IsUnseen rows number w events = (before : List Event) (event : Event) (later : List Event) → events ≡ before ++ event ∷ later
-    → is_of number event ≡ true → IsPrivate rows (world_after rows w before) event
+abbrev pub IsUnseen : Meanings → ℕ → World → List Event → Type 0
+IsUnseen meanings number w events = (before : List Event) (event : Event) (later : List Event) → events ≡ before ++ event ∷ later
+    → is_of number event ≡ true → IsPrivate meanings (world_after meanings w before) event
 
 -- the events that are not of the channel of a number
 abbrev pub without : ℕ → List Event → List Event

@@ -8,5 +8,6 @@ pub mod Reloading
 pub mod Replay
 pub mod Seen
 pub mod Targets
+pub mod Unknown
 pub mod World
 pub mod steps

@@ -6,6 +6,7 @@ use Rattle.dp_plan.specs.declared.fault.LoadFault.{LoadFault}
 use Rattle.dp_plan.specs.declared.note.Note.{Note}
 use Rattle.dp_plan.specs.declared.plan.GlobalVariable.{GlobalVariable}
 use Rattle.dp_queue.specs.Joining.{waiting_count}
+use Rattle.dp_vars.specs.Functions.{FunctionTable}
 use Rattle.dp_machine.specs.Seen.{globals_set}
 use Rattle.dp_machine.specs.World.{World}
 use Rattle.dp_machine.specs.declared.refusal.Refusal.TheVariants.{BadPlan}
@@ -19,18 +20,18 @@ plan_in (Ok read) = Some read.0
 plan_in (Err fault) = None
 
 -- the shared part with globals set, one after another, each expanded over those that are then; other globals stay, and the queues
-abbrev pub shared_with : SharedState → List GlobalVariable → SharedState
-shared_with shared variables = record {
-  globals = globals_set (waiting_count shared.queues.queues) shared.globals variables;
+abbrev pub shared_with : FunctionTable → SharedState → List GlobalVariable → SharedState
+shared_with functions shared variables = record {
+  globals = globals_set functions (waiting_count shared.queues.queues) shared.globals variables;
   queues = shared.queues;
 }
 
 -- the world after a dialplan that is given, and the reply: the dialplan comes in force and its globals are set, and the channels
 -- stay as they are; one with a fault is refused
-abbrev pub reloaded_by : World → Option PlanOf → World × Reply
-reloaded_by w None = (w, Refused BadPlan)
-reloaded_by w (Some plan) = (record { plan = plan; channels = w.channels; shared = shared_with w.shared plan.globals }, Done)
+abbrev pub reloaded_by : FunctionTable → World → Option PlanOf → World × Reply
+reloaded_by functions w None = (w, Refused BadPlan)
+reloaded_by functions w (Some plan) = (record { plan = plan; channels = w.channels; shared = shared_with functions w.shared plan.globals }, Done)
 
 -- the event `Reload`
-abbrev pub after_reload : World → List ℕ → World × Reply
-after_reload w text = reloaded_by w (plan_in (plan_and_notes text))
+abbrev pub after_reload : FunctionTable → World → List ℕ → World × Reply
+after_reload functions w text = reloaded_by functions w (plan_in (plan_and_notes text))

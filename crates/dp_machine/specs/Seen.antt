@@ -4,7 +4,8 @@ use Rattle.std.specs.FinMap.{empty, insert}
 use Rattle.dp_plan.specs.declared.plan.GlobalVariable.{GlobalVariable}
 use Rattle.dp_queue.specs.Joining.{waiting_count}
 use Rattle.dp_vars.specs.Sights.{ChannelView, Sight, maps_by, sight_by}
-use Rattle.dp_vars.specs.Values.{expansion}
+use Rattle.dp_vars.specs.Functions.{FunctionTable}
+use Rattle.dp_vars.specs.Values.{expansion_with}
 use Rattle.dp_vars.specs.Variables.{Named, value_or_empty}
 use Rattle.dp_machine.specs.declared.channel.Channel.{Channel}
 use Rattle.dp_app.specs.declared.place.Place.{Place}
@@ -33,9 +34,9 @@ maps_in shared number c = maps_by (Some (view_in number c)) (Some c.store) share
 abbrev pub sight_in : SharedState → ℕ → Channel → Sight
 sight_in shared number c = sight_by (waiting_count shared.queues.queues) (Some (view_in number c)) (Some c.store) shared.globals
 
--- arguments, expanded in what the channel of a number sees
-unfoldable pub arguments_seen : SharedState → ℕ → Channel → List ℕ → List ℕ
-arguments_seen shared number c arguments = expansion (sight_in shared number c) arguments
+-- arguments, expanded by these functions in what the channel of a number sees
+unfoldable pub arguments_seen : FunctionTable → SharedState → ℕ → Channel → List ℕ → List ℕ
+arguments_seen functions shared number c arguments = expansion_with functions (sight_in shared number c) arguments
 
 -- the value of a name in the channel of a number; empty where there is no channel
 abbrev pub value_seen : SharedState → ℕ → Option Channel → List ℕ → List ℕ
@@ -47,17 +48,17 @@ abbrev pub sight_of_globals : (List ℕ → ℕ) → Named → Sight
 sight_of_globals waiting globals = sight_by {B = Place} waiting None None globals
 
 -- the value of a global that is written so
-unfoldable pub global_value : (List ℕ → ℕ) → Named → List ℕ → List ℕ
-global_value waiting globals value = expansion (sight_of_globals waiting globals) value
+unfoldable pub global_value : FunctionTable → (List ℕ → ℕ) → Named → List ℕ → List ℕ
+global_value functions waiting globals value = expansion_with functions (sight_of_globals waiting globals) value
 
 -- the globals with one more
-abbrev pub with_global : (List ℕ → ℕ) → Named → GlobalVariable → Named
-with_global waiting globals variable = insert globals variable.name (global_value waiting globals variable.value)
+abbrev pub with_global : FunctionTable → (List ℕ → ℕ) → Named → GlobalVariable → Named
+with_global functions waiting globals variable = insert globals variable.name (global_value functions waiting globals variable.value)
 
 -- the globals with those of a dialplan set over them, one after another; of two of one name the later stands
-abbrev pub globals_set : (List ℕ → ℕ) → Named → List GlobalVariable → Named
-globals_set waiting globals variables = fold (with_global waiting) globals variables
+abbrev pub globals_set : FunctionTable → (List ℕ → ℕ) → Named → List GlobalVariable → Named
+globals_set functions waiting globals variables = fold (with_global functions waiting) globals variables
 
 -- the globals of a dialplan before the first call
-unfoldable pub globals_of : List GlobalVariable → Named
-globals_of variables = globals_set none_waiting empty variables
+unfoldable pub globals_of : FunctionTable → List GlobalVariable → Named
+globals_of functions variables = globals_set functions none_waiting empty variables

@@ -2,6 +2,8 @@
 use Rattle.std.specs.Prelude.{ℕ, ◌-◌, ◌==◌, List, [], Option, None, slice_get, slice_set, if◌then◌else◌}
 use Rattle.dp_plan.specs.Plan.{PlanOf}
 use Rattle.dp_queue.specs.Queues.{QueuesOf}
+use Rattle.dp_vars.specs.Functions.{FunctionTable}
+use Rattle.dp_vars.specs.Values.{standard_functions}
 use Rattle.dp_machine.specs.Seen.{globals_of, value_seen}
 use Rattle.dp_machine.specs.declared.channel.Channel.{Channel}
 use Rattle.dp_machine.specs.declared.exchange.Exchange.{Exchange}
@@ -25,9 +27,13 @@ world_of plan channels shared = record { plan = plan; channels = channels; share
 abbrev pub world_in : Exchange → List Channel → World
 world_in exchange channels = world_of exchange.plan channels exchange.shared
 
--- the world in which no call has come, with these queues: the globals are expanded
+-- the world in which no call has come, with these queues: the globals are expanded by these functions
+abbrev pub opening_with : FunctionTable → PlanOf → QueuesOf → World
+opening_with functions plan queues = world_of plan [] (record { globals = globals_of functions plan.globals; queues = queues })
+
+-- the same with the functions of this program
 abbrev pub opening : PlanOf → QueuesOf → World
-opening plan queues = world_of plan [] (record { globals = globals_of plan.globals; queues = queues })
+opening plan queues = opening_with standard_functions plan queues
 
 -- the channel of a number
 abbrev pub channel_at : List Channel → ℕ → Option Channel

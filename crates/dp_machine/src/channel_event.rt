@@ -1,14 +1,18 @@
 //! What an event asks of one channel.
 
 use crate::dial_status::DialStatus;
+use dp_app::Place;
 
-/// What an event asks of one channel.
+/// What an event asks of one channel. It borrows the texts and the place of the event.
 #[derive(Clone, Copy)]
-pub(crate) enum ChannelEvent {
+pub(crate) enum ChannelEvent<'a> {
     Step,
     Digit(u8),
     Timeout,
     Poll,
     Hangup,
     DialResult(DialStatus),
+    /// A name, and the value that it is set to from outside.
+    Assign(&'a [u8], &'a [u8]),
+    Redirect(&'a Place),
 }

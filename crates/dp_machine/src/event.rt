@@ -1,9 +1,10 @@
 //! The events that a machine is given.
 ghost use Rattle.std.specs.Prelude.{◌≡◌, IfOk};
 ghost use Rattle.dp_machine.specs.Events.{channel_of};
-ghost use Rattle.dp_machine.specs.declared.event.Event.TheVariants.{Start};
+ghost use Rattle.dp_machine.specs.declared.event.Event.TheVariants.{Assign, Start};
 
 use crate::dial_status::DialStatus;
+use dp_app::Place;
 use dp_plan::{NoMemory, SharedText, Text};
 
 /// What happens to a machine. Channels are numbers; queues are named in any ASCII case, and agents by their interfaces.
@@ -62,6 +63,18 @@ pub enum Event {
     Reload {
         text: SharedText,
     },
+    /// A name is set from outside, as AMI's `Setvar` does: of a channel what the table's functions say that the name is, and with
+    /// no channel the global.
+    Assign {
+        channel: Option<u32>,
+        name: Text,
+        value: Text,
+    },
+    /// The channel is sent to a place from outside, as AMI's `Redirect` does.
+    Redirect {
+        channel: u32,
+        place: Place,
+    },
 }
 
 impl Event {
@@ -75,7 +88,9 @@ impl Event {
             | Event::Timeout { channel }
             | Event::Poll { channel }
             | Event::Hangup { channel }
-            | Event::DialResult { channel, .. } => *channel,
+            | Event::DialResult { channel, .. }
+            | Event::Redirect { channel, .. } => *channel,
+            Event::Assign { channel, .. } => channel.unwrap_or(0),
             Event::Start { .. }
             | Event::Offer { .. }
             | Event::Answer { .. }
@@ -127,6 +142,18 @@ impl Event {
                 let text = text.clone()?;
                 Ok(Event::Reload { text })
             }
+            Event::Assign {
+                channel,
+                name,
+                value,
+            } => copy_assign(*channel, name, value),
+            Event::Redirect { channel, place } => {
+                let place = place.clone()?;
+                Ok(Event::Redirect {
+                    channel: *channel,
+                    place,
+                })
+            }
         }
     }
 }
@@ -142,5 +169,18 @@ fn copy_start(context: &Text, exten: &Text, caller: &Text) -> Result<Event, NoMe
         context,
         exten,
         caller,
+    })
+}
+
+/// The setting of a name once more.
+fn copy_assign(channel: Option<u32>, name: &Text, value: &Text) -> Result<Event, NoMemory>
+    ensures { IfOk result (λ event. event ≡ Assign channel name.now value.now) }
+{
+    let name = name.clone()?;
+    let value = value.clone()?;
+    Ok(Event::Assign {
+        channel,
+        name,
+        value,
     })
 }

@@ -36,11 +36,11 @@ fn make_over<T: AppTable, C: Counts>(
     globals: Globals,
     counts: &C,
 ) -> Result<Groundwork, NoMemory>
-    ensures globals { IfOk result (λ made. made.globals ≡ globals_set (C.count counts.now) globals plan.now.globals) }
+    ensures globals { IfOk result (λ made. made.globals ≡ globals_set T.Functions.table (C.count counts.now) globals plan.now.globals) }
     ensures tables { IfOk result (λ made. AreTables plan.now made.tables) }
 {
     let mut globals = globals;
-    set_globals(alloc, &mut globals, counts, plan.globals())?;
+    set_globals::<T::Functions, C>(alloc, &mut globals, counts, plan.globals())?;
     let tables = Tables::of::<T>(alloc, plan)?;
     Ok(Groundwork { globals, tables })
 }
@@ -51,7 +51,7 @@ fn renew<T: AppTable>(
     plan: &Dialplan,
     shared: &SharedState,
 ) -> Result<Groundwork, NoMemory>
-    ensures globals { IfOk result (λ made. made.globals ≡ (shared_with shared.now plan.now.globals).globals) }
+    ensures globals { IfOk result (λ made. made.globals ≡ (shared_with T.Functions.table shared.now plan.now.globals).globals) }
     ensures tables { IfOk result (λ made. AreTables plan.now made.tables) }
 {
     let globals = shared.globals.clone()?;
@@ -66,7 +66,7 @@ impl Exchange {
         plan: Dialplan,
         queues: Queues,
     ) -> Result<Self, NoMemory>
-        ensures { IfOk result (λ exchange. worlds.world_in exchange [] ≡ worlds.opening plan queues) }
+        ensures { IfOk result (λ exchange. worlds.world_in exchange [] ≡ worlds.opening_with T.Functions.table plan queues) }
     {
         let made = make_over::<T, NoQueues>(alloc, &plan, Globals::new(alloc), &NoQueues);
         let (Groundwork { globals, tables }, (plan, queues)) = beside(made, (plan, queues))?;
@@ -83,7 +83,7 @@ impl Exchange {
         plan: Dialplan,
     ) -> Result<(), NoMemory>
         ensures plan { OnOk result (self.new.plan ≡ plan) }
-        ensures shared { OnOk result (self.new.shared ≡ shared_with self.old.shared plan.globals) }
+        ensures shared { OnOk result (self.new.shared ≡ shared_with T.Functions.table self.old.shared plan.globals) }
         ensures err { OnErr result (self.new ≡ self.old) }
     {
         let made = renew::<T>(alloc, &plan, &self.shared);

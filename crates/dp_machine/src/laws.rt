@@ -1,5 +1,6 @@
 //! Laws of the machine that speak of whole lists of events.
 ghost use Rattle.std.specs.Prelude.{◌≡◌, ℕ, List};
+ghost use Rattle.dp_app.specs.Rows.{with_functions};
 ghost use Rattle.dp_machine.specs.Isolation.{AreSameBut, IsUnseen, replies_without, without};
 ghost use Rattle.dp_machine.specs.Replay.{replies_to, world_after};
 ghost use Rattle.dp_machine.specs.World.{World};
@@ -12,9 +13,9 @@ use dp_app::AppTable;
 /// event the same reply, and the same last world but for this channel. So it is in every world, each good one among them,
 /// and over every table. It does nothing.
 pub fn isolation<T: AppTable>()
-    ensures replies { (world : World) (events : List Event) (channel : ℕ) → IsUnseen T.rows channel world events
-        → replies_to T.rows world (without channel events)
-        ≡ replies_without channel events (replies_to T.rows world events) }
-    ensures world { (world : World) (events : List Event) (channel : ℕ) → IsUnseen T.rows channel world events
-        → AreSameBut channel (world_after T.rows world (without channel events)) (world_after T.rows world events) }
+    ensures replies { (world : World) (events : List Event) (channel : ℕ) → IsUnseen (with_functions T.rows T.Functions.table) channel world events
+        → replies_to (with_functions T.rows T.Functions.table) world (without channel events)
+        ≡ replies_without channel events (replies_to (with_functions T.rows T.Functions.table) world events) }
+    ensures world { (world : World) (events : List Event) (channel : ℕ) → IsUnseen (with_functions T.rows T.Functions.table) channel world events
+        → AreSameBut channel (world_after (with_functions T.rows T.Functions.table) world (without channel events)) (world_after (with_functions T.rows T.Functions.table) world events) }
 {}

@@ -4,6 +4,7 @@
 
 mod agents;
 mod ahead;
+mod assigning;
 mod channel;
 mod channel_event;
 mod dial_status;
@@ -16,6 +17,7 @@ pub mod laws;
 mod machine;
 mod numbered;
 mod queues;
+mod redirect;
 mod refusal;
 mod reload;
 mod reply;
@@ -25,6 +27,7 @@ mod starting;
 mod step;
 mod target;
 mod templates;
+mod unknown;
 mod waiting;
 
 pub use channel::Channel;
@@ -37,3 +40,4 @@ pub use machine::Machine;
 pub use refusal::Refusal;
 pub use reply::Reply;
 pub use starting::MOST_CHANNELS;
+pub use unknown::Unknown;

@@ -2,26 +2,31 @@
 ghost use Rattle.std.specs.Prelude.{◌≡◌, ◌≤◌, ◌++◌, IfOk, OnOk, OnErr, Some, false, length, true};
 ghost use Rattle.std.specs.Option.{option_copied, option_map};
 ghost use Rattle.dp_queue.specs.Rest.{IsAtRest};
+ghost use Rattle.dp_app.specs.Rows.{with_functions};
 ghost use Rattle.dp_machine.specs.Events as spec;
 ghost use Rattle.dp_machine.specs.steps.Follows.{Follows, Makes};
 ghost use Rattle.dp_machine.specs.GoodWorld as good;
 ghost use Rattle.dp_machine.specs.Replay as replay;
+ghost use Rattle.dp_machine.specs.Unknown as unknowns;
 ghost use Rattle.dp_machine.specs.World as worlds;
 
 use crate::agents::{agent_done, answer, decline, offer};
-use crate::ahead::{entry_ahead_of, next_entry_of};
+use crate::ahead::{arguments_ahead_of, entry_ahead_of, next_entry_of};
+use crate::assigning::{assign, assign_global};
 use crate::channel::Channel;
 use crate::channel_event::ChannelEvent;
 use crate::dialling::take_result;
 use crate::event::Event;
 use crate::exchange::Exchange;
 use crate::numbered::{channel_at, index_of};
+use crate::redirect::redirect;
 use crate::refusal::Refusal;
 use crate::reload::reload;
 use crate::reply::Reply;
 use crate::seen::channel_value;
 use crate::starting::{start, start_kept};
 use crate::step::step_channel;
+use crate::unknown::{Unknown, unknown_ahead_of};
 use crate::waiting::{dial, end_time, hang_up_channel, poll};
 use dp_app::{AppTable, Phase, Place};
 use dp_plan::{Dialplan, EntryId, NoMemory, Text};
@@ -68,12 +73,12 @@ fn answer_to<T: AppTable>(
     exchange: &mut Exchange,
     number: u32,
     channel: &mut Channel,
-    asked: ChannelEvent,
+    asked: ChannelEvent<'_>,
 ) -> Result<Reply, NoMemory>
     requires { good.MayAct exchange.old.shared number channel.old }
-    ensures follows { Follows (spec.own_row T.rows asked exchange.old.plan exchange.old.shared number channel.old)
+    ensures follows { Follows (spec.own_row (with_functions T.rows T.Functions.table) asked.entry exchange.old.plan exchange.old.shared number channel.old)
         exchange.old exchange.new channel.old channel.new result }
-    ensures sound { good.IsSoundAfter asked channel.new }
+    ensures sound { good.IsSoundAfter asked.entry channel.new }
 {
     match asked {
         ChannelEvent::Step => step_channel::<T>(alloc, exchange, number, channel),
@@ -82,6 +87,10 @@ fn answer_to<T: AppTable>(
         ChannelEvent::Poll => poll(alloc, exchange, number, channel),
         ChannelEvent::Hangup => hang_up_channel(alloc, exchange, number, channel),
         ChannelEvent::DialResult(status) => take_result(alloc, exchange, number, channel, status),
+        ChannelEvent::Assign(name, value) => {
+            assign::<T::Functions>(alloc, exchange, number, channel, name, value)
+        }
+        ChannelEvent::Redirect(place) => redirect(exchange, number, channel, place),
     }
 }
 
@@ -91,13 +100,13 @@ fn ask<T: AppTable>(
     exchange: &mut Exchange,
     channels: &mut Vec<Channel>,
     number: u32,
-    asked: ChannelEvent,
+    asked: ChannelEvent<'_>,
 ) -> Result<Reply, NoMemory>
     requires { good.IsGoodWorld (worlds.world_in exchange.old channels.old.items) }
-    ensures makes { Makes (spec.asked_event T.rows (worlds.world_in exchange.old channels.old.items) number asked)
+    ensures makes { Makes (spec.asked_event (with_functions T.rows T.Functions.table) (worlds.world_in exchange.old channels.old.items) number asked.entry)
         (worlds.world_in exchange.old channels.old.items) (worlds.world_in exchange.new channels.new.items) result }
-    ensures sound { OnOk result (good.IsSoundAsked T.rows
-        (worlds.world_in exchange.old channels.old.items) number asked) }
+    ensures sound { OnOk result (good.IsSoundAsked (with_functions T.rows T.Functions.table)
+        (worlds.world_in exchange.old channels.old.items) number asked.entry) }
 {
     let Some(index) = index_of(number, channels.len()) else {
         return Ok(Reply::Refused(Refusal::NoChannel));
@@ -114,9 +123,9 @@ fn apply_kept_to<T: AppTable>(
     event: &Event,
 ) -> Result<Reply, NoMemory>
     requires { good.IsGoodWorld (worlds.world_in exchange.old channels.old.items) }
-    ensures makes { Makes (spec.event_row T.rows (worlds.world_in exchange.old channels.old.items) event.now)
+    ensures makes { Makes (spec.event_row (with_functions T.rows T.Functions.table) (worlds.world_in exchange.old channels.old.items) event.now)
         (worlds.world_in exchange.old channels.old.items) (worlds.world_in exchange.new channels.new.items) result }
-    ensures sound { OnOk result (good.StepsSoundly T.rows (worlds.world_in exchange.old channels.old.items) event.now) }
+    ensures sound { OnOk result (good.StepsSoundly (with_functions T.rows T.Functions.table) (worlds.world_in exchange.old channels.old.items) event.now) }
 {
     match event {
         Event::Start {
@@ -175,6 +184,29 @@ fn apply_kept_to<T: AppTable>(
         Event::Decline { agent } => Ok(decline(exchange, agent.bytes())),
         Event::AgentDone { agent } => agent_done(alloc, exchange, channels, agent.bytes()),
         Event::Reload { text } => reload::<T>(alloc, exchange, text.bytes()),
+        Event::Assign {
+            channel: None,
+            name,
+            value,
+        } => assign_global(alloc, exchange, name.bytes(), value.bytes()),
+        Event::Assign {
+            channel: Some(channel),
+            name,
+            value,
+        } => ask::<T>(
+            alloc,
+            exchange,
+            channels,
+            *channel,
+            ChannelEvent::Assign(name.bytes(), value.bytes()),
+        ),
+        Event::Redirect { channel, place } => ask::<T>(
+            alloc,
+            exchange,
+            channels,
+            *channel,
+            ChannelEvent::Redirect(place),
+        ),
     }
 }
 
@@ -186,9 +218,9 @@ fn apply_to<T: AppTable>(
     event: Event,
 ) -> Result<Reply, NoMemory>
     requires { good.IsGoodWorld (worlds.world_in exchange.old channels.old.items) }
-    ensures makes { Makes (spec.event_row T.rows (worlds.world_in exchange.old channels.old.items) event)
+    ensures makes { Makes (spec.event_row (with_functions T.rows T.Functions.table) (worlds.world_in exchange.old channels.old.items) event)
         (worlds.world_in exchange.old channels.old.items) (worlds.world_in exchange.new channels.new.items) result }
-    ensures sound { OnOk result (good.StepsSoundly T.rows (worlds.world_in exchange.old channels.old.items) event) }
+    ensures sound { OnOk result (good.StepsSoundly (with_functions T.rows T.Functions.table) (worlds.world_in exchange.old channels.old.items) event) }
 {
     match event {
         Event::Start {
@@ -206,7 +238,7 @@ impl<T: AppTable> Machine<T> {
     /// give is empty (a choice of this program).
     pub fn new(alloc: Global, plan: Dialplan, queues: Queues) -> Result<Self, NoMemory>
         requires { IsAtRest queues }
-        ensures { IfOk result (λ machine. machine ≡ worlds.opening plan queues) }
+        ensures { IfOk result (λ machine. machine ≡ worlds.opening_with T.Functions.table plan queues) }
     {
         let exchange = Exchange::of::<T>(alloc, plan, queues)?;
         exchange.shared.queues.show_good();
@@ -220,11 +252,11 @@ impl<T: AppTable> Machine<T> {
     /// Applies one event, and gives the reply. A refused event changes nothing, and takes no memory but where it gives another
     /// dialplan, which is loaded to tell. Where memory is refused the machine is as before.
     pub fn apply(&mut self, alloc: Global, event: Event) -> Result<Reply, NoMemory>
-        ensures ok { IfOk result (λ reply. spec.event_row T.rows self.old event ≡ (self.new, reply)) }
+        ensures ok { IfOk result (λ reply. spec.event_row (with_functions T.rows T.Functions.table) self.old event ≡ (self.new, reply)) }
         ensures unchanged { IfOk result (λ reply. spec.is_refused reply ≡ true → self.new ≡ self.old) }
         ensures good { good.IsGoodWorld self.new }
         ensures err { OnErr result (self.new ≡ self.old) }
-        ensures refused { OnErr result (spec.is_refused_at_once (spec.event_row T.rows self.old event).1 ≡ false) }
+        ensures refused { OnErr result (spec.is_refused_at_once (spec.event_row (with_functions T.rows T.Functions.table) self.old event).1 ≡ false) }
     {
         let reply = apply_to::<T>(alloc, &mut self.exchange, &mut self.channels, event);
         self.exchange.shared.queues.show_good();
@@ -233,11 +265,11 @@ impl<T: AppTable> Machine<T> {
 
     /// Applies one event that is kept, as `apply` does: the texts of a call that comes in are copied, and no others.
     pub fn apply_kept(&mut self, alloc: Global, event: &Event) -> Result<Reply, NoMemory>
-        ensures ok { IfOk result (λ reply. spec.event_row T.rows self.old event.now ≡ (self.new, reply)) }
+        ensures ok { IfOk result (λ reply. spec.event_row (with_functions T.rows T.Functions.table) self.old event.now ≡ (self.new, reply)) }
         ensures unchanged { IfOk result (λ reply. spec.is_refused reply ≡ true → self.new ≡ self.old) }
         ensures good { good.IsGoodWorld self.new }
         ensures err { OnErr result (self.new ≡ self.old) }
-        ensures refused { OnErr result (spec.is_refused_at_once (spec.event_row T.rows self.old event.now).1 ≡ false) }
+        ensures refused { OnErr result (spec.is_refused_at_once (spec.event_row (with_functions T.rows T.Functions.table) self.old event.now).1 ≡ false) }
     {
         let reply = apply_kept_to::<T>(alloc, &mut self.exchange, &mut self.channels, event);
         self.exchange.shared.queues.show_good();
@@ -253,9 +285,9 @@ impl<T: AppTable> Machine<T> {
         replies: &mut Vec<Reply>,
     ) -> Result<(), NoMemory>
         ensures replies { OnOk result (replies.new.items
-            ≡ replies.old.items ++ replay.replies_to T.rows self.old events.now) }
-        ensures world { OnOk result (self.new ≡ replay.world_after T.rows self.old events.now) }
-        ensures first { replay.RanFirst T.rows self.old events.now replies.old.items replies.new.items self.new }
+            ≡ replies.old.items ++ replay.replies_to (with_functions T.rows T.Functions.table) self.old events.now) }
+        ensures world { OnOk result (self.new ≡ replay.world_after (with_functions T.rows T.Functions.table) self.old events.now) }
+        ensures first { replay.RanFirst (with_functions T.rows T.Functions.table) self.old events.now replies.old.items replies.new.items self.new }
     {
         for event in events {
             replies.reserve(1)?;
@@ -319,6 +351,47 @@ impl<T: AppTable> Machine<T> {
         match channel_at(&self.channels, channel) {
             Some(found) => entry_ahead_of(&mut self.exchange.plan, found),
             None => None,
+        }
+    }
+
+    /// The arguments of the entry that the next step of the channel of this number would run, as they would be expanded, or None
+    /// where it would run none. It changes nothing that a contract sees.
+    ///
+    /// The error comes only where a growth was refused.
+    pub fn arguments_ahead(
+        &mut self,
+        alloc: Global,
+        channel: u32,
+    ) -> Result<Option<Vec<u8>>, NoMemory>
+        ensures arguments { IfOk result (λ arguments. option_map (λ text. text.items) arguments
+            ≡ spec.arguments_ahead T.Functions.table self.old channel) }
+        ensures same { self.new ≡ self.old }
+    {
+        match channel_at(&self.channels, channel) {
+            Some(found) => {
+                arguments_ahead_of::<T::Functions>(alloc, &mut self.exchange, channel, found)
+            }
+            None => Ok(None),
+        }
+    }
+
+    /// What is unknown of the entry that the next step of the channel of this number would run: its application, if the table lacks
+    /// it, else the first group of its arguments that the table's functions do not know, in the order in which groups are expanded.
+    /// None where all is known, and where the step would run no entry. It changes nothing that a contract sees.
+    ///
+    /// The error comes only where a growth was refused.
+    pub fn unknown_ahead(
+        &mut self,
+        alloc: Global,
+        channel: u32,
+    ) -> Result<Option<Unknown>, NoMemory>
+        ensures unknown { IfOk result (λ unknown. unknown
+            ≡ unknowns.unknown_ahead (with_functions T.rows T.Functions.table) self.old channel) }
+        ensures same { self.new ≡ self.old }
+    {
+        match channel_at(&self.channels, channel) {
+            Some(found) => unknown_ahead_of::<T>(alloc, &mut self.exchange, channel, found),
+            None => Ok(None),
         }
     }
 

@@ -30,7 +30,7 @@ pub(crate) fn reload<T: AppTable>(
     exchange: &mut Exchange,
     text: &[u8],
 ) -> Result<Reply, NoMemory>
-    ensures { (channels : List Channel) → Makes (spec.after_reload (worlds.world_in exchange.old channels) text.now)
+    ensures { (channels : List Channel) → Makes (spec.after_reload T.Functions.table (worlds.world_in exchange.old channels) text.now)
         (worlds.world_in exchange.old channels) (worlds.world_in exchange.new channels) result }
 {
     match load(alloc, text)? {

@@ -1,16 +1,18 @@
 //! What the texts of a channel see.
 ghost use Rattle.std.specs.Prelude.{◌≡◌, IfOk, Some};
+ghost use Rattle.std.specs.Option.{option_map};
 ghost use Rattle.dp_queue.specs.Joining.{waiting_count};
 ghost use Rattle.dp_vars.specs.Pieces.{AreOf};
 ghost use Rattle.dp_vars.specs.Sights.{maps_of, sight_of};
 ghost use Rattle.dp_machine.specs.Seen as spec;
+ghost use Rattle.dp_machine.specs.Unknown.{unknown_seen};
 
 use crate::channel::Channel;
 use crate::shared_state::SharedState;
 use dp_app::Place;
 use dp_plan::NoMemory;
 use dp_queue::Queues;
-use dp_vars::{ChannelSeen, Pieces, Scope, value_of};
+use dp_vars::{ChannelSeen, Functions, Pieces, Scope, value_of};
 use std::alloc::Global;
 
 /// What the texts of the channel of this number see.
@@ -37,9 +39,9 @@ fn scope_of<'a>(
     }
 }
 
-/// The arguments of an entry, of which these are the pieces, expanded in what the channel of this number sees.
+/// The arguments of an entry, of which these are the pieces, expanded by these functions in what the channel of this number sees.
 #[tactic(auto, unfolding(crate::specs::Seen::arguments_seen))]
-pub(crate) fn expand_arguments(
+pub(crate) fn expand_arguments<F: Functions>(
     alloc: Global,
     shared: &SharedState,
     number: u32,
@@ -48,11 +50,30 @@ pub(crate) fn expand_arguments(
     pieces: &Pieces,
 ) -> Result<Vec<u8>, NoMemory>
     requires { AreOf arguments.now pieces.now }
-    ensures { IfOk result (λ bytes. bytes.items ≡ spec.arguments_seen shared.now number channel.now arguments.now) }
+    ensures { IfOk result (λ bytes. bytes.items ≡ spec.arguments_seen F.table shared.now number channel.now arguments.now) }
 {
     let scope = scope_of(shared, number, channel);
-    let bytes = pieces.expand(alloc, arguments, &scope)?;
+    let bytes = pieces.expand_with::<F, Place, Queues>(alloc, arguments, &scope)?;
     Ok(bytes)
+}
+
+/// The first group of the arguments that these functions do not know, in what the channel of this number sees.
+#[tactic(auto, unfolding(crate::specs::Unknown::unknown_seen))]
+pub(crate) fn unknown_in_pieces<F: Functions>(
+    alloc: Global,
+    shared: &SharedState,
+    number: u32,
+    channel: &Channel,
+    arguments: &[u8],
+    pieces: &Pieces,
+) -> Result<Option<Vec<u8>>, NoMemory>
+    requires { AreOf arguments.now pieces.now }
+    ensures { IfOk result (λ unknown. option_map (λ text. text.items) unknown
+        ≡ unknown_seen F.table shared.now number channel.now arguments.now) }
+{
+    let scope = scope_of(shared, number, channel);
+    let unknown = pieces.first_unknown::<F, Place, Queues>(alloc, arguments, &scope)?;
+    Ok(unknown)
 }
 
 /// The value of a name in the channel of this number.

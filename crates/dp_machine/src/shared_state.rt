@@ -6,7 +6,7 @@ ghost use Rattle.dp_machine.specs.Seen as seen;
 use dp_app::Place;
 use dp_plan::{GlobalVariable, NoMemory};
 use dp_queue::Queues;
-use dp_vars::{Counts, Globals, Scope, expand_text};
+use dp_vars::{Counts, Functions, Globals, Scope, expand_text_with};
 use std::alloc::Global;
 
 /// What all channels share: the global variables, and the queues.
@@ -30,44 +30,44 @@ fn scope_of_globals<'a, C: Counts>(globals: &'a Globals, counts: &'a C) -> Scope
 
 /// The value of a global that is written so.
 #[tactic(auto, unfolding(crate::specs::Seen::global_value))]
-fn expand_global<C: Counts>(
+fn expand_global<F: Functions, C: Counts>(
     alloc: Global,
     globals: &Globals,
     counts: &C,
     value: &[u8],
 ) -> Result<Vec<u8>, NoMemory>
-    ensures { IfOk result (λ bytes. bytes.items ≡ seen.global_value (C.count counts.now) globals.now value.now) }
+    ensures { IfOk result (λ bytes. bytes.items ≡ seen.global_value F.table (C.count counts.now) globals.now value.now) }
 {
     let scope = scope_of_globals(globals, counts);
-    let bytes = expand_text(alloc, value, &scope)?;
+    let bytes = expand_text_with::<F, Place, C>(alloc, value, &scope)?;
     Ok(bytes)
 }
 
 /// Gives a global its value.
-fn set_global<C: Counts>(
+fn set_global<F: Functions, C: Counts>(
     alloc: Global,
     globals: &mut Globals,
     counts: &C,
     variable: &GlobalVariable,
 ) -> Result<(), NoMemory>
-    ensures { OnOk result (globals.new ≡ seen.with_global (C.count counts.now) globals.old variable.now) }
+    ensures { OnOk result (globals.new ≡ seen.with_global F.table (C.count counts.now) globals.old variable.now) }
 {
-    let value = expand_global(alloc, globals, counts, variable.value.bytes())?;
+    let value = expand_global::<F, C>(alloc, globals, counts, variable.value.bytes())?;
     globals.put(alloc, variable.name.bytes(), &value)?;
     Ok(())
 }
 
 /// Sets the globals of a dialplan one after another, each of which is expanded over those that are then.
-pub(crate) fn set_globals<C: Counts>(
+pub(crate) fn set_globals<F: Functions, C: Counts>(
     alloc: Global,
     globals: &mut Globals,
     counts: &C,
     variables: &[GlobalVariable],
 ) -> Result<(), NoMemory>
-    ensures { OnOk result (globals.new ≡ seen.globals_set (C.count counts.now) globals.old variables.now) }
+    ensures { OnOk result (globals.new ≡ seen.globals_set F.table (C.count counts.now) globals.old variables.now) }
 {
     for variable in variables {
-        set_global(alloc, globals, counts, variable)?;
+        set_global::<F, C>(alloc, globals, counts, variable)?;
     }
     Ok(())
 }

@@ -2,7 +2,7 @@
 ghost use Rattle.std.specs.Prelude.{◌≡◌, ◌+◌, ◌^◌, ◌<◌, ◌≤◌, OnErr, OnOk, Some};
 ghost use Rattle.dp_app.specs.Lawful.{IsLawful, MayRun};
 ghost use Rattle.dp_conf.specs.Numbers.{most_priority};
-ghost use Rattle.dp_app.specs.Rows.{after_dispatch};
+ghost use Rattle.dp_app.specs.Rows.{after_dispatch, with_functions};
 ghost use Rattle.dp_app.specs.declared.phase.Phase.TheVariants.{Ready};
 ghost use Rattle.dp_machine.specs.Channels as channels;
 ghost use Rattle.dp_machine.specs.Events as spec;
@@ -102,7 +102,7 @@ fn run_entry<T: AppTable>(
     requires run { MayRun (spec.cell_of shared.old number channel.old) }
     requires template { IsOf entry.now template.now }
     ensures { Runs (after_dispatch (T.rows entry.now.application)
-        (arguments_seen shared.old number channel.old entry.now.arguments) (spec.cell_of shared.old number channel.old))
+        (arguments_seen T.Functions.table shared.old number channel.old entry.now.arguments) (spec.cell_of shared.old number channel.old))
         shared.old shared.new channel.old channel.new result }
 {
     let application = AppCall {
@@ -120,7 +120,9 @@ fn run_entry<T: AppTable>(
             arguments,
         ),
         Arguments::Read(pieces) => {
-            let arguments = expand_arguments(alloc, shared, number, channel, arguments, pieces)?;
+            let arguments = expand_arguments::<T::Functions>(
+                alloc, shared, number, channel, arguments, pieces,
+            )?;
             run_application::<T>(alloc, shared, number, channel, application, &arguments)
         }
     }
@@ -180,7 +182,7 @@ fn step_found<T: AppTable>(
     requires found { id_at exchange.old.plan channel.old.place ≡ Some id }
     requires act { MayAct exchange.old.shared number channel.old }
     requires ready { channel.old.phase ≡ Ready }
-    ensures follows { Follows (spec.step_at T.rows exchange.old.plan exchange.old.shared number channel.old
+    ensures follows { Follows (spec.step_at (with_functions T.rows T.Functions.table) exchange.old.plan exchange.old.shared number channel.old
         (entry_found exchange.old.plan channel.old.place)) exchange.old exchange.new channel.old channel.new result }
     ensures sound { OnOk result (IsSoundIn channel.new.phase channel.new) }
 {
@@ -210,7 +212,7 @@ fn step_ready<T: AppTable>(
 ) -> Result<Reply, NoMemory>
     requires act { MayAct exchange.old.shared number channel.old }
     requires ready { channel.old.phase ≡ Ready }
-    ensures follows { Follows (spec.step_at T.rows exchange.old.plan exchange.old.shared number channel.old
+    ensures follows { Follows (spec.step_at (with_functions T.rows T.Functions.table) exchange.old.plan exchange.old.shared number channel.old
         (entry_found exchange.old.plan channel.old.place)) exchange.old exchange.new channel.old channel.new result }
     ensures sound { OnOk result (IsSoundIn channel.new.phase channel.new) }
 {
@@ -233,7 +235,7 @@ pub(crate) fn step_channel<T: AppTable>(
     channel: &mut Channel,
 ) -> Result<Reply, NoMemory>
     requires { MayAct exchange.old.shared number channel.old }
-    ensures follows { Follows (spec.step_row T.rows exchange.old.plan exchange.old.shared number channel.old)
+    ensures follows { Follows (spec.step_row (with_functions T.rows T.Functions.table) exchange.old.plan exchange.old.shared number channel.old)
         exchange.old exchange.new channel.old channel.new result }
     ensures sound { IsSoundIn channel.new.phase channel.new }
 {

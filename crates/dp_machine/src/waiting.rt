@@ -32,7 +32,7 @@ fn is_digit(byte: u8) -> bool
 }
 
 /// Whether the channel is over.
-fn is_over(phase: &Phase) -> bool
+pub(crate) fn is_over(phase: &Phase) -> bool
     ensures { result ≡ spec.is_over phase.now }
 {
     match phase {

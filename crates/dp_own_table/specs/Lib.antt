@@ -1,1 +1,2 @@
+pub mod OwnFunctions
 pub mod OwnTable

@@ -3,6 +3,8 @@
 //! This is for tests alone.
 #![tactic(auto)]
 
+mod own_functions;
 mod own_table;
 
+pub use own_functions::OwnFunctions;
 pub use own_table::{OwnApps, Ping, Stay};

@@ -1,6 +1,7 @@
 //! A table of applications of another maker, over which a machine is proved as it is over the program's own.
 ghost use Rattle.std.specs.Prelude.{◌≡◌};
 
+use crate::own_functions::OwnFunctions;
 use dp_app::{AppNumber, AppTable, Application, Cell, Move, Phase, Touch};
 use dp_conf::{NoMemory, same_word};
 use std::alloc::Global;
@@ -78,6 +79,8 @@ impl AppTable for OwnApps {
     ghost lawful = { own_lawful same_word };
 
     ghost blind = { own_blind };
+
+    type Functions = OwnFunctions;
 
     fn number_of(name: &[u8]) -> Option<AppNumber> {
         if same_word(name, b"Ping") || same_word(name, b"Stay") {

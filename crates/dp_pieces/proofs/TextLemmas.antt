@@ -12,7 +12,7 @@ use Rattle.dp_conf.specs.declared.groups.GroupKind.TheVariants.{Braces, Brackets
 use Rattle.dp_expr.specs.Expression.{expression_value}
 use Rattle.dp_vars.specs.Parts.{asked_of}
 use Rattle.dp_vars.specs.Sights.{Sight}
-use Rattle.dp_vars.specs.Values.{body_by as body_value_by, call_argument, caller_value, expansion_of, expansion, function_of, function_value, group_value, head_by as head_value_by, head_value}
+use Rattle.dp_vars.specs.Values.{body_by as body_value_by, call_argument, caller_value, expansion_of, expansion_of_with, expansion, function_of, function_value, group_value, group_value_with, head_by as head_value_by, head_value, head_value_with}
 use Rattle.dp_vars.specs.declared.value.Function.{Function}
 use Rattle.dp_vars.specs.declared.value.Function.TheVariants.{Global, Local, Len, CallerId, QueueWaitingCount}
 use Rattle.dp_pieces.specs.Bytes.{IsPart, Within, either, none, numeric}
@@ -78,7 +78,7 @@ module _ (names : Names) (sight : Sight) (seen : IsWithin names sight) where
   within-call_argument name (Some argument) = within-function (function_of name) argument
 
   fits-head : (head : List ℕ) → Fits (head_pieces names head) (head_value sight head)
-  unfolding head_pieces head_value
+  unfolding head_pieces head_value_with
   fits-head head = by (cut_once 40 head)
     where
       by : (cut : Option (List ℕ × List ℕ)) → Fits (head_by names head cut) (head_value_by sight head cut)
@@ -117,7 +117,7 @@ module _ (names : Names) (sight : Sight) (seen : IsWithin names sight) where
           (within-more (pieces_set (any_bytes_of (names.bytes name))) (names.bytes name) (any_bytes_of-part (names.bytes name)) (sight.variable name) is)
 
   all-head : (head : List ℕ) → Within names.all (head_value sight head)
-  unfolding head_value
+  unfolding head_value_with
   all-head head = by (cut_once 40 head)
     where
       by : (cut : Option (List ℕ × List ℕ)) → Within names.all (head_value_by sight head cut)
@@ -146,7 +146,7 @@ module _ (names : Names) (sight : Sight) (seen : IsWithin names sight) where
       by (Some QueueWaitingCount) = within-decimal (sight.waiting argument)
 
   named-head : (name rest head : List ℕ) → Avoids 40 name → head ≡ name ++ 40 ∷ rest → Within (any_argument_set names (function_of name)) (head_value sight head)
-  unfolding head_value
+  unfolding head_value_with
   named-head name rest head avoids is =
       subst (λ o. Within (any_argument_set names (function_of name)) (head_value_by sight head o)) (sym (ap (cut_once 40) is ∙ cut_once-here 40 name rest avoids))
       (any-call_argument name (before_last 41 rest))
@@ -180,7 +180,7 @@ module _ (names : Names) (sight : Sight) (seen : IsWithin names sight) where
 
   -- the value of a group whose expanded body fits pieces
   pub fits-group : (kind : GroupKind) (body : List Piece) (text : List ℕ) → Fits body text → Fits (group_pieces names kind body) (group_value sight kind text)
-  unfolding group_value
+  unfolding group_value_with
   fits-group Braces body text fits = fits-braces body text fits (text_known body) (λ bytes from. fits-text_known body text bytes from fits)
   fits-group Brackets body text fits = fits-any_bytes_of (either (pieces_set body) numeric) (expression_value text) (within-expression (pieces_set body) text (fits-set body text fits))
 
@@ -189,7 +189,7 @@ module _ (names : Names) (sight : Sight) (seen : IsWithin names sight) where
   plain byte pieces text fits = (text, refl, fits)
 
   fits-reading : (reading : Reading) → Fits (pieces_of names reading) (expansion_of sight reading)
-  unfolding pieces_of expansion_of
+  unfolding pieces_of expansion_of_with
   fits-reading Over = fits-nothing
   fits-reading (Plain byte rest) = plain byte (pieces_of names rest) (expansion_of sight rest) (fits-reading rest)
   fits-reading (Group kind inside rest) =

@@ -26,10 +26,11 @@ with_claim d number entry = record d {
 }
 
 -- the draft with what the entry takes, and the entry
-abbrev with_both : Drafted → ℕ → ℕ → Entry → Drafted
-with_both d place number entry = record (with_claim d number entry) {
+abbrev with_both : Drafted → ℕ → ℕ → ℕ → Entry → Drafted
+with_both d line place number entry = record (with_claim d number entry) {
   contexts = changed_at (with_entry entry) place d.contexts;
   numbers = changed_at (with_number number) place d.numbers;
+  lines = changed_at (with_number line) place d.lines;
 }
 
 pub noted_addition : (d : Drafted) (line place number : ℕ) (entry : Entry) (kind : NoteKind) → double_kind d (slot_of number entry) (label_of number entry) ≡ Some kind
@@ -37,7 +38,7 @@ pub noted_addition : (d : Drafted) (line place number : ℕ) (entry : Entry) (ki
 noted_addition d line place number entry kind e =
     by (is_slot_taken d (slot_of number entry)) (is_marked d (label_of number entry)) e where
       by : (p l : Bool) → cond p (Some DoublePriority) (cond l (Some DoubleLabel) None) ≡ Some kind
-          → cond p (with_note d line DoublePriority) (cond l (with_note d line DoubleLabel) (with_both d place number entry)) ≡ with_note (cond p d (cond l d (with_claim d number entry))) line kind
+          → cond p (with_note d line DoublePriority) (cond l (with_note d line DoubleLabel) (with_both d line place number entry)) ≡ with_note (cond p d (cond l d (with_claim d number entry))) line kind
       by true l same = ap (noted_or d line d) same
       by false true same = ap (noted_or d line d) same
       by false false same = absurd cc
@@ -46,6 +47,7 @@ pub kept_addition : (d : Drafted) (line place number : ℕ) (entry : Entry) → 
     → with_addition d line place number entry ≡ record (take_place d (slot_of number entry) (label_of number entry)) {
       contexts = changed_at (with_entry entry) place (take_place d (slot_of number entry) (label_of number entry)).contexts;
       numbers = changed_at (with_number number) place (take_place d (slot_of number entry) (label_of number entry)).numbers;
+      lines = changed_at (with_number line) place (take_place d (slot_of number entry) (label_of number entry)).lines;
     }
 kept_addition d line place number entry e =
     by (is_slot_taken d (slot_of number entry)) (is_marked d (label_of number entry)) e where
@@ -53,10 +55,11 @@ kept_addition d line place number entry e =
       added_to made = record made {
         contexts = changed_at (with_entry entry) place made.contexts;
         numbers = changed_at (with_number number) place made.numbers;
+        lines = changed_at (with_number line) place made.lines;
       }
 
       by : (p l : Bool) → cond p (Some DoublePriority) (cond l (Some DoubleLabel) None) ≡ None
-          → cond p (with_note d line DoublePriority) (cond l (with_note d line DoubleLabel) (with_both d place number entry)) ≡ added_to (cond p d (cond l d (with_claim d number entry)))
+          → cond p (with_note d line DoublePriority) (cond l (with_note d line DoubleLabel) (with_both d line place number entry)) ≡ added_to (cond p d (cond l d (with_claim d number entry)))
       by true l same = absurd cc
       by false true same = absurd cc
       by false false same = refl
@@ -67,6 +70,7 @@ opened_before d context place stands = ap (λ t. cond t d (record d {
   names = d.names ++ context ∷ [];
   contexts = d.contexts ++ empty_context context ∷ [];
   numbers = d.numbers ++ [] ∷ [];
+  lines = d.lines ++ [] ∷ [];
 })) stands.there
 
 -- so an entry goes to its place, by the number of its extension

@@ -21,7 +21,7 @@ use Rattle.dp_plan.specs.Extensions.{extension_of, same_extension}
 use Rattle.dp_plan.specs.steps.Loading.{MadeOf, unmade, after_item}
 use Rattle.dp_plan.specs.steps.Reader.{Reading, unread, after}
 use Rattle.dp_plan.specs.steps.Table.{number_in}
-use Rattle.dp_plan.specs.Plan.{Addition, Inclusion, of_one_extension, shares_label, is_place_taken, is_label_taken, is_taken, is_named, kept_by, added_in, included_in, context_in, global_in, kept_in, names_in, context_of, entry_note, include_note, note_of, notes_of}
+use Rattle.dp_plan.specs.Plan.{Addition, Inclusion, KeptLine, of_one_extension, shares_label, is_place_taken, is_label_taken, is_taken, is_named, kept_by, added_in, included_in, context_in, global_in, kept_in, names_in, context_of, entry_line, kept_line, kept_lines, context_lines, entry_note, include_note, note_of, notes_of}
 use Rattle.dp_plan.specs.steps.Numbers.{with_number}
 use Rattle.dp_plan.specs.steps.Places.{same_slot}
 use Rattle.dp_conf.specs.Changes.{changed_at}
@@ -84,6 +84,13 @@ remarks_in-push items x =
     ∙ (flat_map-append (λ (remarks : List Remark). remarks) (each_after remark_of [] items) (remark_of items x ∷ [])
     ∙ ap (λ (more : List Remark). flat_map (λ (remarks : List Remark). remarks) (each_after remark_of [] items) ++ more) (append-nil (remark_of items x)))
 
+-- one more item's line goes last
+pub kept_lines-push : (items : List Item) (x : Item) → kept_lines (items ++ x ∷ []) ≡ kept_lines items ++ kept_line items x
+kept_lines-push items x =
+    ap (flat_map (λ (lines : List KeptLine). lines)) (each_after-push kept_line [] items x)
+    ∙ (flat_map-append (λ (lines : List KeptLine). lines) (each_after kept_line [] items) (kept_line items x ∷ [])
+    ∙ ap (λ (more : List KeptLine). flat_map (λ (lines : List KeptLine). lines) (each_after kept_line [] items) ++ more) (append-nil (kept_line items x)))
+
 -- remarks that are notes are those notes
 remark_notes-noted : (names : List (List ℕ)) (notes : List Note) → flat_map (remark_notes names) (map Noted notes) ≡ notes
 remark_notes-noted names [] = refl
@@ -134,13 +141,14 @@ numbers_of es kept name = map (number_of es) (filter (λ a. same_text name a.con
 abbrev pub IsKnown : Priorities → List Addition → Type 0
 IsKnown es kept = AllByRecursion (λ a. is_known es (extension_in a) ≡ true) kept
 
--- a draft by its extensions, its global variables, its names, what is kept, its includes, and its remarks
-abbrev pub draft_of_parts : Priorities → List GlobalVariable → List (List ℕ) → List Addition → List Inclusion → List Remark → Drafted
-draft_of_parts es globals names kept included remarks = record {
+-- a draft by its extensions, its global variables, its names, what is kept and by which lines, its includes, and its remarks
+abbrev pub draft_of_parts : Priorities → List GlobalVariable → List (List ℕ) → List Addition → List KeptLine → List Inclusion → List Remark → Drafted
+draft_of_parts es globals names kept lines included remarks = record {
   globals = globals;
   names = names;
   contexts = map (context_of kept included) names;
   numbers = map (numbers_of es kept) names;
+  lines = map (context_lines lines) names;
   taken = map (slot_in es) kept;
   labels = filter_map (label_in es) kept;
   remarks = remarks;
@@ -148,12 +156,13 @@ draft_of_parts es globals names kept included remarks = record {
 
 -- the draft that the items say
 abbrev pub drafted_in : List Item → Drafted
-drafted_in items = draft_of_parts (reading_of items).extensions (filter_map global_in items) (names_in items) (kept_in items) (filter_map included_in items) (remarks_in items)
+drafted_in items = draft_of_parts (reading_of items).extensions (filter_map global_in items) (names_in items) (kept_in items) (kept_lines items) (filter_map included_in items) (remarks_in items)
 
--- every context of what is kept, and of what is included, has its name among the names
-abbrev pub IsAllNamed : List (List ℕ) → List Addition → List Inclusion → Type 0
-IsAllNamed names kept included =
-    AllByRecursion (λ (a : Addition). is_named names a.context ≡ true) kept × AllByRecursion (λ (k : Inclusion). is_named names k.context ≡ true) included
+-- every context of what is kept, of its lines, and of what is included, has its name among the names
+abbrev pub IsAllNamed : List (List ℕ) → List Addition → List KeptLine → List Inclusion → Type 0
+IsAllNamed names kept lines included =
+    AllByRecursion (λ (a : Addition). is_named names a.context ≡ true) kept × AllByRecursion (λ (l : KeptLine). is_named names l.context ≡ true) lines
+    × AllByRecursion (λ (k : Inclusion). is_named names k.context ≡ true) included
 
 -- texts that are the same are in the same lists
 is_named-same : (names : List (List ℕ)) (a b : List ℕ) → same_text a b ≡ true → is_named names a ≡ is_named names b
@@ -192,14 +201,16 @@ is_named-more names name = by (is_named names name) refl where
   by false e = is_named-last names name
 
 -- one more name leaves all named
-IsAllNamed-more : (names : List (List ℕ)) (kept : List Addition) (included : List Inclusion) (name : List ℕ)
-    → IsAllNamed names kept included → IsAllNamed (more_by is_named names (Some name)) kept included
-IsAllNamed-more names kept included name named =
+IsAllNamed-more : (names : List (List ℕ)) (kept : List Addition) (lines : List KeptLine) (included : List Inclusion) (name : List ℕ)
+    → IsAllNamed names kept lines included → IsAllNamed (more_by is_named names (Some name)) kept lines included
+IsAllNamed-more names kept lines included name named =
     let more : List (List ℕ) = cond (is_named names name) [] (name ∷ []) in (
       each-weaker (λ (a : Addition). is_named names a.context ≡ true) (λ (a : Addition). is_named (names ++ more) a.context ≡ true)
           (λ a. is_named-append names more a.context) kept named.0,
+      each-weaker (λ (l : KeptLine). is_named names l.context ≡ true) (λ (l : KeptLine). is_named (names ++ more) l.context ≡ true)
+          (λ l. is_named-append names more l.context) lines named.1,
       each-weaker (λ (k : Inclusion). is_named names k.context ≡ true) (λ (k : Inclusion). is_named (names ++ more) k.context ≡ true)
-          (λ k. is_named-append names more k.context) included named.1,
+          (λ k. is_named-append names more k.context) included named.2,
     )
 
 -- one more element leaves them distinct, where what is the same as one of them is taken up
@@ -218,18 +229,20 @@ names-more = distinct-more nat_list_eq_equiv is_named (λ names name e. e)
 -- ---- contexts that begin
 
 -- the draft with a context that is new or there already
-with_context-is : (es : Priorities) (globals : List GlobalVariable) (names : List (List ℕ)) (kept : List Addition) (included : List Inclusion) (remarks : List Remark) (name : List ℕ) → IsAllNamed names kept included → with_context (draft_of_parts es globals names kept included remarks) name ≡ draft_of_parts es globals (more_by is_named names (Some name)) kept included remarks
-with_context-is es globals names kept included remarks name named = by (is_named names name) refl where
+with_context-is : (es : Priorities) (globals : List GlobalVariable) (names : List (List ℕ)) (kept : List Addition) (lines : List KeptLine) (included : List Inclusion) (remarks : List Remark) (name : List ℕ) → IsAllNamed names kept lines included → with_context (draft_of_parts es globals names kept lines included remarks) name ≡ draft_of_parts es globals (more_by is_named names (Some name)) kept lines included remarks
+with_context-is es globals names kept lines included remarks name named = by (is_named names name) refl where
   before : Drafted
-  before = draft_of_parts es globals names kept included remarks
+  before = draft_of_parts es globals names kept lines included remarks
 
-  by : (t : Bool) → is_named names name ≡ t → cond t before (record before { names = names ++ name ∷ []; contexts = map (context_of kept included) names ++ (record { name = name; entries = []; includes = [] }) ∷ []; numbers = map (numbers_of es kept) names ++ [] ∷ [] }) ≡ draft_of_parts es globals (names ++ cond t [] (name ∷ [])) kept included remarks
+  by : (t : Bool) → is_named names name ≡ t → cond t before (record before { names = names ++ name ∷ []; contexts = map (context_of kept included) names ++ (record { name = name; entries = []; includes = [] }) ∷ []; numbers = map (numbers_of es kept) names ++ [] ∷ []; lines = map (context_lines lines) names ++ [] ∷ [] }) ≡ draft_of_parts es globals (names ++ cond t [] (name ∷ [])) kept lines included remarks
   by true e = rw (append-nil names) refl
   by false e = rw (
     map-append (context_of kept included) names (name ∷ []),
     map-append (numbers_of es kept) names (name ∷ []),
+    map-append (context_lines lines) names (name ∷ []),
     filter-absent (λ (a : Addition). a.context) names kept name e named.0,
-    filter-absent (λ (k : Inclusion). k.context) names included name e named.1,
+    filter-absent (λ (l : KeptLine). l.context) names lines name e named.1,
+    filter-absent (λ (k : Inclusion). k.context) names included name e named.2,
   ) refl
 
 -- ---- a context that is changed
@@ -295,6 +308,18 @@ numbers-entry es kept a names distinct =
         → numbers_of es (kept ++ a ∷ []) n ≡ numbers_of es kept n ++ map (number_of es) (cond t (a ∷ []) [])
     pushed = parts-push (λ (x : Addition). x.context) (number_of es) kept a
 
+-- one more line goes to those of the context of its entry
+lines-entry : (lines : List KeptLine) (l : KeptLine) (names : List (List ℕ)) → IsDistinct same_text names
+    → map (context_lines (lines ++ l ∷ [])) names ≡ changed_at (with_number l.line) (position_or_len (same_text l.context) names) (map (context_lines lines) names)
+lines-entry lines l names distinct =
+    map-changed (context_lines lines) (context_lines (lines ++ l ∷ [])) (with_number l.line) l.context names
+    (λ n e. pushed n true e)
+    (λ n e. pushed n false e ∙ append-nil (context_lines lines n)) distinct
+  where
+    pushed : (n : List ℕ) (t : Bool) → same_text n l.context ≡ t
+        → context_lines (lines ++ l ∷ []) n ≡ context_lines lines n ++ map (λ x. x.line) (cond t (l ∷ []) [])
+    pushed = parts-push (λ (x : KeptLine). x.context) (λ (x : KeptLine). x.line) lines l
+
 -- one more include goes to the context of its name
 contexts-include : (kept : List Addition) (included : List Inclusion) (k : Inclusion) (names : List (List ℕ)) → IsDistinct same_text names
     → map (context_of kept (included ++ k ∷ [])) names ≡ changed_at (with_include k.name) (position_or_len (same_text k.context) names) (map (context_of kept included) names)
@@ -343,16 +368,17 @@ list-cons (Some x) = refl
 
 -- ---- one more entry or include
 
-with_addition-is : (es : Priorities) (globals : List GlobalVariable) (names : List (List ℕ)) (kept : List Addition) (included : List Inclusion) (remarks : List Remark) (line : ℕ) (a : Addition) → IsDistinct same_text names → is_known es (extension_in a) ≡ true → IsKnown es kept → with_entry_of (draft_of_parts es globals names kept included remarks) line a.context (number_of es a) a.entry ≡ draft_of_parts es globals names (more_by is_taken kept (Some a)) included (remarks ++ map Noted (entry_note line kept a))
-with_addition-is es globals names kept included remarks line a distinct known all =
+with_addition-is : (es : Priorities) (globals : List GlobalVariable) (names : List (List ℕ)) (kept : List Addition) (lines : List KeptLine) (included : List Inclusion) (remarks : List Remark) (line : ℕ) (a : Addition) → IsDistinct same_text names → is_known es (extension_in a) ≡ true → IsKnown es kept → with_entry_of (draft_of_parts es globals names kept lines included remarks) line a.context (number_of es a) a.entry ≡ draft_of_parts es globals names (more_by is_taken kept (Some a)) (lines ++ entry_line line kept a) included (remarks ++ map Noted (entry_note line kept a))
+with_addition-is es globals names kept lines included remarks line a distinct known all =
     (λ i. choose (is_slot_taken-is es kept a known all i) (is_marked-is es before kept a known all refl i)) ∙ by (is_place_taken kept a) (is_label_taken kept a) where
       before : Drafted
-      before = draft_of_parts es globals names kept included remarks
+      before = draft_of_parts es globals names kept lines included remarks
 
       choose : Bool → Bool → Drafted
       choose p l = cond p (with_note before line DoublePriority) (cond l (with_note before line DoubleLabel) (record before {
         contexts = changed_at (with_entry a.entry) (place_of before a.context) before.contexts;
         numbers = changed_at (with_number (number_of es a)) (place_of before a.context) before.numbers;
+        lines = changed_at (with_number line) (place_of before a.context) before.lines;
         taken = map (slot_in es) kept ++ slot_in es a ∷ [];
         labels = filter_map (label_in es) kept ++ option_to_list (label_in es a);
       }))
@@ -360,20 +386,24 @@ with_addition-is es globals names kept included remarks line a distinct known al
       remark : Bool → Bool → List Remark
       remark p l = map Noted (cond p ((record { line = line; kind = DoublePriority }) ∷ []) (cond l ((record { line = line; kind = DoubleLabel }) ∷ []) []))
 
-      by : (p l : Bool) → choose p l ≡ draft_of_parts es globals names (kept ++ cond (p || l) [] (a ∷ [])) included (remarks ++ remark p l)
-      by true l = rw (append-nil kept) refl
-      by false true = rw (append-nil kept) refl
+      own : KeptLine
+      own = record { context = a.context; line = line }
+
+      by : (p l : Bool) → choose p l ≡ draft_of_parts es globals names (kept ++ cond (p || l) [] (a ∷ [])) (lines ++ cond (p || l) [] (own ∷ [])) included (remarks ++ remark p l)
+      by true l = rw (append-nil kept, append-nil lines) refl
+      by false true = rw (append-nil kept, append-nil lines) refl
       by false false = rw (
         contexts-entry kept included a names distinct,
         numbers-entry es kept a names distinct,
+        lines-entry lines own names distinct,
         map-append (slot_in es) kept (a ∷ []),
         filter_map-append (label_in es) kept (a ∷ []),
         list-cons (label_in es a),
         append-nil remarks,
       ) refl
 
-with_inclusion-is : (es : Priorities) (globals : List GlobalVariable) (names : List (List ℕ)) (kept : List Addition) (included : List Inclusion) (remarks : List Remark) (line : ℕ) (k : Inclusion) → IsDistinct same_text names → with_include_of (draft_of_parts es globals names kept included remarks) line k.context k.name ≡ draft_of_parts es globals names kept (included ++ k ∷ []) (remarks ++ Asks line k.name ∷ [])
-with_inclusion-is es globals names kept included remarks line k distinct = rw (contexts-include kept included k names distinct) refl
+with_inclusion-is : (es : Priorities) (globals : List GlobalVariable) (names : List (List ℕ)) (kept : List Addition) (lines : List KeptLine) (included : List Inclusion) (remarks : List Remark) (line : ℕ) (k : Inclusion) → IsDistinct same_text names → with_include_of (draft_of_parts es globals names kept lines included remarks) line k.context k.name ≡ draft_of_parts es globals names kept lines (included ++ k ∷ []) (remarks ++ Asks line k.name ∷ [])
+with_inclusion-is es globals names kept lines included remarks line k distinct = rw (contexts-include kept included k names distinct) refl
 
 -- ---- one more item
 
@@ -399,12 +429,13 @@ each-filtered {X} P test (x ∷ xs) all = by (each-filtered P test xs all.1) (te
   by rest false = rest
 
 -- a line of an extension leaves the draft of what is kept as it is
-draft_of_parts-written : (es : Priorities) (e : Extension) (v : ℕ) (globals : List GlobalVariable) (names : List (List ℕ)) (kept : List Addition) (included : List Inclusion) (remarks : List Remark) → IsKnown es kept → draft_of_parts es globals names kept included remarks ≡ draft_of_parts (insert_entry same_extension es e v) globals names kept included remarks
-draft_of_parts-written es e v globals names kept included remarks all = λ i. record {
+draft_of_parts-written : (es : Priorities) (e : Extension) (v : ℕ) (globals : List GlobalVariable) (names : List (List ℕ)) (kept : List Addition) (lines : List KeptLine) (included : List Inclusion) (remarks : List Remark) → IsKnown es kept → draft_of_parts es globals names kept lines included remarks ≡ draft_of_parts (insert_entry same_extension es e v) globals names kept lines included remarks
+draft_of_parts-written es e v globals names kept lines included remarks all = λ i. record {
   globals = globals;
   names = names;
   contexts = map (context_of kept included) names;
   numbers = map (λ name. numbered name i) names;
+  lines = map (context_lines lines) names;
   taken = map-alike (slot_in es) (slot_in es') kept (each-weaker known (λ a. slot_in es a ≡ slot_in es' a) (λ a there. ap (λ n. slot_of n a.entry) (same a there)) kept all) i;
   labels = filter_map-alike (label_in es) (label_in es') kept (each-weaker known (λ a. label_in es a ≡ label_in es' a) (λ a there. ap (λ n. label_of n a.entry) (same a there)) kept all) i;
   remarks = remarks;
@@ -430,37 +461,37 @@ known-all es e v kept all =
     each-weaker (λ a. is_known es (extension_in a) ≡ true) (λ a. is_known (insert_entry same_extension es e v) (extension_in a) ≡ true) (λ a. known-kept es e v (extension_in a)) kept all
 
 -- one more item, by the parts of the draft
-with_item-is : (reading : Reading) (globals : List GlobalVariable) (names : List (List ℕ)) (kept : List Addition) (included : List Inclusion) (remarks : List Remark) (x : Item) → IsAllNamed names kept included → IsDistinct same_text names → IsKnown reading.extensions kept
+with_item-is : (reading : Reading) (globals : List GlobalVariable) (names : List (List ℕ)) (kept : List Addition) (lines : List KeptLine) (included : List Inclusion) (remarks : List Remark) (x : Item) → IsAllNamed names kept lines included → IsDistinct same_text names → IsKnown reading.extensions kept
     → (before : List Item) → kept_in before ≡ kept
-    → with_item (draft_of_parts reading.extensions globals names kept included remarks) reading.extensions x ≡ draft_of_parts (priorities_after reading x) (globals ++ cons_option (global_in x) []) (more_by is_named names (context_in x)) (more_by is_taken kept (added_in x)) (included ++ cons_option (included_in x) []) (remarks ++ remark_of before x)
-with_item-is reading globals names kept included remarks (Begins General) named distinct all before same =
-    rw (append-nil globals, append-nil included, append-nil remarks) refl
-with_item-is reading globals names kept included remarks (Begins Globals) named distinct all before same =
-    rw (append-nil globals, append-nil included, append-nil remarks) refl
-with_item-is reading globals names kept included remarks (Begins (Context name)) named distinct all before same =
-    with_context-is reading.extensions globals names kept included remarks name named
-    ∙ (λ i. draft_of_parts reading.extensions (sym (append-nil globals) i) (more_by is_named names (Some name)) kept (sym (append-nil included) i) (sym (append-nil remarks) i))
-with_item-is reading globals names kept included remarks (Sets global) named distinct all before same =
-    λ i. draft_of_parts reading.extensions (globals ++ global ∷ []) names kept (sym (append-nil included) i) (sym (append-nil remarks) i)
-with_item-is reading globals names kept included remarks (Adds line context entry) named distinct all before same =
+    → with_item (draft_of_parts reading.extensions globals names kept lines included remarks) reading.extensions x ≡ draft_of_parts (priorities_after reading x) (globals ++ cons_option (global_in x) []) (more_by is_named names (context_in x)) (more_by is_taken kept (added_in x)) (lines ++ kept_line before x) (included ++ cons_option (included_in x) []) (remarks ++ remark_of before x)
+with_item-is reading globals names kept lines included remarks (Begins General) named distinct all before same =
+    rw (append-nil globals, append-nil lines, append-nil included, append-nil remarks) refl
+with_item-is reading globals names kept lines included remarks (Begins Globals) named distinct all before same =
+    rw (append-nil globals, append-nil lines, append-nil included, append-nil remarks) refl
+with_item-is reading globals names kept lines included remarks (Begins (Context name)) named distinct all before same =
+    with_context-is reading.extensions globals names kept lines included remarks name named
+    ∙ (λ i. draft_of_parts reading.extensions (sym (append-nil globals) i) (more_by is_named names (Some name)) kept (sym (append-nil lines) i) (sym (append-nil included) i) (sym (append-nil remarks) i))
+with_item-is reading globals names kept lines included remarks (Sets global) named distinct all before same =
+    λ i. draft_of_parts reading.extensions (globals ++ global ∷ []) names kept (sym (append-nil lines) i) (sym (append-nil included) i) (sym (append-nil remarks) i)
+with_item-is reading globals names kept lines included remarks (Adds line context entry) named distinct all before same =
     let a : Addition = record { context = context; entry = entry } in
     let es = reading.extensions in
     let e = extension_in a in
     let es' = insert_entry same_extension es e entry.priority in
     let names' = more_by is_named names (Some context) in
-    ap (λ (d : Drafted). with_entry_of d line context (number_in es e) entry) (with_context-is es globals names kept included remarks context named)
-    ∙ (ap (λ (d : Drafted). with_entry_of d line context (number_in es e) entry) (draft_of_parts-written es e entry.priority globals names' kept included remarks all)
-    ∙ (ap (λ number. with_entry_of (draft_of_parts es' globals names' kept included remarks) line context number entry) (sym (number-with_priority es e entry.priority))
-    ∙ (with_addition-is es' globals names' kept included remarks line a (names-more names (Some context) distinct) (known-with_priority es e entry.priority) (known-all es e entry.priority kept all)
-    ∙ (λ i. draft_of_parts es' (sym (append-nil globals) i) names' (more_by is_taken kept (Some a)) (sym (append-nil included) i) (remarks ++ map Noted (entry_note line (sym same i) a))))))
-with_item-is reading globals names kept included remarks (Includes line context name) named distinct all before same =
+    ap (λ (d : Drafted). with_entry_of d line context (number_in es e) entry) (with_context-is es globals names kept lines included remarks context named)
+    ∙ (ap (λ (d : Drafted). with_entry_of d line context (number_in es e) entry) (draft_of_parts-written es e entry.priority globals names' kept lines included remarks all)
+    ∙ (ap (λ number. with_entry_of (draft_of_parts es' globals names' kept lines included remarks) line context number entry) (sym (number-with_priority es e entry.priority))
+    ∙ (with_addition-is es' globals names' kept lines included remarks line a (names-more names (Some context) distinct) (known-with_priority es e entry.priority) (known-all es e entry.priority kept all)
+    ∙ (λ i. draft_of_parts es' (sym (append-nil globals) i) names' (more_by is_taken kept (Some a)) (lines ++ entry_line line (sym same i) a) (sym (append-nil included) i) (remarks ++ map Noted (entry_note line (sym same i) a))))))
+with_item-is reading globals names kept lines included remarks (Includes line context name) named distinct all before same =
     let k : Inclusion = record { context = context; name = name } in
     let es = reading.extensions in
-    ap (λ (d : Drafted). with_include_of d line context name) (with_context-is es globals names kept included remarks context named)
-    ∙ (with_inclusion-is es globals (more_by is_named names (Some context)) kept included remarks line k (names-more names (Some context) distinct)
-    ∙ (λ i. draft_of_parts es (sym (append-nil globals) i) (more_by is_named names (Some context)) kept (included ++ k ∷ []) (remarks ++ Asks line name ∷ [])))
-with_item-is reading globals names kept included remarks (Unknown line) named distinct all before same =
-    λ i. draft_of_parts reading.extensions (sym (append-nil globals) i) names kept (sym (append-nil included) i) (remarks ++ Noted (record { line = line; kind = UnknownKey }) ∷ [])
+    ap (λ (d : Drafted). with_include_of d line context name) (with_context-is es globals names kept lines included remarks context named)
+    ∙ (with_inclusion-is es globals (more_by is_named names (Some context)) kept lines included remarks line k (names-more names (Some context) distinct)
+    ∙ (λ i. draft_of_parts es (sym (append-nil globals) i) (more_by is_named names (Some context)) kept (sym (append-nil lines) i) (included ++ k ∷ []) (remarks ++ Asks line name ∷ [])))
+with_item-is reading globals names kept lines included remarks (Unknown line) named distinct all before same =
+    λ i. draft_of_parts reading.extensions (sym (append-nil globals) i) names kept (sym (append-nil lines) i) (sym (append-nil included) i) (remarks ++ Noted (record { line = line; kind = UnknownKey }) ∷ [])
 
 -- what items leave for the next line
 pub reading-items : (made : MadeOf) (items : List Item) → (fold after_item made items).reading ≡ fold after made.reading items
@@ -471,7 +502,7 @@ reading-items made (item ∷ items) = reading-items (after_item made item) items
 pub record Makes (items : List Item) : Type 0 where
   pub draft : (fold after_item unmade items).draft ≡ drafted_in items
   pub known : IsKnown (reading_of items).extensions (kept_in items)
-  pub named : IsAllNamed (names_in items) (kept_in items) (filter_map included_in items)
+  pub named : IsAllNamed (names_in items) (kept_in items) (kept_lines items) (filter_map included_in items)
   pub distinct : IsDistinct same_text (names_in items)
 
 -- what holds of each element, and of one more where it is taken up
@@ -485,18 +516,19 @@ each-more {X} P taken kept (Some x) all one = each-append P kept (cond (taken ke
     by false = one
 
 -- with one more item, all are named
-named-more : (names : List (List ℕ)) (kept : List Addition) (included : List Inclusion) (x : Item) → IsAllNamed names kept included
-    → IsAllNamed (more_by is_named names (context_in x)) (more_by is_taken kept (added_in x)) (included ++ cons_option (included_in x) [])
-named-more names kept included x named =
+named-more : (before : List Item) (names : List (List ℕ)) (kept : List Addition) (lines : List KeptLine) (included : List Inclusion) (x : Item) → IsAllNamed names kept lines included
+    → IsAllNamed (more_by is_named names (context_in x)) (more_by is_taken kept (added_in x)) (lines ++ kept_line before x) (included ++ cons_option (included_in x) [])
+named-more items names kept lines included x named =
     let now : List (List ℕ) = more_by is_named names (context_in x) in
-    let before : IsAllNamed now kept included = by (context_in x) in (
+    let before : IsAllNamed now kept lines included = by (context_in x) in (
       each-more (λ (a : Addition). is_named now a.context ≡ true) is_taken kept (added_in x) before.0 (addition x),
-      each-append (λ (k : Inclusion). is_named now k.context ≡ true) included (cons_option (included_in x) []) before.1 (inclusion x),
+      each-append (λ (l : KeptLine). is_named now l.context ≡ true) lines (kept_line items x) before.1 (line_of x),
+      each-append (λ (k : Inclusion). is_named now k.context ≡ true) included (cons_option (included_in x) []) before.2 (inclusion x),
     )
   where
-    by : (o : Option (List ℕ)) → IsAllNamed (more_by is_named names o) kept included
+    by : (o : Option (List ℕ)) → IsAllNamed (more_by is_named names o) kept lines included
     by None = named
-    by (Some name) = IsAllNamed-more names kept included name named
+    by (Some name) = IsAllNamed-more names kept lines included name named
 
     addition : (x : Item) → AllByRecursion (λ (a : Addition). is_named (more_by is_named names (context_in x)) a.context ≡ true) (cons_option (added_in x) [])
     addition (Begins section) = tt
@@ -504,6 +536,17 @@ named-more names kept included x named =
     addition (Adds line context entry) = (is_named-more names context, tt)
     addition (Includes line context name) = tt
     addition (Unknown line) = tt
+
+    named_line : (context : List ℕ) (line : ℕ) (t : Bool) → AllByRecursion (λ (l : KeptLine). is_named (more_by is_named names (Some context)) l.context ≡ true) (cond t [] ((record { context = context; line = line }) ∷ []))
+    named_line context line true = tt
+    named_line context line false = (is_named-more names context, tt)
+
+    line_of : (x : Item) → AllByRecursion (λ (l : KeptLine). is_named (more_by is_named names (context_in x)) l.context ≡ true) (kept_line items x)
+    line_of (Begins section) = tt
+    line_of (Sets global) = tt
+    line_of (Adds line context entry) = named_line context line (is_taken (kept_in items) (record { context = context; entry = entry }))
+    line_of (Includes line context name) = tt
+    line_of (Unknown line) = tt
 
     inclusion : (x : Item) → AllByRecursion (λ (k : Inclusion). is_named (more_by is_named names (context_in x)) k.context ≡ true) (cons_option (included_in x) [])
     inclusion (Begins section) = tt
@@ -531,18 +574,19 @@ Makes-push items x makes =
     let included : filter_map included_in (items ++ x ∷ []) ≡ filter_map included_in items ++ cons_option (included_in x) [] = filter_map-append included_in items (x ∷ []) in
     let names : names_in (items ++ x ∷ []) ≡ more_by is_named (names_in items) (context_in x) = kept_by-filter_map is_named context_in items x in
     let kept : kept_in (items ++ x ∷ []) ≡ more_by is_taken (kept_in items) (added_in x) = kept_by-filter_map is_taken added_in items x in
+    let lines = kept_lines-push items x in
     let remarks = remarks_in-push items x in
     let reading : reading_of (items ++ x ∷ []) ≡ after (reading_of items) x = fold-append after unread items (x ∷ []) in
     record {
       draft =
           ap (λ (made : MadeOf). made.draft) (fold-append after_item unmade items (x ∷ []))
           ∙ ((λ i. with_item (makes.draft i) (reading-items unmade items i).extensions x)
-          ∙ (with_item-is (reading_of items) (filter_map global_in items) (names_in items) (kept_in items) (filter_map included_in items) (remarks_in items) x makes.named makes.distinct makes.known items refl
-          ∙ (λ i. draft_of_parts (sym reading i).extensions (sym globals i) (sym names i) (sym kept i) (sym included i) (sym remarks i))));
+          ∙ (with_item-is (reading_of items) (filter_map global_in items) (names_in items) (kept_in items) (kept_lines items) (filter_map included_in items) (remarks_in items) x makes.named makes.distinct makes.known items refl
+          ∙ (λ i. draft_of_parts (sym reading i).extensions (sym globals i) (sym names i) (sym kept i) (sym lines i) (sym included i) (sym remarks i))));
       known =
           rw (reading, kept) (known-more (reading_of items) (kept_in items) x makes.known);
       named =
-          rw (names, kept, included) (named-more (names_in items) (kept_in items) (filter_map included_in items) x makes.named);
+          rw (names, kept, lines, included) (named-more items (names_in items) (kept_in items) (kept_lines items) (filter_map included_in items) x makes.named);
       distinct = rw names (names-more (names_in items) (context_in x) makes.distinct);
     }
 
@@ -552,7 +596,7 @@ distinct-none = tt
 
 -- the items make the draft that they say
 pub Makes-all : (items : List Item) → Makes items
-Makes-all items = snoc_from Makes Makes-push [] items (record { draft = refl; known = tt; named = (tt, tt); distinct = distinct-none })
+Makes-all items = snoc_from Makes Makes-push [] items (record { draft = refl; known = tt; named = (tt, tt, tt); distinct = distinct-none })
 
 -- the names of the contexts are the names
 pub names-contexts : (kept : List Addition) (included : List Inclusion) (names : List (List ℕ)) → map (λ (c : PlanContext). c.name) (map (context_of kept included) names) ≡ names

@@ -8,6 +8,7 @@ pub mod HistoryLemmas
 pub mod ItemWords
 pub mod ItemsKnown
 pub mod LoadedLemmas
+mod LinedLemmas
 mod LoadingLemmas
 mod MeaningLemmas
 pub mod NamedLemmas

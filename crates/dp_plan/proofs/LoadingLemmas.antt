@@ -14,9 +14,9 @@ use Rattle.dp_plan.specs.steps.Draft.{Drafted, remark_notes}
 use Rattle.dp_plan.specs.Faults.{fault_of_conf, reason_of, text_fault}
 use Rattle.dp_plan.specs.History.{History, history_of}
 use Rattle.dp_plan.specs.Items.{line_item, items_after}
-use Rattle.dp_plan.specs.Loaded.{plan_and_notes}
+use Rattle.dp_plan.specs.Loaded.{plan_and_notes, lines_loaded, HaveLines}
 use Rattle.dp_plan.specs.steps.Loading.{MadeOf, unmade, after_item, after_one, draft_made, drafted_of}
-use Rattle.dp_plan.specs.Plan.{PlanOf, kept_in, names_in, included_in, plan_of, notes_of}
+use Rattle.dp_plan.specs.Plan.{PlanOf, kept_in, names_in, included_in, plan_of, notes_of, entry_lines_of}
 use Rattle.dp_plan.specs.Ranking.{AreApart}
 use Rattle.dp_plan.specs.steps.Numbers.{AreAllNumbered}
 use Rattle.dp_plan.specs.steps.Reader.{history_in}
@@ -26,6 +26,7 @@ use Rattle.dp_plan.specs.declared.note.Note.{Note}
 use Rattle.dp_plan.proofs.ApartLemmas.{kept-apart, contexts-apart}
 use Rattle.dp_plan.proofs.DraftLemmas.{drafted_in, Makes-all, names-contexts, reading-items, remark_notes-notes}
 use Rattle.dp_plan.proofs.HistoryLemmas.{history_kept, reading_of}
+use Rattle.dp_plan.proofs.LinedLemmas.{contexts-lined}
 use Rattle.dp_plan.proofs.LoadedLemmas.{of_items, of_lines}
 use Rattle.dp_plan.proofs.NumberedLemmas.{contexts-numbered}
 
@@ -134,17 +135,40 @@ plan_and_notes-drafted text = ap plan_of_draft (drafted-items text) ∙ by (line
   by (Ok lines) = of_items-draft (items_after [] lines)
   by (Err fault) = refl
 
+-- the lines of the entries of a draft
+abbrev pub lines_of_draft : Result Drafted LoadFault → Result (List (List ℕ)) LoadFault
+lines_of_draft draft = draft >>= λ d. Ok d.lines
+
+abbrev lines_of_items : Result (List Item) LoadFault → Result (List (List ℕ)) LoadFault
+lines_of_items read = read >>= λ items. Ok (entry_lines_of items)
+
+lines_of_items-draft : (read : Result (List Item) LoadFault) → lines_of_draft (draft_of_items read) ≡ lines_of_items read
+unfolding entry_lines_of
+lines_of_items-draft (Ok items) = refl
+lines_of_items-draft (Err fault) = refl
+
+-- the lines of a text's entries are those of its draft
+pub lines_loaded-drafted : (text : List ℕ) → lines_of_draft (drafted_of text) ≡ lines_loaded text
+unfolding lines_loaded
+lines_loaded-drafted text = ap lines_of_draft (drafted-items text) ∙ by (lines_of text) where
+  by : (read : Result (List LineOf) LineFault) → lines_of_draft (text_fault read >>= λ lines. draft_of_items (items_after [] lines)) ≡ (text_fault read >>= λ lines. lines_of_items (items_after [] lines))
+  by (Ok lines) = lines_of_items-draft (items_after [] lines)
+  by (Err fault) = refl
+
 -- what is known of the draft of a text: its names are those of its contexts, and their entries are apart and have their numbers
+-- and their lines
 pub record IsFit (d : Drafted) : Type 0 where
   pub names : d.names ≡ map (λ (c : PlanContext). c.name) d.contexts
   pub apart : All (λ (c : PlanContext). AreApart c.entries) d.contexts
   pub numbered : AreAllNumbered d.contexts d.numbers
+  pub lined : HaveLines d.contexts d.lines
 
 fit_items : (items : List Item) → IsFit (drafted_in items)
 fit_items items = record {
   names = sym (names-contexts (kept_in items) (filter_map included_in items) (names_in items));
   apart = contexts-apart (kept_in items) (filter_map included_in items) (names_in items) (kept-apart items);
   numbered = contexts-numbered (reading_of items).extensions (kept_in items) (filter_map included_in items) (names_in items) (Makes-all items).known;
+  lined = contexts-lined items (filter_map included_in items) (names_in items);
 }
 
 pub drafted-fit : (text : List ℕ) (draft : Drafted) → drafted_of text ≡ Ok draft → IsFit draft

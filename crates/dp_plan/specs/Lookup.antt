@@ -1,4 +1,4 @@
--- What a dialplan answers by numbers and names.
+-- What a dialplan, and the lines of its entries, answer by numbers and names.
 use Rattle.std.specs.Prelude.{◌≡◌, ℕ, List, [], Option, map, slice_get, position, MatchOption}
 use Rattle.std.specs.Option.{option_and_then, option_map_or}
 use Rattle.dp_conf.specs.Words.{same_text}
@@ -10,6 +10,10 @@ use Rattle.dp_plan.specs.declared.entry.EntryId.{EntryId}
 -- the entry of these numbers
 abbrev pub entry_at : PlanOf → EntryId → Option Entry
 entry_at plan id = option_and_then (λ context. slice_get context.entries id.entry) (slice_get plan.contexts id.context)
+
+-- the line of the entry of these numbers
+abbrev pub line_at : List (List ℕ) → EntryId → Option ℕ
+line_at lines id = option_and_then (λ context. slice_get context id.entry) (slice_get lines id.context)
 
 -- the number of the context of a name
 abbrev pub number_of : PlanOf → List ℕ → Option ℕ

@@ -127,6 +127,35 @@ plan_of items = record {
   contexts = map (context_of (kept_in items) (filter_map included_in items)) (names_in items);
 }
 
+-- the line of an entry that is kept in a context
+pub record KeptLine : Type 0 where
+  pub context : List ℕ
+  pub line : ℕ
+
+-- the line of an entry, unless an entry that is kept has its priority or its label
+abbrev pub entry_line : ℕ → List Addition → Addition → List KeptLine
+entry_line line kept addition = if is_taken kept addition then [] else (record { context = addition.context; line = line }) ∷ []
+
+-- the line of an item that adds an entry, where the entry is kept after the items before it
+abbrev pub kept_line : List Item → Item → List KeptLine
+kept_line before (Begins section) = []
+kept_line before (Sets global) = []
+kept_line before (Adds line context entry) = entry_line line (kept_in before) (record { context = context; entry = entry })
+kept_line before (Includes line context name) = []
+kept_line before (Unknown line) = []
+
+-- the lines of the entries that are kept, of all contexts
+abbrev pub kept_lines : List Item → List KeptLine
+kept_lines items = flat_map (λ lines. lines) (each_after kept_line [] items)
+
+-- those of the entries of the context of a name
+abbrev pub context_lines : List KeptLine → List ℕ → List ℕ
+context_lines kept name = map (λ k. k.line) (filter (λ k. same_text name k.context) kept)
+
+-- the lines of the entries of each context of the dialplan of the items, in the order of its contexts and their entries
+unfoldable pub entry_lines_of : List Item → List (List ℕ)
+entry_lines_of items = map (context_lines (kept_lines items)) (names_in items)
+
 -- the note on an entry, where it is dropped: an entry that is kept has its priority or its label
 abbrev pub entry_note : ℕ → List Addition → Addition → List Note
 entry_note line kept addition =

@@ -15,10 +15,11 @@ ghost use Rattle.dp_plan.specs.Ranking.{AreApart};
 
 use crate::context::Context;
 use crate::entry::Entry;
+use crate::entry_lines::EntryLines;
 use crate::label::{Label, label_of};
 use crate::note::{Note, NoteKind};
-use crate::numbers::Numbers;
-use crate::plan::{Dialplan, GlobalVariable, PlanParts};
+use crate::numbers::{Numbers, short_number};
+use crate::plan::{Dialplan, GlobalVariable, LoadedPlan, PlanParts};
 use crate::priority::Priority;
 use crate::ranking::rank_contexts;
 use crate::remark::{Remark, settle};
@@ -37,6 +38,7 @@ pub(crate) struct Draft {
     names: IndexSet<SharedText>,
     contexts: Vec<Context>,
     numbers: Vec<Numbers>,
+    lines: Vec<Numbers>,
     taken: TakenPlaces,
     labels: IndexSet<Label>,
     remarks: Vec<Remark>,
@@ -53,13 +55,15 @@ impl Model for Draft {
       names = draft.names.keys;
       contexts = draft.contexts.items;
       numbers = draft.numbers.items;
+      lines = draft.lines.items;
       taken = draft.taken;
       labels = draft.labels.keys;
       remarks = draft.remarks.items;
     } };
 
     ghost invariant = { λ draft. (length draft.names.keys ≡ length draft.contexts.items)
-        × (length draft.numbers.items ≡ length draft.contexts.items) };
+        × (length draft.numbers.items ≡ length draft.contexts.items)
+        × (length draft.lines.items ≡ length draft.contexts.items) };
 }
 
 /// The place that an entry takes, by the number of its extension.
@@ -102,6 +106,7 @@ impl Draft {
             names: IndexSet::new(alloc),
             contexts: Vec::new(alloc),
             numbers: Vec::new(alloc),
+            lines: Vec::new(alloc),
             taken: TakenPlaces::new(alloc),
             labels: IndexSet::new(alloc),
             remarks: Vec::new(alloc),
@@ -117,11 +122,13 @@ impl Draft {
     {
         self.contexts.reserve(1)?;
         self.numbers.reserve(1)?;
+        self.lines.reserve(1)?;
         let context = empty_context(alloc, name)?;
         let key = name.clone()?;
         let (place, _) = self.names.insert_full(key)?;
         self.contexts.push(context).unwrap();
         self.numbers.push(Numbers::new(alloc)).unwrap();
+        self.lines.push(Numbers::new(alloc)).unwrap();
         Ok(place)
     }
 
@@ -242,17 +249,40 @@ impl Draft {
         Ok(())
     }
 
-    /// Adds the entry to the context at the place, by the number of its extension.
+    /// Adds the line of an entry to those of the context at the place.
     #[inline(always)]
-    fn push_numbered(&mut self, place: usize, number: u32, entry: Entry) -> Result<(), NoMemory>
+    fn push_line(&mut self, place: usize, line: usize) -> Result<(), NoMemory>
+        requires { place < length self.old.names }
+        ensures pushed { OnOk result (self.new ≡ record self.old {
+          lines = changed_at (with_number line) place self.old.lines;
+        }) }
+        ensures names { self.new.names ≡ self.old.names }
+    {
+        let line = short_number(line)?;
+        let lines = &mut self.lines[place];
+        lines.push(line)?;
+        Ok(())
+    }
+
+    /// Adds the entry of a line to the context at the place, by the number of its extension.
+    #[inline(always)]
+    fn push_numbered(
+        &mut self,
+        line: usize,
+        place: usize,
+        number: u32,
+        entry: Entry,
+    ) -> Result<(), NoMemory>
         requires { place < length self.old.names }
         ensures pushed { OnOk result (self.new ≡ record self.old {
           contexts = changed_at (with_entry entry) place self.old.contexts;
           numbers = changed_at (with_number number) place self.old.numbers;
+          lines = changed_at (with_number line) place self.old.lines;
         }) }
         ensures names { self.new.names ≡ self.old.names }
     {
         self.push_number(place, number)?;
+        self.push_line(place, line)?;
         self.push_entry(place, entry)
     }
 
@@ -286,7 +316,7 @@ impl Draft {
     {
         match self.claim(alloc, number, &entry)? {
             Some(kind) => self.note(line, kind),
-            None => self.push_numbered(place, number, entry),
+            None => self.push_numbered(line, place, number, entry),
         }
     }
 
@@ -350,19 +380,21 @@ impl Draft {
         Ok(notes)
     }
 
-    /// The parts of the draft's dialplan, and the numbers of its entries' extensions. The places, the labels and the remarks
-    /// are let go.
-    fn into_parts(self) -> (PlanParts, Vec<Numbers>)
+    /// The parts of the draft's dialplan, the numbers of its entries' extensions, and its entries' lines. The places, the labels
+    /// and the remarks are let go.
+    fn into_parts(self) -> (PlanParts, Vec<Numbers>, EntryLines)
         ensures globals { result.0.globals.items ≡ self.globals }
         ensures names { result.0.names.keys ≡ self.names }
         ensures contexts { result.0.contexts.items ≡ self.contexts }
         ensures numbers { result.1.items ≡ self.numbers }
+        ensures lines { result.2 ≡ self.lines }
     {
         let Draft {
             globals,
             names,
             contexts,
             numbers,
+            lines,
             taken: _,
             labels: _,
             remarks: _,
@@ -372,22 +404,25 @@ impl Draft {
             names,
             contexts,
         };
-        (parts, numbers)
+        (parts, numbers, EntryLines::of_contexts(lines))
     }
 
-    /// The dialplan of the draft, and its notes. The places and labels are let go before the entries are ranked.
-    pub(crate) fn into_plan(self, alloc: Global) -> Result<(Dialplan, Vec<Note>), NoMemory>
+    /// The dialplan of the draft, its notes, and its entries' lines. The places and labels are let go before the entries are ranked.
+    pub(crate) fn into_plan(self, alloc: Global) -> Result<LoadedPlan, NoMemory>
         requires names { self.names ≡ map (λ context. context.name) self.contexts }
         requires apart { All (λ context. AreApart context.entries) self.contexts }
         requires numbered { AreAllNumbered self.contexts self.numbers }
         requires loaded { IsLoaded (record { globals = self.globals; contexts = self.contexts }) }
-        ensures plan { IfOk result (λ made. made.0 ≡ record { globals = self.globals; contexts = self.contexts }) }
-        ensures notes { IfOk result (λ made. made.1.items ≡ flat_map (spec.remark_notes self.names) self.remarks) }
+        ensures plan { IfOk result (λ made. made.plan ≡ record { globals = self.globals; contexts = self.contexts }) }
+        ensures notes { IfOk result (λ made. made.notes.items ≡ flat_map (spec.remark_notes self.names) self.remarks) }
+        ensures lines { IfOk result (λ made. made.lines ≡ self.lines) }
     {
         let notes = self.notes(alloc);
         let (notes, draft) = beside(notes, self)?;
-        let (parts, numbers) = draft.into_parts();
+        let (parts, numbers, lines) = draft.into_parts();
         let plan = plan_of(alloc, parts, &numbers);
-        beside(plan, notes)
+        let (plan, beside_it) = beside(plan, (notes, lines))?;
+        let (notes, lines) = beside_it;
+        Ok(LoadedPlan { plan, notes, lines })
     }
 }

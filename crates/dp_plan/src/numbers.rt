@@ -1,5 +1,5 @@
-//! The numbers of the extensions of a context's entries.
-ghost use Rattle.std.specs.Prelude.{◌≡◌, [], ◌∷◌, ◌++◌, OnOk};
+//! A number for each entry of a context: that of its extension, or that of its line.
+ghost use Rattle.std.specs.Prelude.{◌≡◌, [], ◌∷◌, ◌++◌, IfOk, OnOk, slice_get};
 ghost use Rattle.dp_plan.specs.steps.Numbers as spec;
 
 use dp_conf::NoMemory;
@@ -7,9 +7,9 @@ use smallvec::SmallVec;
 use std::alloc::Global;
 use std::marker::Model;
 
-/// The number of each entry's extension, in the order of the file. A contract sees it as their list. The numbers of a small
-/// context take no memory of their own.
-#[derive(Drop)]
+/// A number for each entry, in the order of the file. A contract sees it as their list. The numbers of a small context take no
+/// memory of their own.
+#[derive(Debug, Drop)]
 pub(crate) struct Numbers {
     numbers: SmallVec<u32, 4>,
 }
@@ -22,6 +22,17 @@ impl Model for Numbers {
     ghost view = { λ numbers. numbers.numbers.items };
 }
 
+/// A number in four bytes. A table of 2^32 extensions or more, or a line whose number is as great, is refused as want of
+/// memory, which is a choice of this program.
+pub(crate) fn short_number(number: usize) -> Result<u32, NoMemory>
+    ensures { IfOk result (λ short. short ≡ number) }
+{
+    match u32::try_from(number) {
+        Ok(short) => Ok(short),
+        Err(_) => Err(NoMemory),
+    }
+}
+
 impl Numbers {
     /// Those of no entries.
     pub(crate) fn new(alloc: Global) -> Self
@@ -32,13 +43,20 @@ impl Numbers {
         }
     }
 
-    /// Adds the number of one more entry's extension.
+    /// Adds the number of one more entry.
     #[inline(always)]
     pub(crate) fn push(&mut self, number: u32) -> Result<(), NoMemory>
         ensures { OnOk result (self.new ≡ spec.with_number number self.old) }
     {
         self.numbers.push(number)?;
         Ok(())
+    }
+
+    /// The number of the entry at the place, or None where there is none.
+    pub(crate) fn number_at(&self, place: usize) -> Option<u32>
+        ensures { result ≡ slice_get self.now place }
+    {
+        self.numbers.as_slice().get(place).copied()
     }
 
     /// Whether the entries of the two places have one number.

@@ -1,17 +1,18 @@
 //! A loaded dialplan.
-ghost use Rattle.std.specs.Prelude.{◌≡◌, ◌↔◌, ◌<◌, ◌≤◌, ℕ, List, Ok, Some, map, slice_index, EachIndex, IfSome, IsTrue};
+ghost use Rattle.std.specs.Prelude.{◌≡◌, ◌↔◌, ◌<◌, ◌≤◌, ℕ, List, Ok, Some, map, slice_index, EachIndex, IfOk, IfSome, IsTrue};
 ghost use Rattle.std.specs.List.{All};
 ghost use Rattle.std.specs.Option.{option_copied};
 ghost use Rattle.dp_conf.specs.Answers.{Answers};
 ghost use Rattle.dp_plan.specs.Contexts.{AreNamed};
 ghost use Rattle.dp_plan.specs.Faults.{reason_of};
-ghost use Rattle.dp_plan.specs.Loaded.{IsLoaded, plan_and_notes};
+ghost use Rattle.dp_plan.specs.Loaded.{IsLoaded, HaveLines, plan_and_notes, lines_loaded};
 ghost use Rattle.dp_plan.specs.Plan.{PlanOf};
 ghost use Rattle.dp_plan.specs.Ranking.{AreRanked, AreApart};
 ghost use Rattle.dp_plan.specs.declared.note.Note.{Note};
 
 use crate::context::Context;
 use crate::entry::{Entry, EntryId};
+use crate::entry_lines::EntryLines;
 use crate::fault::LoadFault;
 use crate::note::Note;
 use crate::plan_loading::read_draft;
@@ -70,6 +71,16 @@ impl Model for Dialplan {
         × IsLoaded (record { globals = plan.globals.items; contexts = plan.contexts.items }) };
 }
 
+/// A dialplan as it was loaded, and what its text has beside it.
+#[derive(Debug, Drop)]
+pub struct LoadedPlan {
+    pub plan: Dialplan,
+    /// The notes on the lines that were dropped, in the order of the lines.
+    pub notes: Vec<Note>,
+    /// The line of each entry of the dialplan.
+    pub lines: EntryLines,
+}
+
 /// The parts of a dialplan beside its rankings.
 #[derive(Drop)]
 pub(crate) struct PlanParts {
@@ -88,9 +99,24 @@ impl Dialplan {
     pub fn load(alloc: Global, text: &[u8]) -> Result<(Self, Vec<Note>), LoadFault>
         ensures { Answers (λ read. (read.0, read.1.items)) reason_of result (plan_and_notes text.now) }
     {
+        let loaded = Self::load_with_lines(alloc, text)?;
+        let LoadedPlan {
+            plan,
+            notes,
+            lines: _,
+        } = loaded;
+        Ok((plan, notes))
+    }
+
+    /// Loads a dialplan as `load` does, with the line of each entry.
+    pub fn load_with_lines(alloc: Global, text: &[u8]) -> Result<LoadedPlan, LoadFault>
+        ensures plan { Answers (λ loaded. (loaded.plan, loaded.notes.items)) reason_of result (plan_and_notes text.now) }
+        ensures lines { IfOk result (λ loaded. lines_loaded text.now ≡ Ok loaded.lines) }
+        ensures each { IfOk result (λ loaded. HaveLines loaded.plan.contexts loaded.lines) }
+    {
         let draft = read_draft(alloc, text)?;
-        let read = draft.into_plan(alloc)?;
-        Ok(read)
+        let loaded = draft.into_plan(alloc)?;
+        Ok(loaded)
     }
 
     /// The dialplan of these parts.

@@ -9,6 +9,7 @@ ghost use Rattle.indexmap.specs.IndexMap.{set_value_at};
 use crate::context_name::ContextName;
 use crate::extension::Extension;
 use crate::known_applications::KnownApplications;
+use crate::numbers::short_number;
 use crate::priority::Priority;
 use crate::section::OpenContext;
 use crate::shared_name::SharedName;
@@ -32,17 +33,6 @@ impl Model for Reader {
     ghost Value = { Table };
 
     ghost view = { λ reader. reader.extensions.entries };
-}
-
-/// The number of an extension in four bytes. A table of 2^32 extensions or more is refused as want of memory, which is a
-/// choice of this program.
-fn short_number(number: usize) -> Result<u32, NoMemory>
-    ensures { IfOk result (λ short. short ≡ number) }
-{
-    match u32::try_from(number) {
-        Ok(short) => Ok(short),
-        Err(_) => Err(NoMemory),
-    }
 }
 
 impl Reader {

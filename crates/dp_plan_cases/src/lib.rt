@@ -7,6 +7,8 @@
 #[cfg(test)]
 mod codes;
 #[cfg(test)]
+mod lines;
+#[cfg(test)]
 mod lister;
 #[cfg(test)]
 mod plan;

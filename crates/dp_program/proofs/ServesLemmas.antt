@@ -1,5 +1,5 @@
 -- What a request writes and answers where it is refused: nothing, and the fault.
-use Rattle.std.proofs.Common.{◌≡◌, ℕ, Bool, List, max, Option, Some, None, Result, Ok, Err, refl, sym, ap, ◌∙◌, subst, inl, arith}
+use Rattle.std.proofs.Common.{◌≡◌, ℕ, Bool, true, false, List, max, Option, Some, None, Result, Ok, Err, refl, sym, ap, ◌∙◌, subst, inl, arith}
 use Rattle.std.specs.Option.{option_map}
 use Rattle.std.proofs.KnownBytes.{Appends-nil}
 use Rattle.dp_conf.specs.Answers.{Refuses, ◌>>=◌}
@@ -8,6 +8,7 @@ use Rattle.dp_commands.specs.Debug.{DebugRun, WritesDebug}
 use Rattle.dp_commands.specs.Faults.{reason_of}
 use Rattle.dp_commands.specs.Report.{Reports}
 use Rattle.dp_commands.specs.Run.{Files, Run, Writes, files_of}
+use Rattle.dp_commands.specs.Verbose.{InForce, WritesVerbose, WritesVerboseDebug}
 use Rattle.dp_commands.specs.declared.fault.PbxFault.{PbxFault}
 use Rattle.dp_commands.specs.declared.fault.PbxFault.TheVariants.{Coded, NoMemory}
 use Rattle.dp_program.specs.Checks.{both_report}
@@ -16,7 +17,8 @@ use Rattle.dp_program.specs.Files.{Source, Reads}
 use Rattle.dp_program.specs.Hints.{Tells, audit_hint_of, match_hint_of, status_in}
 use Rattle.dp_program.specs.Reaches.{Reaches, place_of_files}
 use Rattle.dp_program.specs.Requests.{RequestOf, LookupOf, QuestionOf, joined, check, check_queues, check_both, listing, auditing, matching, explaining, run, debug, reaching}
-use Rattle.dp_program.specs.Serves.{AuditsFile, ChecksBoth, DebugsFiles, LooksUp, ReportsOn, Runs, RunsFiles, Serves, SharesSome, debug_of_texts, look_up, run_of_texts}
+use Rattle.dp_program.specs.Entries.{explanation_of}
+use Rattle.dp_program.specs.Serves.{AuditsFile, ChecksBoth, DebugsAsked, DebugsFiles, DebugsFilesVerbosely, DebugsVerbosely, LooksUp, ReportsOn, Runs, RunsAsked, RunsFiles, RunsFilesVerbosely, RunsVerbosely, Serves, SharesSome, debug_of_texts, in_force_at_first, look_up, run_of_texts}
 use Rattle.dp_program.specs.Texts.{OfRun, ReadsTexts, all_texts, some_text, sources_of}
 use Rattle.dp_program.specs.declared.faulted.Faulted.{Faulted}
 use Rattle.dp_program.specs.declared.faulted.Unread.{Unread}
@@ -39,6 +41,24 @@ writes_lacks old (Err fault) = Appends-nil old
 debug_lacks : (old : Option (List ℕ)) (given : Result DebugRun PbxFault) → WritesDebug old old given (Err NoMemory)
 debug_lacks old (Ok ran) = record { count = 0; within = omega arith; written = Appends-nil old }
 debug_lacks old (Err fault) = Appends-nil old
+
+verbose_lacks : (in_force : InForce) (old : Option (List ℕ)) (given : Result Run PbxFault) → WritesVerbose explanation_of in_force old old given (Err NoMemory)
+verbose_lacks in_force old (Ok ran) = record { count = 0; within = omega arith; written = Appends-nil old }
+verbose_lacks in_force old (Err fault) = Appends-nil old
+
+verbose_debug_lacks : (in_force : InForce) (old : Option (List ℕ)) (given : Result DebugRun PbxFault)
+    → WritesVerboseDebug explanation_of in_force old old given (Err NoMemory)
+verbose_debug_lacks in_force old (Ok ran) = record { count = 0; within = omega arith; written = Appends-nil old }
+verbose_debug_lacks in_force old (Err fault) = Appends-nil old
+
+runs_verbosely_lacks : (paths : OfRun (List ℕ)) (old : Option (List ℕ)) (texts : Result (OfRun (List ℕ)) PbxFault) → RunsVerbosely paths old old texts (Err NoMemory)
+runs_verbosely_lacks paths old (Ok texts) = verbose_lacks (in_force_at_first paths texts) old (run_of_texts texts)
+runs_verbosely_lacks paths old (Err fault) = Appends-nil old
+
+debugs_verbosely_lacks : (paths : OfRun (List ℕ)) (held : List ℕ) (old : Option (List ℕ)) (texts : Result (OfRun (List ℕ)) PbxFault)
+    → DebugsVerbosely paths held old old texts (Err NoMemory)
+debugs_verbosely_lacks paths held old (Ok texts) = verbose_debug_lacks (in_force_at_first paths texts) old (debug_of_texts held texts)
+debugs_verbosely_lacks paths held old (Err fault) = Appends-nil old
 
 shares_lacks : (count : ℕ) (old : Option (List ℕ)) (given : Result Run PbxFault) → SharesSome count old old given (Err NoMemory)
 shares_lacks count old (Ok ran) = inl (Appends-nil old, refl)
@@ -72,6 +92,16 @@ pub debug_refused : {X : Type 0} (old : Option (List ℕ)) (next : X → Result 
     → Refuses (reason_of fault) text → WritesDebug old old (text >>= next) (Err fault)
 debug_refused old next =
     by_reason (λ fault text. WritesDebug old old (text >>= next) (Err fault)) (λ code line. (Appends-nil old, refl)) (λ text. debug_lacks old (text >>= next))
+
+runs_verbosely_refused : (paths : OfRun (List ℕ)) (old : Option (List ℕ)) (fault : PbxFault) (texts : Result (OfRun (List ℕ)) PbxFault)
+    → Refuses (reason_of fault) texts → RunsVerbosely paths old old texts (Err fault)
+runs_verbosely_refused paths old =
+    by_reason (λ fault texts. RunsVerbosely paths old old texts (Err fault)) (λ code line. (Appends-nil old, refl)) (λ texts. runs_verbosely_lacks paths old texts)
+
+debugs_verbosely_refused : (paths : OfRun (List ℕ)) (held : List ℕ) (old : Option (List ℕ)) (fault : PbxFault) (texts : Result (OfRun (List ℕ)) PbxFault)
+    → Refuses (reason_of fault) texts → DebugsVerbosely paths held old old texts (Err fault)
+debugs_verbosely_refused paths held old =
+    by_reason (λ fault texts. DebugsVerbosely paths held old old texts (Err fault)) (λ code line. (Appends-nil old, refl)) (λ texts. debugs_verbosely_lacks paths held old texts)
 
 shares_refused : {X : Type 0} (count : ℕ) (old : Option (List ℕ)) (next : X → Result Run PbxFault) (fault : PbxFault) (text : Result X PbxFault)
     → Refuses (reason_of fault) text → SharesSome count old old (text >>= next) (Err fault)
@@ -263,6 +293,27 @@ debug_run_refused paths sources held old unread reads =
       unread_stands unread unread.fault ∙ (is.1 ∙ refused_place_by paths (unread_path paths read) unread.fault (all_texts read) is.0),
     )) reads
 
+-- the same of verbose runs
+pub run_verbose_refused : (paths : OfRun (List ℕ)) (sources : OfRun Source) (old : Option (List ℕ)) (unread : Unread)
+    → ReadsTexts sources (IsUnread paths unread.path.now unread.fault) → RunsFilesVerbosely paths sources old old (Err (unread_fault unread))
+run_verbose_refused paths sources old unread reads =
+    ReadsTexts-weaker sources (IsUnread paths unread.path.now unread.fault)
+    (λ read. RunsVerbosely paths old old (all_texts read) (Err unread.fault) × (place_of (place_unread unread unread.fault) ≡ place_of_run paths read unread.fault))
+    (λ read is. (
+      runs_verbosely_refused paths old unread.fault (all_texts read) is.0,
+      unread_stands unread unread.fault ∙ (is.1 ∙ refused_place_by paths (unread_path paths read) unread.fault (all_texts read) is.0),
+    )) reads
+
+pub debug_verbose_refused : (paths : OfRun (List ℕ)) (sources : OfRun Source) (held : List ℕ) (old : Option (List ℕ)) (unread : Unread)
+    → ReadsTexts sources (IsUnread paths unread.path.now unread.fault) → DebugsFilesVerbosely paths sources held old old (Err (unread_fault unread))
+debug_verbose_refused paths sources held old unread reads =
+    ReadsTexts-weaker sources (IsUnread paths unread.path.now unread.fault)
+    (λ read. DebugsVerbosely paths held old old (all_texts read) (Err unread.fault) × (place_of (place_unread unread unread.fault) ≡ place_of_run paths read unread.fault))
+    (λ read is. (
+      debugs_verbosely_refused paths held old unread.fault (all_texts read) is.0,
+      unread_stands unread unread.fault ∙ (is.1 ∙ refused_place_by paths (unread_path paths read) unread.fault (all_texts read) is.0),
+    )) reads
+
 -- where all files of a run are read
 pub run_read : (paths : OfRun (List ℕ)) (sources : OfRun Source) (threads : Option ℕ) (old new : Option (List ℕ)) (texts : OfRun (List ℕ))
     (result : Result ℕ PbxFault) (answered : Result ℕ Faulted) → ReadsTexts sources (λ read. (all_texts read ≡ Ok texts) × Unit {0}) → without_place answered ≡ result
@@ -282,6 +333,50 @@ debug_run_read paths sources held old new texts result answered reads same debug
     (λ read is. subst (λ (joined : Result (OfRun (List ℕ)) PbxFault). WritesDebug old new (joined >>= debug_of_texts held) (without_place answered) × StandsIn (place_by paths (unread_path paths read) joined) answered) (sym is.0)
     (subst (λ result. WritesDebug old new (debug_of_texts held texts) result) (sym same) debugs, stands)) reads
 
+-- the same of verbose runs
+pub run_verbose_read : (paths : OfRun (List ℕ)) (sources : OfRun Source) (old new : Option (List ℕ)) (texts : OfRun (List ℕ))
+    (result : Result ℕ PbxFault) (answered : Result ℕ Faulted) → ReadsTexts sources (λ read. (all_texts read ≡ Ok texts) × Unit {0}) → without_place answered ≡ result
+    → WritesVerbose explanation_of (in_force_at_first paths texts) old new (run_of_texts texts) result → StandsIn (place_in_files paths texts) answered
+    → RunsFilesVerbosely paths sources old new answered
+run_verbose_read paths sources old new texts result answered reads same runs stands =
+    ReadsTexts-weaker sources (λ read. (all_texts read ≡ Ok texts) × Unit {0})
+    (λ read. RunsVerbosely paths old new (all_texts read) (without_place answered) × StandsIn (place_of_run paths read) answered)
+    (λ read is. subst (λ (joined : Result (OfRun (List ℕ)) PbxFault). RunsVerbosely paths old new joined (without_place answered) × StandsIn (place_by paths (unread_path paths read) joined) answered) (sym is.0)
+    (subst (λ result. WritesVerbose explanation_of (in_force_at_first paths texts) old new (run_of_texts texts) result) (sym same) runs, stands)) reads
+
+pub debug_verbose_read : (paths : OfRun (List ℕ)) (sources : OfRun Source) (held : List ℕ) (old new : Option (List ℕ)) (texts : OfRun (List ℕ))
+    (result : Result ℕ PbxFault) (answered : Result ℕ Faulted) → ReadsTexts sources (λ read. (all_texts read ≡ Ok texts) × Unit {0}) → without_place answered ≡ result
+    → WritesVerboseDebug explanation_of (in_force_at_first paths texts) old new (debug_of_texts held texts) result → StandsIn (place_in_files paths texts) answered
+    → DebugsFilesVerbosely paths sources held old new answered
+debug_verbose_read paths sources held old new texts result answered reads same debugs stands =
+    ReadsTexts-weaker sources (λ read. (all_texts read ≡ Ok texts) × Unit {0})
+    (λ read. DebugsVerbosely paths held old new (all_texts read) (without_place answered) × StandsIn (place_of_run paths read) answered)
+    (λ read is. subst (λ (joined : Result (OfRun (List ℕ)) PbxFault). DebugsVerbosely paths held old new joined (without_place answered) × StandsIn (place_by paths (unread_path paths read) joined) answered) (sym is.0)
+    (subst (λ result. WritesVerboseDebug explanation_of (in_force_at_first paths texts) old new (debug_of_texts held texts) result) (sym same) debugs, stands)) reads
+
+-- a run may find no memory before it does anything
+run_lacks : (paths : OfRun (List ℕ)) (sources : OfRun Source) (threads : Option ℕ) (old : Option (List ℕ)) → RunsFiles paths sources threads old old (Err (nowhere NoMemory))
+run_lacks paths sources threads old =
+    ReadsTexts-any sources (λ read. Runs threads old old (all_texts read >>= run_of_texts) (Err NoMemory) × (in_none ≡ place_of_run paths read NoMemory))
+    (λ read. (runs_lacks threads old (all_texts read >>= run_of_texts), lacks_place_by paths (unread_path paths read) (all_texts read)))
+
+run_asked_lacks : (paths : OfRun (List ℕ)) (sources : OfRun Source) (threads : Option ℕ) (is_verbose : Bool) (old : Option (List ℕ))
+    → RunsAsked paths sources threads is_verbose old old (Err (nowhere NoMemory))
+run_asked_lacks paths sources None true old =
+    ReadsTexts-any sources (λ read. RunsVerbosely paths old old (all_texts read) (Err NoMemory) × (in_none ≡ place_of_run paths read NoMemory))
+    (λ read. (runs_verbosely_lacks paths old (all_texts read), lacks_place_by paths (unread_path paths read) (all_texts read)))
+run_asked_lacks paths sources None false old = run_lacks paths sources None old
+run_asked_lacks paths sources (Some threads) is_verbose old = run_lacks paths sources (Some threads) old
+
+debug_asked_lacks : (paths : OfRun (List ℕ)) (sources : OfRun Source) (held : List ℕ) (is_verbose : Bool) (old : Option (List ℕ))
+    → DebugsAsked paths sources held is_verbose old old (Err (nowhere NoMemory))
+debug_asked_lacks paths sources held true old =
+    ReadsTexts-any sources (λ read. DebugsVerbosely paths held old old (all_texts read) (Err NoMemory) × (in_none ≡ place_of_run paths read NoMemory))
+    (λ read. (debugs_verbosely_lacks paths held old (all_texts read), lacks_place_by paths (unread_path paths read) (all_texts read)))
+debug_asked_lacks paths sources held false old =
+    ReadsTexts-any sources (λ read. WritesDebug old old (all_texts read >>= debug_of_texts held) (Err NoMemory) × (in_none ≡ place_of_run paths read NoMemory))
+    (λ read. (debug_lacks old (all_texts read >>= debug_of_texts held), lacks_place_by paths (unread_path paths read) (all_texts read)))
+
 -- a request may find no memory before it does anything
 pub Serves-lacks : (files : List ℕ → Source) (input : Source) (want : RequestOf) (explains : Bool) (old : Option (List ℕ)) → Serves files input want explains old old (Err (nowhere NoMemory))
 Serves-lacks files input joined explains old = ((Reads-any input _ (λ text. writes_lacks old _), refl), tt)
@@ -293,16 +388,8 @@ Serves-lacks files input (listing file) explains old = (Reads-any (files file) _
 Serves-lacks files input (auditing file) explains old = Reads-any (files file) _ (λ text. (audits_lacks old _, lacks_report_place file text, tt))
 Serves-lacks files input (matching lookup all) explains old = Reads-any (files lookup.file) _ (λ text. (reports_lacks old _, lacks_report_place lookup.file text, tt))
 Serves-lacks files input (explaining fault) explains old = ((Appends-nil old, refl), tt)
-Serves-lacks files input (run paths threads) explains old = (
-  ReadsTexts-any (sources_of files paths) (λ read. Runs threads old old (all_texts read >>= run_of_texts) (Err NoMemory) × (in_none ≡ place_of_run paths read NoMemory))
-      (λ read. (runs_lacks threads old (all_texts read >>= run_of_texts), lacks_place_by paths (unread_path paths read) (all_texts read))),
-  tt,
-)
-Serves-lacks files input (debug paths held) explains old = (
-  ReadsTexts-any (sources_of files paths) (λ read. WritesDebug old old (all_texts read >>= debug_of_texts held) (Err NoMemory) × (in_none ≡ place_of_run paths read NoMemory))
-      (λ read. (debug_lacks old (all_texts read >>= debug_of_texts held), lacks_place_by paths (unread_path paths read) (all_texts read))),
-  tt,
-)
+Serves-lacks files input (run paths threads is_verbose) explains old = (run_asked_lacks paths (sources_of files paths) threads is_verbose old, tt)
+Serves-lacks files input (debug paths held is_verbose) explains old = (debug_asked_lacks paths (sources_of files paths) held is_verbose old, tt)
 Serves-lacks files input (reaching question) explains old =
     Reads-any (files question.file) _ (λ plan. ReadsSome-any (option_map files question.queues) _ (λ queues. (
       reaches_lacks question explains old (plan >>= λ plan. some_text queues >>= λ queues. files_of plan queues),

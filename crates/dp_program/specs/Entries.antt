@@ -9,6 +9,8 @@ use Rattle.dp_plan.specs.declared.fault.PlanKind.{PlanKind}
 use Rattle.dp_plan.specs.declared.fault.PlanKind.TheVariants.{LeftOut}
 use Rattle.dp_plan.specs.declared.fault.Word.{Word}
 use Rattle.dp_plan.specs.declared.fault.Word.TheVariants.{Switch, IgnorePat, CallerId, IncludeTimes, Variable, Hint, OldForm, PriorityWord}
+use Rattle.dp_machine.specs.Codes.{refusal_code}
+use Rattle.dp_machine.specs.declared.refusal.Refusal.{Refusal}
 use Rattle.dp_commands.specs.Codes.{code_number}
 use Rattle.dp_commands.specs.Explained.{line_among}
 use Rattle.dp_commands.specs.declared.fault.Code.{Code}
@@ -31,6 +33,10 @@ has_entry number = is_some (found_entry number)
 -- the entry of a fault's number; of no other is one asked for
 abbrev pub entry_of : ℕ → List ℕ
 entry_of number = unwrap_or (found_entry number) []
+
+-- the entry of a refusal
+abbrev pub explanation_of : Refusal → List ℕ
+explanation_of refusal = entry_of (refusal_code refusal)
 
 -- the manual's sentence on a fault: the second line of its entry
 abbrev pub sentence_of : ℕ → List ℕ

@@ -50,8 +50,8 @@ pub data RequestOf : Type 0 where
   auditing : List ℕ → RequestOf
   matching : LookupOf → Bool → RequestOf
   explaining : ℕ → RequestOf
-  run : OfRun (List ℕ) → Option ℕ → RequestOf
-  debug : OfRun (List ℕ) → List ℕ → RequestOf
+  run : OfRun (List ℕ) → Option ℕ → Bool → RequestOf
+  debug : OfRun (List ℕ) → List ℕ → Bool → RequestOf
   reaching : QuestionOf → RequestOf
 
 -- what a request asks for
@@ -64,6 +64,6 @@ request_asked (Listing file) = listing file.now
 request_asked (Audit file) = auditing file.now
 request_asked (Match lookup all) = matching (lookup_of lookup) all
 request_asked (Explain fault) = explaining fault
-request_asked (Run files threads) = run (paths_of files) threads
-request_asked (Debug files held) = debug (paths_of files) held.now
+request_asked (Run files threads is_verbose) = run (paths_of files) threads is_verbose
+request_asked (Debug files held is_verbose) = debug (paths_of files) held.now is_verbose
 request_asked (Reach question) = reaching (question_of question)

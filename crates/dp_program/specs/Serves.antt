@@ -9,9 +9,10 @@ use Rattle.dp_commands.specs.Joined.{joined_run}
 use Rattle.dp_commands.specs.Report.{Reports, list_of, match_of}
 use Rattle.dp_commands.specs.Run.{Run, Writes, run_of}
 use Rattle.dp_commands.specs.Threads.{Shares}
+use Rattle.dp_commands.specs.Verbose.{InForce, WritesVerbose, WritesVerboseDebug, first_in_force}
 use Rattle.dp_commands.specs.declared.fault.PbxFault.{PbxFault}
 use Rattle.dp_program.specs.Checks.{both_report, check_by, queues_report}
-use Rattle.dp_program.specs.Entries.{entry_of}
+use Rattle.dp_program.specs.Entries.{entry_of, explanation_of}
 use Rattle.dp_program.specs.Faulted.{StandsIn, in_none, place_of_report, place_of_run, place_of_two, without_place}
 use Rattle.dp_program.specs.Files.{Source, Reads, has_read_failed}
 use Rattle.dp_program.specs.Hints.{Tells, TellsNothing, audit_hint_of, match_hint_of, status_in}
@@ -91,6 +92,42 @@ abbrev pub DebugsFiles : OfRun (List ℕ) → OfRun Source → List ℕ → Opti
 DebugsFiles paths sources held old new answered =
     ReadsTexts sources (λ read. WritesDebug old new (all_texts read >>= debug_of_texts held) (without_place answered) × StandsIn (place_of_run paths read) answered)
 
+-- the dialplan in force before the first event of a run, by its paths and its texts
+abbrev pub in_force_at_first : OfRun (List ℕ) → OfRun (List ℕ) → InForce
+in_force_at_first paths texts = first_in_force paths.plan paths.second_plan texts.plan
+
+-- what a verbose run of texts writes and answers, by the texts or the fault with which they were not read
+abbrev pub RunsVerbosely : OfRun (List ℕ) → Option (List ℕ) → Option (List ℕ) → Result (OfRun (List ℕ)) PbxFault → Result ℕ PbxFault → Type 0
+RunsVerbosely paths old new (Ok texts) result = WritesVerbose explanation_of (in_force_at_first paths texts) old new (run_of_texts texts) result
+RunsVerbosely paths old new (Err fault) result = Writes old new (Err fault) result
+
+-- the same of a debugged run
+abbrev pub DebugsVerbosely : OfRun (List ℕ) → List ℕ → Option (List ℕ) → Option (List ℕ) → Result (OfRun (List ℕ)) PbxFault → Result ℕ PbxFault → Type 0
+DebugsVerbosely paths held old new (Ok texts) result =
+    WritesVerboseDebug explanation_of (in_force_at_first paths texts) old new (debug_of_texts held texts) result
+DebugsVerbosely paths held old new (Err fault) result = WritesDebug old new (Err fault) result
+
+-- what a verbose run over the files of paths writes and answers, and where its fault stands
+abbrev pub RunsFilesVerbosely : OfRun (List ℕ) → OfRun Source → Option (List ℕ) → Option (List ℕ) → Result ℕ Faulted → Type 0
+RunsFilesVerbosely paths sources old new answered =
+    ReadsTexts sources (λ read. RunsVerbosely paths old new (all_texts read) (without_place answered) × StandsIn (place_of_run paths read) answered)
+
+-- the same of a debugged run
+abbrev pub DebugsFilesVerbosely : OfRun (List ℕ) → OfRun Source → List ℕ → Option (List ℕ) → Option (List ℕ) → Result ℕ Faulted → Type 0
+DebugsFilesVerbosely paths sources held old new answered =
+    ReadsTexts sources (λ read. DebugsVerbosely paths held old new (all_texts read) (without_place answered) × StandsIn (place_of_run paths read) answered)
+
+-- what a run writes and answers, in threads where their number is given, and else by whether it is verbose
+abbrev pub RunsAsked : OfRun (List ℕ) → OfRun Source → Option ℕ → Bool → Option (List ℕ) → Option (List ℕ) → Result ℕ Faulted → Type 0
+RunsAsked paths sources None true old new answered = RunsFilesVerbosely paths sources old new answered
+RunsAsked paths sources None false old new answered = RunsFiles paths sources None old new answered
+RunsAsked paths sources (Some threads) is_verbose old new answered = RunsFiles paths sources (Some threads) old new answered
+
+-- what a debugged run writes and answers, by whether it is verbose
+abbrev pub DebugsAsked : OfRun (List ℕ) → OfRun Source → List ℕ → Bool → Option (List ℕ) → Option (List ℕ) → Result ℕ Faulted → Type 0
+DebugsAsked paths sources held true old new answered = DebugsFilesVerbosely paths sources held old new answered
+DebugsAsked paths sources held false old new answered = DebugsFiles paths sources held old new answered
+
 -- what the entry of a fault writes and answers
 abbrev pub WritesEntry : ℕ → Option (List ℕ) → Option (List ℕ) → Result ℕ Faulted → Type 0
 WritesEntry fault old new answered = Reports old new (Ok (entry_of fault)) (without_place answered) × StandsIn (λ _. in_none) answered
@@ -109,8 +146,10 @@ Serves files input (listing file) explains old new answered = Quietly (ReportsOn
 Serves files input (auditing file) explains old new answered = AuditsFile file (files file) old new answered
 Serves files input (matching lookup all) explains old new answered = LooksUp lookup (files lookup.file) all explains old new answered
 Serves files input (explaining fault) explains old new answered = Quietly (WritesEntry fault old new) answered
-Serves files input (run paths threads) explains old new answered = Quietly (RunsFiles paths (sources_of files paths) threads old new) answered
-Serves files input (debug paths held) explains old new answered = Quietly (DebugsFiles paths (sources_of files paths) held old new) answered
+Serves files input (run paths threads is_verbose) explains old new answered =
+    Quietly (RunsAsked paths (sources_of files paths) threads is_verbose old new) answered
+Serves files input (debug paths held is_verbose) explains old new answered =
+    Quietly (DebugsAsked paths (sources_of files paths) held is_verbose old new) answered
 Serves files input (reaching question) explains old new answered = ReachesFiles files question explains old new answered
 
 -- whether a read of the input failed, by what was answered: only a request without a command reads it
@@ -123,6 +162,6 @@ fails_on_input (listing file) result = false
 fails_on_input (auditing file) result = false
 fails_on_input (matching lookup all) result = false
 fails_on_input (explaining fault) result = false
-fails_on_input (run paths threads) result = false
-fails_on_input (debug paths held) result = false
+fails_on_input (run paths threads is_verbose) result = false
+fails_on_input (debug paths held is_verbose) result = false
 fails_on_input (reaching question) result = false

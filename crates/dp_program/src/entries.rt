@@ -3,11 +3,12 @@ ghost use Rattle.std.specs.Prelude.{◌≡◌, ◌==◌, map, option_map, true};
 ghost use Rattle.dp_commands.specs.Codes.{code_name, code_number};
 ghost use Rattle.dp_commands.specs.declared.fault.Code.{Code};
 ghost use Rattle.dp_machine.specs.Codes.{refusal_code, refusal_name};
-ghost use Rattle.dp_machine.specs.declared.refusal.Refusal.{Refusal};
+ghost use Rattle.dp_machine.specs.declared.refusal.Refusal.{Refusal as refusals};
 ghost use Rattle.dp_program.specs.Entries as spec;
 
-use dp_commands::line_in;
+use dp_commands::{Explanations, line_in};
 use dp_conf::cut_once;
+use dp_machine::Refusal;
 use dp_plan::Word;
 use std::marker::Model;
 
@@ -522,11 +523,24 @@ impl FaultNumber {
     }
 }
 
+/// The manual's entries of the refusals, which explain them.
+pub(crate) struct ManualEntries;
+
+impl Explanations for ManualEntries {
+    ghost use Rattle.dp_program.specs.Entries.{explanation_of as entry_of_refusal};
+
+    ghost explanation_of = { entry_of_refusal };
+
+    fn explanation(refusal: Refusal) -> &'static str {
+        found_entry(u32::from(refusal.code())).unwrap_or("")
+    }
+}
+
 /// The entry of each fault, and that of each refusal of an event, begins with its number and its name, in a line of their own. It does
 /// nothing.
 pub fn entries_are_headed()
     ensures faults { (code : Code) → spec.is_headed (code_number code) (code_name code) (spec.entry_of (code_number code)) ≡ true }
-    ensures refusals { (refusal : Refusal) → spec.is_headed (refusal_code refusal) (refusal_name refusal)
+    ensures refusals { (refusal : refusals) → spec.is_headed (refusal_code refusal) (refusal_name refusal)
         (spec.entry_of (refusal_code refusal)) ≡ true }
 {}
 

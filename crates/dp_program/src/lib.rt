@@ -14,6 +14,7 @@ mod reports;
 mod request;
 mod runs;
 mod texts;
+mod verbose_runs;
 
 pub use dp_commands::{Code, FileLine, PbxFault};
 pub use entries::{FaultNumber, entries_are_headed};

@@ -14,6 +14,7 @@ use crate::reaches::serve_reach;
 use crate::reports::{Manner, serve_audit, serve_explain, serve_list, serve_match};
 use crate::request::Request;
 use crate::runs::{serve_debug, serve_joined, serve_run};
+use crate::verbose_runs::{serve_debug_verbose, serve_run_verbose};
 use dp_conf::{ReadTold, WriteTold};
 use std::alloc::Global;
 use std::sync::Wait;
@@ -66,11 +67,34 @@ pub fn serve<'a, F: ReadFiles, I: ReadTold, W: WriteTold, R: Threads + Wait + Sy
         Request::Explain { fault } => without_hint(alloc, serve_explain(*fault, output)),
         Request::Run {
             files: run,
-            threads,
-        } => without_hint(alloc, serve_run(rt, files, alloc, run, *threads, output)),
-        Request::Debug { files: run, held } => {
-            without_hint(alloc, serve_debug(files, alloc, run, held, output))
+            threads: None,
+            is_verbose: true,
+        } => without_hint(alloc, serve_run_verbose(files, alloc, run, output)),
+        Request::Run {
+            files: run,
+            threads: None,
+            is_verbose: false,
+        } => without_hint(alloc, serve_run(rt, files, alloc, run, None, output)),
+        Request::Run {
+            files: run,
+            threads: Some(threads),
+            is_verbose: _,
+        } => {
+            without_hint(
+                alloc,
+                serve_run(rt, files, alloc, run, Some(*threads), output),
+            )
         }
+        Request::Debug {
+            files: run,
+            held,
+            is_verbose: true,
+        } => without_hint(alloc, serve_debug_verbose(files, alloc, run, held, output)),
+        Request::Debug {
+            files: run,
+            held,
+            is_verbose: false,
+        } => without_hint(alloc, serve_debug(files, alloc, run, held, output)),
         Request::Reach { question } => serve_reach(files, alloc, question, explains, output),
     }
 }

@@ -1,5 +1,6 @@
 //! What the program is asked for.
 use crate::entries::FaultNumber;
+use dp_commands::PlanNames;
 use dp_plan::Priority;
 
 /// What is looked up in a dialplan: what was dialled, in the context where the call begins, and at which priority.
@@ -56,6 +57,22 @@ pub struct RunFiles<'a> {
     pub script: &'a str,
 }
 
+impl<'a> RunFiles<'a> {
+    ghost use Rattle.std.specs.Prelude.{◌≡◌};
+    ghost use Rattle.std.specs.Option.{option_map};
+
+    /// The paths of the dialplans, as a verbose run tells them.
+    pub(crate) fn plan_names(&self) -> PlanNames<'a>
+        ensures plan { result.plan.now ≡ self.now.plan.now }
+        ensures second { option_map (λ name. name.now) result.second_plan ≡ option_map (λ path. path.now) self.now.second_plan }
+    {
+        PlanNames {
+            plan: self.plan,
+            second_plan: self.second_plan,
+        }
+    }
+}
+
 /// What a command line asks for.
 #[derive(Clone, Copy, Debug, PartialEq, Eq)]
 pub enum Request<'a> {
@@ -91,17 +108,20 @@ pub enum Request<'a> {
     Explain {
         fault: FaultNumber,
     },
-    /// `run [--queues QUEUES] [--reload DIALPLAN] [--threads N] FILE SCRIPT`: to run a script on a dialplan, with the queues and beside
-    /// the second dialplan of files where these are named, and in so many threads where a number is given.
+    /// `run [--queues QUEUES] [--reload DIALPLAN] [--threads N] [--verbose] FILE SCRIPT`: to run a script on a dialplan, with the queues
+    /// and beside the second dialplan of files where these are named, and in so many threads where a number is given. A verbose run
+    /// prints more above the lines of steps and of refusals; one in threads prints the same as it would else.
     Run {
         files: RunFiles<'a>,
         threads: Option<u32>,
+        is_verbose: bool,
     },
-    /// `debug [--queues QUEUES] [--reload DIALPLAN] --break BREAK FILE SCRIPT`: to run a script on a dialplan likewise, with a halt at
-    /// each step where the break holds.
+    /// `debug [--queues QUEUES] [--reload DIALPLAN] --break BREAK [--verbose] FILE SCRIPT`: to run a script on a dialplan likewise, with
+    /// a halt at each step where the break holds.
     Debug {
         files: RunFiles<'a>,
         held: &'a str,
+        is_verbose: bool,
     },
     /// `reach [--queues QUEUES] [--start CONTEXTS] [--exten BYTES] [--caller NUMBERS] [--to TARGET] FILE CONTEXT`: to tell what a call
     /// may run that comes in at a context, or whether it may reach another.

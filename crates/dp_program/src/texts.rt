@@ -36,7 +36,8 @@ impl Texts {
 
     /// The texts, as they are given to a run.
     pub(crate) fn lend(&self) -> RunTexts<'_>
-        ensures { run_of_texts result ≡ serves.run_of_texts (texts_of self.now) }
+        ensures run { run_of_texts result ≡ serves.run_of_texts (texts_of self.now) }
+        ensures plan { result.plan.now ≡ (texts_of self.now).plan }
     {
         RunTexts {
             plan: &self.plan,

@@ -12,9 +12,10 @@ use Rattle.dp_plan.specs.declared.plan.GlobalVariable.{GlobalVariable}
 use Rattle.dp_queue.specs.Queues.{QueuesOf}
 use Rattle.dp_vars.proofs.VariablesLemmas.{get-texts}
 use Rattle.dp_vars.specs.Sights.{channel_map, given_by}
+use Rattle.dp_vars.specs.Values.{standard_functions}
 use Rattle.dp_vars.specs.Variables.{Named, first_value, value_or_empty}
 use Rattle.dp_app.specs.Lawful.{IsLawful}
-use Rattle.dp_app.specs.Rows.{Rows}
+use Rattle.dp_app.specs.Rows.{Rows, with_standard_functions}
 use Rattle.dp_app.specs.declared.touch.Touch.{Touch}
 use Rattle.dp_machine.specs.Events.{Entered, event_row, new_channel, start_call}
 use Rattle.dp_machine.specs.Replay.{final_world, world_after}
@@ -22,7 +23,7 @@ use Rattle.dp_machine.specs.Seen.{global_value, globals_of, globals_set, none_wa
 use Rattle.dp_machine.specs.World.{World, channel_at, most_channels, opening}
 use Rattle.dp_machine.specs.declared.channel.Channel.{Channel}
 use Rattle.dp_machine.specs.declared.event.Event.{Event}
-use Rattle.dp_machine.specs.declared.event.Event.TheVariants.{Start, Step, Digit, Timeout, Poll, Hangup, DialResult, Offer, Answer, Decline, AgentDone, Reload}
+use Rattle.dp_machine.specs.declared.event.Event.TheVariants.{Start, Step, Digit, Timeout, Poll, Hangup, DialResult, Offer, Answer, Decline, AgentDone, Reload, Assign, Redirect}
 use Rattle.dp_machine.specs.declared.reply.Reply.TheVariants.{Refused, Started}
 use Rattle.dp_machine.specs.declared.refusal.Refusal.TheVariants.{NumbersSpent}
 use Rattle.dp_pieces.specs.Bytes.{Bytes, IsPart, Within}
@@ -90,13 +91,13 @@ seen-globals names whole waiting globals held = record {
 
 globals-held : (names : Names) → IsWhole names → (waiting : List ℕ → ℕ) (globals : Named) (variables : List GlobalVariable) → AreHeld names globals
     → AllByRecursion (λ (variable : GlobalVariable). IsPart (text_set (names_outside names) variable.value) (names.bytes variable.name)) variables
-    → AreHeld names (globals_set waiting globals variables)
+    → AreHeld names (globals_set standard_functions waiting globals variables)
 unfolding global_value
 globals-held names whole waiting globals [] held all = held
 globals-held names whole waiting globals (variable ∷ variables) held all =
-    globals-held names whole waiting (with_global waiting globals variable) variables
-    (held-insert names globals variable.name (global_value waiting globals variable.value) held
-    (within-more (text_set (names_outside names) variable.value) _ all.0 (global_value waiting globals variable.value)
+    globals-held names whole waiting (with_global standard_functions waiting globals variable) variables
+    (held-insert names globals variable.name (global_value standard_functions waiting globals variable.value) held
+    (within-more (text_set (names_outside names) variable.value) _ all.0 (global_value standard_functions waiting globals variable.value)
     (within-expansion (names_outside names) (sight_of_globals waiting globals) (seen-globals names whole waiting globals held) variable.value)))
     all.1
 
@@ -117,6 +118,8 @@ module _ (touches : List ℕ → Touch) (rows : Rows) (lawful : IsLawful touches
   allowed-one (Decline agent) is = tt
   allowed-one (AgentDone agent) is = tt
   allowed-one (Reload text) is = is
+  allowed-one (Assign channel name value) is = is
+  allowed-one (Redirect number place) is = is
 
   allowed-all : (events : List Event) → AllByRecursion (IsFromOutside outside) events → AreAllowed claim events
   allowed-all [] all = tt
@@ -134,10 +137,10 @@ module _ (touches : List ℕ → Touch) (rows : Rows) (lawful : IsLawful touches
       none number c true is = absurd cc
       none number c false is = absurd cc
 
-  worlds-in : (w : World) (events : List Event) → IsWorldIn claim w → AreAllowed claim events → IsWorldIn claim (world_after rows w events)
+  worlds-in : (w : World) (events : List Event) → IsWorldIn claim w → AreAllowed claim events → IsWorldIn claim (world_after (with_standard_functions rows) w events)
   worlds-in w [] world allowed = world
   worlds-in w (event ∷ events) world allowed =
-      worlds-in (final_world rows w event) events (world-more touches rows lawful duties bounded claim others audit.all w event world allowed.0) allowed.1
+      worlds-in (final_world (with_standard_functions rows) w event) events (world-more touches rows lawful duties bounded claim others audit.all w event world allowed.0) allowed.1
 
   -- the number of the channel that comes in
   record ComesIn (channels : List Channel) (number : ℕ) : Type 0 where
@@ -159,7 +162,7 @@ module _ (touches : List ℕ → Touch) (rows : Rows) (lawful : IsLawful touches
       by n e false is = is
 
   comes-in : (w : World) (exten caller : List ℕ) (number : ℕ) → Within outside.exten exten → Within outside.caller caller
-      → (event_row rows w (Start context exten caller)).1 ≡ Started number → ComesIn (final_world rows w (Start context exten caller)).channels number
+      → (event_row (with_standard_functions rows) w (Start context exten caller)).1 ≡ Started number → ComesIn (final_world (with_standard_functions rows) w (Start context exten caller)).channels number
   unfolding start_call
   comes-in w exten caller number within is reply = by (nat_lt (length w.channels) most_channels) reply
     where
@@ -177,11 +180,11 @@ module _ (touches : List ℕ → Touch) (rows : Rows) (lawful : IsLawful touches
 
   pub runs-only : RunsOnly rows outside context claim.plan claim.settings answers
   runs-only queues before later exten caller number settings all reply =
-      let w : World = world_after rows (opening claim.plan queues) before in
+      let w : World = world_after (with_standard_functions rows) (opening claim.plan queues) before in
       let first = each-front (IsFromOutside outside) before (Start context exten caller ∷ later) all in
       let rest = each-rest (IsFromOutside outside) before (Start context exten caller ∷ later) all in
       let world = worlds-in (opening claim.plan queues) before (opens-in queues settings) (allowed-all before first) in
       let comes = comes-in w exten caller number rest.0.1 rest.0.2 reply in
-      stays-within touches rows lawful duties bounded claim others audit.all reach answers audit.own number (final_world rows w (Start context exten caller)) later
+      stays-within touches rows lawful duties bounded claim others audit.all reach answers audit.own number (final_world (with_standard_functions rows) w (Start context exten caller)) later
       (world-more touches rows lawful duties bounded claim others audit.all w (Start context exten caller) world (allowed-one (Start context exten caller) rest.0))
       comes.channel comes.known (allowed-all later rest.1)

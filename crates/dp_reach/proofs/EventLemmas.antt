@@ -5,7 +5,7 @@ use Rattle.dp_pattern.specs.Matches.{Matches}
 use Rattle.dp_pattern.specs.Name.{Meaning}
 use Rattle.dp_plan.specs.declared.entry.EntryId.{EntryId}
 use Rattle.dp_queue.specs.Joining.{should_leave}
-use Rattle.dp_vars.specs.Values.{expansion}
+use Rattle.dp_vars.specs.Values.{expansion, standard_functions}
 use Rattle.dp_machine.specs.Channels.{invalid, is_invalid, hung_up, ready_at}
 use Rattle.dp_machine.specs.Events.{Own, application_outcome, cell_of, dial_in, dial_result_in, dial_result_row, dial_time, digit_row, hang_up_in, hang_up_row, is_digit, is_over, leave, poll_in, poll_queue, poll_row, after_run, refuse, step_at, step_in, step_row, take_event, time_in_queue, timeout_in, timeout_row, unfound, way_out, way_out_of, without_caller, without_talk}
 use Rattle.dp_machine.specs.Found.{Located, could_go_on, entry_found, is_found}
@@ -19,7 +19,7 @@ use Rattle.dp_machine.specs.declared.reply.Reply.{Reply}
 use Rattle.dp_machine.specs.declared.reply.Reply.TheVariants.{Started, Ran, Invalid, NoEntry, Offered, Done, Refused}
 use Rattle.dp_machine.specs.declared.shared_state.SharedState.{SharedState}
 use Rattle.dp_app.specs.Lawful.{IsLawful}
-use Rattle.dp_app.specs.Rows.{Row, Rows, after_dispatch}
+use Rattle.dp_app.specs.Rows.{Row, Rows, after_dispatch, with_standard_functions}
 use Rattle.dp_app.specs.Cells.{CellOf}
 use Rattle.dp_app.specs.declared.phase.Phase.{Phase}
 use Rattle.dp_app.specs.declared.phase.Phase.TheVariants.{Ready, Digits, Pause, Queued, Talking, Dialling, Ended}
@@ -108,7 +108,7 @@ module _ (touches : List ℕ → Touch) (rows : Rows) (lawful : IsLawful touches
   -- a step by an entry
   own-after_run : (shared : SharedState) (number : ℕ) (c : Channel) → IsSharedIn claim shared → IsChannelIn claim c → (found : Located) → entry_found claim.plan c.place ≡ Some found
       → (o : Option Row) → rows found.entry.application ≡ o
-      → IsOwnIn claim answers (after_run claim.plan found.id (application_outcome c (after_dispatch o (arguments_seen shared number c found.entry.arguments) (cell_of shared number c))))
+      → IsOwnIn claim answers (after_run claim.plan found.id (application_outcome c (after_dispatch o (arguments_seen standard_functions shared number c found.entry.arguments) (cell_of shared number c))))
   unfolding arguments_seen
   own-after_run shared number c all here found from None is =
       record { channel = in-hung_up duties claim answers closed c here; shared = all; reply = (run-of c here found from).entry.answer }
@@ -129,15 +129,15 @@ module _ (touches : List ℕ → Touch) (rows : Rows) (lawful : IsLawful touches
       }
 
   own-step_at : (shared : SharedState) (number : ℕ) (c : Channel) → IsSharedIn claim shared → IsChannelIn claim c → (o : Option Located) → entry_found claim.plan c.place ≡ o
-      → IsOwnIn claim answers (step_at rows claim.plan shared number c o)
+      → IsOwnIn claim answers (step_at (with_standard_functions rows) claim.plan shared number c o)
   own-step_at shared number c all here None from = own-unfound shared c all here
   own-step_at shared number c all here (Some found) from = own-after_run shared number c all here found from (rows found.entry.application) refl
 
-  pub own-step : (shared : SharedState) (number : ℕ) (c : Channel) → IsSharedIn claim shared → IsChannelIn claim c → IsOwnIn claim answers (step_row rows claim.plan shared number c)
+  pub own-step : (shared : SharedState) (number : ℕ) (c : Channel) → IsSharedIn claim shared → IsChannelIn claim c → IsOwnIn claim answers (step_row (with_standard_functions rows) claim.plan shared number c)
   unfolding step_row
   own-step shared number c all here = by c.phase
     where
-      by : (phase : Phase) → IsOwnIn claim answers (step_in rows phase claim.plan shared number c)
+      by : (phase : Phase) → IsOwnIn claim answers (step_in (with_standard_functions rows) phase claim.plan shared number c)
       by Ready = own-step_at shared number c all here (entry_found claim.plan c.place) refl
       by (Digits digits is_background) = own-refused NotReady shared c all here
       by Pause = own-refused NotReady shared c all here

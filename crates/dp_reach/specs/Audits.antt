@@ -6,12 +6,12 @@ use Rattle.dp_plan.specs.declared.entry.EntryId.{EntryId}
 use Rattle.dp_plan.specs.declared.plan.GlobalVariable.{GlobalVariable}
 use Rattle.dp_queue.specs.Queues.{QueuesOf}
 use Rattle.dp_queue.specs.declared.settings.Settings.{Settings}
-use Rattle.dp_app.specs.Rows.{Rows}
+use Rattle.dp_app.specs.Rows.{Rows, with_standard_functions}
 use Rattle.dp_machine.specs.Events.{event_row}
 use Rattle.dp_machine.specs.Replay.{final_world, world_after}
 use Rattle.dp_machine.specs.World.{opening}
 use Rattle.dp_machine.specs.declared.event.Event.{Event}
-use Rattle.dp_machine.specs.declared.event.Event.TheVariants.{Start, Step, Digit, Timeout, Poll, Hangup, DialResult, Offer, Answer, Decline, AgentDone, Reload}
+use Rattle.dp_machine.specs.declared.event.Event.TheVariants.{Start, Step, Digit, Timeout, Poll, Hangup, DialResult, Offer, Answer, Decline, AgentDone, Reload, Assign, Redirect}
 use Rattle.dp_machine.specs.declared.reply.Reply.TheVariants.{Started}
 use Rattle.dp_reach.specs.Areas.{Area, Includes, area_at}
 use Rattle.dp_reach.specs.Bounds.{Duties}
@@ -33,7 +33,7 @@ abbrev pub IsOneOf : List (List ℕ) → List ℕ → Type 0
 IsOneOf [] text = ⊥
 IsOneOf (name ∷ names) text = (text ≡ name) ⊎ IsOneOf names text
 
--- an event in which no call comes in but such, and in which no other dialplan is loaded
+-- an event in which no call comes in but such, no other dialplan is loaded, and nothing is set and no channel sent from outside
 abbrev pub IsFromOutside : Outside → Event → Type 0
 IsFromOutside outside (Start context exten caller) = IsOneOf outside.contexts context × Within outside.exten exten × Within outside.caller caller
 IsFromOutside outside (Step number) = Unit {0}
@@ -47,6 +47,8 @@ IsFromOutside outside (Answer agent) = Unit {0}
 IsFromOutside outside (Decline agent) = Unit {0}
 IsFromOutside outside (AgentDone agent) = Unit {0}
 IsFromOutside outside (Reload text) = ⊥
+IsFromOutside outside (Assign channel name value) = ⊥
+IsFromOutside outside (Redirect number place) = ⊥
 
 -- where such a call comes in
 abbrev pub entrance : Outside → List ℕ → Area
@@ -70,5 +72,5 @@ abbrev pub RunsOnly : Rows → Outside → List ℕ → PlanOf → List Settings
 RunsOnly rows outside context plan settings answers = (queues : QueuesOf) (before later : List Event) (exten caller : List ℕ) (number : ℕ)
     → map (λ queue. queue.settings) queues.queues ≡ settings
     → AllByRecursion (IsFromOutside outside) (before ++ Start context exten caller ∷ later)
-    → (event_row rows (world_after rows (opening plan queues) before) (Start context exten caller)).1 ≡ Started number
-    → RunsWithin rows answers number (final_world rows (world_after rows (opening plan queues) before) (Start context exten caller)) later
+    → (event_row (with_standard_functions rows) (world_after (with_standard_functions rows) (opening plan queues) before) (Start context exten caller)).1 ≡ Started number
+    → RunsWithin rows answers number (final_world (with_standard_functions rows) (world_after (with_standard_functions rows) (opening plan queues) before) (Start context exten caller)) later

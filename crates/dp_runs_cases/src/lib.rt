@@ -7,3 +7,5 @@
 mod runs;
 #[cfg(test)]
 mod threads;
+#[cfg(test)]
+mod verbose;

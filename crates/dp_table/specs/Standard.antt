@@ -2,7 +2,7 @@
 use Rattle.std.specs.Prelude.{ℕ, List, [], codes}
 use Rattle.dp_app.specs.Lawful.{IsBlind, IsLawful, IsLawfulRow}
 use Rattle.dp_app.specs.Listed.{Listed, with_listed}
-use Rattle.dp_app.specs.Rows.{Row, Rows}
+use Rattle.dp_app.specs.Rows.{Meanings, Row, Rows, with_standard_functions}
 use Rattle.dp_app.specs.Tables.{no_rows, no_rows_blind, no_rows_lawful, no_touch, with_row, with_row_blind, with_row_lawful, with_touch}
 use Rattle.dp_app.specs.declared.touch.Touch.{Touch}
 use Rattle.dp_flow.specs.Dialling.{dial_row}
@@ -69,6 +69,10 @@ standard_table =
 -- the row of each of its names
 abbrev pub standard_rows : Rows
 standard_rows = standard_table.rows
+
+-- these rows, with the functions of this program
+abbrev pub standard_meanings : Meanings
+standard_meanings = with_standard_functions standard_rows
 
 -- what the application of each of its names may change
 abbrev pub standard_touches : List ℕ → Touch

@@ -8,6 +8,7 @@ use dp_flow::{
     StackPop, Verbose, Wait, WaitExten,
 };
 use dp_qapps::{AddQueueMember, PauseQueueMember, Queue, RemoveQueueMember, UnpauseQueueMember};
+use dp_vars::StandardFunctions;
 use std::alloc::Global;
 
 /// The applications that add, remove and pause the members of queues.
@@ -41,6 +42,8 @@ impl AppTable for StandardApps {
     ghost lawful = { standard_lawful };
 
     ghost blind = { standard_blind };
+
+    type Functions = StandardFunctions;
 
     #[tactic(auto, unfolding(crate::specs::Standard::standard_table))]
     fn number_of(name: &[u8]) -> Option<AppNumber> {

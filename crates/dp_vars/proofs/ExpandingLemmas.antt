@@ -8,11 +8,13 @@ use Rattle.dp_conf.specs.declared.groups.Mark.{Mark}
 use Rattle.dp_conf.specs.declared.groups.Mark.TheVariants.{End, Opening, Byte}
 use Rattle.dp_conf.specs.Groups.{Over, opener}
 use Rattle.dp_conf.specs.GroupsRead.{Levels, Last, Within, with_byte, with_opening, with_mark, levels, outer_of}
+use Rattle.dp_vars.specs.Functions.{FunctionTable}
 use Rattle.dp_vars.specs.Sights.{Sight}
 use Rattle.dp_conf.specs.Levels.{cut_outside}
 use Rattle.dp_conf.specs.declared.groups.GroupKind.TheVariants.{Braces, Brackets}
 use Rattle.dp_expr.specs.Expression.{expression_value}
-use Rattle.dp_vars.specs.Values.{group_value, body_by, expansion_of, expansion}
+use Rattle.dp_vars.specs.Unknown.{unknown_body, unknown_group}
+use Rattle.dp_vars.specs.Values.{group_value_with, body_by_with, expansion_of_with, expansion_with}
 use Rattle.dp_vars.specs.Expanding.{Written, with_value, after_group, after}
 use Rattle.dp_vars.specs.steps.Expanding.{kinds_of, StandIn, AreWritten}
 use Rattle.dp_vars.specs.declared.expanding.WaitingOpening.{WaitingOpening}
@@ -22,90 +24,97 @@ pub StandIn-more : (waiting : List WaitingOpening) (size more : ℕ) → size �
 StandIn-more [] size more larger stand = tt
 StandIn-more (w ∷ waiting) size more larger stand = (omega (arith, stand.0), stand.1)
 
-module _ (sight : Sight) where
+module _ (functions : FunctionTable) (sight : Sight) where
   -- a group in braces, whose value is put in its place
   pub put-braces : (start : ℕ) (old cut new value body : List ℕ) → new ≡ cut ++ value → cut ≡ take start old
-      → value ≡ body_by sight body (cut_outside 58 body) → body ≡ drop (start + 2) old
-      → new ≡ take start old ++ group_value sight Braces (drop (start + 2) old)
-  unfolding group_value
+      → value ≡ body_by_with functions sight body (cut_outside 58 body) → body ≡ drop (start + 2) old
+      → new ≡ take start old ++ group_value_with functions sight Braces (drop (start + 2) old)
+  unfolding group_value_with
   put-braces start old cut new value body put kept is from =
-      put ∙ (λ i. kept i ++ (is ∙ ap (λ b. body_by sight b (cut_outside 58 b)) from) i)
+      put ∙ (λ i. kept i ++ (is ∙ ap (λ b. body_by_with functions sight b (cut_outside 58 b)) from) i)
+
+  -- the call in braces that is not known
+  pub put-unknown : (start : ℕ) (old call body : List ℕ) → call ≡ unknown_body functions sight body (cut_outside 58 body) → body ≡ drop (start + 2) old
+      → call ≡ unknown_group functions sight Braces (drop (start + 2) old)
+  unfolding unknown_group
+  put-unknown start old call body is from = is ∙ ap (λ b. unknown_body functions sight b (cut_outside 58 b)) from
 
   -- a group in brackets, whose value is put in its place
   pub put-brackets : (start : ℕ) (old cut new value body : List ℕ) → new ≡ cut ++ value → cut ≡ take start old
       → value ≡ expression_value body → body ≡ drop (start + 2) old
-      → new ≡ take start old ++ group_value sight Brackets (drop (start + 2) old)
-  unfolding group_value
+      → new ≡ take start old ++ group_value_with functions sight Brackets (drop (start + 2) old)
+  unfolding group_value_with
   put-brackets start old cut new value body put kept is from =
       put ∙ (λ i. kept i ++ (is ∙ ap expression_value from) i)
 
   -- the expansion of the whole, by what is written, the openings that wait in it, and the levels after
   abbrev pub come : List WaitingOpening → List ℕ → Levels → List ℕ
-  come waiting bytes (Last rest) = bytes ++ expansion_of sight rest
-  come [] bytes (Within rest outer) = come [] (bytes ++ expansion_of sight rest) outer
-  come (w ∷ waiting) bytes (Within rest outer) = come waiting (with_value sight w (bytes ++ expansion_of sight rest)) outer
+  come waiting bytes (Last rest) = bytes ++ expansion_of_with functions sight rest
+  come [] bytes (Within rest outer) = come [] (bytes ++ expansion_of_with functions sight rest) outer
+  come (w ∷ waiting) bytes (Within rest outer) = come waiting (with_value functions sight w (bytes ++ expansion_of_with functions sight rest)) outer
 
   come-with_byte : (waiting : List WaitingOpening) (bytes : List ℕ) (byte : ℕ) (l : Levels) → come waiting (bytes ++ byte ∷ []) l ≡ come waiting bytes (with_byte byte l)
-  unfolding expansion_of
-  come-with_byte waiting bytes byte (Last rest) = append_assoc bytes (byte ∷ []) (expansion_of sight rest)
-  come-with_byte [] bytes byte (Within rest outer) = ap (λ bs. come [] bs outer) (append_assoc bytes (byte ∷ []) (expansion_of sight rest))
+  unfolding expansion_of_with
+  come-with_byte waiting bytes byte (Last rest) = append_assoc bytes (byte ∷ []) (expansion_of_with functions sight rest)
+  come-with_byte [] bytes byte (Within rest outer) = ap (λ bs. come [] bs outer) (append_assoc bytes (byte ∷ []) (expansion_of_with functions sight rest))
   come-with_byte (w ∷ waiting) bytes byte (Within rest outer) =
-      ap (λ bs. come waiting (with_value sight w bs) outer) (append_assoc bytes (byte ∷ []) (expansion_of sight rest))
+      ap (λ bs. come waiting (with_value functions sight w bs) outer) (append_assoc bytes (byte ∷ []) (expansion_of_with functions sight rest))
 
   -- a group whose opening is written last
   pub value_at_end : (bytes body : List ℕ) (kind : GroupKind)
-      → with_value sight (record { kind = kind; start = length bytes }) ((bytes ++ 36 ∷ opener kind ∷ []) ++ body) ≡ bytes ++ group_value sight kind body
+      → with_value functions sight (record { kind = kind; start = length bytes }) ((bytes ++ 36 ∷ opener kind ∷ []) ++ body) ≡ bytes ++ group_value_with functions sight kind body
   value_at_end bytes body kind =
-      ap (with_value sight (record { kind = kind; start = length bytes })) (append_assoc bytes (36 ∷ opener kind ∷ []) body)
-      ∙ (λ i. take-append_seam bytes (36 ∷ opener kind ∷ body) i ++ group_value sight kind (drop-append-add bytes (36 ∷ opener kind ∷ body) 2 i))
+      ap (with_value functions sight (record { kind = kind; start = length bytes })) (append_assoc bytes (36 ∷ opener kind ∷ []) body)
+      ∙ (λ i. take-append_seam bytes (36 ∷ opener kind ∷ body) i ++ group_value_with functions sight kind (drop-append-add bytes (36 ∷ opener kind ∷ body) 2 i))
 
   come-with_opening : (waiting : List WaitingOpening) (bytes : List ℕ) (kind : GroupKind) (l : Levels)
       → come (record { kind = kind; start = length bytes } ∷ waiting) (bytes ++ 36 ∷ opener kind ∷ []) l ≡ come waiting bytes (with_opening kind l)
-  unfolding expansion_of
-  come-with_opening waiting bytes kind (Last rest) = append_assoc bytes (36 ∷ opener kind ∷ []) (expansion_of sight rest)
+  unfolding expansion_of_with
+  come-with_opening waiting bytes kind (Last rest) = append_assoc bytes (36 ∷ opener kind ∷ []) (expansion_of_with functions sight rest)
   come-with_opening waiting bytes kind (Within inside (Last rest)) =
-      ap (λ bs. bs ++ expansion_of sight rest) (value_at_end bytes (expansion_of sight inside) kind)
-      ∙ append_assoc bytes (group_value sight kind (expansion_of sight inside)) (expansion_of sight rest)
+      ap (λ bs. bs ++ expansion_of_with functions sight rest) (value_at_end bytes (expansion_of_with functions sight inside) kind)
+      ∙ append_assoc bytes (group_value_with functions sight kind (expansion_of_with functions sight inside)) (expansion_of_with functions sight rest)
   come-with_opening [] bytes kind (Within inside (Within rest outer)) =
-      ap (λ bs. come [] (bs ++ expansion_of sight rest) outer) (value_at_end bytes (expansion_of sight inside) kind)
-      ∙ ap (λ bs. come [] bs outer) (append_assoc bytes (group_value sight kind (expansion_of sight inside)) (expansion_of sight rest))
+      ap (λ bs. come [] (bs ++ expansion_of_with functions sight rest) outer) (value_at_end bytes (expansion_of_with functions sight inside) kind)
+      ∙ ap (λ bs. come [] bs outer) (append_assoc bytes (group_value_with functions sight kind (expansion_of_with functions sight inside)) (expansion_of_with functions sight rest))
   come-with_opening (w ∷ waiting) bytes kind (Within inside (Within rest outer)) =
-      ap (λ bs. come waiting (with_value sight w (bs ++ expansion_of sight rest)) outer) (value_at_end bytes (expansion_of sight inside) kind)
-      ∙ ap (λ bs. come waiting (with_value sight w bs) outer) (append_assoc bytes (group_value sight kind (expansion_of sight inside)) (expansion_of sight rest))
+      ap (λ bs. come waiting (with_value functions sight w (bs ++ expansion_of_with functions sight rest)) outer) (value_at_end bytes (expansion_of_with functions sight inside) kind)
+      ∙ ap (λ bs. come waiting (with_value functions sight w bs) outer) (append_assoc bytes (group_value_with functions sight kind (expansion_of_with functions sight inside)) (expansion_of_with functions sight rest))
 
-  come-end : (waiting : List WaitingOpening) (bytes : List ℕ) (beyond : List GroupKind → ℕ → Levels)
-      → come (after_group sight waiting bytes).waiting (after_group sight waiting bytes).bytes (beyond (kinds_of (after_group sight waiting bytes).waiting) 0)
+  come-end : (waiting : List WaitingOpening) (bytes unknown : List ℕ) (beyond : List GroupKind → ℕ → Levels)
+      → come (after_group functions sight waiting bytes unknown).waiting (after_group functions sight waiting bytes unknown).bytes
+      (beyond (kinds_of (after_group functions sight waiting bytes unknown).waiting) 0)
       ≡ come waiting bytes (Within Over (beyond (outer_of (kinds_of waiting)) 0))
-  unfolding expansion_of
-  come-end [] bytes beyond = ap (λ bs. come [] bs (beyond [] 0)) (sym (append-nil bytes))
-  come-end (w ∷ waiting) bytes beyond = ap (λ bs. come waiting (with_value sight w bs) (beyond (kinds_of waiting) 0)) (sym (append-nil bytes))
+  unfolding expansion_of_with
+  come-end [] bytes unknown beyond = ap (λ bs. come [] bs (beyond [] 0)) (sym (append-nil bytes))
+  come-end (w ∷ waiting) bytes unknown beyond = ap (λ bs. come waiting (with_value functions sight w bs) (beyond (kinds_of waiting) 0)) (sym (append-nil bytes))
 
   -- a mark changes nothing of what all comes to
   pub come-mark : (m : Mark) (written : Written) (beyond : List GroupKind → ℕ → Levels)
-      → come (after sight m written).waiting (after sight m written).bytes (beyond (kinds_of (after sight m written).waiting) 0)
+      → come (after functions sight m written).waiting (after functions sight m written).bytes (beyond (kinds_of (after functions sight m written).waiting) 0)
       ≡ come written.waiting written.bytes (with_mark m beyond 0 (kinds_of written.waiting))
-  come-mark End written beyond = come-end written.waiting written.bytes beyond
+  come-mark End written beyond = come-end written.waiting written.bytes written.unknown beyond
   come-mark (Opening kind) written beyond = come-with_opening written.waiting written.bytes kind (beyond (kind ∷ kinds_of written.waiting) 0)
   come-mark (Byte byte) written beyond = come-with_byte written.waiting written.bytes byte (beyond (kinds_of written.waiting) 0)
 
   -- nothing is left
   pub come-over : (waiting : List WaitingOpening) (bytes : List ℕ) → come waiting bytes (levels [] (kinds_of waiting) 0) ≡ bytes
-  unfolding levels expansion_of
+  unfolding levels expansion_of_with
   come-over waiting bytes = append-nil bytes
 
   -- nothing is read yet
-  pub come-text : (text : List ℕ) → come [] [] (levels text [] 0) ≡ expansion sight text
+  pub come-text : (text : List ℕ) → come [] [] (levels text [] 0) ≡ expansion_with functions sight text
   come-text text = ap (come [] []) (levels-last text)
 
   -- the openings that wait stand in what is written
-  pub AreWritten-after : (m : Mark) (written : Written) → AreWritten written → AreWritten (after sight m written)
+  pub AreWritten-after : (m : Mark) (written : Written) → AreWritten written → AreWritten (after functions sight m written)
   AreWritten-after End written stand = by written.waiting stand
     where
-      by : (ws : List WaitingOpening) → StandIn ws (length written.bytes) → AreWritten (after_group sight ws written.bytes)
+      by : (ws : List WaitingOpening) → StandIn ws (length written.bytes) → AreWritten (after_group functions sight ws written.bytes written.unknown)
       by [] stand = tt
       by (w ∷ ws) stand =
-          StandIn-more ws w.start (length (with_value sight w written.bytes))
-          (omega (arith, stand.0, length-append (take w.start written.bytes) (group_value sight w.kind (drop (w.start + 2) written.bytes)), length-take w.start written.bytes)) stand.1
+          StandIn-more ws w.start (length (with_value functions sight w written.bytes))
+          (omega (arith, stand.0, length-append (take w.start written.bytes) (group_value_with functions sight w.kind (drop (w.start + 2) written.bytes)), length-take w.start written.bytes)) stand.1
   AreWritten-after (Opening kind) written stand = (omega (arith, length-append written.bytes (36 ∷ opener kind ∷ [])), stand)
   AreWritten-after (Byte byte) written stand =
       StandIn-more written.waiting (length written.bytes) (length (written.bytes ++ byte ∷ [])) (omega (arith, length-append written.bytes (byte ∷ []))) stand

@@ -12,15 +12,21 @@ use Rattle.dp_conf.specs.declared.groups.GroupKind.TheVariants.{Braces}
 use Rattle.dp_vars.specs.Far.{asked_at_most}
 use Rattle.dp_vars.specs.Heads.{head_seen, part_seen}
 use Rattle.dp_vars.specs.Parts.{asked_of, part}
+use Rattle.dp_vars.specs.Functions.{FunctionTable}
 use Rattle.dp_vars.specs.Sights.{Sight}
 use Rattle.dp_vars.specs.Spans.{text_at}
 use Rattle.dp_vars.specs.steps.Spans.{front_of, after_of}
-use Rattle.dp_vars.specs.Values.{call_argument, head_by, head_value, body_by, group_value, function_of, function_value}
+use Rattle.dp_vars.specs.Expanding.{Written}
+use Rattle.dp_vars.specs.Pieces.{with_cut, with_found, with_head}
+use Rattle.dp_vars.specs.steps.Pieces.{with_group}
+use Rattle.dp_vars.specs.Unknown.{no_variables, unknown_body, unknown_calls, unknown_group, unknown_head}
+use Rattle.dp_vars.specs.Values.{call_argument_with, head_by_with, head_value_with, body_by_with, group_value_with, function_of}
 use Rattle.dp_vars.specs.declared.head.CutPart.{CutPart}
 use Rattle.dp_vars.specs.declared.head.Head.{Head}
-use Rattle.dp_vars.specs.declared.head.Head.TheVariants.{Call}
+use Rattle.dp_vars.specs.declared.head.Head.TheVariants.{Call, Other}
 use Rattle.dp_vars.specs.declared.value.Function.{Function}
 use Rattle.dp_vars.specs.declared.span.Span.{Span}
+use Rattle.dp_vars.proofs.FunctionsLemmas.{name-of}
 use Rattle.dp_vars.proofs.PartsLemmas.{part-at_most}
 
 -- ---- parts of what stands at a place
@@ -125,29 +131,44 @@ before_last-front byte (b ∷ bs) front is = by (before_last byte bs) (before_la
 
 -- ---- heads
 
-module _ (sight : Sight) (text : List ℕ) where
-  -- a function, by its name and by what stands after the `(`
+module _ (functions : FunctionTable) (sight : Sight) (text : List ℕ) where
+  -- the argument of a call, by where it stands
+  argument-seen : (name argument : List ℕ) (after : Span) → Some argument ≡ before_last 41 (text_at text after)
+      → functions.value sight name (text_at text (front_of after (length argument))) ≡ call_argument_with functions sight name (before_last 41 (text_at text after))
+  argument-seen name argument after argument_is =
+      ap (functions.value sight name)
+      (text_at-front text after (length argument) ∙ before_last-front 41 (text_at text after) argument (sym argument_is))
+      ∙ ap (call_argument_with functions sight name) argument_is
+
+  -- one of the five functions, by its name and by what stands after the `(`
   pub call-seen : (function : Function) (name argument : List ℕ) (after : Span) → Some function ≡ function_of name
       → Some argument ≡ before_last 41 (text_at text after)
-      → head_seen sight text (Call function (front_of after (length argument))) ≡ call_argument sight name (before_last 41 (text_at text after))
+      → head_seen functions sight text (Call function (front_of after (length argument))) ≡ call_argument_with functions sight name (before_last 41 (text_at text after))
   call-seen function name argument after function_is argument_is =
-      ap (function_value sight (Some function))
-      (text_at-front text after (length argument) ∙ before_last-front 41 (text_at text after) argument (sym argument_is))
-      ∙ ap (λ f. function_value sight f argument) function_is
-      ∙ ap (call_argument sight name) argument_is
+      ap (λ n. functions.value sight n (text_at text (front_of after (length argument)))) (name-of name function (sym function_is))
+      ∙ argument-seen name argument after argument_is
 
-  pub name-seen : (place : Span) → cut_once 40 (text_at text place) ≡ None → sight.variable (text_at text place) ≡ head_value sight (text_at text place)
-  unfolding head_value
-  name-seen place none = ap (head_by sight (text_at text place)) (sym none)
+  -- another function, by where its name and its argument stand
+  pub other-seen : (name : Span) (argument : List ℕ) (after : Span) → Some argument ≡ before_last 41 (text_at text after)
+      → head_seen functions sight text (Other name (front_of after (length argument)))
+      ≡ call_argument_with functions sight (text_at text name) (before_last 41 (text_at text after))
+  other-seen name argument after argument_is = argument-seen (text_at text name) argument after argument_is
+
+  pub name-seen : (place : Span) → cut_once 40 (text_at text place) ≡ None → sight.variable (text_at text place) ≡ head_value_with functions sight (text_at text place)
+  unfolding head_value_with
+  name-seen place none = ap (head_by_with functions sight (text_at text place)) (sym none)
 
   pub head-seen : (place : Span) (name after : List ℕ) (head : Head) → cut_once 40 (text_at text place) ≡ Some (name, after)
-      → head_seen sight text head ≡ call_argument sight name (before_last 41 (text_at text (after_of place (length (text_at text place) - length after))))
-      → head_seen sight text head ≡ head_value sight (text_at text place)
-  unfolding head_value
+      → head_seen functions sight text head ≡ call_argument_with functions sight (text_at text (front_of place (length name)))
+      (before_last 41 (text_at text (after_of place (length (text_at text place) - length after))))
+      → head_seen functions sight text head ≡ head_value_with functions sight (text_at text place)
+  unfolding head_value_with
   head-seen place name after head cut is =
-      is ∙ ap (λ bytes. call_argument sight name (before_last 41 bytes))
-      (text_at-after text place (length (text_at text place) - length after) ∙ (cut_once-parts 40 (text_at text place) name after cut).back)
-      ∙ ap (head_by sight (text_at text place)) (sym cut)
+      let parts = cut_once-parts 40 (text_at text place) name after cut in
+      is
+      ∙ (λ i. call_argument_with functions sight ((text_at-front text place (length name) ∙ parts.front) i)
+      (before_last 41 ((text_at-after text place (length (text_at text place) - length after) ∙ parts.back) i)))
+      ∙ ap (head_by_with functions sight (text_at text place)) (sym cut)
 
 -- ---- parts
 
@@ -169,23 +190,47 @@ part_seen-asked text cut tail value tail_is asked_is = by (nat_lt (length value)
     by true is = ap (λ asked. part asked value) asked_is ∙ part-at_most (asked_of (Some tail)) value (ltb-true (length value) (2 ^ 64) is)
     by false is = ap (λ bytes. part (asked_of (Some bytes)) value) tail_is
 
-module _ (sight : Sight) (text : List ℕ) where
+module _ (functions : FunctionTable) (sight : Sight) (text : List ℕ) where
   -- a body that asks for no part
   pub full-seen : (place : Span) (head : Head) → cut_outside 58 (text_at text place) ≡ None
-      → head_seen sight text head ≡ head_value sight (text_at text place) → head_seen sight text head ≡ group_value sight Braces (text_at text place)
-  unfolding group_value
-  full-seen place head none is = is ∙ ap (body_by sight (text_at text place)) (sym none)
+      → head_seen functions sight text head ≡ head_value_with functions sight (text_at text place) → head_seen functions sight text head ≡ group_value_with functions sight Braces (text_at text place)
+  unfolding group_value_with
+  full-seen place head none is = is ∙ ap (body_by_with functions sight (text_at text place)) (sym none)
 
   -- a body that asks for a part
   pub part-seen : (place : Span) (head tail : List ℕ) (cut : CutPart) → cut_outside 58 (text_at text place) ≡ Some (head, tail)
-      → head_seen sight text cut.head ≡ head_value sight (text_at text (front_of place (length head)))
+      → head_seen functions sight text cut.head ≡ head_value_with functions sight (text_at text (front_of place (length head)))
       → cut.tail ≡ after_of place (length (text_at text place) - length tail)
       → cut.asked ≡ asked_at_most (asked_of (Some tail))
-      → part_seen text cut (head_seen sight text cut.head) ≡ group_value sight Braces (text_at text place)
-  unfolding group_value
+      → part_seen text cut (head_seen functions sight text cut.head) ≡ group_value_with functions sight Braces (text_at text place)
+  unfolding group_value_with
   part-seen place head tail cut cut_is head_is tail_is asked_is =
       let parts = cut_outside-parts 58 (text_at text place) head tail cut_is in
-      part_seen-asked text cut tail (head_seen sight text cut.head)
+      part_seen-asked text cut tail (head_seen functions sight text cut.head)
       (ap (text_at text) tail_is ∙ text_at-after text place (length (text_at text place) - length tail) ∙ parts.back) asked_is
-      ∙ ap (part (asked_of (Some tail))) (head_is ∙ ap (head_value sight) (text_at-front text place (length head) ∙ parts.front))
-      ∙ ap (body_by sight (text_at text place)) (sym cut_is)
+      ∙ ap (part (asked_of (Some tail))) (head_is ∙ ap (head_value_with functions sight) (text_at-front text place (length head) ∙ parts.front))
+      ∙ ap (body_by_with functions sight (text_at text place)) (sym cut_is)
+
+  -- the same with the calls that are not known
+  pub full-found : (place : Span) (head : Head) (written : Written) → cut_outside 58 (text_at text place) ≡ None
+      → ((f : FunctionTable) (s : Sight) → head_seen f s text head ≡ head_value_with f s (text_at text place))
+      → with_head functions sight text written head ≡ with_group functions sight Braces written (text_at text place)
+  unfolding unknown_group
+  full-found place head written none is =
+      let value = full-seen place head none (is functions sight) in
+      let call = is (unknown_calls functions sight) no_variables ∙ ap (unknown_body functions sight (text_at text place)) (sym none) in
+      λ i. with_found written (value i) (call i)
+
+  pub part-found : (place : Span) (head tail : List ℕ) (cut : CutPart) (written : Written) → cut_outside 58 (text_at text place) ≡ Some (head, tail)
+      → ((f : FunctionTable) (s : Sight) → head_seen f s text cut.head ≡ head_value_with f s (text_at text (front_of place (length head))))
+      → cut.tail ≡ after_of place (length (text_at text place) - length tail)
+      → cut.asked ≡ asked_at_most (asked_of (Some tail))
+      → with_cut functions sight text written cut ≡ with_group functions sight Braces written (text_at text place)
+  unfolding unknown_group
+  part-found place head tail cut written cut_is head_is tail_is asked_is =
+      let parts = cut_outside-parts 58 (text_at text place) head tail cut_is in
+      let value = part-seen place head tail cut cut_is (head_is functions sight) tail_is asked_is in
+      let call = head_is (unknown_calls functions sight) no_variables
+      ∙ ap (unknown_head functions sight) (text_at-front text place (length head) ∙ parts.front)
+      ∙ ap (unknown_body functions sight (text_at text place)) (sym cut_is) in
+      λ i. with_found written (value i) (call i)

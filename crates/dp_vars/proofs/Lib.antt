@@ -10,6 +10,9 @@ pub mod PushedLemmas
 pub mod PartsLemmas
 pub mod ValuesLemmas
 pub mod ExpandingLemmas
+pub mod FunctionsLemmas
+pub mod UnknownLemmas
+pub mod KnownLemmas
 pub mod HeadsLemmas
 pub mod PiecesLemmas
 pub mod OpeningsLemmas

@@ -5,8 +5,10 @@ use Rattle.dp_conf.specs.declared.groups.GroupKind.{GroupKind}
 use Rattle.dp_conf.specs.Groups.{Reading, Over, Plain, opening}
 use Rattle.dp_conf.specs.GroupsRead.{Last, mark_of, with_byte, with_mark, levels, first_level, reading_of}
 use Rattle.dp_vars.specs.Openings.{has_opening}
+use Rattle.dp_vars.specs.Functions.{FunctionTable}
 use Rattle.dp_vars.specs.Sights.{Sight}
-use Rattle.dp_vars.specs.Values.{expansion_of, expansion}
+use Rattle.dp_vars.specs.Unknown.{any_text, first_unknown, unknown_of}
+use Rattle.dp_vars.specs.Values.{expansion_of_with, expansion_with}
 
 -- plain bytes alone
 plain : List ℕ → Reading
@@ -26,12 +28,23 @@ unfolding plain levels has_opening
 levels-plain [] none = refl
 levels-plain (b ∷ bs) none = levels-byte b bs (opening b bs) none (levels-plain bs)
 
-expansion_of-plain : (sight : Sight) (text : List ℕ) → expansion_of sight (plain text) ≡ text
-unfolding plain expansion_of
-expansion_of-plain sight [] = refl
-expansion_of-plain sight (b ∷ bs) = ap (λ rest. b ∷ rest) (expansion_of-plain sight bs)
+expansion_of-plain : (functions : FunctionTable) (sight : Sight) (text : List ℕ) → expansion_of_with functions sight (plain text) ≡ text
+unfolding plain expansion_of_with
+expansion_of-plain functions sight [] = refl
+expansion_of-plain functions sight (b ∷ bs) = ap (λ rest. b ∷ rest) (expansion_of-plain functions sight bs)
 
 -- such a text is its own expansion
-pub expansion-same : (sight : Sight) (text : List ℕ) → has_opening text ≡ false → expansion sight text ≡ text
+pub expansion-same : (functions : FunctionTable) (sight : Sight) (text : List ℕ) → has_opening text ≡ false → expansion_with functions sight text ≡ text
 unfolding reading_of
-expansion-same sight text none = ap (λ levels. expansion_of sight (first_level levels)) (levels-plain text none) ∙ expansion_of-plain sight text
+expansion-same functions sight text none = ap (λ levels. expansion_of_with functions sight (first_level levels)) (levels-plain text none) ∙ expansion_of-plain functions sight text
+
+unknown_of-plain : (functions : FunctionTable) (sight : Sight) (text : List ℕ) → unknown_of functions sight (plain text) ≡ []
+unfolding plain unknown_of
+unknown_of-plain functions sight [] = refl
+unknown_of-plain functions sight (b ∷ bs) = unknown_of-plain functions sight bs
+
+-- and all in it is known
+pub unknown-none : (functions : FunctionTable) (sight : Sight) (text : List ℕ) → has_opening text ≡ false → first_unknown functions sight text ≡ None
+unfolding reading_of
+unknown-none functions sight text none =
+    ap (λ levels. any_text (unknown_of functions sight (first_level levels))) (levels-plain text none) ∙ ap any_text (unknown_of-plain functions sight text)

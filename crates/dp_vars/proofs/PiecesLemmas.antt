@@ -11,16 +11,20 @@ use Rattle.dp_conf.specs.GroupsRead.{Levels, Last, Within, with_byte, with_openi
 use Rattle.dp_vars.specs.Expanding.{Written, after_group, after}
 use Rattle.dp_vars.specs.steps.Expanding.{kinds_of, AreWritten}
 use Rattle.dp_vars.specs.Heads.{head_seen, part_seen}
-use Rattle.dp_vars.specs.Pieces.{with_bytes, past, blank, past_all}
-use Rattle.dp_vars.specs.steps.Pieces.{ReadSoFar, past_last, written_in, waiting_after, StandsAfter, GoesAfter, with_run}
+use Rattle.dp_vars.specs.Pieces.{Come, with_bytes, past, blank, past_all}
+use Rattle.dp_vars.specs.steps.Pieces.{ReadSoFar, past_last, written_in, waiting_after, StandsAfter, GoesAfter, IsGroup, opening_last, opening_of, without_last, with_run, with_group}
+use Rattle.dp_vars.specs.Functions.{FunctionTable}
 use Rattle.dp_vars.specs.Sights.{Sight}
 use Rattle.dp_vars.specs.Spans.{text_at}
 use Rattle.dp_vars.specs.steps.Spans.{span_at}
-use Rattle.dp_vars.specs.Values.{expansion, function_value, group_value}
+use Rattle.dp_vars.specs.Values.{expansion_with}
+use Rattle.dp_vars.specs.Unknown.{earlier, unknown_group, unknown_of}
+use Rattle.dp_vars.specs.declared.head.Head.TheVariants as heads
 use Rattle.dp_vars.specs.declared.expanding.WaitingOpening.{WaitingOpening}
 use Rattle.dp_vars.specs.declared.text_piece.TextPiece.{TextPiece}
-use Rattle.dp_vars.specs.declared.text_piece.TextPiece.TheVariants.{Run, Name, Call, Part, Known, Empty, Begins, Ends}
+use Rattle.dp_vars.specs.declared.text_piece.TextPiece.TheVariants.{Run, Name, Call, Other, Part, Known, Empty, Begins, Ends}
 use Rattle.dp_vars.specs.declared.span.Span.{Span}
+use Rattle.dp_vars.proofs.UnknownLemmas.{first, first-mark, first-over, first-text, body_at_end}
 use Rattle.dp_vars.proofs.ExpandingLemmas.{come, come-mark, come-over, come-text, value_at_end, StandIn-more, AreWritten-after}
 
 -- ---- what stands at a mark
@@ -96,90 +100,144 @@ AreWritten-more : (written : Written) (bytes : List ℕ) → AreWritten written 
 AreWritten-more written bytes stand =
     StandIn-more written.waiting (length written.bytes) (length (written.bytes ++ bytes)) (omega (arith, length-append written.bytes bytes)) stand
 
-module _ (sight : Sight) (text : List ℕ) where
+module _ (functions : FunctionTable) (sight : Sight) (text : List ℕ) where
   -- plain bytes are written also where they make a piece
-  past-run : (run : Span) (pieces : List TextPiece) → past_last sight text (with_run run pieces) ≡ with_bytes (past_last sight text pieces) (text_at text run)
+  past-run : (run : Span) (pieces : List TextPiece) → past_last functions sight text (with_run run pieces) ≡ with_bytes (past_last functions sight text pieces) (text_at text run)
   past-run run pieces = by (nat_lt run.from run.to) refl
     where
       by : (b : Bool) → nat_lt run.from run.to ≡ b
-          → past_last sight text (cond b (Run run ∷ pieces) pieces) ≡ with_bytes (past_last sight text pieces) (text_at text run)
+          → past_last functions sight text (cond b (Run run ∷ pieces) pieces) ≡ with_bytes (past_last functions sight text pieces) (text_at text run)
       by true is = refl
-      by false is = sym (with_none (past_last sight text pieces) (text_at text run) (text_at-none text run (ltb-false run.from run.to is)))
+      by false is = sym (with_none (past_last functions sight text pieces) (text_at text run) (text_at-none text run (ltb-false run.from run.to is)))
 
   -- after a group that holds no group, in place of its opening
   past-leaf : (run : Span) (place : ℕ) (kind : GroupKind) (written : Written)
-      → with_bytes (with_bytes written (group_value sight kind (text_at text run))) (text_at text (span_at place))
-      ≡ after sight End (with_bytes (after sight (Opening kind) written) (text_at text run))
+      → with_bytes (with_group functions sight kind written (text_at text run)) (text_at text (span_at place))
+      ≡ after functions sight End (with_bytes (after functions sight (Opening kind) written) (text_at text run))
   past-leaf run place kind written =
-      with_none (with_bytes written (group_value sight kind (text_at text run))) (text_at text (span_at place)) (text_at-at text place)
-      ∙ ap (λ bs. record written { bytes = bs }) (sym (value_at_end sight written.bytes (text_at text run) kind))
+      with_none (with_group functions sight kind written (text_at text run)) (text_at text (span_at place)) (text_at-at text place)
+      ∙ (λ i. record {
+        bytes = sym (value_at_end functions sight written.bytes (text_at text run) kind) i;
+        waiting = written.waiting;
+        unknown = earlier written.unknown (unknown_group functions sight kind (sym (body_at_end functions sight written.bytes (text_at text run) kind) i));
+      })
 
   -- pieces of which the last stands first are the same pieces
   onto : Written → List TextPiece → Written
   onto written [] = written
-  onto written (piece ∷ pieces) = past sight text (onto written pieces) piece
+  onto written (piece ∷ pieces) = past functions sight text (onto written pieces) piece
 
-  onto-blank : (pieces : List TextPiece) → past_last sight text pieces ≡ onto blank pieces
+  onto-blank : (pieces : List TextPiece) → past_last functions sight text pieces ≡ onto blank pieces
   unfolding onto
   onto-blank [] = refl
-  onto-blank (piece ∷ pieces) = ap (λ w. past sight text w piece) (onto-blank pieces)
+  onto-blank (piece ∷ pieces) = ap (λ w. past functions sight text w piece) (onto-blank pieces)
 
   onto-append : (written : Written) (xs ys : List TextPiece) → onto written (xs ++ ys) ≡ onto (onto written ys) xs
   unfolding onto
   onto-append written [] ys = refl
-  onto-append written (x ∷ xs) ys = ap (λ w. past sight text w x) (onto-append written xs ys)
+  onto-append written (x ∷ xs) ys = ap (λ w. past functions sight text w x) (onto-append written xs ys)
 
-  onto-reverse : (written : Written) (pieces : List TextPiece) → onto written (reverse pieces) ≡ fold (past sight text) written pieces
+  onto-reverse : (written : Written) (pieces : List TextPiece) → onto written (reverse pieces) ≡ fold (past functions sight text) written pieces
   unfolding onto
   onto-reverse written [] = refl
   onto-reverse written (piece ∷ pieces) =
-      ap (onto written) (reverse-append (piece ∷ []) pieces) ∙ onto-append written (reverse pieces) (piece ∷ []) ∙ onto-reverse (past sight text written piece) pieces
+      ap (onto written) (reverse-append (piece ∷ []) pieces) ∙ onto-append written (reverse pieces) (piece ∷ []) ∙ onto-reverse (past functions sight text written piece) pieces
 
-  pub past-reverse : (pieces : List TextPiece) → past_last sight text (reverse pieces) ≡ past_all sight text pieces
+  pub past-reverse : (pieces : List TextPiece) → past_last functions sight text (reverse pieces) ≡ past_all functions sight text pieces
   past-reverse pieces = onto-blank (reverse pieces) ∙ onto-reverse blank pieces
 
   -- the openings that wait stand in what is written
-  pub AreWritten-past : (piece : TextPiece) (written : Written) → AreWritten written → AreWritten (past sight text written piece)
+  pub AreWritten-past : (piece : TextPiece) (written : Written) → AreWritten written → AreWritten (past functions sight text written piece)
   AreWritten-past (Run span) written stand = AreWritten-more written (text_at text span) stand
-  AreWritten-past (Name name) written stand = AreWritten-more written (sight.variable (text_at text name)) stand
-  AreWritten-past (Call function argument) written stand = AreWritten-more written (function_value sight (Some function) (text_at text argument)) stand
-  AreWritten-past (Part cut) written stand = AreWritten-more written (part_seen text cut.value (head_seen sight text cut.value.head)) stand
+  AreWritten-past (Name name) written stand = AreWritten-more written (head_seen functions sight text (heads.Name name)) stand
+  AreWritten-past (Call function argument) written stand = AreWritten-more written (head_seen functions sight text (heads.Call function argument)) stand
+  AreWritten-past (Other call) written stand = AreWritten-more written (head_seen functions sight text (heads.Other call.value.name call.value.argument)) stand
+  AreWritten-past (Part cut) written stand = AreWritten-more written (part_seen text cut.value (head_seen functions sight text cut.value.head)) stand
   AreWritten-past (Known value) written stand = AreWritten-more written value.value.items stand
   AreWritten-past Empty written stand = AreWritten-more written [] stand
-  AreWritten-past (Begins kind) written stand = AreWritten-after sight (Opening kind) written stand
-  AreWritten-past Ends written stand = AreWritten-after sight End written stand
+  AreWritten-past (Begins kind) written stand = AreWritten-after functions sight (Opening kind) written stand
+  AreWritten-past Ends written stand = AreWritten-after functions sight End written stand
 
   -- the openings that wait stand in what is written, and the pieces that are left come to the whole
   pub record IsWriting (written : Written) (left whole : List TextPiece) : Type 0 where
     pub stands : AreWritten written
-    pub comes : fold (past sight text) written left ≡ past_all sight text whole
+    pub comes : fold (past functions sight text) written left ≡ past_all functions sight text whole
 
   pub writing-first : (whole : List TextPiece) → IsWriting blank whole whole
   writing-first whole = record { stands = tt; comes = refl }
 
-  pub writing-next : (written new : Written) (piece : TextPiece) (left beyond whole : List TextPiece) → left ≡ piece ∷ beyond → new ≡ past sight text written piece
+  pub writing-next : (written new : Written) (piece : TextPiece) (left beyond whole : List TextPiece) → left ≡ piece ∷ beyond → new ≡ past functions sight text written piece
       → IsWriting written left whole → IsWriting new beyond whole
   writing-next written new piece left beyond whole left_is new_is writing = record {
     stands = subst AreWritten (sym new_is) (AreWritten-past piece written writing.stands);
-    comes = ap (λ w. fold (past sight text) w beyond) new_is ∙ ap (fold (past sight text) written) (sym left_is) ∙ writing.comes;
+    comes = ap (λ w. fold (past functions sight text) w beyond) new_is ∙ ap (fold (past functions sight text) written) (sym left_is) ∙ writing.comes;
   }
 
 -- ---- a text on the way to its pieces
 
 -- what is read so far and the rest of the text come to the expansion of the text, whatever is seen
 pub record IsOnWay (text : List ℕ) (so_far : ReadSoFar) (rest : List ℕ) : Type 0 where
-  pub kinds : (sight : Sight) → kinds_of (written_in sight text so_far).waiting ≡ so_far.waiting
-  pub comes : (sight : Sight)
-      → come sight (written_in sight text so_far).waiting (written_in sight text so_far).bytes (levels rest so_far.waiting 0) ≡ expansion sight text
+  pub kinds : (functions : FunctionTable) (sight : Sight) → kinds_of (written_in functions sight text so_far).waiting ≡ so_far.waiting
+  pub comes : (functions : FunctionTable) (sight : Sight)
+      → come functions sight (written_in functions sight text so_far).waiting (written_in functions sight text so_far).bytes (levels rest so_far.waiting 0) ≡ expansion_with functions sight text
+  pub first_comes : (functions : FunctionTable) (sight : Sight)
+      → first functions sight (written_in functions sight text so_far).waiting (written_in functions sight text so_far).bytes
+      (written_in functions sight text so_far).unknown (levels rest so_far.waiting 0)
+      ≡ unknown_of functions sight (reading_of text)
   pub begins : so_far.run.from ≤ so_far.run.to
   pub size : so_far.run.to + length rest ≡ length text
   pub is_rest : drop so_far.run.to text ≡ rest
 
+-- a piece that is an opening
+is-opening : (kind : GroupKind) (piece : TextPiece) → Some kind ≡ opening_of piece → piece ≡ Begins kind
+is-opening kind (Begins other) is = let one : other ≡ kind = cc in ap (λ k. Begins k) one
+is-opening kind (Run span) is = cc
+is-opening kind (Name name) is = cc
+is-opening kind (Call function argument) is = cc
+is-opening kind (Other call) is = cc
+is-opening kind (Part cut) is = cc
+is-opening kind (Known value) is = cc
+is-opening kind Empty is = cc
+is-opening kind Ends is = cc
+
+-- after the end of a group that holds no group
+pub goes-leaf : (text : List ℕ) (place : ℕ) (old : ReadSoFar) (kind : GroupKind) (piece : TextPiece) → Some kind ≡ opening_last old.pieces → IsGroup text kind old.run piece
+    → GoesAfter text End place old (record { pieces = piece ∷ without_last old.pieces; waiting = outer_of old.waiting; run = span_at place })
+goes-leaf text place old kind piece opening group = record {
+  written = λ functions sight. by functions sight old.pieces opening;
+  waiting = refl;
+  ends = refl;
+  begins = omega arith;
+}
+  where
+    by : (functions : FunctionTable) (sight : Sight) (pieces : List TextPiece) → Some kind ≡ opening_last pieces
+        → with_bytes (past_last functions sight text (piece ∷ without_last pieces)) (text_at text (span_at place))
+        ≡ after functions sight End (with_bytes (past_last functions sight text pieces) (text_at text old.run))
+    by functions sight [] is = cc
+    by functions sight (last ∷ pieces) is =
+        ap (λ w. with_bytes w (text_at text (span_at place))) (group functions sight (past_last functions sight text pieces))
+        ∙ past-leaf functions sight text old.run place kind (past_last functions sight text pieces)
+        ∙ ap (λ p. after functions sight End (with_bytes (past functions sight text (past_last functions sight text pieces) p) (text_at text old.run)))
+        (sym (is-opening kind last is))
+
+-- after the end of a group that holds groups
+pub goes-end : (text : List ℕ) (place : ℕ) (old : ReadSoFar)
+    → GoesAfter text End place old (record { pieces = Ends ∷ with_run old.run old.pieces; waiting = outer_of old.waiting; run = span_at place })
+goes-end text place old = record {
+  written = λ functions sight.
+      with_none (after functions sight End (past_last functions sight text (with_run old.run old.pieces))) (text_at text (span_at place)) (text_at-at text place)
+      ∙ ap (after functions sight End) (past-run functions sight text old.run old.pieces);
+  waiting = refl;
+  ends = refl;
+  begins = omega arith;
+}
+
 -- nothing is read yet
 pub on_way-first : (text : List ℕ) → IsOnWay text (record { pieces = []; waiting = []; run = span_at 0 }) text
 on_way-first text = record {
-  kinds = λ sight. refl;
-  comes = λ sight. come-text sight text;
+  kinds = λ functions sight. refl;
+  comes = λ functions sight. come-text functions sight text;
+  first_comes = λ functions sight. first-text functions sight text;
   begins = omega arith;
   size = omega arith;
   is_rest = refl;
@@ -187,17 +245,27 @@ on_way-first text = record {
 
 -- all is read
 pub on_way-over : (text : List ℕ) (so_far : ReadSoFar) (rest : List ℕ) → IsOnWay text so_far rest → rest ≡ []
-    → (sight : Sight) → (past_last sight text so_far.pieces).bytes ++ drop so_far.run.from text ≡ expansion sight text
-on_way-over text so_far rest on_way none sight =
-    ap (λ bytes. (past_last sight text so_far.pieces).bytes ++ bytes) tail
-    ∙ sym (come-over sight (written_in sight text so_far).waiting (written_in sight text so_far).bytes)
-    ∙ (λ i. come sight (written_in sight text so_far).waiting (written_in sight text so_far).bytes (levels (sym none i) (on_way.kinds sight i) 0))
-    ∙ on_way.comes sight
+    → (functions : FunctionTable) (sight : Sight) → Come functions sight text (past_last functions sight text so_far.pieces) so_far.run.from
+on_way-over text so_far rest on_way none functions sight = record { bytes = bytes; unknown = unknown }
   where
     tail : drop so_far.run.from text ≡ text_at text so_far.run
     tail =
         let end : length text - so_far.run.from ≡ so_far.run.to - so_far.run.from = let s = on_way.size in let e = ap length none in omega arith in
         sym (take_rest text so_far.run.from) ∙ ap (λ n. take n (drop so_far.run.from text)) end
+
+    bytes : (past_last functions sight text so_far.pieces).bytes ++ drop so_far.run.from text ≡ expansion_with functions sight text
+    bytes =
+        ap (λ bytes. (past_last functions sight text so_far.pieces).bytes ++ bytes) tail
+        ∙ sym (come-over functions sight (written_in functions sight text so_far).waiting (written_in functions sight text so_far).bytes)
+        ∙ (λ i. come functions sight (written_in functions sight text so_far).waiting (written_in functions sight text so_far).bytes (levels (sym none i) (on_way.kinds functions sight i) 0))
+        ∙ on_way.comes functions sight
+
+    unknown : (past_last functions sight text so_far.pieces).unknown ≡ unknown_of functions sight (reading_of text)
+    unknown =
+        sym (first-over functions sight (written_in functions sight text so_far).waiting (written_in functions sight text so_far).bytes (written_in functions sight text so_far).unknown)
+        ∙ (λ i. first functions sight (written_in functions sight text so_far).waiting (written_in functions sight text so_far).bytes
+        (written_in functions sight text so_far).unknown (levels (sym none i) (on_way.kinds functions sight i) 0))
+        ∙ on_way.first_comes functions sight
 
 -- a plain byte stands after those before it
 stands-mark : (m : Mark) (kinds : List GroupKind) (text rest beyond : List ℕ) (run : Span) (place : ℕ) → run.from ≤ run.to → drop run.to text ≡ rest
@@ -207,12 +275,12 @@ stands-mark (Opening kind) kinds text rest beyond run place ordered is_rest is p
 stands-mark (Byte byte) kinds text rest beyond run place ordered is_rest is place_is =
     ap (λ p. text_at text (record { from = run.from; to = p })) place_is ∙ text_at-next text run byte beyond ordered (is_rest ∙ is)
 
-kinds_of-after : (sight : Sight) (m : Mark) (written : Written) → kinds_of (after sight m written).waiting ≡ waiting_after m (kinds_of written.waiting)
-kinds_of-after sight (Opening kind) written = refl
-kinds_of-after sight (Byte byte) written = refl
-kinds_of-after sight End written = by written.waiting
+kinds_of-after : (functions : FunctionTable) (sight : Sight) (m : Mark) (written : Written) → kinds_of (after functions sight m written).waiting ≡ waiting_after m (kinds_of written.waiting)
+kinds_of-after functions sight (Opening kind) written = refl
+kinds_of-after functions sight (Byte byte) written = refl
+kinds_of-after functions sight End written = by written.waiting
   where
-    by : (ws : List WaitingOpening) → kinds_of (after_group sight ws written.bytes).waiting ≡ outer_of (kinds_of ws)
+    by : (ws : List WaitingOpening) → kinds_of (after_group functions sight ws written.bytes written.unknown).waiting ≡ outer_of (kinds_of ws)
     by [] = refl
     by (w ∷ ws) = refl
 
@@ -240,18 +308,26 @@ module _ (text : List ℕ) (so_far : ReadSoFar) (rest : List ℕ) (m : Mark) (be
   pub on_way-after : (new : ReadSoFar) → GoesAfter text m (length text - length beyond) so_far new → IsOnWay text new beyond
   on_way-after new goes = record {
     kinds = kinds_new;
-    comes = λ sight. ap (λ ks. come sight (written_in sight text new).waiting (written_in sight text new).bytes (levels beyond ks 0)) (sym (kinds_new sight))
-        ∙ ap (λ w. come sight w.waiting w.bytes (levels beyond (kinds_of w.waiting) 0)) (goes.written sight)
-        ∙ come-mark sight m (written_in sight text so_far) (levels beyond)
-        ∙ ap (come sight (written_in sight text so_far).waiting (written_in sight text so_far).bytes)
-        (ap (with_mark m (levels beyond) 0) (on_way.kinds sight) ∙ sym marked)
-        ∙ on_way.comes sight;
+    comes = λ functions sight. ap (λ ks. come functions sight (written_in functions sight text new).waiting (written_in functions sight text new).bytes (levels beyond ks 0)) (sym (kinds_new functions sight))
+        ∙ ap (λ w. come functions sight w.waiting w.bytes (levels beyond (kinds_of w.waiting) 0)) (goes.written functions sight)
+        ∙ come-mark functions sight m (written_in functions sight text so_far) (levels beyond)
+        ∙ ap (come functions sight (written_in functions sight text so_far).waiting (written_in functions sight text so_far).bytes)
+        (ap (with_mark m (levels beyond) 0) (on_way.kinds functions sight) ∙ sym marked)
+        ∙ on_way.comes functions sight;
+    first_comes = λ functions sight. ap (λ ks. first functions sight (written_in functions sight text new).waiting (written_in functions sight text new).bytes
+        (written_in functions sight text new).unknown (levels beyond ks 0)) (sym (kinds_new functions sight))
+        ∙ ap (λ w. first functions sight w.waiting w.bytes w.unknown (levels beyond (kinds_of w.waiting) 0)) (goes.written functions sight)
+        ∙ first-mark functions sight m (written_in functions sight text so_far) (levels beyond)
+        ∙ ap (first functions sight (written_in functions sight text so_far).waiting (written_in functions sight text so_far).bytes
+        (written_in functions sight text so_far).unknown)
+        (ap (with_mark m (levels beyond) 0) (on_way.kinds functions sight) ∙ sym marked)
+        ∙ on_way.first_comes functions sight;
     begins = let e = goes.ends in let b = goes.begins in omega arith;
     size = let e = goes.ends in let p = place_is in let s = sizes in let t = on_way.size in omega arith;
     is_rest = ap (λ n. drop n text) goes.ends ∙ after_is;
   }
     where
-      kinds_new : (sight : Sight) → kinds_of (written_in sight text new).waiting ≡ new.waiting
-      kinds_new sight =
-          ap (λ w. kinds_of w.waiting) (goes.written sight) ∙ kinds_of-after sight m (written_in sight text so_far)
-          ∙ ap (waiting_after m) (on_way.kinds sight) ∙ sym goes.waiting
+      kinds_new : (functions : FunctionTable) (sight : Sight) → kinds_of (written_in functions sight text new).waiting ≡ new.waiting
+      kinds_new functions sight =
+          ap (λ w. kinds_of w.waiting) (goes.written functions sight) ∙ kinds_of-after functions sight m (written_in functions sight text so_far)
+          ∙ ap (waiting_after m) (on_way.kinds functions sight) ∙ sym goes.waiting

@@ -1,5 +1,6 @@
 -- The values of names, by the maps in which they are searched.
 use Rattle.std.proofs.Common.{◌≡◌, ℕ, Bool, true, false, cond, List, [], ◌∷◌, ◌++◌, Option, Some, None, unwrap_or, map, refl, sym, ap, ◌∙◌}
+use Rattle.std.specs.Prelude.{is_some}
 use Rattle.std.specs.Option.{option_map, option_or}
 use Rattle.std.specs.FinMap.{get}
 use Rattle.std.specs.Map.{lookup}
@@ -34,12 +35,33 @@ module _ (channel : Option ChannelView) (stored : List Named) (globals : Named) 
       ap (λ o. unwrap_or (option_or o (first_value (stored ++ globals ∷ []) name)) [])
       (ap (option_map (given_value channel)) is ∙ sym (get-channel_map channel name))
 
+  -- which has a value
+  pub set-given : (given : GivenName) → Some given ≡ lookup (same_text name) given_names
+      → true ≡ is_some (first_value (channel_map channel ∷ (stored ++ globals ∷ [])) name)
+  set-given given is =
+      ap (λ o. is_some (option_or o (first_value (stored ++ globals ∷ []) name)))
+      (ap (option_map (given_value channel)) is ∙ sym (get-channel_map channel name))
+
+  -- any other name is sought in the store and then among the globals
+  first-not_given : None ≡ lookup (same_text name) given_names
+      → option_or (first_value stored name) (first_value (globals ∷ []) name) ≡ first_value (channel_map channel ∷ (stored ++ globals ∷ [])) name
+  first-not_given none =
+      sym (first_value-append stored (globals ∷ []) name)
+      ∙ ap (λ o. option_or o (first_value (stored ++ globals ∷ []) name))
+      (ap (option_map (given_value channel)) none ∙ sym (get-channel_map channel name))
+
   not_given : None ≡ lookup (same_text name) given_names
       → unwrap_or (option_or (first_value stored name) (first_value (globals ∷ []) name)) [] ≡ value_or_empty (channel_map channel ∷ (stored ++ globals ∷ [])) name
-  not_given none =
-      ap (λ o. unwrap_or o []) (sym (first_value-append stored (globals ∷ []) name))
-      ∙ ap (λ o. unwrap_or (option_or o (first_value (stored ++ globals ∷ []) name)) [])
-      (ap (option_map (given_value channel)) none ∙ sym (get-channel_map channel name))
+  not_given none = ap (λ o. unwrap_or o []) (first-not_given none)
+
+  pub set-stored : (value : List ℕ) → None ≡ lookup (same_text name) given_names → Some value ≡ first_value stored name
+      → true ≡ is_some (first_value (channel_map channel ∷ (stored ++ globals ∷ [])) name)
+  set-stored value none is = ap (λ o. is_some (option_or o (first_value (globals ∷ []) name))) is ∙ ap is_some (first-not_given none)
+
+  pub set-global : (b : Bool) → None ≡ lookup (same_text name) given_names → None ≡ first_value stored name
+      → b ≡ is_some (first_value (globals ∷ []) name) → b ≡ is_some (first_value (channel_map channel ∷ (stored ++ globals ∷ [])) name)
+  set-global b none absent is =
+      is ∙ (ap (λ o. is_some (option_or o (first_value (globals ∷ []) name))) absent ∙ ap is_some (first-not_given none))
 
   -- a name that the store has
   pub value-stored : (value : List ℕ) → None ≡ lookup (same_text name) given_names → Some value ≡ first_value stored name

@@ -3,29 +3,42 @@ use Rattle.std.specs.Prelude.{ℕ, ◌+◌, List, [], ◌∷◌, ◌++◌, drop,
 use Rattle.dp_conf.specs.declared.groups.Mark.{Mark}
 use Rattle.dp_conf.specs.declared.groups.Mark.TheVariants.{End, Opening, Byte}
 use Rattle.dp_conf.specs.Groups.{opener}
+use Rattle.dp_vars.specs.Functions.{FunctionTable}
 use Rattle.dp_vars.specs.Sights.{Sight}
-use Rattle.dp_vars.specs.Values.{group_value}
+use Rattle.dp_vars.specs.Unknown.{earlier, unknown_group}
+use Rattle.dp_vars.specs.Values.{group_value_with}
 use Rattle.dp_vars.specs.declared.expanding.WaitingOpening.{WaitingOpening}
 
--- what is written, and the openings that wait, the innermost first, each with the place of its `$`
+-- what is written, the openings that wait, the innermost first, each with the place of its `$`, and the first call so far
+-- of a function that is not known
 pub record Written : Type 0 where
   pub bytes : List ℕ
   pub waiting : List WaitingOpening
+  pub unknown : List ℕ
 
 -- what is written with a group in place of its opening and its body
-abbrev pub with_value : Sight → WaitingOpening → List ℕ → List ℕ
-with_value sight w bytes = take w.start bytes ++ group_value sight w.kind (drop (w.start + 2) bytes)
+abbrev pub with_value : FunctionTable → Sight → WaitingOpening → List ℕ → List ℕ
+with_value functions sight w bytes = take w.start bytes ++ group_value_with functions sight w.kind (drop (w.start + 2) bytes)
+
+-- the body of such a group
+abbrev pub body_in : WaitingOpening → List ℕ → List ℕ
+body_in w bytes = drop (w.start + 2) bytes
 
 -- after the end of the innermost group
-abbrev pub after_group : Sight → List WaitingOpening → List ℕ → Written
-after_group sight [] bytes = record { bytes = bytes; waiting = [] }
-after_group sight (w ∷ waiting) bytes = record { bytes = with_value sight w bytes; waiting = waiting }
+abbrev pub after_group : FunctionTable → Sight → List WaitingOpening → List ℕ → List ℕ → Written
+after_group functions sight [] bytes unknown = record { bytes = bytes; waiting = []; unknown = unknown }
+after_group functions sight (w ∷ waiting) bytes unknown = record {
+  bytes = with_value functions sight w bytes;
+  waiting = waiting;
+  unknown = earlier unknown (unknown_group functions sight w.kind (body_in w bytes));
+}
 
 -- after a mark
-abbrev pub after : Sight → Mark → Written → Written
-after sight End written = after_group sight written.waiting written.bytes
-after sight (Opening kind) written = record {
+abbrev pub after : FunctionTable → Sight → Mark → Written → Written
+after functions sight End written = after_group functions sight written.waiting written.bytes written.unknown
+after functions sight (Opening kind) written = record {
   bytes = written.bytes ++ 36 ∷ opener kind ∷ [];
   waiting = record { kind = kind; start = length written.bytes } ∷ written.waiting;
+  unknown = written.unknown;
 }
-after sight (Byte byte) written = record written { bytes = written.bytes ++ byte ∷ [] }
+after functions sight (Byte byte) written = record written { bytes = written.bytes ++ byte ∷ [] }

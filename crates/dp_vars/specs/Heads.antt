@@ -1,18 +1,25 @@
 -- The values of variables and functions, by where their names stand in the text.
 use Rattle.std.specs.Prelude.{ℕ, ◌^◌, List, [], Some, length, nat_lt, if◌then◌else◌}
+use Rattle.dp_vars.specs.Functions.{FunctionTable}
 use Rattle.dp_vars.specs.Parts.{asked_of, part}
 use Rattle.dp_vars.specs.Sights.{Sight}
 use Rattle.dp_vars.specs.Spans.{text_at}
-use Rattle.dp_vars.specs.Values.{function_value}
+use Rattle.dp_vars.specs.Unknown.{no_variables, unknown_calls}
+use Rattle.dp_vars.specs.Values.{function_name}
 use Rattle.dp_vars.specs.declared.head.Head.{Head}
-use Rattle.dp_vars.specs.declared.head.Head.TheVariants.{Name, Call, Empty}
+use Rattle.dp_vars.specs.declared.head.Head.TheVariants.{Name, Call, Other, Empty}
 use Rattle.dp_vars.specs.declared.head.CutPart.{CutPart}
 
 -- the value of a variable or of a function, by where its name or its argument stands in the text
-abbrev pub head_seen : Sight → List ℕ → Head → List ℕ
-head_seen sight text (Name name) = sight.variable (text_at text name)
-head_seen sight text (Call function argument) = function_value sight (Some function) (text_at text argument)
-head_seen sight text Empty = []
+abbrev pub head_seen : FunctionTable → Sight → List ℕ → Head → List ℕ
+head_seen functions sight text (Name name) = sight.variable (text_at text name)
+head_seen functions sight text (Call function argument) = functions.value sight (function_name function) (text_at text argument)
+head_seen functions sight text (Other name argument) = functions.value sight (text_at text name) (text_at text argument)
+head_seen functions sight text Empty = []
+
+-- the call that it is, where that is not known
+abbrev pub unknown_seen : FunctionTable → Sight → List ℕ → Head → List ℕ
+unknown_seen functions sight text head = head_seen (unknown_calls functions sight) no_variables text head
 
 -- the part that is asked for of a value of which 64 bits hold the length; of any other, that which the text after the cut
 -- asks for

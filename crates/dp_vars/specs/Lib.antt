@@ -1,12 +1,15 @@
 pub mod Expanding
 pub mod Far
+pub mod Functions
 pub mod Heads
 pub mod Openings
 pub mod Parts
 pub mod Pieces
+pub mod Shown
 pub mod Sights
 pub mod Spans
 pub mod Stores
+pub mod Unknown
 pub mod Values
 pub mod Variables
 pub mod steps

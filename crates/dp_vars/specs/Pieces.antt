@@ -1,42 +1,70 @@
 -- The pieces of a template, and what is written after them.
-use Rattle.std.specs.Prelude.{◌≡◌, ℕ, List, [], ◌++◌, Some, drop, fold}
+use Rattle.std.specs.Prelude.{◌≡◌, ℕ, List, [], ◌++◌, drop, fold}
 use Rattle.dp_conf.specs.declared.groups.Mark.TheVariants.{End, Opening}
+use Rattle.dp_conf.specs.GroupsRead.{reading_of}
 use Rattle.dp_vars.specs.Expanding.{Written, after}
-use Rattle.dp_vars.specs.Heads.{head_seen, part_seen}
+use Rattle.dp_vars.specs.Functions.{FunctionTable}
+use Rattle.dp_vars.specs.Heads.{head_seen, part_seen, unknown_seen}
 use Rattle.dp_vars.specs.Sights.{Sight}
 use Rattle.dp_vars.specs.Spans.{text_at}
-use Rattle.dp_vars.specs.Values.{expansion, function_value}
+use Rattle.dp_vars.specs.Unknown.{earlier, unknown_of}
+use Rattle.dp_vars.specs.Values.{expansion_with}
+use Rattle.dp_vars.specs.declared.head.CutPart.{CutPart}
+use Rattle.dp_vars.specs.declared.head.Head.{Head}
+use Rattle.dp_vars.specs.declared.head.Head.TheVariants as heads
 use Rattle.dp_vars.specs.declared.text_piece.TextPiece.{TextPiece}
-use Rattle.dp_vars.specs.declared.text_piece.TextPiece.TheVariants.{Run, Name, Call, Part, Known, Empty, Begins, Ends}
+use Rattle.dp_vars.specs.declared.text_piece.TextPiece.TheVariants.{Run, Name, Call, Other, Part, Known, Empty, Begins, Ends}
 
 -- what is written with some bytes more
 abbrev pub with_bytes : Written → List ℕ → Written
 with_bytes written bytes = record written { bytes = written.bytes ++ bytes }
 
+-- what is written with the value of a group, and with the call in it that is not known
+abbrev pub with_found : Written → List ℕ → List ℕ → Written
+with_found written value unknown =
+    record { bytes = written.bytes ++ value; waiting = written.waiting; unknown = earlier written.unknown unknown }
+
+-- what is written with the value of a head
+abbrev pub with_head : FunctionTable → Sight → List ℕ → Written → Head → Written
+with_head functions sight text written head =
+    with_found written (head_seen functions sight text head) (unknown_seen functions sight text head)
+
+-- what is written with a part of the value of a head
+abbrev pub with_cut : FunctionTable → Sight → List ℕ → Written → CutPart → Written
+with_cut functions sight text written cut =
+    with_found written (part_seen text cut (head_seen functions sight text cut.head)) (unknown_seen functions sight text cut.head)
+
 -- after a piece
-abbrev pub past : Sight → List ℕ → Written → TextPiece → Written
-past sight text written (Run span) = with_bytes written (text_at text span)
-past sight text written (Name name) = with_bytes written (sight.variable (text_at text name))
-past sight text written (Call function argument) = with_bytes written (function_value sight (Some function) (text_at text argument))
-past sight text written (Part cut) = with_bytes written (part_seen text cut.value (head_seen sight text cut.value.head))
-past sight text written (Known value) = with_bytes written value.value.items
-past sight text written Empty = with_bytes written []
-past sight text written (Begins kind) = after sight (Opening kind) written
-past sight text written Ends = after sight End written
+abbrev pub past : FunctionTable → Sight → List ℕ → Written → TextPiece → Written
+past functions sight text written (Run span) = with_bytes written (text_at text span)
+past functions sight text written (Name name) = with_head functions sight text written (heads.Name name)
+past functions sight text written (Call function argument) = with_head functions sight text written (heads.Call function argument)
+past functions sight text written (Other call) = with_head functions sight text written (heads.Other call.value.name call.value.argument)
+past functions sight text written (Part cut) = with_cut functions sight text written cut.value
+past functions sight text written (Known value) = with_bytes written value.value.items
+past functions sight text written Empty = with_head functions sight text written heads.Empty
+past functions sight text written (Begins kind) = after functions sight (Opening kind) written
+past functions sight text written Ends = after functions sight End written
 
 -- nothing is written
 abbrev pub blank : Written
-blank = record { bytes = []; waiting = [] }
+blank = record { bytes = []; waiting = []; unknown = [] }
 
 -- after pieces
-abbrev pub past_all : Sight → List ℕ → List TextPiece → Written
-past_all sight text pieces = fold (past sight text) blank pieces
+abbrev pub past_all : FunctionTable → Sight → List ℕ → List TextPiece → Written
+past_all functions sight text pieces = fold (past functions sight text) blank pieces
+
+-- what is written and the plain bytes after a place are the expansion of a text, and the call is its first that is not known
+pub record Come (functions : FunctionTable) (sight : Sight) (text : List ℕ) (written : Written) (tail : ℕ) : Type 0 where
+  pub bytes : written.bytes ++ drop tail text ≡ expansion_with functions sight text
+  pub unknown : written.unknown ≡ unknown_of functions sight (reading_of text)
 
 -- pieces, and the place after them, from which all bytes are plain
 pub record PiecesOf : Type 0 where
   pub pieces : List TextPiece
   pub tail : ℕ
 
--- after all pieces, and after the plain bytes that follow them, the expansion of the text is written, whatever is seen
+-- after all pieces, and after the plain bytes that follow them, the expansion of the text is written, and its first call
+-- that is not known is known, whatever is seen and whatever functions there are
 abbrev pub AreOf : List ℕ → PiecesOf → Type 0
-AreOf text known = (sight : Sight) → (past_all sight text known.pieces).bytes ++ drop known.tail text ≡ expansion sight text
+AreOf text known = (functions : FunctionTable) (sight : Sight) → Come functions sight text (past_all functions sight text known.pieces) known.tail

@@ -1,22 +1,23 @@
 -- What a group can see: the variables, the globals, the locals of the innermost frame, the caller and the queues.
-use Rattle.std.specs.Prelude.{ℕ, List, [], ◌∷◌, ◌++◌, Option, Some, None, map, unwrap_or, codes}
+use Rattle.std.specs.Prelude.{ℕ, Bool, is_some, List, [], ◌∷◌, ◌++◌, Option, Some, None, map, unwrap_or, codes}
 use Rattle.std.specs.Borrow.{Bor}
 use Rattle.std.specs.Fmt.{decimal}
 use Rattle.std.specs.Option.{option_map, option_map_or}
 use Rattle.std.specs.Ordering.{nat_cmp}
 use Rattle.std.specs.Cmp.Lexicographic.{slice_cmp}
 use Rattle.std.specs.FinMap.{from_entries}
-use Rattle.dp_vars.specs.Variables.{Named, value_or_empty}
+use Rattle.dp_vars.specs.Variables.{Named, first_value, value_or_empty}
 use Rattle.dp_vars.specs.Stores.{StoreOf, searched_maps, local_in}
 use Rattle.dp_vars.specs.declared.scope.ChannelSeen.{ChannelSeen}
 use Rattle.dp_vars.specs.declared.scope.Scope.{Scope}
 use Rattle.dp_vars.specs.declared.value.GivenName.{GivenName}
 use Rattle.dp_vars.specs.declared.value.GivenName.TheVariants.{Exten, Context, Priority, Channel}
 
--- the value of each name, of each global, of each local of the innermost frame alone, the caller's number, and how many
--- wait in each queue
+-- the value of each name and whether it has one, the value of each global and of each local of the innermost frame alone, the
+-- caller's number, and how many wait in each queue
 pub record Sight : Type 0 where
   pub variable : List ℕ → List ℕ
+  pub is_set : List ℕ → Bool
   pub global : List ℕ → List ℕ
   pub local : List ℕ → List ℕ
   pub caller : List ℕ
@@ -91,6 +92,7 @@ module _ {B : Type 0} where
   abbrev pub sight_by : (List ℕ → ℕ) → Option ChannelView → Option (StoreOf B) → Named → Sight
   sight_by waiting channel store globals = record {
     variable = value_or_empty (maps_by channel store globals);
+    is_set = λ name. is_some (first_value (maps_by channel store globals) name);
     global = value_or_empty (globals ∷ []);
     local = local_seen store;
     caller = caller_of channel;

@@ -1,5 +1,5 @@
 -- The value of a group, and a text with the values of its groups.
-use Rattle.std.specs.Prelude.{ℕ, List, [], ◌∷◌, ◌++◌, Option, Some, None, length, codes, if◌then◌else◌}
+use Rattle.std.specs.Prelude.{ℕ, true, List, [], ◌∷◌, ◌++◌, Option, Some, None, length, codes, if◌then◌else◌}
 use Rattle.std.specs.Fmt.{decimal}
 use Rattle.dp_conf.specs.Cut.{before_last, cut_once}
 use Rattle.dp_conf.specs.Groups.{Reading, Over, Plain, Group}
@@ -9,6 +9,7 @@ use Rattle.dp_conf.specs.Words.{same_text}
 use Rattle.dp_conf.specs.declared.groups.GroupKind.{GroupKind}
 use Rattle.dp_conf.specs.declared.groups.GroupKind.TheVariants.{Braces, Brackets}
 use Rattle.dp_expr.specs.Expression.{expression_value}
+use Rattle.dp_vars.specs.Functions.{FunctionTable, Variable}
 use Rattle.dp_vars.specs.Parts.{asked_of, part}
 use Rattle.dp_vars.specs.Sights.{Sight}
 use Rattle.dp_vars.specs.declared.value.Function.{Function}
@@ -23,6 +24,14 @@ function_of name =
     else (if same_text name (codes "CALLERID") then Some CallerId
     else (if same_text name (codes "QUEUE_WAITING_COUNT") then Some QueueWaitingCount else None))))
 
+-- their names
+abbrev pub function_name : Function → List ℕ
+function_name Global = codes "GLOBAL"
+function_name Local = codes "LOCAL"
+function_name Len = codes "LEN"
+function_name CallerId = codes "CALLERID"
+function_name QueueWaitingCount = codes "QUEUE_WAITING_COUNT"
+
 -- the number of the caller, where that is asked for
 abbrev pub caller_value : List ℕ → List ℕ → List ℕ
 caller_value caller argument = if same_text argument (codes "num") then caller else []
@@ -36,37 +45,74 @@ function_value sight (Some Len) argument = decimal (length argument)
 function_value sight (Some CallerId) argument = caller_value sight.caller argument
 function_value sight (Some QueueWaitingCount) argument = decimal (sight.waiting argument)
 
+-- the table of these functions: it knows each name, since any other is empty, and setting a name sets the variable
+abbrev pub standard_functions : FunctionTable
+standard_functions = record {
+  value = λ sight name argument. function_value sight (function_of name) argument;
+  knows = λ sight name argument. true;
+  target = λ name. Variable name;
+}
+
 -- a function has its argument between its first `(` and the last `)` after it; with no such `)` it is empty
-abbrev pub call_argument : Sight → List ℕ → Option (List ℕ) → List ℕ
-call_argument sight name None = []
-call_argument sight name (Some argument) = function_value sight (function_of name) argument
+abbrev pub call_argument_with : FunctionTable → Sight → List ℕ → Option (List ℕ) → List ℕ
+call_argument_with functions sight name None = []
+call_argument_with functions sight name (Some argument) = functions.value sight name argument
 
 -- a head with a `(` is a function, and any other the name of a variable
-abbrev pub head_by : Sight → List ℕ → Option (List ℕ × List ℕ) → List ℕ
-head_by sight head None = sight.variable head
-head_by sight head (Some cut) = call_argument sight cut.0 (before_last 41 cut.1)
+abbrev pub head_by_with : FunctionTable → Sight → List ℕ → Option (List ℕ × List ℕ) → List ℕ
+head_by_with functions sight head None = sight.variable head
+head_by_with functions sight head (Some cut) = call_argument_with functions sight cut.0 (before_last 41 cut.1)
 
 -- the value of a head
-unfoldable pub head_value : Sight → List ℕ → List ℕ
-head_value sight head = head_by sight head (cut_once 40 head)
+unfoldable pub head_value_with : FunctionTable → Sight → List ℕ → List ℕ
+head_value_with functions sight head = head_by_with functions sight head (cut_once 40 head)
 
 -- the value of a body that is cut, or of one that is not
-abbrev pub body_by : Sight → List ℕ → Option (List ℕ × List ℕ) → List ℕ
-body_by sight body None = head_value sight body
-body_by sight body (Some cut) = part (asked_of (Some cut.1)) (head_value sight cut.0)
+abbrev pub body_by_with : FunctionTable → Sight → List ℕ → Option (List ℕ × List ℕ) → List ℕ
+body_by_with functions sight body None = head_value_with functions sight body
+body_by_with functions sight body (Some cut) = part (asked_of (Some cut.1)) (head_value_with functions sight cut.0)
 
 -- the value of the expanded body of a group: in braces what stands before the first `:` outside parentheses is a
 -- variable or a function, and what stands after it asks for a part of the value; in brackets the body is an expression
-unfoldable pub group_value : Sight → GroupKind → List ℕ → List ℕ
-group_value sight Braces body = body_by sight body (cut_outside 58 body)
-group_value sight Brackets body = expression_value body
+unfoldable pub group_value_with : FunctionTable → Sight → GroupKind → List ℕ → List ℕ
+group_value_with functions sight Braces body = body_by_with functions sight body (cut_outside 58 body)
+group_value_with functions sight Brackets body = expression_value body
 
 -- a reading with each group replaced by the value of its expanded body; values are not read again
-unfoldable pub expansion_of : Sight → Reading → List ℕ
-expansion_of sight Over = []
-expansion_of sight (Plain byte rest) = byte ∷ expansion_of sight rest
-expansion_of sight (Group kind inside rest) = group_value sight kind (expansion_of sight inside) ++ expansion_of sight rest
+unfoldable pub expansion_of_with : FunctionTable → Sight → Reading → List ℕ
+expansion_of_with functions sight Over = []
+expansion_of_with functions sight (Plain byte rest) = byte ∷ expansion_of_with functions sight rest
+expansion_of_with functions sight (Group kind inside rest) =
+    group_value_with functions sight kind (expansion_of_with functions sight inside) ++ expansion_of_with functions sight rest
 
 -- the same of a text by its one reading
+abbrev pub expansion_with : FunctionTable → Sight → List ℕ → List ℕ
+expansion_with functions sight text = expansion_of_with functions sight (reading_of text)
+
+-- the value of an argument by the standard functions
+abbrev pub call_argument : Sight → List ℕ → Option (List ℕ) → List ℕ
+call_argument = call_argument_with standard_functions
+
+-- the value of a head that is cut at its `(`, by the standard functions
+abbrev pub head_by : Sight → List ℕ → Option (List ℕ × List ℕ) → List ℕ
+head_by = head_by_with standard_functions
+
+-- the value of a head by the standard functions
+abbrev pub head_value : Sight → List ℕ → List ℕ
+head_value = head_value_with standard_functions
+
+-- the value of a body that may be cut, by the standard functions
+abbrev pub body_by : Sight → List ℕ → Option (List ℕ × List ℕ) → List ℕ
+body_by = body_by_with standard_functions
+
+-- the value of a group by the standard functions
+abbrev pub group_value : Sight → GroupKind → List ℕ → List ℕ
+group_value = group_value_with standard_functions
+
+-- a reading with its groups replaced, by the standard functions
+abbrev pub expansion_of : Sight → Reading → List ℕ
+expansion_of = expansion_of_with standard_functions
+
+-- a text with its groups replaced, by the standard functions
 abbrev pub expansion : Sight → List ℕ → List ℕ
-expansion sight text = expansion_of sight (reading_of text)
+expansion = expansion_with standard_functions

@@ -2,6 +2,5 @@
 pub mod Bindings
 pub mod Expanding
 pub mod Pieces
-pub mod Shown
 pub mod Spans
 pub mod Tables

@@ -1,18 +1,22 @@
 //! A text on the way to its expansion, in one pass with no recursion.
+ghost use Rattle.std.specs.Option.{option_map};
 ghost use Rattle.std.specs.Prelude.{◌≡◌, ◌+◌, ◌≤◌, [], ◌∷◌, ◌++◌, IfOk, OnOk, drop, length, take, vec_len};
 ghost use Rattle.dp_conf.specs.Groups as groups;
 ghost use Rattle.dp_conf.specs.GroupsRead.{first_of};
 ghost use Rattle.dp_conf.specs.declared.groups.GroupKind.TheVariants as kinds;
 ghost use Rattle.dp_vars.specs.Expanding as steps;
 ghost use Rattle.dp_vars.specs.steps.Expanding as steps_steps;
-ghost use Rattle.dp_vars.specs.Pieces.{past, past_all};
+ghost use Rattle.dp_vars.specs.Functions.{FunctionTable};
+ghost use Rattle.dp_vars.specs.Pieces.{blank, past, past_all, with_cut, with_head};
 ghost use Rattle.dp_vars.specs.Sights as sights;
+ghost use Rattle.dp_vars.specs.Unknown.{any_text, earlier, unknown_group};
 ghost use Rattle.dp_vars.specs.Values as values;
 
-use crate::head::{Head, push_cut, push_full};
-use crate::reference::{push_reference, read_reference};
+use crate::functions::Functions;
+use crate::head::{CutPart, Head, push_cut, push_full};
+use crate::reference::{Called, Reference, push_value, read_reference};
 use crate::scope::{Counts, Scope};
-use crate::text_piece::TextPiece;
+use crate::text_piece::{OtherCall, TextPiece};
 use dp_conf::{GroupKind, Mark, NoMemory};
 use dp_expr::evaluate;
 use smallvec::SmallVec;
@@ -37,12 +41,28 @@ impl Default for WaitingOpening {
     }
 }
 
+/// An expanded text, and the first call in it of a function that is not known, as `DB(a/b)`.
+#[derive(Drop)]
+pub struct Expanded {
+    pub bytes: Vec<u8>,
+    pub unknown: Option<Vec<u8>>,
+}
+
+/// Bytes, where there are any.
+fn any_text(bytes: Vec<u8>) -> Option<Vec<u8>>
+    ensures { option_map (λ text. text.items) result ≡ any_text bytes.items }
+{
+    if bytes.is_empty() { None } else { Some(bytes) }
+}
+
 /// What is written, and the openings in it that wait, of which two take no memory. What never closes stands there already as
 /// plain bytes.
 #[derive(Drop)]
 pub(crate) struct Expanding {
     bytes: Vec<u8>,
     waiting: SmallVec<WaitingOpening, 2>,
+    /// The first call of a function that is not known, or no bytes.
+    unknown: Vec<u8>,
 }
 
 impl Model for Expanding {
@@ -51,36 +71,39 @@ impl Model for Expanding {
 
     ghost Value = { Written };
 
-    ghost view = { λ expanding. record { bytes = expanding.bytes.items; waiting = reverse expanding.waiting.items } };
+    ghost view = { λ expanding. record {
+      bytes = expanding.bytes.items;
+      waiting = reverse expanding.waiting.items;
+      unknown = expanding.unknown.items;
+    } };
 }
 
-/// Puts the value of a body in braces in place of the group.
-fn put_reference<B, C: Counts>(
+/// Puts the value of a body in braces in place of the group, and gives the call that is not known, or no bytes.
+fn put_reference<F: Functions, B, C: Counts>(
     alloc: Global,
     scope: &Scope<'_, B, C>,
     bytes: &mut Vec<u8>,
     start: usize,
-) -> Result<(), NoMemory>
+) -> Result<Vec<u8>, NoMemory>
     requires { start + 2 ≤ vec_len bytes.old }
-    ensures { OnOk result (bytes.new.items ≡ take start bytes.old.items
-        ++ values.group_value (sights.sight_of C.count scope.now) GroupKind.Braces (drop (start + 2) bytes.old.items)) }
+    ensures value { OnOk result (bytes.new.items ≡ take start bytes.old.items
+        ++ values.group_value_with F.table (sights.sight_of C.count scope.now) GroupKind.Braces (drop (start + 2) bytes.old.items)) }
+    ensures unknown { IfOk result (λ text. text.items
+        ≡ unknown_group F.table (sights.sight_of C.count scope.now) GroupKind.Braces (drop (start + 2) bytes.old.items)) }
 {
-    let reference = read_reference(scope, bytes.split_at(start + 2).1);
+    let reference = read_reference::<F, B, C>(alloc, scope, bytes.split_at(start + 2).1)?;
+    let Reference { called, asked } = reference;
+    let Called { value, unknown } = called;
     bytes.truncate(start);
-    push_reference(alloc, bytes, reference)?;
-    Ok(())
+    push_value(alloc, bytes, value, asked)?;
+    Ok(unknown)
 }
 
 /// Puts the value of a body in brackets in place of the group.
-fn put_expression<B, C: Counts>(
-    alloc: Global,
-    scope: &Scope<'_, B, C>,
-    bytes: &mut Vec<u8>,
-    start: usize,
-) -> Result<(), NoMemory>
+fn put_expression(alloc: Global, bytes: &mut Vec<u8>, start: usize) -> Result<(), NoMemory>
     requires { start + 2 ≤ vec_len bytes.old }
-    ensures { OnOk result (bytes.new.items ≡ take start bytes.old.items
-        ++ values.group_value (sights.sight_of C.count scope.now) GroupKind.Brackets (drop (start + 2) bytes.old.items)) }
+    ensures { OnOk result ((functions : FunctionTable) (sight : sights.Sight) → bytes.new.items ≡ take start bytes.old.items
+        ++ values.group_value_with functions sight GroupKind.Brackets (drop (start + 2) bytes.old.items)) }
 {
     let value = evaluate(alloc, bytes.split_at(start + 2).1)?;
     bytes.truncate(start);
@@ -88,19 +111,25 @@ fn put_expression<B, C: Counts>(
     Ok(())
 }
 
-/// Puts the value of a group in its place.
-fn put_value<B, C: Counts>(
+/// Puts the value of a group in its place, and gives the call in it that is not known, or no bytes.
+#[tactic(auto, unfolding(crate::specs::Unknown::unknown_group))]
+fn put_value<F: Functions, B, C: Counts>(
     alloc: Global,
     scope: &Scope<'_, B, C>,
     bytes: &mut Vec<u8>,
     waiting: WaitingOpening,
-) -> Result<(), NoMemory>
+) -> Result<Vec<u8>, NoMemory>
     requires { waiting.start + 2 ≤ vec_len bytes.old }
-    ensures { OnOk result (bytes.new.items ≡ steps.with_value (sights.sight_of C.count scope.now) waiting bytes.old.items) }
+    ensures value { OnOk result (bytes.new.items ≡ steps.with_value F.table (sights.sight_of C.count scope.now) waiting bytes.old.items) }
+    ensures unknown { IfOk result (λ text. text.items
+        ≡ unknown_group F.table (sights.sight_of C.count scope.now) waiting.kind (steps.body_in waiting bytes.old.items)) }
 {
     match waiting.kind {
-        GroupKind::Braces => put_reference(alloc, scope, bytes, waiting.start),
-        GroupKind::Brackets => put_expression(alloc, scope, bytes, waiting.start),
+        GroupKind::Braces => put_reference::<F, B, C>(alloc, scope, bytes, waiting.start),
+        GroupKind::Brackets => {
+            put_expression(alloc, bytes, waiting.start)?;
+            Ok(Vec::new(alloc))
+        }
     }
 }
 
@@ -117,12 +146,13 @@ fn opener(kind: GroupKind) -> u8
 impl Expanding {
     /// Nothing is written yet, and there is room for so many bytes.
     pub(crate) fn with_room(alloc: Global, room: usize) -> Result<Self, NoMemory>
-        ensures { IfOk result (λ expanding. expanding ≡ record { bytes = []; waiting = [] }) }
+        ensures { IfOk result (λ expanding. expanding ≡ blank) }
     {
         let bytes = Vec::with_capacity(alloc, room)?;
         Ok(Expanding {
             bytes,
             waiting: SmallVec::new(alloc),
+            unknown: Vec::new(alloc),
         })
     }
 
@@ -141,6 +171,7 @@ impl Expanding {
         ensures { OnOk result (self.new ≡ record {
           bytes = self.old.bytes ++ 36 ∷ groups.opener kind ∷ [];
           waiting = record { kind = kind; start = length self.old.bytes } ∷ self.old.waiting;
+          unknown = self.old.unknown;
         }) }
     {
         let start = self.bytes.len();
@@ -150,33 +181,46 @@ impl Expanding {
         Ok(())
     }
 
+    /// Keeps a call that is not known, where it is the first.
+    fn note(&mut self, unknown: Vec<u8>)
+        ensures { self.new ≡ record self.old { unknown = earlier self.old.unknown unknown.items } }
+    {
+        if self.unknown.is_empty() {
+            self.unknown = unknown;
+        }
+    }
+
     /// Ends the innermost group.
-    fn close<B, C: Counts>(
+    fn close<F: Functions, B, C: Counts>(
         &mut self,
         alloc: Global,
         scope: &Scope<'_, B, C>,
     ) -> Result<(), NoMemory>
         requires { steps_steps.AreWritten self.old }
-        ensures { OnOk result (self.new ≡ steps.after_group (sights.sight_of C.count scope.now) self.old.waiting self.old.bytes) }
+        ensures { OnOk result (self.new ≡ steps.after_group F.table (sights.sight_of C.count scope.now) self.old.waiting self.old.bytes self.old.unknown) }
     {
         match self.waiting.pop() {
-            Some(waiting) => put_value(alloc, scope, &mut self.bytes, waiting),
+            Some(waiting) => {
+                let unknown = put_value::<F, B, C>(alloc, scope, &mut self.bytes, waiting)?;
+                self.note(unknown);
+                Ok(())
+            }
             None => Ok(()),
         }
     }
 
     /// Goes after a mark.
-    pub(crate) fn take<B, C: Counts>(
+    pub(crate) fn take<F: Functions, B, C: Counts>(
         &mut self,
         alloc: Global,
         scope: &Scope<'_, B, C>,
         mark: Mark,
     ) -> Result<(), NoMemory>
         requires { steps_steps.AreWritten self.old }
-        ensures { OnOk result (self.new ≡ steps.after (sights.sight_of C.count scope.now) mark self.old) }
+        ensures { OnOk result (self.new ≡ steps.after F.table (sights.sight_of C.count scope.now) mark self.old) }
     {
         match mark {
-            Mark::End => self.close(alloc, scope),
+            Mark::End => self.close::<F, B, C>(alloc, scope),
             Mark::Opening(kind) => self.open(kind),
             Mark::Byte(byte) => {
                 self.bytes.push(byte)?;
@@ -185,8 +229,38 @@ impl Expanding {
         }
     }
 
+    /// Writes the value of a head.
+    fn write_head<F: Functions, B, C: Counts>(
+        &mut self,
+        alloc: Global,
+        scope: &Scope<'_, B, C>,
+        text: &[u8],
+        head: Head,
+    ) -> Result<(), NoMemory>
+        ensures { OnOk result (self.new ≡ with_head F.table (sights.sight_of C.count scope.now) text.now self.old head) }
+    {
+        let unknown = push_full::<F, B, C>(alloc, scope, text, head, &mut self.bytes)?;
+        self.note(unknown);
+        Ok(())
+    }
+
+    /// Writes a part of the value of a head.
+    fn write_cut<F: Functions, B, C: Counts>(
+        &mut self,
+        alloc: Global,
+        scope: &Scope<'_, B, C>,
+        text: &[u8],
+        cut: CutPart,
+    ) -> Result<(), NoMemory>
+        ensures { OnOk result (self.new ≡ with_cut F.table (sights.sight_of C.count scope.now) text.now self.old cut) }
+    {
+        let unknown = push_cut::<F, B, C>(alloc, scope, text, cut, &mut self.bytes)?;
+        self.note(unknown);
+        Ok(())
+    }
+
     /// Goes after a piece of this text.
-    fn write<B, C: Counts>(
+    fn write<F: Functions, B, C: Counts>(
         &mut self,
         alloc: Global,
         scope: &Scope<'_, B, C>,
@@ -194,46 +268,62 @@ impl Expanding {
         piece: &TextPiece,
     ) -> Result<(), NoMemory>
         requires { steps_steps.AreWritten self.old }
-        ensures { OnOk result (self.new ≡ past (sights.sight_of C.count scope.now) text.now self.old piece.now) }
+        ensures { OnOk result (self.new ≡ past F.table (sights.sight_of C.count scope.now) text.now self.old piece.now) }
     {
-        let bytes = &mut self.bytes;
         match piece {
-            TextPiece::Run(span) => bytes.extend_from_slice(span.of(text)),
-            TextPiece::Name(name) => push_full(alloc, scope, text, Head::Name(*name), bytes),
-            TextPiece::Call(function, argument) => {
-                push_full(alloc, scope, text, Head::Call(*function, *argument), bytes)
+            TextPiece::Run(span) => self.bytes.extend_from_slice(span.of(text)),
+            TextPiece::Name(name) => {
+                self.write_head::<F, B, C>(alloc, scope, text, Head::Name(*name))
             }
-            TextPiece::Part(cut) => push_cut(alloc, scope, text, **cut, bytes),
-            TextPiece::Known(value) => bytes.extend_from_slice(value),
-            TextPiece::Empty => Ok(()),
+            TextPiece::Call(function, argument) => {
+                let head = Head::Call(*function, *argument);
+                self.write_head::<F, B, C>(alloc, scope, text, head)
+            }
+            TextPiece::Other(call) => {
+                let OtherCall { name, argument } = **call;
+                let head = Head::Other(name, argument);
+                self.write_head::<F, B, C>(alloc, scope, text, head)
+            }
+            TextPiece::Part(cut) => self.write_cut::<F, B, C>(alloc, scope, text, **cut),
+            TextPiece::Known(value) => self.bytes.extend_from_slice(value),
+            TextPiece::Empty => self.write_head::<F, B, C>(alloc, scope, text, Head::Empty),
             TextPiece::Begins(kind) => self.open(*kind),
-            TextPiece::Ends => self.close(alloc, scope),
+            TextPiece::Ends => self.close::<F, B, C>(alloc, scope),
         }
     }
 
     /// What is written, where the text ends.
-    pub(crate) fn finish(self) -> Vec<u8>
-        ensures { result.items ≡ self.bytes }
+    pub(crate) fn finish(self) -> Expanded
+        ensures bytes { result.bytes.items ≡ self.bytes }
+        ensures unknown { option_map (λ bytes. bytes.items) result.unknown ≡ any_text self.unknown }
     {
-        let Expanding { bytes, waiting } = self;
+        let Expanding {
+            bytes,
+            waiting,
+            unknown,
+        } = self;
         drop(waiting);
-        bytes
+        let unknown = any_text(unknown);
+        Expanded { bytes, unknown }
     }
 }
 
 /// Writes the pieces of a text.
-pub(crate) fn write_pieces<B, C: Counts>(
+pub(crate) fn write_pieces<F: Functions, B, C: Counts>(
     alloc: Global,
     scope: &Scope<'_, B, C>,
     text: &[u8],
     pieces: &[TextPiece],
-) -> Result<Vec<u8>, NoMemory>
-    ensures { IfOk result (λ bytes. bytes.items ≡ (past_all (sights.sight_of C.count scope.now) text.now pieces.now).bytes) }
+) -> Result<Expanded, NoMemory>
+    ensures bytes { IfOk result (λ expanded. expanded.bytes.items
+        ≡ (past_all F.table (sights.sight_of C.count scope.now) text.now pieces.now).bytes) }
+    ensures unknown { IfOk result (λ expanded. option_map (λ bytes. bytes.items) expanded.unknown
+        ≡ any_text (past_all F.table (sights.sight_of C.count scope.now) text.now pieces.now).unknown) }
 {
     let mut expanding = Expanding::with_room(alloc, text.len())?;
     let mut left = pieces;
     while let Some((piece, after)) = left.split_first() {
-        expanding.write(alloc, scope, text, piece)?;
+        expanding.write::<F, B, C>(alloc, scope, text, piece)?;
         left = after;
     }
     Ok(expanding.finish())

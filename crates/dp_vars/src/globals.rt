@@ -1,7 +1,7 @@
 //! The global variables, after the Asterisk documentation's page on variables.
-ghost use Rattle.std.specs.Prelude.{◌≡◌, ◌∷◌, [], OnErr, OnOk};
+ghost use Rattle.std.specs.Prelude.{◌≡◌, ◌∷◌, [], OnErr, OnOk, is_some};
 ghost use Rattle.std.specs.FinMap as finite;
-ghost use Rattle.dp_vars.specs.Variables.{value_or_empty};
+ghost use Rattle.dp_vars.specs.Variables.{first_value, value_or_empty};
 
 use crate::variables::Variables;
 use dp_conf::NoMemory;
@@ -52,6 +52,13 @@ impl Globals {
         ensures err { OnErr result (self.new ≡ self.old) }
     {
         self.variables.insert(alloc, name, value)
+    }
+
+    /// Whether there is a global of that name.
+    pub fn has(&self, name: &[u8]) -> bool
+        ensures { result ≡ is_some (first_value (self.now ∷ []) name.now) }
+    {
+        self.variables.get(name).is_some()
     }
 
     /// The value of the global of that name; the empty text where there is none.

@@ -1,17 +1,19 @@
 //! Variables and functions whose names are known before anything is expanded, so that they are read once.
-ghost use Rattle.std.specs.Prelude.{◌≡◌, ◌++◌, OnOk};
+ghost use Rattle.std.specs.Prelude.{◌≡◌, ◌++◌, IfOk, OnOk};
 ghost use Rattle.dp_conf.specs.Cut.{before_last};
+ghost use Rattle.dp_vars.specs.Functions.{FunctionTable};
 ghost use Rattle.dp_vars.specs.Heads as spec;
-ghost use Rattle.dp_vars.specs.steps.Shown.{value_bytes};
+ghost use Rattle.dp_vars.specs.Shown.{value_bytes};
 ghost use Rattle.dp_vars.specs.Sights.{Sight, sight_of};
 ghost use Rattle.dp_vars.specs.Spans.{text_at};
 ghost use Rattle.dp_vars.specs.Values as values;
 
+use crate::functions::{FunctionName, Functions};
 use crate::part::Selection;
-use crate::reference::{Reference, push_reference};
+use crate::reference::{Called, called_value, plain_value, push_value};
 use crate::scope::{Counts, Scope};
 use crate::span::Span;
-use crate::value::{FoundValue, Function, function_of, function_value, variable};
+use crate::value::{FoundValue, Function, function_of, variable};
 use dp_conf::{NoMemory, before_last, cut_once};
 use std::alloc::Global;
 
@@ -22,7 +24,9 @@ pub(crate) enum Head {
     Name(Span),
     /// The function of the argument that stands there.
     Call(Function, Span),
-    /// No function, or one whose argument does not end.
+    /// Another function, of the name and the argument that stand there.
+    Other(Span, Span),
+    /// A function whose argument does not end.
     Empty,
 }
 
@@ -34,68 +38,91 @@ pub(crate) struct CutPart {
     pub(crate) asked: Selection,
 }
 
-/// The function of this name, with its argument in what stands after the `(`.
-fn read_call(text: &[u8], name: &[u8], after: Span) -> Head
-    ensures { (sight : Sight) → spec.head_seen sight text.now result
-        ≡ values.call_argument sight name.now (before_last 41 (text_at text.now after)) }
+/// The function of the name that stands there, with its argument in what stands after the `(`.
+fn read_call(text: &[u8], name: Span, after: Span) -> Head
+    ensures { (functions : FunctionTable) (sight : Sight) → spec.head_seen functions sight text.now result
+        ≡ values.call_argument_with functions sight (text_at text.now name) (before_last 41 (text_at text.now after)) }
 {
-    match (function_of(name), before_last(after.of(text), b')')) {
-        (Some(function), Some(argument)) => Head::Call(function, after.front(argument.len())),
-        _ => Head::Empty,
+    match before_last(after.of(text), b')') {
+        None => Head::Empty,
+        Some(argument) => {
+            let argument = after.front(argument.len());
+            match function_of(name.of(text)) {
+                Some(function) => Head::Call(function, argument),
+                None => Head::Other(name, argument),
+            }
+        }
     }
 }
 
 /// The head that stands there.
 pub(crate) fn read_head(text: &[u8], place: Span) -> Head
-    ensures { (sight : Sight) → spec.head_seen sight text.now result ≡ values.head_value sight (text_at text.now place) }
+    ensures { (functions : FunctionTable) (sight : Sight)
+        → spec.head_seen functions sight text.now result ≡ values.head_value_with functions sight (text_at text.now place) }
 {
     let head = place.of(text);
     match cut_once(head, b'(') {
         None => Head::Name(place),
-        Some((name, after)) => { read_call(text, name, place.after(head.len() - after.len())) }
+        Some((name, after)) => {
+            let rest = place.after(head.len() - after.len());
+            read_call(text, place.front(name.len()), rest)
+        }
     }
 }
 
 /// The value that a head has now.
-fn head_now<'a, B, C: Counts>(scope: &Scope<'a, B, C>, text: &[u8], head: Head) -> FoundValue<'a>
-    ensures { value_bytes result ≡ spec.head_seen (sight_of C.count scope.now) text.now head }
+fn head_now<'a, F: Functions, B, C: Counts>(
+    alloc: Global,
+    scope: &Scope<'a, B, C>,
+    text: &[u8],
+    head: Head,
+) -> Result<Called<'a>, NoMemory>
+    ensures value { IfOk result (λ called. value_bytes called.value ≡ spec.head_seen F.table (sight_of C.count scope.now) text.now head) }
+    ensures unknown { IfOk result (λ called. called.unknown.items ≡ spec.unknown_seen F.table (sight_of C.count scope.now) text.now head) }
 {
     match head {
-        Head::Name(name) => variable(scope, name.of(text)),
-        Head::Call(function, argument) => function_value(scope, function, argument.of(text)),
-        Head::Empty => FoundValue::Bytes(b""),
+        Head::Name(name) => Ok(plain_value(alloc, variable(scope, name.of(text)))),
+        Head::Call(function, argument) => {
+            let name = FunctionName::Known(function);
+            called_value::<F, B, C>(alloc, scope, name, argument.of(text))
+        }
+        Head::Other(name, argument) => {
+            let name = FunctionName::Other(name.of(text));
+            called_value::<F, B, C>(alloc, scope, name, argument.of(text))
+        }
+        Head::Empty => Ok(plain_value(alloc, FoundValue::Bytes(b""))),
     }
 }
 
-/// Adds a part of the value of a head.
-pub(crate) fn push_cut<B, C: Counts>(
+/// Adds a part of the value of a head, and gives the call that is not known, or no bytes.
+pub(crate) fn push_cut<F: Functions, B, C: Counts>(
     alloc: Global,
     scope: &Scope<'_, B, C>,
     text: &[u8],
     cut: CutPart,
     out: &mut Vec<u8>,
-) -> Result<(), NoMemory>
-    ensures { OnOk result (out.new.items
-        ≡ out.old.items ++ spec.part_seen text.now cut (spec.head_seen (sight_of C.count scope.now) text.now cut.head)) }
+) -> Result<Vec<u8>, NoMemory>
+    ensures value { OnOk result (out.new.items
+        ≡ out.old.items ++ spec.part_seen text.now cut (spec.head_seen F.table (sight_of C.count scope.now) text.now cut.head)) }
+    ensures unknown { IfOk result (λ bytes. bytes.items ≡ spec.unknown_seen F.table (sight_of C.count scope.now) text.now cut.head) }
 {
-    let value = head_now(scope, text, cut.head);
-    let asked = cut.asked;
-    push_reference(alloc, out, Reference { value, asked })?;
-    Ok(())
+    let Called { value, unknown } = head_now::<F, B, C>(alloc, scope, text, cut.head)?;
+    push_value(alloc, out, value, cut.asked)?;
+    Ok(unknown)
 }
 
-/// Adds the whole value of a head.
-pub(crate) fn push_full<B, C: Counts>(
+/// Adds the whole value of a head, and gives the call that is not known, or no bytes.
+pub(crate) fn push_full<F: Functions, B, C: Counts>(
     alloc: Global,
     scope: &Scope<'_, B, C>,
     text: &[u8],
     head: Head,
     out: &mut Vec<u8>,
-) -> Result<(), NoMemory>
-    ensures { OnOk result (out.new.items ≡ out.old.items ++ spec.head_seen (sight_of C.count scope.now) text.now head) }
+) -> Result<Vec<u8>, NoMemory>
+    ensures value { OnOk result (out.new.items ≡ out.old.items ++ spec.head_seen F.table (sight_of C.count scope.now) text.now head) }
+    ensures unknown { IfOk result (λ bytes. bytes.items ≡ spec.unknown_seen F.table (sight_of C.count scope.now) text.now head) }
 {
-    let value = head_now(scope, text, head);
-    let asked = Selection::Whole;
-    push_reference(alloc, out, Reference { value, asked })?;
-    Ok(())
+    let Called { value, unknown } = head_now::<F, B, C>(alloc, scope, text, head)?;
+    push_value(alloc, out, value, Selection::Whole)?;
+    Ok(unknown)
 }

@@ -2,7 +2,8 @@
 //!
 //! A `Store` has the variables of a channel and its frames, `Globals` what all channels share. A `Template` is a text
 //! with groups, and `expand` puts the values of a `Scope` in their places; `Pieces` do so for a text that stands elsewhere,
-//! `expand_text` with a text that was not read before, and `value_of` is the value of one name.
+//! `expand_text` with a text that was not read before, and `value_of` is the value of one name. The functions that stand in
+//! groups are those of a table: `StandardFunctions`, or with `expand_with` those of any `Functions`.
 #![tactic(auto)]
 
 mod binding_stack;
@@ -10,8 +11,10 @@ mod binding_table;
 mod change;
 mod expanding;
 mod frame;
+mod functions;
 mod globals;
 mod head;
+pub mod laws;
 mod local;
 mod local_name;
 mod opening;
@@ -29,6 +32,8 @@ mod variables;
 
 pub use change::Change;
 pub use dp_conf::MOST_NESTING;
+pub use expanding::Expanded;
+pub use functions::{FunctionName, FunctionValue, Functions, StandardFunctions, Target};
 pub use globals::Globals;
 pub use local::Local;
 pub use local_name::LocalName;
@@ -38,5 +43,8 @@ pub use pieces::Pieces;
 pub use reference::value_of;
 pub use scope::{ChannelSeen, Counts, Scope};
 pub use store::Store;
-pub use template::{Template, TemplateFault, expand, expand_text};
-pub use value::{Function, function_of};
+pub use template::{
+    Template, TemplateFault, expand, expand_text, expand_text_checked, expand_text_with,
+    expand_with,
+};
+pub use value::{FoundValue, Function, function_of, is_set, variable};

@@ -1,10 +1,12 @@
 //! Texts in which nothing opens a group.
-ghost use Rattle.std.specs.Prelude.{◌≡◌, false};
+ghost use Rattle.std.specs.Prelude.{◌≡◌, None, false};
 ghost use Rattle.std.specs.Option.{is_some};
 ghost use Rattle.dp_conf.specs.Groups.{opening};
+ghost use Rattle.dp_vars.specs.Functions.{FunctionTable};
 ghost use Rattle.dp_vars.specs.Openings as openings;
 ghost use Rattle.dp_vars.specs.Sights.{Sight};
-ghost use Rattle.dp_vars.specs.Values.{expansion};
+ghost use Rattle.dp_vars.specs.Unknown.{first_unknown};
+ghost use Rattle.dp_vars.specs.Values.{expansion, expansion_with};
 
 /// Whether a byte opens a group, by the bytes after it.
 fn opens(byte: u8, after: &[u8]) -> bool
@@ -36,6 +38,11 @@ fn holds_opening(text: &[u8]) -> bool
 /// It takes no memory.
 pub fn has_opening(text: &[u8]) -> bool
     ensures opening { result ≡ openings.has_opening text.now }
+    // Whatever functions there are.
+    ensures any { result ≡ false → (functions : FunctionTable) (sight : Sight) → expansion_with functions sight text.now ≡ text.now }
+    // And all in it is known.
+    ensures known { result ≡ false → (functions : FunctionTable) (sight : Sight) → first_unknown functions sight text.now ≡ None }
+    // And so with the standard ones.
     ensures same { result ≡ false → (sight : Sight) → expansion sight text.now ≡ text.now }
 {
     holds_opening(text)

@@ -1,11 +1,11 @@
 //! A text on the way to its pieces, in one pass with no recursion.
 ghost use Rattle.std.specs.Prelude.{◌≡◌, ◌≤◌, [], ◌∷◌, ◌++◌, IfOk, OnOk, drop, reverse};
 ghost use Rattle.dp_conf.specs.GroupsRead.{first_of, outer_of};
-ghost use Rattle.dp_vars.specs.Expanding.{after};
+ghost use Rattle.dp_vars.specs.Functions.{FunctionTable};
 ghost use Rattle.dp_vars.specs.steps.Pieces as spec;
 ghost use Rattle.dp_vars.specs.Sights.{Sight};
 ghost use Rattle.dp_vars.specs.steps.Spans.{span_at};
-ghost use Rattle.dp_vars.specs.Values.{expansion};
+ghost use Rattle.dp_vars.specs.Pieces.{Come};
 
 use crate::span::Span;
 use crate::text_piece::TextPiece;
@@ -163,8 +163,8 @@ impl Parsing {
 
 /// Reads a text to its end.
 pub(crate) fn parse(alloc: Global, text: &[u8]) -> Result<Parsing, NoMemory>
-    ensures { IfOk result (λ parsing. (sight : Sight)
-        → (spec.past_last sight text.now parsing.pieces).bytes ++ drop parsing.run.from text.now ≡ expansion sight text.now) }
+    ensures { IfOk result (λ parsing. (functions : FunctionTable) (sight : Sight)
+        → Come functions sight text.now (spec.past_last functions sight text.now parsing.pieces) parsing.run.from) }
 {
     let mut parsing = Parsing::new(alloc);
     let mut rest = text;

@@ -1,10 +1,13 @@
 //! Texts that were read once, to be expanded often.
+ghost use Rattle.std.specs.Option.{option_map};
 ghost use Rattle.std.specs.Prelude.{◌≡◌, IfOk};
 ghost use Rattle.dp_vars.specs.Pieces.{AreOf};
 ghost use Rattle.dp_vars.specs.Sights.{sight_of};
-ghost use Rattle.dp_vars.specs.Values.{expansion};
+ghost use Rattle.dp_vars.specs.Unknown.{first_unknown};
+ghost use Rattle.dp_vars.specs.Values.{expansion, expansion_with};
 
-use crate::expanding::write_pieces;
+use crate::expanding::{Expanded, write_pieces};
+use crate::functions::{Functions, StandardFunctions};
 use crate::parsing::parse;
 use crate::scope::{Counts, Scope};
 use crate::text_piece::TextPiece;
@@ -59,8 +62,59 @@ impl Pieces {
         ensures { AreOf text.now self.now
             → IfOk result (λ bytes. bytes.items ≡ expansion (sight_of C.count scope.now) text.now) }
     {
-        let mut bytes = write_pieces(alloc, scope, text, &self.pieces)?;
+        self.expand_with::<StandardFunctions, B, C>(alloc, text, scope)
+    }
+
+    /// The expansion of their text by the functions of a table, as `expand` by the standard ones.
+    ///
+    /// The error comes only where a growth was refused.
+    pub fn expand_with<F: Functions, B, C: Counts>(
+        &self,
+        alloc: Global,
+        text: &[u8],
+        scope: &Scope<'_, B, C>,
+    ) -> Result<Vec<u8>, NoMemory>
+        ensures { AreOf text.now self.now
+            → IfOk result (λ bytes. bytes.items ≡ expansion_with F.table (sight_of C.count scope.now) text.now) }
+    {
+        let expanded = self.expand_checked::<F, B, C>(alloc, text, scope)?;
+        Ok(expanded.bytes)
+    }
+
+    /// The same, with the first call of a function that is not known.
+    ///
+    /// The error comes only where a growth was refused.
+    pub fn expand_checked<F: Functions, B, C: Counts>(
+        &self,
+        alloc: Global,
+        text: &[u8],
+        scope: &Scope<'_, B, C>,
+    ) -> Result<Expanded, NoMemory>
+        ensures bytes { AreOf text.now self.now
+            → IfOk result (λ expanded. expanded.bytes.items ≡ expansion_with F.table (sight_of C.count scope.now) text.now) }
+        ensures unknown { AreOf text.now self.now → IfOk result (λ expanded. option_map (λ bytes. bytes.items) expanded.unknown
+            ≡ first_unknown F.table (sight_of C.count scope.now) text.now) }
+    {
+        let written = write_pieces::<F, B, C>(alloc, scope, text, &self.pieces)?;
+        let Expanded { mut bytes, unknown } = written;
         bytes.extend_from_slice(text.split_at(self.tail.min(text.len())).1)?;
-        Ok(bytes)
+        Ok(Expanded { bytes, unknown })
+    }
+
+    /// The first call in their text of a function that is not known, in the order in which groups are expanded, with its
+    /// argument expanded, as `DB(a/b)`.
+    ///
+    /// The error comes only where a growth was refused.
+    pub fn first_unknown<F: Functions, B, C: Counts>(
+        &self,
+        alloc: Global,
+        text: &[u8],
+        scope: &Scope<'_, B, C>,
+    ) -> Result<Option<Vec<u8>>, NoMemory>
+        ensures { AreOf text.now self.now → IfOk result (λ unknown. option_map (λ bytes. bytes.items) unknown
+            ≡ first_unknown F.table (sight_of C.count scope.now) text.now) }
+    {
+        let expanded = self.expand_checked::<F, B, C>(alloc, text, scope)?;
+        Ok(expanded.unknown)
     }
 }

@@ -1,12 +1,15 @@
 //! Texts that are expanded when they are used, after the Asterisk documentation's pages on variables.
 ghost use Rattle.std.specs.Prelude.{◌≡◌, ◌<◌, ◌≤◌, IfErr, IfOk};
+ghost use Rattle.std.specs.Option.{option_map};
 ghost use Rattle.dp_conf.specs.Groups.{Reading, IsReading};
 ghost use Rattle.dp_conf.specs.GroupsRead.{nesting_of};
 ghost use Rattle.dp_vars.specs.declared.template.TemplateFault.TheVariants as faults;
 ghost use Rattle.dp_vars.specs.Sights.{sight_of};
-ghost use Rattle.dp_vars.specs.Values.{expansion_of, expansion};
+ghost use Rattle.dp_vars.specs.Unknown.{first_unknown};
+ghost use Rattle.dp_vars.specs.Values.{expansion_of, expansion, expansion_of_with, expansion_with};
 
-use crate::expanding::Expanding;
+use crate::expanding::{Expanded, Expanding};
+use crate::functions::{Functions, StandardFunctions};
 use crate::pieces::Pieces;
 use crate::scope::{Counts, Scope};
 use dp_conf::{MOST_NESTING, NoMemory, nesting, next_mark};
@@ -83,10 +86,39 @@ pub fn expand_text<B, C: Counts>(
 ) -> Result<Vec<u8>, NoMemory>
     ensures { IfOk result (λ bytes. bytes.items ≡ expansion (sight_of C.count scope.now) text.now) }
 {
+    expand_text_with::<StandardFunctions, B, C>(alloc, text, scope)
+}
+
+/// A text with each group replaced by its value, by the functions of a table.
+///
+/// The error comes only where a growth was refused.
+pub fn expand_text_with<F: Functions, B, C: Counts>(
+    alloc: Global,
+    text: &[u8],
+    scope: &Scope<'_, B, C>,
+) -> Result<Vec<u8>, NoMemory>
+    ensures { IfOk result (λ bytes. bytes.items ≡ expansion_with F.table (sight_of C.count scope.now) text.now) }
+{
+    let expanded = expand_text_checked::<F, B, C>(alloc, text, scope)?;
+    Ok(expanded.bytes)
+}
+
+/// The same, with the first call of a function that is not known.
+///
+/// The error comes only where a growth was refused.
+pub fn expand_text_checked<F: Functions, B, C: Counts>(
+    alloc: Global,
+    text: &[u8],
+    scope: &Scope<'_, B, C>,
+) -> Result<Expanded, NoMemory>
+    ensures bytes { IfOk result (λ expanded. expanded.bytes.items ≡ expansion_with F.table (sight_of C.count scope.now) text.now) }
+    ensures unknown { IfOk result (λ expanded. option_map (λ bytes. bytes.items) expanded.unknown
+        ≡ first_unknown F.table (sight_of C.count scope.now) text.now) }
+{
     let mut expanding = Expanding::with_room(alloc, text.len())?;
     let mut rest = text;
     while let Some((mark, after)) = next_mark(rest, expanding.innermost()) {
-        expanding.take(alloc, scope, mark)?;
+        expanding.take::<F, B, C>(alloc, scope, mark)?;
         rest = after;
     }
     Ok(expanding.finish())
@@ -109,6 +141,25 @@ pub fn expand<B, C: Counts>(
     // The same by a function.
     ensures exact { IfOk result (λ bytes. bytes.items ≡ expansion (sight_of C.count scope.now) template.now) }
 {
-    let bytes = template.pieces.expand(alloc, &template.text, scope)?;
+    expand_with::<StandardFunctions, B, C>(alloc, template, scope)
+}
+
+/// The template with each group replaced by its value, as `expand` does, by the functions of a table.
+///
+/// The error comes only where a growth was refused.
+pub fn expand_with<F: Functions, B, C: Counts>(
+    alloc: Global,
+    template: &Template,
+    scope: &Scope<'_, B, C>,
+) -> Result<Vec<u8>, NoMemory>
+    // By the text's one reading.
+    ensures reading { (reading : Reading) → IsReading template.now reading
+        → IfOk result (λ bytes. bytes.items ≡ expansion_of_with F.table (sight_of C.count scope.now) reading) }
+    // The same by a function.
+    ensures exact { IfOk result (λ bytes. bytes.items ≡ expansion_with F.table (sight_of C.count scope.now) template.now) }
+{
+    let bytes = template
+        .pieces
+        .expand_with::<F, B, C>(alloc, &template.text, scope)?;
     Ok(bytes)
 }

@@ -1,8 +1,8 @@
 //! The pieces of a text with groups.
 ghost use Rattle.std.specs.Prelude.{◌≡◌, ℕ, List, IfOk};
 ghost use Rattle.dp_vars.specs.Expanding.{Written};
-ghost use Rattle.dp_vars.specs.Heads.{head_seen};
-ghost use Rattle.dp_vars.specs.Pieces.{past, with_bytes};
+ghost use Rattle.dp_vars.specs.Functions.{FunctionTable};
+ghost use Rattle.dp_vars.specs.Pieces.{past, with_head};
 ghost use Rattle.dp_vars.specs.steps.Pieces.{IsGroup};
 ghost use Rattle.dp_vars.specs.Sights.{Sight};
 
@@ -15,6 +15,13 @@ use dp_expr::evaluate;
 use std::alloc::Global;
 use std::mem::size_of;
 
+/// A function that is none of the five, by the places of its name and its argument.
+#[derive(Clone, Copy)]
+pub(crate) struct OtherCall {
+    pub(crate) name: Span,
+    pub(crate) argument: Span,
+}
+
 /// A piece of a text: plain bytes, a group that holds no group, as what it stands for, or where another group begins or
 /// ends.
 #[derive(Drop)]
@@ -25,6 +32,8 @@ pub(crate) enum TextPiece {
     Name(Span),
     /// The function of the argument that stands there.
     Call(Function, Span),
+    /// Another function.
+    Other(Box<OtherCall>),
     /// A part of the value of one of these.
     Part(Box<CutPart>),
     /// The value of an expression.
@@ -41,14 +50,18 @@ pub(crate) enum TextPiece {
 const _: () = prove!(size_of::<TextPiece>() == 24);
 
 /// The whole value of a head.
-fn full(head: Head) -> TextPiece
-    ensures { (sight : Sight) (text : List ℕ) (written : Written)
-        → past sight text written result ≡ with_bytes written (head_seen sight text head) }
+fn full(alloc: Global, head: Head) -> Result<TextPiece, NoMemory>
+    ensures { IfOk result (λ piece. (functions : FunctionTable) (sight : Sight) (text : List ℕ) (written : Written)
+        → past functions sight text written piece ≡ with_head functions sight text written head) }
 {
     match head {
-        Head::Name(name) => TextPiece::Name(name),
-        Head::Call(function, argument) => TextPiece::Call(function, argument),
-        Head::Empty => TextPiece::Empty,
+        Head::Name(name) => Ok(TextPiece::Name(name)),
+        Head::Call(function, argument) => Ok(TextPiece::Call(function, argument)),
+        Head::Other(name, argument) => {
+            let call = Box::new(alloc, OtherCall { name, argument })?;
+            Ok(TextPiece::Other(call))
+        }
+        Head::Empty => Ok(TextPiece::Empty),
     }
 }
 
@@ -58,7 +71,10 @@ fn read_braces(alloc: Global, text: &[u8], place: Span) -> Result<TextPiece, NoM
 {
     let body = place.of(text);
     match cut_outside(body, b':') {
-        None => Ok(full(read_head(text, place))),
+        None => {
+            let piece = full(alloc, read_head(text, place))?;
+            Ok(piece)
+        }
         Some((head, tail)) => {
             let cut = CutPart {
                 head: read_head(text, place.front(head.len())),
@@ -72,7 +88,6 @@ fn read_braces(alloc: Global, text: &[u8], place: Span) -> Result<TextPiece, NoM
 }
 
 /// The group whose body stands there, in brackets.
-#[tactic(auto, unfolding(crate::specs::Values::group_value))]
 fn read_brackets(alloc: Global, text: &[u8], place: Span) -> Result<TextPiece, NoMemory>
     ensures { IfOk result (IsGroup text.now GroupKind.Brackets place) }
 {

@@ -1,10 +1,9 @@
 //! The values of names and of functions, after the Asterisk documentation's pages on variables and functions.
-ghost use Rattle.std.specs.Prelude.{◌≡◌, [], ◌∷◌, MatchOption, None, Some, unwrap_or};
+ghost use Rattle.std.specs.Prelude.{◌≡◌, [], ◌∷◌, MatchOption, None, Some, is_some, unwrap_or};
 ghost use Rattle.std.specs.Option.{option_map, option_map_or};
 ghost use Rattle.std.specs.Map.{lookup};
-ghost use Rattle.dp_conf.specs.Cut as cuts;
 ghost use Rattle.dp_conf.specs.Words.{same_text};
-ghost use Rattle.dp_vars.specs.steps.Shown.{value_bytes};
+ghost use Rattle.dp_vars.specs.Shown.{value_bytes};
 ghost use Rattle.dp_vars.specs.Sights as sights;
 ghost use Rattle.dp_vars.specs.Stores as stores;
 ghost use Rattle.dp_vars.specs.Values as values;
@@ -12,15 +11,18 @@ ghost use Rattle.dp_vars.specs.Variables.{first_value, value_or_empty};
 
 use crate::scope::{ChannelSeen, Counts, Scope};
 use crate::store::Store;
-use dp_conf::{before_last, cut_once};
 
 /// A value as it was found, of which no copy is made.
-#[derive(Clone, Copy)]
-pub(crate) enum FoundValue<'a> {
+#[derive(Drop)]
+pub enum FoundValue<'a> {
+    /// Bytes that stand elsewhere.
     Bytes(&'a [u8]),
+    /// A number, which is written in decimal.
     Number(u64),
     /// The name of the channel of this number.
     Channel(u32),
+    /// Bytes that were made for this value.
+    Owned(Vec<u8>),
 }
 
 /// A name that a channel gives.
@@ -85,8 +87,21 @@ fn stored_value<'a, B>(store: Option<&'a Store<B>>, name: &[u8]) -> Option<&'a [
     }
 }
 
-/// The value of a name, by what the channel gives and else by the variables and the globals.
-pub(crate) fn variable<'a, B, C>(scope: &Scope<'a, B, C>, name: &[u8]) -> FoundValue<'a>
+/// Whether a name has a value: from the channel, or as a local, a variable or a global.
+pub fn is_set<B, C>(scope: &Scope<'_, B, C>, name: &[u8]) -> bool
+    ensures { result ≡ is_some (first_value (sights.maps_of scope.now) name.now) }
+{
+    if let Some(_given) = given_of(name) {
+        return true;
+    }
+    match stored_value::<B>(scope.store, name) {
+        Some(_value) => true,
+        None => scope.globals.has(name),
+    }
+}
+
+/// The value of a name, by what the channel gives and else by the variables and the globals; empty where it has none.
+pub fn variable<'a, B, C>(scope: &Scope<'a, B, C>, name: &[u8]) -> FoundValue<'a>
     ensures { value_bytes result ≡ value_or_empty (sights.maps_of scope.now) name.now }
 {
     if let Some(given) = given_of(name) {
@@ -143,6 +158,19 @@ pub fn function_of(name: &[u8]) -> Option<Function>
     }
 }
 
+/// The name of a function.
+pub(crate) fn function_name<'a>(function: Function) -> &'a [u8]
+    ensures { result.now ≡ values.function_name function }
+{
+    match function {
+        Function::Global => b"GLOBAL",
+        Function::Local => b"LOCAL",
+        Function::Len => b"LEN",
+        Function::CallerId => b"CALLERID",
+        Function::QueueWaitingCount => b"QUEUE_WAITING_COUNT",
+    }
+}
+
 /// The value of a function of an argument.
 pub(crate) fn function_value<'a, B, C: Counts>(
     scope: &Scope<'a, B, C>,
@@ -157,30 +185,5 @@ pub(crate) fn function_value<'a, B, C: Counts>(
         Function::Len => FoundValue::Number(argument.len() as u64),
         Function::CallerId => FoundValue::Bytes(caller(scope.channel, argument)),
         Function::QueueWaitingCount => FoundValue::Number(scope.counts.waiting(argument) as u64),
-    }
-}
-
-/// The value of a function by its name and by what stands after the `(`.
-fn call_value<'a, B, C: Counts>(
-    scope: &Scope<'a, B, C>,
-    name: &[u8],
-    after: &[u8],
-) -> FoundValue<'a>
-    ensures { value_bytes result ≡ values.call_argument (sights.sight_of C.count scope.now) name.now (cuts.before_last 41 after.now) }
-{
-    match (function_of(name), before_last(after, b')')) {
-        (Some(function), Some(argument)) => function_value(scope, function, argument),
-        _ => FoundValue::Bytes(b""),
-    }
-}
-
-/// The value of a variable, or of a function where there is a `(`.
-#[tactic(auto, unfolding(crate::specs::Values::head_value))]
-pub(crate) fn head_value<'a, B, C: Counts>(scope: &Scope<'a, B, C>, head: &[u8]) -> FoundValue<'a>
-    ensures { value_bytes result ≡ values.head_value (sights.sight_of C.count scope.now) head.now }
-{
-    match cut_once(head, b'(') {
-        None => variable(scope, head),
-        Some((name, after)) => call_value(scope, name, after),
     }
 }

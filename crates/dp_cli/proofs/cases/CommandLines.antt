@@ -72,37 +72,49 @@ explained_name : asked_of (codes "pbx" ∷ codes "explain" ∷ codes "NoEquals" 
 unfolding clap_on_literals asked_of found_entry found_number
 explained_name = refl
 
-ran : asked_of (codes "pbx" ∷ codes "run" ∷ codes "a.conf" ∷ codes "b.script" ∷ []) ≡ Some (run (record { plan = codes "a.conf"; queues = None; second_plan = None; script = codes "b.script" }) None)
+ran : asked_of (codes "pbx" ∷ codes "run" ∷ codes "a.conf" ∷ codes "b.script" ∷ []) ≡ Some (run (record { plan = codes "a.conf"; queues = None; second_plan = None; script = codes "b.script" }) None false)
 unfolding clap_on_literals asked_of
 ran = refl
 
-ran_with_queues : asked_of (codes "pbx" ∷ codes "run" ∷ codes "--queues" ∷ codes "q.conf" ∷ codes "a.conf" ∷ codes "b.script" ∷ []) ≡ Some (run (record { plan = codes "a.conf"; queues = Some (codes "q.conf"); second_plan = None; script = codes "b.script" }) None)
+ran_with_queues : asked_of (codes "pbx" ∷ codes "run" ∷ codes "--queues" ∷ codes "q.conf" ∷ codes "a.conf" ∷ codes "b.script" ∷ []) ≡ Some (run (record { plan = codes "a.conf"; queues = Some (codes "q.conf"); second_plan = None; script = codes "b.script" }) None false)
 unfolding clap_on_literals asked_of
 ran_with_queues = refl
 
-ran_in_threads : asked_of (codes "pbx" ∷ codes "run" ∷ codes "--threads" ∷ codes "2" ∷ codes "a.conf" ∷ codes "b.script" ∷ []) ≡ Some (run (record { plan = codes "a.conf"; queues = None; second_plan = None; script = codes "b.script" }) (Some 2))
+ran_in_threads : asked_of (codes "pbx" ∷ codes "run" ∷ codes "--threads" ∷ codes "2" ∷ codes "a.conf" ∷ codes "b.script" ∷ []) ≡ Some (run (record { plan = codes "a.conf"; queues = None; second_plan = None; script = codes "b.script" }) (Some 2) false)
 unfolding clap_on_literals asked_of
 ran_in_threads = refl
 
-ran_in_threads_with_queues : asked_of (codes "pbx" ∷ codes "run" ∷ codes "--queues" ∷ codes "q.conf" ∷ codes "--threads" ∷ codes "64" ∷ codes "a.conf" ∷ codes "b.script" ∷ []) ≡ Some (run (record { plan = codes "a.conf"; queues = Some (codes "q.conf"); second_plan = None; script = codes "b.script" }) (Some 64))
+ran_in_threads_with_queues : asked_of (codes "pbx" ∷ codes "run" ∷ codes "--queues" ∷ codes "q.conf" ∷ codes "--threads" ∷ codes "64" ∷ codes "a.conf" ∷ codes "b.script" ∷ []) ≡ Some (run (record { plan = codes "a.conf"; queues = Some (codes "q.conf"); second_plan = None; script = codes "b.script" }) (Some 64) false)
 unfolding clap_on_literals asked_of
 ran_in_threads_with_queues = refl
 
-debugged : asked_of (codes "pbx" ∷ codes "debug" ∷ codes "--break" ∷ codes "main,s,1" ∷ codes "a.conf" ∷ codes "b.script" ∷ []) ≡ Some (debug (record { plan = codes "a.conf"; queues = None; second_plan = None; script = codes "b.script" }) (codes "main,s,1"))
+debugged : asked_of (codes "pbx" ∷ codes "debug" ∷ codes "--break" ∷ codes "main,s,1" ∷ codes "a.conf" ∷ codes "b.script" ∷ []) ≡ Some (debug (record { plan = codes "a.conf"; queues = None; second_plan = None; script = codes "b.script" }) (codes "main,s,1") false)
 unfolding clap_on_literals asked_of
 debugged = refl
 
-debugged_with_queues : asked_of (codes "pbx" ∷ codes "debug" ∷ codes "--queues" ∷ codes "q.conf" ∷ codes "--break" ∷ codes "x" ∷ codes "a.conf" ∷ codes "b.script" ∷ []) ≡ Some (debug (record { plan = codes "a.conf"; queues = Some (codes "q.conf"); second_plan = None; script = codes "b.script" }) (codes "x"))
+debugged_with_queues : asked_of (codes "pbx" ∷ codes "debug" ∷ codes "--queues" ∷ codes "q.conf" ∷ codes "--break" ∷ codes "x" ∷ codes "a.conf" ∷ codes "b.script" ∷ []) ≡ Some (debug (record { plan = codes "a.conf"; queues = Some (codes "q.conf"); second_plan = None; script = codes "b.script" }) (codes "x") false)
 unfolding clap_on_literals asked_of
 debugged_with_queues = refl
 
-ran_with_second_plan : asked_of (codes "pbx" ∷ codes "run" ∷ codes "--reload" ∷ codes "c.conf" ∷ codes "--threads" ∷ codes "2" ∷ codes "a.conf" ∷ codes "b.script" ∷ []) ≡ Some (run (record { plan = codes "a.conf"; queues = None; second_plan = Some (codes "c.conf"); script = codes "b.script" }) (Some 2))
+ran_with_second_plan : asked_of (codes "pbx" ∷ codes "run" ∷ codes "--reload" ∷ codes "c.conf" ∷ codes "--threads" ∷ codes "2" ∷ codes "a.conf" ∷ codes "b.script" ∷ []) ≡ Some (run (record { plan = codes "a.conf"; queues = None; second_plan = Some (codes "c.conf"); script = codes "b.script" }) (Some 2) false)
 unfolding clap_on_literals asked_of
 ran_with_second_plan = refl
 
-debugged_with_second_plan : asked_of (codes "pbx" ∷ codes "debug" ∷ codes "--break" ∷ codes "x" ∷ codes "--reload" ∷ codes "c.conf" ∷ codes "a.conf" ∷ codes "b.script" ∷ []) ≡ Some (debug (record { plan = codes "a.conf"; queues = None; second_plan = Some (codes "c.conf"); script = codes "b.script" }) (codes "x"))
+debugged_with_second_plan : asked_of (codes "pbx" ∷ codes "debug" ∷ codes "--break" ∷ codes "x" ∷ codes "--reload" ∷ codes "c.conf" ∷ codes "a.conf" ∷ codes "b.script" ∷ []) ≡ Some (debug (record { plan = codes "a.conf"; queues = None; second_plan = Some (codes "c.conf"); script = codes "b.script" }) (codes "x") false)
 unfolding clap_on_literals asked_of
 debugged_with_second_plan = refl
+
+ran_verbose : asked_of (codes "pbx" ∷ codes "run" ∷ codes "--verbose" ∷ codes "a.conf" ∷ codes "b.script" ∷ []) ≡ Some (run (record { plan = codes "a.conf"; queues = None; second_plan = None; script = codes "b.script" }) None true)
+unfolding clap_on_literals asked_of
+ran_verbose = refl
+
+ran_verbose_in_threads : asked_of (codes "pbx" ∷ codes "run" ∷ codes "a.conf" ∷ codes "b.script" ∷ codes "--verbose" ∷ codes "--threads" ∷ codes "2" ∷ []) ≡ Some (run (record { plan = codes "a.conf"; queues = None; second_plan = None; script = codes "b.script" }) (Some 2) true)
+unfolding clap_on_literals asked_of
+ran_verbose_in_threads = refl
+
+debugged_verbose : asked_of (codes "pbx" ∷ codes "debug" ∷ codes "--break" ∷ codes "x" ∷ codes "--verbose" ∷ codes "a.conf" ∷ codes "b.script" ∷ []) ≡ Some (debug (record { plan = codes "a.conf"; queues = None; second_plan = None; script = codes "b.script" }) (codes "x") true)
+unfolding clap_on_literals asked_of
+debugged_verbose = refl
 
 -- whether each fault is to be explained
 no_command_explains : explains_of (codes "pbx" ∷ []) ≡ false

@@ -180,6 +180,9 @@ fn push_event(out: &mut String, event: &Event) -> Result<(), NoMemory> {
         Event::Decline { agent } => write!(out, "decline{{{agent}}}"),
         Event::AgentDone { agent } => write!(out, "done{{{agent}}}"),
         Event::Reload { text } => write!(out, "reload{{{text}}}"),
+        Event::Assign { .. } | Event::Redirect { .. } => {
+            out.push_str("an event that no line gives")
+        }
     }
 }
 

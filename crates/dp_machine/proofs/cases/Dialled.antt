@@ -1,7 +1,7 @@
--- Events of a channel that waits for what comes of its call to devices, and of another dialplan, whose answers are computed on the
--- definitions themselves.
+-- Events of a channel that waits for what comes of its call to devices, and events from outside: another dialplan, a name that is
+-- set, and a redirection. Their answers are computed on the definitions themselves.
 use Rattle.std.proofs.Common.{◌≡◌, ℕ, Bool, true, false, List, [], ◌∷◌, None, Some, refl}
-use Rattle.std.specs.FinMap.{empty}
+use Rattle.std.specs.FinMap.{empty, insert}
 use Rattle.std.specs.Prelude.{codes}
 use Rattle.std.specs.Str.{byte}
 use Rattle.dp_lookup.specs.FoundEntry.{found_entry}
@@ -10,20 +10,21 @@ use Rattle.dp_pattern.specs.Name.{Plain}
 use Rattle.dp_plan.specs.Plan.{PlanOf}
 use Rattle.dp_plan.specs.declared.entry.Entry.{Entry}
 use Rattle.dp_vars.specs.Stores.{nothing, set}
-use Rattle.dp_app.specs.Tables.{no_rows}
+use Rattle.dp_app.specs.Tables.{no_meanings}
 use Rattle.dp_app.specs.declared.phase.Phase.{Phase}
 use Rattle.dp_app.specs.declared.phase.Phase.TheVariants.{Ready, Pause, Dialling, Ended as over}
 use Rattle.dp_app.specs.declared.place.Place.{Place}
 use Rattle.dp_machine.specs.Channels.{hung_up}
-use Rattle.dp_machine.specs.Events.{dial_result_row, digit_row, event_row, hang_up_row, poll_row, timeout_row}
+use Rattle.dp_machine.specs.Events.{assign_row, dial_result_row, digit_row, event_row, hang_up_row, poll_row, redirect_row, timeout_row}
 use Rattle.dp_machine.specs.Found.{is_found}
+use Rattle.dp_vars.specs.Values.{standard_functions}
 use Rattle.dp_machine.specs.Reloading.{reloaded_by}
 use Rattle.dp_machine.specs.World.{World, world_of}
 use Rattle.dp_machine.specs.declared.channel.Channel.{Channel}
 use Rattle.dp_machine.specs.declared.dial_status.DialStatus.TheVariants.{Answer, Busy}
 use Rattle.dp_machine.specs.declared.event.Event.{Event}
-use Rattle.dp_machine.specs.declared.event.Event.TheVariants.{Digit, Timeout, Poll, Hangup, DialResult}
-use Rattle.dp_machine.specs.declared.refusal.Refusal.TheVariants.{BadPlan, Ended, NotDialling, NotWaiting, NoTimer}
+use Rattle.dp_machine.specs.declared.event.Event.TheVariants.{Digit, Timeout, Poll, Hangup, DialResult, Assign, Redirect}
+use Rattle.dp_machine.specs.declared.refusal.Refusal.TheVariants.{BadPlan, Ended, NoChannel, NotDialling, NotReady, NotWaiting, NoTimer}
 use Rattle.dp_machine.specs.declared.reply.Reply.{Reply}
 use Rattle.dp_machine.specs.declared.reply.Reply.TheVariants.{Done, Refused}
 
@@ -68,7 +69,7 @@ abbrev world : Channel → World
 world c = world_of plan (c ∷ []) (record { globals = empty; queues = record { queues = []; agents = []; finished = 0 } })
 
 abbrev after : Channel → Event → World × Reply
-after c event = event_row no_rows (world c) event
+after c event = event_row no_meanings (world c) event
 
 result-busy : after (dials false true) (DialResult 1 Busy) ≡ (world (with_dial_status_of (codes "BUSY") goes), Done)
 unfolding dial_result_row
@@ -113,8 +114,41 @@ unfolding poll_row
 poll-dials = refl
 
 -- another dialplan leaves the channels, and one with a fault leaves all
-reload-taken : reloaded_by (world (dials false true)) (Some empty_plan) ≡ (record (world (dials false true)) { plan = empty_plan }, Done)
+reload-taken : reloaded_by standard_functions (world (dials false true)) (Some empty_plan) ≡ (record (world (dials false true)) { plan = empty_plan }, Done)
 reload-taken = refl
 
-reload-refused : reloaded_by (world (dials false true)) None ≡ (world (dials false true), Refused BadPlan)
+reload-refused : reloaded_by standard_functions (world (dials false true)) None ≡ (world (dials false true), Refused BadPlan)
 reload-refused = refl
+
+-- a name that is set from outside is the channel's variable, also while the channel waits
+assign-variable : after (dials false true) (Assign (Some 1) (codes "A") (codes "5")) ≡
+    (world (record (dials false true) { store = set nothing (codes "A") (codes "5") }), Done)
+unfolding assign_row
+assign-variable = refl
+
+-- with no channel it is a global
+assign-global : after goes (Assign None (codes "A") (codes "5")) ≡
+    (world_of plan (goes ∷ []) (record { globals = insert empty (codes "A") (codes "5"); queues = record { queues = []; agents = []; finished = 0 } }), Done)
+assign-global = refl
+
+assign-ended : after (channel (at (codes "s") 1) over) (Assign (Some 1) (codes "A") (codes "5")) ≡
+    (world (channel (at (codes "s") 1) over), Refused Ended)
+unfolding assign_row
+assign-ended = refl
+
+assign-no_channel : after goes (Assign (Some 2) (codes "A") (codes "5")) ≡ (world goes, Refused NoChannel)
+assign-no_channel = refl
+
+-- a channel that waits for a time goes to the place at once
+redirect-paused : after (channel (at (codes "s") 1) Pause) (Redirect 1 (at (codes "9") 3)) ≡ (world (channel (at (codes "9") 3) Ready), Done)
+unfolding redirect_row
+redirect-paused = refl
+
+redirect-dials : after (dials false true) (Redirect 1 (at (codes "9") 3)) ≡ (world (dials false true), Refused NotReady)
+unfolding redirect_row
+redirect-dials = refl
+
+redirect-ended : after (channel (at (codes "s") 1) over) (Redirect 1 (at (codes "9") 3)) ≡
+    (world (channel (at (codes "s") 1) over), Refused Ended)
+unfolding redirect_row
+redirect-ended = refl

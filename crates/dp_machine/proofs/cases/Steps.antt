@@ -10,8 +10,8 @@ use Rattle.dp_pattern.specs.Name.{Plain}
 use Rattle.dp_plan.specs.Plan.{PlanOf}
 use Rattle.dp_plan.specs.declared.entry.Entry.{Entry}
 use Rattle.dp_vars.specs.Stores.{nothing, set}
-use Rattle.dp_vars.specs.Values.{expansion_of, group_value, head_value}
-use Rattle.dp_app.specs.Rows.{Row, Rows}
+use Rattle.dp_vars.specs.Values.{expansion_of_with, group_value_with, head_value_with}
+use Rattle.dp_app.specs.Rows.{Meanings, Row, with_standard_functions}
 use Rattle.dp_app.specs.Tables.{no_rows, with_row}
 use Rattle.dp_app.specs.declared.moves.Move.TheVariants.{Next, Jump, Park}
 use Rattle.dp_app.specs.declared.target.Target.TheVariants.{To, Existing, Parts}
@@ -147,8 +147,8 @@ goto arguments cell = record { cell = cell; next = Jump (Parts (arguments ∷ []
 abbrev wait : Row
 wait arguments cell = record { cell = cell; next = Park Pause }
 
-abbrev rows : Rows
-rows = with_row (codes "Call") call (with_row (codes "Goto") goto (with_row (codes "Wait") wait no_rows))
+abbrev meanings : Meanings
+meanings = with_standard_functions (with_row (codes "Call") call (with_row (codes "Goto") goto (with_row (codes "Wait") wait no_rows)))
 
 -- no globals, and no queues
 abbrev blank_shared : SharedState
@@ -160,47 +160,47 @@ channel place phase closing = record { place = place; phase = phase; is_closing 
 
 -- a step of the channel of number 1
 abbrev step : Channel → Own
-step c = step_row rows plan blank_shared 1 c
+step c = step_row meanings plan blank_shared 1 c
 
 -- arguments are expanded for the channel, and the application writes the channel
 step-next : step (channel (at (codes "100") 1) Ready false) ≡
     record { channel = record (channel (at (codes "100") 2) Ready false) { caller = codes "57" }; shared = blank_shared; reply = Ran (record { context = 0; entry = 0 }) }
-unfolding step_row entry_found found_entry visit arguments_seen reading_of levels expansion_of group_value head_value cut_outside
+unfolding step_row entry_found found_entry visit arguments_seen reading_of levels expansion_of_with group_value_with head_value_with cut_outside
 step-next = refl
 
 -- names are compared in any ASCII case
 step-jump : step (channel (at (codes "100") 2) Ready false) ≡
     record { channel = channel (at (codes "100") 3) Ready false; shared = blank_shared; reply = Ran (record { context = 0; entry = 1 }) }
-unfolding step_row entry_found found_entry visit arguments_seen reading_of levels expansion_of parts_place label_found found_label
+unfolding step_row entry_found found_entry visit arguments_seen reading_of levels expansion_of_with parts_place label_found found_label
 step-jump = refl
 
 step-park : step (channel (at (codes "100") 3) Ready false) ≡
     record { channel = channel (at (codes "100") 3) Pause false; shared = blank_shared; reply = Ran (record { context = 0; entry = 2 }) }
-unfolding step_row entry_found found_entry visit arguments_seen reading_of levels expansion_of
+unfolding step_row entry_found found_entry visit arguments_seen reading_of levels expansion_of_with
 step-park = refl
 
 -- a target that is not there is a hang-up, which goes on at `h`
 step-no_target : step (channel (at (codes "200") 2) Ready false) ≡
     record { channel = channel (at (codes "h") 1) Ready true; shared = blank_shared; reply = Ran (record { context = 0; entry = 4 }) }
-unfolding step_row entry_found found_entry visit arguments_seen reading_of levels expansion_of parts_place label_found found_label hung_up is_found
+unfolding step_row entry_found found_entry visit arguments_seen reading_of levels expansion_of_with parts_place label_found found_label hung_up is_found
 step-no_target = refl
 
 -- and so is an application that the table lacks
 step-unknown : step (channel (at (codes "200") 4) Ready false) ≡
     record { channel = channel (at (codes "h") 1) Ready true; shared = blank_shared; reply = Ran (record { context = 0; entry = 5 }) }
-unfolding step_row entry_found found_entry visit arguments_seen reading_of levels expansion_of hung_up is_found
+unfolding step_row entry_found found_entry visit arguments_seen reading_of levels expansion_of_with hung_up is_found
 step-unknown = refl
 
 -- a channel that is closing is over after a hang-up
 step-closing : step (channel (at (codes "h") 1) Ready true) ≡
     record { channel = channel (at (codes "h") 1) phase_ended true; shared = blank_shared; reply = Ran (record { context = 0; entry = 7 }) }
-unfolding step_row entry_found found_entry visit arguments_seen reading_of levels expansion_of parts_place label_found found_label hung_up is_found
+unfolding step_row entry_found found_entry visit arguments_seen reading_of levels expansion_of_with parts_place label_found found_label hung_up is_found
 step-closing = refl
 
 -- and so is one in whose context there is no `h`
 step-no_h : step (channel (bare (codes "100") 1) Ready false) ≡
     record { channel = channel (bare (codes "100") 1) phase_ended false; shared = blank_shared; reply = Ran (record { context = 1; entry = 0 }) }
-unfolding step_row entry_found found_entry visit arguments_seen reading_of levels expansion_of parts_place label_found found_label hung_up is_found
+unfolding step_row entry_found found_entry visit arguments_seen reading_of levels expansion_of_with parts_place label_found found_label hung_up is_found
 step-no_h = refl
 
 -- an extension that is not there leads to `i`, which reads what was dialled
@@ -253,24 +253,24 @@ channel-above : channel_at (first ∷ []) 2 ≡ None
 channel-above = refl
 
 -- a call that comes in has the next number, and stands at priority 1
-event-start : event_row rows world (Start (codes "main") (codes "2") (codes "7")) ≡
+event-start : event_row meanings world (Start (codes "main") (codes "2") (codes "7")) ≡
     (world_of plan (first ∷ channel (at (codes "2") 1) Ready false ∷ []) blank_shared, Started 2)
 unfolding start_call
 event-start = refl
 
-event-step : event_row rows world (Step 1) ≡
+event-step : event_row meanings world (Step 1) ≡
     (world_of plan (channel (at (codes "100") 3) Ready false ∷ []) blank_shared, Ran (record { context = 0; entry = 1 }))
-unfolding step_row entry_found found_entry visit arguments_seen reading_of levels expansion_of parts_place label_found found_label
+unfolding step_row entry_found found_entry visit arguments_seen reading_of levels expansion_of_with parts_place label_found found_label
 event-step = refl
 
-event-no_channel : event_row rows world (Step 2) ≡ (world, Refused NoChannel)
+event-no_channel : event_row meanings world (Step 2) ≡ (world, Refused NoChannel)
 event-no_channel = refl
 
 value-no_channel : value_in world 2 (codes "EXTEN") ≡ []
 value-no_channel = refl
 
 -- a call from its start until its application sends it nowhere, and one step more
-replies-first_run : replies_to rows (opening plan blank_shared.queues) (Start (codes "bare") (codes "100") [] ∷ Step 1 ∷ Step 1 ∷ []) ≡
+replies-first_run : replies_to meanings (opening plan blank_shared.queues) (Start (codes "bare") (codes "100") [] ∷ Step 1 ∷ Step 1 ∷ []) ≡
     Started 1 ∷ Ran (record { context = 1; entry = 0 }) ∷ Refused Ended ∷ []
-unfolding start_call step_row entry_found found_entry visit arguments_seen reading_of levels expansion_of parts_place label_found found_label hung_up is_found globals_of
+unfolding start_call step_row entry_found found_entry visit arguments_seen reading_of levels expansion_of_with parts_place label_found found_label hung_up is_found globals_of
 replies-first_run = refl

@@ -11,8 +11,8 @@ use Rattle.dp_queue.specs.Queues.{QueuesOf}
 use Rattle.dp_queue.specs.declared.settings.EmptyRule.TheVariants.{Yes, No}
 use Rattle.dp_queue.specs.declared.settings.Strategy.TheVariants.{RingAll}
 use Rattle.dp_vars.specs.Stores.{nothing}
-use Rattle.dp_app.specs.Rows.{Rows}
-use Rattle.dp_app.specs.Tables.{no_rows}
+use Rattle.dp_app.specs.Rows.{Meanings}
+use Rattle.dp_app.specs.Tables.{no_meanings}
 use Rattle.dp_app.specs.declared.phase.Phase.{Phase}
 use Rattle.dp_app.specs.declared.phase.Phase.TheVariants.{Digits, Queued, Ended as over}
 use Rattle.dp_machine.specs.Channels.{hung_up}
@@ -31,10 +31,10 @@ use Rattle.dp_machine.specs.declared.shared_state.SharedState.{SharedState}
 use Rattle.dp_machine.proofs.IsolationLemmas.{none-of, unseen-more, unseen-none}
 
 -- what is pressed in a menu is private, in every world
-pub menu-private : (rows : Rows) (w : World) (number : ℕ) (c : Channel) (digits : List ℕ) (is_background : Bool) (digit : ℕ)
-    → channel_at w.channels number ≡ Some c → c.phase ≡ Digits digits is_background → IsPrivate rows w (Digit number digit)
+pub menu-private : (meanings : Meanings) (w : World) (number : ℕ) (c : Channel) (digits : List ℕ) (is_background : Bool) (digit : ℕ)
+    → channel_at w.channels number ≡ Some c → c.phase ≡ Digits digits is_background → IsPrivate meanings w (Digit number digit)
 unfolding digit_row
-menu-private rows w number c digits is_background digit here waits = record {
+menu-private meanings w number c digits is_background digit here waits = record {
   plan = ap (λ o. (own_event w number (digit_row digit) o).0.plan) here;
   shared = ap (λ o. (own_event w number (digit_row digit) o).0.shared) here ∙ subst Keeps (sym waits) (by (is_digit digit));
 }
@@ -74,11 +74,11 @@ others = Digit 1 (byte "6") ∷ Hangup 1 ∷ Start (codes "menu") (codes "s") (c
 without-second : without 2 events ≡ others
 without-second = refl
 
-replies-all : replies_to no_rows both events ≡ Done ∷ Done ∷ Refused NotWaiting ∷ Done ∷ Started 3 ∷ []
+replies-all : replies_to no_meanings both events ≡ Done ∷ Done ∷ Refused NotWaiting ∷ Done ∷ Started 3 ∷ []
 unfolding digit_row timeout_row hang_up_row hung_up start_call could_go_on goes_on_more is_found found_entry visit
 replies-all = refl
 
-replies-others : replies_to no_rows both others ≡ Done ∷ Done ∷ Started 3 ∷ []
+replies-others : replies_to no_meanings both others ≡ Done ∷ Done ∷ Started 3 ∷ []
 unfolding digit_row timeout_row hang_up_row hung_up start_call could_go_on goes_on_more is_found found_entry visit
 replies-others = refl
 
@@ -86,31 +86,31 @@ replies-without_second : replies_without 2 events (Done ∷ Done ∷ Refused Not
 replies-without_second = refl
 
 -- the second one stays in the menu where it is silent
-world-others : world_after no_rows both others ≡
+world-others : world_after no_meanings both others ≡
     world (channel (codes "6") over ∷ channel (codes "s") (Digits [] false) ∷ new_channel (codes "menu") (codes "s") (codes "8") ∷ [])
 unfolding digit_row timeout_row hang_up_row hung_up start_call could_go_on goes_on_more is_found found_entry visit
 world-others = refl
 
 -- the world that the event of a place in the list meets
 abbrev world_met : ℕ → World
-world_met number = world_after no_rows both (take number events)
+world_met number = world_after no_meanings both (take number events)
 
-second-dials : IsPrivate no_rows (world_met 0) (Digit 2 (byte "5"))
+second-dials : IsPrivate no_meanings (world_met 0) (Digit 2 (byte "5"))
 unfolding digit_row could_go_on goes_on_more visit
 second-dials = record { plan = refl; shared = refl }
 
-second-is_late : IsPrivate no_rows (world_met 2) (Timeout 2)
+second-is_late : IsPrivate no_meanings (world_met 2) (Timeout 2)
 unfolding digit_row timeout_row could_go_on goes_on_more visit
 second-is_late = record { plan = refl; shared = refl }
 
-second-unseen : IsUnseen no_rows 2 both events
+second-unseen : IsUnseen no_meanings 2 both events
 second-unseen =
-    unseen-more no_rows 2 (world_met 0) (Digit 2 (byte "5")) (drop 1 events) (λ is. second-dials)
-    (unseen-more no_rows 2 (world_met 1) (Digit 1 (byte "6")) (drop 2 events) none-of
-    (unseen-more no_rows 2 (world_met 2) (Timeout 2) (drop 3 events) (λ is. second-is_late)
-    (unseen-more no_rows 2 (world_met 3) (Hangup 1) (drop 4 events) none-of
-    (unseen-more no_rows 2 (world_met 4) (Start (codes "menu") (codes "s") (codes "8")) [] none-of
-    (unseen-none no_rows 2 (world_met 5))))))
+    unseen-more no_meanings 2 (world_met 0) (Digit 2 (byte "5")) (drop 1 events) (λ is. second-dials)
+    (unseen-more no_meanings 2 (world_met 1) (Digit 1 (byte "6")) (drop 2 events) none-of
+    (unseen-more no_meanings 2 (world_met 2) (Timeout 2) (drop 3 events) (λ is. second-is_late)
+    (unseen-more no_meanings 2 (world_met 3) (Hangup 1) (drop 4 events) none-of
+    (unseen-more no_meanings 2 (world_met 4) (Start (codes "menu") (codes "s") (codes "8")) [] none-of
+    (unseen-none no_meanings 2 (world_met 5))))))
 
 -- a queue in which these wait
 abbrev one_queue : List ℕ → QueuesOf
@@ -130,7 +130,7 @@ one_queue waiting = record {
 abbrev queued_world : World
 queued_world = world_of plan (channel (codes "s") (Queued 0 true false) ∷ []) (record { globals = empty; queues = one_queue (1 ∷ []) })
 
-hang_up-frees : (final_world no_rows queued_world (Hangup 1)).shared ≡ record { globals = empty; queues = one_queue [] }
+hang_up-frees : (final_world no_meanings queued_world (Hangup 1)).shared ≡ record { globals = empty; queues = one_queue [] }
 unfolding hang_up_row hung_up is_found found_entry visit
 hang_up-frees = refl
 
@@ -138,7 +138,7 @@ hang_up-frees = refl
 abbrev waiting_first : SharedState → ℕ
 waiting_first shared = unwrap_or (option_map (λ q. length q.waiting) (slice_get shared.queues.queues 0)) 0
 
-hang_up-seen : IsPrivate no_rows queued_world (Hangup 1) → ⊥
+hang_up-seen : IsPrivate no_meanings queued_world (Hangup 1) → ⊥
 hang_up-seen private =
     let same : 0 ≡ 1 = ap waiting_first (sym hang_up-frees ∙ private.shared) in
     omega (arith, same)

@@ -17,7 +17,7 @@ use Rattle.dp_queue.specs.declared.settings.EmptyRule.{EmptyRule}
 use Rattle.dp_queue.specs.declared.settings.EmptyRule.TheVariants.{Yes, No}
 use Rattle.dp_queue.specs.declared.settings.Strategy.TheVariants.{RingAll}
 use Rattle.dp_vars.specs.Stores.{nothing, set}
-use Rattle.dp_app.specs.Tables.{no_rows}
+use Rattle.dp_app.specs.Tables.{no_meanings}
 use Rattle.dp_app.specs.declared.phase.Phase.{Phase}
 use Rattle.dp_app.specs.declared.phase.Phase.TheVariants.{Ready, Digits, Pause, Queued, Talking, Ended as over}
 use Rattle.dp_app.specs.declared.place.Place.{Place}
@@ -117,7 +117,7 @@ world c queues = world_of plan (c ∷ []) (record { globals = empty; queues = qu
 
 -- the world after an event, and the reply
 abbrev after : Channel → QueuesOf → Event → World × Reply
-after c queues event = event_row no_rows (world c queues) event
+after c queues event = event_row no_meanings (world c queues) event
 
 -- ---- digits
 

@@ -1,5 +1,5 @@
 -- What is read of entries once. Of the number of an application nothing is said, since nothing rests on it.
-use Rattle.std.specs.Prelude.{◌≡◌, ℕ, List, Option, slice_get}
+use Rattle.std.specs.Prelude.{◌≡◌, ℕ, List, None, Option, slice_get}
 use Rattle.std.specs.List.{AllZip}
 use Rattle.std.specs.Option.{option_and_then}
 use Rattle.dp_plan.specs.Contexts.{PlanContext}
@@ -7,14 +7,17 @@ use Rattle.dp_plan.specs.declared.entry.Entry.{Entry}
 use Rattle.dp_plan.specs.declared.entry.EntryId.{EntryId}
 use Rattle.dp_vars.specs.Pieces as pieces
 use Rattle.dp_vars.specs.Sights.{Sight}
-use Rattle.dp_vars.specs.Values.{expansion}
+use Rattle.dp_vars.specs.Functions.{FunctionTable}
+use Rattle.dp_vars.specs.Unknown.{first_unknown}
+use Rattle.dp_vars.specs.Values.{expansion_with}
 use Rattle.dp_machine.specs.declared.templates.Arguments.{Arguments}
 use Rattle.dp_machine.specs.declared.templates.Arguments.TheVariants.{Plain, Read}
 use Rattle.dp_machine.specs.declared.templates.EntryTemplate.{EntryTemplate}
 
--- a text is its own expansion, whatever is seen
-abbrev pub IsPlain : List ℕ → Type 0
-IsPlain text = (sight : Sight) → expansion sight text ≡ text
+-- a text is its own expansion, and all in it is known, whatever functions there are and whatever is seen
+pub record IsPlain (text : List ℕ) : Type 0 where
+  pub same : (functions : FunctionTable) (sight : Sight) → expansion_with functions sight text ≡ text
+  pub known : (functions : FunctionTable) (sight : Sight) → first_unknown functions sight text ≡ None
 
 -- the arguments are those of this text
 abbrev pub AreTemplate : List ℕ → Arguments → Type 0

@@ -540,6 +540,22 @@ fault 7 ReadFailed
   missing.conf
   a file could not be opened or read
 ? 1
+@ early.script
+start phones 123
+timeout 1
+step 1 2
+@
+$ pbx run --verbose sample/extensions.conf early.script
+started 1
+  42 NotWaiting
+  a `digit`, `timeout` or `poll` of a channel that waits for nothing that this could be
+  example: `digit 1 5` just after the `start` of channel 1
+refused 42 NotWaiting
+  sample/extensions.conf:8 NoOp(a room)
+ran 1 phones,_1XX,1 NoOp -> ready phones,123,2
+  sample/extensions.conf:9 Goto(100,desk)
+ran 1 phones,_1XX,2 Goto -> ready phones,100,1
+? 1
 @ joined.text
 [main]
 exten => 100,1,NoOp()

@@ -1,5 +1,5 @@
 -- A step of the code: a dialplan in the making, and what one more item makes of it. What all items make, one after
--- another, is `plan_of` and `notes_of` of Plan.
+-- another, is `plan_of`, `notes_of` and `entry_lines_of` of Plan.
 use Rattle.std.specs.Prelude.{ℕ, Bool, false, ◌&&◌, ◌==◌, List, [], ◌∷◌, ◌++◌, Option, Some, None, if◌then◌else◌}
 use Rattle.std.specs.List.{list_any, position_or_len}
 use Rattle.std.specs.Option.{option_to_list, option_map}
@@ -24,20 +24,21 @@ use Rattle.dp_plan.specs.declared.section.Section.{Section}
 use Rattle.dp_plan.specs.declared.section.Section.TheVariants.{General, Globals, Context}
 use Rattle.dp_plan.specs.Item.{Item, Begins, Sets, Adds, Includes, Unknown}
 
--- the global variables, the contexts with their names and with the numbers of their entries' extensions, the places and labels
--- that are taken, and the remarks so far
+-- the global variables, the contexts with their names, with the numbers of their entries' extensions and with their entries'
+-- lines, the places and labels that are taken, and the remarks so far
 pub record Drafted : Type 0 where
   pub globals : List GlobalVariable
   pub names : List (List ℕ)
   pub contexts : List PlanContext
   pub numbers : List (List ℕ)
+  pub lines : List (List ℕ)
   pub taken : List Slot
   pub labels : List Label
   pub remarks : List Remark
 
 -- nothing so far
 abbrev pub nothing : Drafted
-nothing = record { globals = []; names = []; contexts = []; numbers = []; taken = []; labels = []; remarks = [] }
+nothing = record { globals = []; names = []; contexts = []; numbers = []; lines = []; taken = []; labels = []; remarks = [] }
 
 -- two labels are the same one of the same extension
 abbrev pub same_marked : Label → Label → Bool
@@ -67,6 +68,7 @@ with_context d name =
       names = d.names ++ name ∷ [];
       contexts = d.contexts ++ empty_context name ∷ [];
       numbers = d.numbers ++ [] ∷ [];
+      lines = d.lines ++ [] ∷ [];
     }
 
 -- the place is taken
@@ -106,6 +108,7 @@ with_addition d line place number entry =
     else record d {
       contexts = changed_at (with_entry entry) place d.contexts;
       numbers = changed_at (with_number number) place d.numbers;
+      lines = changed_at (with_number line) place d.lines;
       taken = d.taken ++ slot_of number entry ∷ [];
       labels = d.labels ++ option_to_list (label_of number entry);
     }

@@ -1,5 +1,5 @@
--- A step of the code: the numbers of the extensions of a context's entries, by which entries of one name are known without a
--- look at the name.
+-- A step of the code: a number for each entry of a context. It is that of the entry's extension, by which entries of one name
+-- are known without a look at the name, or that of the entry's line.
 use Rattle.std.specs.Prelude.{◌≡◌, ℕ, Bool, true, false, ◌==◌, List, [], ◌∷◌, ◌++◌, length, slice_get, Option, Some, None}
 use Rattle.dp_plan.specs.Contexts.{PlanContext}
 use Rattle.dp_plan.specs.Extensions.{same_name}

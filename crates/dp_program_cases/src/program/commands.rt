@@ -313,6 +313,26 @@ run --queues @faulty @first @faulty.script→1→→fault 4 NoEquals line 2¶
 run --queues @help @first @faulty.script→1→→fault 70 BadScript line 2¶
 ";
 
+/// `run --verbose` and `debug --verbose`.
+const VERBOSE_RUNS: &str = "\
+run --verbose @first @first.script→0→started 1¶  @first:2 NoOp(hello)¶ran 1 main,100,1 NoOp -> ready main,100,2¶  @first:3 Goto(200,1)¶ran 1 main,100,2 Goto -> ready main,200,1¶  @first:4 Hangup()¶ran 1 main,200,1 Hangup -> ended¶→
+run @first @refused.script --verbose→1→  40 NoChannel¶  no channel has the number¶  example: `step 1` as the first line¶refused 40 NoChannel¶started 1¶  @first:2 NoOp(hello)¶ran 1 main,100,1 NoOp -> ready main,100,2¶→
+# With queues, and with a second dialplan.
+run --verbose --queues @help @callers @callers.script→0→started 1¶  @callers:2 Queue(help,,,,30)¶ran 1 main,s,1 Queue -> queued help¶ok 1 -> ready main,s,2¶  @callers:3 Hangup()¶ran 1 main,s,2 Hangup -> ended¶→
+run --verbose --reload @changed @changing @changing.script→0→started 1¶  @changing:5 NoOp(a)¶ran 1 main,100,1 NoOp -> ready main,100,2¶ok¶X=12¶Y=5¶  @changed:4 Hangup()¶ran 1 main,_1XX,2 Hangup -> ended¶→
+run --verbose --reload @unclosed @changing @changing.script→1→started 1¶  @changing:5 NoOp(a)¶ran 1 main,100,1 NoOp -> ready main,100,2¶  52 BadPlan¶  a `reload`, and the second dialplan has a fault¶  example: `reload` where the second dialplan is `abc`¶refused 52 BadPlan¶X=1¶Y=5¶  @changing:6 NoOp(b)¶ran 1 main,100,2 NoOp -> ready main,100,3¶→
+debug --verbose --reload @changed --break main,100,2 @changing @changing.script→0→started 1¶  @changing:5 NoOp(a)¶ran 1 main,100,1 NoOp -> ready main,100,2¶ok¶break 3¶  @changed:4 Hangup()¶ran 1 main,_1XX,2 Hangup -> ended¶end 4¶→
+# In threads nothing more is printed.
+run --verbose --threads 2 @pair @pair.script→0→settled 2 seats 2 calls¶→
+# Nor is it where there is a fault.
+run --verbose @faulty @faulty.script→1→→fault 4 NoEquals line 2¶
+run --verbose --explain @faulty @faulty.script→1→→fault 4 NoEquals line 2¶  @faulty:2¶  abc¶  a line of a section with no `=`¶
+run --verbose @first @missing→1→→fault 7 ReadFailed¶
+debug --verbose --break main,s @first @first.script→1→→fault 71 BadBreak¶
+debug --verbose --break main,s,1 @first @faulty.script→1→→fault 70 BadScript line 2¶
+debug --verbose --break main,s,1 @missing @first.script→1→→fault 7 ReadFailed¶
+";
+
 /// `run --threads`.
 const THREAD_RUNS: &str = "\
 run --threads 2 @pair @pair.script→0→settled 2 seats 2 calls¶→
@@ -411,7 +431,7 @@ check @empty←[main]¶exten => 100,1,NoOp(hello)¶exten => 100,2,Goto(200,1)¶e
 ";
 
 /// All the tables.
-const TABLES: [&str; 12] = [
+const TABLES: [&str; 13] = [
     CHECKS,
     LISTS,
     MATCHES,
@@ -420,6 +440,7 @@ const TABLES: [&str; 12] = [
     EXPLAINS,
     EXPLAINED,
     RUNS,
+    VERBOSE_RUNS,
     THREAD_RUNS,
     DEBUGS,
     MANUAL,

@@ -1,17 +1,20 @@
 -- Texts that are expanded, and parts of values, computed on the definitions themselves.
-use Rattle.std.proofs.Common.{◌≡◌, [], Some, refl, if◌then◌else◌, codes}
+use Rattle.std.proofs.Common.{◌≡◌, [], Some, None, refl, ◌||◌, if◌then◌else◌, codes}
 use Rattle.std.specs.Fmt.{digits}
 use Rattle.dp_conf.specs.GroupsRead.{levels, reading_of}
 use Rattle.dp_conf.specs.Levels.{cut_outside}
 use Rattle.dp_conf.specs.Words.{same_text}
 use Rattle.dp_vars.specs.Parts.{asked_of, part}
 use Rattle.dp_vars.specs.Sights.{Sight}
-use Rattle.dp_vars.specs.Values.{group_value, head_value, expansion_of, expansion}
+use Rattle.dp_vars.specs.Functions.{FunctionTable, Nothing}
+use Rattle.dp_vars.specs.Unknown.{first_unknown, unknown_group, unknown_of}
+use Rattle.dp_vars.specs.Values.{group_value_with, head_value_with, expansion_of_with, expansion, expansion_with}
 
 -- `X` is `abcdef`, `A` is `${X}`, the global `G` is `g`, and two wait in each queue
 sight : Sight
 sight = record {
   variable = λ name. if same_text name (codes "X") then codes "abcdef" else (if same_text name (codes "A") then codes "${X}" else []);
+  is_set = λ name. same_text name (codes "X") || same_text name (codes "A");
   global = λ name. if same_text name (codes "G") then codes "g" else [];
   local = λ name. [];
   caller = codes "5551234";
@@ -44,24 +47,46 @@ part-far = refl
 
 -- a part of a function's value
 row-length : expansion sight (codes "${LEN(abcdefghijkl):-1}") ≡ codes "2"
-unfolding sight reading_of levels expansion_of group_value head_value cut_outside digits
+unfolding sight reading_of levels expansion_of_with group_value_with head_value_with cut_outside digits
 row-length = refl
 
 -- what stands between the last `)` and the cut has no effect
 row-after : expansion sight (codes "${LEN(a)b:1}|${LEN(a)b}") ≡ codes "|1"
-unfolding sight reading_of levels expansion_of group_value head_value cut_outside digits
+unfolding sight reading_of levels expansion_of_with group_value_with head_value_with cut_outside digits
 row-after = refl
 
 -- a value is not expanded again
 row-once : expansion sight (codes "${A}${LEN(${A})}") ≡ codes "${X}4"
-unfolding sight reading_of levels expansion_of group_value head_value cut_outside digits
+unfolding sight reading_of levels expansion_of_with group_value_with head_value_with cut_outside digits
 row-once = refl
 
 -- a function with no `)` is empty, and an opening without its end is plain
 row-open : expansion sight (codes "${F(}${a${X:5}") ≡ codes "${af"
-unfolding sight reading_of levels expansion_of group_value head_value cut_outside digits
+unfolding sight reading_of levels expansion_of_with group_value_with head_value_with cut_outside digits
 row-open = refl
 
 row-functions : expansion sight (codes "${GLOBAL(G)}${CALLERID(num):-4}${CALLERID( num)}${QUEUE_WAITING_COUNT(q)}${len(x)}") ≡ codes "g12342"
-unfolding sight reading_of levels expansion_of group_value head_value cut_outside digits
+unfolding sight reading_of levels expansion_of_with group_value_with head_value_with cut_outside digits
 row-functions = refl
+
+-- a table that knows `DB` alone, whose value is its argument
+own_functions : FunctionTable
+own_functions = record {
+  value = λ sight name argument. if same_text name (codes "DB") then argument else [];
+  knows = λ sight name argument. same_text name (codes "DB");
+  target = λ name. Nothing;
+}
+
+-- a name of another table
+row-own : expansion_with own_functions sight (codes "${DB(${X}):1:2}${LEN(ab)}") ≡ codes "bc"
+unfolding own_functions sight reading_of levels expansion_of_with group_value_with head_value_with cut_outside
+row-own = refl
+
+-- what stands inside of a group comes first
+row-unknown : first_unknown own_functions sight (codes "${DB(x)}${G(${F(${X}):1})}") ≡ Some (codes "F(abcdef)")
+unfolding own_functions sight reading_of levels expansion_of_with group_value_with head_value_with cut_outside unknown_of unknown_group
+row-unknown = refl
+
+row-known : first_unknown own_functions sight (codes "${DB(x)}${X}$[1 + 2]${F(}") ≡ None
+unfolding own_functions sight reading_of levels expansion_of_with group_value_with head_value_with cut_outside unknown_of unknown_group
+row-known = refl

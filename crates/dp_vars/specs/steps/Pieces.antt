@@ -5,18 +5,26 @@ use Rattle.dp_conf.specs.declared.groups.GroupKind.{GroupKind}
 use Rattle.dp_conf.specs.declared.groups.Mark.{Mark}
 use Rattle.dp_conf.specs.declared.groups.Mark.TheVariants.{End, Opening, Byte}
 use Rattle.dp_vars.specs.Expanding.{Written, after}
+use Rattle.dp_vars.specs.Functions.{FunctionTable}
 use Rattle.dp_vars.specs.Sights.{Sight}
 use Rattle.dp_vars.specs.Spans.{text_at}
-use Rattle.dp_vars.specs.Values.{group_value}
-use Rattle.dp_vars.specs.Pieces.{blank, past, with_bytes}
+use Rattle.dp_vars.specs.Unknown.{unknown_group}
+use Rattle.dp_vars.specs.Values.{group_value_with}
+use Rattle.dp_vars.specs.Pieces.{blank, past, with_bytes, with_found}
 use Rattle.dp_vars.specs.declared.text_piece.TextPiece.{TextPiece}
-use Rattle.dp_vars.specs.declared.text_piece.TextPiece.TheVariants.{Run, Name, Call, Part, Known, Empty, Begins, Ends}
+use Rattle.dp_vars.specs.declared.text_piece.TextPiece.TheVariants.{Run, Name, Call, Other, Part, Known, Empty, Begins, Ends}
 use Rattle.dp_vars.specs.declared.span.Span.{Span}
+
+-- what is written with a group of this kind and this body
+abbrev pub with_group : FunctionTable → Sight → GroupKind → Written → List ℕ → Written
+with_group functions sight kind written body =
+    with_found written (group_value_with functions sight kind body) (unknown_group functions sight kind body)
 
 -- the piece stands for the group of this kind whose body stands there, whatever is seen
 abbrev pub IsGroup : List ℕ → GroupKind → Span → TextPiece → Type 0
 IsGroup text kind body piece =
-    (sight : Sight) (written : Written) → past sight text written piece ≡ with_bytes written (group_value sight kind (text_at text body))
+    (functions : FunctionTable) (sight : Sight) (written : Written)
+    → past functions sight text written piece ≡ with_group functions sight kind written (text_at text body)
 
 -- a text on the way to its pieces: those so far, the last one first, the kinds of the openings that wait, the innermost
 -- first, and the plain bytes after the last piece
@@ -26,13 +34,13 @@ pub record ReadSoFar : Type 0 where
   pub run : Span
 
 -- after pieces of which the last stands first
-abbrev pub past_last : Sight → List ℕ → List TextPiece → Written
-past_last sight text [] = blank
-past_last sight text (piece ∷ pieces) = past sight text (past_last sight text pieces) piece
+abbrev pub past_last : FunctionTable → Sight → List ℕ → List TextPiece → Written
+past_last functions sight text [] = blank
+past_last functions sight text (piece ∷ pieces) = past functions sight text (past_last functions sight text pieces) piece
 
 -- after all that is read so far
-abbrev pub written_in : Sight → List ℕ → ReadSoFar → Written
-written_in sight text so_far = with_bytes (past_last sight text so_far.pieces) (text_at text so_far.run)
+abbrev pub written_in : FunctionTable → Sight → List ℕ → ReadSoFar → Written
+written_in functions sight text so_far = with_bytes (past_last functions sight text so_far.pieces) (text_at text so_far.run)
 
 -- the openings that wait after a mark
 abbrev pub waiting_after : Mark → List GroupKind → List GroupKind
@@ -48,7 +56,7 @@ StandsAfter text run (Byte byte) place = text_at text (record { from = run.from;
 
 -- what is read goes after a mark that ends at this place, whatever is seen
 pub record GoesAfter (text : List ℕ) (mark : Mark) (place : ℕ) (old new : ReadSoFar) : Type 0 where
-  pub written : (sight : Sight) → written_in sight text new ≡ after sight mark (written_in sight text old)
+  pub written : (functions : FunctionTable) (sight : Sight) → written_in functions sight text new ≡ after functions sight mark (written_in functions sight text old)
   pub waiting : new.waiting ≡ waiting_after mark old.waiting
   pub ends : new.run.to ≡ place
   pub begins : new.run.from ≤ place
@@ -63,6 +71,7 @@ opening_of (Begins kind) = Some kind
 opening_of (Run span) = None
 opening_of (Name name) = None
 opening_of (Call function argument) = None
+opening_of (Other call) = None
 opening_of (Part cut) = None
 opening_of (Known value) = None
 opening_of Empty = None

@@ -1,6 +1,7 @@
 use Rattle.std.proofs.Common.{◌≤◌, IfSome, ap, refl, subst, sym}
 use Rattle.dp_conf.specs.Numbers.{most_priority}
 use Rattle.dp_app.specs.declared.place.Place.{Place}
+use Rattle.dp_app.specs.Rows.{with_functions}
 use Rattle.dp_machine.specs.Events.{Applied}
 use Rattle.dp_machine.specs.Seen.{arguments_seen}
 use Rattle.dp_machine.specs.steps.Templates.{IsOf}
@@ -31,7 +32,7 @@ go-requires g c =
 
 pub returns-clause-follows : goal.returns-clause-follows
 returns-clause-follows g c =
-    follows-found g.T.AppTable.rows c.args.number c.args.exchange.now (record { plan = c.go.new.plan; shared = c.run_entry.new.shared }) c.args.channel.now c.go.new.channel c.run_entry.new.channel
+    follows-found (with_functions g.T.AppTable.rows g.T.Functions.Functions.table) c.args.number c.args.exchange.now (record { plan = c.go.new.plan; shared = c.run_entry.new.shared }) c.args.channel.now c.go.new.channel c.run_entry.new.channel
     c.run_entry.new.shared c.args.id c.entry-entry.result.now c.in_ok-going.going
     (found_there c.args.exchange.now.plan c.args.channel.now.place c.args.id c.entry-entry.result.now c.requires.found c.entry-entry.ensures)
     c.in_ok-going.ensures.ok c.go.ensures.channel c.go.ensures.same refl
@@ -39,7 +40,7 @@ returns-clause-follows g c =
 pub returns-clause-sound : goal.returns-clause-sound
 returns-clause-sound g c =
     went_sound g.T.AppTable.touches g.T.AppTable.rows g.T.AppTable.lawful c.args.exchange.now.plan c.entry-entry.result.now.application
-    (arguments_seen c.args.exchange.now.shared c.args.number c.args.channel.now c.entry-entry.result.now.arguments)
+    (arguments_seen g.T.Functions.Functions.table c.args.exchange.now.shared c.args.number c.args.channel.now c.entry-entry.result.now.arguments)
     c.args.exchange.now.shared c.args.number c.args.channel.now
     (within_most c.args.exchange.now.plan c.args.channel.now.place c.args.id c.entry-entry.result.now c.requires.found c.entry-entry.ensures c.get.ensures.range)
     (record { channel = c.run_entry.new.channel; shared = c.run_entry.new.shared; going = c.in_ok-going.going })

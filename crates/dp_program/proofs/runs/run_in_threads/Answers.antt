@@ -9,5 +9,5 @@ returns-clause-shares g c =
     let new = g.W.WriteTold.contents c.run_threads.new.writer in
     rw c.status_of.ensures (record {
       history = c.in_ok-ran.ran.1;
-      shares = subst (λ run. Shares (max 1 c.args.threads) old new run (Ok c.in_ok-ran.ran)) c.lend.ensures c.in_ok-ran.ensures.shares;
+      shares = subst (λ run. Shares (max 1 c.args.threads) old new run (Ok c.in_ok-ran.ran)) c.lend.ensures.run c.in_ok-ran.ensures.shares;
     })

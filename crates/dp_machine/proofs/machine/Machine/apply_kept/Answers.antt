@@ -1,4 +1,5 @@
 use Rattle.std.proofs.Common.{◌≡◌, true, IfOk, subst}
+use Rattle.dp_app.specs.Rows.{with_functions}
 use Rattle.dp_machine.specs.Events.{is_refused}
 use Rattle.dp_machine.specs.World.{World, world_in}
 use Rattle.dp_machine.proofs.RefusedLemmas.{refused_after}
@@ -7,13 +8,13 @@ use Rattle.dp_machine.proofs.machine.Machine.apply_kept.Goals as goal
 
 pub invariant_of-self : goal.invariant_of-self
 invariant_of-self g c =
-    good-after g.T.AppTable.touches g.T.AppTable.rows (world_in c.self.inside.exchange c.self.inside.channels.items)
+    good-after g.T.AppTable.touches (with_functions g.T.AppTable.rows g.T.Functions.Functions.table) (world_in c.self.inside.exchange c.self.inside.channels.items)
     (world_in c.apply_kept_to-reply.new.exchange c.apply_kept_to-reply.new.channels.items) c.args.event.now c.apply_kept_to-reply.result g.T.AppTable.lawful
     c.self.invariant c.apply_kept_to-reply.ensures.makes c.apply_kept_to-reply.ensures.sound c.show_good.ensures
 
 pub returns-clause-good : goal.returns-clause-good
 returns-clause-good g c =
-    good-after g.T.AppTable.touches g.T.AppTable.rows (world_in c.self.inside.exchange c.self.inside.channels.items)
+    good-after g.T.AppTable.touches (with_functions g.T.AppTable.rows g.T.Functions.Functions.table) (world_in c.self.inside.exchange c.self.inside.channels.items)
     (world_in c.apply_kept_to-reply.new.exchange c.apply_kept_to-reply.new.channels.items) c.args.event.now c.apply_kept_to-reply.result g.T.AppTable.lawful
     c.self.invariant c.apply_kept_to-reply.ensures.makes c.apply_kept_to-reply.ensures.sound c.show_good.ensures
 
@@ -23,4 +24,4 @@ returns-clause-unchanged g c =
     let before : World = world_in c.self.inside.exchange c.self.inside.channels.items in
     let after : World = world_in c.apply_kept_to-reply.new.exchange c.apply_kept_to-reply.new.channels.items in
     subst (λ w. IfOk c.apply_kept_to-reply.result (λ reply. is_refused reply ≡ true → after ≡ w)) c.self.view_is
-    (refused_after g.T.AppTable.rows before after c.args.event.now c.apply_kept_to-reply.result c.apply_kept_to-reply.ensures.makes.ok)
+    (refused_after (with_functions g.T.AppTable.rows g.T.Functions.Functions.table) before after c.args.event.now c.apply_kept_to-reply.result c.apply_kept_to-reply.ensures.makes.ok)

@@ -1,0 +1,219 @@
+-- Verbose runs: above the line of a step stands which entry it runs, and above that of a refusal its explanation.
+use Rattle.std.specs.Prelude.{◌≡◌, ℕ, ◌++◌, ◌==◌, Bool, true, false, List, [], ◌∷◌, Option, Some, None, is_some, is_none, Result, Ok, Err, codes, decimal, if◌then◌else◌}
+use Rattle.std.specs.Io.KnownBytes.{Appends}
+use Rattle.std.specs.Option.{unwrap_or}
+use Rattle.dp_conf.specs.Answers.{◌>>=◌}
+use Rattle.dp_debug.specs.Breaks.{first_before}
+use Rattle.dp_debug.specs.declared.breaks.Break.{Break}
+use Rattle.dp_plan.specs.Loaded.{lines_loaded}
+use Rattle.dp_plan.specs.Lookup.{entry_at, line_at}
+use Rattle.dp_plan.specs.Plan.{PlanOf}
+use Rattle.dp_plan.specs.declared.entry.Entry.{Entry}
+use Rattle.dp_plan.specs.declared.entry.EntryId.{EntryId}
+use Rattle.dp_plan.specs.declared.fault.LoadFault.{LoadFault}
+use Rattle.dp_machine.specs.Events.{arguments_ahead, event_row, is_refused}
+use Rattle.dp_machine.specs.Replay.{final_world}
+use Rattle.dp_machine.specs.World.{World}
+use Rattle.dp_machine.specs.declared.event.Event.{Event}
+use Rattle.dp_machine.specs.declared.event.Event.TheVariants.{Start, Step, Digit, Timeout, Poll, Hangup, DialResult, Offer, Answer, Decline, AgentDone, Reload, Assign, Redirect}
+use Rattle.dp_machine.specs.declared.refusal.Refusal.{Refusal}
+use Rattle.dp_machine.specs.declared.refusal.Refusal.TheVariants.{NoChannel}
+use Rattle.dp_machine.specs.declared.reply.Reply.{Reply}
+use Rattle.dp_machine.specs.declared.reply.Reply.TheVariants.{Started, Ran, Invalid, NoEntry, Offered, Done, Refused}
+use Rattle.dp_queue.specs.Changes.{one_more}
+use Rattle.dp_table.specs.Standard.{standard_meanings}
+use Rattle.dp_commands.specs.Debug.{DebugRun, Watch, debug_on, debug_turn, end_text, halt_text, watching}
+use Rattle.dp_commands.specs.Run.{Run, status_by}
+use Rattle.dp_commands.specs.Trace.{after_turn, event_line, phase_at}
+use Rattle.dp_commands.specs.Turns.{Taken, WritesTurns, refused_in}
+use Rattle.dp_commands.specs.declared.fault.PbxFault.{PbxFault}
+use Rattle.dp_commands.specs.declared.fault.PbxFault.TheVariants.{Coded, NoMemory}
+use Rattle.dp_commands.specs.declared.script.Turn.{Turn}
+use Rattle.dp_commands.specs.declared.script.Turn.TheVariants.{Event as turn_event, Show}
+
+-- what is known of the dialplan in force: the name of its file and the lines of its entries; and the name of the second dialplan's file
+pub record InForce : Type 0 where
+  pub file : List ℕ
+  pub second_file : List ℕ
+  pub lines : List (List ℕ)
+
+-- the lines of a dialplan that has loaded; one with a fault has no entries
+abbrev pub lines_or_none : Result (List (List ℕ)) LoadFault → List (List ℕ)
+lines_or_none (Ok lines) = lines
+lines_or_none (Err fault) = []
+
+-- the lines of the entries of a text
+abbrev pub lines_in : List ℕ → List (List ℕ)
+lines_in text = lines_or_none (lines_loaded text)
+
+-- before the first event the dialplan of this text is in force, by the name of its file and that of the second, where there is one
+abbrev pub first_in_force : List ℕ → Option (List ℕ) → List ℕ → InForce
+first_in_force name second_name text = record { file = name; second_file = unwrap_or second_name []; lines = lines_in text }
+
+-- the second dialplan comes in force, which has this text
+abbrev pub with_second : InForce → List ℕ → InForce
+with_second in_force text = record { file = in_force.second_file; second_file = in_force.second_file; lines = lines_in text }
+
+-- the dialplan in force after an event, by whether the event is refused: a reload that is taken puts the second in force
+abbrev pub in_force_by : InForce → Event → Bool → InForce
+in_force_by in_force (Reload text) false = with_second in_force text
+in_force_by in_force (Reload text) true = in_force
+in_force_by in_force (Start context exten caller) refused = in_force
+in_force_by in_force (Step number) refused = in_force
+in_force_by in_force (Digit number digit) refused = in_force
+in_force_by in_force (Timeout number) refused = in_force
+in_force_by in_force (Poll number) refused = in_force
+in_force_by in_force (Hangup number) refused = in_force
+in_force_by in_force (DialResult number status) refused = in_force
+in_force_by in_force (Offer queue) refused = in_force
+in_force_by in_force (Answer agent) refused = in_force
+in_force_by in_force (Decline agent) refused = in_force
+in_force_by in_force (AgentDone agent) refused = in_force
+in_force_by in_force (Assign channel name value) refused = in_force
+in_force_by in_force (Redirect number place) refused = in_force
+
+-- the dialplan in force after an event that a world meets
+abbrev pub in_force_past : InForce → World → Event → InForce
+in_force_past in_force w event = in_force_by in_force event (is_refused (event_row standard_meanings w event).1)
+
+-- the arguments of the entry that an event runs, as they are expanded in the world that it meets; only a step runs an entry
+abbrev pub arguments_of : World → Event → List ℕ
+arguments_of w (Step number) = unwrap_or (arguments_ahead standard_meanings.functions w number) []
+arguments_of w (Start context exten caller) = []
+arguments_of w (Digit number digit) = []
+arguments_of w (Timeout number) = []
+arguments_of w (Poll number) = []
+arguments_of w (Hangup number) = []
+arguments_of w (DialResult number status) = []
+arguments_of w (Offer queue) = []
+arguments_of w (Answer agent) = []
+arguments_of w (Decline agent) = []
+arguments_of w (AgentDone agent) = []
+arguments_of w (Reload text) = []
+arguments_of w (Assign channel name value) = []
+arguments_of w (Redirect number place) = []
+
+-- the number of an entry's line
+abbrev pub line_number : Option ℕ → List ℕ
+line_number None = []
+line_number (Some line) = decimal line
+
+-- the application of an entry, as the entry has it
+abbrev pub application_in : Option Entry → List ℕ
+application_in None = []
+application_in (Some entry) = entry.application
+
+-- where an entry was loaded, `FILE:LINE`, indented
+abbrev pub source_text : InForce → EntryId → List ℕ
+source_text in_force id = codes "  " ++ in_force.file ++ codes ":" ++ line_number (line_at in_force.lines id)
+
+-- what an entry runs, `APP(ARGS)`
+abbrev pub call_text : PlanOf → EntryId → List ℕ → List ℕ
+call_text plan id arguments = application_in (entry_at plan id) ++ codes "(" ++ arguments ++ codes ")"
+
+-- which entry a step runs, in a line of its own: `FILE:LINE APP(ARGS)`
+abbrev pub ran_text : InForce → PlanOf → EntryId → List ℕ → List ℕ
+ran_text in_force plan id arguments = source_text in_force id ++ codes " " ++ call_text plan id arguments ++ 10 ∷ []
+
+-- a byte, with two blanks before it where it begins a line
+abbrev pub indented_byte : Bool → ℕ → List ℕ
+indented_byte begins byte = if begins then 32 ∷ 32 ∷ byte ∷ [] else byte ∷ []
+
+-- bytes with two blanks before each line, by whether the first of them begins one
+abbrev pub indented_from : Bool → List ℕ → List ℕ
+indented_from begins [] = []
+indented_from begins (byte ∷ bytes) = indented_byte begins byte ++ indented_from (byte == 10) bytes
+
+-- a text with two blanks before each of its lines
+abbrev pub indented : List ℕ → List ℕ
+indented text = indented_from true text
+
+-- what stands above the line of a reply, by the dialplan in force and the arguments of the entry that was run
+abbrev pub above_reply : (Refusal → List ℕ) → InForce → PlanOf → List ℕ → Reply → List ℕ
+above_reply explanation in_force plan arguments (Ran id) = ran_text in_force plan id arguments
+above_reply explanation in_force plan arguments (Refused refusal) = indented (explanation refusal)
+above_reply explanation in_force plan arguments (Started channel) = []
+above_reply explanation in_force plan arguments NoEntry = []
+above_reply explanation in_force plan arguments Invalid = []
+above_reply explanation in_force plan arguments (Offered channel rung) = []
+above_reply explanation in_force plan arguments Done = []
+
+-- what stands above the line of an event that a world meets
+abbrev pub above_event : (Refusal → List ℕ) → InForce → World → Event → List ℕ
+above_event explanation in_force w event =
+    above_reply explanation (in_force_past in_force w event) (final_world standard_meanings w event).plan (arguments_of w event)
+    (event_row standard_meanings w event).1
+
+-- what stands above the line of a `show`, by whether it is refused, since no channel has the number
+abbrev pub above_show : (Refusal → List ℕ) → Bool → List ℕ
+above_show explanation refused = if refused then indented (explanation NoChannel) else []
+
+-- what stands above the line of a turn
+abbrev pub above_turn : (Refusal → List ℕ) → InForce → World → Turn → List ℕ
+above_turn explanation in_force w (turn_event event) = above_event explanation in_force w event
+above_turn explanation in_force w (Show number name) = above_show explanation (is_none (phase_at w number))
+
+-- the dialplan in force after a turn
+abbrev pub in_force_after : InForce → World → Turn → InForce
+in_force_after in_force w (turn_event event) = in_force_past in_force w event
+in_force_after in_force w (Show number name) = in_force
+
+-- what a turn makes of a verbose run and its world: what a plain run does, with more above the line of the turn
+abbrev pub verbose_turn : (Refusal → List ℕ) → InForce × World → Turn → Taken (InForce × World)
+verbose_turn explanation at turn =
+    record {
+      state = (in_force_after at.0 at.1 turn, (after_turn at.1 turn).world);
+      lines = above_turn explanation at.0 at.1 turn ++ (after_turn at.1 turn).line;
+      refused = (after_turn at.1 turn).refused;
+    }
+
+-- what a verbose run writes and answers, by the run or the fault that its texts are, and by the dialplan in force at first
+abbrev pub WritesVerbose : (Refusal → List ℕ) → InForce → Option (List ℕ) → Option (List ℕ) → Result Run PbxFault → Result ℕ PbxFault → Type 0
+WritesVerbose explanation in_force old new (Ok run) result =
+    WritesTurns (verbose_turn explanation) (λ at. []) (in_force, run.world) run.turns old new result
+WritesVerbose explanation in_force old new (Err fault) (Ok status) = ⊥
+WritesVerbose explanation in_force old new (Err fault) (Err (Coded code line)) = Appends old new [] × (fault ≡ Coded code line)
+WritesVerbose explanation in_force old new (Err fault) (Err NoMemory) = Appends old new []
+
+-- what is watched in a verbose debugged run, and the dialplan in force
+pub record VerboseWatch : Type 0 where
+  pub watch : Watch
+  pub in_force : InForce
+
+-- what a turn makes of a verbose debugged run and its world: what a debugged run does, with more above the line of an event
+abbrev pub verbose_debug_turn : (Refusal → List ℕ) → VerboseWatch × World → Turn → Taken (VerboseWatch × World)
+verbose_debug_turn explanation at (turn_event event) =
+    record {
+      state = (
+        record { watch = record { held = at.0.watch.held; taken = one_more at.0.watch.taken }; in_force = in_force_past at.0.in_force at.1 event },
+        final_world standard_meanings at.1 event,
+      );
+      lines = halt_text (is_some (first_before at.1 event (at.0.watch.held ∷ []))) at.0.watch.taken
+          ++ (above_event explanation at.0.in_force at.1 event ++ event_line at.1 event);
+      refused = is_refused (event_row standard_meanings at.1 event).1;
+    }
+verbose_debug_turn explanation at (Show number name) = record { state = at; lines = []; refused = false }
+
+-- the last line of a verbose debugged run
+abbrev pub verbose_end : VerboseWatch → List ℕ
+verbose_end at = end_text at.watch
+
+-- the status of a debugged run: 1 where an event was refused
+abbrev pub debug_status : DebugRun → ℕ
+debug_status debug = status_by (refused_in debug_turn (watching debug) debug.run.turns)
+
+-- the debugged run of a run with a break, or the fault
+abbrev pub debug_with : Break → Result Run PbxFault → Result DebugRun PbxFault
+debug_with held given = given >>= λ run. Ok (debug_on held run)
+
+-- before the first event
+abbrev pub verbose_watching : InForce → DebugRun → VerboseWatch × World
+verbose_watching in_force debug = (record { watch = record { held = debug.held; taken = 0 }; in_force = in_force }, debug.run.world)
+
+-- what a verbose debugged run writes and answers, by the run or the fault that its texts are, and by the dialplan in force at first
+abbrev pub WritesVerboseDebug : (Refusal → List ℕ) → InForce → Option (List ℕ) → Option (List ℕ) → Result DebugRun PbxFault → Result ℕ PbxFault → Type 0
+WritesVerboseDebug explanation in_force old new (Ok debug) result =
+    WritesTurns (verbose_debug_turn explanation) (λ at. verbose_end at.0) (verbose_watching in_force debug) debug.run.turns old new result
+WritesVerboseDebug explanation in_force old new (Err fault) (Ok status) = ⊥
+WritesVerboseDebug explanation in_force old new (Err fault) (Err (Coded code line)) = Appends old new [] × (fault ≡ Coded code line)
+WritesVerboseDebug explanation in_force old new (Err fault) (Err NoMemory) = Appends old new []

@@ -1,0 +1,307 @@
+//! Verbose runs of a dialplan by a script: above the line of a step stands which entry it runs, and above that of a refusal its
+//! explanation.
+ghost use Rattle.std.specs.Prelude.{◌≡◌, ◌++◌, ◌||◌, IfOk, OnOk, OnErr, Ok};
+ghost use Rattle.std.specs.Option.{option_map};
+ghost use Rattle.dp_commands.specs.Faults.{is_write_failed};
+ghost use Rattle.dp_commands.specs.Run.{Run as runs, run_of_texts, status_of};
+ghost use Rattle.dp_commands.specs.Trace.{after_turn};
+ghost use Rattle.dp_commands.specs.Verbose as spec;
+ghost use Rattle.dp_plan.specs.Lookup.{entry_at};
+
+use crate::block::Block;
+use crate::explanations::Explanations;
+use crate::fault::PbxFault;
+use crate::in_force::{PlanInForce, PlanNames, first_in_force};
+use crate::run::run_texts;
+use crate::script::Turn;
+use crate::taker::Taker;
+use crate::texts::RunTexts;
+use crate::trace::{push_number, push_reply, push_show};
+use dp_conf::WriteTold;
+use dp_machine::{EntryId, Event, Machine, Refusal, Reply};
+use dp_plan::{Dialplan, NoMemory, Text};
+use dp_table::StandardApps;
+use std::alloc::Global;
+use std::marker::{Model, PhantomData};
+
+/// The arguments of the entry that an event runs, as they are expanded now. Only a step runs an entry.
+pub(crate) fn arguments_of(
+    alloc: Global,
+    machine: &mut Machine<StandardApps>,
+    event: &Event,
+) -> Result<Vec<u8>, NoMemory>
+    ensures arguments { IfOk result (λ arguments. arguments.items ≡ spec.arguments_of machine.old event.now) }
+    ensures same { machine.new ≡ machine.old }
+{
+    let Event::Step { channel } = event else {
+        return Ok(Vec::new(alloc));
+    };
+    let arguments = machine.arguments_ahead(alloc, *channel)?;
+    match arguments {
+        Some(arguments) => Ok(arguments),
+        None => Ok(Vec::new(alloc)),
+    }
+}
+
+/// Adds the number of an entry's line.
+fn push_line_number(out: &mut Block, line: Option<usize>) -> Result<(), NoMemory>
+    ensures kept { out.new.whole ≡ out.old.whole }
+    ensures ok { OnOk result (out.new.begun ≡ out.old.begun ++ spec.line_number line) }
+{
+    match line {
+        Some(line) => push_number(out, line),
+        None => Ok(()),
+    }
+}
+
+/// Adds the application of the entry of these numbers.
+fn push_application(out: &mut Block, plan: &Dialplan, id: EntryId) -> Result<(), NoMemory>
+    ensures kept { out.new.whole ≡ out.old.whole }
+    ensures ok { OnOk result (out.new.begun ≡ out.old.begun ++ spec.application_in (entry_at plan.now id)) }
+{
+    match plan.entry(id) {
+        Some(entry) => out.push(entry.application.bytes()),
+        None => Ok(()),
+    }
+}
+
+/// Adds where an entry was loaded, `FILE:LINE`, indented.
+fn push_source(out: &mut Block, in_force: &PlanInForce<'_>, id: EntryId) -> Result<(), NoMemory>
+    ensures kept { out.new.whole ≡ out.old.whole }
+    ensures ok { OnOk result (out.new.begun ≡ out.old.begun ++ spec.source_text in_force.now id) }
+{
+    out.push(b"  ")?;
+    out.push(in_force.file().as_bytes())?;
+    out.push_byte(b':')?;
+    push_line_number(out, in_force.line(id))
+}
+
+/// Adds what an entry runs, `APP(ARGS)`.
+fn push_call(
+    out: &mut Block,
+    plan: &Dialplan,
+    id: EntryId,
+    arguments: &[u8],
+) -> Result<(), NoMemory>
+    ensures kept { out.new.whole ≡ out.old.whole }
+    ensures ok { OnOk result (out.new.begun ≡ out.old.begun ++ spec.call_text plan.now id arguments.now) }
+{
+    push_application(out, plan, id)?;
+    out.push_byte(b'(')?;
+    out.push(arguments)?;
+    out.push_byte(b')')
+}
+
+/// Adds which entry a step runs, `FILE:LINE APP(ARGS)`, in a line of its own.
+fn push_ran_text(
+    out: &mut Block,
+    in_force: &PlanInForce<'_>,
+    plan: &Dialplan,
+    arguments: &[u8],
+    id: EntryId,
+) -> Result<(), NoMemory>
+    ensures kept { out.new.whole ≡ out.old.whole }
+    ensures ok { OnOk result (out.new.begun ≡ out.old.begun ++ spec.ran_text in_force.now plan.now id arguments.now) }
+{
+    push_source(out, in_force, id)?;
+    out.push_byte(b' ')?;
+    push_call(out, plan, id, arguments)?;
+    out.push_byte(b'\n')
+}
+
+/// Adds a byte, with two blanks before it where it begins a line.
+fn push_indented_byte(out: &mut Block, begins: bool, byte: u8) -> Result<(), NoMemory>
+    ensures kept { out.new.whole ≡ out.old.whole }
+    ensures ok { OnOk result (out.new.begun ≡ out.old.begun ++ spec.indented_byte begins byte) }
+{
+    if begins {
+        out.push(b"  ")?;
+    }
+    out.push_byte(byte)
+}
+
+/// Adds a text with two blanks before each of its lines.
+fn push_indented(out: &mut Block, text: &[u8]) -> Result<(), NoMemory>
+    ensures kept { out.new.whole ≡ out.old.whole }
+    ensures ok { OnOk result (out.new.begun ≡ out.old.begun ++ spec.indented text.now) }
+{
+    let mut begins = true;
+    for byte in text {
+        push_indented_byte(out, begins, *byte)?;
+        begins = *byte == b'\n';
+    }
+    Ok(())
+}
+
+/// Adds what stands above the line of a reply, by the dialplan in force and the arguments of the entry that was run.
+pub(crate) fn push_above<E: Explanations>(
+    out: &mut Block,
+    in_force: &PlanInForce<'_>,
+    plan: &Dialplan,
+    arguments: &[u8],
+    reply: Reply,
+) -> Result<(), NoMemory>
+    ensures kept { out.new.whole ≡ out.old.whole }
+    ensures ok { OnOk result (out.new.begun ≡ out.old.begun
+        ++ spec.above_reply E.explanation_of in_force.now plan.now arguments.now reply) }
+{
+    match reply {
+        Reply::Ran(id) => push_ran_text(out, in_force, plan, arguments, id),
+        Reply::Refused(refusal) => push_indented(out, E::explanation(refusal).as_bytes()),
+        Reply::Started(_) | Reply::NoEntry | Reply::Invalid | Reply::Offered { .. } | Reply::Done =>
+            { Ok(()) }
+    }
+}
+
+/// Adds what stands above the line of a `show`, by whether it is refused.
+fn push_above_show<E: Explanations>(out: &mut Block, refused: bool) -> Result<(), NoMemory>
+    ensures kept { out.new.whole ≡ out.old.whole }
+    ensures ok { OnOk result (out.new.begun ≡ out.old.begun ++ spec.above_show E.explanation_of refused) }
+{
+    if !refused {
+        return Ok(());
+    }
+    push_indented(out, E::explanation(Refusal::NoChannel).as_bytes())
+}
+
+/// Adds the line that shows a name in a channel to what waits, and above it the explanation where that is refused. It says whether it
+/// was.
+fn take_show<E: Explanations>(
+    alloc: Global,
+    machine: &Machine<StandardApps>,
+    channel: u32,
+    name: &Text,
+    block: &mut Block,
+) -> Result<bool, NoMemory>
+    ensures lines { OnOk result (block.new.whole ≡ block.old.whole
+        ++ (spec.above_show E.explanation_of (after_turn machine.now (Turn.Show channel name.now)).refused
+        ++ (after_turn machine.now (Turn.Show channel name.now)).line)) }
+    ensures refused { IfOk result (λ refused. refused ≡ (after_turn machine.now (Turn.Show channel name.now)).refused) }
+    ensures err { OnErr result (block.new.whole ≡ block.old.whole) }
+{
+    let refused = machine.phase(channel).is_none();
+    block.begin_line();
+    push_above_show::<E>(block, refused)?;
+    push_show(alloc, block, machine, channel, name.bytes())?;
+    block.end_line()?;
+    Ok(refused)
+}
+
+/// Turns that are taken with more above their lines, which contracts see as the dialplan in force.
+struct Verbose<'a, E> {
+    in_force: PlanInForce<'a>,
+    explanations: PhantomData<E>,
+}
+
+impl<'a, E> Drop for Verbose<'a, E> {
+    fn drop(self) {
+        let Verbose {
+            in_force: _,
+            explanations: _,
+        } = self;
+    }
+}
+
+impl<'a, E> Model for Verbose<'a, E> {
+    ghost use Rattle.dp_commands.specs.Verbose.{InForce};
+
+    ghost Value = { InForce };
+
+    ghost view = { λ verbose. verbose.in_force };
+}
+
+impl<'a, E: Explanations> Taker for Verbose<'a, E> {
+    ghost use Rattle.std.specs.Prelude.{[]};
+    ghost use Rattle.dp_commands.specs.Verbose.{verbose_turn};
+
+    ghost step = { verbose_turn E.explanation_of };
+
+    ghost last = { λ _. [] };
+
+    fn take(
+        &mut self,
+        alloc: Global,
+        machine: &mut Machine<StandardApps>,
+        turn: &Turn,
+        block: &mut Block,
+    ) -> Result<bool, NoMemory> {
+        match turn {
+            Turn::Event(event) => self.take_event(alloc, machine, event, block),
+            Turn::Show { channel, name } => take_show::<E>(alloc, machine, *channel, name, block),
+        }
+    }
+
+    fn finish(&self, _block: &mut Block) -> Result<(), NoMemory> {
+        Ok(())
+    }
+}
+
+impl<'a, E: Explanations> Verbose<'a, E> {
+    /// Gives the machine one event, and adds its line to what waits with more above it. It says whether the event was refused.
+    #[tactic(auto, unfolding(crate::specs::Trace::event_line))]
+    fn take_event(
+        &mut self,
+        alloc: Global,
+        machine: &mut Machine<StandardApps>,
+        event: &Event,
+        block: &mut Block,
+    ) -> Result<bool, NoMemory>
+        ensures lines { OnOk result (block.new.whole ≡ block.old.whole
+            ++ (spec.verbose_turn E.explanation_of (self.old, machine.old) (Turn.Event event.now)).lines) }
+        ensures state { OnOk result ((self.new, machine.new)
+            ≡ (spec.verbose_turn E.explanation_of (self.old, machine.old) (Turn.Event event.now)).state) }
+        ensures refused { IfOk result (λ refused. refused
+            ≡ (spec.verbose_turn E.explanation_of (self.old, machine.old) (Turn.Event event.now)).refused) }
+        ensures err { OnErr result (block.new.whole ≡ block.old.whole) }
+    {
+        let arguments = arguments_of(alloc, machine, event)?;
+        let reply = machine.apply_kept(alloc, event)?;
+        let refused = reply.is_refusal();
+        self.in_force.go_on(alloc, event, refused)?;
+        block.begin_line();
+        push_above::<E>(block, &self.in_force, machine.plan(), &arguments, reply)?;
+        push_reply(block, machine, event.channel(), reply)?;
+        block.end_line()?;
+        Ok(refused)
+    }
+}
+
+/// Runs the script of the texts, whose dialplan is in force at first, and writes more above the lines.
+fn run_in_force<E: Explanations, W: WriteTold>(
+    alloc: Global,
+    texts: RunTexts<'_>,
+    in_force: PlanInForce<'_>,
+    writer: &mut W,
+) -> Result<u8, PbxFault>
+    ensures writes { spec.WritesVerbose E.explanation_of in_force.entry (W.contents writer.old) (W.contents writer.new)
+        (run_of_texts texts.entry) result }
+    ensures status { IfOk result (λ status. (run : runs) → run_of_texts texts.entry ≡ Ok run → status ≡ status_of run) }
+    ensures told { W.has_failed writer.new ≡ (W.has_failed writer.old || is_write_failed result) }
+{
+    let verbose: Verbose<'_, E> = Verbose {
+        in_force,
+        explanations: PhantomData,
+    };
+    run_texts(alloc, texts, verbose, writer)
+}
+
+/// Runs a script on a dialplan with its queues as [`crate::run_script`] does, and writes more above some of the lines: above that of a
+/// step that runs an entry `FILE:LINE APP(ARGS)`, with its arguments as they were expanded, and above that of a refusal its explanation,
+/// each indented by two blanks. After a reload FILE and LINE are those of the second dialplan.
+pub fn run_verbose<E: Explanations, W: WriteTold>(
+    alloc: Global,
+    texts: RunTexts<'_>,
+    names: PlanNames<'_>,
+    writer: &mut W,
+) -> Result<u8, PbxFault>
+    ensures writes { spec.WritesVerbose E.explanation_of (spec.first_in_force names.entry.plan.now
+        (option_map (λ name. name.now) names.entry.second_plan) texts.entry.plan.now) (W.contents writer.old)
+        (W.contents writer.new) (run_of_texts texts.entry) result }
+    ensures status { IfOk result (λ status. (run : runs) → run_of_texts texts.entry ≡ Ok run → status ≡ status_of run) }
+    ensures told { W.has_failed writer.new ≡ (W.has_failed writer.old || is_write_failed result) }
+{
+    match first_in_force(alloc, names, texts.plan) {
+        Ok(in_force) => run_in_force::<E, W>(alloc, texts, in_force, writer),
+        Err(fault) => Err(fault),
+    }
+}

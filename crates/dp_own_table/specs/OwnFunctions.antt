@@ -1,0 +1,35 @@
+-- The functions of a table of another maker: the five of this program, one that is computed, one whose values are cells, and one that
+-- is never known.
+use Rattle.std.specs.Prelude.{ℕ, Bool, not, List, [], ◌++◌, codes, if◌then◌else◌}
+use Rattle.dp_conf.specs.Words.{same_text}
+use Rattle.dp_vars.specs.Functions.{FunctionTable, SettingTarget, Variable, Global, Local, Caller, Nothing}
+use Rattle.dp_vars.specs.Sights.{Sight}
+use Rattle.dp_vars.specs.Values.{standard_functions}
+
+-- the name of the variable that a cell is
+abbrev pub box_name : List ℕ → List ℕ
+box_name key = codes "BOX(" ++ key ++ codes ")"
+
+-- the value of a function of an argument
+abbrev pub own_value : Sight → List ℕ → List ℕ → List ℕ
+own_value sight name argument =
+    if same_text name (codes "TWICE") then argument ++ argument
+    else (if same_text name (codes "BOX") then sight.variable (box_name argument)
+    else (if same_text name (codes "AWAY") then [] else standard_functions.value sight name argument))
+
+-- a cell is known where it was set
+abbrev pub own_knows : Sight → List ℕ → List ℕ → Bool
+own_knows sight name argument =
+    if same_text name (codes "BOX") then sight.is_set (box_name argument) else not (same_text name (codes "AWAY"))
+
+-- what setting a name sets: a name for each kind of target, and any other is a variable
+abbrev pub own_target : List ℕ → SettingTarget
+own_target name =
+    if same_text name (codes "ALL") then Global name
+    else (if same_text name (codes "MINE") then Local name
+    else (if same_text name (codes "WHO") then Caller
+    else (if same_text name (codes "NONE") then Nothing else Variable name)))
+
+-- the functions
+abbrev pub own_functions : FunctionTable
+own_functions = record { value = own_value; knows = own_knows; target = own_target }

@@ -1,0 +1,28 @@
+-- Tables of functions: what a name between `${` and `(` comes to, and what setting such a name from outside sets.
+use Rattle.std.specs.Prelude.{ℕ, List, Bool}
+use Rattle.dp_vars.specs.Sights.{Sight}
+use Rattle.dp_vars.specs.declared.functions.Target.{Target}
+use Rattle.dp_vars.specs.declared.functions.Target.TheVariants as targets
+
+-- what setting a name sets: a variable, a global or a local of a name, the number of the caller, or nothing
+pub data SettingTarget : Type 0 where
+  Variable : List ℕ → SettingTarget
+  Global : List ℕ → SettingTarget
+  Local : List ℕ → SettingTarget
+  Caller : SettingTarget
+  Nothing : SettingTarget
+
+-- what is set, by the bytes of its name
+abbrev pub target_seen : Target → SettingTarget
+target_seen (targets.Variable name) = Variable name.now
+target_seen (targets.Global name) = Global name.now
+target_seen (targets.Local name) = Local name.now
+target_seen targets.Caller = Caller
+target_seen targets.Nothing = Nothing
+
+-- what the functions of a table come to: the value of a name and an argument, whether the name and the argument are
+-- known, and what setting a name from outside sets
+pub record FunctionTable : Type 0 where
+  pub value : Sight → List ℕ → List ℕ → List ℕ
+  pub knows : Sight → List ℕ → List ℕ → Bool
+  pub target : List ℕ → SettingTarget

@@ -1,0 +1,74 @@
+-- The first call in a text of a function that a table does not know, in the order in which groups are expanded. As a text
+-- it is empty where all are known; a call itself never is.
+use Rattle.std.specs.Prelude.{ℕ, false, true, List, [], ◌∷◌, ◌++◌, Option, Some, None, if◌then◌else◌}
+use Rattle.dp_conf.specs.Groups.{Reading, Over, Plain, Group}
+use Rattle.dp_conf.specs.GroupsRead.{reading_of}
+use Rattle.dp_conf.specs.Levels.{cut_outside}
+use Rattle.dp_conf.specs.declared.groups.GroupKind.{GroupKind}
+use Rattle.dp_conf.specs.declared.groups.GroupKind.TheVariants.{Braces, Brackets}
+use Rattle.dp_vars.specs.Functions.{FunctionTable}
+use Rattle.dp_vars.specs.Sights.{Sight}
+use Rattle.dp_vars.specs.Values.{expansion_of_with, head_value_with}
+
+-- the first of two texts that is not empty
+abbrev pub earlier : List ℕ → List ℕ → List ℕ
+earlier [] later = later
+earlier (byte ∷ bytes) later = byte ∷ bytes
+
+-- a text that is not empty
+abbrev pub any_text : List ℕ → Option (List ℕ)
+any_text [] = None
+any_text (byte ∷ bytes) = Some (byte ∷ bytes)
+
+-- a call as it stands in a text: the name, and the argument in parentheses
+abbrev pub call_text : List ℕ → List ℕ → List ℕ
+call_text name argument = name ++ 40 ∷ (argument ++ 41 ∷ [])
+
+-- a call that the table does not know
+abbrev pub unknown_call : FunctionTable → Sight → List ℕ → List ℕ → List ℕ
+unknown_call functions sight name argument = if functions.knows sight name argument then [] else call_text name argument
+
+-- the table in which each call comes to itself where it is not known, and to nothing where it is
+abbrev pub unknown_calls : FunctionTable → Sight → FunctionTable
+unknown_calls functions sight = record {
+  value = λ unused name argument. unknown_call functions sight name argument;
+  knows = λ unused name argument. true;
+  target = functions.target;
+}
+
+-- where each variable comes to nothing
+abbrev pub no_variables : Sight
+no_variables = record {
+  variable = λ name. [];
+  is_set = λ name. false;
+  global = λ name. [];
+  local = λ name. [];
+  caller = [];
+  waiting = λ queue. 0;
+}
+
+-- a head that is a call which is not known
+abbrev pub unknown_head : FunctionTable → Sight → List ℕ → List ℕ
+unknown_head functions sight head = head_value_with (unknown_calls functions sight) no_variables head
+
+-- the head of a body that is cut, or of one that is not
+abbrev pub unknown_body : FunctionTable → Sight → List ℕ → Option (List ℕ × List ℕ) → List ℕ
+unknown_body functions sight body None = unknown_head functions sight body
+unknown_body functions sight body (Some cut) = unknown_head functions sight cut.0
+
+-- the head of a group in braces, by its expanded body; in brackets nothing is called
+unfoldable pub unknown_group : FunctionTable → Sight → GroupKind → List ℕ → List ℕ
+unknown_group functions sight Braces body = unknown_body functions sight body (cut_outside 58 body)
+unknown_group functions sight Brackets body = []
+
+-- the first one in a reading: what stands inside of a group comes before the group, and what follows comes after it
+unfoldable pub unknown_of : FunctionTable → Sight → Reading → List ℕ
+unknown_of functions sight Over = []
+unknown_of functions sight (Plain byte rest) = unknown_of functions sight rest
+unknown_of functions sight (Group kind inside rest) =
+    earlier (unknown_of functions sight inside)
+    (earlier (unknown_group functions sight kind (expansion_of_with functions sight inside)) (unknown_of functions sight rest))
+
+-- the first one in a text, where there is one
+abbrev pub first_unknown : FunctionTable → Sight → List ℕ → Option (List ℕ)
+first_unknown functions sight text = any_text (unknown_of functions sight (reading_of text))

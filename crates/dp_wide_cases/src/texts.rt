@@ -1,0 +1,32 @@
+//! Texts that are cut, counted, kept in part or written in one case, worked out by hand from the rules.
+mod fields;
+mod letters;
+
+use crate::texts::fields::{COUNTS, CUTS, Count, Cut, DELIMITERS, Delimiter};
+use crate::texts::letters::{CAPITALS, Kept, Letters, SETS};
+use dp_case_tables::check;
+use std::alloc::Global;
+use std::test::Fail;
+
+fn check_fields(alloc: Global) -> Result<(), Fail> {
+    check::<Delimiter>(alloc, DELIMITERS)?;
+    check::<Cut>(alloc, CUTS)?;
+    check::<Count>(alloc, COUNTS)
+}
+
+/// Values are cut into fields at a byte, and some of the fields are chosen.
+#[test]
+fn fields_of_values(rt: HostRuntime) -> Result<(), Fail> {
+    check_fields(rt.alloc())
+}
+
+fn check_letters(alloc: Global) -> Result<(), Fail> {
+    check::<Kept>(alloc, SETS)?;
+    check::<Letters>(alloc, CAPITALS)
+}
+
+/// Texts keep the bytes of a set, and are written in one case.
+#[test]
+fn bytes_of_texts(rt: HostRuntime) -> Result<(), Fail> {
+    check_letters(rt.alloc())
+}
