@@ -1,4 +1,5 @@
 pub mod Cells
+pub mod Knowledge
 pub mod Lawful
 pub mod Listed
 pub mod Parts

@@ -5,6 +5,7 @@
 mod application;
 mod cell;
 mod exten;
+mod knowledge;
 mod moves;
 mod number;
 mod parts;
@@ -17,6 +18,7 @@ mod touch;
 pub use application::{AppList, AppTable, Application};
 pub use cell::Cell;
 pub use exten::Exten;
+pub use knowledge::KnownTable;
 pub use moves::Move;
 pub use number::AppNumber;
 pub use parts::{has_option, is_given, part};

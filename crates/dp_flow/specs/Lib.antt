@@ -1,3 +1,4 @@
+pub mod Calls
 pub mod Conditions
 pub mod Dialling
 pub mod Jumps
@@ -5,5 +6,4 @@ pub mod Plain
 pub mod Settings
 pub mod Touches
 pub mod Waiting
-pub mod steps
 pub mod laws

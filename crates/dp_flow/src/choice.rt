@@ -36,7 +36,7 @@ fn without_sign(text: &[u8]) -> &[u8]
 /// Whether a condition holds: without its blanks it is neither empty nor a whole number that is zero, however long (a
 /// choice of this program).
 #[tactic(auto, unfolding(crate::specs::Conditions::holds))]
-fn holds(condition: &[u8]) -> bool
+pub fn holds(condition: &[u8]) -> bool
     ensures { result ≡ spec.holds condition.now }
 {
     let text = trim(condition);
@@ -55,7 +55,7 @@ fn present(side: &[u8]) -> Option<&[u8]>
 
 /// The side of `CONDITION?SIDE:SIDE` that is taken, where it is there.
 #[tactic(auto, unfolding(crate::specs::Conditions::chosen_side))]
-pub(crate) fn chosen_side(arguments: &[u8]) -> Option<&[u8]>
+pub fn chosen_side(arguments: &[u8]) -> Option<&[u8]>
     ensures { option_map (λ s. s.now) result ≡ spec.chosen_side arguments.now }
 {
     let (condition, sides) = cut_once(arguments, b'?')?;

@@ -6,7 +6,7 @@ ghost use Rattle.dp_app.specs.Cells.{KeepsLoans, cell_now};
 ghost use Rattle.dp_conf.specs.Cut.{cut_once};
 ghost use Rattle.dp_conf.specs.Levels.{arguments_of};
 ghost use Rattle.dp_conf.specs.Numbers.{most_priority};
-ghost use Rattle.dp_flow.specs.steps.Calls as calls;
+ghost use Rattle.dp_flow.specs.Calls as calls;
 ghost use Rattle.dp_flow.specs.Jumps as spec;
 
 use crate::choice::chosen_side;
@@ -18,14 +18,14 @@ use std::alloc::Global;
 
 /// The priority of a subroutine, and the text of the arguments for it, where it has some.
 #[derive(Clone, Copy)]
-struct SubroutineCall<'a> {
-    priority: &'a [u8],
-    arguments: &'a [u8],
+pub struct SubroutineCall<'a> {
+    pub priority: &'a [u8],
+    pub arguments: &'a [u8],
 }
 
 /// The last part of a subroutine's target. Its arguments stand between its first `(` and its last `)`, and with no `)` it is
 /// no target (a choice of this program).
-fn called_by(part: &[u8]) -> Option<SubroutineCall<'_>>
+pub fn called_by(part: &[u8]) -> Option<SubroutineCall<'_>>
     ensures { option_map calls.called_now result ≡ spec.called_by part.now (cut_once 40 part.now) }
 {
     match cut_once(part, b'(') {
@@ -69,7 +69,9 @@ fn push_local(
 }
 
 /// The locals of a subroutine by its arguments' text: `ARG1`, `ARG2` and so on.
-fn locals_of(alloc: Global, arguments: &[u8]) -> Result<Vec<Local>, NoMemory>
+///
+/// The error comes only where a growth was refused.
+pub fn locals_of(alloc: Global, arguments: &[u8]) -> Result<Vec<Local>, NoMemory>
     ensures { IfOk result (λ locals. locals.items ≡ spec.argument_locals 1 (spec.inner_arguments arguments.now)) }
 {
     let mut locals = Vec::new(alloc);
@@ -87,8 +89,8 @@ fn locals_of(alloc: Global, arguments: &[u8]) -> Result<Vec<Local>, NoMemory>
     Ok(locals)
 }
 
-/// The place after a place.
-fn place_after(place: &Place) -> Result<Place, NoMemory>
+/// The place after a place. The error comes only where a growth was refused.
+pub fn place_after(place: &Place) -> Result<Place, NoMemory>
     requires { place.now.priority ≤ most_priority }
     ensures { IfOk result (λ after. after ≡ spec.place_after place.now) }
 {

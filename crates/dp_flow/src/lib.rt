@@ -11,8 +11,11 @@ mod plain;
 mod setting;
 mod waiting;
 
+pub use choice::{chosen_side, holds};
 pub use dial::Dial;
-pub use gosub::{Gosub, GosubIf, Return, StackPop};
+pub use gosub::{
+    Gosub, GosubIf, Return, StackPop, SubroutineCall, called_by, locals_of, place_after,
+};
 pub use jump::{Goto, GotoIf};
 pub use noop::NoOp;
 pub use plain::{Answer, Hangup, Playback, Verbose};

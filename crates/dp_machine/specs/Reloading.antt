@@ -5,7 +5,7 @@ use Rattle.dp_plan.specs.Plan.{PlanOf}
 use Rattle.dp_plan.specs.declared.fault.LoadFault.{LoadFault}
 use Rattle.dp_plan.specs.declared.note.Note.{Note}
 use Rattle.dp_plan.specs.declared.plan.GlobalVariable.{GlobalVariable}
-use Rattle.dp_queue.specs.Joining.{waiting_count}
+use Rattle.dp_queue.specs.Counted.{counts_of}
 use Rattle.dp_vars.specs.Functions.{FunctionTable}
 use Rattle.dp_machine.specs.Seen.{globals_set}
 use Rattle.dp_machine.specs.World.{World}
@@ -22,7 +22,7 @@ plan_in (Err fault) = None
 -- the shared part with globals set, one after another, each expanded over those that are then; other globals stay, and the queues
 abbrev pub shared_with : FunctionTable → SharedState → List GlobalVariable → SharedState
 shared_with functions shared variables = record {
-  globals = globals_set functions (waiting_count shared.queues.queues) shared.globals variables;
+  globals = globals_set functions (counts_of shared.queues.queues) shared.globals variables;
   queues = shared.queues;
 }
 

@@ -2,8 +2,8 @@
 use Rattle.std.specs.Prelude.{ℕ, List, [], Option, Some, None, fold}
 use Rattle.std.specs.FinMap.{empty, insert}
 use Rattle.dp_plan.specs.declared.plan.GlobalVariable.{GlobalVariable}
-use Rattle.dp_queue.specs.Joining.{waiting_count}
-use Rattle.dp_vars.specs.Sights.{ChannelView, Sight, maps_by, sight_by}
+use Rattle.dp_queue.specs.Counted.{counts_of}
+use Rattle.dp_vars.specs.Sights.{ChannelView, QueueCounts, Sight, maps_by, sight_by}
 use Rattle.dp_vars.specs.Functions.{FunctionTable}
 use Rattle.dp_vars.specs.Values.{expansion_with}
 use Rattle.dp_vars.specs.Variables.{Named, value_or_empty}
@@ -11,9 +11,9 @@ use Rattle.dp_machine.specs.declared.channel.Channel.{Channel}
 use Rattle.dp_app.specs.declared.place.Place.{Place}
 use Rattle.dp_machine.specs.declared.shared_state.SharedState.{SharedState}
 
--- nobody waits in any queue before the first call
-abbrev pub none_waiting : List ℕ → ℕ
-none_waiting queue = 0
+-- before the first call no queue is seen, so nobody waits in any
+abbrev pub no_queues : QueueCounts
+no_queues = record { waiting = λ queue. 0; members = λ queue. None }
 
 -- what the channel of a number gives to its texts
 abbrev pub view_in : ℕ → Channel → ChannelView
@@ -29,10 +29,10 @@ view_in number c = record {
 abbrev pub maps_in : SharedState → ℕ → Channel → List Named
 maps_in shared number c = maps_by (Some (view_in number c)) (Some c.store) shared.globals
 
--- what the texts of the channel of a number see: its place and caller, its variables and frames, the globals, and how many
--- calls wait in a queue
+-- what the texts of the channel of a number see: its place and caller, its variables and frames, the globals, and what is
+-- counted of the queues
 abbrev pub sight_in : SharedState → ℕ → Channel → Sight
-sight_in shared number c = sight_by (waiting_count shared.queues.queues) (Some (view_in number c)) (Some c.store) shared.globals
+sight_in shared number c = sight_by (counts_of shared.queues.queues) (Some (view_in number c)) (Some c.store) shared.globals
 
 -- arguments, expanded by these functions in what the channel of a number sees
 unfoldable pub arguments_seen : FunctionTable → SharedState → ℕ → Channel → List ℕ → List ℕ
@@ -43,22 +43,22 @@ abbrev pub value_seen : SharedState → ℕ → Option Channel → List ℕ → 
 value_seen shared number None name = []
 value_seen shared number (Some c) name = value_or_empty (maps_in shared number c) name
 
--- what the value of a global sees: the globals as they are then, how many wait in a queue, and no channel
-abbrev pub sight_of_globals : (List ℕ → ℕ) → Named → Sight
-sight_of_globals waiting globals = sight_by {B = Place} waiting None None globals
+-- what the value of a global sees: the globals as they are then, what is counted of the queues, and no channel
+abbrev pub sight_of_globals : QueueCounts → Named → Sight
+sight_of_globals counts globals = sight_by {B = Place} counts None None globals
 
 -- the value of a global that is written so
-unfoldable pub global_value : FunctionTable → (List ℕ → ℕ) → Named → List ℕ → List ℕ
-global_value functions waiting globals value = expansion_with functions (sight_of_globals waiting globals) value
+unfoldable pub global_value : FunctionTable → QueueCounts → Named → List ℕ → List ℕ
+global_value functions counts globals value = expansion_with functions (sight_of_globals counts globals) value
 
 -- the globals with one more
-abbrev pub with_global : FunctionTable → (List ℕ → ℕ) → Named → GlobalVariable → Named
-with_global functions waiting globals variable = insert globals variable.name (global_value functions waiting globals variable.value)
+abbrev pub with_global : FunctionTable → QueueCounts → Named → GlobalVariable → Named
+with_global functions counts globals variable = insert globals variable.name (global_value functions counts globals variable.value)
 
 -- the globals with those of a dialplan set over them, one after another; of two of one name the later stands
-abbrev pub globals_set : FunctionTable → (List ℕ → ℕ) → Named → List GlobalVariable → Named
-globals_set functions waiting globals variables = fold (with_global functions waiting) globals variables
+abbrev pub globals_set : FunctionTable → QueueCounts → Named → List GlobalVariable → Named
+globals_set functions counts globals variables = fold (with_global functions counts) globals variables
 
 -- the globals of a dialplan before the first call
 unfoldable pub globals_of : FunctionTable → List GlobalVariable → Named
-globals_of functions variables = globals_set functions none_waiting empty variables
+globals_of functions variables = globals_set functions no_queues empty variables

@@ -58,7 +58,7 @@ pub(crate) fn entry_ahead_of(plan: &mut Directory, channel: &Channel) -> Option<
 
 /// The arguments of an entry of which this is the template, expanded for the channel of this number.
 #[tactic(auto, unfolding(crate::specs::Seen::arguments_seen))]
-fn expanded<F: Functions>(
+pub(crate) fn expanded<F: Functions>(
     alloc: Global,
     shared: &SharedState,
     number: u32,

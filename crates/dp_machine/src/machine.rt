@@ -28,7 +28,7 @@ use crate::starting::{start, start_kept};
 use crate::step::step_channel;
 use crate::unknown::{Unknown, unknown_ahead_of};
 use crate::waiting::{dial, end_time, hang_up_channel, poll};
-use dp_app::{AppTable, Phase, Place};
+use dp_app::{AppTable, KnownTable, Phase, Place};
 use dp_plan::{Dialplan, EntryId, NoMemory, Text};
 use dp_queue::Queues;
 use std::alloc::Global;
@@ -375,26 +375,6 @@ impl<T: AppTable> Machine<T> {
         }
     }
 
-    /// What is unknown of the entry that the next step of the channel of this number would run: its application, if the table lacks
-    /// it, else the first group of its arguments that the table's functions do not know, in the order in which groups are expanded.
-    /// None where all is known, and where the step would run no entry. It changes nothing that a contract sees.
-    ///
-    /// The error comes only where a growth was refused.
-    pub fn unknown_ahead(
-        &mut self,
-        alloc: Global,
-        channel: u32,
-    ) -> Result<Option<Unknown>, NoMemory>
-        ensures unknown { IfOk result (λ unknown. unknown
-            ≡ unknowns.unknown_ahead (with_functions T.rows T.Functions.table) self.old channel) }
-        ensures same { self.new ≡ self.old }
-    {
-        match channel_at(&self.channels, channel) {
-            Some(found) => unknown_ahead_of::<T>(alloc, &mut self.exchange, channel, found),
-            None => Ok(None),
-        }
-    }
-
     /// The queues with their agents and the count of finished calls.
     pub fn queues(&self) -> &Queues
         ensures { result.now ≡ self.now.shared.queues }
@@ -414,5 +394,28 @@ impl<T: AppTable> Machine<T> {
         ensures { result.now ≡ self.now.plan }
     {
         self.exchange.plan.plan()
+    }
+}
+
+impl<T: KnownTable> Machine<T> {
+    /// What is unknown of the entry that the next step of the channel of this number would run: its application, if the table lacks
+    /// it, else the first group of its arguments that the table's functions do not know, in the order in which groups are expanded,
+    /// else what the application asks with these arguments. None where all is known, where the application does not look at its
+    /// arguments, and where the step would run no entry. It changes nothing that a contract sees.
+    ///
+    /// The error comes only where a growth was refused.
+    pub fn unknown_ahead(
+        &mut self,
+        alloc: Global,
+        channel: u32,
+    ) -> Result<Option<Unknown>, NoMemory>
+        ensures unknown { IfOk result (λ unknown. unknown
+            ≡ unknowns.unknown_ahead (with_functions T.rows T.Functions.table) T.knowledge self.old channel) }
+        ensures same { self.new ≡ self.old }
+    {
+        match channel_at(&self.channels, channel) {
+            Some(found) => unknown_ahead_of::<T>(alloc, &mut self.exchange, channel, found),
+            None => Ok(None),
+        }
     }
 }

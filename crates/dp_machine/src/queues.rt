@@ -1,17 +1,21 @@
 //! Queues before the first call.
-ghost use Rattle.std.specs.Prelude.{◌≡◌, ℕ, List};
+ghost use Rattle.std.specs.Prelude.{◌≡◌};
 ghost use Rattle.dp_machine.specs.Seen as seen;
 
 use dp_vars::Counts;
 
-/// What the globals see of queues while they are expanded: nobody waits in any.
+/// What the globals see of queues while they are expanded: none is there, and nobody waits in any.
 #[derive(Clone, Copy)]
 pub(crate) struct NoQueues;
 
 impl Counts for NoQueues {
-    ghost count = { λ _. seen.none_waiting };
+    ghost count = { λ _. seen.no_queues };
 
     fn waiting(&self, _queue: &[u8]) -> usize {
         0
+    }
+
+    fn members(&self, _queue: &[u8]) -> Option<usize> {
+        None
     }
 }

@@ -1,7 +1,7 @@
 //! What the texts of a channel see.
 ghost use Rattle.std.specs.Prelude.{◌≡◌, IfOk, Some};
 ghost use Rattle.std.specs.Option.{option_map};
-ghost use Rattle.dp_queue.specs.Joining.{waiting_count};
+ghost use Rattle.dp_queue.specs.Counted.{counts_of};
 ghost use Rattle.dp_vars.specs.Pieces.{AreOf};
 ghost use Rattle.dp_vars.specs.Sights.{maps_of, sight_of};
 ghost use Rattle.dp_machine.specs.Seen as spec;
@@ -16,12 +16,12 @@ use dp_vars::{ChannelSeen, Functions, Pieces, Scope, value_of};
 use std::alloc::Global;
 
 /// What the texts of the channel of this number see.
-fn scope_of<'a>(
+pub(crate) fn scope_of<'a>(
     shared: &'a SharedState,
     number: u32,
     channel: &'a Channel,
 ) -> Scope<'a, Place, Queues>
-    ensures sight { sight_of (λ queues. waiting_count queues.queues) result
+    ensures sight { sight_of (λ queues. counts_of queues.queues) result
         ≡ spec.sight_in shared.now number channel.now }
     ensures maps { maps_of result ≡ spec.maps_in shared.now number channel.now }
 {

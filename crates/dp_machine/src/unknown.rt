@@ -1,19 +1,21 @@
-//! What is unknown ahead of a channel: an application that the table lacks, or a group that its functions do not know.
+//! What is unknown ahead of a channel: an application that the table lacks, a group that its functions do not know, or what its
+//! application asks.
 ghost use Rattle.std.specs.Prelude.{◌≡◌, IfOk, List};
 ghost use Rattle.std.specs.Option.{option_map};
 ghost use Rattle.dp_app.specs.Rows.{with_functions};
 ghost use Rattle.dp_machine.specs.Unknown as spec;
+ghost use Rattle.dp_vars.specs.Unknown.{any_text};
 ghost use Rattle.dp_machine.specs.World as worlds;
 ghost use Rattle.dp_machine.specs.declared.channel.Channel.{Channel as AnyChannel};
 ghost use Rattle.dp_machine.specs.steps.Templates.{IsOf};
 
-use crate::ahead::entry_ahead_of;
+use crate::ahead::{entry_ahead_of, expanded};
 use crate::channel::Channel;
 use crate::exchange::Exchange;
-use crate::seen::unknown_in_pieces;
+use crate::seen::{scope_of, unknown_in_pieces};
 use crate::shared_state::SharedState;
 use crate::templates::{Arguments, EntryTemplate};
-use dp_app::AppTable;
+use dp_app::KnownTable;
 use dp_plan::{Entry, NoMemory, Text};
 use dp_vars::Functions;
 use std::alloc::Global;
@@ -23,8 +25,17 @@ use std::alloc::Global;
 pub enum Unknown {
     /// The application of this name, which the table lacks.
     Application(Text),
-    /// The group of this function and its expanded argument, as `DB(a/b)`, of which the value is not known.
+    /// The group of this variable, or of this function and its expanded argument, as `DB(a/b)`, of which the value is not known.
     Group(Text),
+    /// What the application asks with its arguments: an application of this name, or the value of this name.
+    Asked(Text),
+}
+
+/// A text, where it has bytes.
+fn any_text(text: Vec<u8>) -> Option<Vec<u8>>
+    ensures { option_map (λ text. text.items) result ≡ any_text text.items }
+{
+    if text.is_empty() { None } else { Some(text) }
 }
 
 /// The first group of an entry's arguments that is not known, where this is its template.
@@ -50,8 +61,28 @@ fn unknown_group<F: Functions>(
     }
 }
 
-/// What is unknown of an entry, where this is its template.
-fn unknown_of_entry<T: AppTable>(
+/// What the application of an entry asks with the entry's arguments that is not known, where this is its template.
+#[tactic(auto, unfolding(crate::specs::Unknown::unknown_asked))]
+fn unknown_asked<T: KnownTable>(
+    alloc: Global,
+    shared: &SharedState,
+    number: u32,
+    channel: &Channel,
+    entry: &Entry,
+    template: &EntryTemplate,
+) -> Result<Option<Vec<u8>>, NoMemory>
+    requires { IsOf entry.now template.now }
+    ensures { IfOk result (λ asked. option_map (λ text. text.items) asked
+        ≡ spec.unknown_asked (with_functions T.rows T.Functions.table) T.knowledge shared.now number channel.now entry.now) }
+{
+    let arguments = expanded::<T::Functions>(alloc, shared, number, channel, entry, template)?;
+    let scope = scope_of(shared, number, channel);
+    let asked = T::asked(alloc, &scope, entry.application.bytes(), &arguments)?;
+    Ok(any_text(asked))
+}
+
+/// What is unknown of the arguments of an entry, where this is its template.
+fn unknown_of_arguments<T: KnownTable>(
     alloc: Global,
     shared: &SharedState,
     number: u32,
@@ -61,28 +92,51 @@ fn unknown_of_entry<T: AppTable>(
 ) -> Result<Option<Unknown>, NoMemory>
     requires { IsOf entry.now template.now }
     ensures { IfOk result (λ unknown. unknown
-        ≡ spec.unknown_of_entry (with_functions T.rows T.Functions.table) shared.now number channel.now entry.now) }
+        ≡ spec.unknown_of_arguments (with_functions T.rows T.Functions.table) T.knowledge shared.now number channel.now entry.now) }
+{
+    if !T::looks_at_arguments(entry.application.bytes()) {
+        return Ok(None);
+    }
+    let group = unknown_group::<T::Functions>(alloc, shared, number, channel, entry, template)?;
+    if let Some(group) = group {
+        return Ok(Some(Unknown::Group(Text::new(group))));
+    }
+    match unknown_asked::<T>(alloc, shared, number, channel, entry, template)? {
+        Some(asked) => Ok(Some(Unknown::Asked(Text::new(asked)))),
+        None => Ok(None),
+    }
+}
+
+/// What is unknown of an entry, where this is its template.
+fn unknown_of_entry<T: KnownTable>(
+    alloc: Global,
+    shared: &SharedState,
+    number: u32,
+    channel: &Channel,
+    entry: &Entry,
+    template: &EntryTemplate,
+) -> Result<Option<Unknown>, NoMemory>
+    requires { IsOf entry.now template.now }
+    ensures { IfOk result (λ unknown. unknown
+        ≡ spec.unknown_of_entry (with_functions T.rows T.Functions.table) T.knowledge shared.now number channel.now entry.now) }
 {
     if T::number_of(entry.application.bytes()).is_none() {
         let name = entry.application.text().clone()?;
         return Ok(Some(Unknown::Application(name)));
     }
-    let group = unknown_group::<T::Functions>(alloc, shared, number, channel, entry, template)?;
-    match group {
-        Some(group) => Ok(Some(Unknown::Group(Text::new(group)))),
-        None => Ok(None),
-    }
+    let unknown = unknown_of_arguments::<T>(alloc, shared, number, channel, entry, template)?;
+    Ok(unknown)
 }
 
 /// What is unknown of the entry that the next step of the channel would run.
-pub(crate) fn unknown_ahead_of<T: AppTable>(
+pub(crate) fn unknown_ahead_of<T: KnownTable>(
     alloc: Global,
     exchange: &mut Exchange,
     number: u32,
     channel: &Channel,
 ) -> Result<Option<Unknown>, NoMemory>
     ensures unknown { IfOk result (λ unknown. (channels : List AnyChannel) → unknown
-        ≡ spec.unknown_in (with_functions T.rows T.Functions.table) (worlds.world_in exchange.old channels) number channel.now) }
+        ≡ spec.unknown_in (with_functions T.rows T.Functions.table) T.knowledge (worlds.world_in exchange.old channels) number channel.now) }
     ensures same { exchange.new ≡ exchange.old }
 {
     let Some(id) = entry_ahead_of(&mut exchange.plan, channel) else {

@@ -6,6 +6,9 @@
 //! This is for tests alone.
 #![tactic(auto)]
 
+mod ahead;
+
+pub use ahead::told_ahead;
 use dp_case_tables::push_bytes;
 use dp_machine::{Dialplan, EntryId, Event, Machine, NoMemory, Phase, Queues, Reply, Text};
 use dp_table::StandardApps;

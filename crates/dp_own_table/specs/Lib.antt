@@ -1,2 +1,3 @@
 pub mod OwnFunctions
+pub mod OwnKnowledge
 pub mod OwnTable

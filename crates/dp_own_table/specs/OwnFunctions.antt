@@ -1,6 +1,6 @@
 -- The functions of a table of another maker: the five of this program, one that is computed, one whose values are cells, and one that
 -- is never known.
-use Rattle.std.specs.Prelude.{ℕ, Bool, not, List, [], ◌++◌, codes, if◌then◌else◌}
+use Rattle.std.specs.Prelude.{ℕ, Bool, not, ◌||◌, List, [], ◌++◌, codes, if◌then◌else◌}
 use Rattle.dp_conf.specs.Words.{same_text}
 use Rattle.dp_vars.specs.Functions.{FunctionTable, SettingTarget, Variable, Global, Local, Caller, Nothing}
 use Rattle.dp_vars.specs.Sights.{Sight}
@@ -22,6 +22,10 @@ abbrev pub own_knows : Sight → List ℕ → List ℕ → Bool
 own_knows sight name argument =
     if same_text name (codes "BOX") then sight.is_set (box_name argument) else not (same_text name (codes "AWAY"))
 
+-- of names `STATUS` alone is not known, while nothing has set it
+abbrev pub own_knows_name : Sight → List ℕ → Bool
+own_knows_name sight name = not (same_text name (codes "STATUS")) || sight.is_set name
+
 -- what setting a name sets: a name for each kind of target, and any other is a variable
 abbrev pub own_target : List ℕ → SettingTarget
 own_target name =
@@ -32,4 +36,4 @@ own_target name =
 
 -- the functions
 abbrev pub own_functions : FunctionTable
-own_functions = record { value = own_value; knows = own_knows; target = own_target }
+own_functions = record { value = own_value; knows = own_knows; knows_name = own_knows_name; target = own_target }

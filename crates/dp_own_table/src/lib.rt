@@ -4,6 +4,7 @@
 #![tactic(auto)]
 
 mod own_functions;
+mod own_knowledge;
 mod own_table;
 
 pub use own_functions::OwnFunctions;

@@ -10,7 +10,7 @@ use dp_vars::{
 use std::alloc::Global;
 
 /// `TWICE(text)`: the text twice. `BOX(key)`: the variable of that very name, which is known where it was set. `AWAY(x)` is never
-/// known. The other names are those of the program.
+/// known. The other names are those of the program. The variable `STATUS` is known where it was set.
 pub struct OwnFunctions;
 
 /// The name of the variable that `BOX(key)` is.
@@ -61,6 +61,10 @@ impl Functions for OwnFunctions {
             });
         }
         StandardFunctions::value(alloc, scope, name, argument)
+    }
+
+    fn knows_name<B, C: Counts>(scope: &Scope<'_, B, C>, name: &[u8]) -> bool {
+        name != b"STATUS".as_slice() || is_set(scope, name)
     }
 
     fn target(name: &[u8]) -> Target<'_> {

@@ -2,6 +2,7 @@ pub mod Agents
 pub mod Calls
 pub mod Changes
 pub mod Codes
+pub mod Counted
 pub mod Faults
 pub mod File
 pub mod Good

@@ -1,7 +1,8 @@
 //! The queues of an exchange with their agents.
 ghost use Rattle.std.specs.Prelude.{◌≡◌, ◌<◌, ℕ, List, length, IfSome};
 ghost use Rattle.dp_queue.specs.Good.{IsGood};
-ghost use Rattle.dp_queue.specs.Joining.{waits_in, waiting_count};
+ghost use Rattle.dp_queue.specs.Counted.{counts_of};
+ghost use Rattle.dp_queue.specs.Joining.{waits_in};
 ghost use Rattle.dp_queue.specs.Queues as spec;
 ghost use Rattle.dp_queue.specs.steps.Seats.{seat_at};
 
@@ -101,12 +102,19 @@ impl Queues {
 }
 
 impl Counts for Queues {
-    ghost count = { λ q queue. waiting_count q.queues queue };
+    ghost count = { λ q. counts_of q.queues };
 
     fn waiting(&self, queue: &[u8]) -> usize {
         match self.queues.number_of(queue) {
             None => 0,
             Some(number) => self.queues.list()[number].waiting_count(),
+        }
+    }
+
+    fn members(&self, queue: &[u8]) -> Option<usize> {
+        match self.queues.number_of(queue) {
+            None => None,
+            Some(number) => Some(self.queues.list()[number].members().len()),
         }
     }
 }

@@ -6,7 +6,7 @@ mod numbers;
 mod parts;
 mod stores;
 
-ghost use Rattle.std.specs.Prelude.{◌≡◌, codes, if◌then◌else◌, ℕ, List};
+ghost use Rattle.std.specs.Prelude.{◌≡◌, codes, if◌then◌else◌, ℕ, List, Option, Some, None};
 ghost use Rattle.dp_conf.specs.Words.{same_text};
 
 use dp_case_tables::{Question, bytes_of, check_all, push_bytes};
@@ -18,14 +18,25 @@ use dp_vars::{
 use std::alloc::Global;
 use std::test::Fail;
 
-/// Three calls wait in the queue `sales`, and none in any other.
+/// Three calls wait in the queue `sales`, which has two members. There is no other queue.
 struct Sales;
 
 impl Counts for Sales {
-    ghost count = { λ _ queue. if same_text queue (codes "sales") then 3 else 0 };
+    ghost count = { λ _. record {
+      waiting = λ queue. if same_text queue (codes "sales") then 3 else 0;
+      members = λ queue. if same_text queue (codes "sales") then Some 2 else None;
+    } };
 
     fn waiting(&self, queue: &[u8]) -> usize {
         if queue == b"sales".as_slice() { 3 } else { 0 }
+    }
+
+    fn members(&self, queue: &[u8]) -> Option<usize> {
+        if queue == b"sales".as_slice() {
+            Some(2)
+        } else {
+            None
+        }
     }
 }
 

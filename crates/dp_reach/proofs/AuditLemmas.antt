@@ -11,7 +11,7 @@ use Rattle.dp_plan.specs.declared.entry.EntryId.{EntryId}
 use Rattle.dp_plan.specs.declared.plan.GlobalVariable.{GlobalVariable}
 use Rattle.dp_queue.specs.Queues.{QueuesOf}
 use Rattle.dp_vars.proofs.VariablesLemmas.{get-texts}
-use Rattle.dp_vars.specs.Sights.{channel_map, given_by}
+use Rattle.dp_vars.specs.Sights.{QueueCounts, channel_map, given_by}
 use Rattle.dp_vars.specs.Values.{standard_functions}
 use Rattle.dp_vars.specs.Variables.{Named, first_value, value_or_empty}
 use Rattle.dp_app.specs.Lawful.{IsLawful}
@@ -19,7 +19,7 @@ use Rattle.dp_app.specs.Rows.{Rows, with_standard_functions}
 use Rattle.dp_app.specs.declared.touch.Touch.{Touch}
 use Rattle.dp_machine.specs.Events.{Entered, event_row, new_channel, start_call}
 use Rattle.dp_machine.specs.Replay.{final_world, world_after}
-use Rattle.dp_machine.specs.Seen.{global_value, globals_of, globals_set, none_waiting, sight_of_globals, with_global}
+use Rattle.dp_machine.specs.Seen.{global_value, globals_of, globals_set, no_queues, sight_of_globals, with_global}
 use Rattle.dp_machine.specs.World.{World, channel_at, most_channels, opening}
 use Rattle.dp_machine.specs.declared.channel.Channel.{Channel}
 use Rattle.dp_machine.specs.declared.event.Event.{Event}
@@ -80,8 +80,8 @@ nothing-part : (set : Bytes) → IsPart (pieces_set []) set
 unfolding pieces_set
 nothing-part set byte is = absurd cc
 
-seen-globals : (names : Names) → IsWhole names → (waiting : List ℕ → ℕ) (globals : Named) → AreHeld names globals → IsWithin (names_outside names) (sight_of_globals waiting globals)
-seen-globals names whole waiting globals held = record {
+seen-globals : (names : Names) → IsWhole names → (counts : QueueCounts) (globals : Named) → AreHeld names globals → IsWithin (names_outside names) (sight_of_globals counts globals)
+seen-globals names whole counts globals held = record {
   variable = nothing-fits names globals held;
   global = λ name. within-first names (globals ∷ []) name (held, tt);
   local = λ name. tt;
@@ -89,16 +89,16 @@ seen-globals names whole waiting globals held = record {
   whole = record { bytes = whole.bytes; exten = nothing-part names.all; context = nothing-part names.all; caller = whole.caller; digits = whole.digits };
 }
 
-globals-held : (names : Names) → IsWhole names → (waiting : List ℕ → ℕ) (globals : Named) (variables : List GlobalVariable) → AreHeld names globals
+globals-held : (names : Names) → IsWhole names → (counts : QueueCounts) (globals : Named) (variables : List GlobalVariable) → AreHeld names globals
     → AllByRecursion (λ (variable : GlobalVariable). IsPart (text_set (names_outside names) variable.value) (names.bytes variable.name)) variables
-    → AreHeld names (globals_set standard_functions waiting globals variables)
+    → AreHeld names (globals_set standard_functions counts globals variables)
 unfolding global_value
-globals-held names whole waiting globals [] held all = held
-globals-held names whole waiting globals (variable ∷ variables) held all =
-    globals-held names whole waiting (with_global standard_functions waiting globals variable) variables
-    (held-insert names globals variable.name (global_value standard_functions waiting globals variable.value) held
-    (within-more (text_set (names_outside names) variable.value) _ all.0 (global_value standard_functions waiting globals variable.value)
-    (within-expansion (names_outside names) (sight_of_globals waiting globals) (seen-globals names whole waiting globals held) variable.value)))
+globals-held names whole counts globals [] held all = held
+globals-held names whole counts globals (variable ∷ variables) held all =
+    globals-held names whole counts (with_global standard_functions counts globals variable) variables
+    (held-insert names globals variable.name (global_value standard_functions counts globals variable.value) held
+    (within-more (text_set (names_outside names) variable.value) _ all.0 (global_value standard_functions counts globals variable.value)
+    (within-expansion (names_outside names) (sight_of_globals counts globals) (seen-globals names whole counts globals held) variable.value)))
     all.1
 
 module _ (touches : List ℕ → Touch) (rows : Rows) (lawful : IsLawful touches rows) (duties : List ℕ → Duties) (bounded : AreBounded duties rows) (outside : Outside) (context : List ℕ)
@@ -129,7 +129,7 @@ module _ (touches : List ℕ → Touch) (rows : Rows) (lawful : IsLawful touches
   unfolding globals_of
   opens-in queues same = record {
     plan = refl;
-    shared = record { globals = globals-held claim.names audit.all.named.whole none_waiting empty claim.plan.globals (held-empty claim.names) audit.globals; settings = same };
+    shared = record { globals = globals-held claim.names audit.all.named.whole no_queues empty claim.plan.globals (held-empty claim.names) audit.globals; settings = same };
     channels = λ number c is. none number c (number == 0) is;
   }
     where

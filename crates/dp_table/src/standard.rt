@@ -1,14 +1,14 @@
 //! The table of the applications that this program has, after the Asterisk documentation's application reference.
 ghost use Rattle.std.specs.Prelude.{◌≡◌};
 
-use dp_app::{AppList, AppNumber, AppTable, Cell, Move, NoApps, With};
+use dp_app::{AppList, AppNumber, AppTable, Cell, KnownTable, Move, NoApps, With};
 use dp_conf::NoMemory;
 use dp_flow::{
     Answer, Background, Dial, Gosub, GosubIf, Goto, GotoIf, Hangup, NoOp, Playback, Return, Set,
     StackPop, Verbose, Wait, WaitExten,
 };
 use dp_qapps::{AddQueueMember, PauseQueueMember, Queue, RemoveQueueMember, UnpauseQueueMember};
-use dp_vars::StandardFunctions;
+use dp_vars::{Counts, Scope, StandardFunctions};
 use std::alloc::Global;
 
 /// The applications that add, remove and pause the members of queues.
@@ -72,5 +72,27 @@ impl AppTable for StandardApps {
             Some(going) => Ok(Some(going)),
             None => Self::dispatch(alloc, name, arguments, cell),
         }
+    }
+}
+
+impl KnownTable for StandardApps {
+    ghost use Rattle.dp_app.specs.Knowledge.{all_look, asks_nothing};
+    ghost use Rattle.dp_table.specs.Standard.{standard_rows};
+
+    ghost knowledge = { asks_nothing };
+
+    ghost overlooks = { all_look standard_rows };
+
+    fn looks_at_arguments(_name: &[u8]) -> bool {
+        true
+    }
+
+    fn asked<B, C: Counts>(
+        alloc: Global,
+        _scope: &Scope<'_, B, C>,
+        _name: &[u8],
+        _arguments: &[u8],
+    ) -> Result<Vec<u8>, NoMemory> {
+        Ok(Vec::new(alloc))
     }
 }

@@ -3,6 +3,8 @@ pub mod NamesLemmas
 pub mod StoresLemmas
 pub mod BindingsLemmas
 pub mod TablesLemmas
+pub mod ClearedLemmas
+pub mod CopiesLemmas
 pub mod BoundLemmas
 pub mod SettingLemmas
 pub mod ForgottenLemmas

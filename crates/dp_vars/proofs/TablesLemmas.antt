@@ -104,7 +104,7 @@ map_at-with_stack entries name bs depth o finds e = same_named _ _ (λ q.
     by q false other = cond_same (eqb depth e) (find e (stack_of entries q))
 
 -- what is so where a name stands, and as well with one more entry before it, is so of a name and its number
-at_number : (name : List ℕ) (P : Entries → ℕ → Type 0)
+pub at_number : (name : List ℕ) (P : Entries → ℕ → Type 0)
     → ((x : List ℕ × List Binding) (es : Entries) → pointwise nat_eq name x.0 ≡ true → P (x ∷ es) 0)
     → ((x : List ℕ × List Binding) (es : Entries) (number : ℕ) → pointwise nat_eq name x.0 ≡ false → P es number → P (x ∷ es) (suc number))
     → (es : Entries) (number : ℕ) → slot (names_of es) name ≡ Some number → P es number

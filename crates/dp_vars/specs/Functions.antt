@@ -21,8 +21,9 @@ target_seen targets.Caller = Caller
 target_seen targets.Nothing = Nothing
 
 -- what the functions of a table come to: the value of a name and an argument, whether the name and the argument are
--- known, and what setting a name from outside sets
+-- known, whether the value of a plain name is, and what setting a name from outside sets
 pub record FunctionTable : Type 0 where
   pub value : Sight → List ℕ → List ℕ → List ℕ
   pub knows : Sight → List ℕ → List ℕ → Bool
+  pub knows_name : Sight → List ℕ → Bool
   pub target : List ℕ → SettingTarget

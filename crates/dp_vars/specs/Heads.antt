@@ -4,7 +4,7 @@ use Rattle.dp_vars.specs.Functions.{FunctionTable}
 use Rattle.dp_vars.specs.Parts.{asked_of, part}
 use Rattle.dp_vars.specs.Sights.{Sight}
 use Rattle.dp_vars.specs.Spans.{text_at}
-use Rattle.dp_vars.specs.Unknown.{no_variables, unknown_calls}
+use Rattle.dp_vars.specs.Unknown.{unknown_calls, unknown_names}
 use Rattle.dp_vars.specs.Values.{function_name}
 use Rattle.dp_vars.specs.declared.head.Head.{Head}
 use Rattle.dp_vars.specs.declared.head.Head.TheVariants.{Name, Call, Other, Empty}
@@ -17,9 +17,9 @@ head_seen functions sight text (Call function argument) = functions.value sight 
 head_seen functions sight text (Other name argument) = functions.value sight (text_at text name) (text_at text argument)
 head_seen functions sight text Empty = []
 
--- the call that it is, where that is not known
+-- the name or the call that it is, where that is not known
 abbrev pub unknown_seen : FunctionTable → Sight → List ℕ → Head → List ℕ
-unknown_seen functions sight text head = head_seen (unknown_calls functions sight) no_variables text head
+unknown_seen functions sight text head = head_seen (unknown_calls functions sight) (unknown_names functions sight) text head
 
 -- the part that is asked for of a value of which 64 bits hold the length; of any other, that which the text after the cut
 -- asks for

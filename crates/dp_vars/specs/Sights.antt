@@ -13,15 +13,22 @@ use Rattle.dp_vars.specs.declared.scope.Scope.{Scope}
 use Rattle.dp_vars.specs.declared.value.GivenName.{GivenName}
 use Rattle.dp_vars.specs.declared.value.GivenName.TheVariants.{Exten, Context, Priority, Channel}
 
--- the value of each name and whether it has one, the value of each global and of each local of the innermost frame alone, the
--- caller's number, and how many wait in each queue
+-- the value of each name and whether it has one, the value of each global and whether there is one, the value of each local of
+-- the innermost frame alone, the caller's number, how many wait in each queue, and how many members it has, where it is there
 pub record Sight : Type 0 where
   pub variable : List ℕ → List ℕ
   pub is_set : List ℕ → Bool
   pub global : List ℕ → List ℕ
+  pub has_global : List ℕ → Bool
   pub local : List ℕ → List ℕ
   pub caller : List ℕ
   pub waiting : List ℕ → ℕ
+  pub members : List ℕ → Option ℕ
+
+-- what is counted of the queues by their names: how many wait in each, and how many members it has, where it is there
+pub record QueueCounts : Type 0 where
+  pub waiting : List ℕ → ℕ
+  pub members : List ℕ → Option ℕ
 
 -- what a channel gives to a text: its number and place, and the caller's number
 pub record ChannelView : Type 0 where
@@ -88,15 +95,17 @@ module _ {B : Type 0} where
   abbrev pub maps_by : Option ChannelView → Option (StoreOf B) → Named → List Named
   maps_by channel store globals = channel_map channel ∷ (stored_maps store ++ globals ∷ [])
 
-  -- what a channel, a store and the globals let see, where `waiting` says how many wait in a queue
-  abbrev pub sight_by : (List ℕ → ℕ) → Option ChannelView → Option (StoreOf B) → Named → Sight
-  sight_by waiting channel store globals = record {
+  -- what a channel, a store and the globals let see, with what is counted of the queues
+  abbrev pub sight_by : QueueCounts → Option ChannelView → Option (StoreOf B) → Named → Sight
+  sight_by counts channel store globals = record {
     variable = value_or_empty (maps_by channel store globals);
     is_set = λ name. is_some (first_value (maps_by channel store globals) name);
     global = value_or_empty (globals ∷ []);
+    has_global = λ name. is_some (first_value (globals ∷ []) name);
     local = local_seen store;
     caller = caller_of channel;
-    waiting = waiting;
+    waiting = counts.waiting;
+    members = counts.members;
   }
 
 module _ {B C : Type 0} where
@@ -104,7 +113,7 @@ module _ {B C : Type 0} where
   abbrev pub maps_of : Scope B C → List Named
   maps_of scope = maps_by (option_map view_of scope.channel) (after scope.store) scope.globals.now
 
-  -- what a scope lets see, where `count` says how many wait in a queue
-  abbrev pub sight_of : (C → List ℕ → ℕ) → Scope B C → Sight
+  -- what a scope lets see, where `count` counts in the queues
+  abbrev pub sight_of : (C → QueueCounts) → Scope B C → Sight
   sight_of count scope =
       sight_by (count scope.counts.now) (option_map view_of scope.channel) (after scope.store) scope.globals.now

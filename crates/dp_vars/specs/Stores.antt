@@ -2,7 +2,7 @@
 use Rattle.std.specs.Prelude.{ℕ, zero, suc, ◌-◌, List, [], ◌∷◌, ◌++◌, Option, Some, None, length, map, fold, reverse, take, slice_get, nat_eq, position, if◌then◌else◌}
 use Rattle.std.specs.Cmp.Lexicographic.{pointwise}
 use Rattle.std.specs.Option.{option_and_then, option_map, option_or}
-use Rattle.std.specs.FinMap.{contains_key, get, insert, empty}
+use Rattle.std.specs.FinMap.{contains_key, get, insert, empty, remove}
 use Rattle.dp_vars.specs.Variables.{Named, first_value, map_of}
 use Rattle.dp_vars.specs.declared.local.Local.{Local}
 
@@ -81,6 +81,17 @@ module _ {B : Type 0} where
   -- the store after a name is set: the local of the innermost frame that has it as one, else the channel's variable
   unfoldable pub set : StoreOf B → List ℕ → List ℕ → StoreOf B
   set store name value = set_in (holder name store.frames) store name value
+
+  -- the frame without the local
+  abbrev pub without_local : List ℕ → Frame B → Frame B
+  without_local name frame = record frame { locals = remove frame.locals name }
+
+  -- the store in which a name has no value any more, neither of the channel nor as a local of a frame; it keeps its number
+  unfoldable pub unset : StoreOf B → List ℕ → StoreOf B
+  unset store name = record store {
+    variables = remove store.variables name;
+    frames = map (without_local name) store.frames;
+  }
 
   -- the names with that of a local, where there is a frame that it is set in
   abbrev pub with_local_name : List (Frame B) → List (List ℕ) → List ℕ → List (List ℕ)

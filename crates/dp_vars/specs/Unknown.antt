@@ -1,4 +1,4 @@
--- The first call in a text of a function that a table does not know, in the order in which groups are expanded. As a text
+-- The first name or call in a text that a table of functions does not know, in the order in which groups are expanded. As a text
 -- it is empty where all are known; a call itself never is.
 use Rattle.std.specs.Prelude.{ℕ, false, true, List, [], ◌∷◌, ◌++◌, Option, Some, None, if◌then◌else◌}
 use Rattle.dp_conf.specs.Groups.{Reading, Over, Plain, Group}
@@ -33,23 +33,30 @@ abbrev pub unknown_calls : FunctionTable → Sight → FunctionTable
 unknown_calls functions sight = record {
   value = λ unused name argument. unknown_call functions sight name argument;
   knows = λ unused name argument. true;
+  knows_name = λ unused name. true;
   target = functions.target;
 }
 
--- where each variable comes to nothing
-abbrev pub no_variables : Sight
-no_variables = record {
-  variable = λ name. [];
+-- a name that the table does not know
+abbrev pub unknown_name : FunctionTable → Sight → List ℕ → List ℕ
+unknown_name functions sight name = if functions.knows_name sight name then [] else name
+
+-- where each variable comes to its name where that is not known, and to nothing where it is
+abbrev pub unknown_names : FunctionTable → Sight → Sight
+unknown_names functions sight = record {
+  variable = unknown_name functions sight;
   is_set = λ name. false;
   global = λ name. [];
+  has_global = λ name. false;
   local = λ name. [];
   caller = [];
   waiting = λ queue. 0;
+  members = λ queue. None;
 }
 
--- a head that is a call which is not known
+-- a head that is a name or a call which is not known
 abbrev pub unknown_head : FunctionTable → Sight → List ℕ → List ℕ
-unknown_head functions sight head = head_value_with (unknown_calls functions sight) no_variables head
+unknown_head functions sight head = head_value_with (unknown_calls functions sight) (unknown_names functions sight) head
 
 -- the head of a body that is cut, or of one that is not
 abbrev pub unknown_body : FunctionTable → Sight → List ℕ → Option (List ℕ × List ℕ) → List ℕ

@@ -45,11 +45,13 @@ function_value sight (Some Len) argument = decimal (length argument)
 function_value sight (Some CallerId) argument = caller_value sight.caller argument
 function_value sight (Some QueueWaitingCount) argument = decimal (sight.waiting argument)
 
--- the table of these functions: it knows each name, since any other is empty, and setting a name sets the variable
+-- the table of these functions: it knows each name, since any other function and any variable that is not set are empty, and
+-- setting a name sets the variable
 abbrev pub standard_functions : FunctionTable
 standard_functions = record {
   value = λ sight name argument. function_value sight (function_of name) argument;
   knows = λ sight name argument. true;
+  knows_name = λ sight name. true;
   target = λ name. Variable name;
 }
 

@@ -105,6 +105,13 @@ impl BindingStack {
         }
     }
 
+    /// Takes all bindings away.
+    pub(crate) fn clear(&mut self)
+        ensures { self.new ≡ [] }
+    {
+        self.bindings.clear();
+    }
+
     /// Binds a value at a depth, in the place of the innermost binding where that one stands there. After a refused growth
     /// all is as before.
     pub(crate) fn bind(&mut self, depth: usize, value: Text) -> Result<(), NoMemory>
@@ -167,5 +174,26 @@ impl BindingStack {
         if self.is_at(depth) {
             let _binding = self.bindings.pop();
         }
+    }
+}
+
+impl Clone for Binding {
+    ghost is_clone = { λ binding copy. copy ≡ binding };
+
+    fn clone(&self) -> Result<Self, NoMemory> {
+        let value = self.value.clone()?;
+        Ok(Binding {
+            depth: self.depth,
+            value,
+        })
+    }
+}
+
+impl Clone for BindingStack {
+    ghost is_clone = { λ stack copy. copy ≡ stack };
+
+    fn clone(&self) -> Result<Self, NoMemory> {
+        let bindings = self.bindings.clone()?;
+        Ok(BindingStack { bindings })
     }
 }

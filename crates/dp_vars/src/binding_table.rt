@@ -6,7 +6,7 @@ ghost use Rattle.std.specs.Map.{lookup};
 ghost use Rattle.std.specs.Option.{option_map};
 ghost use Rattle.dp_vars.specs.steps.Bindings.{with_binding, bound_below, rebound};
 ghost use Rattle.dp_vars.specs.Stores.{slot as slot_of};
-ghost use Rattle.dp_vars.specs.steps.Tables.{names_of, stack_of, unbound_at, with_stack};
+ghost use Rattle.dp_vars.specs.steps.Tables.{cleared, names_of, stack_of, unbound_at, with_stack};
 ghost use Rattle.dp_vars.specs.Variables.{in_order};
 
 use crate::binding_stack::BindingStack;
@@ -224,6 +224,16 @@ impl BindingTable {
         Ok(())
     }
 
+    /// Takes all bindings of a name away, which keeps its number.
+    pub(crate) fn clear(&mut self, name: &[u8])
+        ensures { self.new ≡ cleared self.old name.now }
+    {
+        if let Some(number) = self.slot(name) {
+            let entry = &mut self.entries[number];
+            entry.stack.clear();
+        }
+    }
+
     /// Takes the binding at a depth away, where it is the innermost of the name of a number.
     fn unbind(&mut self, depth: usize, number: usize)
         ensures { self.new ≡ unbound_at depth self.old number }
@@ -259,5 +269,25 @@ impl BindingTable {
         while self.entries.len() > len {
             self.pop();
         }
+    }
+}
+
+impl Clone for NamedBindings {
+    ghost is_clone = { λ entry copy. copy ≡ entry };
+
+    fn clone(&self) -> Result<Self, NoMemory> {
+        let name = self.name.clone()?;
+        let stack = self.stack.clone()?;
+        Ok(NamedBindings { name, stack })
+    }
+}
+
+impl Clone for BindingTable {
+    ghost is_clone = { λ table copy. copy ≡ table };
+
+    fn clone(&self) -> Result<Self, NoMemory> {
+        let entries = self.entries.clone()?;
+        let numbers = self.numbers.clone()?;
+        Ok(BindingTable { entries, numbers })
     }
 }

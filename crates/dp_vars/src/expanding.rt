@@ -99,6 +99,30 @@ fn put_reference<F: Functions, B, C: Counts>(
     Ok(unknown)
 }
 
+/// The value of the group in braces that has this body, and the name or the call in it that is not known. Groups that stand in the
+/// body are not expanded.
+///
+/// The error comes only where a growth was refused.
+#[tactic(auto, unfolding(crate::specs::Unknown::unknown_group, crate::specs::Values::group_value_with))]
+pub fn group_value<F: Functions, B, C: Counts>(
+    alloc: Global,
+    scope: &Scope<'_, B, C>,
+    body: &[u8],
+) -> Result<Expanded, NoMemory>
+    ensures bytes { IfOk result (λ expanded. expanded.bytes.items
+        ≡ values.group_value_with F.table (sights.sight_of C.count scope.now) GroupKind.Braces body.now) }
+    ensures unknown { IfOk result (λ expanded. option_map (λ bytes. bytes.items) expanded.unknown
+        ≡ any_text (unknown_group F.table (sights.sight_of C.count scope.now) GroupKind.Braces body.now)) }
+{
+    let reference = read_reference::<F, B, C>(alloc, scope, body)?;
+    let Reference { called, asked } = reference;
+    let Called { value, unknown } = called;
+    let mut bytes = Vec::new(alloc);
+    push_value(alloc, &mut bytes, value, asked)?;
+    let unknown = any_text(unknown);
+    Ok(Expanded { bytes, unknown })
+}
+
 /// Puts the value of a body in brackets in place of the group.
 fn put_expression(alloc: Global, bytes: &mut Vec<u8>, start: usize) -> Result<(), NoMemory>
     requires { start + 2 ≤ vec_len bytes.old }

@@ -65,3 +65,22 @@ pub(crate) fn note<B>(frames: &mut Vec<HeldFrame<B>>, number: usize) -> Result<(
     }
     Ok(())
 }
+
+impl Clone for NameNumbers {
+    ghost is_clone = { λ numbers copy. copy ≡ numbers };
+
+    fn clone(&self) -> Result<Self, NoMemory> {
+        let held = self.held.clone()?;
+        Ok(NameNumbers { held })
+    }
+}
+
+impl<B: Clone> Clone for HeldFrame<B> {
+    ghost is_clone = { λ frame copy. B.is_clone frame.back copy.back × (copy.numbers ≡ frame.numbers) };
+
+    fn clone(&self) -> Result<Self, NoMemory> {
+        let back = self.back.clone()?;
+        let numbers = self.numbers.clone()?;
+        Ok(HeldFrame { back, numbers })
+    }
+}

@@ -55,6 +55,10 @@ pub trait Functions {
         ensures value { IfOk result (λ found. value_bytes found.value ≡ table.value (sight_of C.count scope.now) (name_bytes name.entry) argument.now) }
         ensures known { IfOk result (λ found. found.is_known ≡ table.knows (sight_of C.count scope.now) (name_bytes name.entry) argument.now) };
 
+    /// Whether the value of a plain name is known.
+    fn knows_name<B, C: Counts>(scope: &Scope<'_, B, C>, name: &[u8]) -> bool
+        ensures { result ≡ table.knows_name (sight_of C.count scope.now) name.now };
+
     /// What setting this name from outside sets.
     fn target(name: &[u8]) -> Target<'_>
         ensures { target_seen result ≡ table.target name.now };
@@ -112,6 +116,11 @@ impl Functions for StandardFunctions {
             value,
             is_known: true,
         })
+    }
+
+    #[inline(always)]
+    fn knows_name<B, C: Counts>(_scope: &Scope<'_, B, C>, _name: &[u8]) -> bool {
+        true
     }
 
     fn target(name: &[u8]) -> Target<'_> {

@@ -10,10 +10,10 @@ ghost use Rattle.dp_vars.specs.Values as values;
 
 use crate::functions::{FunctionName, Functions};
 use crate::part::Selection;
-use crate::reference::{Called, called_value, plain_value, push_value};
+use crate::reference::{Called, called_value, named_value, no_value, push_value};
 use crate::scope::{Counts, Scope};
 use crate::span::Span;
-use crate::value::{FoundValue, Function, function_of, variable};
+use crate::value::{Function, function_of};
 use dp_conf::{NoMemory, before_last, cut_once};
 use std::alloc::Global;
 
@@ -81,7 +81,7 @@ fn head_now<'a, F: Functions, B, C: Counts>(
     ensures unknown { IfOk result (λ called. called.unknown.items ≡ spec.unknown_seen F.table (sight_of C.count scope.now) text.now head) }
 {
     match head {
-        Head::Name(name) => Ok(plain_value(alloc, variable(scope, name.of(text)))),
+        Head::Name(name) => named_value::<F, B, C>(alloc, scope, name.of(text)),
         Head::Call(function, argument) => {
             let name = FunctionName::Known(function);
             called_value::<F, B, C>(alloc, scope, name, argument.of(text))
@@ -90,11 +90,11 @@ fn head_now<'a, F: Functions, B, C: Counts>(
             let name = FunctionName::Other(name.of(text));
             called_value::<F, B, C>(alloc, scope, name, argument.of(text))
         }
-        Head::Empty => Ok(plain_value(alloc, FoundValue::Bytes(b""))),
+        Head::Empty => Ok(no_value(alloc)),
     }
 }
 
-/// Adds a part of the value of a head, and gives the call that is not known, or no bytes.
+/// Adds a part of the value of a head, and gives the name or the call that is not known, or no bytes.
 pub(crate) fn push_cut<F: Functions, B, C: Counts>(
     alloc: Global,
     scope: &Scope<'_, B, C>,
@@ -111,7 +111,7 @@ pub(crate) fn push_cut<F: Functions, B, C: Counts>(
     Ok(unknown)
 }
 
-/// Adds the whole value of a head, and gives the call that is not known, or no bytes.
+/// Adds the whole value of a head, and gives the name or the call that is not known, or no bytes.
 pub(crate) fn push_full<F: Functions, B, C: Counts>(
     alloc: Global,
     scope: &Scope<'_, B, C>,

@@ -32,7 +32,7 @@ mod variables;
 
 pub use change::Change;
 pub use dp_conf::MOST_NESTING;
-pub use expanding::Expanded;
+pub use expanding::{Expanded, group_value};
 pub use functions::{FunctionName, FunctionValue, Functions, StandardFunctions, Target};
 pub use globals::Globals;
 pub use local::Local;

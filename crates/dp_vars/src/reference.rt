@@ -18,7 +18,7 @@ use crate::value::{FoundValue, variable};
 use dp_conf::{NoMemory, before_last, cut_once, cut_outside};
 use std::alloc::Global;
 
-/// The value of a head, and the head itself where it is a call that is not known; else no bytes.
+/// The value of a head, and the head itself where it is not known; else no bytes.
 #[derive(Drop)]
 pub(crate) struct Called<'a> {
     pub(crate) value: FoundValue<'a>,
@@ -75,13 +75,38 @@ pub(crate) fn called_value<'a, F: Functions, B, C: Counts>(
     Ok(Called { value, unknown })
 }
 
-/// The value of what is no call of a function.
-pub(crate) fn plain_value<'a>(alloc: Global, value: FoundValue<'a>) -> Called<'a>
-    ensures value { value_bytes result.value ≡ value_bytes value.entry }
+/// A name where it is not known, else no bytes.
+fn unknown_name(alloc: Global, name: &[u8], is_known: bool) -> Result<Vec<u8>, NoMemory>
+    ensures { IfOk result (λ text. text.items ≡ (if is_known then [] else name.now)) }
+{
+    if is_known {
+        return Ok(Vec::new(alloc));
+    }
+    Vec::from_slice(alloc, name)
+}
+
+/// The value of a variable.
+pub(crate) fn named_value<'a, F: Functions, B, C: Counts>(
+    alloc: Global,
+    scope: &Scope<'a, B, C>,
+    name: &[u8],
+) -> Result<Called<'a>, NoMemory>
+    ensures value { IfOk result (λ called. value_bytes called.value ≡ (sights.sight_of C.count scope.now).variable name.now) }
+    ensures unknown { IfOk result (λ called. called.unknown.items
+        ≡ unknown.unknown_name F.table (sights.sight_of C.count scope.now) name.now) }
+{
+    let unknown = unknown_name(alloc, name, F::knows_name(scope, name))?;
+    let value = variable(scope, name);
+    Ok(Called { value, unknown })
+}
+
+/// The value of a call whose argument does not end: it is empty.
+pub(crate) fn no_value<'a>(alloc: Global) -> Called<'a>
+    ensures value { value_bytes result.value ≡ [] }
     ensures unknown { result.unknown.items ≡ [] }
 {
     Called {
-        value,
+        value: FoundValue::Bytes(b""),
         unknown: Vec::new(alloc),
     }
 }
@@ -96,12 +121,12 @@ fn call_value<'a, F: Functions, B, C: Counts>(
     ensures value { IfOk result (λ called. value_bytes called.value
         ≡ values.call_argument_with F.table (sights.sight_of C.count scope.now) name.now (cuts.before_last 41 after.now)) }
     ensures unknown { IfOk result (λ called. called.unknown.items
-        ≡ values.call_argument_with (unknown.unknown_calls F.table (sights.sight_of C.count scope.now)) unknown.no_variables name.now
-        (cuts.before_last 41 after.now)) }
+        ≡ values.call_argument_with (unknown.unknown_calls F.table (sights.sight_of C.count scope.now))
+        (unknown.unknown_names F.table (sights.sight_of C.count scope.now)) name.now (cuts.before_last 41 after.now)) }
 {
     match before_last(after, b')') {
         Some(argument) => called_value::<F, B, C>(alloc, scope, FunctionName::of(name), argument),
-        None => Ok(plain_value(alloc, FoundValue::Bytes(b""))),
+        None => Ok(no_value(alloc)),
     }
 }
 
@@ -118,7 +143,7 @@ fn head_value<'a, F: Functions, B, C: Counts>(
         ≡ unknown.unknown_head F.table (sights.sight_of C.count scope.now) head.now) }
 {
     match cut_once(head, b'(') {
-        None => Ok(plain_value(alloc, variable(scope, head))),
+        None => named_value::<F, B, C>(alloc, scope, head),
         Some((name, after)) => call_value::<F, B, C>(alloc, scope, name, after),
     }
 }

@@ -1,17 +1,22 @@
 //! What a text can see when it is expanded, after the Asterisk documentation's pages on variables.
-ghost use Rattle.std.specs.Prelude.{◌≡◌, ℕ, List};
+ghost use Rattle.std.specs.Prelude.{◌≡◌};
+ghost use Rattle.dp_vars.specs.Sights.{QueueCounts};
 
 use crate::globals::Globals;
 use crate::store::Store;
 
-/// How many calls wait in a queue.
+/// What is counted of queues by their names.
 pub trait Counts {
-    // How many wait in the queue of a name.
-    ghost count: { Self → List ℕ → ℕ };
+    // What is counted.
+    ghost count: { Self → QueueCounts };
 
     /// How many calls wait in the queue of this name; 0 where there is no such queue.
     fn waiting(&self, queue: &[u8]) -> usize
-        ensures { result ≡ count self.now queue.now };
+        ensures { result ≡ (count self.now).waiting queue.now };
+
+    /// How many members the queue of this name has, or None where there is no such queue.
+    fn members(&self, queue: &[u8]) -> Option<usize>
+        ensures { result ≡ (count self.now).members queue.now };
 }
 
 /// What a channel gives to a text: its number and place, and the caller's number.

@@ -118,6 +118,14 @@ impl<B> Store<B> {
         Ok(())
     }
 
+    /// Takes the value of a name away, that of the channel and those of locals of all frames. It never allocates, and the name
+    /// keeps its number.
+    pub fn unset(&mut self, name: &[u8])
+        ensures { self.new ≡ stores.unset self.old name.now }
+    {
+        self.table.clear(name);
+    }
+
     /// Sets a local of the innermost frame to a value that is taken over.
     fn hold_local(&mut self, alloc: Global, name: &[u8], value: Text) -> Result<(), NoMemory>
         requires { 0 < length self.old.frames }
@@ -229,5 +237,16 @@ impl<B: Drop> Store<B> {
     {
         while self.pop_frame().is_some() {}
         self.frames.shrink_to_fit();
+    }
+}
+
+impl<B: Clone> Clone for Store<B> {
+    // A copy of a store is that store, where a copy of a place to go back to is that place.
+    ghost is_clone = { λ store copy. ((back same : B) → B.is_clone back same → same ≡ back) → copy ≡ store };
+
+    fn clone(&self) -> Result<Self, NoMemory> {
+        let table = self.table.clone()?;
+        let frames = self.frames.clone()?;
+        Ok(Store { table, frames })
     }
 }

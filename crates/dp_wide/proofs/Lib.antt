@@ -1,2 +1,5 @@
+pub mod CallsLemmas
+mod NamesLemmas
+mod NestedLemmas
 mod PartsLemmas
 mod cases

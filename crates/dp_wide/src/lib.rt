@@ -1,9 +1,44 @@
-//! Plain functions over texts and moments, of which the functions and applications of a dialplan are made.
+//! The wide table: the applications and the functions of a dialplan that people use, after the Asterisk documentation's application and
+//! function references, and the plain functions over texts and moments of which they are made.
 #![tactic(auto)]
 
+mod caller;
+mod cell_values;
+mod cells;
+mod choices;
+mod deleting;
+mod ended;
+mod exec_if;
+mod fields;
+mod functions;
+mod going;
+pub mod laws;
+mod macros;
+mod names;
+mod outside;
+mod settings;
+mod sight_functions;
+mod subroutines;
+mod text_functions;
 mod texts;
+mod time_choice;
 mod times;
+mod wide_table;
 
+pub use choices::if_value;
+pub use deleting::DbDel;
 pub use dp_conf::NoMemory;
+pub use dp_vars::Target;
+pub use ended::{Busy, Congestion};
+pub use exec_if::{ExecIf, ExecIfEnd, WithExecIf, exec_if_application};
+pub use functions::{WideFunctions, is_computed};
+pub use going::{WithGoing, goes_on};
+pub use macros::{Macro, MacroExit};
+pub use names::{is_given_by_asterisk, is_status};
+pub use outside::{WithOutside, is_outside};
+pub use settings::{MSet, SetWide, outside_sets_what_set_sets, setting_target};
+pub use subroutines::{GosubIfWide, GosubWide, goes_where_gosub_goes};
 pub use texts::{cut, delimiter_of, field_count, filter, to_lower, to_upper};
+pub use time_choice::GotoIfTime;
 pub use times::{Moment, lies_in, read_moment};
+pub use wide_table::WideApps;

@@ -1,7 +1,17 @@
-//! Cases of plain functions over texts and moments, as tables with their answers.
+//! Cases of the wide table, and of the plain functions over texts and moments that it is made of, as tables with their answers.
 #![tactic(auto)]
 
+#[cfg(test)]
+mod choices;
+#[cfg(test)]
+mod functions;
+#[cfg(test)]
+mod names;
+#[cfg(test)]
+mod settings;
 #[cfg(test)]
 mod texts;
 #[cfg(test)]
 mod times;
+#[cfg(test)]
+mod wide;

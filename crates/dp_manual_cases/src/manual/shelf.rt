@@ -1,7 +1,9 @@
 //! The files of the examples, in memory, and the command lines that are run over them.
 use crate::manual::calls::CALLS;
+use crate::manual::dialplans::DIALPLANS;
 use crate::manual::examples::EXAMPLES;
 use crate::manual::faults::FAULTS;
+use crate::manual::reaches::REACHES;
 use crate::manual::values::VALUES;
 use dp_case_tables::is_heading;
 use dp_cli::answer;
@@ -133,6 +135,8 @@ fn check_commands<R: Threads + Wait + Sync + Abort + AllocGlobal>(
 #[test]
 fn examples_print_so(rt: HostRuntime) -> Result<(), Fail> {
     check_commands(&rt, EXAMPLES)?;
+    check_commands(&rt, REACHES)?;
+    check_commands(&rt, DIALPLANS)?;
     check_commands(&rt, CALLS)
 }
 

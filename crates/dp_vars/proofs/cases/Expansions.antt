@@ -16,9 +16,11 @@ sight = record {
   variable = λ name. if same_text name (codes "X") then codes "abcdef" else (if same_text name (codes "A") then codes "${X}" else []);
   is_set = λ name. same_text name (codes "X") || same_text name (codes "A");
   global = λ name. if same_text name (codes "G") then codes "g" else [];
+  has_global = λ name. same_text name (codes "G");
   local = λ name. [];
   caller = codes "5551234";
   waiting = λ queue. 2;
+  members = λ queue. Some 3;
 }
 
 part-from_the_end : part (asked_of (Some (codes "-2"))) (codes "abcdef") ≡ codes "ef"
@@ -69,11 +71,12 @@ row-functions : expansion sight (codes "${GLOBAL(G)}${CALLERID(num):-4}${CALLERI
 unfolding sight reading_of levels expansion_of_with group_value_with head_value_with cut_outside digits
 row-functions = refl
 
--- a table that knows `DB` alone, whose value is its argument
+-- a table that knows of functions `DB` alone, whose value is its argument, and of names those that are set
 own_functions : FunctionTable
 own_functions = record {
   value = λ sight name argument. if same_text name (codes "DB") then argument else [];
   knows = λ sight name argument. same_text name (codes "DB");
+  knows_name = λ sight name. sight.is_set name;
   target = λ name. Nothing;
 }
 
@@ -90,3 +93,8 @@ row-unknown = refl
 row-known : first_unknown own_functions sight (codes "${DB(x)}${X}$[1 + 2]${F(}") ≡ None
 unfolding own_functions sight reading_of levels expansion_of_with group_value_with head_value_with cut_outside unknown_of unknown_group
 row-known = refl
+
+-- a name that is not known, by which an argument is found
+row-unknown_name : first_unknown own_functions sight (codes "${X}${DB(${N:1})}${M}") ≡ Some (codes "N")
+unfolding own_functions sight reading_of levels expansion_of_with group_value_with head_value_with cut_outside unknown_of unknown_group
+row-unknown_name = refl

@@ -34,6 +34,11 @@ abbrev pub with_stack : Entries → List ℕ → List Binding → Entries
 with_stack [] name bs = (name, bs) ∷ []
 with_stack (e ∷ es) name bs = if pointwise nat_eq name e.0 then (e.0, bs) ∷ es else e ∷ with_stack es name bs
 
+-- the entries with no bindings for a name; a name that is not there is not added
+abbrev pub cleared : Entries → List ℕ → Entries
+cleared [] name = []
+cleared (e ∷ es) name = if pointwise nat_eq name e.0 then (e.0, []) ∷ es else e ∷ cleared es name
+
 -- the bindings of the name of a number
 abbrev pub stack_at : Entries → ℕ → List Binding
 stack_at [] number = []

@@ -17,6 +17,6 @@ pub returns-clause-unknown : goal.returns-clause-unknown
 returns-clause-unknown g c channels =
     c.in_ok-unknown.ensures
     ∙ sym (ap (option_and_then (λ (found : Located).
-    unknown_of_entry (with_functions g.T.AppTable.rows g.T.Functions.Functions.table) c.args.exchange.now.shared c.args.number c.args.channel.now found.entry))
+    unknown_of_entry (with_functions g.T.AppTable.rows g.T.Functions.Functions.table) g.T.KnownTable.knowledge c.args.exchange.now.shared c.args.number c.args.channel.now found.entry))
     (ahead_located c.args.channel.now.phase c.args.exchange.now.plan c.args.channel.now c.in-Some.id c.entry-entry.result.now c.in-Some.ensures.entry
     (c.entry-entry.ensures ∙ ap (λ plan. entry_at plan c.in-Some.id) c.in-Some.ensures.same)))

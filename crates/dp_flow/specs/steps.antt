@@ -1,2 +1,0 @@
--- What private functions say of their steps. No public clause rests on it.
-pub mod Calls

@@ -1,0 +1,37 @@
+-- What `CALLERID(..)` is: the number of the caller, the name and the number in one text, or a cell.
+use Rattle.std.specs.Prelude.{ℕ, Bool, true, ◌||◌, List, ◌++◌, codes, if◌then◌else◌}
+use Rattle.dp_conf.specs.Words.{same_text}
+use Rattle.dp_vars.specs.Sights.{Sight}
+use Rattle.dp_wide.specs.CellValues.{cell_is_set, cell_value}
+
+-- whether an argument asks for the number
+abbrev pub asks_number : List ℕ → Bool
+asks_number argument = same_text argument (codes "num") || same_text argument (codes "number")
+
+-- whether an argument asks for both the name and the number
+abbrev pub asks_all : List ℕ → Bool
+asks_all argument = same_text argument (codes "all")
+
+-- a name and a number in one text
+abbrev pub caller_text : List ℕ → List ℕ → List ℕ
+caller_text name number = codes "\"" ++ name ++ codes "\" <" ++ number ++ codes ">"
+
+-- the name and the number of the caller, where the name is a cell
+abbrev pub all_value : Sight → List ℕ
+all_value sight = caller_text (cell_value sight (codes "CALLERID") (codes "name")) sight.caller
+
+-- whether both are known: the number is
+abbrev pub knows_all : Sight → Bool
+knows_all sight = cell_is_set sight (codes "CALLERID") (codes "name")
+
+-- the value of `CALLERID` of an argument
+abbrev pub caller_value : Sight → List ℕ → List ℕ
+caller_value sight argument =
+    if asks_number argument then sight.caller
+    else (if asks_all argument then all_value sight else cell_value sight (codes "CALLERID") argument)
+
+-- whether it is known: the number is, and what reads a cell is where something wrote that
+abbrev pub knows_caller : Sight → List ℕ → Bool
+knows_caller sight argument =
+    if asks_number argument then true
+    else (if asks_all argument then knows_all sight else cell_is_set sight (codes "CALLERID") argument)

@@ -1,0 +1,14 @@
+-- The values of cells, and whether something wrote them.
+use Rattle.std.specs.Prelude.{ℕ, Bool, List, if◌then◌else◌}
+use Rattle.dp_vars.specs.Sights.{Sight}
+use Rattle.dp_wide.specs.Cells.{cell_name, is_of_all}
+
+-- the value of a cell: that of a global of its name where it is of all channels, and of a variable where it is of one
+abbrev pub cell_value : Sight → List ℕ → List ℕ → List ℕ
+cell_value sight function argument =
+    if is_of_all function then sight.global (cell_name function argument) else sight.variable (cell_name function argument)
+
+-- whether something wrote a cell
+abbrev pub cell_is_set : Sight → List ℕ → List ℕ → Bool
+cell_is_set sight function argument =
+    if is_of_all function then sight.has_global (cell_name function argument) else sight.is_set (cell_name function argument)

@@ -1,0 +1,151 @@
+-- The functions of the wide table: what each of them is of its argument in what a text can see, and whether that is known.
+use Rattle.std.specs.Prelude.{ℕ, zero, suc, Bool, true, false, not, ◌||◌, List, [], length, Option, Some, None, is_some, codes, if◌then◌else◌}
+use Rattle.std.specs.Fmt.{decimal}
+use Rattle.std.specs.Option.{option_map, option_or}
+use Rattle.dp_conf.specs.Words.{same_text}
+use Rattle.dp_vars.specs.Functions.{FunctionTable}
+use Rattle.dp_vars.specs.Sights.{Sight}
+use Rattle.dp_vars.specs.Values.{function_of}
+use Rattle.dp_vars.specs.declared.value.Function.{Function}
+use Rattle.dp_vars.specs.declared.value.Function.TheVariants.{Global, Local, Len, CallerId, QueueWaitingCount}
+use Rattle.dp_wide.specs.Caller.{caller_value, knows_caller}
+use Rattle.dp_wide.specs.CellValues.{cell_is_set, cell_value}
+use Rattle.dp_wide.specs.Fields.{count_value, cut_value, knows_fields}
+use Rattle.dp_wide.specs.Names.{is_given_by_asterisk, is_status}
+use Rattle.dp_wide.specs.Settings.{wide_target}
+use Rattle.dp_wide.specs.SightFunctions.{knows_sight, sight_value}
+use Rattle.dp_wide.specs.TextFunctions.{text_value}
+use Rattle.dp_wide.specs.declared.functions.WideFunction.{WideFunction}
+use Rattle.dp_wide.specs.declared.functions.WideFunction.TheVariants.{Cut, FieldQty, OfText, OfSight, Foreign}
+use Rattle.dp_wide.specs.declared.sight_functions.SightFunction.{SightFunction}
+use Rattle.dp_wide.specs.declared.sight_functions.SightFunction.TheVariants.{DbExists, DbDelete, QueueExists, QueueMemberCount}
+use Rattle.dp_wide.specs.declared.text_functions.TextFunction.{TextFunction}
+use Rattle.dp_wide.specs.declared.text_functions.TextFunction.TheVariants.{If, Filter, ToUpper, ToLower, IsNull, Exists}
+
+-- the functions of a text, by their names
+abbrev pub text_function_of : List ℕ → Option TextFunction
+text_function_of name =
+    if same_text name (codes "IF") then Some If
+    else (if same_text name (codes "FILTER") then Some Filter
+    else (if same_text name (codes "TOUPPER") then Some ToUpper
+    else (if same_text name (codes "TOLOWER") then Some ToLower
+    else (if same_text name (codes "ISNULL") then Some IsNull
+    else (if same_text name (codes "EXISTS") then Some Exists else None)))))
+
+-- the functions of a key or of the name of a queue
+abbrev pub sight_function_of : List ℕ → Option SightFunction
+sight_function_of name =
+    if same_text name (codes "DB_EXISTS") then Some DbExists
+    else (if same_text name (codes "DB_DELETE") then Some DbDelete
+    else (if same_text name (codes "QUEUE_EXISTS") then Some QueueExists
+    else (if same_text name (codes "QUEUE_MEMBER_COUNT") then Some QueueMemberCount else None)))
+
+-- the functions that read or do more than this machine follows
+abbrev pub is_foreign : List ℕ → Bool
+is_foreign name =
+    same_text name (codes "REGEX") || same_text name (codes "INC") || same_text name (codes "DEC") || same_text name (codes "SHIFT")
+    || same_text name (codes "POP") || same_text name (codes "EVAL") || same_text name (codes "HASH")
+
+-- the functions of a text, or of what a text can see
+abbrev pub plain_function_of : List ℕ → Option WideFunction
+plain_function_of name = option_or (option_map OfText (text_function_of name)) (option_map OfSight (sight_function_of name))
+
+-- the functions that this table has beside the five of every dialplan; any other name is that of cells
+abbrev pub wide_function_of : List ℕ → Option WideFunction
+wide_function_of name =
+    if same_text name (codes "CUT") then Some Cut
+    else (if same_text name (codes "FIELDQTY") then Some FieldQty
+    else (if is_foreign name then Some Foreign else plain_function_of name))
+
+-- whether a name is that of a function, and not of cells alone
+abbrev pub is_computed : List ℕ → Bool
+is_computed name = is_some (function_of name) || is_some (wide_function_of name)
+
+-- the value of one of the five functions of every dialplan; `CALLERID` gives more than the number here
+abbrev pub five_value : Sight → Function → List ℕ → List ℕ
+five_value sight Global name = sight.global name
+five_value sight Local name = sight.local name
+five_value sight Len text = decimal (length text)
+five_value sight CallerId argument = caller_value sight argument
+five_value sight QueueWaitingCount queue = decimal (sight.waiting queue)
+
+-- whether it is known
+abbrev pub knows_five : Sight → Function → List ℕ → Bool
+knows_five sight Global name = true
+knows_five sight Local name = true
+knows_five sight Len text = true
+knows_five sight CallerId argument = knows_caller sight argument
+knows_five sight QueueWaitingCount queue = true
+
+-- the value of a function that this table has beside those, where `inner` are the functions by which a name in an argument is read
+abbrev pub wide_value : FunctionTable → Sight → WideFunction → List ℕ → List ℕ
+wide_value inner sight Cut argument = cut_value inner sight argument
+wide_value inner sight FieldQty argument = count_value inner sight argument
+wide_value inner sight (OfText function) argument = text_value function argument
+wide_value inner sight (OfSight function) argument = sight_value sight function argument
+wide_value inner sight Foreign argument = []
+
+-- whether it is known
+abbrev pub knows_wide : FunctionTable → Sight → WideFunction → List ℕ → Bool
+knows_wide inner sight Cut argument = knows_fields inner sight argument
+knows_wide inner sight FieldQty argument = knows_fields inner sight argument
+knows_wide inner sight (OfText function) argument = true
+knows_wide inner sight (OfSight function) argument = knows_sight sight function argument
+knows_wide inner sight Foreign argument = false
+
+-- the value of any other name than the five: of a function, or of a cell
+abbrev pub other_value : FunctionTable → Sight → Option WideFunction → List ℕ → List ℕ → List ℕ
+other_value inner sight None name argument = cell_value sight name argument
+other_value inner sight (Some function) name argument = wide_value inner sight function argument
+
+-- whether it is known
+abbrev pub knows_other : FunctionTable → Sight → Option WideFunction → List ℕ → List ℕ → Bool
+knows_other inner sight None name argument = cell_is_set sight name argument
+knows_other inner sight (Some function) name argument = knows_wide inner sight function argument
+
+-- the value of a name and an argument
+abbrev pub value_by : FunctionTable → Sight → Option Function → List ℕ → List ℕ → List ℕ
+value_by inner sight None name argument = other_value inner sight (wide_function_of name) name argument
+value_by inner sight (Some function) name argument = five_value sight function argument
+
+-- whether it is known
+abbrev pub knows_by : FunctionTable → Sight → Option Function → List ℕ → List ℕ → Bool
+knows_by inner sight None name argument = knows_other inner sight (wide_function_of name) name argument
+knows_by inner sight (Some function) name argument = knows_five sight function argument
+
+-- whether a plain name is known: one that Asterisk gives and this machine does not, or that tells what became of an application
+-- outside of it, is known where something set it
+abbrev pub knows_name : Sight → List ℕ → Bool
+knows_name sight name = not (is_status name || is_given_by_asterisk name) || sight.is_set name
+
+-- the functions, where `inner` are those by which a name in an argument is read
+unfoldable pub around : FunctionTable → FunctionTable
+around inner = record {
+  value = λ sight name argument. value_by inner sight (function_of name) name argument;
+  knows = λ sight name argument. knows_by inner sight (function_of name) name argument;
+  knows_name = knows_name;
+  target = wide_target;
+}
+
+-- no functions: a call is empty, and is not known
+abbrev pub no_calls : FunctionTable
+no_calls = record {
+  value = λ sight name argument. [];
+  knows = λ sight name argument. false;
+  knows_name = knows_name;
+  target = wide_target;
+}
+
+-- the functions where so many calls may stand inside each other
+unfoldable pub within : ℕ → FunctionTable
+within zero = no_calls
+within (suc more) = around (within more)
+
+-- the functions, where at most 32 calls stand inside each other
+abbrev pub wide_functions : FunctionTable
+wide_functions = record {
+  value = (within 32).value;
+  knows = (within 32).knows;
+  knows_name = knows_name;
+  target = wide_target;
+}

@@ -1,0 +1,104 @@
+-- The applications that run outside this program, for which a channel waits.
+use Rattle.std.specs.Prelude.{ℕ, Bool, true, false, List, [], ◌∷◌, Option, codes, fold, is_some}
+use Rattle.std.specs.List.{find}
+use Rattle.std.specs.Option.{option_map, unwrap_or}
+use Rattle.dp_conf.specs.Levels.{arguments_of}
+use Rattle.dp_conf.specs.Words.{same_word}
+use Rattle.dp_vars.specs.Stores.{StoreOf, unset}
+use Rattle.dp_app.specs.Cells.{CellOf}
+use Rattle.dp_app.specs.Knowledge.{Knowledge}
+use Rattle.dp_app.specs.Parts.{part}
+use Rattle.dp_app.specs.Rows.{Outcome, Row, Rows}
+use Rattle.dp_app.specs.declared.moves.Move.TheVariants.{Hang, Park}
+use Rattle.dp_app.specs.declared.phase.Phase.TheVariants.{Pause}
+use Rattle.dp_app.specs.declared.place.Place.{Place}
+use Rattle.dp_app.specs.declared.touch.Touch.{Touch}
+use Rattle.dp_flow.specs.Jumps.{stays}
+use Rattle.dp_flow.specs.Touches.{the_variables}
+use Rattle.dp_wide.specs.Names.{with_named, with_named_knowledge, with_named_touch}
+
+-- an application that says in no variable how it ended
+abbrev pub without_status : List ℕ → List ℕ × List (List ℕ)
+without_status name = (name, [])
+
+-- an application that says in one variable how it ended
+abbrev pub with_status : List ℕ → List ℕ → List ℕ × List (List ℕ)
+with_status name status = (name, status ∷ [])
+
+-- the applications that run outside, each with the variables in which it says how it ended
+unfoldable pub outside_applications : List (List ℕ × List (List ℕ))
+outside_applications =
+    with_status (codes "VoiceMail") (codes "VMSTATUS") ∷ without_status (codes "VoiceMailMain")
+    ∷ without_status (codes "VMAuthenticate") ∷ without_status (codes "Directory")
+    ∷ with_status (codes "Read") (codes "READSTATUS") ∷ without_status (codes "ReadExten")
+    ∷ with_status (codes "Record") (codes "RECORD_STATUS") ∷ without_status (codes "ControlPlayback")
+    ∷ without_status (codes "BackgroundDetect") ∷ with_status (codes "AGI") (codes "AGISTATUS")
+    ∷ with_status (codes "DeadAGI") (codes "AGISTATUS") ∷ with_status (codes "EAGI") (codes "AGISTATUS")
+    ∷ without_status (codes "ExternalIVR") ∷ with_status (codes "ConfBridge") (codes "CONFBRIDGE_RESULT")
+    ∷ without_status (codes "MeetMe") ∷ with_status (codes "Page") (codes "PAGESTATUS") ∷ without_status (codes "Pickup")
+    ∷ without_status (codes "PickupChan") ∷ with_status (codes "Park") (codes "PARKEDAT") ∷ without_status (codes "ParkedCall")
+    ∷ with_status (codes "ParkAndAnnounce") (codes "PARKEDAT") ∷ without_status (codes "Authenticate")
+    ∷ without_status (codes "FollowMe") ∷ without_status (codes "ChanSpy") ∷ without_status (codes "ExtenSpy")
+    ∷ (codes "SendFAX", codes "FAXSTATUS" ∷ codes "FAXERROR" ∷ [])
+    ∷ (codes "ReceiveFAX", codes "FAXSTATUS" ∷ codes "FAXERROR" ∷ []) ∷ without_status (codes "Echo")
+    ∷ without_status (codes "Milliwatt") ∷ without_status (codes "MP3Player") ∷ without_status (codes "Festival")
+    ∷ without_status (codes "MusicOnHold") ∷ without_status (codes "WaitMusicOnHold") ∷ without_status (codes "WaitForSilence")
+    ∷ without_status (codes "WaitForNoise") ∷ without_status (codes "WaitForRing") ∷ without_status (codes "WaitUntil")
+    ∷ with_status (codes "Transfer") (codes "TRANSFERSTATUS") ∷ without_status (codes "Bridge")
+    ∷ without_status (codes "BridgeWait") ∷ without_status (codes "Stasis") ∷ without_status (codes "DISA")
+    ∷ with_status (codes "PrivacyManager") (codes "PRIVACYMGRSTATUS") ∷ without_status (codes "Zapateller")
+    ∷ without_status (codes "Flash") ∷ with_status (codes "AMD") (codes "AMDSTATUS") ∷ without_status (codes "NVFaxDetect")
+    ∷ without_status (codes "Dictate") ∷ without_status (codes "TestClient") ∷ without_status (codes "TestServer")
+    ∷ without_status (codes "AgentLogin") ∷ without_status (codes "AgentRequest") ∷ without_status (codes "Morsecode")
+    ∷ without_status (codes "SMS") ∷ without_status (codes "Curl") ∷ []
+
+-- the variables in which the application of a name among some says how it ended
+abbrev pub statuses_among : List (List ℕ × List (List ℕ)) → List ℕ → Option (List (List ℕ))
+statuses_among applications name = option_map (λ a. a.1) (find (λ a. same_word name a.0) applications)
+
+-- the same among all that run outside, if the application of the name is one of them
+abbrev pub outside_statuses : List ℕ → Option (List (List ℕ))
+outside_statuses name = statuses_among outside_applications name
+
+-- whether the application of a name runs outside
+abbrev pub is_outside : List ℕ → Bool
+is_outside name = is_some (outside_statuses name)
+
+-- whether the first argument names a variable for what is read
+abbrev pub is_read : List ℕ → Bool
+is_read name = same_word name (codes "Read")
+
+-- a store in which names have no value any more
+abbrev pub without_values : List (List ℕ) → StoreOf Place → StoreOf Place
+without_values names store = fold unset store names
+
+-- the same of the name that the first argument is, where it names a variable
+abbrev pub without_first : Bool → List ℕ → StoreOf Place → StoreOf Place
+without_first false arguments store = store
+without_first true arguments store = unset store (part 0 (arguments_of arguments))
+
+-- what was known of an earlier run is known no more, and the channel waits; one that is closing does not wait, and its call ends
+abbrev pub outside_outcome : List (List ℕ) → Bool → List ℕ → CellOf → Bool → Outcome
+outside_outcome statuses reads arguments cell true = stays cell Hang
+outside_outcome statuses reads arguments cell false =
+    record { cell = record cell { store = without_first reads arguments (without_values statuses cell.store) }; next = Park Pause }
+
+-- the row of an application that runs outside, by its statuses and by whether its first argument names a variable
+unfoldable pub outside_row : List (List ℕ) → Bool → Row
+outside_row statuses reads arguments cell = outside_outcome statuses reads arguments cell cell.is_closing
+
+-- the row of a name
+abbrev pub row_outside : List ℕ → Row
+row_outside name = outside_row (unwrap_or (outside_statuses name) []) (is_read name)
+
+-- a table in which they come first
+abbrev pub with_outside : Rows → Rows
+with_outside rows = with_named is_outside row_outside rows
+
+-- the touches of such a table
+abbrev pub with_outside_touch : (List ℕ → Touch) → List ℕ → Touch
+with_outside_touch touches = with_named_touch is_outside the_variables touches
+
+-- what is known of such a table: of them `Read` alone looks at its arguments
+abbrev pub with_outside_knowledge : Knowledge → Knowledge
+with_outside_knowledge knowledge = with_named_knowledge is_outside is_read knowledge

@@ -1,0 +1,206 @@
+-- What names set: the rows of `Set` and `MSet`, and what a name sets from outside.
+use Rattle.std.specs.Prelude.{ℕ, Bool, ◌==◌, ◌&&◌, ◌||◌, List, [], ◌∷◌, fold, Option, Some, None, unwrap_or, codes, if◌then◌else◌}
+use Rattle.std.specs.FinMap.{insert}
+use Rattle.std.specs.Option.{option_and_then, option_map_or}
+use Rattle.dp_conf.specs.Blanks.{trim}
+use Rattle.dp_conf.specs.Cut.{before_last, cut_once}
+use Rattle.dp_conf.specs.Levels.{arguments_of, parts_of}
+use Rattle.dp_conf.specs.Words.{same_text}
+use Rattle.dp_vars.specs.Functions.{SettingTarget, Variable, Global, Local, Caller, Nothing}
+use Rattle.dp_vars.specs.Stores.{StoreOf, set, set_local}
+use Rattle.dp_vars.specs.Variables.{Named}
+use Rattle.dp_app.specs.Cells.{CellOf}
+use Rattle.dp_app.specs.Rows.{Row}
+use Rattle.dp_app.specs.declared.moves.Move.TheVariants.{Next}
+use Rattle.dp_app.specs.declared.place.Place.{Place}
+use Rattle.dp_flow.specs.Settings.{argument_of, before_end}
+use Rattle.dp_wide.specs.Cells.{cell_name, is_of_all}
+use Rattle.dp_wide.specs.Deleting.{with_empty_key}
+
+-- what can be set of a cell
+pub record Settable : Type 0 where
+  pub caller : List ℕ
+  pub store : StoreOf Place
+  pub globals : Named
+
+-- what can be set of this cell
+abbrev pub settable_of : CellOf → Settable
+settable_of cell = record { caller = cell.caller; store = cell.store; globals = cell.globals }
+
+-- the cell with that as it is after settings
+abbrev pub with_settable : CellOf → Settable → CellOf
+with_settable cell s = record cell { caller = s.caller; store = s.store; globals = s.globals }
+
+-- a name without one mark of inheritance, a `_`, at its front
+abbrev pub without_mark : List ℕ → List ℕ
+without_mark [] = []
+without_mark (b ∷ bs) = if b == 95 then bs else b ∷ bs
+
+-- a name that is set, without the blanks at its ends and without two such marks at most
+abbrev pub bare_name : List ℕ → List ℕ
+bare_name name = without_mark (without_mark (trim name))
+
+-- what a name sets: one thing, the name and the number of the caller, the key of a cell that gets empty, or each of some names
+pub data Effect : Type 0 where
+  OneTarget : SettingTarget → Effect
+  NameAndNumber : Effect
+  EmptyKey : List ℕ → Effect
+  EachName : List ℕ → Effect
+
+-- setting the function does more than to write a cell, and has no effect here
+abbrev pub does_more : List ℕ → List ℕ → Bool
+does_more function argument =
+    same_text function (codes "HASH") || same_text function (codes "PUSH") || same_text function (codes "UNSHIFT")
+    || same_text function (codes "INC") || same_text function (codes "DEC") || same_text function (codes "SHIFT")
+    || same_text function (codes "POP") || same_text function (codes "EVAL")
+    || (same_text function (codes "CHANNEL") && same_text argument (codes "hangup_handler_push"))
+
+-- the cell of a function, by its whole name
+abbrev pub cell_target : List ℕ → List ℕ → SettingTarget
+cell_target name function = if is_of_all function then Global name else Variable name
+
+-- what `CALLERID` of an argument sets, by the whole name
+abbrev pub caller_effect : List ℕ → List ℕ → Effect
+caller_effect name argument =
+    if same_text argument (codes "num") || same_text argument (codes "number") then OneTarget Caller
+    else (if same_text argument (codes "all") then NameAndNumber else OneTarget (Variable name))
+
+-- what a function of an argument sets, by the whole name
+abbrev pub function_effect : List ℕ → List ℕ → List ℕ → Effect
+function_effect name function argument =
+    if same_text function (codes "GLOBAL") then OneTarget (Global argument)
+    else (if same_text function (codes "LOCAL") then OneTarget (Local argument)
+    else (if same_text function (codes "CALLERID") then caller_effect name argument
+    else (if same_text function (codes "DB_DELETE") then EmptyKey argument
+    else (if same_text function (codes "ARRAY") then EachName argument
+    else (if does_more function argument then OneTarget Nothing
+    else OneTarget (cell_target name function))))))
+
+-- the variable of a name; the empty name sets nothing
+abbrev pub variable_target : List ℕ → SettingTarget
+variable_target [] = Nothing
+variable_target (b ∷ bs) = Variable (b ∷ bs)
+
+-- a function sets something where it has an argument
+abbrev pub called_effect : List ℕ → List ℕ → Option (List ℕ) → Effect
+called_effect name function None = OneTarget Nothing
+called_effect name function (Some argument) = function_effect name function argument
+
+-- what a name sets, by its first `(`: with one it is a function
+abbrev pub effect_by : List ℕ → Option (List ℕ × List ℕ) → Effect
+effect_by name None = OneTarget (variable_target name)
+effect_by name (Some cut) = called_effect name cut.0 (argument_of cut.1)
+
+-- what a name sets
+unfoldable pub effect_of : List ℕ → Effect
+effect_of name = effect_by name (cut_once 40 name)
+
+-- the one thing that is set, where it is one
+abbrev pub one_target : Effect → SettingTarget
+one_target (OneTarget target) = target
+one_target NameAndNumber = Nothing
+one_target (EmptyKey key) = Nothing
+one_target (EachName names) = Nothing
+
+-- what setting a name from outside sets
+abbrev pub wide_target : List ℕ → SettingTarget
+wide_target name = one_target (effect_of (bare_name name))
+
+-- a value is set
+abbrev pub with_target : Settable → SettingTarget → List ℕ → Settable
+with_target s (Variable name) value = record s { store = set s.store name value }
+with_target s (Global name) value = record s { globals = insert s.globals name value }
+with_target s (Local name) value = record s { store = set_local s.store name value }
+with_target s Caller value = record s { caller = value }
+with_target s Nothing value = s
+
+-- the name and the number of a caller
+pub record CallerText : Type 0 where
+  pub name : List ℕ
+  pub number : List ℕ
+
+-- what stands before a quote, if that is the last byte
+abbrev pub before_quote : List ℕ → Option (List ℕ)
+before_quote after = option_and_then (before_end after) (before_last 34 after)
+
+-- a text without the quotes at both of its ends
+abbrev pub without_quotes : List ℕ → List ℕ
+without_quotes [] = []
+without_quotes (b ∷ bs) = if b == 34 then unwrap_or (before_quote bs) (b ∷ bs) else b ∷ bs
+
+-- a number with no name
+abbrev pub number_alone : List ℕ → CallerText
+number_alone text = record { name = []; number = trim text }
+
+-- a name in quotes or bare, and a number in angle brackets
+abbrev pub name_and_number : List ℕ → List ℕ → CallerText
+name_and_number front number = record { name = without_quotes (trim front); number = trim number }
+
+-- a caller by the first `<`: the number ends at the last `>` after it, and with no such brackets all is the number
+abbrev pub caller_by : List ℕ → Option (List ℕ × List ℕ) → CallerText
+caller_by text None = number_alone text
+caller_by text (Some cut) = option_map_or (name_and_number cut.0) (before_last 62 cut.1) (number_alone text)
+
+-- the name and the number that a text has of a caller
+unfoldable pub caller_of : List ℕ → CallerText
+caller_of text = caller_by text (cut_once 60 text)
+
+-- the name and the number of the caller are set
+abbrev pub with_caller : Settable → CallerText → Settable
+with_caller s caller =
+    record s { caller = caller.number; store = set s.store (cell_name (codes "CALLERID") (codes "name")) caller.name }
+
+-- a name is set, where each of some names is a plain cell
+abbrev pub with_effect : Settable → List ℕ → Effect → List ℕ → Settable
+with_effect s name (OneTarget target) value = with_target s target value
+with_effect s name NameAndNumber value = with_caller s (caller_of value)
+with_effect s name (EmptyKey key) value = record s { globals = with_empty_key s.globals key }
+with_effect s name (EachName names) value = with_target s (Variable name) value
+
+-- one of some names is set
+abbrev pub with_one : Settable → List ℕ → List ℕ → Settable
+with_one s name value = with_effect s (bare_name name) (effect_of (bare_name name)) value
+
+-- the first of some values; the empty text where there is none
+abbrev pub first_value : List (List ℕ) → List ℕ
+first_value [] = []
+first_value (value ∷ values) = value
+
+-- the values after the first one
+abbrev pub later_values : List (List ℕ) → List (List ℕ)
+later_values [] = []
+later_values (value ∷ values) = values
+
+-- each of some names is set to its value, in order; where there are fewer values the others are empty
+abbrev pub with_each : Settable → List (List ℕ) → List (List ℕ) → Settable
+with_each s [] values = s
+with_each s (name ∷ names) values = with_each (with_one s name (first_value values)) names (later_values values)
+
+-- a name is set by what it sets
+abbrev pub with_setting : Settable → List ℕ → Effect → List ℕ → Settable
+with_setting s name (OneTarget target) value = with_effect s name (OneTarget target) value
+with_setting s name NameAndNumber value = with_effect s name NameAndNumber value
+with_setting s name (EmptyKey key) value = with_effect s name (EmptyKey key) value
+with_setting s name (EachName names) value = with_each s (parts_of names) (parts_of value)
+
+-- a name is set
+abbrev pub with_value : Settable → List ℕ → List ℕ → Settable
+with_value s name value = with_setting s (bare_name name) (effect_of (bare_name name)) value
+
+-- what stands before the first `=` is the name, and what stands after it the value; with no `=` there is no effect
+abbrev pub with_pair : Settable → Option (List ℕ × List ℕ) → Settable
+with_pair s None = s
+with_pair s (Some cut) = with_value s cut.0 cut.1
+
+-- a setting by its text
+abbrev pub with_text : Settable → List ℕ → Settable
+with_text s text = with_pair s (cut_once 61 text)
+
+-- the row of `Set`
+unfoldable pub set_row : Row
+set_row arguments cell = record { cell = with_settable cell (with_text (settable_of cell) arguments); next = Next }
+
+-- the row of `MSet`: each of its arguments is a setting
+unfoldable pub mset_row : Row
+mset_row arguments cell =
+    record { cell = with_settable cell (fold with_text (settable_of cell) (arguments_of arguments)); next = Next }

@@ -1,0 +1,11 @@
+-- Proofs of what the ghost members of applications and tables say, which stand here since these members name them.
+pub mod Choices
+pub mod DeletingLawful
+pub mod GoingLawful
+pub mod MacrosLawful
+pub mod NamesLawful
+pub mod OutsideLawful
+pub mod SettingsLawful
+pub mod SubroutinesLawful
+pub mod UnsetKept
+pub mod WideOverlooks

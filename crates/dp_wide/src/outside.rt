@@ -1,0 +1,219 @@
+//! The applications that run outside this program, after the Asterisk documentation's application reference. A channel that reaches
+//! one waits, and what comes of it is told from outside.
+ghost use Rattle.std.specs.Prelude.{◌≡◌, map};
+ghost use Rattle.std.specs.Option.{option_map};
+ghost use Rattle.dp_app.specs.Cells.{KeepsLoans, cell_now};
+ghost use Rattle.dp_wide.specs.Outside as spec;
+
+use dp_app::{AppNumber, AppTable, Cell, KnownTable, Move, Phase, Place};
+use dp_conf::{NoMemory, first_argument, same_word, trim};
+use dp_vars::{Counts, Scope, Store};
+use std::alloc::Global;
+use std::marker::PhantomData;
+
+/// The applications that run outside, each with the variables in which it says how it ended.
+const OUTSIDE: [(&[u8], &[&[u8]]); 55] = [
+    (b"VoiceMail", &[b"VMSTATUS"]),
+    (b"VoiceMailMain", &[]),
+    (b"VMAuthenticate", &[]),
+    (b"Directory", &[]),
+    (b"Read", &[b"READSTATUS"]),
+    (b"ReadExten", &[]),
+    (b"Record", &[b"RECORD_STATUS"]),
+    (b"ControlPlayback", &[]),
+    (b"BackgroundDetect", &[]),
+    (b"AGI", &[b"AGISTATUS"]),
+    (b"DeadAGI", &[b"AGISTATUS"]),
+    (b"EAGI", &[b"AGISTATUS"]),
+    (b"ExternalIVR", &[]),
+    (b"ConfBridge", &[b"CONFBRIDGE_RESULT"]),
+    (b"MeetMe", &[]),
+    (b"Page", &[b"PAGESTATUS"]),
+    (b"Pickup", &[]),
+    (b"PickupChan", &[]),
+    (b"Park", &[b"PARKEDAT"]),
+    (b"ParkedCall", &[]),
+    (b"ParkAndAnnounce", &[b"PARKEDAT"]),
+    (b"Authenticate", &[]),
+    (b"FollowMe", &[]),
+    (b"ChanSpy", &[]),
+    (b"ExtenSpy", &[]),
+    (b"SendFAX", &[b"FAXSTATUS", b"FAXERROR"]),
+    (b"ReceiveFAX", &[b"FAXSTATUS", b"FAXERROR"]),
+    (b"Echo", &[]),
+    (b"Milliwatt", &[]),
+    (b"MP3Player", &[]),
+    (b"Festival", &[]),
+    (b"MusicOnHold", &[]),
+    (b"WaitMusicOnHold", &[]),
+    (b"WaitForSilence", &[]),
+    (b"WaitForNoise", &[]),
+    (b"WaitForRing", &[]),
+    (b"WaitUntil", &[]),
+    (b"Transfer", &[b"TRANSFERSTATUS"]),
+    (b"Bridge", &[]),
+    (b"BridgeWait", &[]),
+    (b"Stasis", &[]),
+    (b"DISA", &[]),
+    (b"PrivacyManager", &[b"PRIVACYMGRSTATUS"]),
+    (b"Zapateller", &[]),
+    (b"Flash", &[]),
+    (b"AMD", &[b"AMDSTATUS"]),
+    (b"NVFaxDetect", &[]),
+    (b"Dictate", &[]),
+    (b"TestClient", &[]),
+    (b"TestServer", &[]),
+    (b"AgentLogin", &[]),
+    (b"AgentRequest", &[]),
+    (b"Morsecode", &[]),
+    (b"SMS", &[]),
+    (b"Curl", &[]),
+];
+
+/// The variables in which the application of a name among some says how it ended, if it is one of them.
+fn statuses_among<'a>(
+    applications: &[(&[u8], &'a [&'a [u8]])],
+    name: &[u8],
+) -> Option<&'a [&'a [u8]]>
+    ensures { option_map (λ statuses. map (λ status. status.now) statuses.now) result
+        ≡ spec.statuses_among (map (λ a. (a.0.now, map (λ status. status.now) a.1.now)) applications.now) name.now }
+{
+    let mut left = applications;
+    while let [(application, statuses), rest @ ..] = left {
+        if same_word(name, application) {
+            return Some(statuses);
+        }
+        left = rest;
+    }
+    None
+}
+
+/// The variables in which the application of a name says how it ended; None where it does not run outside.
+#[tactic(auto, unfolding(crate::specs::Outside::outside_applications))]
+fn outside_statuses(name: &[u8]) -> Option<&'static [&'static [u8]]>
+    ensures { option_map (λ statuses. map (λ status. status.now) statuses.now) result ≡ spec.outside_statuses name.now }
+{
+    statuses_among(&OUTSIDE, name)
+}
+
+/// Whether the application of a name runs outside this program. Names of applications are compared without regard to ASCII case.
+pub fn is_outside(name: &[u8]) -> bool
+    ensures { result ≡ spec.is_outside name.now }
+{
+    outside_statuses(name).is_some()
+}
+
+/// Whether the first argument names a variable for what is read.
+fn is_read(name: &[u8]) -> bool
+    ensures { result ≡ spec.is_read name.now }
+{
+    same_word(name, b"Read")
+}
+
+/// Takes the values of some names away.
+fn unset_all(store: &mut Store<Place>, names: &[&[u8]])
+    ensures { store.new ≡ spec.without_values (map (λ name. name.now) names.now) store.old }
+{
+    for name in names {
+        store.unset(name);
+    }
+}
+
+/// Takes the value of the name away that the first argument is, where it names a variable.
+fn unset_first(store: &mut Store<Place>, reads: bool, arguments: &[u8])
+    ensures { store.new ≡ spec.without_first reads arguments.now store.old }
+{
+    if reads {
+        let (first, _) = first_argument(arguments);
+        store.unset(trim(first));
+    }
+}
+
+/// The channel waits for an application that runs outside, and nothing is known any more of how an earlier run of it ended. One that
+/// is closing does not wait, and its call ends.
+#[tactic(auto, unfolding(crate::specs::Outside::outside_row))]
+fn wait_outside(statuses: &[&[u8]], reads: bool, arguments: &[u8], cell: &mut Cell) -> Move
+    ensures row { spec.outside_row (map (λ status. status.now) statuses.now) reads arguments.now (cell_now cell.old)
+        ≡ record { cell = cell_now cell.new; next = result } }
+    ensures loans { KeepsLoans cell.old cell.new }
+{
+    if cell.is_closing {
+        return Move::Hang;
+    }
+    unset_all(cell.store, statuses);
+    unset_first(cell.store, reads, arguments);
+    Move::Park(Phase::Pause)
+}
+
+/// A table in which the applications that run outside come first, each before the same name of the other table.
+///
+/// The channel waits until a time-out, after which it goes on at the next priority. What the application says of how it ended, and
+/// what `Read` read, is told from outside while it waits: until then the variables for it have no value, also where an earlier run
+/// left one. While the channel is closing the call ends in place of the wait. All this is a choice of this program.
+pub struct WithOutside<T> {
+    types: PhantomData<T>,
+}
+
+impl<T: AppTable> AppTable for WithOutside<T> {
+    ghost use Rattle.dp_wide.specs.Outside.{with_outside, with_outside_touch};
+    ghost use Rattle.dp_wide.specs.laws.OutsideLawful.{with_outside_blind, with_outside_lawful};
+
+    ghost rows = { with_outside T.rows };
+
+    ghost touches = { with_outside_touch T.touches };
+
+    ghost lawful = { with_outside_lawful T.touches T.rows T.lawful };
+
+    ghost blind = { with_outside_blind T.touches T.rows T.blind };
+
+    type Functions = T::Functions;
+
+    fn number_of(name: &[u8]) -> Option<AppNumber> {
+        if is_outside(name) {
+            return Some(AppNumber::first());
+        }
+        let number = T::number_of(name)?;
+        Some(number.after())
+    }
+
+    fn dispatch(
+        alloc: Global,
+        name: &[u8],
+        arguments: &[u8],
+        cell: &mut Cell,
+    ) -> Result<Option<Move>, NoMemory> {
+        if let Some(statuses) = outside_statuses(name) {
+            let going = wait_outside(statuses, is_read(name), arguments, cell);
+            return Ok(Some(going));
+        }
+        T::dispatch(alloc, name, arguments, cell)
+    }
+}
+
+impl<T: KnownTable> KnownTable for WithOutside<T> {
+    ghost use Rattle.dp_wide.specs.Outside.{with_outside_knowledge};
+    ghost use Rattle.dp_wide.specs.laws.OutsideLawful.{with_outside_overlooks};
+
+    ghost knowledge = { with_outside_knowledge T.knowledge };
+
+    ghost overlooks = { with_outside_overlooks T.knowledge T.rows T.overlooks };
+
+    fn looks_at_arguments(name: &[u8]) -> bool {
+        if is_outside(name) {
+            return is_read(name);
+        }
+        T::looks_at_arguments(name)
+    }
+
+    fn asked<B, C: Counts>(
+        alloc: Global,
+        scope: &Scope<'_, B, C>,
+        name: &[u8],
+        arguments: &[u8],
+    ) -> Result<Vec<u8>, NoMemory> {
+        if is_outside(name) {
+            return Ok(Vec::new(alloc));
+        }
+        T::asked(alloc, scope, name, arguments)
+    }
+}

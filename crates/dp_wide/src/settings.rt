@@ -1,0 +1,208 @@
+//! The applications that set variables, after the Asterisk documentation's pages on `Set` and `MSet`, and what a name sets
+//! from outside.
+mod callers;
+mod effects;
+mod one;
+mod together;
+
+ghost use Rattle.std.specs.Prelude.{◌≡◌, OnErr, OnOk, fold};
+ghost use Rattle.dp_app.specs.Cells.{KeepsLoans, cell_now};
+ghost use Rattle.dp_conf.specs.Levels.{arguments_of, parts_of};
+ghost use Rattle.dp_wide.specs.Settings as spec;
+ghost use Rattle.dp_wide.specs.Settings.{settable_of, with_settable};
+ghost use Rattle.dp_wide.specs.steps.PartsLeft.{parts_left};
+
+use crate::settings::effects::{Effect, effect_of};
+use crate::settings::one::{set_effect, set_one};
+use crate::settings::together::{Assignments, set_together};
+use dp_app::{Application, Cell, Move, Touch};
+use dp_conf::{NoMemory, cut_once, first_argument, trim};
+pub(crate) use effects::{bare_name, does_more};
+pub use effects::{outside_sets_what_set_sets, setting_target};
+use std::alloc::Global;
+
+/// The first of some values, and those after it; the empty text where there is none.
+fn first_value(values: Option<&[u8]>) -> (&[u8], Option<&[u8]>)
+    ensures value { result.0.now ≡ spec.first_value (parts_left values.entry) }
+    ensures later { parts_left result.1 ≡ spec.later_values (parts_left values.entry) }
+{
+    match values {
+        None => (b"", None),
+        Some(left) => first_argument(left),
+    }
+}
+
+/// Sets each of some names to its value. After a refused growth some of them are set.
+fn set_names(alloc: Global, cell: &mut Cell, names: &[u8], values: &[u8]) -> Result<(), NoMemory>
+    ensures ok { OnOk result (cell_now cell.new ≡ with_settable (cell_now cell.old)
+        (spec.with_each (settable_of (cell_now cell.old)) (parts_of names.now) (parts_of values.now))) }
+    ensures err { OnErr result (cell.new.queues.now ≡ cell.old.queues.now) }
+    ensures loans { KeepsLoans cell.old cell.new }
+{
+    let mut rest = Some(names);
+    let mut values = Some(values);
+    while let Some(left) = rest {
+        let (name, after) = first_argument(left);
+        let (value, later) = first_value(values);
+        set_one(alloc, cell, name, value)?;
+        rest = after;
+        values = later;
+    }
+    Ok(())
+}
+
+/// Names and their values, each between commas.
+#[derive(Drop)]
+struct NamedValues<'a> {
+    names: &'a [u8],
+    values: &'a [u8],
+}
+
+impl Assignments for NamedValues<'_> {
+    ghost after = { λ named settable. spec.with_each settable (parts_of named.names.now) (parts_of named.values.now) };
+
+    fn run(&self, alloc: Global, cell: &mut Cell) -> Result<(), NoMemory> {
+        set_names(alloc, cell, self.names, self.values)
+    }
+}
+
+/// Sets a name. After a refused growth the cell is as before.
+fn set_name(alloc: Global, cell: &mut Cell, name: &[u8], value: &[u8]) -> Result<(), NoMemory>
+    ensures ok { OnOk result (cell_now cell.new ≡ with_settable (cell_now cell.old)
+        (spec.with_value (settable_of (cell_now cell.old)) name.now value.now)) }
+    ensures err { OnErr result (cell_now cell.new ≡ cell_now cell.old) }
+    ensures loans { KeepsLoans cell.old cell.new }
+{
+    let name = bare_name(name);
+    match effect_of(name) {
+        Effect::EachName(names) => set_together(
+            alloc,
+            cell,
+            &NamedValues {
+                names,
+                values: value,
+            },
+        ),
+        effect => set_effect(alloc, cell, name, effect, value),
+    }
+}
+
+/// Makes the setting of a text, `NAME=value`. After a refused growth the cell is as before.
+fn set_text(alloc: Global, cell: &mut Cell, text: &[u8]) -> Result<(), NoMemory>
+    ensures ok { OnOk result (cell_now cell.new ≡ with_settable (cell_now cell.old)
+        (spec.with_text (settable_of (cell_now cell.old)) text.now)) }
+    ensures err { OnErr result (cell_now cell.new ≡ cell_now cell.old) }
+    ensures loans { KeepsLoans cell.old cell.new }
+{
+    match cut_once(text, b'=') {
+        None => Ok(()),
+        Some((name, value)) => set_name(alloc, cell, name, value),
+    }
+}
+
+/// Makes the settings of some texts. After a refused growth some of them are made.
+fn set_texts(alloc: Global, cell: &mut Cell, texts: &[u8]) -> Result<(), NoMemory>
+    ensures ok { OnOk result (cell_now cell.new ≡ with_settable (cell_now cell.old)
+        (fold spec.with_text (settable_of (cell_now cell.old)) (arguments_of texts.now))) }
+    ensures err { OnErr result (cell.new.queues.now ≡ cell.old.queues.now) }
+    ensures loans { KeepsLoans cell.old cell.new }
+{
+    let mut rest = Some(texts);
+    while let Some(left) = rest {
+        let (text, after) = first_argument(left);
+        set_text(alloc, cell, trim(text))?;
+        rest = after;
+    }
+    Ok(())
+}
+
+/// The texts of settings between commas.
+#[derive(Drop)]
+struct SettingTexts<'a> {
+    texts: &'a [u8],
+}
+
+impl Assignments for SettingTexts<'_> {
+    ghost after = { λ settings settable. fold spec.with_text settable (arguments_of settings.texts.now) };
+
+    fn run(&self, alloc: Global, cell: &mut Cell) -> Result<(), NoMemory> {
+        set_texts(alloc, cell, self.texts)
+    }
+}
+
+/// `Set(NAME=value)`: the name, without its blanks and without two marks `_` at most, has the value from now on, as it stands. A
+/// local of the innermost frame that has one of that name is written, else the channel's variable.
+///
+/// `GLOBAL(name)`, `LOCAL(name)` and `CALLERID(num)`, which is `CALLERID(number)` too, write a global, a local of the innermost
+/// frame, and the caller's number. `CALLERID(all)` writes the number and the cell `CALLERID(name)` from `"NAME" <NUMBER>`,
+/// `DB_DELETE(key)` makes the cell `DB(key)` empty, and `ARRAY(A,B)` sets each of its names to its part of the value. `HASH`,
+/// `PUSH`, `UNSHIFT` and `CHANNEL(hangup_handler_push)` have no effect. Any other `NAME(argument)` is a cell: a global of the
+/// functions whose cells are of all channels, and of the others a variable (a choice of this program).
+pub struct SetWide;
+
+impl Application for SetWide {
+    ghost use Rattle.std.specs.Prelude.{codes};
+    ghost use Rattle.dp_flow.specs.Touches.{settable};
+    ghost use Rattle.dp_wide.specs.Settings.{set_row};
+    ghost use Rattle.dp_wide.specs.laws.SettingsLawful.{set_lawful};
+
+    ghost meaning = { set_row };
+
+    ghost title = { codes "Set" };
+
+    ghost TOUCH = { settable };
+
+    ghost lawful = { set_lawful };
+
+    const TOUCH: Touch = Touch {
+        variables: true,
+        globals: true,
+        caller: true,
+        ..Touch::NOTHING
+    };
+
+    fn name() -> &'static [u8] {
+        b"Set"
+    }
+
+    #[tactic(auto, unfolding(crate::specs::Settings::set_row))]
+    fn apply(alloc: Global, arguments: &[u8], cell: &mut Cell) -> Result<Move, NoMemory> {
+        set_text(alloc, cell, arguments)?;
+        Ok(Move::Next)
+    }
+}
+
+/// `MSet(NAME=value[,NAME=value..])`: each part of the arguments as `Set` does it, in order.
+pub struct MSet;
+
+impl Application for MSet {
+    ghost use Rattle.std.specs.Prelude.{codes};
+    ghost use Rattle.dp_flow.specs.Touches.{settable};
+    ghost use Rattle.dp_wide.specs.Settings.{mset_row};
+    ghost use Rattle.dp_wide.specs.laws.SettingsLawful.{mset_lawful};
+
+    ghost meaning = { mset_row };
+
+    ghost title = { codes "MSet" };
+
+    ghost TOUCH = { settable };
+
+    ghost lawful = { mset_lawful };
+
+    const TOUCH: Touch = Touch {
+        variables: true,
+        globals: true,
+        caller: true,
+        ..Touch::NOTHING
+    };
+
+    fn name() -> &'static [u8] {
+        b"MSet"
+    }
+
+    #[tactic(auto, unfolding(crate::specs::Settings::mset_row))]
+    fn apply(alloc: Global, arguments: &[u8], cell: &mut Cell) -> Result<Move, NoMemory> {
+        set_together(alloc, cell, &SettingTexts { texts: arguments })?;
+        Ok(Move::Next)
+    }
+}

@@ -1,0 +1,146 @@
+//! What names set.
+ghost use Rattle.std.specs.Prelude.{◌≡◌, ◌≢◌, ℕ, List};
+ghost use Rattle.dp_vars.specs.Functions.{Nothing, target_seen};
+ghost use Rattle.dp_wide.specs.Settings as spec;
+ghost use Rattle.dp_wide.specs.Settings.{Settable};
+ghost use Rattle.dp_wide.specs.steps.Effects.{effect_seen};
+
+use crate::cells::is_of_all;
+use dp_conf::{cut_once, trim};
+use dp_flow::argument_of;
+use dp_vars::Target;
+
+/// What a name sets.
+#[derive(Clone, Copy)]
+pub(super) enum Effect<'a> {
+    /// One thing.
+    OneTarget(Target<'a>),
+    /// The name and the number of the caller.
+    NameAndNumber,
+    /// The cell of a key of the database, which gets empty.
+    EmptyKey(&'a [u8]),
+    /// Each of the names between commas.
+    EachName(&'a [u8]),
+}
+
+/// A name without one mark of inheritance at its front.
+fn without_mark(name: &[u8]) -> &[u8]
+    ensures { result.now ≡ spec.without_mark name.now }
+{
+    match name.split_first() {
+        Some((b'_', rest)) => rest,
+        _ => name,
+    }
+}
+
+/// A name that is set, without the blanks at its ends and without two marks of inheritance at most.
+pub(crate) fn bare_name(name: &[u8]) -> &[u8]
+    ensures { result.now ≡ spec.bare_name name.now }
+{
+    without_mark(without_mark(trim(name)))
+}
+
+/// Whether setting the function does more than to write a cell.
+pub(crate) fn does_more(function: &[u8], argument: &[u8]) -> bool
+    ensures { result ≡ spec.does_more function.now argument.now }
+{
+    function == b"HASH".as_slice()
+        || function == b"PUSH".as_slice()
+        || function == b"UNSHIFT".as_slice()
+        || function == b"INC".as_slice()
+        || function == b"DEC".as_slice()
+        || function == b"SHIFT".as_slice()
+        || function == b"POP".as_slice()
+        || function == b"EVAL".as_slice()
+        || (function == b"CHANNEL".as_slice() && argument == b"hangup_handler_push".as_slice())
+}
+
+/// The cell of a function, by its whole name.
+fn cell_target<'a>(name: &'a [u8], function: &[u8]) -> Target<'a>
+    ensures { target_seen result ≡ spec.cell_target name.now function.now }
+{
+    if is_of_all(function) {
+        Target::Global(name)
+    } else {
+        Target::Variable(name)
+    }
+}
+
+/// What `CALLERID` of an argument sets, by the whole name.
+fn caller_effect<'a>(name: &'a [u8], argument: &[u8]) -> Effect<'a>
+    ensures { effect_seen result ≡ spec.caller_effect name.now argument.now }
+{
+    if argument == b"num".as_slice() || argument == b"number".as_slice() {
+        Effect::OneTarget(Target::Caller)
+    } else if argument == b"all".as_slice() {
+        Effect::NameAndNumber
+    } else {
+        Effect::OneTarget(Target::Variable(name))
+    }
+}
+
+/// What a function of an argument sets, by the whole name.
+fn function_effect<'a>(name: &'a [u8], function: &[u8], argument: &'a [u8]) -> Effect<'a>
+    ensures { effect_seen result ≡ spec.function_effect name.now function.now argument.now }
+{
+    if function == b"GLOBAL".as_slice() {
+        Effect::OneTarget(Target::Global(argument))
+    } else if function == b"LOCAL".as_slice() {
+        Effect::OneTarget(Target::Local(argument))
+    } else if function == b"CALLERID".as_slice() {
+        caller_effect(name, argument)
+    } else if function == b"DB_DELETE".as_slice() {
+        Effect::EmptyKey(argument)
+    } else if function == b"ARRAY".as_slice() {
+        Effect::EachName(argument)
+    } else if does_more(function, argument) {
+        Effect::OneTarget(Target::Nothing)
+    } else {
+        Effect::OneTarget(cell_target(name, function))
+    }
+}
+
+/// The variable of a name; the empty name sets nothing.
+fn variable_target(name: &[u8]) -> Target<'_>
+    ensures { target_seen result ≡ spec.variable_target name.now }
+{
+    if name.is_empty() {
+        Target::Nothing
+    } else {
+        Target::Variable(name)
+    }
+}
+
+/// What a name sets.
+#[tactic(auto, unfolding(crate::specs::Settings::effect_of))]
+pub(super) fn effect_of(name: &[u8]) -> Effect<'_>
+    ensures { effect_seen result ≡ spec.effect_of name.now }
+{
+    match cut_once(name, b'(') {
+        None => Effect::OneTarget(variable_target(name)),
+        Some((function, after)) => match argument_of(after) {
+            None => Effect::OneTarget(Target::Nothing),
+            Some(argument) => function_effect(name, function, argument),
+        },
+    }
+}
+
+/// What setting this name from outside sets: what `Set` sets by it, where that is one thing, and else nothing.
+///
+/// Two marks of inheritance in front of the name, each a `_`, have no effect. `GLOBAL(name)` is a global, `LOCAL(name)` a local
+/// of the innermost frame, and `CALLERID(num)` or `CALLERID(number)` the caller's number. Any other `NAME(argument)` is a cell: a
+/// global of the functions whose cells are of all channels, and of the others a variable.
+pub fn setting_target(name: &[u8]) -> Target<'_>
+    ensures { target_seen result ≡ spec.wide_target name.now }
+{
+    match effect_of(bare_name(name)) {
+        Effect::OneTarget(target) => target,
+        _ => Target::Nothing,
+    }
+}
+
+/// What setting a name from outside sets is what `Set` sets by that name, wherever it sets something. It does nothing.
+pub fn outside_sets_what_set_sets()
+    ensures { (before : Settable) (name value : List ℕ) → spec.wide_target name ≢ Nothing
+        → spec.with_value before name value ≡ spec.with_target before (spec.wide_target name) value }
+{}

@@ -1,0 +1,105 @@
+//! The application that jumps by the clock, after the Asterisk documentation's page on `GotoIfTime`.
+ghost use Rattle.std.specs.Prelude.{◌≡◌, IfOk, map};
+ghost use Rattle.std.specs.Option.{option_map};
+ghost use Rattle.dp_app.specs.Parts as parts;
+ghost use Rattle.dp_flow.specs.Jumps as jumps;
+ghost use Rattle.dp_wide.specs.TimeChoice as spec;
+
+use crate::choices::taken_side;
+use crate::times::{Moment, lies_in, read_moment};
+use dp_app::{Application, Cell, Move, Target, TargetParts, Touch, part};
+use dp_conf::{NoMemory, cut_once, split_args};
+use dp_vars::Globals;
+use std::alloc::Global;
+
+/// The moment that the global `CLOCK` writes, where it writes one.
+fn clock_in(globals: &Globals) -> Option<Moment>
+    ensures { result ≡ spec.clock_in globals.now }
+{
+    read_moment(globals.at(b"CLOCK"))
+}
+
+/// Whether a moment lies in the four that the parts write.
+fn lies_in_parts(parts: &[&[u8]], moment: Moment) -> bool
+    ensures { result ≡ spec.lies_in_parts (map (λ part. part.now) parts.now) moment }
+{
+    lies_in(
+        moment,
+        part(parts, 0),
+        part(parts, 1),
+        part(parts, 2),
+        part(parts, 3),
+    )
+}
+
+/// Whether the clock lies in the ranges. Where there is no moment it lies in none.
+fn is_time(alloc: Global, clock: Option<Moment>, ranges: &[u8]) -> Result<bool, NoMemory>
+    ensures { IfOk result (λ is. is ≡ spec.is_time clock ranges.now) }
+{
+    let Some(moment) = clock else {
+        return Ok(false);
+    };
+    let parts = split_args(alloc, ranges)?;
+    Ok(lies_in_parts(&parts, moment))
+}
+
+/// The side that is taken, where it is there.
+fn timed_side<'a>(
+    alloc: Global,
+    clock: Option<Moment>,
+    arguments: &'a [u8],
+) -> Result<Option<&'a [u8]>, NoMemory>
+    ensures { IfOk result (λ side. option_map (λ side. side.now) side ≡ spec.timed_side clock arguments.now) }
+{
+    let Some((ranges, sides)) = cut_once(arguments, b'?') else {
+        return Ok(None);
+    };
+    let is_first = is_time(alloc, clock, ranges)?;
+    Ok(taken_side(is_first, sides))
+}
+
+/// A jump to a side by its text, or to the next priority where there is none.
+fn jump_if(alloc: Global, side: Option<&[u8]>) -> Result<Move, NoMemory>
+    ensures { IfOk result (λ going. going ≡ jumps.jump_if (option_map (λ side. side.now) side.entry)) }
+{
+    let Some(side) = side else {
+        return Ok(Move::Next);
+    };
+    let parts = TargetParts::of(alloc, side)?;
+    Ok(Move::Jump(Target::Parts(parts)))
+}
+
+/// `GotoIfTime(times,weekdays,days,months[,zone]?[target][:target])`: the channel goes to the first target if the clock lies in all
+/// four, else to the second. A side that is not there, or of blanks alone, is the next priority, and so is all where no `?` stands.
+/// A part that is missing is all, and the zone has no effect.
+///
+/// The clock is the global `CLOCK`, as `WEEKDAY YYYY-MM-DD HH:MM`. Where it is unset, or is no such text, it lies nowhere, and the
+/// second side is taken (choices of this program). A machine that stops at what is unknown does not come that far.
+pub struct GotoIfTime;
+
+impl Application for GotoIfTime {
+    ghost use Rattle.std.specs.Prelude.{codes};
+    ghost use Rattle.dp_flow.specs.Touches.{nothing};
+    ghost use Rattle.dp_wide.specs.laws.Choices.{goto_if_time_lawful};
+    ghost use Rattle.dp_wide.specs.TimeChoice.{goto_if_time_row};
+
+    ghost meaning = { goto_if_time_row };
+
+    ghost title = { codes "GotoIfTime" };
+
+    ghost TOUCH = { nothing };
+
+    ghost lawful = { goto_if_time_lawful };
+
+    const TOUCH: Touch = Touch::NOTHING;
+
+    fn name() -> &'static [u8] {
+        b"GotoIfTime"
+    }
+
+    fn apply(alloc: Global, arguments: &[u8], cell: &mut Cell) -> Result<Move, NoMemory> {
+        let clock = clock_in(cell.globals);
+        let side = timed_side(alloc, clock, arguments)?;
+        jump_if(alloc, side)
+    }
+}

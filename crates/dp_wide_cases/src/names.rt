@@ -1,0 +1,48 @@
+//! Applications that go on, that run outside and that end a call, and names of variables, worked out by hand from the rules.
+mod calls;
+mod kinds;
+mod looks;
+
+use crate::names::calls::{STORIES, Story};
+use crate::names::kinds::{KINDS, Kind, VARIABLES, Variable};
+use crate::names::looks::{AHEAD, Ahead};
+use dp_app::AppTable;
+use dp_case_tables::check;
+use dp_machine::{Dialplan, Machine, Queues};
+use std::alloc::Global;
+use std::test::Fail;
+
+/// A machine with the dialplan of these lines.
+fn machine_of<T: AppTable>(alloc: Global, lines: &str) -> Result<Machine<T>, Fail> {
+    let mut text = String::new(alloc);
+    text.push_str("[main]\n")?;
+    for line in lines.lines() {
+        write!(text, "exten => {line}\n")?;
+    }
+    let (plan, _) = Dialplan::load(alloc, text.as_bytes())?;
+    Ok(Machine::new(alloc, plan, Queues::none(alloc))?)
+}
+
+/// Each name of the lists does what its list says, in any case, and other names are those of the table behind them.
+#[test]
+fn names_go_on_or_wait(rt: HostRuntime) -> Result<(), Fail> {
+    check::<Kind>(rt.alloc(), KINDS)
+}
+
+/// What is known of an application that runs outside is told anew each time.
+#[test]
+fn statuses_are_taken_away(rt: HostRuntime) -> Result<(), Fail> {
+    check::<Story>(rt.alloc(), STORIES)
+}
+
+/// What the arguments ask does not stop those that do not look at them.
+#[test]
+fn arguments_are_looked_at(rt: HostRuntime) -> Result<(), Fail> {
+    check::<Ahead>(rt.alloc(), AHEAD)
+}
+
+/// Each name that an application or Asterisk gives a value is told apart from all others.
+#[test]
+fn names_of_variables(rt: HostRuntime) -> Result<(), Fail> {
+    check::<Variable>(rt.alloc(), VARIABLES)
+}
