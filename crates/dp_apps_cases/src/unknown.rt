@@ -59,6 +59,17 @@ const OWN: &str = r"
 1,Stay()\n2,Ping(${BOX(a)})¦?;step;?;time;?→none, none, BOX(a)
 3,Ping(${BOX(a)})¦?→none
 1,NoOp()¦step;?→none
+# An expression that is not known, which comes after what stands inside of it, one that is `0`, and one that has its value.
+1,Ping($[?])¦?→$[?]
+1,Ping(a$[!]b$[1 + 2])¦?;step;$P→none, P=a0b3
+1,Ping($[${LEN()}]$[?]${BOX(a)})¦?→$[?]
+1,Ping($[?${BOX(a)}])¦?→BOX(a)
+1,Ping($[${BOX(a)}])¦1 BOX(a)=?;?→$[?]
+1,Ping($[${BOX(a)}])¦1 BOX(a)=!;?;step;$P→none, P=0
+1,Ping($[${BOX(a)}])¦1 BOX(a)=4;?;step;$P→none, P=4
+1,Ping(${LEN($[?])})¦?→$[?]
+# A text in which the table reads other groups is not known itself.
+1,Ping(${[})¦?→${[}
 # What a name is that is set is the table's to say: a global, the caller's number, nothing, a local where there is no frame, a variable.
 1,Ping(${GLOBAL(ALL)}${ALL})¦1 ALL=3;step;$P→P=33
 1,Ping(${CALLERID(num)})¦1 WHO=99;step;$P→P=99

@@ -210,14 +210,14 @@ and_parts : (a b : Bool) → (a && b) ≡ true → (a ≡ true) × (b ≡ true)
 and_parts true b e = (refl, e)
 and_parts false b e = absurd cc
 
-same_id-same : (a b : EntryId) → same_id a b ≡ true → a ≡ b
+pub same_id-same : (a b : EntryId) → same_id a b ≡ true → a ≡ b
 same_id-same a b e =
     let parts = and_parts (a.context == b.context) (a.entry == b.entry) e in
     let contexts = eqb-true a.context b.context parts.0 in
     let entries = eqb-true a.entry b.entry parts.1 in
     λ i. record { context = contexts i; entry = entries i }
 
-same_id-itself : (a : EntryId) → same_id a a ≡ true
+pub same_id-itself : (a : EntryId) → same_id a a ≡ true
 same_id-itself a = λ i. eq-eqb a.context a.context refl i && eq-eqb a.entry a.entry refl i
 
 -- the first candidate that answers is that of the entry that answers

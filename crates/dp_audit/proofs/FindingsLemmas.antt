@@ -13,14 +13,14 @@ range-push a zero = ap (λ x. x ∷ []) (omega arith)
 range-push a (suc n) = ap (λ (ns : List ℕ). a ∷ ns) (range-push (a + 1) n ∙ ap (λ x. range_with_len (a + 1) n ++ x ∷ []) (omega arith))
 
 -- with what is found of one context more
-pub contexts_more : (f : ℕ → List Finding) (n : ℕ) → flat_map f (range_with_len 0 n) ++ f n ≡ flat_map f (range_with_len 0 (n + 1))
+pub contexts_more : {X : Type 0} (f : ℕ → List X) (n : ℕ) → flat_map f (range_with_len 0 n) ++ f n ≡ flat_map f (range_with_len 0 (n + 1))
 contexts_more f n =
     let one : range_with_len 0 (n + 1) ≡ range_with_len 0 n ++ n ∷ [] = ap (range_with_len 0) (add-one n) ∙ (range-push 0 n ∙ ap (λ x. range_with_len 0 n ++ x ∷ []) (omega arith)) in
     let all : flat_map f (range_with_len 0 n) ++ f n ≡ flat_map f (range_with_len 0 n ++ n ∷ []) = flat_map_more f [] (range_with_len 0 n) n in
     all ∙ ap (flat_map f) (sym one)
 
 -- with what is found of one entry more
-pub entries_more : (f : EntryId → List Finding) (before : List Finding) (number n : ℕ)
+pub entries_more : {X : Type 0} (f : EntryId → List X) (before : List X) (number n : ℕ)
     → (before ++ flat_map f (numbers_of number n)) ++ f (record { context = number; entry = n }) ≡ before ++ flat_map f (numbers_of number (n + 1))
 entries_more f before number n =
     flat_map_more f before (numbers_of number n) (record { context = number; entry = n })

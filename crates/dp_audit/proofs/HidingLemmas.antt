@@ -44,15 +44,15 @@ place_added added place among = ap (λ b. if b then true else among) (same_place
 -- ---- lists with one element changed
 
 module _ {X : Type 0} where
-  same_map : (o : Option X) → o ≡ option_map (λ x. x) o
+  pub same_map : (o : Option X) → o ≡ option_map (λ x. x) o
   same_map None = refl
   same_map (Some x) = refl
 
   -- what stands at a place after a change
-  abbrev changed_if : (X → X) → Bool → Option X → Option X
+  abbrev pub changed_if : (X → X) → Bool → Option X → Option X
   changed_if change here o = option_map (λ x. if here then change x else x) o
 
-  slice_get-changed : (change : X → X) (place k : ℕ) (xs : List X)
+  pub slice_get-changed : (change : X → X) (place k : ℕ) (xs : List X)
       → slice_get (changed_at change place xs) k ≡ changed_if change (k == place) (slice_get xs k)
   slice_get-changed change place k [] = refl
   slice_get-changed change zero zero (x ∷ xs) = ap (λ here. changed_if change here (Some x)) (sym (eq-eqb zero zero refl))

@@ -1,2 +1,5 @@
+mod FallThroughs
 mod Findings
+mod Loops
 mod Matched
+pub mod Plans

@@ -1,10 +1,13 @@
 pub mod Candidates
+pub mod FallThroughs
 pub mod Finders
 pub mod Findings
 pub mod Hidden
 pub mod Labels
+pub mod Loops
 pub mod Orders
 pub mod Pieces
+pub mod Runs
 pub mod Targets
 pub mod Unset
 pub mod steps

@@ -4,12 +4,13 @@ ghost use Rattle.std.specs.List.{list_any};
 ghost use Rattle.dp_audit.specs.Finders as spec;
 ghost use Rattle.dp_audit.specs.Findings.{some_first};
 ghost use Rattle.dp_audit.specs.steps.Firsts.{Adds};
+ghost use Rattle.dp_lookup.specs.FoundEntry.{found_entry, found_label};
 ghost use Rattle.dp_lookup.specs.SearchOrder.{context_count, has, links_at, search_order};
 
 use crate::cycle::is_included;
 use crate::firsts::firsts_of;
 use crate::spelling::Spelling;
-use dp_plan::{Dialplan, NoMemory, Text};
+use dp_plan::{Dialplan, EntryId, NoMemory, Text};
 use dp_trie::Finder;
 use indexmap::IndexSet;
 use std::alloc::Global;
@@ -72,6 +73,15 @@ impl<'a> PlanFinder<'a> {
         firsts_of(alloc, self.plan, self.finder.order())
     }
 
+    /// The entry that is found for the extension of the context at the priority.
+    pub(crate) fn find(&mut self, context: &Text, exten: &[u8], priority: u32) -> Option<EntryId>
+        ensures found { result ≡ found_entry self.old (search_order self.old context.now) exten.now priority }
+        ensures same { self.new ≡ self.old }
+    {
+        self.finder.turn_to(self.plan, context);
+        self.finder.find(exten, priority)
+    }
+
     /// Whether an entry answers for the extension of the context at the priority.
     #[tactic(auto, unfolding(crate::specs::Finders::answers))]
     pub(crate) fn answers(&mut self, context: &Text, exten: &[u8], priority: u32) -> bool
@@ -80,6 +90,15 @@ impl<'a> PlanFinder<'a> {
     {
         self.finder.turn_to(self.plan, context);
         self.finder.find(exten, priority).is_some()
+    }
+
+    /// The priority that the extension of the context has under the label.
+    pub(crate) fn find_label(&mut self, context: &Text, exten: &[u8], label: &[u8]) -> Option<u32>
+        ensures found { result ≡ found_label self.old (search_order self.old context.now) exten.now label.now }
+        ensures same { self.new ≡ self.old }
+    {
+        self.finder.turn_to(self.plan, context);
+        self.finder.find_label(exten, label)
     }
 
     /// Whether the extension of the context has the label.

@@ -10,7 +10,7 @@ use Rattle.dp_conf.proofs.ToldLemmas.{AppendsFront-more, IsFront-append, IsFront
 use Rattle.dp_commands.specs.Faults.{is_write_failed, is_write_fault}
 use Rattle.dp_commands.specs.Run.{Writes, run_on, status_by}
 use Rattle.dp_commands.specs.Trace.{after_turn, trace_of, any_refused}
-use Rattle.dp_commands.specs.Turns.{Taken, WritesTurns, lines_of, state_past, refused_in, text_of}
+use Rattle.dp_commands.specs.Turns.{Taken, WritesTurns, WritesTurnsBy, lines_of, state_past, refused_in, text_of}
 use Rattle.dp_commands.specs.steps.Streams.{Ends, Flows, FlowsFirst, Streams, StreamsAll, fails_at_the_end, plainly}
 use Rattle.dp_machine.specs.World.{World}
 use Rattle.dp_commands.specs.declared.fault.PbxFault.{PbxFault}
@@ -90,17 +90,17 @@ Flows-ends_short c d e b bytes p q =
     let Q : List ℕ → Type 0 = λ t. AppendsFront c e t in
     subst Q (append-nil bytes) (Flows-fails c d e [] b bytes [] p (subst P (sym (append-nil b)) q))
 
-module _ {S : Type 0} (step : S → Turn → Taken S) where
-  pub lines_of-append : (s : S) (ts us : List Turn) → lines_of step s (ts ++ us) ≡ lines_of step s ts ++ lines_of step (state_past step s ts) us
+module _ {S U : Type 0} (step : S → U → Taken S) where
+  pub lines_of-append : (s : S) (ts us : List U) → lines_of step s (ts ++ us) ≡ lines_of step s ts ++ lines_of step (state_past step s ts) us
   lines_of-append s [] us = refl
   lines_of-append s (t ∷ ts) us =
       ap (λ (later : List ℕ). (step s t).lines ++ later) (lines_of-append (step s t).state ts us)
       ∙ sym (append_assoc (step s t).lines (lines_of step (step s t).state ts) (lines_of step (state_past step (step s t).state ts) us))
 
-  pub state_past-append : (s : S) (ts us : List Turn) → state_past step s (ts ++ us) ≡ state_past step (state_past step s ts) us
+  pub state_past-append : (s : S) (ts us : List U) → state_past step s (ts ++ us) ≡ state_past step (state_past step s ts) us
   state_past-append s ts us = fold-append (λ at turn. (step at turn).state) s ts us
 
-  refused_in-append : (s : S) (ts us : List Turn) → refused_in step s (ts ++ us) ≡ (refused_in step s ts || refused_in step (state_past step s ts) us)
+  refused_in-append : (s : S) (ts us : List U) → refused_in step s (ts ++ us) ≡ (refused_in step s ts || refused_in step (state_past step s ts) us)
   refused_in-append s [] us = refl
   refused_in-append s (t ∷ ts) us =
       ap (λ r. (step s t).refused || r) (refused_in-append (step s t).state ts us)
@@ -111,7 +111,7 @@ module _ {S : Type 0} (step : S → Turn → Taken S) where
   Streams-start s old waited = (Flows-stay old waited, refl, refl)
 
   -- more turns are met by the state after the others
-  pub Streams-goes_on : (s : S) (ts us : List Turn) (c d e : Option (List ℕ)) (a b f : List ℕ) (s1 s2 : S) (r1 r2 : Bool) → Streams step s ts c a d b s1 (Ok r1) → Streams step s1 us d b e f s2 (Ok r2) → Streams step s (ts ++ us) c a e f s2 (Ok (r1 || r2))
+  pub Streams-goes_on : (s : S) (ts us : List U) (c d e : Option (List ℕ)) (a b f : List ℕ) (s1 s2 : S) (r1 r2 : Bool) → Streams step s ts c a d b s1 (Ok r1) → Streams step s1 us d b e f s2 (Ok r2) → Streams step s (ts ++ us) c a e f s2 (Ok (r1 || r2))
   Streams-goes_on s ts us c d e a b f s1 s2 r1 r2 so_far more =
       let P : List ℕ → Type 0 = λ t. Flows c a e f t in
       let here : lines_of step s (ts ++ us) ≡ lines_of step s ts ++ lines_of step s1 us = lines_of-append s ts us ∙ ap (λ at. lines_of step s ts ++ lines_of step at us) (sym so_far.1) in (
@@ -121,7 +121,7 @@ module _ {S : Type 0} (step : S → Turn → Taken S) where
       )
 
   -- a stop after what flowed
-  pub Streams-stops : (s : S) (ts us : List Turn) (c d e : Option (List ℕ)) (a b f : List ℕ) (s1 s2 : S) (r1 : Bool) (fault : PbxFault) → Streams step s ts c a d b s1 (Ok r1) → Streams step s1 us d b e f s2 (Err fault) → Streams step s (ts ++ us) c a e f s2 (Err fault)
+  pub Streams-stops : (s : S) (ts us : List U) (c d e : Option (List ℕ)) (a b f : List ℕ) (s1 s2 : S) (r1 : Bool) (fault : PbxFault) → Streams step s ts c a d b s1 (Ok r1) → Streams step s1 us d b e f s2 (Err fault) → Streams step s (ts ++ us) c a e f s2 (Err fault)
   Streams-stops s ts us c d e a b f s1 s2 r1 (Coded code line) so_far more =
       let P : List ℕ → Type 0 = λ t. AppendsFront c e (a ++ t) in
       let here : lines_of step s (ts ++ us) ≡ lines_of step s ts ++ lines_of step s1 us = lines_of-append s ts us ∙ ap (λ at. lines_of step s ts ++ lines_of step at us) (sym so_far.1) in
@@ -137,14 +137,14 @@ module _ {S : Type 0} (step : S → Turn → Taken S) where
       }
 
   -- what stopped, stopped with more turns to come
-  pub Streams-more : (s : S) (ts us : List Turn) (c d : Option (List ℕ)) (a b : List ℕ) (s1 : S) (fault : PbxFault) → Streams step s ts c a d b s1 (Err fault) → Streams step s (ts ++ us) c a d b s1 (Err fault)
+  pub Streams-more : (s : S) (ts us : List U) (c d : Option (List ℕ)) (a b : List ℕ) (s1 : S) (fault : PbxFault) → Streams step s ts c a d b s1 (Err fault) → Streams step s (ts ++ us) c a d b s1 (Err fault)
   Streams-more s ts us c d a b s1 (Coded code line) stopped =
       let P : List ℕ → Type 0 = λ t. AppendsFront c d t in
       let here : (a ++ lines_of step s ts) ++ lines_of step (state_past step s ts) us ≡ a ++ lines_of step s (ts ++ us) =
       append_assoc a (lines_of step s ts) (lines_of step (state_past step s ts) us) ∙ ap (λ (t : List ℕ). a ++ t) (sym (lines_of-append s ts us)) in
       (subst P here (AppendsFront-more c d (a ++ lines_of step s ts) (lines_of step (state_past step s ts) us) stopped.0), stopped.1, stopped.2)
   Streams-more s ts us c d a b s1 NoMemory stopped =
-      let P : List Turn → Type 0 = λ t. Flows c a d b (lines_of step s t) in
+      let P : List U → Type 0 = λ t. Flows c a d b (lines_of step s t) in
       record {
         count = stopped.count;
         within = omega (arith, stopped.within, length-append ts us);
@@ -152,7 +152,7 @@ module _ {S : Type 0} (step : S → Turn → Taken S) where
       }
 
   -- one turn, of which the lines wait and some of what waits may be written
-  pub Streams-one : (s : S) (turn : Turn) (c d : Option (List ℕ)) (a mid b : List ℕ) (after : S) (refused : Bool) → mid ≡ a ++ (step s turn).lines → after ≡ (step s turn).state → refused ≡ (step s turn).refused → Flows c mid d b [] → Streams step s (turn ∷ []) c a d b after (Ok refused)
+  pub Streams-one : (s : S) (turn : U) (c d : Option (List ℕ)) (a mid b : List ℕ) (after : S) (refused : Bool) → mid ≡ a ++ (step s turn).lines → after ≡ (step s turn).state → refused ≡ (step s turn).refused → Flows c mid d b [] → Streams step s (turn ∷ []) c a d b after (Ok refused)
   Streams-one s turn c d a mid b after refused line state answer sent =
       let P : List ℕ → Type 0 = λ t. Flows c a d b t in (
         subst P (append-nil ((step s turn).lines ++ []))
@@ -165,7 +165,7 @@ module _ {S : Type 0} (step : S → Turn → Taken S) where
         or-end false = refl
 
   -- one turn, where memory was refused
-  pub FlowsFirst-none : (s : S) (turns : List Turn) (c : Option (List ℕ)) (a b : List ℕ) → b ≡ a → FlowsFirst step s turns c a c b
+  pub FlowsFirst-none : (s : S) (turns : List U) (c : Option (List ℕ)) (a b : List ℕ) → b ≡ a → FlowsFirst step s turns c a c b
   FlowsFirst-none s turns c a b e =
       record {
         count = 0;
@@ -174,13 +174,13 @@ module _ {S : Type 0} (step : S → Turn → Taken S) where
       }
 
   -- one turn, where the write failed
-  pub fails-one : (s : S) (turn : Turn) (c d : Option (List ℕ)) (a mid : List ℕ) → mid ≡ a ++ (step s turn).lines → AppendsFront c d mid → AppendsFront c d (a ++ lines_of step s (turn ∷ []))
+  pub fails-one : (s : S) (turn : U) (c d : Option (List ℕ)) (a mid : List ℕ) → mid ≡ a ++ (step s turn).lines → AppendsFront c d mid → AppendsFront c d (a ++ lines_of step s (turn ∷ []))
   fails-one s turn c d a mid line failed =
       let P : List ℕ → Type 0 = λ t. AppendsFront c d t in
       subst P (line ∙ ap (λ (t : List ℕ). a ++ t) (sym (append-nil (step s turn).lines))) failed
 
   -- the first so many turns, and a front of the whole
-  first-short : (last : S → List ℕ) (s : S) (turns : List Turn) (c e : Option (List ℕ)) (count : ℕ) → AppendsFront c e (lines_of step s (take count turns)) → AppendsFront c e (text_of step last s turns)
+  first-short : (last : S → List ℕ) (s : S) (turns : List U) (c e : Option (List ℕ)) (count : ℕ) → AppendsFront c e (lines_of step s (take count turns)) → AppendsFront c e (text_of step last s turns)
   first-short last s turns c e count failed =
       let P : List ℕ → Type 0 = λ t. AppendsFront c e (t ++ last (state_past step s turns)) in
       let whole : lines_of step s (take count turns) ++ lines_of step (state_past step s (take count turns)) (drop count turns) ≡ lines_of step s turns =
@@ -189,41 +189,41 @@ module _ {S : Type 0} (step : S → Turn → Taken S) where
       (AppendsFront-more c e (lines_of step s (take count turns)) (lines_of step (state_past step s (take count turns)) (drop count turns)) failed))
 
   -- all turns were taken, and the lines after the last of them wait
-  pub StreamsAll_ends : (last : S → List ℕ) (s : S) (turns : List Turn) (c d : Option (List ℕ)) (a b f : List ℕ) (after : S) (refused : Bool) → Streams step s turns c a d b after (Ok refused) → f ≡ b ++ last after → StreamsAll step last s turns c a d f (Ok refused)
-  StreamsAll_ends last s turns c d a b f after refused ran beyond =
+  pub StreamsAll_ends : (last : S → List ℕ) (status : S → Bool → ℕ) (s : S) (turns : List U) (c d : Option (List ℕ)) (a b f : List ℕ) (after : S) (refused : Bool) (answer : ℕ) → Streams step s turns c a d b after (Ok refused) → f ≡ b ++ last after → answer ≡ status after refused → StreamsAll step last status s turns c a d f (Ok answer)
+  StreamsAll_ends last status s turns c d a b f after refused answer ran beyond told =
       let bytes = lines_of step s turns in
       let P : S → Type 0 = λ at. Flows c a d f (bytes ++ last at) in
-      (subst P ran.1 (Flows-trans c d d a b f bytes (last after) ran.0 (Flows-waits d b f (last after) beyond)), ran.2)
+      (subst P ran.1 (Flows-trans c d d a b f bytes (last after) ran.0 (Flows-waits d b f (last after) beyond)), told ∙ (ap (λ at. status at refused) ran.1 ∙ ap (status (state_past step s turns)) ran.2))
 
   -- all turns were taken, and memory was refused after them
-  pub StreamsAll_lacks : (last : S → List ℕ) (s : S) (turns : List Turn) (c d : Option (List ℕ)) (a b f : List ℕ) (after : S) (refused : Bool) → Streams step s turns c a d b after (Ok refused) → f ≡ b → StreamsAll step last s turns c a d f (Err NoMemory)
-  StreamsAll_lacks last s turns c d a b f after refused ran same =
+  pub StreamsAll_lacks : (last : S → List ℕ) (status : S → Bool → ℕ) (s : S) (turns : List U) (c d : Option (List ℕ)) (a b f : List ℕ) (after : S) (refused : Bool) → Streams step s turns c a d b after (Ok refused) → f ≡ b → StreamsAll step last status s turns c a d f (Err NoMemory)
+  StreamsAll_lacks last status s turns c d a b f after refused ran same =
       let P : List ℕ → Type 0 = λ waits. Flows c a d waits (lines_of step s (take (length turns) turns)) in
-      let Q : List Turn → Type 0 = λ ts. Flows c a d b (lines_of step s ts) in
+      let Q : List U → Type 0 = λ ts. Flows c a d b (lines_of step s ts) in
       record { count = length turns; within = omega arith; flowed = subst P (sym same) (subst Q (sym (take-length turns)) ran.0) }
 
   -- the turns stopped before the end
-  pub StreamsAll_stops : (last : S → List ℕ) (s : S) (turns : List Turn) (c d : Option (List ℕ)) (a b : List ℕ) (after : S) (fault : PbxFault) → Streams step s turns c a d b after (Err fault) → StreamsAll step last s turns c a d b (Err fault)
-  StreamsAll_stops last s turns c d a b after (Coded code line) ran =
+  pub StreamsAll_stops : (last : S → List ℕ) (status : S → Bool → ℕ) (s : S) (turns : List U) (c d : Option (List ℕ)) (a b : List ℕ) (after : S) (fault : PbxFault) → Streams step s turns c a d b after (Err fault) → StreamsAll step last status s turns c a d b (Err fault)
+  StreamsAll_stops last status s turns c d a b after (Coded code line) ran =
       let P : List ℕ → Type 0 = λ t. AppendsFront c d t in
       (subst P (append_assoc a (lines_of step s turns) (last (state_past step s turns))) (AppendsFront-more c d (a ++ lines_of step s turns) (last (state_past step s turns)) ran.0), ran.1, ran.2)
-  StreamsAll_stops last s turns c d a b after NoMemory ran = ran
+  StreamsAll_stops last status s turns c d a b after NoMemory ran = ran
 
   -- the end is what the turns write
-  pub Writes-ends : (last : S → List ℕ) (s : S) (turns : List Turn) (c d e : Option (List ℕ)) (b : List ℕ) (ran : Result Bool PbxFault) (result : Result ℕ PbxFault) → StreamsAll step last s turns c [] d b ran → Ends d b e ran result → WritesTurns step last s turns c e result
-  Writes-ends last s turns c d e b (Ok refused) (Ok status) ran ends =
-      (Flows-ends c d e b (text_of step last s turns) ran.0 ends.0, ends.1 ∙ ap status_by ran.1)
-  Writes-ends last s turns c d e b (Ok refused) (Err (Coded code line)) ran ends =
+  pub Writes-ends : (last : S → List ℕ) (status : S → Bool → ℕ) (s : S) (turns : List U) (c d e : Option (List ℕ)) (b : List ℕ) (ran : Result ℕ PbxFault) (result : Result ℕ PbxFault) → StreamsAll step last status s turns c [] d b ran → Ends d b e ran result → WritesTurnsBy step last status s turns c e result
+  Writes-ends last status s turns c d e b (Ok came_to) (Ok answer) ran ends =
+      (Flows-ends c d e b (text_of step last s turns) ran.0 ends.0, ends.1 ∙ ran.1)
+  Writes-ends last status s turns c d e b (Ok came_to) (Err (Coded code line)) ran ends =
       (Flows-ends_short c d e b (text_of step last s turns) ran.0 ends.0, ends.1, ends.2)
-  Writes-ends last s turns c d e b (Ok refused) (Err NoMemory) ran ends = absurd ends
-  Writes-ends last s turns c d e b (Err (Coded code line)) (Ok status) ran ends = absurd ends
-  Writes-ends last s turns c d e b (Err (Coded code line)) (Err (Coded other at)) ran ends =
+  Writes-ends last status s turns c d e b (Ok came_to) (Err NoMemory) ran ends = absurd ends
+  Writes-ends last status s turns c d e b (Err (Coded code line)) (Ok answer) ran ends = absurd ends
+  Writes-ends last status s turns c d e b (Err (Coded code line)) (Err (Coded other at)) ran ends =
       (AppendsFront-kept c d e (text_of step last s turns) ran.0 ends.0, ends.1 ∙ ran.1, ends.2 ∙ ran.2)
-  Writes-ends last s turns c d e b (Err (Coded code line)) (Err NoMemory) ran ends = absurd ends
-  Writes-ends last s turns c d e b (Err NoMemory) (Ok status) ran ends = absurd ends
-  Writes-ends last s turns c d e b (Err NoMemory) (Err (Coded code line)) ran ends =
+  Writes-ends last status s turns c d e b (Err (Coded code line)) (Err NoMemory) ran ends = absurd ends
+  Writes-ends last status s turns c d e b (Err NoMemory) (Ok answer) ran ends = absurd ends
+  Writes-ends last status s turns c d e b (Err NoMemory) (Err (Coded code line)) ran ends =
       (first-short last s turns c e ran.count (Flows-ends_short c d e b (lines_of step s (take ran.count turns)) ran.flowed ends.0), ends.1, ends.2)
-  Writes-ends last s turns c d e b (Err NoMemory) (Err NoMemory) ran ends =
+  Writes-ends last status s turns c d e b (Err NoMemory) (Err NoMemory) ran ends =
       record { count = ran.count; within = ran.within; written = Flows-ends c d e b (lines_of step s (take ran.count turns)) ran.flowed ends }
 
 -- turns that are taken plainly have the trace of a run
@@ -251,8 +251,8 @@ module _ {P : Type 0} where
       record { count = wrote.count; within = wrote.within; written = subst Q (lines_of-plainly p w (take wrote.count turns)) wrote.written }
 
 -- whether a write failed, by what a run came to and what it ended with
-pub told-ends : (d e : Option (List ℕ)) (b : List ℕ) (ran : Result Bool PbxFault) (result : Result ℕ PbxFault) (was mid now : Bool) → Ends d b e ran result → mid ≡ (was || is_write_failed ran) → now ≡ (mid || fails_at_the_end ran result) → now ≡ (was || is_write_failed result)
-told-ends d e b (Ok refused) result was mid now ends before beyond =
+pub told-ends : (d e : Option (List ℕ)) (b : List ℕ) (ran : Result ℕ PbxFault) (result : Result ℕ PbxFault) (was mid now : Bool) → Ends d b e ran result → mid ≡ (was || is_write_failed ran) → now ≡ (mid || fails_at_the_end ran result) → now ≡ (was || is_write_failed result)
+told-ends d e b (Ok came_to) result was mid now ends before beyond =
     beyond ∙ ap (λ m. m || is_write_failed result) (before ∙ or-false was)
 told-ends d e b (Err (Coded code line)) (Ok status) was mid now ends before beyond = absurd ends
 told-ends d e b (Err (Coded code line)) (Err (Coded other at)) was mid now ends before beyond =

@@ -59,14 +59,14 @@ module _ (explanation : Refusal → List ℕ) (in_force : InForce) where
 
   -- turns that are taken with more above their lines
   pub WritesVerbose_run : (run : Result Run PbxFault) (old new : Option (List ℕ)) (result : Result ℕ PbxFault)
-      → WritesRun (verbose_turn explanation) (λ at. []) in_force old new run result → WritesVerbose explanation in_force old new run result
+      → WritesRun (verbose_turn explanation) (λ at. []) (λ at refused. status_by refused) in_force old new run result → WritesVerbose explanation in_force old new run result
   WritesVerbose_run (Ok run) old new result written = written
   WritesVerbose_run (Err fault) old new (Ok status) written = written
   WritesVerbose_run (Err fault) old new (Err (Coded code line)) written = written
   WritesVerbose_run (Err fault) old new (Err NoMemory) written = written
 
   pub WritesVerboseDebug_run : (held : Break) (run : Result Run PbxFault) (old new : Option (List ℕ)) (result : Result ℕ PbxFault)
-      → WritesRun (verbose_debug_turn explanation) (λ at. verbose_end at.0) (record { watch = record { held = held; taken = 0 }; in_force = in_force }) old new run result
+      → WritesRun (verbose_debug_turn explanation) (λ at. verbose_end at.0) (λ at refused. status_by refused) (record { watch = record { held = held; taken = 0 }; in_force = in_force }) old new run result
       → WritesVerboseDebug explanation in_force old new (debug_with held run) result
   WritesVerboseDebug_run held (Ok run) old new result written = written
   WritesVerboseDebug_run held (Err fault) old new (Ok status) written = written

@@ -64,7 +64,7 @@ pub record Files : Type 0 where
 pub record RunContents : Type 0 where
   pub plan : PlanOf
   pub queues : QueuesOf
-  pub lines : List ScriptLine
+  pub lines : List (ScriptLine Turn)
 
 -- what the texts of a dialplan and its queues say, or the first fault: the dialplan's, the queues'
 abbrev pub files_of : List ℕ → Option (List ℕ) → Result Files PbxFault

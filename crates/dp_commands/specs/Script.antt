@@ -45,17 +45,17 @@ abbrev pub channel_in : List ℕ → Option ℕ
 channel_in word = number_within most_channel word
 
 -- a line that takes its turn once
-abbrev pub once : Turn → ScriptLine
+abbrev pub once : {U : Type 0} → U → ScriptLine U
 once turn = record { turn = turn; count = 1 }
 
 -- so many steps of a channel
-abbrev pub steps_of : Option ℕ → Option ℕ → Option ScriptLine
+abbrev pub steps_of : Option ℕ → Option ℕ → Option (ScriptLine Turn)
 steps_of None count = None
 steps_of (Some channel) None = None
 steps_of (Some channel) (Some count) = Some (record { turn = Event (Step channel); count = count })
 
 -- the call of a line that begins with `start`
-abbrev pub start_line : List (List ℕ) → Option ScriptLine
+abbrev pub start_line : List (List ℕ) → Option (ScriptLine Turn)
 start_line [] = None
 start_line (context ∷ []) = None
 start_line (context ∷ exten ∷ []) = Some (once (Event (Start context exten [])))
@@ -63,21 +63,21 @@ start_line (context ∷ exten ∷ caller ∷ []) = Some (once (Event (Start cont
 start_line (context ∷ exten ∷ caller ∷ more ∷ words) = None
 
 -- the steps of a line that begins with `step`
-abbrev pub step_line : List (List ℕ) → Option ScriptLine
+abbrev pub step_line : List (List ℕ) → Option (ScriptLine Turn)
 step_line [] = None
 step_line (channel ∷ []) = steps_of (channel_in channel) (Some 1)
 step_line (channel ∷ count ∷ []) = steps_of (channel_in channel) (number_within most_count count)
 step_line (channel ∷ count ∷ more ∷ words) = None
 
 -- the digit that a channel dials: a word of one byte
-abbrev pub dialled_by : Option ℕ → List ℕ → Option ScriptLine
+abbrev pub dialled_by : Option ℕ → List ℕ → Option (ScriptLine Turn)
 dialled_by None word = None
 dialled_by (Some channel) [] = None
 dialled_by (Some channel) (digit ∷ []) = Some (once (Event (Digit channel digit)))
 dialled_by (Some channel) (digit ∷ more ∷ bytes) = None
 
 -- the digit of a line that begins with `digit`
-abbrev pub digit_line : List (List ℕ) → Option ScriptLine
+abbrev pub digit_line : List (List ℕ) → Option (ScriptLine Turn)
 digit_line [] = None
 digit_line (channel ∷ []) = None
 digit_line (channel ∷ digit ∷ []) = dialled_by (channel_in channel) digit
@@ -94,13 +94,13 @@ status_in word =
     else None
 
 -- what came of a channel's call to devices
-abbrev pub result_by : Option ℕ → Option DialStatus → Option ScriptLine
+abbrev pub result_by : Option ℕ → Option DialStatus → Option (ScriptLine Turn)
 result_by None status = None
 result_by (Some channel) None = None
 result_by (Some channel) (Some status) = Some (once (Event (DialResult channel status)))
 
 -- the same of a line that begins with `result`
-abbrev pub result_line : List (List ℕ) → Option ScriptLine
+abbrev pub result_line : List (List ℕ) → Option (ScriptLine Turn)
 result_line [] = None
 result_line (channel ∷ []) = None
 result_line (channel ∷ status ∷ []) = result_by (channel_in channel) (status_in status)
@@ -119,11 +119,11 @@ one_name (name ∷ []) = Some name
 one_name (name ∷ more ∷ words) = None
 
 -- the line of an event by what it names
-abbrev pub event_line : {X : Type 0} → (X → MachineEvent) → Option X → Option ScriptLine
+abbrev pub event_line : {X : Type 0} → (X → MachineEvent) → Option X → Option (ScriptLine Turn)
 event_line event named = option_map (λ x. once (Event (event x))) named
 
 -- what a line of a channel's event stands for by its words
-abbrev pub channel_line : List ℕ → List (List ℕ) → Option ScriptLine
+abbrev pub channel_line : List ℕ → List (List ℕ) → Option (ScriptLine Turn)
 channel_line word words =
     if same_text word (codes "timeout") then event_line (λ n. Timeout n) (one_channel words)
     else if same_text word (codes "poll") then event_line (λ n. Poll n) (one_channel words)
@@ -131,7 +131,7 @@ channel_line word words =
     else None
 
 -- what a line of a queue's or an agent's event stands for by its words
-abbrev pub agent_line : List ℕ → List (List ℕ) → Option ScriptLine
+abbrev pub agent_line : List ℕ → List (List ℕ) → Option (ScriptLine Turn)
 agent_line word words =
     if same_text word (codes "offer") then event_line (λ name. Offer name) (one_name words)
     else if same_text word (codes "answer") then event_line (λ name. Answer name) (one_name words)
@@ -140,28 +140,28 @@ agent_line word words =
     else None
 
 -- the second dialplan comes in force, where there is one
-abbrev pub reload_by : Option (List ℕ) → Option ScriptLine
+abbrev pub reload_by : Option (List ℕ) → Option (ScriptLine Turn)
 reload_by second_plan = event_line (λ text. Reload text) second_plan
 
 -- the same of a line that begins with `reload`, which has no further word
-abbrev pub reload_line : Option (List ℕ) → List (List ℕ) → Option ScriptLine
+abbrev pub reload_line : Option (List ℕ) → List (List ℕ) → Option (ScriptLine Turn)
 reload_line second_plan [] = reload_by second_plan
 reload_line second_plan (word ∷ words) = None
 
 -- the name that is shown in a channel
-abbrev pub shown_by : Option ℕ → List ℕ → Option ScriptLine
+abbrev pub shown_by : Option ℕ → List ℕ → Option (ScriptLine Turn)
 shown_by None name = None
 shown_by (Some channel) name = Some (once (Show channel name))
 
 -- what is shown by a line that begins with `show`
-abbrev pub show_line : List (List ℕ) → Option ScriptLine
+abbrev pub show_line : List (List ℕ) → Option (ScriptLine Turn)
 show_line [] = None
 show_line (channel ∷ []) = None
 show_line (channel ∷ name ∷ []) = shown_by (channel_in channel) name
 show_line (channel ∷ name ∷ more ∷ words) = None
 
 -- what a line stands for by its words, where a line `reload` puts the second dialplan in force; and None where it is faulty
-abbrev pub line_by : Option (List ℕ) → List (List ℕ) → Option ScriptLine
+abbrev pub line_by : Option (List ℕ) → List (List ℕ) → Option (ScriptLine Turn)
 line_by second_plan [] = None
 line_by second_plan (word ∷ words) =
     if same_text word (codes "start") then start_line words
@@ -178,26 +178,38 @@ is_skipped [] = true
 is_skipped (word ∷ words) = begins_with 59 word
 
 -- the line by its words, where it is not passed over, and None where it is faulty
-abbrev pub line_of : Option (List ℕ) → List (List ℕ) → Option (List ScriptLine)
+abbrev pub line_of : Option (List ℕ) → List (List ℕ) → Option (List (ScriptLine Turn))
 line_of second_plan words = if is_skipped words then Some [] else option_map (λ line. line ∷ []) (line_by second_plan words)
 
+-- the same by the text of the line
+abbrev pub line_in : Option (List ℕ) → List ℕ → Option (List (ScriptLine Turn))
+line_in second_plan part = line_of second_plan (words_of part)
+
 -- the reading of a line at its number, or its fault
-abbrev pub reading_at : ℕ → Option (List ScriptLine) → Result (List ScriptLine) PbxFault
+abbrev pub reading_at : {U : Type 0} → ℕ → Option (List (ScriptLine U)) → Result (List (ScriptLine U)) PbxFault
 reading_at line None = Err (Coded BadScript (Some line))
 reading_at line (Some lines) = Ok lines
 
+-- the reading of a line by what it stands for, and by the lines before it
+abbrev pub reading_by : {U : Type 0} → (List ℕ → Option (List (ScriptLine U))) → List (List ℕ) → List ℕ → Result (List (ScriptLine U)) PbxFault
+reading_by stands_for before part = reading_at (length before + 1) (stands_for part)
+
 -- the reading of a line, by the lines before it
-abbrev pub reading_of : Option (List ℕ) → List (List ℕ) → List ℕ → Result (List ScriptLine) PbxFault
-reading_of second_plan before part = reading_at (length before + 1) (line_of second_plan (words_of part))
+abbrev pub reading_of : Option (List ℕ) → List (List ℕ) → List ℕ → Result (List (ScriptLine Turn)) PbxFault
+reading_of second_plan before part = reading_by (line_in second_plan) before part
+
+-- the lines of a script by what each stands for; or the fault of its first faulty line
+unfoldable pub script_by : {U : Type 0} → (List ℕ → Option (List (ScriptLine U))) → List ℕ → Result (List (ScriptLine U)) PbxFault
+script_by stands_for text = all_of (each_after (reading_by stands_for) [] (parts_of text))
 
 -- the lines of a script beside a second dialplan, where there is one; or the fault of its first faulty line
-unfoldable pub script_of : Option (List ℕ) → List ℕ → Result (List ScriptLine) PbxFault
+unfoldable pub script_of : Option (List ℕ) → List ℕ → Result (List (ScriptLine Turn)) PbxFault
 script_of second_plan text = all_of (each_after (reading_of second_plan) [] (parts_of text))
 
 -- the turns of a line
-abbrev pub line_turns : ScriptLine → List Turn
+abbrev pub line_turns : {U : Type 0} → ScriptLine U → List U
 line_turns line = replicate line.count line.turn
 
 -- the turns of a script
-abbrev pub turns_of : List ScriptLine → List Turn
+abbrev pub turns_of : {U : Type 0} → List (ScriptLine U) → List U
 turns_of lines = flat_map line_turns lines

@@ -12,6 +12,7 @@ use Rattle.dp_machine.specs.Codes.{refusal_code, refusal_name}
 use Rattle.dp_machine.specs.Events.{channel_of, event_row, is_refused}
 use Rattle.dp_machine.specs.Replay.{final_world}
 use Rattle.dp_machine.specs.World.{World, channel_at, value_in}
+use Rattle.dp_app.specs.Rows.{Meanings}
 use Rattle.dp_app.specs.declared.place.Place.{Place}
 use Rattle.dp_app.specs.declared.phase.Phase.{Phase}
 use Rattle.dp_app.specs.declared.phase.Phase.TheVariants.{Ready, Digits, Pause, Queued, Talking, Dialling, Ended}
@@ -97,10 +98,14 @@ reply_text w number (Offered channel rung) = codes "offered " ++ decimal channel
 reply_text w number Done = done_text w number
 reply_text w number (Refused refusal) = refusal_text refusal
 
--- the line of an event that a world meets
-unfoldable pub event_line : World → Event → List ℕ
-event_line w event =
-    reply_text (final_world standard_meanings w event) (channel_of event) (event_row standard_meanings w event).1 ++ 10 ∷ []
+-- the line of an event that a world meets, by what names mean
+unfoldable pub event_line_by : Meanings → World → Event → List ℕ
+event_line_by meanings w event =
+    reply_text (final_world meanings w event) (channel_of event) (event_row meanings w event).1 ++ 10 ∷ []
+
+-- the same by what they mean in this program
+abbrev pub event_line : World → Event → List ℕ
+event_line w event = event_line_by standard_meanings w event
 
 -- what is shown of a name, by the phase of the channel, where there is one
 abbrev pub show_by : World → ℕ → List ℕ → Option Phase → List ℕ
@@ -117,22 +122,36 @@ pub record Turned : Type 0 where
   pub line : List ℕ
   pub refused : Bool
 
-abbrev pub after_turn : World → Turn → Turned
-after_turn w (turn_event event) =
+abbrev pub after_turn_by : Meanings → World → Turn → Turned
+after_turn_by meanings w (turn_event event) =
     record {
-      world = final_world standard_meanings w event;
-      line = event_line w event;
-      refused = is_refused (event_row standard_meanings w event).1;
+      world = final_world meanings w event;
+      line = event_line_by meanings w event;
+      refused = is_refused (event_row meanings w event).1;
     }
-after_turn w (Show number name) =
+after_turn_by meanings w (Show number name) =
     record { world = w; line = show_text w number name ++ 10 ∷ []; refused = is_none (phase_at w number) }
 
--- the trace of some turns from a world on
-abbrev pub trace_of : World → List Turn → List ℕ
-trace_of w [] = []
-trace_of w (turn ∷ turns) = (after_turn w turn).line ++ trace_of (after_turn w turn).world turns
+-- the same by what names mean in this program
+abbrev pub after_turn : World → Turn → Turned
+after_turn w turn = after_turn_by standard_meanings w turn
 
--- whether a turn was refused
+-- the trace of some turns from a world on, by what names mean
+abbrev pub trace_by : Meanings → World → List Turn → List ℕ
+trace_by meanings w [] = []
+trace_by meanings w (turn ∷ turns) =
+    (after_turn_by meanings w turn).line ++ trace_by meanings (after_turn_by meanings w turn).world turns
+
+-- the same by what they mean in this program
+abbrev pub trace_of : World → List Turn → List ℕ
+trace_of w turns = trace_by standard_meanings w turns
+
+-- whether a turn was refused, by what names mean
+abbrev pub any_refused_by : Meanings → World → List Turn → Bool
+any_refused_by meanings w [] = false
+any_refused_by meanings w (turn ∷ turns) =
+    (after_turn_by meanings w turn).refused || any_refused_by meanings (after_turn_by meanings w turn).world turns
+
+-- the same by what they mean in this program
 abbrev pub any_refused : World → List Turn → Bool
-any_refused w [] = false
-any_refused w (turn ∷ turns) = (after_turn w turn).refused || any_refused (after_turn w turn).world turns
+any_refused w turns = any_refused_by standard_meanings w turns

@@ -1,17 +1,16 @@
 //! What a run begins with: its dialplan, its queues and the lines of its script.
-ghost use Rattle.std.specs.Prelude.{◌≡◌, [], IfOk, Ok, false};
+ghost use Rattle.std.specs.Prelude.{◌≡◌, IfOk, Ok, false};
 ghost use Rattle.std.specs.Option.{option_map};
 ghost use Rattle.dp_conf.specs.Answers.{Answers};
 ghost use Rattle.dp_queue.specs.Rest.{IsAtRest};
-ghost use Rattle.dp_commands.specs.Block.{waiting};
 ghost use Rattle.dp_commands.specs.Faults.{is_write_failed, reason_of};
 ghost use Rattle.dp_commands.specs.Run as spec;
 ghost use Rattle.dp_commands.specs.Script.{turns_of};
 
-use crate::block::{Block, ROOM};
 use crate::fault::PbxFault;
 use crate::script::{ScriptLine, read_script};
 use crate::texts::RunTexts;
+use dp_app::AppTable;
 use dp_conf::beside;
 use dp_machine::Machine;
 use dp_plan::{Dialplan, NoMemory};
@@ -48,13 +47,14 @@ impl Drop for Files {
 
 impl Files {
     ghost use Rattle.std.specs.Prelude.{◌≡◌, IfOk};
-    ghost use Rattle.dp_machine.specs.World.{opening};
+    ghost use Rattle.dp_machine.specs.World.{opening_with};
     ghost use Rattle.dp_queue.specs.Rest.{IsAtRest};
 
-    /// A machine in which nothing has happened.
-    fn into_machine(self, alloc: Global) -> Result<Machine<StandardApps>, NoMemory>
+    /// A machine over a table of applications in which nothing has happened. Nothing has happened in the queues before. The error comes
+    /// only where a growth was refused.
+    pub fn into_machine<A: AppTable>(self, alloc: Global) -> Result<Machine<A>, NoMemory>
         requires { IsAtRest self.queues }
-        ensures { IfOk result (λ machine. machine ≡ opening self.plan self.queues) }
+        ensures { IfOk result (λ machine. machine ≡ opening_with A.Functions.table self.plan self.queues) }
     {
         let Files { plan, queues } = self;
         Machine::new(alloc, plan, queues)
@@ -97,12 +97,10 @@ fn read_texts(alloc: Global, texts: RunTexts<'_>) -> Result<RunContents, PbxFaul
     }
 }
 
-/// What a run has before its first turn: its machine, the lines of its script, and a block in which nothing waits. Its drop is one
-/// function, as that of the files is.
+/// What a run has before its first turn: its machine, and the lines of its script. Its drop is one function, as that of the files is.
 pub(crate) struct Begun {
     pub(crate) machine: Machine<StandardApps>,
     pub(crate) lines: Vec<ScriptLine>,
-    pub(crate) block: Block,
 }
 
 impl Drop for Begun {
@@ -110,7 +108,6 @@ impl Drop for Begun {
         let Begun {
             machine: _,
             lines: _,
-            block: _,
         } = self;
     }
 }
@@ -118,29 +115,20 @@ impl Drop for Begun {
 impl Begun {
     ghost use Rattle.std.specs.Prelude.{◌≡◌};
 
-    /// The machine, the lines and the block.
-    pub(crate) fn into_parts(self) -> (Machine<StandardApps>, Vec<ScriptLine>, Block)
+    /// The machine and the lines.
+    pub(crate) fn into_parts(self) -> (Machine<StandardApps>, Vec<ScriptLine>)
         ensures machine { result.0 ≡ self.machine }
         ensures lines { result.1 ≡ self.lines }
-        ensures block { result.2 ≡ self.block }
     {
-        let Begun {
-            machine,
-            lines,
-            block,
-        } = self;
-        (machine, lines, block)
+        let Begun { machine, lines } = self;
+        (machine, lines)
     }
 
     /// The machine alone.
     pub(crate) fn into_machine(self) -> Machine<StandardApps>
         ensures { result ≡ self.machine }
     {
-        let Begun {
-            machine,
-            lines: _,
-            block: _,
-        } = self;
+        let Begun { machine, lines: _ } = self;
         machine
     }
 }
@@ -150,17 +138,11 @@ impl Begun {
 pub(crate) fn begin(alloc: Global, texts: RunTexts<'_>) -> Result<Begun, PbxFault>
     ensures run { Answers (λ begun. spec.run_on begun.machine (turns_of begun.lines.items)) reason_of result
         (spec.run_of_texts texts.entry) }
-    ensures empty { IfOk result (λ begun. begun.block ≡ waiting [] []) }
     ensures quiet { is_write_failed result ≡ false }
 {
-    let block = Block::new(alloc, ROOM)?;
     let RunContents { files, lines } = read_texts(alloc, texts)?;
     match files.into_machine(alloc) {
-        Ok(machine) => Ok(Begun {
-            machine,
-            lines,
-            block,
-        }),
+        Ok(machine) => Ok(Begun { machine, lines }),
         Err(_) => Err(PbxFault::NoMemory),
     }
 }

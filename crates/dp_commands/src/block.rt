@@ -18,7 +18,7 @@ const LEAST_LEFT: usize = 4_096;
 
 /// Bytes that wait to be written: whole lines, and what is begun after them.
 #[derive(Drop)]
-pub(crate) struct Block {
+pub struct Block {
     bytes: Vec<u8>,
     // How many of the bytes are whole lines.
     whole: usize,
@@ -47,9 +47,9 @@ impl Block {
         Ok(Block { bytes, whole: 0 })
     }
 
-    /// Adds bytes to what is begun.
+    /// Adds bytes to what is begun. After a refused growth the whole lines are as before, as after that of a byte.
     #[inline(always)]
-    pub(crate) fn push(&mut self, bytes: &[u8]) -> Result<(), NoMemory>
+    pub fn push(&mut self, bytes: &[u8]) -> Result<(), NoMemory>
         ensures kept { self.new.whole ≡ self.old.whole }
         ensures ok { OnOk result (self.new.begun ≡ self.old.begun ++ bytes.now) }
     {
@@ -58,7 +58,7 @@ impl Block {
 
     /// Adds one byte to what is begun.
     #[inline(always)]
-    pub(crate) fn push_byte(&mut self, byte: u8) -> Result<(), NoMemory>
+    pub fn push_byte(&mut self, byte: u8) -> Result<(), NoMemory>
         ensures kept { self.new.whole ≡ self.old.whole }
         ensures ok { OnOk result (self.new.begun ≡ self.old.begun ++ byte ∷ []) }
     {
@@ -74,7 +74,7 @@ impl Block {
     }
 
     /// Begins a line: what was begun is dropped.
-    pub(crate) fn begin_line(&mut self)
+    pub fn begin_line(&mut self)
         ensures { self.new ≡ waiting self.old.whole [] }
     {
         self.bytes.truncate(self.whole);
@@ -88,7 +88,7 @@ impl Block {
     }
 
     /// Ends the line that is begun.
-    pub(crate) fn end_line(&mut self) -> Result<(), NoMemory>
+    pub fn end_line(&mut self) -> Result<(), NoMemory>
         ensures ok { OnOk result (self.new ≡ waiting (self.old.whole ++ (self.old.begun ++ 10 ∷ [])) []) }
         ensures err { OnErr result (self.new.whole ≡ self.old.whole) }
     {

@@ -195,10 +195,17 @@ impl Model for Watched {
 
 impl Taker for Watched {
     ghost use Rattle.dp_commands.specs.Debug.{debug_turn, end_text};
+    ghost use Rattle.dp_commands.specs.Run.{status_by};
+
+    type Table = StandardApps;
+
+    type Turn = Turn;
 
     ghost step = { debug_turn };
 
     ghost last = { end_text };
+
+    ghost status = { λ _ refused. status_by refused };
 
     fn take(
         &mut self,
@@ -216,6 +223,10 @@ impl Taker for Watched {
     fn finish(&self, block: &mut Block) -> Result<(), NoMemory> {
         push_end(block, self.taken)
     }
+
+    fn status(&self, refused: bool) -> u8 {
+        u8::from(refused)
+    }
 }
 
 /// Adds the last line to what waits.
@@ -231,7 +242,7 @@ pub(crate) fn push_end(block: &mut Block, taken: u64) -> Result<(), NoMemory>
 
 impl Watched {
     /// Gives the debugger one event, and adds its lines to what waits. It says whether the event was refused.
-    #[tactic(auto, unfolding(crate::specs::Trace::event_line))]
+    #[tactic(auto, unfolding(crate::specs::Trace::event_line_by))]
     fn take_event(
         &mut self,
         alloc: Global,

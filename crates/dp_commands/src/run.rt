@@ -7,32 +7,36 @@ ghost use Rattle.dp_commands.specs.Run as spec;
 ghost use Rattle.dp_commands.specs.Script.{turns_of};
 ghost use Rattle.dp_commands.specs.steps.Streams.{Ends, Flows, fails_at_the_end};
 ghost use Rattle.dp_commands.specs.steps.Texts.{WritesRun};
-ghost use Rattle.dp_commands.specs.Trace.{after_turn};
+ghost use Rattle.dp_commands.specs.Trace.{after_turn_by};
+ghost use Rattle.dp_commands.specs.Turns.{WritesTurnsBy};
+ghost use Rattle.dp_app.specs.Rows.{with_functions};
 
 use crate::begun::{Begun, begin};
-use crate::block::Block;
+use crate::block::{Block, ROOM};
 use crate::fault::PbxFault;
 use crate::script::{ScriptLine, Turn};
 use crate::taker::Taker;
 use crate::texts::RunTexts;
 use crate::trace::{push_line, push_show_line};
+use dp_app::AppTable;
 use dp_conf::{WriteFailed, WriteTold};
 use dp_machine::{Event, Machine};
 use dp_plan::{NoMemory, Text};
 use dp_table::StandardApps;
 use std::alloc::Global;
 
-/// Gives the machine one event, and adds its line to what waits. It says whether the event was refused.
-#[tactic(auto, unfolding(crate::specs::Trace::event_line))]
-fn take_event(
+/// Gives the machine one event, and adds its line to what waits. It says whether the event was refused. The error comes only where
+/// a growth was refused; then no line was added.
+#[tactic(auto, unfolding(crate::specs::Trace::event_line_by))]
+pub fn take_event<A: AppTable>(
     alloc: Global,
-    machine: &mut Machine<StandardApps>,
+    machine: &mut Machine<A>,
     event: &Event,
     block: &mut Block,
 ) -> Result<bool, NoMemory>
-    ensures line { OnOk result (block.new.whole ≡ block.old.whole ++ (after_turn machine.old (Turn.Event event.now)).line) }
-    ensures world { OnOk result (machine.new ≡ (after_turn machine.old (Turn.Event event.now)).world) }
-    ensures refused { IfOk result (λ refused. refused ≡ (after_turn machine.old (Turn.Event event.now)).refused) }
+    ensures line { OnOk result (block.new.whole ≡ block.old.whole ++ (after_turn_by (with_functions A.rows A.Functions.table) machine.old (Turn.Event event.now)).line) }
+    ensures world { OnOk result (machine.new ≡ (after_turn_by (with_functions A.rows A.Functions.table) machine.old (Turn.Event event.now)).world) }
+    ensures refused { IfOk result (λ refused. refused ≡ (after_turn_by (with_functions A.rows A.Functions.table) machine.old (Turn.Event event.now)).refused) }
     ensures err { OnErr result (block.new.whole ≡ block.old.whole) }
 {
     let reply = machine.apply_kept(alloc, event)?;
@@ -40,17 +44,18 @@ fn take_event(
     Ok(reply.is_refusal())
 }
 
-/// Adds the line that shows a name in a channel to what waits. It says whether that was refused.
-fn take_show(
+/// Adds the line that shows a name in a channel to what waits. It says whether that was refused. The error comes only where a growth
+/// was refused; then no line was added.
+pub fn take_show<A: AppTable>(
     alloc: Global,
-    machine: &Machine<StandardApps>,
+    machine: &Machine<A>,
     channel: u32,
     name: &Text,
     block: &mut Block,
 ) -> Result<bool, NoMemory>
     ensures line { OnOk result (block.new.whole
-        ≡ block.old.whole ++ (after_turn machine.now (Turn.Show channel name.now)).line) }
-    ensures refused { IfOk result (λ refused. refused ≡ (after_turn machine.now (Turn.Show channel name.now)).refused) }
+        ≡ block.old.whole ++ (after_turn_by (with_functions A.rows A.Functions.table) machine.now (Turn.Show channel name.now)).line) }
+    ensures refused { IfOk result (λ refused. refused ≡ (after_turn_by (with_functions A.rows A.Functions.table) machine.now (Turn.Show channel name.now)).refused) }
     ensures err { OnErr result (block.new.whole ≡ block.old.whole) }
 {
     push_show_line(alloc, block, machine, channel, name.bytes())?;
@@ -63,11 +68,18 @@ struct Plain;
 
 impl Taker for Plain {
     ghost use Rattle.std.specs.Prelude.{[]};
+    ghost use Rattle.dp_commands.specs.Run.{status_by};
     ghost use Rattle.dp_commands.specs.steps.Streams.{plainly};
+
+    type Table = StandardApps;
+
+    type Turn = Turn;
 
     ghost step = { plainly };
 
     ghost last = { λ _. [] };
+
+    ghost status = { λ _ refused. status_by refused };
 
     fn take(
         &mut self,
@@ -85,6 +97,10 @@ impl Taker for Plain {
     fn finish(&self, _block: &mut Block) -> Result<(), NoMemory> {
         Ok(())
     }
+
+    fn status(&self, refused: bool) -> u8 {
+        u8::from(refused)
+    }
 }
 
 /// Writes the lines that wait where the block is full.
@@ -100,20 +116,19 @@ fn send_full<W: WriteTold>(block: &mut Block, writer: &mut W) -> Result<(), Writ
     Ok(())
 }
 
-/// Ends a run by what it came to: the lines that wait are written, unless a write has failed. The status is 1 where a
-/// turn was refused, else 0.
+/// Ends a run by what it came to: the lines that wait are written, unless a write has failed.
 fn end<W: WriteTold>(
     block: &mut Block,
     writer: &mut W,
-    ran: Result<bool, PbxFault>,
+    ran: Result<u8, PbxFault>,
 ) -> Result<u8, PbxFault>
     ensures ends { Ends (W.contents writer.old) block.old.whole (W.contents writer.new) ran result }
     ensures told { W.has_failed writer.new ≡ (W.has_failed writer.old || fails_at_the_end ran result) }
 {
     match ran {
-        Ok(refused) => {
+        Ok(status) => {
             block.send(writer)?;
-            Ok(u8::from(refused))
+            Ok(status)
         }
         Err(PbxFault::NoMemory) => {
             block.send(writer)?;
@@ -124,14 +139,14 @@ fn end<W: WriteTold>(
 }
 
 /// What takes the turns of a run: how they are taken, the machine, and the block in which their lines wait.
-struct Runner<T> {
+struct Runner<T, A> {
     alloc: Global,
     taker: T,
-    machine: Machine<StandardApps>,
+    machine: Machine<A>,
     block: Block,
 }
 
-impl<T: Drop> Drop for Runner<T> {
+impl<T: Drop, A> Drop for Runner<T, A> {
     fn drop(self) {
         let Runner {
             alloc: _,
@@ -142,16 +157,16 @@ impl<T: Drop> Drop for Runner<T> {
     }
 }
 
-impl<T: Taker> Runner<T> {
+impl<A: AppTable, T: Taker<Table = A>> Runner<T, A> {
     ghost use Rattle.std.specs.Prelude.{◌≡◌, ◌||◌, ◌∷◌, []};
     ghost use Rattle.dp_commands.specs.Faults.{is_write_failed};
     ghost use Rattle.dp_commands.specs.Script.{line_turns, turns_of};
     ghost use Rattle.dp_commands.specs.steps.Runners.{Takes};
     ghost use Rattle.dp_commands.specs.steps.Streams.{StreamsAll};
-    ghost use Rattle.dp_commands.specs.Turns.{WritesTurns};
+    ghost use Rattle.dp_commands.specs.Turns.{WritesTurnsBy};
 
     /// Takes one turn, and writes the lines that wait where they fill the block. It says whether the turn was refused.
-    fn take_turn<W: WriteTold>(&mut self, turn: &Turn, writer: &mut W) -> Result<bool, PbxFault>
+    fn take_turn<W: WriteTold>(&mut self, turn: &T::Turn, writer: &mut W) -> Result<bool, PbxFault>
         ensures streams { Takes T.step (turn.now ∷ []) (W.contents writer.old) self.old (W.contents writer.new) self.new result }
         ensures told { W.has_failed writer.new ≡ (W.has_failed writer.old || is_write_failed result) }
     {
@@ -165,7 +180,7 @@ impl<T: Taker> Runner<T> {
     /// Takes the turns of a line.
     fn take_line<W: WriteTold>(
         &mut self,
-        line: &ScriptLine,
+        line: &ScriptLine<T::Turn>,
         writer: &mut W,
     ) -> Result<bool, PbxFault>
         ensures streams { Takes T.step (line_turns line.now) (W.contents writer.old) self.old (W.contents writer.new) self.new result }
@@ -181,7 +196,7 @@ impl<T: Taker> Runner<T> {
     /// Takes the turns of the lines, one after another, and writes their lines as it goes. It says whether one was refused.
     fn take_lines<W: WriteTold>(
         &mut self,
-        lines: &[ScriptLine],
+        lines: &[ScriptLine<T::Turn>],
         writer: &mut W,
     ) -> Result<bool, PbxFault>
         ensures streams { Takes T.step (turns_of lines.now) (W.contents writer.old) self.old (W.contents writer.new) self.new result }
@@ -194,26 +209,30 @@ impl<T: Taker> Runner<T> {
         Ok(refused)
     }
 
-    /// Takes the turns of all lines, and adds the lines after the last of them to what waits.
+    /// Takes the turns of all lines, and adds the lines after the last of them to what waits. It gives the status.
     #[tactic(auto, using(crate::proofs::StreamsLemmas::StreamsAll_ends, crate::proofs::StreamsLemmas::StreamsAll_lacks, crate::proofs::StreamsLemmas::StreamsAll_stops))]
     fn take_all<W: WriteTold>(
         &mut self,
-        lines: &[ScriptLine],
+        lines: &[ScriptLine<T::Turn>],
         writer: &mut W,
-    ) -> Result<bool, PbxFault>
-        ensures streams { StreamsAll T.step (λ at. T.last at.0) (self.old.taker, self.old.machine) (turns_of lines.now)
+    ) -> Result<u8, PbxFault>
+        ensures streams { StreamsAll T.step (λ at. T.last at.0) (λ at. T.status at.0) (self.old.taker, self.old.machine) (turns_of lines.now)
             (W.contents writer.old) self.old.block.whole (W.contents writer.new) self.new.block.whole result }
         ensures told { W.has_failed writer.new ≡ (W.has_failed writer.old || is_write_failed result) }
     {
         let refused = self.take_lines(lines, writer)?;
         self.taker.finish(&mut self.block)?;
-        Ok(refused)
+        Ok(self.taker.status(refused))
     }
 
     /// Takes the turns of all lines, and writes all of their lines. Nothing waits before.
-    fn run<W: WriteTold>(&mut self, lines: &[ScriptLine], writer: &mut W) -> Result<u8, PbxFault>
+    fn run<W: WriteTold>(
+        &mut self,
+        lines: &[ScriptLine<T::Turn>],
+        writer: &mut W,
+    ) -> Result<u8, PbxFault>
         requires { self.old.block.whole ≡ [] }
-        ensures writes { WritesTurns T.step (λ at. T.last at.0) (self.old.taker, self.old.machine) (turns_of lines.now)
+        ensures writes { WritesTurnsBy T.step (λ at. T.last at.0) (λ at. T.status at.0) (self.old.taker, self.old.machine) (turns_of lines.now)
             (W.contents writer.old) (W.contents writer.new) result }
         ensures told { W.has_failed writer.new ≡ (W.has_failed writer.old || is_write_failed result) }
     {
@@ -222,36 +241,55 @@ impl<T: Taker> Runner<T> {
     }
 }
 
-/// Takes the turns of a run that has begun, and writes all of their lines. Nothing waits before.
-fn run_begun<T: Taker, W: WriteTold>(
+/// Takes the turns of the lines, one after another, and writes all of their lines, a block of lines at a time. The status is what the
+/// taker says at the end.
+///
+/// Where memory is refused the lines of the turns before are written. Where memory is refused or a write fails, what was written stays
+/// written.
+pub fn run_lines<T: Taker, W: WriteTold>(
     alloc: Global,
     taker: T,
-    begun: Begun,
+    machine: Machine<T::Table>,
+    lines: &[ScriptLine<T::Turn>],
     writer: &mut W,
 ) -> Result<u8, PbxFault>
-    requires { begun.block.whole ≡ [] }
-    ensures writes { WritesRun T.step (λ at. T.last at.0) taker (W.contents writer.old) (W.contents writer.new)
-        (Ok (spec.run_on begun.machine (turns_of begun.lines.items))) result }
+    ensures writes { WritesTurnsBy T.step (λ at. T.last at.0) (λ at. T.status at.0) (taker, machine) (turns_of lines.now)
+        (W.contents writer.old) (W.contents writer.new) result }
     ensures told { W.has_failed writer.new ≡ (W.has_failed writer.old || is_write_failed result) }
 {
-    let (machine, lines, block) = begun.into_parts();
+    let block = Block::new(alloc, ROOM)?;
     let mut runner = Runner {
         alloc,
         taker,
         machine,
         block,
     };
-    runner.run(&lines, writer)
+    runner.run(lines, writer)
+}
+
+/// Takes the turns of a run that has begun, and writes all of their lines.
+fn run_begun<T: Taker<Table = StandardApps, Turn = Turn>, W: WriteTold>(
+    alloc: Global,
+    taker: T,
+    begun: Begun,
+    writer: &mut W,
+) -> Result<u8, PbxFault>
+    ensures writes { WritesRun T.step (λ at. T.last at.0) (λ at. T.status at.0) taker (W.contents writer.old) (W.contents writer.new)
+        (Ok (spec.run_on begun.machine (turns_of begun.lines.items))) result }
+    ensures told { W.has_failed writer.new ≡ (W.has_failed writer.old || is_write_failed result) }
+{
+    let (machine, lines) = begun.into_parts();
+    run_lines(alloc, taker, machine, &lines, writer)
 }
 
 /// Begins the run of the texts, takes its turns, and writes all of their lines.
-pub(crate) fn run_texts<T: Taker, W: WriteTold>(
+pub(crate) fn run_texts<T: Taker<Table = StandardApps, Turn = Turn>, W: WriteTold>(
     alloc: Global,
     texts: RunTexts<'_>,
     taker: T,
     writer: &mut W,
 ) -> Result<u8, PbxFault>
-    ensures writes { WritesRun T.step (λ at. T.last at.0) taker (W.contents writer.old) (W.contents writer.new)
+    ensures writes { WritesRun T.step (λ at. T.last at.0) (λ at. T.status at.0) taker (W.contents writer.old) (W.contents writer.new)
         (spec.run_of_texts texts.entry) result }
     ensures told { W.has_failed writer.new ≡ (W.has_failed writer.old || is_write_failed result) }
 {

@@ -13,8 +13,8 @@ use std::alloc::Global;
 /// How many times a line may take its turn.
 const MOST_COUNT: u32 = 100_000;
 
-/// The words of a line, between its blanks.
-pub(crate) fn words<'a>(alloc: Global, line: &'a [u8]) -> Result<Vec<&'a [u8]>, NoMemory>
+/// The words of a line, between its blanks. The error comes only where a growth was refused.
+pub fn words<'a>(alloc: Global, line: &'a [u8]) -> Result<Vec<&'a [u8]>, NoMemory>
     ensures { IfOk result (λ words. map (λ word. word.now) words.items ≡ spec.words_of line.now) }
 {
     line.split(|byte| is_blank(*byte))
@@ -34,7 +34,7 @@ pub fn number_within(limit: u32, word: &[u8]) -> Option<u32>
 }
 
 /// The number of a channel that a word writes.
-fn read_channel(word: &[u8]) -> Option<u32>
+pub fn read_channel(word: &[u8]) -> Option<u32>
     ensures { result ≡ spec.channel_in word.now }
 {
     number_within(u32::MAX, word)

@@ -5,9 +5,9 @@ ghost use Rattle.dp_machine.specs.World.{value_in};
 ghost use Rattle.dp_commands.specs.Trace as spec;
 
 use crate::block::Block;
+use dp_app::AppTable;
 use dp_machine::{EntryId, Machine, Phase, Place, Queues, Refusal, Reply};
 use dp_plan::{Context, Dialplan, Entry, NoMemory};
-use dp_table::StandardApps;
 use itoa::{Buffer, Integer};
 use std::alloc::Global;
 
@@ -22,7 +22,7 @@ pub(crate) fn push_number<I: Integer>(out: &mut Block, number: I) -> Result<(), 
 
 /// Adds the number of a channel or of a priority in decimal. Many have one digit.
 #[tactic(auto, using(std::proofs::lemmas::Fmt::decimal_digit))]
-fn push_short(out: &mut Block, number: u32) -> Result<(), NoMemory>
+pub fn push_short(out: &mut Block, number: u32) -> Result<(), NoMemory>
     ensures kept { out.new.whole ≡ out.old.whole }
     ensures ok { OnOk result (out.new.begun ≡ out.old.begun ++ decimal number) }
 {
@@ -68,7 +68,11 @@ fn push_ready(out: &mut Block, place: Option<&Place>) -> Result<(), NoMemory>
 
 /// Adds ` -> ` and the state of the channel of this number.
 #[tactic(auto, unfolding(crate::specs::Trace::state_text))]
-fn push_after(out: &mut Block, machine: &Machine<StandardApps>, number: u32) -> Result<(), NoMemory>
+pub fn push_after<A: AppTable>(
+    out: &mut Block,
+    machine: &Machine<A>,
+    number: u32,
+) -> Result<(), NoMemory>
     ensures kept { out.new.whole ≡ out.old.whole }
     ensures ok { OnOk result (out.new.begun ≡ out.old.begun ++ (codes " -> " ++ spec.state_text machine.now number)) }
 {
@@ -181,7 +185,7 @@ pub(crate) fn push_entry(out: &mut Block, plan: &Dialplan, id: EntryId) -> Resul
 }
 
 /// Adds the line of a refusal.
-fn push_refused(out: &mut Block, refusal: Refusal) -> Result<(), NoMemory>
+pub fn push_refused(out: &mut Block, refusal: Refusal) -> Result<(), NoMemory>
     ensures kept { out.new.whole ≡ out.old.whole }
     ensures ok { OnOk result (out.new.begun ≡ out.old.begun ++ spec.refusal_text refusal) }
 {
@@ -192,9 +196,9 @@ fn push_refused(out: &mut Block, refusal: Refusal) -> Result<(), NoMemory>
 }
 
 /// Adds the line of a step that ran an entry.
-fn push_ran(
+fn push_ran<A: AppTable>(
     out: &mut Block,
-    machine: &Machine<StandardApps>,
+    machine: &Machine<A>,
     number: u32,
     id: EntryId,
 ) -> Result<(), NoMemory>
@@ -218,9 +222,9 @@ fn push_started(out: &mut Block, channel: u32) -> Result<(), NoMemory>
 }
 
 /// Adds the line of a channel whose place has no entry.
-fn push_no_entry(
+fn push_no_entry<A: AppTable>(
     out: &mut Block,
-    machine: &Machine<StandardApps>,
+    machine: &Machine<A>,
     number: u32,
 ) -> Result<(), NoMemory>
     ensures kept { out.new.whole ≡ out.old.whole }
@@ -232,9 +236,9 @@ fn push_no_entry(
 }
 
 /// Adds the line of a channel that went to the extension `i`.
-fn push_invalid(
+fn push_invalid<A: AppTable>(
     out: &mut Block,
-    machine: &Machine<StandardApps>,
+    machine: &Machine<A>,
     number: u32,
 ) -> Result<(), NoMemory>
     ensures kept { out.new.whole ≡ out.old.whole }
@@ -258,7 +262,11 @@ fn push_offered(out: &mut Block, channel: u32, rung: usize) -> Result<(), NoMemo
 }
 
 /// Adds the line of an event that was taken.
-fn push_done(out: &mut Block, machine: &Machine<StandardApps>, number: u32) -> Result<(), NoMemory>
+fn push_done<A: AppTable>(
+    out: &mut Block,
+    machine: &Machine<A>,
+    number: u32,
+) -> Result<(), NoMemory>
     ensures kept { out.new.whole ≡ out.old.whole }
     ensures ok { OnOk result (out.new.begun ≡ out.old.begun ++ spec.done_text machine.now number) }
 {
@@ -271,9 +279,9 @@ fn push_done(out: &mut Block, machine: &Machine<StandardApps>, number: u32) -> R
 }
 
 /// Adds the line of a reply to an event of the channel of this number, with the machine after the event.
-pub(crate) fn push_reply(
+pub(crate) fn push_reply<A: AppTable>(
     out: &mut Block,
-    machine: &Machine<StandardApps>,
+    machine: &Machine<A>,
     number: u32,
     reply: Reply,
 ) -> Result<(), NoMemory>
@@ -293,9 +301,9 @@ pub(crate) fn push_reply(
 
 /// Adds the line of a reply to what waits, by the channel that the event names and the machine after the event. Where
 /// memory is refused the whole lines stay as they were.
-pub(crate) fn push_line(
+pub(crate) fn push_line<A: AppTable>(
     block: &mut Block,
-    machine: &Machine<StandardApps>,
+    machine: &Machine<A>,
     number: u32,
     reply: Reply,
 ) -> Result<(), NoMemory>
@@ -309,10 +317,10 @@ pub(crate) fn push_line(
 }
 
 /// Adds the value of a name in a channel, `NAME=VALUE`.
-fn push_value(
+fn push_value<A: AppTable>(
     alloc: Global,
     out: &mut Block,
-    machine: &Machine<StandardApps>,
+    machine: &Machine<A>,
     channel: u32,
     name: &[u8],
 ) -> Result<(), NoMemory>
@@ -328,10 +336,10 @@ fn push_value(
 
 /// Adds the value of a name in a channel, or the refusal where no channel has the number.
 #[tactic(auto, unfolding(crate::specs::Trace::show_text))]
-pub(crate) fn push_show(
+pub(crate) fn push_show<A: AppTable>(
     alloc: Global,
     out: &mut Block,
-    machine: &Machine<StandardApps>,
+    machine: &Machine<A>,
     channel: u32,
     name: &[u8],
 ) -> Result<(), NoMemory>
@@ -345,10 +353,10 @@ pub(crate) fn push_show(
 }
 
 /// Adds the line that shows a name in a channel to what waits. Where memory is refused the whole lines stay as they were.
-pub(crate) fn push_show_line(
+pub(crate) fn push_show_line<A: AppTable>(
     alloc: Global,
     block: &mut Block,
-    machine: &Machine<StandardApps>,
+    machine: &Machine<A>,
     channel: u32,
     name: &[u8],
 ) -> Result<(), NoMemory>

@@ -212,11 +212,18 @@ impl<'a, E> Model for Verbose<'a, E> {
 
 impl<'a, E: Explanations> Taker for Verbose<'a, E> {
     ghost use Rattle.std.specs.Prelude.{[]};
+    ghost use Rattle.dp_commands.specs.Run.{status_by};
     ghost use Rattle.dp_commands.specs.Verbose.{verbose_turn};
+
+    type Table = StandardApps;
+
+    type Turn = Turn;
 
     ghost step = { verbose_turn E.explanation_of };
 
     ghost last = { λ _. [] };
+
+    ghost status = { λ _ refused. status_by refused };
 
     fn take(
         &mut self,
@@ -234,11 +241,15 @@ impl<'a, E: Explanations> Taker for Verbose<'a, E> {
     fn finish(&self, _block: &mut Block) -> Result<(), NoMemory> {
         Ok(())
     }
+
+    fn status(&self, refused: bool) -> u8 {
+        u8::from(refused)
+    }
 }
 
 impl<'a, E: Explanations> Verbose<'a, E> {
     /// Gives the machine one event, and adds its line to what waits with more above it. It says whether the event was refused.
-    #[tactic(auto, unfolding(crate::specs::Trace::event_line))]
+    #[tactic(auto, unfolding(crate::specs::Trace::event_line_by))]
     fn take_event(
         &mut self,
         alloc: Global,

@@ -68,11 +68,18 @@ impl<'a, E> Model for VerboseWatched<'a, E> {
 }
 
 impl<'a, E: Explanations> Taker for VerboseWatched<'a, E> {
+    ghost use Rattle.dp_commands.specs.Run.{status_by};
     ghost use Rattle.dp_commands.specs.Verbose.{verbose_debug_turn, verbose_end};
+
+    type Table = StandardApps;
+
+    type Turn = Turn;
 
     ghost step = { verbose_debug_turn E.explanation_of };
 
     ghost last = { verbose_end };
+
+    ghost status = { λ _ refused. status_by refused };
 
     fn take(
         &mut self,
@@ -90,12 +97,16 @@ impl<'a, E: Explanations> Taker for VerboseWatched<'a, E> {
     fn finish(&self, block: &mut Block) -> Result<(), NoMemory> {
         push_end(block, self.taken)
     }
+
+    fn status(&self, refused: bool) -> u8 {
+        u8::from(refused)
+    }
 }
 
 impl<'a, E: Explanations> VerboseWatched<'a, E> {
     /// Gives the debugger one event, and adds its lines to what waits with more above that of the reply. It says whether the event was
     /// refused.
-    #[tactic(auto, unfolding(crate::specs::Trace::event_line))]
+    #[tactic(auto, unfolding(crate::specs::Trace::event_line_by))]
     fn take_event(
         &mut self,
         alloc: Global,

@@ -2,8 +2,11 @@ mod Reducing
 mod Completeness
 mod Soundness
 mod Making
+mod QuotientsLemmas
 pub mod Readings
+pub mod AsteriskReadings
 pub mod TokensLemmas
+pub mod MarksLemmas
 pub mod NumbersLemmas
 pub mod TextsLemmas
 pub mod FramesLemmas

@@ -26,8 +26,12 @@ reading_unique tokens s t p q =
     let b = made_of-trees t in
     cc
 
+-- a walk over trees finds the reading
+pub walk-tree : (tokens : List Token) (tree : Tree) → IsReading tokens tree → walk trees (Wanting []) tokens ≡ Some tree
+walk-tree tokens tree reading = walk-reading trees tokens tree reading ∙ ap Some (made_of-trees tree)
+
 -- what is made of values is the tree's value
-made_of-values : (tree : Tree) → made_of values tree ≡ value_of tree
+pub made_of-values : (tree : Tree) → made_of values tree ≡ value_of tree
 made_of-values (Leaf bytes) = refl
 made_of-values (Group inner) = made_of-values inner
 made_of-values (Before prefix operand) = ap (values.before prefix) (made_of-values operand)
@@ -45,6 +49,14 @@ no_tree tokens (Some tree) e none = absurd (none tree (reading-walk tokens tree 
 -- where nothing is a reading, it gives none
 pub walk-none : (tokens : List Token) → ((tree : Tree) → ¬ (IsReading tokens tree)) → walk values (Wanting []) tokens ≡ None
 walk-none tokens none = walk-trees values tokens ∙ no_tree tokens (walk trees (Wanting []) tokens) refl none
+
+-- nor does a walk over trees find one there
+pub walk-no_tree : (tokens : List Token) → ((tree : Tree) → ¬ (IsReading tokens tree)) → walk trees (Wanting []) tokens ≡ None
+walk-no_tree tokens none = by (walk trees (Wanting []) tokens) refl
+  where
+    by : (o : Option Tree) → walk trees (Wanting []) tokens ≡ o → o ≡ None
+    by None e = refl
+    by (Some tree) e = absurd (none tree (reading-walk tokens tree e))
 
 -- the value of a text with a reading, and of one without
 pub expression_value-reading : (text : List ℕ) (tree : Tree) → IsReading (tokens_of text) tree → expression_value text ≡ answer (value_of tree)

@@ -37,9 +37,17 @@ plus_sign = 43
 abbrev pub minus_sign : ℕ
 minus_sign = 45
 
+-- `.`
+abbrev pub point : ℕ
+point = 46
+
 -- `/`
 abbrev pub slash : ℕ
 slash = 47
+
+-- `:`
+abbrev pub colon : ℕ
+colon = 58
 
 -- `<`
 abbrev pub less_sign : ℕ
@@ -53,6 +61,14 @@ equals_sign = 61
 abbrev pub more_sign : ℕ
 more_sign = 62
 
+-- `?`
+abbrev pub question_mark : ℕ
+question_mark = 63
+
 -- `|`
 abbrev pub bar : ℕ
 bar = 124
+
+-- `~`
+abbrev pub tilde : ℕ
+tilde = 126

@@ -4,5 +4,7 @@ pub mod Trees
 pub mod Numbers
 pub mod Values
 pub mod Expression
+pub mod Quotients
+pub mod AsteriskReading
 pub mod Walk
 pub mod steps

@@ -7,6 +7,7 @@ ghost use Rattle.dp_expr.specs.Trees.{Tree, IsTree};
 ghost use Rattle.dp_expr.specs.Values.{value_of, answer};
 ghost use Rattle.dp_expr.specs.Expression.{IsValue, expression_value};
 
+use crate::division::Division;
 use crate::value::Value;
 use crate::{NoMemory, walk};
 use std::alloc::Global;
@@ -32,7 +33,7 @@ pub fn evaluate(alloc: Global, text: &[u8]) -> Result<Value, NoMemory>
     // The same by a function.
     ensures exact { IfOk result (λ value. value ≡ expression_value text.now) }
 {
-    match walk::value(alloc, text)? {
+    match walk::value(alloc, text, Division::Cut)? {
         Some(value) => Value::of(alloc, &value),
         None => Ok(Value::empty(alloc)),
     }

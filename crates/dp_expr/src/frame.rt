@@ -3,9 +3,11 @@
 ghost use Rattle.std.specs.Prelude.{◌≡◌, ◌+◌, ◌≤◌, ℕ};
 ghost use Rattle.dp_expr.specs.steps.Texts.{value_seen};
 ghost use Rattle.dp_expr.specs.declared.frame.Frame.TheVariants as frames;
-ghost use Rattle.dp_expr.specs.Walk.{is_due, depth_with, value_under, values};
+ghost use Rattle.dp_expr.specs.Walk.{is_due, depth_with, value_under};
+ghost use Rattle.dp_expr.specs.steps.Exact.{values_by};
 ghost use Rattle.dp_expr.specs.steps.Frames.{frame_seen};
 
+use crate::division::Division;
 use crate::operation;
 use crate::operator::{Operator, Prefix};
 use crate::text_value::TextValue;
@@ -53,12 +55,12 @@ impl<'a> Frame<'a> {
     }
 
     /// What the frame makes of its operand.
-    pub fn apply(self, operand: Option<TextValue<'a>>) -> Option<TextValue<'a>>
+    pub fn apply(self, operand: Option<TextValue<'a>>, division: Division) -> Option<TextValue<'a>>
         ensures { value_seen result
-            ≡ value_under values (frame_seen self.entry) (value_seen operand.entry) }
+            ≡ value_under (values_by division) (frame_seen self.entry) (value_seen operand.entry) }
     {
         match self {
-            Frame::Left(operator, left) => operation::between(operator, left, operand),
+            Frame::Left(operator, left) => operation::between_by(division, operator, left, operand),
             Frame::Front(prefix) => operation::before(prefix, operand),
             Frame::Paren => operand,
         }

@@ -13,12 +13,15 @@
 //!
 //! Operators group to the left. At most 32 parentheses and unary operators may stand inside one another.
 
+mod division;
 mod expression;
+mod fraction;
 mod frame;
 mod number;
 mod operand;
 mod operation;
 mod operator;
+mod reading;
 mod stack;
 mod text_value;
 mod token;
@@ -27,5 +30,6 @@ mod walk;
 mod walk_place;
 
 pub use expression::{evaluate, one_tree, one_value};
+pub use reading::{ExpressionReading, asterisk_reading};
 pub use std::alloc::AllocError as NoMemory;
 pub use value::Value;

@@ -4,12 +4,82 @@ ghost use Rattle.std.specs.Prelude.{◌≡◌};
 ghost use Rattle.dp_expr.specs.Numbers.{decimal_text};
 ghost use Rattle.dp_expr.specs.Values.{either, both, value_between, text_between, arithmetic, result_of, quotient, remainder, negation, value_before};
 ghost use Rattle.dp_expr.specs.steps.Texts.{text_seen, value_seen};
+ghost use Rattle.dp_expr.specs.Quotients.{is_rest, leaves_rest};
+ghost use Rattle.dp_expr.specs.steps.Exact.{between_by, exact_between};
 
+use crate::division::Division;
 use crate::operator::{Operator, Prefix};
 use crate::text_value::TextValue;
 
+/// The value of a binary operator between two values, by the division that is wanted.
+pub fn between_by<'a>(
+    division: Division,
+    operator: Operator,
+    left: Option<TextValue<'a>>,
+    right: Option<TextValue<'a>>,
+) -> Option<TextValue<'a>>
+    ensures { value_seen result
+        ≡ between_by division operator (value_seen left.entry) (value_seen right.entry) }
+{
+    match division {
+        Division::Cut => between(operator, left, right),
+        Division::Exact => exact_between(operator, left, right),
+    }
+}
+
+/// The same where a quotient that is not whole is a fault.
+fn exact_between<'a>(
+    operator: Operator,
+    left: Option<TextValue<'a>>,
+    right: Option<TextValue<'a>>,
+) -> Option<TextValue<'a>>
+    ensures { value_seen result
+        ≡ exact_between operator (value_seen left.entry) (value_seen right.entry) }
+{
+    if leaves_rest(operator, left, right) {
+        None
+    } else {
+        between(operator, left, right)
+    }
+}
+
+/// The operator is a division of two numbers, and leaves a rest.
+fn leaves_rest(
+    operator: Operator,
+    left: Option<TextValue<'_>>,
+    right: Option<TextValue<'_>>,
+) -> bool
+    ensures { result ≡ leaves_rest operator (value_seen left.entry) (value_seen right.entry) }
+{
+    match operator {
+        Operator::Over => is_rest(between(Operator::Remainder, left, right)),
+        Operator::Or
+        | Operator::And
+        | Operator::Equal
+        | Operator::NotEqual
+        | Operator::LessThan
+        | Operator::AtMost
+        | Operator::MoreThan
+        | Operator::AtLeast
+        | Operator::Plus
+        | Operator::Minus
+        | Operator::Times
+        | Operator::Remainder => false,
+    }
+}
+
+/// A remainder is there, and not zero.
+fn is_rest(remainder: Option<TextValue<'_>>) -> bool
+    ensures { result ≡ is_rest (value_seen remainder.entry) }
+{
+    match remainder {
+        Some(rest) => !rest.is_false(),
+        None => false,
+    }
+}
+
 /// The value of a binary operator between two values. A fault on either side is one of the whole.
-pub fn between<'a>(
+fn between<'a>(
     operator: Operator,
     left: Option<TextValue<'a>>,
     right: Option<TextValue<'a>>,

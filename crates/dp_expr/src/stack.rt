@@ -5,6 +5,7 @@ ghost use Rattle.dp_expr.specs.Trees.{most_depth};
 ghost use Rattle.dp_expr.specs.Walk.{nesting};
 ghost use Rattle.dp_expr.specs.steps.Frames.{frames_seen};
 
+use crate::division::Division;
 use crate::frame::Frame;
 use crate::text_value::TextValue;
 use smallvec::SmallVec;
@@ -26,7 +27,8 @@ impl<'a> Stack<'a> {
     ghost use Rattle.std.specs.Prelude.{◌≡◌, ◌≤◌, ◌∷◌, [], IfNone, IfSome, OnOk, is_some};
     ghost use Rattle.dp_expr.specs.Trees.{most_depth};
     ghost use Rattle.dp_expr.specs.steps.Texts.{value_seen};
-    ghost use Rattle.dp_expr.specs.Walk.{depth_with, reduction, values};
+    ghost use Rattle.dp_expr.specs.Walk.{depth_with, reduction};
+    ghost use Rattle.dp_expr.specs.steps.Exact.{values_by};
     ghost use Rattle.dp_expr.specs.steps.Frames.{frame_seen, is_top_due};
     ghost use Rattle.dp_expr.specs.steps.Stacks.{stack_seen};
 
@@ -84,13 +86,18 @@ impl<'a> Stack<'a> {
     }
 
     /// What is held when all frames that are due before that level have taken their operand.
-    pub fn reduce(&mut self, level: u8, operand: Option<TextValue<'a>>) -> Option<TextValue<'a>>
-        ensures { reduction values level (stack_seen self.old) (value_seen operand.entry)
+    pub fn reduce(
+        &mut self,
+        level: u8,
+        operand: Option<TextValue<'a>>,
+        division: Division,
+    ) -> Option<TextValue<'a>>
+        ensures { reduction (values_by division) level (stack_seen self.old) (value_seen operand.entry)
             ≡ record { frames = stack_seen self.new; value = value_seen result } }
     {
         let mut value = operand;
         while let Some(frame) = self.pop_due(level) {
-            value = frame.apply(value);
+            value = frame.apply(value, division);
         }
         value
     }

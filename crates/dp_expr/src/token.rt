@@ -2,6 +2,7 @@
 
 ghost use Rattle.std.specs.Prelude.{◌≡◌, ◌+◌, ◌<◌, ◌≤◌, ◌∷◌, [], length, take, MatchOption, ⊤};
 ghost use Rattle.dp_expr.specs.Tokens.{Operand, Sign, is_blank, is_word_byte, word_size, quoted_size, begins_with, longest, mark_cut, cut_at, tokens_of};
+ghost use Rattle.dp_expr.specs.AsteriskReading.{is_foreign_mark, has_foreign_mark};
 ghost use Rattle.dp_expr.specs.steps.Seen.{token_seen, cut_seen, IsStart, IsNext};
 
 use crate::operator::Operator;
@@ -206,4 +207,26 @@ pub fn next_token(text: &[u8]) -> Option<(Token<'_>, &[u8])>
     let cut = cut_at(*first, rest, text);
     let (_, after) = rest.split_at(cut.more);
     Some((cut.token, after))
+}
+
+/// A mark that means something in Asterisk alone.
+fn is_foreign_mark(byte: u8) -> bool
+    ensures { result ≡ is_foreign_mark byte }
+{
+    byte == b':' || byte == b'?' || byte == b'~'
+}
+
+/// Such a mark stands outside quotes.
+pub fn has_foreign_mark(text: &[u8]) -> bool
+    ensures { result ≡ has_foreign_mark text.now }
+{
+    let mut rest = text;
+    while let Some((first, others)) = rest.split_first() {
+        if is_foreign_mark(*first) {
+            return true;
+        }
+        let (_, after) = others.split_at(cut_at(*first, others, rest).more);
+        rest = after;
+    }
+    false
 }

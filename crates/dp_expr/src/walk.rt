@@ -6,9 +6,11 @@ ghost use Rattle.dp_expr.specs.steps.Texts.{value_seen};
 ghost use Rattle.dp_expr.specs.steps.Seen.{token_seen};
 ghost use Rattle.dp_expr.specs.Trees.{level_of};
 ghost use Rattle.dp_expr.specs.Walk.{Wanting, entry, closing_step, prefix_entry, first_step, next_step, operator_step, reduction, step, whole_of, ending, walk, values};
+ghost use Rattle.dp_expr.specs.steps.Exact.{values_by};
 ghost use Rattle.dp_expr.specs.steps.Frames.{frame_seen};
 ghost use Rattle.dp_expr.specs.steps.Stacks.{stack_seen, state_seen};
 
+use crate::division::Division;
 use crate::frame::Frame;
 use crate::operand::Operand;
 use crate::operator::{Operator, Prefix};
@@ -19,18 +21,22 @@ use crate::walk_place::WalkPlace;
 use std::alloc::{AllocError, Global};
 
 /// The value of the expression that a text holds; none for a fault.
-pub fn value(alloc: Global, text: &[u8]) -> Result<Option<TextValue<'_>>, AllocError>
+pub fn value(
+    alloc: Global,
+    text: &[u8],
+    division: Division,
+) -> Result<Option<TextValue<'_>>, AllocError>
     ensures { IfOk result (λ value. value_seen value
-        ≡ unwrap_or (walk values (Wanting []) (tokens_of text.now)) None) }
+        ≡ unwrap_or (walk (values_by division) (Wanting []) (tokens_of text.now)) None) }
 {
     let mut stack = Stack::new(alloc);
     let mut place = WalkPlace::Wanting;
     let mut rest = text;
     while let Some((token, after)) = next_token(rest) {
-        place = step(&mut stack, place, token)?;
+        place = step(&mut stack, place, token, division)?;
         rest = after;
     }
-    Ok(finish(&mut stack, place))
+    Ok(finish(&mut stack, place, division))
 }
 
 #[tactic(auto, unfolding(crate::specs::Walk::step))]
@@ -38,13 +44,14 @@ fn step<'a>(
     stack: &mut Stack<'a>,
     place: WalkPlace<'a>,
     token: Token<'a>,
+    division: Division,
 ) -> Result<WalkPlace<'a>, AllocError>
     ensures { IfOk result (λ next. state_seen next stack.new
-        ≡ step values (state_seen place.entry stack.old) (token_seen token.entry)) }
+        ≡ step (values_by division) (state_seen place.entry stack.old) (token_seen token.entry)) }
 {
     match place {
         WalkPlace::Wanting => begin(stack, token),
-        WalkPlace::Holding(value) => go_on(stack, value, token),
+        WalkPlace::Holding(value) => go_on(stack, value, token, division),
         WalkPlace::Failed => Ok(WalkPlace::Failed),
     }
 }
@@ -105,13 +112,14 @@ fn go_on<'a>(
     stack: &mut Stack<'a>,
     value: Option<TextValue<'a>>,
     token: Token<'a>,
+    division: Division,
 ) -> Result<WalkPlace<'a>, AllocError>
     ensures { IfOk result (λ next. state_seen next stack.new
-        ≡ next_step values (stack_seen stack.old) (value_seen value.entry) (token_seen token.entry)) }
+        ≡ next_step (values_by division) (stack_seen stack.old) (value_seen value.entry) (token_seen token.entry)) }
 {
     match token {
-        Token::Sign(operator) => push_left(stack, operator, value),
-        Token::Closing => Ok(close(stack, value)),
+        Token::Sign(operator) => push_left(stack, operator, value, division),
+        Token::Closing => Ok(close(stack, value, division)),
         Token::Operand(_) | Token::Bang | Token::Opening | Token::Stray => Ok(WalkPlace::Failed),
     }
 }
@@ -121,22 +129,27 @@ fn push_left<'a>(
     stack: &mut Stack<'a>,
     operator: Operator,
     value: Option<TextValue<'a>>,
+    division: Division,
 ) -> Result<WalkPlace<'a>, AllocError>
     ensures { IfOk result (λ next. state_seen next stack.new
-        ≡ operator_step operator (reduction values (level_of operator) (stack_seen stack.old)
+        ≡ operator_step operator (reduction (values_by division) (level_of operator) (stack_seen stack.old)
         (value_seen value.entry))) }
 {
-    let left = stack.reduce(operator.level(), value);
+    let left = stack.reduce(operator.level(), value, division);
     stack.push(Frame::Left(operator, left))?;
     Ok(WalkPlace::Wanting)
 }
 
 /// A closing parenthesis after an operand.
-fn close<'a>(stack: &mut Stack<'a>, value: Option<TextValue<'a>>) -> WalkPlace<'a>
+fn close<'a>(
+    stack: &mut Stack<'a>,
+    value: Option<TextValue<'a>>,
+    division: Division,
+) -> WalkPlace<'a>
     ensures { state_seen result stack.new
-        ≡ closing_step values (reduction values 0 (stack_seen stack.old) (value_seen value.entry)) }
+        ≡ closing_step (values_by division) (reduction (values_by division) 0 (stack_seen stack.old) (value_seen value.entry)) }
 {
-    let inner = stack.reduce(0, value);
+    let inner = stack.reduce(0, value, division);
     match stack.pop() {
         Some(Frame::Paren) => WalkPlace::Holding(inner),
         _ => WalkPlace::Failed,
@@ -145,21 +158,29 @@ fn close<'a>(stack: &mut Stack<'a>, value: Option<TextValue<'a>>) -> WalkPlace<'
 
 /// What is held when the tokens end: a value if no parenthesis is open.
 #[tactic(auto, unfolding(crate::specs::Walk::ending))]
-fn finish<'a>(stack: &mut Stack<'a>, place: WalkPlace<'a>) -> Option<TextValue<'a>>
+fn finish<'a>(
+    stack: &mut Stack<'a>,
+    place: WalkPlace<'a>,
+    division: Division,
+) -> Option<TextValue<'a>>
     ensures { value_seen result
-        ≡ unwrap_or (ending values (state_seen place.entry stack.old)) None }
+        ≡ unwrap_or (ending (values_by division) (state_seen place.entry stack.old)) None }
 {
     match place {
-        WalkPlace::Holding(value) => finish_held(stack, value),
+        WalkPlace::Holding(value) => finish_held(stack, value, division),
         WalkPlace::Wanting | WalkPlace::Failed => None,
     }
 }
 
-fn finish_held<'a>(stack: &mut Stack<'a>, value: Option<TextValue<'a>>) -> Option<TextValue<'a>>
+fn finish_held<'a>(
+    stack: &mut Stack<'a>,
+    value: Option<TextValue<'a>>,
+    division: Division,
+) -> Option<TextValue<'a>>
     ensures { value_seen result
-        ≡ unwrap_or (whole_of (reduction values 0 (stack_seen stack.old) (value_seen value.entry))) None }
+        ≡ unwrap_or (whole_of (reduction (values_by division) 0 (stack_seen stack.old) (value_seen value.entry))) None }
 {
-    let value = stack.reduce(0, value);
+    let value = stack.reduce(0, value, division);
     match stack.pop() {
         Some(_) => None,
         None => value,

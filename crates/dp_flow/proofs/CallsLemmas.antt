@@ -7,7 +7,8 @@ use Rattle.dp_conf.specs.Cut.{cut_once}
 use Rattle.dp_app.specs.Cells.{CellOf}
 use Rattle.dp_flow.specs.Jumps.{called_by, enter_subroutine, gosub_parts}
 
-last-push : {X : Type 0} (xs : List X) (x : X) → slice_get (xs ++ x ∷ []) (length (xs ++ x ∷ []) - 1) ≡ Some x
+-- the last element of a list after a push
+pub last-push : {X : Type 0} (xs : List X) (x : X) → slice_get (xs ++ x ∷ []) (length (xs ++ x ∷ []) - 1) ≡ Some x
 last-push {X = X} xs x = ap (slice_get (xs ++ x ∷ [])) count ∙ at xs
   where
     count : length (xs ++ x ∷ []) - 1 ≡ length xs
@@ -17,7 +18,8 @@ last-push {X = X} xs x = ap (slice_get (xs ++ x ∷ [])) count ∙ at xs
     at [] = refl
     at (y ∷ ys) = at ys
 
-front-push : {X : Type 0} (xs : List X) (x : X) → take (length (xs ++ x ∷ []) - 1) (xs ++ x ∷ []) ≡ xs
+-- what stands before the last element of a list after a push
+pub front-push : {X : Type 0} (xs : List X) (x : X) → take (length (xs ++ x ∷ []) - 1) (xs ++ x ∷ []) ≡ xs
 front-push xs x = ap (λ n. take n (xs ++ x ∷ [])) count ∙ take-append_seam xs (x ∷ [])
   where
     count : length (xs ++ x ∷ []) - 1 ≡ length xs

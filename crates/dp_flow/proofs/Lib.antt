@@ -1,1 +1,1 @@
-mod CallsLemmas
+pub mod CallsLemmas

@@ -34,17 +34,21 @@ abbrev pub present_by : List ℕ → List ℕ → Option (List ℕ)
 present_by side [] = None
 present_by side (b ∷ bs) = Some side
 
--- the side that is taken, if it is there: the first if the condition holds, else the second
+-- the first or the second of two sides, if it is there
 abbrev pub side_of : Bool → List ℕ → Option (List ℕ × List ℕ) → Option (List ℕ)
 side_of true sides None = Some sides
 side_of false sides None = None
 side_of true sides (Some cut) = Some cut.0
 side_of false sides (Some cut) = Some cut.1
 
+-- the first or the second of two sides, which the first `:` outside parentheses parts, where there is more in it than blanks
+abbrev pub taken_side : Bool → List ℕ → Option (List ℕ)
+taken_side is_first sides = option_and_then (λ side. present_by side (trim side)) (side_of is_first sides (cut_outside 58 sides))
+
 -- a choice by its condition and its sides
 abbrev pub chosen_by : Option (List ℕ × List ℕ) → Option (List ℕ)
 chosen_by None = None
-chosen_by (Some cut) = option_and_then (λ side. present_by side (trim side)) (side_of (holds cut.0) cut.1 (cut_outside 58 cut.1))
+chosen_by (Some cut) = taken_side (holds cut.0) cut.1
 
 -- the side that `CONDITION?SIDE:SIDE` takes: the condition ends at the first `?`, and the first side at the first `:` outside
 -- parentheses

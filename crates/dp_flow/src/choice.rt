@@ -53,16 +53,23 @@ fn present(side: &[u8]) -> Option<&[u8]>
     Some(side)
 }
 
+/// The first or the second of two sides, which the first `:` outside parentheses parts, where there is more in it than blanks.
+pub fn taken_side(is_first: bool, sides: &[u8]) -> Option<&[u8]>
+    ensures { option_map (λ s. s.now) result ≡ spec.taken_side is_first sides.now }
+{
+    match (is_first, cut_outside(sides, b':')) {
+        (true, None) => present(sides),
+        (false, None) => None,
+        (true, Some((first, _))) => present(first),
+        (false, Some((_, second))) => present(second),
+    }
+}
+
 /// The side of `CONDITION?SIDE:SIDE` that is taken, where it is there.
 #[tactic(auto, unfolding(crate::specs::Conditions::chosen_side))]
 pub fn chosen_side(arguments: &[u8]) -> Option<&[u8]>
     ensures { option_map (λ s. s.now) result ≡ spec.chosen_side arguments.now }
 {
     let (condition, sides) = cut_once(arguments, b'?')?;
-    match (holds(condition), cut_outside(sides, b':')) {
-        (true, None) => present(sides),
-        (false, None) => None,
-        (true, Some((first, _))) => present(first),
-        (false, Some((_, second))) => present(second),
-    }
+    taken_side(holds(condition), sides)
 }

@@ -1,6 +1,6 @@
 //! The applications that jump, after the Asterisk documentation's pages on `Goto` and `GotoIf`.
 ghost use Rattle.std.specs.Prelude.{◌≡◌, IfOk};
-ghost use Rattle.dp_flow.specs.Conditions.{chosen_side};
+ghost use Rattle.std.specs.Option.{option_map};
 ghost use Rattle.dp_flow.specs.Jumps as spec;
 
 use crate::choice::chosen_side;
@@ -16,11 +16,11 @@ fn jump_to(alloc: Global, target: &[u8]) -> Result<Move, NoMemory>
     Ok(Move::Jump(Target::Parts(parts)))
 }
 
-/// A jump to the side of a choice that is taken, or to the next priority where none is.
-fn jump_if(alloc: Global, arguments: &[u8]) -> Result<Move, NoMemory>
-    ensures { IfOk result (λ going. going ≡ spec.jump_if (chosen_side arguments.now)) }
+/// A jump to a side by its text, or to the next priority where there is none.
+pub fn jump_if(alloc: Global, side: Option<&[u8]>) -> Result<Move, NoMemory>
+    ensures { IfOk result (λ going. going ≡ spec.jump_if (option_map (λ side. side.now) side.entry)) }
 {
-    match chosen_side(arguments) {
+    match side {
         None => Ok(Move::Next),
         Some(side) => jump_to(alloc, side),
     }
@@ -79,6 +79,6 @@ impl Application for GotoIf {
     }
 
     fn apply(alloc: Global, arguments: &[u8], _cell: &mut Cell) -> Result<Move, NoMemory> {
-        jump_if(alloc, arguments)
+        jump_if(alloc, chosen_side(arguments))
     }
 }

@@ -11,12 +11,12 @@ mod plain;
 mod setting;
 mod waiting;
 
-pub use choice::{chosen_side, holds};
+pub use choice::{chosen_side, holds, taken_side};
 pub use dial::Dial;
 pub use gosub::{
     Gosub, GosubIf, Return, StackPop, SubroutineCall, called_by, locals_of, place_after,
 };
-pub use jump::{Goto, GotoIf};
+pub use jump::{Goto, GotoIf, jump_if};
 pub use noop::NoOp;
 pub use plain::{Answer, Hangup, Playback, Verbose};
 pub use setting::{Set, argument_of};

@@ -2,6 +2,8 @@
 -- is never known.
 use Rattle.std.specs.Prelude.{ℕ, Bool, not, ◌||◌, List, [], ◌++◌, codes, if◌then◌else◌}
 use Rattle.dp_conf.specs.Words.{same_text}
+use Rattle.dp_expr.specs.declared.reading.ExpressionReading.{ExpressionReading}
+use Rattle.dp_expr.specs.declared.reading.ExpressionReading.TheVariants as readings
 use Rattle.dp_vars.specs.Functions.{FunctionTable, SettingTarget, Variable, Global, Local, Caller, Nothing}
 use Rattle.dp_vars.specs.Sights.{Sight}
 use Rattle.dp_vars.specs.Values.{standard_functions}
@@ -34,6 +36,22 @@ own_target name =
     else (if same_text name (codes "WHO") then Caller
     else (if same_text name (codes "NONE") then Nothing else Variable name)))
 
+-- a text with other groups than this program reads in it: `${[}`
+abbrev pub own_reads : List ℕ → Bool
+own_reads text = not (same_text text (codes "${[}"))
+
+-- the expression `$[?]` is not known, and `$[!]` is `0`
+abbrev pub own_expression : List ℕ → ExpressionReading
+own_expression body =
+    if same_text body (codes "?") then readings.Unknown else (if same_text body (codes "!") then readings.Zero else readings.Value)
+
 -- the functions
 abbrev pub own_functions : FunctionTable
-own_functions = record { value = own_value; knows = own_knows; knows_name = own_knows_name; target = own_target }
+own_functions = record {
+  value = own_value;
+  knows = own_knows;
+  knows_name = own_knows_name;
+  reads = own_reads;
+  expression = own_expression;
+  target = own_target;
+}

@@ -4,13 +4,14 @@ ghost use Rattle.dp_own_table.specs.OwnFunctions as spec;
 
 use dp_conf::NoMemory;
 use dp_vars::{
-    Counts, FoundValue, FunctionName, FunctionValue, Functions, Scope, StandardFunctions, Target,
-    is_set, variable,
+    Counts, ExpressionReading, FoundValue, FunctionName, FunctionValue, Functions, Scope,
+    StandardFunctions, Target, is_set, variable,
 };
 use std::alloc::Global;
 
 /// `TWICE(text)`: the text twice. `BOX(key)`: the variable of that very name, which is known where it was set. `AWAY(x)` is never
-/// known. The other names are those of the program. The variable `STATUS` is known where it was set.
+/// known. The other names are those of the program. The variable `STATUS` is known where it was set. The expression `$[?]` is not known,
+/// and `$[!]` is `0`. The text `${[}` has other groups than this program reads in it.
 pub struct OwnFunctions;
 
 /// The name of the variable that `BOX(key)` is.
@@ -65,6 +66,20 @@ impl Functions for OwnFunctions {
 
     fn knows_name<B, C: Counts>(scope: &Scope<'_, B, C>, name: &[u8]) -> bool {
         name != b"STATUS".as_slice() || is_set(scope, name)
+    }
+
+    fn reads(_alloc: Global, text: &[u8]) -> Result<bool, NoMemory> {
+        Ok(text != b"${[}".as_slice())
+    }
+
+    fn expression(_alloc: Global, body: &[u8]) -> Result<ExpressionReading, NoMemory> {
+        if body == b"?".as_slice() {
+            Ok(ExpressionReading::Unknown)
+        } else if body == b"!".as_slice() {
+            Ok(ExpressionReading::Zero)
+        } else {
+            Ok(ExpressionReading::Value)
+        }
     }
 
     fn target(name: &[u8]) -> Target<'_> {

@@ -11,7 +11,7 @@ use Rattle.dp_queue.specs.declared.fault.QueueFault.{QueueFault}
 use Rattle.dp_queue.specs.declared.fault.QueueFault.TheVariants.{Conf as queue_conf, Queue, NoMemory as queue_no_memory}
 use Rattle.dp_machine.specs.World.{opening}
 use Rattle.dp_commands.specs.Run.{Files, Run, RunContents, Writes, contents_of, files_of, plan_fault, queue_fault, queues_of, run_of, run_on}
-use Rattle.dp_commands.specs.Script.{line_of, reading_at, reading_of, script_of, turns_of, words_of}
+use Rattle.dp_commands.specs.Script.{line_in, reading_at, reading_by, script_of, turns_of}
 use Rattle.dp_commands.specs.declared.fault.PbxFault.{PbxFault}
 use Rattle.dp_commands.specs.declared.fault.PbxFault.TheVariants.{Coded, NoMemory}
 use Rattle.dp_commands.specs.declared.script.ScriptLine.{ScriptLine}
@@ -42,22 +42,23 @@ queues_read : (text : Option (List ℕ)) → has_read_failed (queues_of text) �
 queues_read None = refl
 queues_read (Some text) = queue_reads (queues_loaded text)
 
-line_reads : (line : ℕ) (read : Option (List ScriptLine)) → has_read_failed (reading_at line read) ≡ false
-line_reads line None = refl
-line_reads line (Some lines) = refl
+module _ {U : Type 0} where
+  line_reads : (line : ℕ) (read : Option (List (ScriptLine U))) → has_read_failed (reading_at line read) ≡ false
+  line_reads line None = refl
+  line_reads line (Some lines) = refl
 
-lines_read : (second_plan : Option (List ℕ)) (before parts : List (List ℕ))
-    → has_read_failed (all_of (each_after (reading_of second_plan) before parts)) ≡ false
-lines_read second_plan before [] = refl
-lines_read second_plan before (part ∷ parts) =
-    let later : Result (List ScriptLine) PbxFault = all_of (each_after (reading_of second_plan) (before ++ part ∷ []) parts) in
-    next_reads (reading_of second_plan before part) (λ xs. with_front xs later)
-    (line_reads (length before + 1) (line_of second_plan (words_of part)))
-    (λ xs. next_reads later (λ ys. Ok (xs ++ ys)) (lines_read second_plan (before ++ part ∷ []) parts) (λ ys. refl))
+  lines_read : (stands_for : List ℕ → Option (List (ScriptLine U))) (before parts : List (List ℕ))
+      → has_read_failed (all_of (each_after (reading_by stands_for) before parts)) ≡ false
+  lines_read stands_for before [] = refl
+  lines_read stands_for before (part ∷ parts) =
+      let later : Result (List (ScriptLine U)) PbxFault = all_of (each_after (reading_by stands_for) (before ++ part ∷ []) parts) in
+      next_reads (reading_by stands_for before part) (λ xs. with_front xs later)
+      (line_reads (length before + 1) (stands_for part))
+      (λ xs. next_reads later (λ ys. Ok (xs ++ ys)) (lines_read stands_for (before ++ part ∷ []) parts) (λ ys. refl))
 
 script_reads : (second_plan : Option (List ℕ)) (text : List ℕ) → has_read_failed (script_of second_plan text) ≡ false
 unfolding script_of
-script_reads second_plan text = lines_read second_plan [] (parts_of text)
+script_reads second_plan text = lines_read (line_in second_plan) [] (parts_of text)
 
 files_read : (plan : List ℕ) (queues : Option (List ℕ)) → has_read_failed (files_of plan queues) ≡ false
 files_read plan queues =

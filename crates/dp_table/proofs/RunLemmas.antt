@@ -11,7 +11,7 @@ use Rattle.dp_app.specs.declared.touch.Touch.{Touch}
 use Rattle.dp_table.specs.Standard.{standard_blind, standard_rows, standard_table, standard_touches}
 
 -- where an application of a list has the name, its row is that of the table
-row_there : (touches : List ℕ → Touch) (rows : Rows) → IsBlind touches rows → (listed : List Listed) → AreOfTable rows listed
+pub row_there : (touches : List ℕ → Touch) (rows : Rows) → IsBlind touches rows → (listed : List Listed) → AreOfTable rows listed
     → (place : ℕ) (name : List ℕ) (row : Row) → row_at listed place name ≡ Some row → rows name ≡ Some row
 row_there touches rows blind [] are place name row h = absurd (none-some row h)
 row_there touches rows blind (a ∷ rest) are zero name row h = by (same_word name a.title) refl h

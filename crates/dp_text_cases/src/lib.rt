@@ -9,3 +9,5 @@ mod conf;
 mod expr;
 #[cfg(test)]
 mod pattern;
+#[cfg(test)]
+mod readings;

@@ -1,5 +1,5 @@
 -- What is written, the openings that wait in it, and what is still to be read, come to the expansion of the whole.
-use Rattle.std.proofs.Common.{◌≡◌, ◌≤◌, ◌+◌, ℕ, List, [], ◌∷◌, ◌++◌, length, take, drop, length-append, append_assoc, sym, ap, ◌∙◌, arith}
+use Rattle.std.proofs.Common.{◌≡◌, ◌≤◌, ◌+◌, ℕ, Bool, cond, List, [], ◌∷◌, ◌++◌, length, take, drop, length-append, append_assoc, sym, ap, ◌∙◌, arith}
 use Rattle.std.proofs.lemmas.List.{append-nil, length-take}
 use Rattle.std.proofs.Math.Seq.{take-append_seam, drop-append-add}
 use Rattle.dp_conf.proofs.GroupsLemmas.{levels-last}
@@ -13,11 +13,13 @@ use Rattle.dp_vars.specs.Sights.{Sight}
 use Rattle.dp_conf.specs.Levels.{cut_outside}
 use Rattle.dp_conf.specs.declared.groups.GroupKind.TheVariants.{Braces, Brackets}
 use Rattle.dp_expr.specs.Expression.{expression_value}
-use Rattle.dp_vars.specs.Unknown.{unknown_body, unknown_group}
-use Rattle.dp_vars.specs.Values.{group_value_with, body_by_with, expansion_of_with, expansion_with}
+use Rattle.dp_vars.specs.Unknown.{earlier, unknown_body, unknown_expression, unknown_group}
+use Rattle.dp_vars.specs.Values.{group_value_with, body_by_with, expansion_of_with, expansion_with, value_read}
 use Rattle.dp_vars.specs.Expanding.{Written, with_value, after_group, after}
 use Rattle.dp_vars.specs.steps.Expanding.{kinds_of, StandIn, AreWritten}
+use Rattle.dp_vars.specs.steps.Told.{body_name, knows_body}
 use Rattle.dp_vars.specs.declared.expanding.WaitingOpening.{WaitingOpening}
+use Rattle.dp_vars.proofs.ToldLemmas.{told-body}
 
 -- the openings stand in any larger size too
 pub StandIn-more : (waiting : List WaitingOpening) (size more : ℕ) → size ≤ more → StandIn waiting size → StandIn waiting more
@@ -33,19 +35,40 @@ module _ (functions : FunctionTable) (sight : Sight) where
   put-braces start old cut new value body put kept is from =
       put ∙ (λ i. kept i ++ (is ∙ ap (λ b. body_by_with functions sight b (cut_outside 58 b)) from) i)
 
-  -- the call in braces that is not known
-  pub put-unknown : (start : ℕ) (old call body : List ℕ) → call ≡ unknown_body functions sight body (cut_outside 58 body) → body ≡ drop (start + 2) old
-      → call ≡ unknown_group functions sight Braces (drop (start + 2) old)
+  -- the name or the call in braces that is not known
+  pub put-unknown : (start : ℕ) (old kept new body : List ℕ) (is_known : Bool)
+      → new ≡ earlier kept (cond is_known [] (body_name body (cut_outside 58 body)))
+      → is_known ≡ knows_body functions sight body (cut_outside 58 body) → body ≡ drop (start + 2) old
+      → new ≡ earlier kept (unknown_group functions sight Braces (drop (start + 2) old))
   unfolding unknown_group
-  put-unknown start old call body is from = is ∙ ap (λ b. unknown_body functions sight b (cut_outside 58 b)) from
+  put-unknown start old kept new body is_known is known from =
+      is ∙ ap (λ k. earlier kept (cond k [] (body_name body (cut_outside 58 body)))) known
+      ∙ ap (earlier kept) (told-body functions sight body (cut_outside 58 body))
+      ∙ ap (λ b. earlier kept (unknown_body functions sight b (cut_outside 58 b))) from
+
+  -- the same, where nothing was kept before
+  pub named-unknown : (kept new body : List ℕ) (is_known : Bool) → kept ≡ []
+      → new ≡ earlier kept (cond is_known [] (body_name body (cut_outside 58 body)))
+      → is_known ≡ knows_body functions sight body (cut_outside 58 body)
+      → new ≡ unknown_group functions sight Braces body
+  unfolding unknown_group
+  named-unknown kept new body is_known none is known =
+      is ∙ (λ i. earlier (none i) (cond (known i) [] (body_name body (cut_outside 58 body)))) ∙ told-body functions sight body (cut_outside 58 body)
 
   -- a group in brackets, whose value is put in its place
   pub put-brackets : (start : ℕ) (old cut new value body : List ℕ) → new ≡ cut ++ value → cut ≡ take start old
-      → value ≡ expression_value body → body ≡ drop (start + 2) old
+      → value ≡ value_read (functions.expression body) (expression_value body) → body ≡ drop (start + 2) old
       → new ≡ take start old ++ group_value_with functions sight Brackets (drop (start + 2) old)
   unfolding group_value_with
   put-brackets start old cut new value body put kept is from =
-      put ∙ (λ i. kept i ++ (is ∙ ap expression_value from) i)
+      put ∙ (λ i. kept i ++ (is ∙ ap (λ b. value_read (functions.expression b) (expression_value b)) from) i)
+
+  -- the expression in brackets that is not known
+  pub put-unknown_expression : (start : ℕ) (old kept new body : List ℕ) → new ≡ earlier kept (unknown_expression (functions.expression body) body)
+      → body ≡ drop (start + 2) old → new ≡ earlier kept (unknown_group functions sight Brackets (drop (start + 2) old))
+  unfolding unknown_group
+  put-unknown_expression start old kept new body is from =
+      is ∙ ap (λ b. earlier kept (unknown_expression (functions.expression b) b)) from
 
   -- the expansion of the whole, by what is written, the openings that wait in it, and the levels after
   abbrev pub come : List WaitingOpening → List ℕ → Levels → List ℕ

@@ -1,13 +1,15 @@
 -- By the standard functions no name and no call is unknown.
-use Rattle.std.proofs.Common.{◌≡◌, ℕ, List, [], Option, Some, None, refl, ap}
+use Rattle.std.proofs.Common.{◌≡◌, ℕ, Bool, true, false, ◌&&◌, if◌then◌else◌, List, [], Option, Some, None, refl, ap}
+use Rattle.std.specs.Option.{option_or}
 use Rattle.dp_conf.specs.Cut.{before_last, cut_once}
 use Rattle.dp_conf.specs.Groups.{Reading, Over, Plain, Group}
 use Rattle.dp_conf.specs.GroupsRead.{reading_of}
 use Rattle.dp_conf.specs.Levels.{cut_outside}
 use Rattle.dp_conf.specs.declared.groups.GroupKind.{GroupKind}
 use Rattle.dp_conf.specs.declared.groups.GroupKind.TheVariants.{Braces, Brackets}
+use Rattle.dp_vars.specs.Openings.{has_opening}
 use Rattle.dp_vars.specs.Sights.{Sight}
-use Rattle.dp_vars.specs.Unknown.{any_text, earlier, first_unknown, unknown_body, unknown_calls, unknown_group, unknown_head, unknown_names, unknown_of}
+use Rattle.dp_vars.specs.Unknown.{any_text, earlier, first_unknown, unknown_in_groups, unknown_body, unknown_calls, unknown_group, unknown_head, unknown_names, unknown_of}
 use Rattle.dp_vars.specs.Values.{call_argument_with, expansion_of_with, head_by_with, head_value_with, standard_functions}
 
 -- the standard functions are all known
@@ -41,4 +43,8 @@ standard-of sight (Group kind inside rest) =
     (earlier (standard-group sight kind (expansion_of_with standard_functions sight inside) i) (standard-of sight rest i))
 
 pub standard-known : (sight : Sight) (text : List ℕ) → first_unknown standard_functions sight text ≡ None
-standard-known sight text = ap any_text (standard-of sight (reading_of text))
+standard-known sight text = by (has_opening text)
+  where
+    by : (opens : Bool) → option_or (if opens && false then Some text else None) (unknown_in_groups standard_functions sight text) ≡ None
+    by true = ap any_text (standard-of sight (reading_of text))
+    by false = ap any_text (standard-of sight (reading_of text))

@@ -13,6 +13,7 @@ pub mod PartsLemmas
 pub mod ValuesLemmas
 pub mod ExpandingLemmas
 pub mod FunctionsLemmas
+pub mod ToldLemmas
 pub mod UnknownLemmas
 pub mod KnownLemmas
 pub mod HeadsLemmas

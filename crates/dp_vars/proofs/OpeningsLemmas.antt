@@ -1,13 +1,13 @@
 -- A text in which nothing opens a group is its own expansion.
-use Rattle.std.proofs.Common.{◌≡◌, ℕ, false, ◌||◌, List, [], ◌∷◌, Option, Some, None, refl, ap, ◌∙◌}
-use Rattle.std.specs.Option.{is_some}
+use Rattle.std.proofs.Common.{◌≡◌, ℕ, false, ◌||◌, ◌&&◌, not, if◌then◌else◌, List, [], ◌∷◌, Option, Some, None, refl, ap, ◌∙◌}
+use Rattle.std.specs.Option.{is_some, option_or}
 use Rattle.dp_conf.specs.declared.groups.GroupKind.{GroupKind}
 use Rattle.dp_conf.specs.Groups.{Reading, Over, Plain, opening}
 use Rattle.dp_conf.specs.GroupsRead.{Last, mark_of, with_byte, with_mark, levels, first_level, reading_of}
 use Rattle.dp_vars.specs.Openings.{has_opening}
 use Rattle.dp_vars.specs.Functions.{FunctionTable}
 use Rattle.dp_vars.specs.Sights.{Sight}
-use Rattle.dp_vars.specs.Unknown.{any_text, first_unknown, unknown_of}
+use Rattle.dp_vars.specs.Unknown.{any_text, first_unknown, unknown_in_groups, unknown_of}
 use Rattle.dp_vars.specs.Values.{expansion_of_with, expansion_with}
 
 -- plain bytes alone
@@ -47,4 +47,5 @@ unknown_of-plain functions sight (b ∷ bs) = unknown_of-plain functions sight b
 pub unknown-none : (functions : FunctionTable) (sight : Sight) (text : List ℕ) → has_opening text ≡ false → first_unknown functions sight text ≡ None
 unfolding reading_of
 unknown-none functions sight text none =
-    ap (λ levels. any_text (unknown_of functions sight (first_level levels))) (levels-plain text none) ∙ ap any_text (unknown_of-plain functions sight text)
+    ap (λ opens. option_or (if opens && not (functions.reads text) then Some text else None) (unknown_in_groups functions sight text)) none
+    ∙ ap (λ levels. any_text (unknown_of functions sight (first_level levels))) (levels-plain text none) ∙ ap any_text (unknown_of-plain functions sight text)

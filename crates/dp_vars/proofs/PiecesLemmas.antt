@@ -17,7 +17,7 @@ use Rattle.dp_vars.specs.Functions.{FunctionTable}
 use Rattle.dp_vars.specs.Sights.{Sight}
 use Rattle.dp_vars.specs.Spans.{text_at}
 use Rattle.dp_vars.specs.steps.Spans.{span_at}
-use Rattle.dp_vars.specs.Values.{expansion_with}
+use Rattle.dp_vars.specs.Values.{expansion_with, value_read}
 use Rattle.dp_vars.specs.Unknown.{earlier, unknown_group, unknown_of}
 use Rattle.dp_vars.specs.declared.head.Head.TheVariants as heads
 use Rattle.dp_vars.specs.declared.expanding.WaitingOpening.{WaitingOpening}
@@ -153,7 +153,8 @@ module _ (functions : FunctionTable) (sight : Sight) (text : List ℕ) where
   AreWritten-past (Call function argument) written stand = AreWritten-more written (head_seen functions sight text (heads.Call function argument)) stand
   AreWritten-past (Other call) written stand = AreWritten-more written (head_seen functions sight text (heads.Other call.value.name call.value.argument)) stand
   AreWritten-past (Part cut) written stand = AreWritten-more written (part_seen text cut.value (head_seen functions sight text cut.value.head)) stand
-  AreWritten-past (Known value) written stand = AreWritten-more written value.value.items stand
+  AreWritten-past (Known known) written stand =
+      AreWritten-more written (value_read (functions.expression (text_at text known.value.body)) known.value.value.items) stand
   AreWritten-past Empty written stand = AreWritten-more written [] stand
   AreWritten-past (Begins kind) written stand = AreWritten-after functions sight (Opening kind) written stand
   AreWritten-past Ends written stand = AreWritten-after functions sight End written stand

@@ -12,13 +12,16 @@ use Rattle.dp_conf.specs.GroupsRead.{Levels, Last, Within, with_byte, with_openi
 use Rattle.dp_expr.specs.Expression.{expression_value}
 use Rattle.dp_vars.specs.Functions.{FunctionTable}
 use Rattle.dp_vars.specs.Sights.{Sight}
-use Rattle.dp_vars.specs.Values.{group_value_with, expansion_of_with}
+use Rattle.dp_vars.specs.Values.{group_value_with, expansion_of_with, value_read}
 use Rattle.dp_vars.specs.Expanding.{Written, body_in, with_value, after_group, after}
-use Rattle.dp_vars.specs.Pieces.{with_bytes}
-use Rattle.dp_vars.specs.Unknown.{earlier, unknown_group, unknown_of}
+use Rattle.dp_vars.specs.Pieces.{with_expression, with_found}
+use Rattle.dp_vars.specs.Spans.{text_at}
+use Rattle.dp_vars.specs.Unknown.{earlier, unknown_expression, unknown_group, unknown_of}
 use Rattle.dp_vars.specs.steps.Expanding.{kinds_of}
 use Rattle.dp_vars.specs.steps.Pieces.{with_group}
 use Rattle.dp_vars.specs.declared.expanding.WaitingOpening.{WaitingOpening}
+use Rattle.dp_vars.specs.declared.span.Span.{Span}
+use Rattle.dp_vars.specs.declared.text_piece.KnownExpression.{KnownExpression}
 use Rattle.dp_vars.proofs.ExpandingLemmas.{value_at_end}
 
 pub earlier-none : (text : List ℕ) → earlier text [] ≡ text
@@ -39,12 +42,14 @@ pub earlier-kept : (old new : List ℕ) → length old ≢ 0 → old ≡ earlier
 earlier-kept [] new some = absurd (some refl)
 earlier-kept (byte ∷ old) new some = refl
 
--- in brackets nothing is called
-pub with_brackets : (functions : FunctionTable) (sight : Sight) (written : Written) (value body : List ℕ) → value ≡ expression_value body
-    → with_bytes written value ≡ with_group functions sight Brackets written body
+-- an expression of which the value is there
+pub with_brackets : (functions : FunctionTable) (sight : Sight) (text : List ℕ) (written : Written) (known : KnownExpression) (place : Span)
+    → known.body ≡ place → known.value.items ≡ expression_value (text_at text place)
+    → with_expression functions text written known ≡ with_group functions sight Brackets written (text_at text place)
 unfolding group_value_with unknown_group
-with_brackets functions sight written value body is =
-    λ i. record { bytes = written.bytes ++ is i; waiting = written.waiting; unknown = sym (earlier-none written.unknown) i }
+with_brackets functions sight text written known place there is =
+    λ i. with_found written (value_read (functions.expression (text_at text (there i))) (is i))
+    (unknown_expression (functions.expression (text_at text (there i))) (text_at text (there i)))
 
 module _ (functions : FunctionTable) (sight : Sight) where
   -- the first call of the whole, by what is written, the openings that wait in it, the first call so far, and the levels after

@@ -1,5 +1,6 @@
 -- Tables of functions: what a name between `${` and `(` comes to, and what setting such a name from outside sets.
 use Rattle.std.specs.Prelude.{ℕ, List, Bool}
+use Rattle.dp_expr.specs.declared.reading.ExpressionReading.{ExpressionReading}
 use Rattle.dp_vars.specs.Sights.{Sight}
 use Rattle.dp_vars.specs.declared.functions.Target.{Target}
 use Rattle.dp_vars.specs.declared.functions.Target.TheVariants as targets
@@ -21,9 +22,12 @@ target_seen targets.Caller = Caller
 target_seen targets.Nothing = Nothing
 
 -- what the functions of a table come to: the value of a name and an argument, whether the name and the argument are
--- known, whether the value of a plain name is, and what setting a name from outside sets
+-- known, whether the value of a plain name is, whether a text has the groups that this program reads in it, what an expression
+-- comes to beside its value, and what setting a name from outside sets
 pub record FunctionTable : Type 0 where
   pub value : Sight → List ℕ → List ℕ → List ℕ
   pub knows : Sight → List ℕ → List ℕ → Bool
   pub knows_name : Sight → List ℕ → Bool
+  pub reads : List ℕ → Bool
+  pub expression : List ℕ → ExpressionReading
   pub target : List ℕ → SettingTarget

@@ -7,11 +7,12 @@ use Rattle.dp_vars.specs.Functions.{FunctionTable}
 use Rattle.dp_vars.specs.Heads.{head_seen, part_seen, unknown_seen}
 use Rattle.dp_vars.specs.Sights.{Sight}
 use Rattle.dp_vars.specs.Spans.{text_at}
-use Rattle.dp_vars.specs.Unknown.{earlier, unknown_of}
-use Rattle.dp_vars.specs.Values.{expansion_with}
+use Rattle.dp_vars.specs.Unknown.{earlier, unknown_expression, unknown_of}
+use Rattle.dp_vars.specs.Values.{expansion_with, value_read}
 use Rattle.dp_vars.specs.declared.head.CutPart.{CutPart}
 use Rattle.dp_vars.specs.declared.head.Head.{Head}
 use Rattle.dp_vars.specs.declared.head.Head.TheVariants as heads
+use Rattle.dp_vars.specs.declared.text_piece.KnownExpression.{KnownExpression}
 use Rattle.dp_vars.specs.declared.text_piece.TextPiece.{TextPiece}
 use Rattle.dp_vars.specs.declared.text_piece.TextPiece.TheVariants.{Run, Name, Call, Other, Part, Known, Empty, Begins, Ends}
 
@@ -34,6 +35,12 @@ abbrev pub with_cut : FunctionTable → Sight → List ℕ → Written → CutPa
 with_cut functions sight text written cut =
     with_found written (part_seen text cut (head_seen functions sight text cut.head)) (unknown_seen functions sight text cut.head)
 
+-- what is written with an expression, of which the value is there
+abbrev pub with_expression : FunctionTable → List ℕ → Written → KnownExpression → Written
+with_expression functions text written known =
+    with_found written (value_read (functions.expression (text_at text known.body)) known.value.items)
+    (unknown_expression (functions.expression (text_at text known.body)) (text_at text known.body))
+
 -- after a piece
 abbrev pub past : FunctionTable → Sight → List ℕ → Written → TextPiece → Written
 past functions sight text written (Run span) = with_bytes written (text_at text span)
@@ -41,7 +48,7 @@ past functions sight text written (Name name) = with_head functions sight text w
 past functions sight text written (Call function argument) = with_head functions sight text written (heads.Call function argument)
 past functions sight text written (Other call) = with_head functions sight text written (heads.Other call.value.name call.value.argument)
 past functions sight text written (Part cut) = with_cut functions sight text written cut.value
-past functions sight text written (Known value) = with_bytes written value.value.items
+past functions sight text written (Known known) = with_expression functions text written known.value
 past functions sight text written Empty = with_head functions sight text written heads.Empty
 past functions sight text written (Begins kind) = after functions sight (Opening kind) written
 past functions sight text written Ends = after functions sight End written

@@ -1,12 +1,17 @@
--- The first name or call in a text that a table of functions does not know, in the order in which groups are expanded. As a text
--- it is empty where all are known; a call itself never is.
-use Rattle.std.specs.Prelude.{ℕ, false, true, List, [], ◌∷◌, ◌++◌, Option, Some, None, if◌then◌else◌}
+-- What is unknown in a text by a table of functions: the text itself, where the table reads other groups in it, or the first name,
+-- call or expression that the table does not know, in the order in which groups are expanded. As a text this is empty where all are
+-- known; a call and an expression never are.
+use Rattle.std.specs.Prelude.{ℕ, false, true, ◌&&◌, not, List, [], ◌∷◌, ◌++◌, Option, Some, None, if◌then◌else◌}
+use Rattle.std.specs.Option.{option_or}
 use Rattle.dp_conf.specs.Groups.{Reading, Over, Plain, Group}
 use Rattle.dp_conf.specs.GroupsRead.{reading_of}
 use Rattle.dp_conf.specs.Levels.{cut_outside}
 use Rattle.dp_conf.specs.declared.groups.GroupKind.{GroupKind}
 use Rattle.dp_conf.specs.declared.groups.GroupKind.TheVariants.{Braces, Brackets}
+use Rattle.dp_expr.specs.declared.reading.ExpressionReading.{ExpressionReading}
+use Rattle.dp_expr.specs.declared.reading.ExpressionReading.TheVariants as readings
 use Rattle.dp_vars.specs.Functions.{FunctionTable}
+use Rattle.dp_vars.specs.Openings.{has_opening}
 use Rattle.dp_vars.specs.Sights.{Sight}
 use Rattle.dp_vars.specs.Values.{expansion_of_with, head_value_with}
 
@@ -34,6 +39,8 @@ unknown_calls functions sight = record {
   value = λ unused name argument. unknown_call functions sight name argument;
   knows = λ unused name argument. true;
   knows_name = λ unused name. true;
+  reads = functions.reads;
+  expression = functions.expression;
   target = functions.target;
 }
 
@@ -63,10 +70,20 @@ abbrev pub unknown_body : FunctionTable → Sight → List ℕ → Option (List 
 unknown_body functions sight body None = unknown_head functions sight body
 unknown_body functions sight body (Some cut) = unknown_head functions sight cut.0
 
--- the head of a group in braces, by its expanded body; in brackets nothing is called
+-- an expression as it stands in a text
+abbrev pub expression_text : List ℕ → List ℕ
+expression_text body = 36 ∷ 91 ∷ (body ++ 93 ∷ [])
+
+-- an expression that is not known, by how the table reads it
+abbrev pub unknown_expression : ExpressionReading → List ℕ → List ℕ
+unknown_expression readings.Value body = []
+unknown_expression readings.Zero body = []
+unknown_expression readings.Unknown body = expression_text body
+
+-- the head of a group in braces, or the expression in brackets, by its expanded body
 unfoldable pub unknown_group : FunctionTable → Sight → GroupKind → List ℕ → List ℕ
 unknown_group functions sight Braces body = unknown_body functions sight body (cut_outside 58 body)
-unknown_group functions sight Brackets body = []
+unknown_group functions sight Brackets body = unknown_expression (functions.expression body) body
 
 -- the first one in a reading: what stands inside of a group comes before the group, and what follows comes after it
 unfoldable pub unknown_of : FunctionTable → Sight → Reading → List ℕ
@@ -76,6 +93,14 @@ unknown_of functions sight (Group kind inside rest) =
     earlier (unknown_of functions sight inside)
     (earlier (unknown_group functions sight kind (expansion_of_with functions sight inside)) (unknown_of functions sight rest))
 
--- the first one in a text, where there is one
+-- a text in which the table reads other groups than this program does
+abbrev pub read_otherwise : FunctionTable → List ℕ → Option (List ℕ)
+read_otherwise functions text = if has_opening text && not (functions.reads text) then Some text else None
+
+-- the first one in the groups of a text, where there is one
+abbrev pub unknown_in_groups : FunctionTable → Sight → List ℕ → Option (List ℕ)
+unknown_in_groups functions sight text = any_text (unknown_of functions sight (reading_of text))
+
+-- the text itself, where other groups are read in it, or the first one in its groups
 abbrev pub first_unknown : FunctionTable → Sight → List ℕ → Option (List ℕ)
-first_unknown functions sight text = any_text (unknown_of functions sight (reading_of text))
+first_unknown functions sight text = option_or (read_otherwise functions text) (unknown_in_groups functions sight text)

@@ -9,6 +9,8 @@ use Rattle.dp_conf.specs.Words.{same_text}
 use Rattle.dp_conf.specs.declared.groups.GroupKind.{GroupKind}
 use Rattle.dp_conf.specs.declared.groups.GroupKind.TheVariants.{Braces, Brackets}
 use Rattle.dp_expr.specs.Expression.{expression_value}
+use Rattle.dp_expr.specs.declared.reading.ExpressionReading.{ExpressionReading}
+use Rattle.dp_expr.specs.declared.reading.ExpressionReading.TheVariants as readings
 use Rattle.dp_vars.specs.Functions.{FunctionTable, Variable}
 use Rattle.dp_vars.specs.Parts.{asked_of, part}
 use Rattle.dp_vars.specs.Sights.{Sight}
@@ -45,13 +47,15 @@ function_value sight (Some Len) argument = decimal (length argument)
 function_value sight (Some CallerId) argument = caller_value sight.caller argument
 function_value sight (Some QueueWaitingCount) argument = decimal (sight.waiting argument)
 
--- the table of these functions: it knows each name, since any other function and any variable that is not set are empty, and
--- setting a name sets the variable
+-- the table of these functions: it knows each name, since any other function and any variable that is not set are empty, groups
+-- are as this program reads them, an expression has its value, and setting a name sets the variable
 abbrev pub standard_functions : FunctionTable
 standard_functions = record {
   value = λ sight name argument. function_value sight (function_of name) argument;
   knows = λ sight name argument. true;
   knows_name = λ sight name. true;
+  reads = λ text. true;
+  expression = λ body. readings.Value;
   target = λ name. Variable name;
 }
 
@@ -74,11 +78,17 @@ abbrev pub body_by_with : FunctionTable → Sight → List ℕ → Option (List 
 body_by_with functions sight body None = head_value_with functions sight body
 body_by_with functions sight body (Some cut) = part (asked_of (Some cut.1)) (head_value_with functions sight cut.0)
 
+-- what an expression comes to where this is its value, by how the table reads it
+abbrev pub value_read : ExpressionReading → List ℕ → List ℕ
+value_read readings.Value value = value
+value_read readings.Zero value = 48 ∷ []
+value_read readings.Unknown value = value
+
 -- the value of the expanded body of a group: in braces what stands before the first `:` outside parentheses is a
 -- variable or a function, and what stands after it asks for a part of the value; in brackets the body is an expression
 unfoldable pub group_value_with : FunctionTable → Sight → GroupKind → List ℕ → List ℕ
 group_value_with functions sight Braces body = body_by_with functions sight body (cut_outside 58 body)
-group_value_with functions sight Brackets body = expression_value body
+group_value_with functions sight Brackets body = value_read (functions.expression body) (expression_value body)
 
 -- a reading with each group replaced by the value of its expanded body; values are not read again
 unfoldable pub expansion_of_with : FunctionTable → Sight → Reading → List ℕ

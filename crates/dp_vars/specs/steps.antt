@@ -4,3 +4,4 @@ pub mod Expanding
 pub mod Pieces
 pub mod Spans
 pub mod Tables
+pub mod Told

@@ -1,24 +1,26 @@
 //! A text on the way to its expansion, in one pass with no recursion.
-ghost use Rattle.std.specs.Option.{option_map};
+ghost use Rattle.std.specs.Option.{option_map, option_or};
 ghost use Rattle.std.specs.Prelude.{◌≡◌, ◌+◌, ◌≤◌, [], ◌∷◌, ◌++◌, IfOk, OnOk, drop, length, take, vec_len};
 ghost use Rattle.dp_conf.specs.Groups as groups;
 ghost use Rattle.dp_conf.specs.GroupsRead.{first_of};
 ghost use Rattle.dp_conf.specs.declared.groups.GroupKind.TheVariants as kinds;
 ghost use Rattle.dp_vars.specs.Expanding as steps;
 ghost use Rattle.dp_vars.specs.steps.Expanding as steps_steps;
-ghost use Rattle.dp_vars.specs.Functions.{FunctionTable};
-ghost use Rattle.dp_vars.specs.Pieces.{blank, past, past_all, with_cut, with_head};
+ghost use Rattle.dp_vars.specs.Pieces.{blank, past, past_all, with_cut, with_expression, with_head};
 ghost use Rattle.dp_vars.specs.Sights as sights;
 ghost use Rattle.dp_vars.specs.Unknown.{any_text, earlier, unknown_group};
+ghost use Rattle.dp_vars.specs.Unknown as unknowns;
 ghost use Rattle.dp_vars.specs.Values as values;
 
 use crate::functions::Functions;
 use crate::head::{CutPart, Head, push_cut, push_full};
+use crate::naming::{note_body, note_expression, note_head};
+use crate::opening::has_opening;
 use crate::reference::{Called, Reference, push_value, read_reference};
 use crate::scope::{Counts, Scope};
-use crate::text_piece::{OtherCall, TextPiece};
+use crate::text_piece::{KnownExpression, OtherCall, TextPiece};
 use dp_conf::{GroupKind, Mark, NoMemory};
-use dp_expr::evaluate;
+use dp_expr::{ExpressionReading, Value, evaluate};
 use smallvec::SmallVec;
 use std::alloc::Global;
 use std::marker::Model;
@@ -41,11 +43,45 @@ impl Default for WaitingOpening {
     }
 }
 
-/// An expanded text, and the first call in it of a function that is not known, as `DB(a/b)`.
+/// An expanded text, and the first name, call or expression in it that is not known, as `DB(a/b)`, or the text before it is expanded
+/// where other groups are read in it.
 #[derive(Drop)]
 pub struct Expanded {
     pub bytes: Vec<u8>,
     pub unknown: Option<Vec<u8>>,
+}
+
+/// The text, where the table reads other groups in it than this program does.
+#[inline(always)]
+fn read_otherwise<F: Functions>(alloc: Global, text: &[u8]) -> Result<Option<Vec<u8>>, NoMemory>
+    ensures { IfOk result (λ otherwise. option_map (λ bytes. bytes.items) otherwise ≡ unknowns.read_otherwise F.table text.now) }
+{
+    if F::reads(alloc, text)? || !has_opening(text) {
+        return Ok(None);
+    }
+    let text = Vec::from_slice(alloc, text)?;
+    Ok(Some(text))
+}
+
+impl Expanded {
+    /// What is expanded of this text, which itself is not known where the table reads other groups in it.
+    #[inline(always)]
+    pub(crate) fn of<F: Functions>(self, alloc: Global, text: &[u8]) -> Result<Self, NoMemory>
+        ensures bytes { IfOk result (λ expanded. expanded.bytes.items ≡ self.bytes.items) }
+        ensures unknown { IfOk result (λ expanded. option_map (λ bytes. bytes.items) expanded.unknown
+            ≡ option_or (unknowns.read_otherwise F.table text.now) (option_map (λ bytes. bytes.items) self.unknown)) }
+    {
+        match read_otherwise::<F>(alloc, text)? {
+            None => Ok(self),
+            Some(text) => {
+                let Expanded { bytes, unknown: _ } = self;
+                Ok(Expanded {
+                    bytes,
+                    unknown: Some(text),
+                })
+            }
+        }
+    }
 }
 
 /// Bytes, where there are any.
@@ -61,7 +97,7 @@ fn any_text(bytes: Vec<u8>) -> Option<Vec<u8>>
 pub(crate) struct Expanding {
     bytes: Vec<u8>,
     waiting: SmallVec<WaitingOpening, 2>,
-    /// The first call of a function that is not known, or no bytes.
+    /// What is the first that is not known, or no bytes.
     unknown: Vec<u8>,
 }
 
@@ -78,25 +114,29 @@ impl Model for Expanding {
     } };
 }
 
-/// Puts the value of a body in braces in place of the group, and gives the call that is not known, or no bytes.
+/// Puts the value of a body in braces in place of the group, and keeps the name that it refers to where that is not known and the
+/// first.
 fn put_reference<F: Functions, B, C: Counts>(
     alloc: Global,
     scope: &Scope<'_, B, C>,
     bytes: &mut Vec<u8>,
+    noted: &mut Vec<u8>,
     start: usize,
-) -> Result<Vec<u8>, NoMemory>
+) -> Result<(), NoMemory>
     requires { start + 2 ≤ vec_len bytes.old }
     ensures value { OnOk result (bytes.new.items ≡ take start bytes.old.items
         ++ values.group_value_with F.table (sights.sight_of C.count scope.now) GroupKind.Braces (drop (start + 2) bytes.old.items)) }
-    ensures unknown { IfOk result (λ text. text.items
-        ≡ unknown_group F.table (sights.sight_of C.count scope.now) GroupKind.Braces (drop (start + 2) bytes.old.items)) }
+    ensures unknown { OnOk result (noted.new.items ≡ earlier noted.old.items
+        (unknown_group F.table (sights.sight_of C.count scope.now) GroupKind.Braces (drop (start + 2) bytes.old.items))) }
 {
-    let reference = read_reference::<F, B, C>(alloc, scope, bytes.split_at(start + 2).1)?;
+    let body = bytes.split_at(start + 2).1;
+    let reference = read_reference::<F, B, C>(alloc, scope, body)?;
     let Reference { called, asked } = reference;
-    let Called { value, unknown } = called;
+    let Called { value, is_known } = called;
+    note_body(alloc, noted, body, is_known)?;
     bytes.truncate(start);
     push_value(alloc, bytes, value, asked)?;
-    Ok(unknown)
+    Ok(())
 }
 
 /// The value of the group in braces that has this body, and the name or the call in it that is not known. Groups that stand in the
@@ -116,44 +156,70 @@ pub fn group_value<F: Functions, B, C: Counts>(
 {
     let reference = read_reference::<F, B, C>(alloc, scope, body)?;
     let Reference { called, asked } = reference;
-    let Called { value, unknown } = called;
+    let Called { value, is_known } = called;
+    let mut noted = Vec::new(alloc);
+    note_body(alloc, &mut noted, body, is_known)?;
     let mut bytes = Vec::new(alloc);
     push_value(alloc, &mut bytes, value, asked)?;
-    let unknown = any_text(unknown);
+    let unknown = any_text(noted);
     Ok(Expanded { bytes, unknown })
 }
 
-/// Puts the value of a body in brackets in place of the group.
-fn put_expression(alloc: Global, bytes: &mut Vec<u8>, start: usize) -> Result<(), NoMemory>
-    requires { start + 2 ≤ vec_len bytes.old }
-    ensures { OnOk result ((functions : FunctionTable) (sight : sights.Sight) → bytes.new.items ≡ take start bytes.old.items
-        ++ values.group_value_with functions sight GroupKind.Brackets (drop (start + 2) bytes.old.items)) }
+/// Adds what an expression comes to, by its value and by how it is read.
+fn push_expression(
+    out: &mut Vec<u8>,
+    value: &Value,
+    reading: ExpressionReading,
+) -> Result<(), NoMemory>
+    ensures { OnOk result (out.new.items ≡ out.old.items ++ values.value_read reading value.now) }
 {
-    let value = evaluate(alloc, bytes.split_at(start + 2).1)?;
+    match reading {
+        ExpressionReading::Value | ExpressionReading::Unknown => value.push_onto(out),
+        ExpressionReading::Zero => {
+            out.push(b'0')?;
+            Ok(())
+        }
+    }
+}
+
+/// Puts the value of a body in brackets in place of the group, and keeps the expression where it is not known and the first.
+fn put_expression<F: Functions>(
+    alloc: Global,
+    bytes: &mut Vec<u8>,
+    noted: &mut Vec<u8>,
+    start: usize,
+) -> Result<(), NoMemory>
+    requires { start + 2 ≤ vec_len bytes.old }
+    ensures value { OnOk result ((sight : sights.Sight) → bytes.new.items ≡ take start bytes.old.items
+        ++ values.group_value_with F.table sight GroupKind.Brackets (drop (start + 2) bytes.old.items)) }
+    ensures unknown { OnOk result ((sight : sights.Sight) → noted.new.items ≡ earlier noted.old.items
+        (unknown_group F.table sight GroupKind.Brackets (drop (start + 2) bytes.old.items))) }
+{
+    let body = bytes.split_at(start + 2).1;
+    let reading = F::expression(alloc, body)?;
+    note_expression(alloc, noted, body, reading)?;
+    let value = evaluate(alloc, body)?;
     bytes.truncate(start);
-    value.push_onto(bytes)?;
+    push_expression(bytes, &value, reading)?;
     Ok(())
 }
 
-/// Puts the value of a group in its place, and gives the call in it that is not known, or no bytes.
-#[tactic(auto, unfolding(crate::specs::Unknown::unknown_group))]
+/// Puts the value of a group in its place, and keeps what in it is not known where that is the first.
 fn put_value<F: Functions, B, C: Counts>(
     alloc: Global,
     scope: &Scope<'_, B, C>,
     bytes: &mut Vec<u8>,
+    noted: &mut Vec<u8>,
     waiting: WaitingOpening,
-) -> Result<Vec<u8>, NoMemory>
+) -> Result<(), NoMemory>
     requires { waiting.start + 2 ≤ vec_len bytes.old }
     ensures value { OnOk result (bytes.new.items ≡ steps.with_value F.table (sights.sight_of C.count scope.now) waiting bytes.old.items) }
-    ensures unknown { IfOk result (λ text. text.items
-        ≡ unknown_group F.table (sights.sight_of C.count scope.now) waiting.kind (steps.body_in waiting bytes.old.items)) }
+    ensures unknown { OnOk result (noted.new.items ≡ earlier noted.old.items
+        (unknown_group F.table (sights.sight_of C.count scope.now) waiting.kind (steps.body_in waiting bytes.old.items))) }
 {
     match waiting.kind {
-        GroupKind::Braces => put_reference::<F, B, C>(alloc, scope, bytes, waiting.start),
-        GroupKind::Brackets => {
-            put_expression(alloc, bytes, waiting.start)?;
-            Ok(Vec::new(alloc))
-        }
+        GroupKind::Braces => put_reference::<F, B, C>(alloc, scope, bytes, noted, waiting.start),
+        GroupKind::Brackets => put_expression::<F>(alloc, bytes, noted, waiting.start),
     }
 }
 
@@ -205,15 +271,6 @@ impl Expanding {
         Ok(())
     }
 
-    /// Keeps a call that is not known, where it is the first.
-    fn note(&mut self, unknown: Vec<u8>)
-        ensures { self.new ≡ record self.old { unknown = earlier self.old.unknown unknown.items } }
-    {
-        if self.unknown.is_empty() {
-            self.unknown = unknown;
-        }
-    }
-
     /// Ends the innermost group.
     fn close<F: Functions, B, C: Counts>(
         &mut self,
@@ -225,9 +282,7 @@ impl Expanding {
     {
         match self.waiting.pop() {
             Some(waiting) => {
-                let unknown = put_value::<F, B, C>(alloc, scope, &mut self.bytes, waiting)?;
-                self.note(unknown);
-                Ok(())
+                put_value::<F, B, C>(alloc, scope, &mut self.bytes, &mut self.unknown, waiting)
             }
             None => Ok(()),
         }
@@ -263,9 +318,8 @@ impl Expanding {
     ) -> Result<(), NoMemory>
         ensures { OnOk result (self.new ≡ with_head F.table (sights.sight_of C.count scope.now) text.now self.old head) }
     {
-        let unknown = push_full::<F, B, C>(alloc, scope, text, head, &mut self.bytes)?;
-        self.note(unknown);
-        Ok(())
+        let is_known = push_full::<F, B, C>(alloc, scope, text, head, &mut self.bytes)?;
+        note_head(alloc, &mut self.unknown, text, head, is_known)
     }
 
     /// Writes a part of the value of a head.
@@ -278,9 +332,31 @@ impl Expanding {
     ) -> Result<(), NoMemory>
         ensures { OnOk result (self.new ≡ with_cut F.table (sights.sight_of C.count scope.now) text.now self.old cut) }
     {
-        let unknown = push_cut::<F, B, C>(alloc, scope, text, cut, &mut self.bytes)?;
-        self.note(unknown);
-        Ok(())
+        let is_known = push_cut::<F, B, C>(alloc, scope, text, cut, &mut self.bytes)?;
+        note_head(alloc, &mut self.unknown, text, cut.head, is_known)
+    }
+
+    /// Writes an expression, of which the value is there.
+    fn write_expression<F: Functions>(
+        &mut self,
+        alloc: Global,
+        text: &[u8],
+        known: &KnownExpression,
+    ) -> Result<(), NoMemory>
+        ensures { OnOk result (self.new ≡ with_expression F.table text.now self.old known.now) }
+    {
+        let body = known.body.of(text);
+        let reading = F::expression(alloc, body)?;
+        note_expression(alloc, &mut self.unknown, body, reading)?;
+        match reading {
+            ExpressionReading::Value | ExpressionReading::Unknown => {
+                self.bytes.extend_from_slice(&known.value)
+            }
+            ExpressionReading::Zero => {
+                self.bytes.push(b'0')?;
+                Ok(())
+            }
+        }
     }
 
     /// Goes after a piece of this text.
@@ -309,7 +385,7 @@ impl Expanding {
                 self.write_head::<F, B, C>(alloc, scope, text, head)
             }
             TextPiece::Part(cut) => self.write_cut::<F, B, C>(alloc, scope, text, **cut),
-            TextPiece::Known(value) => self.bytes.extend_from_slice(value),
+            TextPiece::Known(known) => self.write_expression::<F>(alloc, text, known),
             TextPiece::Empty => self.write_head::<F, B, C>(alloc, scope, text, Head::Empty),
             TextPiece::Begins(kind) => self.open(*kind),
             TextPiece::Ends => self.close::<F, B, C>(alloc, scope),

@@ -8,6 +8,7 @@ ghost use Rattle.dp_vars.specs.Values as values;
 use crate::scope::{Counts, Scope};
 use crate::value::{FoundValue, Function, function_name, function_of, function_value};
 use dp_conf::NoMemory;
+use dp_expr::ExpressionReading;
 use std::alloc::Global;
 
 /// The name of a function: one of the five that every table may read at once, or any other by its bytes.
@@ -38,7 +39,8 @@ pub enum Target<'a> {
     Nothing,
 }
 
-/// A table of functions: their values by their names and arguments, and what setting a name sets.
+/// A table of functions: their values by their names and arguments, how groups and expressions are read, and what setting a name
+/// sets.
 pub trait Functions {
     // What the functions come to.
     ghost table: { FunctionTable };
@@ -58,6 +60,18 @@ pub trait Functions {
     /// Whether the value of a plain name is known.
     fn knows_name<B, C: Counts>(scope: &Scope<'_, B, C>, name: &[u8]) -> bool
         ensures { result ≡ table.knows_name (sight_of C.count scope.now) name.now };
+
+    /// Whether a text has the groups that this program reads in it.
+    ///
+    /// The error comes only where a growth was refused.
+    fn reads(alloc: Global, text: &[u8]) -> Result<bool, NoMemory>
+        ensures { IfOk result (λ is. is ≡ table.reads text.now) };
+
+    /// What an expression comes to beside its value, by its body between the brackets.
+    ///
+    /// The error comes only where a growth was refused.
+    fn expression(alloc: Global, body: &[u8]) -> Result<ExpressionReading, NoMemory>
+        ensures { IfOk result (λ reading. reading ≡ table.expression body.now) };
 
     /// What setting this name from outside sets.
     fn target(name: &[u8]) -> Target<'_>
@@ -96,7 +110,8 @@ impl<'a> FunctionName<'a> {
     }
 }
 
-/// The five functions that a dialplan has by itself. Any other name is empty, and setting a name sets the variable.
+/// The five functions that a dialplan has by itself. Any other name is empty, an expression has its value, and setting a name sets
+/// the variable.
 pub struct StandardFunctions;
 
 impl Functions for StandardFunctions {
@@ -121,6 +136,16 @@ impl Functions for StandardFunctions {
     #[inline(always)]
     fn knows_name<B, C: Counts>(_scope: &Scope<'_, B, C>, _name: &[u8]) -> bool {
         true
+    }
+
+    #[inline(always)]
+    fn reads(_alloc: Global, _text: &[u8]) -> Result<bool, NoMemory> {
+        Ok(true)
+    }
+
+    #[inline(always)]
+    fn expression(_alloc: Global, _body: &[u8]) -> Result<ExpressionReading, NoMemory> {
+        Ok(ExpressionReading::Value)
     }
 
     fn target(name: &[u8]) -> Target<'_> {

@@ -6,14 +6,16 @@ ghost use Rattle.dp_vars.specs.Heads as spec;
 ghost use Rattle.dp_vars.specs.Shown.{value_bytes};
 ghost use Rattle.dp_vars.specs.Sights.{Sight, sight_of};
 ghost use Rattle.dp_vars.specs.Spans.{text_at};
+ghost use Rattle.dp_vars.specs.steps.Told.{knows_seen, name_seen};
 ghost use Rattle.dp_vars.specs.Values as values;
 
 use crate::functions::{FunctionName, Functions};
+use crate::naming::call_text;
 use crate::part::Selection;
 use crate::reference::{Called, called_value, named_value, no_value, push_value};
 use crate::scope::{Counts, Scope};
 use crate::span::Span;
-use crate::value::{Function, function_of};
+use crate::value::{Function, function_name, function_of};
 use dp_conf::{NoMemory, before_last, cut_once};
 use std::alloc::Global;
 
@@ -71,6 +73,7 @@ pub(crate) fn read_head(text: &[u8], place: Span) -> Head
 }
 
 /// The value that a head has now.
+#[inline(always)]
 fn head_now<'a, F: Functions, B, C: Counts>(
     alloc: Global,
     scope: &Scope<'a, B, C>,
@@ -78,10 +81,10 @@ fn head_now<'a, F: Functions, B, C: Counts>(
     head: Head,
 ) -> Result<Called<'a>, NoMemory>
     ensures value { IfOk result (λ called. value_bytes called.value ≡ spec.head_seen F.table (sight_of C.count scope.now) text.now head) }
-    ensures unknown { IfOk result (λ called. called.unknown.items ≡ spec.unknown_seen F.table (sight_of C.count scope.now) text.now head) }
+    ensures known { IfOk result (λ called. called.is_known ≡ knows_seen F.table (sight_of C.count scope.now) text.now head) }
 {
     match head {
-        Head::Name(name) => named_value::<F, B, C>(alloc, scope, name.of(text)),
+        Head::Name(name) => Ok(named_value::<F, B, C>(scope, name.of(text))),
         Head::Call(function, argument) => {
             let name = FunctionName::Known(function);
             called_value::<F, B, C>(alloc, scope, name, argument.of(text))
@@ -90,39 +93,55 @@ fn head_now<'a, F: Functions, B, C: Counts>(
             let name = FunctionName::Other(name.of(text));
             called_value::<F, B, C>(alloc, scope, name, argument.of(text))
         }
-        Head::Empty => Ok(no_value(alloc)),
+        Head::Empty => Ok(no_value()),
     }
 }
 
-/// Adds a part of the value of a head, and gives the name or the call that is not known, or no bytes.
+/// The name of a head.
+pub(crate) fn head_name_at(alloc: Global, text: &[u8], head: Head) -> Result<Vec<u8>, NoMemory>
+    ensures { IfOk result (λ name. name.items ≡ name_seen text.now head) }
+{
+    match head {
+        Head::Name(name) => Vec::from_slice(alloc, name.of(text)),
+        Head::Call(function, argument) => {
+            call_text(alloc, function_name(function), argument.of(text))
+        }
+        Head::Other(name, argument) => call_text(alloc, name.of(text), argument.of(text)),
+        Head::Empty => Ok(Vec::new(alloc)),
+    }
+}
+
+/// Adds a part of the value of a head, and says whether the head is known.
+#[inline(always)]
 pub(crate) fn push_cut<F: Functions, B, C: Counts>(
     alloc: Global,
     scope: &Scope<'_, B, C>,
     text: &[u8],
     cut: CutPart,
     out: &mut Vec<u8>,
-) -> Result<Vec<u8>, NoMemory>
+) -> Result<bool, NoMemory>
     ensures value { OnOk result (out.new.items
         ≡ out.old.items ++ spec.part_seen text.now cut (spec.head_seen F.table (sight_of C.count scope.now) text.now cut.head)) }
-    ensures unknown { IfOk result (λ bytes. bytes.items ≡ spec.unknown_seen F.table (sight_of C.count scope.now) text.now cut.head) }
+    ensures known { IfOk result (λ is_known. is_known ≡ knows_seen F.table (sight_of C.count scope.now) text.now cut.head) }
 {
-    let Called { value, unknown } = head_now::<F, B, C>(alloc, scope, text, cut.head)?;
+    let Called { value, is_known } = head_now::<F, B, C>(alloc, scope, text, cut.head)?;
     push_value(alloc, out, value, cut.asked)?;
-    Ok(unknown)
+    Ok(is_known)
 }
 
-/// Adds the whole value of a head, and gives the name or the call that is not known, or no bytes.
+/// Adds the whole value of a head, and says whether the head is known.
+#[inline(always)]
 pub(crate) fn push_full<F: Functions, B, C: Counts>(
     alloc: Global,
     scope: &Scope<'_, B, C>,
     text: &[u8],
     head: Head,
     out: &mut Vec<u8>,
-) -> Result<Vec<u8>, NoMemory>
+) -> Result<bool, NoMemory>
     ensures value { OnOk result (out.new.items ≡ out.old.items ++ spec.head_seen F.table (sight_of C.count scope.now) text.now head) }
-    ensures unknown { IfOk result (λ bytes. bytes.items ≡ spec.unknown_seen F.table (sight_of C.count scope.now) text.now head) }
+    ensures known { IfOk result (λ is_known. is_known ≡ knows_seen F.table (sight_of C.count scope.now) text.now head) }
 {
-    let Called { value, unknown } = head_now::<F, B, C>(alloc, scope, text, head)?;
+    let Called { value, is_known } = head_now::<F, B, C>(alloc, scope, text, head)?;
     push_value(alloc, out, value, Selection::Whole)?;
-    Ok(unknown)
+    Ok(is_known)
 }

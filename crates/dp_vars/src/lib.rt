@@ -17,6 +17,7 @@ mod head;
 pub mod laws;
 mod local;
 mod local_name;
+mod naming;
 mod opening;
 mod parsing;
 mod part;
@@ -32,6 +33,7 @@ mod variables;
 
 pub use change::Change;
 pub use dp_conf::MOST_NESTING;
+pub use dp_expr::ExpressionReading;
 pub use expanding::{Expanded, group_value};
 pub use functions::{FunctionName, FunctionValue, Functions, StandardFunctions, Target};
 pub use globals::Globals;

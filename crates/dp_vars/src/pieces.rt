@@ -81,7 +81,7 @@ impl Pieces {
         Ok(expanded.bytes)
     }
 
-    /// The same, with the first call of a function that is not known.
+    /// The same, with what in the text is the first that is not known.
     ///
     /// The error comes only where a growth was refused.
     pub fn expand_checked<F: Functions, B, C: Counts>(
@@ -98,11 +98,11 @@ impl Pieces {
         let written = write_pieces::<F, B, C>(alloc, scope, text, &self.pieces)?;
         let Expanded { mut bytes, unknown } = written;
         bytes.extend_from_slice(text.split_at(self.tail.min(text.len())).1)?;
-        Ok(Expanded { bytes, unknown })
+        Expanded { bytes, unknown }.of::<F>(alloc, text)
     }
 
-    /// The first call in their text of a function that is not known, in the order in which groups are expanded, with its
-    /// argument expanded, as `DB(a/b)`.
+    /// The first name, call or expression in their text that is not known, in the order in which groups are expanded, with its
+    /// argument expanded, as `DB(a/b)`; the text itself, where other groups are read in it.
     ///
     /// The error comes only where a growth was refused.
     pub fn first_unknown<F: Functions, B, C: Counts>(

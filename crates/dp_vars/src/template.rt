@@ -103,7 +103,7 @@ pub fn expand_text_with<F: Functions, B, C: Counts>(
     Ok(expanded.bytes)
 }
 
-/// The same, with the first call of a function that is not known.
+/// The same, with what in the text is the first that is not known.
 ///
 /// The error comes only where a growth was refused.
 pub fn expand_text_checked<F: Functions, B, C: Counts>(
@@ -121,7 +121,7 @@ pub fn expand_text_checked<F: Functions, B, C: Counts>(
         expanding.take::<F, B, C>(alloc, scope, mark)?;
         rest = after;
     }
-    Ok(expanding.finish())
+    expanding.finish().of::<F>(alloc, text)
 }
 
 /// The template with each group replaced by its value.

@@ -1,5 +1,6 @@
 //! The pieces of a text with groups.
 ghost use Rattle.std.specs.Prelude.{◌≡◌, ℕ, List, IfOk};
+ghost use Rattle.dp_expr.specs.Expression.{expression_value};
 ghost use Rattle.dp_vars.specs.Expanding.{Written};
 ghost use Rattle.dp_vars.specs.Functions.{FunctionTable};
 ghost use Rattle.dp_vars.specs.Pieces.{past, with_head};
@@ -22,6 +23,13 @@ pub(crate) struct OtherCall {
     pub(crate) argument: Span,
 }
 
+/// An expression in which no group stands, by the place of its body, with its value.
+#[derive(Drop)]
+pub(crate) struct KnownExpression {
+    pub(crate) body: Span,
+    pub(crate) value: Vec<u8>,
+}
+
 /// A piece of a text: plain bytes, a group that holds no group, as what it stands for, or where another group begins or
 /// ends.
 #[derive(Drop)]
@@ -36,8 +44,8 @@ pub(crate) enum TextPiece {
     Other(Box<OtherCall>),
     /// A part of the value of one of these.
     Part(Box<CutPart>),
-    /// The value of an expression.
-    Known(Box<Vec<u8>>),
+    /// An expression with its value.
+    Known(Box<KnownExpression>),
     /// A value that is always empty.
     Empty,
     /// An opening. What never closes is plain.
@@ -87,15 +95,23 @@ fn read_braces(alloc: Global, text: &[u8], place: Span) -> Result<TextPiece, NoM
     }
 }
 
+/// The value of an expression.
+fn read_constant(alloc: Global, body: &[u8]) -> Result<Vec<u8>, NoMemory>
+    ensures { IfOk result (λ bytes. bytes.items ≡ expression_value body.now) }
+{
+    let value = evaluate(alloc, body)?;
+    let mut bytes = Vec::new(alloc);
+    value.push_onto(&mut bytes)?;
+    Ok(bytes)
+}
+
 /// The group whose body stands there, in brackets.
 fn read_brackets(alloc: Global, text: &[u8], place: Span) -> Result<TextPiece, NoMemory>
     ensures { IfOk result (IsGroup text.now GroupKind.Brackets place) }
 {
-    let value = evaluate(alloc, place.of(text))?;
-    let mut bytes = Vec::new(alloc);
-    value.push_onto(&mut bytes)?;
-    let bytes = Box::new(alloc, bytes)?;
-    Ok(TextPiece::Known(bytes))
+    let value = read_constant(alloc, place.of(text))?;
+    let known = Box::new(alloc, KnownExpression { body: place, value })?;
+    Ok(TextPiece::Known(known))
 }
 
 impl TextPiece {

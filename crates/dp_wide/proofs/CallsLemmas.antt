@@ -1,33 +1,17 @@
 -- Subroutines that are entered by the parts of their targets, and how many locals their arguments are.
-use Rattle.std.proofs.Common.{◌≡◌, ℕ, ◌+◌, ◌-◌, suc, Some, slice_get, List, [], ◌∷◌, ◌++◌, refl, ap, ◌∙◌, length, map, take, arith}
+use Rattle.std.proofs.Common.{◌≡◌, ℕ, ◌+◌, suc, List, [], ◌∷◌, ◌++◌, refl, ap, ◌∙◌, length, map}
 use Rattle.std.specs.Option.{option_and_then}
-use Rattle.std.proofs.lemmas.List.{length-append, map-append}
-use Rattle.std.proofs.Math.Seq.{take-append_seam}
+use Rattle.std.proofs.lemmas.List.{map-append}
 use Rattle.dp_conf.specs.Cut.{cut_once}
 use Rattle.dp_app.specs.Cells.{CellOf}
 use Rattle.dp_flow.specs.Jumps.{argument_locals, called_by}
+use Rattle.dp_flow.proofs.CallsLemmas.{front-push, last-push}
 use Rattle.dp_wide.specs.Subroutines.{enter_counted, enter_parts}
 
 -- an argument is one local
 pub locals_count : (number : ℕ) (arguments : List (List ℕ)) → length (argument_locals number arguments) ≡ length arguments
 locals_count number [] = refl
 locals_count number (value ∷ values) = ap suc (locals_count (number + 1) values)
-
-last-push : {X : Type 0} (xs : List X) (x : X) → slice_get (xs ++ x ∷ []) (length (xs ++ x ∷ []) - 1) ≡ Some x
-last-push {X = X} xs x = ap (slice_get (xs ++ x ∷ [])) count ∙ at xs
-  where
-    count : length (xs ++ x ∷ []) - 1 ≡ length xs
-    count = omega (arith, length-append xs (x ∷ []))
-
-    at : (ys : List X) → slice_get (ys ++ x ∷ []) (length ys) ≡ Some x
-    at [] = refl
-    at (y ∷ ys) = at ys
-
-front-push : {X : Type 0} (xs : List X) (x : X) → take (length (xs ++ x ∷ []) - 1) (xs ++ x ∷ []) ≡ xs
-front-push xs x = ap (λ n. take n (xs ++ x ∷ [])) count ∙ take-append_seam xs (x ∷ [])
-  where
-    count : length (xs ++ x ∷ []) - 1 ≡ length xs
-    count = omega (arith, length-append xs (x ∷ []))
 
 -- a subroutine that is entered by the parts before the last one, and by the last one
 pub enter_counted-push : {X : Type 0} (see : X → List ℕ) (parts front : List X) (last : X) (cell : CellOf) → parts ≡ front ++ last ∷ []

@@ -1,3 +1,5 @@
+mod Brackets
 mod Names
+mod ReadNames
 mod Texts
 mod Times

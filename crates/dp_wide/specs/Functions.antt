@@ -3,15 +3,18 @@ use Rattle.std.specs.Prelude.{ℕ, zero, suc, Bool, true, false, not, ◌||◌, 
 use Rattle.std.specs.Fmt.{decimal}
 use Rattle.std.specs.Option.{option_map, option_or}
 use Rattle.dp_conf.specs.Words.{same_text}
+use Rattle.dp_expr.specs.AsteriskReading.{asterisk_reading}
 use Rattle.dp_vars.specs.Functions.{FunctionTable}
 use Rattle.dp_vars.specs.Sights.{Sight}
 use Rattle.dp_vars.specs.Values.{function_of}
 use Rattle.dp_vars.specs.declared.value.Function.{Function}
 use Rattle.dp_vars.specs.declared.value.Function.TheVariants.{Global, Local, Len, CallerId, QueueWaitingCount}
+use Rattle.dp_wide.specs.Brackets.{reads}
 use Rattle.dp_wide.specs.Caller.{caller_value, knows_caller}
 use Rattle.dp_wide.specs.CellValues.{cell_is_set, cell_value}
 use Rattle.dp_wide.specs.Fields.{count_value, cut_value, knows_fields}
 use Rattle.dp_wide.specs.Names.{is_given_by_asterisk, is_status}
+use Rattle.dp_wide.specs.ReadNames.{was_read}
 use Rattle.dp_wide.specs.Settings.{wide_target}
 use Rattle.dp_wide.specs.SightFunctions.{knows_sight, sight_value}
 use Rattle.dp_wide.specs.TextFunctions.{text_value}
@@ -113,10 +116,14 @@ abbrev pub knows_by : FunctionTable → Sight → Option Function → List ℕ �
 knows_by inner sight None name argument = knows_other inner sight (wide_function_of name) name argument
 knows_by inner sight (Some function) name argument = knows_five sight function argument
 
--- whether a plain name is known: one that Asterisk gives and this machine does not, or that tells what became of an application
--- outside of it, is known where something set it
+-- a plain name has a value that comes from outside: Asterisk gives it and this machine does not, it tells what became of an
+-- application outside of it, or `Read` was given it
+abbrev pub comes_from_outside : Sight → List ℕ → Bool
+comes_from_outside sight name = is_status name || is_given_by_asterisk name || was_read sight name
+
+-- whether a plain name is known: such a one is where something set it
 abbrev pub knows_name : Sight → List ℕ → Bool
-knows_name sight name = not (is_status name || is_given_by_asterisk name) || sight.is_set name
+knows_name sight name = not (comes_from_outside sight name) || sight.is_set name
 
 -- the functions, where `inner` are those by which a name in an argument is read
 unfoldable pub around : FunctionTable → FunctionTable
@@ -124,6 +131,8 @@ around inner = record {
   value = λ sight name argument. value_by inner sight (function_of name) name argument;
   knows = λ sight name argument. knows_by inner sight (function_of name) name argument;
   knows_name = knows_name;
+  reads = reads;
+  expression = asterisk_reading;
   target = wide_target;
 }
 
@@ -133,6 +142,8 @@ no_calls = record {
   value = λ sight name argument. [];
   knows = λ sight name argument. false;
   knows_name = knows_name;
+  reads = reads;
+  expression = asterisk_reading;
   target = wide_target;
 }
 
@@ -141,11 +152,13 @@ unfoldable pub within : ℕ → FunctionTable
 within zero = no_calls
 within (suc more) = around (within more)
 
--- the functions, where at most 32 calls stand inside each other
+-- the functions, where at most 8 calls stand inside each other
 abbrev pub wide_functions : FunctionTable
 wide_functions = record {
-  value = (within 32).value;
-  knows = (within 32).knows;
+  value = (within 8).value;
+  knows = (within 8).knows;
   knows_name = knows_name;
+  reads = reads;
+  expression = asterisk_reading;
   target = wide_target;
 }

@@ -1,3 +1,5 @@
+pub mod AsteriskFunctions
+pub mod Brackets
 pub mod Caller
 pub mod CellValues
 pub mod Cells
@@ -10,6 +12,8 @@ pub mod Macros
 pub mod Names
 pub mod NestedCalls
 pub mod Outside
+pub mod ReadNames
+pub mod Requests
 pub mod Settings
 pub mod Sides
 pub mod SightFunctions

@@ -4,7 +4,7 @@ use Rattle.std.specs.List.{find}
 use Rattle.std.specs.Option.{option_map, unwrap_or}
 use Rattle.dp_conf.specs.Levels.{arguments_of}
 use Rattle.dp_conf.specs.Words.{same_word}
-use Rattle.dp_vars.specs.Stores.{StoreOf, unset}
+use Rattle.dp_vars.specs.Stores.{StoreOf, set, unset, value_in}
 use Rattle.dp_app.specs.Cells.{CellOf}
 use Rattle.dp_app.specs.Knowledge.{Knowledge}
 use Rattle.dp_app.specs.Parts.{part}
@@ -16,6 +16,8 @@ use Rattle.dp_app.specs.declared.touch.Touch.{Touch}
 use Rattle.dp_flow.specs.Jumps.{stays}
 use Rattle.dp_flow.specs.Touches.{the_variables}
 use Rattle.dp_wide.specs.Names.{with_named, with_named_knowledge, with_named_touch}
+use Rattle.dp_wide.specs.ReadNames.{read_names, with_listed}
+use Rattle.dp_wide.specs.Settings.{bare_name}
 
 -- an application that says in no variable how it ended
 abbrev pub without_status : List ℕ → List ℕ × List (List ℕ)
@@ -72,16 +74,24 @@ is_read name = same_word name (codes "Read")
 abbrev pub without_values : List (List ℕ) → StoreOf Place → StoreOf Place
 without_values names store = fold unset store names
 
+-- the name of the variable for what is read: the first argument, as `Set` takes a name
+abbrev pub name_to_read : List ℕ → List ℕ
+name_to_read arguments = bare_name (part 0 (arguments_of arguments))
+
+-- a store in which a name is one of those that were to be read, and has no value any more
+abbrev pub after_reading : List ℕ → StoreOf Place → StoreOf Place
+after_reading name store = unset (set store read_names (with_listed (value_in store read_names) name)) name
+
 -- the same of the name that the first argument is, where it names a variable
-abbrev pub without_first : Bool → List ℕ → StoreOf Place → StoreOf Place
-without_first false arguments store = store
-without_first true arguments store = unset store (part 0 (arguments_of arguments))
+abbrev pub after_arguments : Bool → List ℕ → StoreOf Place → StoreOf Place
+after_arguments false arguments store = store
+after_arguments true arguments store = after_reading (name_to_read arguments) store
 
 -- what was known of an earlier run is known no more, and the channel waits; one that is closing does not wait, and its call ends
 abbrev pub outside_outcome : List (List ℕ) → Bool → List ℕ → CellOf → Bool → Outcome
 outside_outcome statuses reads arguments cell true = stays cell Hang
 outside_outcome statuses reads arguments cell false =
-    record { cell = record cell { store = without_first reads arguments (without_values statuses cell.store) }; next = Park Pause }
+    record { cell = record cell { store = without_values statuses (after_arguments reads arguments cell.store) }; next = Park Pause }
 
 -- the row of an application that runs outside, by its statuses and by whether its first argument names a variable
 unfoldable pub outside_row : List (List ℕ) → Bool → Row

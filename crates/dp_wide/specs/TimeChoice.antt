@@ -7,8 +7,8 @@ use Rattle.dp_conf.specs.Levels.{arguments_of}
 use Rattle.dp_vars.specs.Variables.{Named, value_or_empty}
 use Rattle.dp_app.specs.Parts.{part}
 use Rattle.dp_app.specs.Rows.{Row}
+use Rattle.dp_flow.specs.Conditions.{taken_side}
 use Rattle.dp_flow.specs.Jumps.{jump_if, stays}
-use Rattle.dp_wide.specs.Sides.{taken_side}
 use Rattle.dp_wide.specs.Times.{lies_in, moment_of}
 use Rattle.dp_wide.specs.declared.times.Moment.{Moment}
 

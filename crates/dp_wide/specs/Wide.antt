@@ -1,18 +1,13 @@
 -- The wide table: its rows, and what is known of what its applications would do.
 use Rattle.std.specs.Prelude.{ℕ, zero, suc, Bool, true, false, List, [], ◌∷◌, Option, Some, None, codes, if◌then◌else◌}
-use Rattle.std.specs.Option.{option_and_then, option_map_or}
-use Rattle.dp_conf.specs.Cut.{cut_once}
-use Rattle.dp_conf.specs.Levels.{arguments_of}
+use Rattle.std.specs.Option.{option_and_then}
 use Rattle.dp_conf.specs.Words.{same_word}
 use Rattle.dp_vars.specs.Sights.{Sight}
-use Rattle.dp_vars.specs.Unknown.{earlier}
 use Rattle.dp_app.specs.Knowledge.{Knowledge, asks_nothing}
 use Rattle.dp_app.specs.Lawful.{IsBlind, IsLawful}
-use Rattle.dp_app.specs.Parts.{is_given, part}
 use Rattle.dp_app.specs.Rows.{Rows, has_row}
 use Rattle.dp_app.specs.declared.touch.Touch.{Touch}
 use Rattle.dp_flow.specs.Plain.{hangup_row, next_row}
-use Rattle.dp_flow.specs.Settings.{argument_of}
 use Rattle.dp_flow.specs.Touches.{nothing, settable, the_frames}
 use Rattle.dp_flow.specs.laws.Lawful.{hangup_lawful, next_lawful}
 use Rattle.dp_table.specs.Standard.{Table, standard_table, with_application}
@@ -22,7 +17,8 @@ use Rattle.dp_wide.specs.Going.{with_going, with_going_knowledge, with_going_tou
 use Rattle.dp_wide.specs.Macros.{macro_exit_row, macro_row}
 use Rattle.dp_wide.specs.Names.{is_word_of}
 use Rattle.dp_wide.specs.Outside.{with_outside, with_outside_knowledge, with_outside_touch}
-use Rattle.dp_wide.specs.Settings.{bare_name, does_more, mset_row, set_row}
+use Rattle.dp_wide.specs.Requests.{inner_asked}
+use Rattle.dp_wide.specs.Settings.{mset_row, set_row}
 use Rattle.dp_wide.specs.Subroutines.{gosub_if_row, gosub_row}
 use Rattle.dp_wide.specs.TimeChoice.{goto_if_time_row}
 use Rattle.dp_wide.specs.laws.Choices.{exec_if_within_lawful, goto_if_time_lawful}
@@ -120,46 +116,12 @@ inner_looks name =
 abbrev pub wide_looks : List ℕ → Bool
 wide_looks name = if same_word name exec_if_title then true else inner_looks name
 
--- the name that is set, where setting it does more than this machine follows
-abbrev pub more_asked : List ℕ → Option (List ℕ × List ℕ) → List ℕ
-more_asked name None = []
-more_asked name (Some cut) = option_map_or (λ argument. if does_more cut.0 argument then name else []) (argument_of cut.1) []
-
--- the same by the name alone
-abbrev pub name_asked : List ℕ → List ℕ
-name_asked name = more_asked name (cut_once 40 name)
-
--- what a setting asks, as `NAME=VALUE`
-abbrev pub setting_asked : List ℕ → List ℕ
-setting_asked text = option_map_or (λ cut. name_asked (bare_name cut.0)) (cut_once 61 text) []
-
--- what the first of some settings asks that asks something
-abbrev pub settings_asked : List (List ℕ) → List ℕ
-settings_asked [] = []
-settings_asked (text ∷ texts) = earlier (setting_asked text) (settings_asked texts)
-
--- a time zone is not followed, and told by the name of the application
-abbrev pub zone_asked : Option (List ℕ × List ℕ) → List ℕ
-zone_asked None = []
-zone_asked (Some cut) = if is_given (part 4 (arguments_of cut.0)) then codes "GotoIfTime" else []
-
--- what `GotoIfTime` asks: the clock, while nothing has set it, and a time zone
-abbrev pub time_asked : Sight → List ℕ → List ℕ
-time_asked sight arguments = if sight.has_global (codes "CLOCK") then zone_asked (cut_once 63 arguments) else codes "CLOCK"
-
--- what an application asks with its arguments, which is no `ExecIf`
-abbrev pub inner_asked : Sight → List ℕ → List ℕ → List ℕ
-inner_asked sight name arguments =
-    if same_word name (codes "GotoIfTime") then time_asked sight arguments
-    else (if same_word name (codes "Set") then setting_asked arguments
-    else (if same_word name (codes "MSet") then settings_asked (arguments_of arguments) else []))
-
 -- the application that runs in the end, and its arguments, where an `ExecIf` may run another and so many may stand inside each other;
 -- none where nothing runs
-abbrev pub followed : ℕ → List ℕ → List ℕ → Option (List ℕ × List ℕ)
-followed zero name arguments = if same_word name exec_if_title then None else Some (name, arguments)
-followed (suc more) name arguments =
-    if same_word name exec_if_title then option_and_then (λ call. followed more call.0 call.1) (exec_if_application arguments)
+abbrev pub call_in_the_end : ℕ → List ℕ → List ℕ → Option (List ℕ × List ℕ)
+call_in_the_end zero name arguments = if same_word name exec_if_title then None else Some (name, arguments)
+call_in_the_end (suc more) name arguments =
+    if same_word name exec_if_title then option_and_then (λ call. call_in_the_end more call.0 call.1) (exec_if_application arguments)
     else Some (name, arguments)
 
 -- what an application asks that runs in the end: itself, where the table lacks it
@@ -172,7 +134,7 @@ call_asked sight (Some call) =
 
 -- what an application asks with its arguments that is not known
 unfoldable pub wide_asks : Sight → List ℕ → List ℕ → List ℕ
-wide_asks sight name arguments = call_asked sight (followed 8 name arguments)
+wide_asks sight name arguments = call_asked sight (call_in_the_end 8 name arguments)
 
 -- what is known of the wide table
 abbrev pub wide_knowledge : Knowledge

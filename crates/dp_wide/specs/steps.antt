@@ -2,3 +2,5 @@
 pub mod Effects
 pub mod Far
 pub mod PartsLeft
+pub mod Placed
+pub mod Plain

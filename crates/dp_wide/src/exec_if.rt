@@ -9,10 +9,9 @@ ghost use Rattle.dp_conf.specs.Levels.{cut_outside};
 ghost use Rattle.dp_wide.specs.Choices as spec;
 ghost use Rattle.dp_wide.specs.Sides as sides;
 
-use crate::choices::taken_side;
 use dp_app::{AppTable, Application, Cell, Move, Touch, With};
 use dp_conf::{NoMemory, before_last, cut_once, cut_outside, trim};
-use dp_flow::holds;
+use dp_flow::{holds, taken_side};
 use std::alloc::Global;
 use std::marker::PhantomData;
 

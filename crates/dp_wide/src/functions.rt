@@ -11,14 +11,17 @@ ghost use Rattle.dp_vars.specs.Shown.{value_bytes};
 ghost use Rattle.dp_vars.specs.Sights.{sight_of};
 ghost use Rattle.dp_wide.specs.Functions as spec;
 
+use crate::brackets::reads;
 use crate::caller::caller_value;
 use crate::cell_values::cell_value;
 use crate::fields::{count_value, cut_value};
 use crate::names::{is_given_by_asterisk, is_status};
+use crate::read_names::was_read;
 use crate::settings::setting_target;
 use crate::sight_functions::{SightFunction, sight_value};
 use crate::text_functions::{TextFunction, text_value};
 use dp_conf::NoMemory;
+use dp_expr::{ExpressionReading, asterisk_reading};
 use dp_vars::{
     Counts, FoundValue, Function, FunctionName, FunctionValue, Functions, Scope, StandardFunctions,
     Target, function_of, is_set,
@@ -194,11 +197,18 @@ fn other_value<'a, F: Functions, B, C: Counts>(
     }
 }
 
+/// Whether a plain name has a value that comes from outside.
+fn comes_from_outside<B, C: Counts>(scope: &Scope<'_, B, C>, name: &[u8]) -> bool
+    ensures { result ≡ spec.comes_from_outside (sight_of C.count scope.now) name.now }
+{
+    is_status(name) || is_given_by_asterisk(name) || was_read(scope, name)
+}
+
 /// Whether a plain name is known.
 fn is_known_name<B, C: Counts>(scope: &Scope<'_, B, C>, name: &[u8]) -> bool
     ensures { result ≡ spec.knows_name (sight_of C.count scope.now) name.now }
 {
-    if is_status(name) || is_given_by_asterisk(name) {
+    if comes_from_outside(scope, name) {
         return is_set(scope, name);
     }
     true
@@ -224,6 +234,14 @@ impl Functions for NoCalls {
 
     fn knows_name<B, C: Counts>(scope: &Scope<'_, B, C>, name: &[u8]) -> bool {
         is_known_name(scope, name)
+    }
+
+    fn reads(alloc: Global, text: &[u8]) -> Result<bool, NoMemory> {
+        reads(alloc, text)
+    }
+
+    fn expression(alloc: Global, body: &[u8]) -> Result<ExpressionReading, NoMemory> {
+        asterisk_reading(alloc, body)
     }
 
     fn target(name: &[u8]) -> Target<'_> {
@@ -258,6 +276,16 @@ impl<F: Functions> Functions for Around<F> {
     }
 
     #[tactic(auto, unfolding(crate::specs::Functions::around))]
+    fn reads(alloc: Global, text: &[u8]) -> Result<bool, NoMemory> {
+        reads(alloc, text)
+    }
+
+    #[tactic(auto, unfolding(crate::specs::Functions::around))]
+    fn expression(alloc: Global, body: &[u8]) -> Result<ExpressionReading, NoMemory> {
+        asterisk_reading(alloc, body)
+    }
+
+    #[tactic(auto, unfolding(crate::specs::Functions::around))]
     fn target(name: &[u8]) -> Target<'_> {
         setting_target(name)
     }
@@ -266,14 +294,11 @@ impl<F: Functions> Functions for Around<F> {
 /// The functions with four more calls around those of `F`.
 type Four<F> = Around<Around<Around<Around<F>>>>;
 
-/// The functions with sixteen more calls around those of `F`.
-type Sixteen<F> = Four<Four<Four<Four<F>>>>;
+/// The functions where at most 8 calls stand inside each other.
+type Nested = Four<Four<NoCalls>>;
 
-/// The functions where at most 32 calls stand inside each other.
-type Nested = Sixteen<Sixteen<NoCalls>>;
-
-/// The functions of the wide table. At most 32 calls stand inside each other in one group; a call that is deeper is empty and not known (a
-/// choice of this program).
+/// The functions of the wide table. At most 8 calls stand inside each other in one group. A call that is deeper is empty and not known
+/// (a choice of this program).
 pub struct WideFunctions;
 
 impl Functions for WideFunctions {
@@ -291,6 +316,14 @@ impl Functions for WideFunctions {
 
     fn knows_name<B, C: Counts>(scope: &Scope<'_, B, C>, name: &[u8]) -> bool {
         is_known_name(scope, name)
+    }
+
+    fn reads(alloc: Global, text: &[u8]) -> Result<bool, NoMemory> {
+        reads(alloc, text)
+    }
+
+    fn expression(alloc: Global, body: &[u8]) -> Result<ExpressionReading, NoMemory> {
+        asterisk_reading(alloc, body)
     }
 
     fn target(name: &[u8]) -> Target<'_> {

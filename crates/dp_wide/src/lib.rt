@@ -2,6 +2,8 @@
 //! function references, and the plain functions over texts and moments of which they are made.
 #![tactic(auto)]
 
+mod asterisk_functions;
+mod brackets;
 mod caller;
 mod cell_values;
 mod cells;
@@ -16,6 +18,9 @@ pub mod laws;
 mod macros;
 mod names;
 mod outside;
+mod placed;
+mod read_names;
+mod requests;
 mod settings;
 mod sight_functions;
 mod subroutines;
@@ -25,6 +30,7 @@ mod time_choice;
 mod times;
 mod wide_table;
 
+pub use asterisk_functions::is_asterisk_function;
 pub use choices::if_value;
 pub use deleting::DbDel;
 pub use dp_conf::NoMemory;

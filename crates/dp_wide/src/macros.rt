@@ -58,7 +58,8 @@ fn enter_macro(
 /// `Macro(name[,arguments])`: as `Gosub` of the extension `s` of the context `macro-name`, where the locals `MACRO_EXTEN`,
 /// `MACRO_CONTEXT` and `MACRO_PRIORITY` are the place that called.
 ///
-/// Where no entry is found there the call ends, as with `Gosub` (a choice of this program).
+/// Where no entry is found there, the call ends as with `Gosub`: the frame is pushed and the channel hangs up (a choice of this
+/// program). In Asterisk the channel goes on at the next priority. An application sees no dialplan, and so cannot choose between the two.
 pub struct Macro;
 
 impl Application for Macro {

@@ -63,14 +63,14 @@ pub(crate) fn is_word_of(words: &[&[u8]], name: &[u8]) -> bool
 }
 
 /// Whether two texts have the same bytes.
-fn same_text(a: &[u8], b: &[u8]) -> bool
+pub(crate) fn same_text(a: &[u8], b: &[u8]) -> bool
     ensures { result ≡ words.same_text a.now b.now }
 {
     a == b
 }
 
 /// Whether a name is one of some texts, byte by byte.
-fn is_text_of(texts: &[&[u8]], name: &[u8]) -> bool
+pub(crate) fn is_text_of(texts: &[&[u8]], name: &[u8]) -> bool
     ensures { result ≡ spec.is_text_of (map (λ text. text.now) texts.now) name.now }
 {
     texts.iter().any(|text| same_text(name, text))

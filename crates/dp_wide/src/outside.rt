@@ -1,10 +1,12 @@
 //! The applications that run outside this program, after the Asterisk documentation's application reference. A channel that reaches
 //! one waits, and what comes of it is told from outside.
-ghost use Rattle.std.specs.Prelude.{◌≡◌, map};
+ghost use Rattle.std.specs.Prelude.{◌≡◌, IfOk, OnErr, OnOk, map};
 ghost use Rattle.std.specs.Option.{option_map};
 ghost use Rattle.dp_app.specs.Cells.{KeepsLoans, cell_now};
 ghost use Rattle.dp_wide.specs.Outside as spec;
 
+use crate::read_names::with_listed;
+use crate::settings::bare_name;
 use dp_app::{AppNumber, AppTable, Cell, KnownTable, Move, Phase, Place};
 use dp_conf::{NoMemory, first_argument, same_word, trim};
 use dp_vars::{Counts, Scope, Store};
@@ -119,37 +121,70 @@ fn unset_all(store: &mut Store<Place>, names: &[&[u8]])
     }
 }
 
-/// Takes the value of the name away that the first argument is, where it names a variable.
-fn unset_first(store: &mut Store<Place>, reads: bool, arguments: &[u8])
-    ensures { store.new ≡ spec.without_first reads arguments.now store.old }
+/// The name of the variable for what is read: the first argument, as `Set` takes a name.
+fn name_to_read(arguments: &[u8]) -> &[u8]
+    ensures { result.now ≡ spec.name_to_read arguments.now }
+{
+    let (first, _) = first_argument(arguments);
+    bare_name(trim(first))
+}
+
+/// Keeps that a name was to be read, and takes its value away. After a refused growth the store is as before.
+fn begin_reading(alloc: Global, store: &mut Store<Place>, name: &[u8]) -> Result<(), NoMemory>
+    ensures ok { OnOk result (store.new ≡ spec.after_reading name.now store.old) }
+    ensures err { OnErr result (store.new ≡ store.old) }
+{
+    let names = with_listed(alloc, store.get(b"READ()"), name)?;
+    store.set(alloc, b"READ()", &names)?;
+    store.unset(name);
+    Ok(())
+}
+
+/// The same of the name that the first argument is, where it names a variable.
+fn begin_reading_first(
+    alloc: Global,
+    store: &mut Store<Place>,
+    reads: bool,
+    arguments: &[u8],
+) -> Result<(), NoMemory>
+    ensures ok { OnOk result (store.new ≡ spec.after_arguments reads arguments.now store.old) }
+    ensures err { OnErr result (store.new ≡ store.old) }
 {
     if reads {
-        let (first, _) = first_argument(arguments);
-        store.unset(trim(first));
+        begin_reading(alloc, store, name_to_read(arguments))?;
     }
+    Ok(())
 }
 
 /// The channel waits for an application that runs outside, and nothing is known any more of how an earlier run of it ended. One that
-/// is closing does not wait, and its call ends.
+/// is closing does not wait, and its call ends. After a refused growth the cell is as before.
 #[tactic(auto, unfolding(crate::specs::Outside::outside_row))]
-fn wait_outside(statuses: &[&[u8]], reads: bool, arguments: &[u8], cell: &mut Cell) -> Move
-    ensures row { spec.outside_row (map (λ status. status.now) statuses.now) reads arguments.now (cell_now cell.old)
-        ≡ record { cell = cell_now cell.new; next = result } }
+fn wait_outside(
+    alloc: Global,
+    statuses: &[&[u8]],
+    reads: bool,
+    arguments: &[u8],
+    cell: &mut Cell,
+) -> Result<Move, NoMemory>
+    ensures row { IfOk result (λ going. spec.outside_row (map (λ status. status.now) statuses.now) reads arguments.now (cell_now cell.old)
+        ≡ record { cell = cell_now cell.new; next = going }) }
+    ensures err { OnErr result (cell_now cell.new ≡ cell_now cell.old) }
     ensures loans { KeepsLoans cell.old cell.new }
 {
     if cell.is_closing {
-        return Move::Hang;
+        return Ok(Move::Hang);
     }
+    begin_reading_first(alloc, cell.store, reads, arguments)?;
     unset_all(cell.store, statuses);
-    unset_first(cell.store, reads, arguments);
-    Move::Park(Phase::Pause)
+    Ok(Move::Park(Phase::Pause))
 }
 
 /// A table in which the applications that run outside come first, each before the same name of the other table.
 ///
 /// The channel waits until a time-out, after which it goes on at the next priority. What the application says of how it ended, and
 /// what `Read` read, is told from outside while it waits: until then the variables for it have no value, also where an earlier run
-/// left one. While the channel is closing the call ends in place of the wait. All this is a choice of this program.
+/// left one, and nothing is known of them. The names that `Read` was given stand in the variable `READ()`. While the channel is
+/// closing the call ends in place of the wait. All this is a choice of this program.
 pub struct WithOutside<T> {
     types: PhantomData<T>,
 }
@@ -183,7 +218,7 @@ impl<T: AppTable> AppTable for WithOutside<T> {
         cell: &mut Cell,
     ) -> Result<Option<Move>, NoMemory> {
         if let Some(statuses) = outside_statuses(name) {
-            let going = wait_outside(statuses, is_read(name), arguments, cell);
+            let going = wait_outside(alloc, statuses, is_read(name), arguments, cell)?;
             return Ok(Some(going));
         }
         T::dispatch(alloc, name, arguments, cell)

@@ -2,13 +2,12 @@
 ghost use Rattle.std.specs.Prelude.{◌≡◌, IfOk, map};
 ghost use Rattle.std.specs.Option.{option_map};
 ghost use Rattle.dp_app.specs.Parts as parts;
-ghost use Rattle.dp_flow.specs.Jumps as jumps;
 ghost use Rattle.dp_wide.specs.TimeChoice as spec;
 
-use crate::choices::taken_side;
 use crate::times::{Moment, lies_in, read_moment};
-use dp_app::{Application, Cell, Move, Target, TargetParts, Touch, part};
+use dp_app::{Application, Cell, Move, Touch, part};
 use dp_conf::{NoMemory, cut_once, split_args};
+use dp_flow::{jump_if, taken_side};
 use dp_vars::Globals;
 use std::alloc::Global;
 
@@ -56,17 +55,6 @@ fn timed_side<'a>(
     };
     let is_first = is_time(alloc, clock, ranges)?;
     Ok(taken_side(is_first, sides))
-}
-
-/// A jump to a side by its text, or to the next priority where there is none.
-fn jump_if(alloc: Global, side: Option<&[u8]>) -> Result<Move, NoMemory>
-    ensures { IfOk result (λ going. going ≡ jumps.jump_if (option_map (λ side. side.now) side.entry)) }
-{
-    let Some(side) = side else {
-        return Ok(Move::Next);
-    };
-    let parts = TargetParts::of(alloc, side)?;
-    Ok(Move::Jump(Target::Parts(parts)))
 }
 
 /// `GotoIfTime(times,weekdays,days,months[,zone]?[target][:target])`: the channel goes to the first target if the clock lies in all

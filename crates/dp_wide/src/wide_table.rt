@@ -1,27 +1,31 @@
 //! The wide table of applications, after the Asterisk documentation's application reference.
-ghost use Rattle.std.specs.Prelude.{◌≡◌, IfOk, Some, map};
+ghost use Rattle.std.specs.Prelude.{◌≡◌, IfOk, OnErr, Some, is_some};
 ghost use Rattle.std.specs.Option.{option_map};
-ghost use Rattle.dp_conf.specs.Cut.{cut_once};
-ghost use Rattle.dp_conf.specs.Levels.{arguments_of};
+ghost use Rattle.dp_app.specs.Cells.{KeepsLoans, cell_now};
+ghost use Rattle.dp_app.specs.Lawful.{MayRun};
+ghost use Rattle.dp_app.specs.Rows.{after_dispatch, has_row};
 ghost use Rattle.dp_conf.specs.Words.{same_word};
 ghost use Rattle.dp_vars.specs.Sights.{sight_of};
 ghost use Rattle.dp_wide.specs.Choices.{exec_if_title};
 ghost use Rattle.dp_wide.specs.Wide as spec;
+ghost use Rattle.dp_wide.specs.steps.Plain as kinds;
 
 use crate::deleting::DbDel;
 use crate::ended::{Busy, Congestion};
 use crate::exec_if::{dispatch_with_exec_if, exec_if_application};
 use crate::functions::WideFunctions;
-use crate::going::WithGoing;
+use crate::going::{WithGoing, goes_on};
 use crate::macros::{Macro, MacroExit};
 use crate::names::is_word_of;
-use crate::outside::WithOutside;
-use crate::settings::{MSet, SetWide, bare_name, does_more};
+use crate::outside::{WithOutside, is_outside};
+use crate::placed::{BY_NAME, GOES_ON, OUTSIDE, Placed, placed_number};
+use crate::requests::inner_asked;
+use crate::settings::{MSet, SetWide};
 use crate::subroutines::{GosubIfWide, GosubWide};
 use crate::time_choice::GotoIfTime;
-use dp_app::{AppNumber, AppTable, Cell, KnownTable, Move, With, is_given, part};
-use dp_conf::{NoMemory, cut_once, same_word, split_args};
-use dp_flow::{Answer, Hangup, NoOp, Verbose, argument_of};
+use dp_app::{AppList, AppNumber, AppTable, Cell, KnownTable, Move, NoApps, With};
+use dp_conf::{NoMemory, same_word};
+use dp_flow::{Answer, Hangup, NoOp, Verbose};
 use dp_table::StandardApps;
 use dp_vars::{Counts, Scope};
 use std::alloc::Global;
@@ -80,99 +84,34 @@ fn inner_looks(name: &[u8]) -> bool
     Listed::looks_at_arguments(name)
 }
 
-/// The name that is set, where setting it does more than this machine follows.
-fn more_asked(name: &[u8]) -> &[u8]
-    ensures { result.now ≡ spec.name_asked name.now }
-{
-    let Some((function, after)) = cut_once(name, b'(') else {
-        return b"";
-    };
-    match argument_of(after) {
-        Some(argument) if does_more(function, argument) => name,
-        _ => b"",
-    }
-}
+/// Applications of the table that look at their arguments, and ask nothing whatever these are.
+const PLAIN: [&[u8]; 18] = [
+    b"Goto",
+    b"GotoIf",
+    b"Gosub",
+    b"GosubIf",
+    b"Return",
+    b"Playback",
+    b"Background",
+    b"Wait",
+    b"WaitExten",
+    b"Queue",
+    b"Macro",
+    b"MacroExit",
+    b"DBdel",
+    b"StackPop",
+    b"AddQueueMember",
+    b"RemoveQueueMember",
+    b"PauseQueueMember",
+    b"UnpauseQueueMember",
+];
 
-/// What a setting asks, as `NAME=VALUE`.
-fn setting_asked(text: &[u8]) -> &[u8]
-    ensures { result.now ≡ spec.setting_asked text.now }
+/// Whether an application is one of these. The names that most lines of a dialplan have come first.
+#[tactic(auto, unfolding(crate::specs::steps::Plain::plain_names))]
+fn is_plain(name: &[u8]) -> bool
+    ensures { result ≡ kinds.is_plain name.now }
 {
-    match cut_once(text, b'=') {
-        None => b"",
-        Some((name, _)) => more_asked(bare_name(name)),
-    }
-}
-
-/// What the first of some settings asks that asks something.
-fn settings_asked<'a>(texts: &[&'a [u8]]) -> &'a [u8]
-    ensures { result.now ≡ spec.settings_asked (map (λ text. text.now) texts.now) }
-{
-    let mut left = texts;
-    while let [text, rest @ ..] = left {
-        let asked = setting_asked(text);
-        if !asked.is_empty() {
-            return asked;
-        }
-        left = rest;
-    }
-    b""
-}
-
-/// What the settings of an `MSet` ask.
-fn list_asked(alloc: Global, arguments: &[u8]) -> Result<Vec<u8>, NoMemory>
-    ensures { IfOk result (λ text. text.items ≡ spec.settings_asked (arguments_of arguments.now)) }
-{
-    let texts = split_args(alloc, arguments)?;
-    Vec::from_slice(alloc, settings_asked(&texts))
-}
-
-/// The name of the application, where it is given a time zone.
-fn zone_asked(alloc: Global, arguments: &[u8]) -> Result<Vec<u8>, NoMemory>
-    ensures { IfOk result (λ text. text.items ≡ spec.zone_asked (cut_once 63 arguments.now)) }
-{
-    let Some((ranges, _)) = cut_once(arguments, b'?') else {
-        return Ok(Vec::new(alloc));
-    };
-    let parts = split_args(alloc, ranges)?;
-    if is_given(part(&parts, 4)) {
-        return Vec::from_slice(alloc, b"GotoIfTime");
-    }
-    Ok(Vec::new(alloc))
-}
-
-/// What `GotoIfTime` asks.
-fn time_asked<B, C: Counts>(
-    alloc: Global,
-    scope: &Scope<'_, B, C>,
-    arguments: &[u8],
-) -> Result<Vec<u8>, NoMemory>
-    ensures { IfOk result (λ text. text.items ≡ spec.time_asked (sight_of C.count scope.now) arguments.now) }
-{
-    if scope.globals.has(b"CLOCK") {
-        return zone_asked(alloc, arguments);
-    }
-    Vec::from_slice(alloc, b"CLOCK")
-}
-
-/// What an application asks with its arguments, which is no `ExecIf`.
-fn inner_asked<B, C: Counts>(
-    alloc: Global,
-    scope: &Scope<'_, B, C>,
-    name: &[u8],
-    arguments: &[u8],
-) -> Result<Vec<u8>, NoMemory>
-    ensures { IfOk result (λ text. text.items ≡ spec.inner_asked (sight_of C.count scope.now) name.now arguments.now) }
-{
-    if same_word(name, b"GotoIfTime") {
-        return time_asked(alloc, scope, arguments);
-    }
-    if same_word(name, b"Set") {
-        return Vec::from_slice(alloc, setting_asked(arguments));
-    }
-    if same_word(name, b"MSet") {
-        return list_asked(alloc, arguments);
-    }
-    Ok(Vec::new(alloc))
+    is_word_of(&PLAIN, name)
 }
 
 /// Whether an application is `ExecIf`.
@@ -183,8 +122,8 @@ fn is_exec_if(name: &[u8]) -> bool
 }
 
 /// The application that runs in the end, with its arguments, where an `ExecIf` may run another.
-fn followed<'a>(name: &'a [u8], arguments: &'a [u8]) -> Option<(&'a [u8], &'a [u8])>
-    ensures { option_map (λ call. (call.0.now, call.1.now)) result ≡ spec.followed 8 name.now arguments.now }
+fn call_in_the_end<'a>(name: &'a [u8], arguments: &'a [u8]) -> Option<(&'a [u8], &'a [u8])>
+    ensures { option_map (λ call. (call.0.now, call.1.now)) result ≡ spec.call_in_the_end 8 name.now arguments.now }
 {
     let mut name = name;
     let mut arguments = arguments;
@@ -205,6 +144,20 @@ fn followed<'a>(name: &'a [u8], arguments: &'a [u8]) -> Option<(&'a [u8], &'a [u
     Some((name, arguments))
 }
 
+/// The number of an application that is not among the placed ones, and is no `ExecIf`. It is asked by name in lists.
+#[tactic(auto, using(crate::proofs::PlacedLemmas::going_has, crate::proofs::PlacedLemmas::outside_has), unfolding(crate::specs::Wide::inner_table))]
+fn number_by_lists(name: &[u8]) -> Option<AppNumber>
+    ensures { is_some result ≡ has_row spec.inner_table.rows name.now }
+{
+    if goes_on(name) {
+        return Some(GOES_ON);
+    }
+    if is_outside(name) {
+        return Some(OUTSIDE);
+    }
+    Inner::number_of(name)
+}
+
 /// The wide table without `ExecIf`.
 struct InnerApps;
 
@@ -221,9 +174,12 @@ impl AppTable for InnerApps {
 
     type Functions = WideFunctions;
 
-    #[tactic(auto, unfolding(crate::specs::Wide::inner_table))]
+    #[tactic(auto, using(crate::proofs::PlacedLemmas::placed_has_inner))]
     fn number_of(name: &[u8]) -> Option<AppNumber> {
-        Inner::number_of(name)
+        match placed_number(name) {
+            Some(number) => Some(number),
+            None => number_by_lists(name),
+        }
     }
 
     #[tactic(auto, unfolding(crate::specs::Wide::inner_table))]
@@ -233,7 +189,10 @@ impl AppTable for InnerApps {
         arguments: &[u8],
         cell: &mut Cell,
     ) -> Result<Option<Move>, NoMemory> {
-        Inner::dispatch(alloc, name, arguments, cell)
+        match Placed::dispatch(alloc, name, arguments, cell)? {
+            Some(going) => Ok(Some(going)),
+            None => Inner::dispatch(alloc, name, arguments, cell),
+        }
     }
 }
 
@@ -275,13 +234,15 @@ impl AppTable for WideApps {
 
     type Functions = WideFunctions;
 
-    #[tactic(auto, unfolding(crate::specs::Wide::wide_table))]
+    #[tactic(auto, using(crate::proofs::PlacedLemmas::placed_has), unfolding(crate::specs::Wide::wide_table))]
     fn number_of(name: &[u8]) -> Option<AppNumber> {
-        if is_exec_if(name) {
-            return Some(AppNumber::first());
+        if let Some(number) = placed_number(name) {
+            return Some(number);
         }
-        let number = InnerApps::number_of(name)?;
-        Some(number.after())
+        if is_exec_if(name) {
+            return Some(BY_NAME);
+        }
+        number_by_lists(name)
     }
 
     #[tactic(auto, unfolding(crate::specs::Wide::wide_table))]
@@ -293,6 +254,63 @@ impl AppTable for WideApps {
     ) -> Result<Option<Move>, NoMemory> {
         dispatch_with_exec_if::<InnerApps>(alloc, name, arguments, cell)
     }
+
+    #[inline(always)]
+    fn run_by_number(
+        alloc: Global,
+        number: AppNumber,
+        name: &[u8],
+        arguments: &[u8],
+        cell: &mut Cell,
+    ) -> Result<Option<Move>, NoMemory> {
+        match Placed::run_at(alloc, number.place, name, arguments, cell)? {
+            Some(going) => Ok(Some(going)),
+            None => run_from_lists(alloc, number, name, arguments, cell),
+        }
+    }
+}
+
+/// Runs an application that runs outside, if it has this name, else as the table does.
+fn run_outside(
+    alloc: Global,
+    name: &[u8],
+    arguments: &[u8],
+    cell: &mut Cell,
+) -> Result<Option<Move>, NoMemory>
+    requires { MayRun (cell_now cell.old) }
+    ensures ok { IfOk result (λ going. after_dispatch (spec.wide_rows name.now) arguments.now (cell_now cell.old)
+        ≡ (cell_now cell.new, going)) }
+    ensures err { OnErr result (cell_now cell.new ≡ cell_now cell.old) }
+    ensures loans { KeepsLoans cell.old cell.new }
+{
+    match WithOutside::<NoApps>::dispatch(alloc, name, arguments, cell)? {
+        Some(going) => Ok(Some(going)),
+        None => WideApps::dispatch(alloc, name, arguments, cell),
+    }
+}
+
+/// Runs an application that is not among the placed ones: the number says which list has its name.
+#[tactic(auto, using(crate::proofs::PlacedLemmas::going_row))]
+fn run_from_lists(
+    alloc: Global,
+    number: AppNumber,
+    name: &[u8],
+    arguments: &[u8],
+    cell: &mut Cell,
+) -> Result<Option<Move>, NoMemory>
+    requires { MayRun (cell_now cell.old) }
+    ensures ok { IfOk result (λ going. after_dispatch (spec.wide_rows name.now) arguments.now (cell_now cell.old)
+        ≡ (cell_now cell.new, going)) }
+    ensures err { OnErr result (cell_now cell.new ≡ cell_now cell.old) }
+    ensures loans { KeepsLoans cell.old cell.new }
+{
+    if number == GOES_ON && goes_on(name) {
+        return Ok(Some(Move::Next));
+    }
+    if number == OUTSIDE {
+        return run_outside(alloc, name, arguments, cell);
+    }
+    WideApps::dispatch(alloc, name, arguments, cell)
 }
 
 impl KnownTable for WideApps {
@@ -303,8 +321,13 @@ impl KnownTable for WideApps {
 
     ghost overlooks = { wide_overlooks };
 
+    // The everyday names come first: `NoOp` is the first word of the first list, and `Goto` that of the second.
+    #[tactic(auto, using(crate::proofs::KindsLemmas::quiet_looks, crate::proofs::KindsLemmas::plain_looks))]
     fn looks_at_arguments(name: &[u8]) -> bool {
-        is_exec_if(name) || inner_looks(name)
+        if is_word_of(&QUIET, name) {
+            return false;
+        }
+        is_plain(name) || is_exec_if(name) || inner_looks(name)
     }
 
     #[tactic(auto, unfolding(crate::specs::Wide::wide_asks))]
@@ -314,7 +337,10 @@ impl KnownTable for WideApps {
         name: &[u8],
         arguments: &[u8],
     ) -> Result<Vec<u8>, NoMemory> {
-        match followed(name, arguments) {
+        if is_plain(name) {
+            return Ok(Vec::new(alloc));
+        }
+        match call_in_the_end(name, arguments) {
             None => Ok(Vec::new(alloc)),
             Some((name, arguments)) => call_asked(alloc, scope, name, arguments),
         }

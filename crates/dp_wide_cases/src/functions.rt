@@ -1,6 +1,7 @@
 //! Functions of the wide table in texts, worked out by hand from the rules.
 mod callers;
 mod cells;
+mod expressions;
 mod fields;
 mod names;
 mod texts;
@@ -153,6 +154,8 @@ const TABLES: &[&str] = &[
     callers::CALLERS,
     cells::CELLS,
     cells::KEYS,
+    expressions::EXPRESSIONS,
+    expressions::BRACKETS,
     fields::CUTS,
     fields::COUNTS,
     names::NAMES,
@@ -200,14 +203,14 @@ impl Question for Nested {
     }
 }
 
-/// At most 32 calls stand inside each other.
+/// At most 8 calls stand inside each other.
 const DEPTHS: &str = r"
 0→a-b
 1→a
 2→a
-31→a
-32→a
-33→ unknown
+7→a
+8→a
+9→ unknown
 40→ unknown
 ";
 

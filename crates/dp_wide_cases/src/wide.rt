@@ -35,6 +35,21 @@ const AHEAD: &str = r"
 1,Set(A=${NAME}${EXTEN})¦?;step;$A→none, A=s
 1,VoiceMail(100)\n2,Set(A=${VMSTATUS})¦step;time;?;1 VMSTATUS=SUCCESS;?;step;$A→VMSTATUS, none, A=SUCCESS
 1,Set(VMSTATUS=OLD)\n2,VoiceMail(1)\n3,Set(A=${VMSTATUS})¦step;$VMSTATUS;step;$VMSTATUS;time;?→VMSTATUS=OLD, VMSTATUS=, VMSTATUS
+# What `Read` was given, until something sets it.
+1,Read(X,beep)\n2,Set(A=${X})¦step;time;?;1 X=42;?;step;$A→X, none, A=42
+1,Set(X=1)\n2,Read(X)\n3,Set(A=${X}${Y})¦step;$X;step;$X;time;?→X=1, X=, X
+1,Read(X)\n2,Read(Y)\n3,Set(A=${Y}${X})¦step;time;step;time;?;1 Y=;?;1 X=7;?;step;$A→Y, X, none, A=7
+1,Read(__X)\n2,Set(A=${X})¦step;time;?→X
+1,Read(X)\n2,Set(X=3)\n3,Set(A=${X})¦step;time;step;?;step;$A→none, A=3
+1,Read(X)\n2,Set(A=${x}${XY}${READ})¦step;time;?;step;$A→none, A=
+1,Read(X)\n2,Set(A=${ISNULL(${X})})¦step;time;?→X
+1,Read(X)\n2,NoOp(${X})¦step;time;?→none
+# An expression that Asterisk may read otherwise, one that is `0`, and a text whose brackets it counts.
+1,GotoIf($[${X} / 2]?2)¦1 X=7;?;1 X=8;?→$[7 / 2], none
+1,Set(A=$[${X} + 1])¦?;step;$A→none, A=0
+1,GotoIf($[\x22${X}\x22 : \x22a+\x22]?2)¦1 X=aa;?→$[\x22aa\x22 : \x22a+\x22]
+1,Set(A=${X{1})¦?→A=${X{1}
+1,NoOp(${X{1})¦?→none
 # The clock, and a time zone.
 1,GotoIfTime(*,*,*,*?2)¦?→asks CLOCK
 1,GotoIfTime(*,*,*,*?2)¦1 CLOCK=wed 2026-11-25 10:30;?→asks CLOCK
@@ -52,6 +67,30 @@ const AHEAD: &str = r"
 1,MSet(A=1,PUSH(x)=2,POP(y)=3)¦?→asks PUSH(x)
 1,MSet(A=1,B=2)¦?→none
 1,MSet()¦?→none
+# Names of an `ARRAY` that do more, also with blanks and marks, and an `ARRAY` in an `ARRAY`.
+1,Set(ARRAY(HASH(a,b),B)=1,2)¦?→asks HASH(a,b)
+1,Set(ARRAY(A,B)=1,2)¦?→none
+1,Set(ARRAY(A, _PUSH(x) ,POP(y))=1,2,3)¦?→asks PUSH(x)
+1,Set(ARRAY(DB(a),CDR(x))=1,2)¦?→none
+1,Set(ARRAY(A,ARRAY(B,C))=1,2)¦?→asks ARRAY(B,C)
+1,Set(ARRAY(ARRAY(HASH(a)))=1)¦?→asks ARRAY(HASH(a))
+1,Set(ARRAY(CHANNEL(hangup_handler_push))=h)¦?→asks CHANNEL(hangup_handler_push)
+1,Set(ARRAY(HASH(a)=1)¦?→none
+1,Set(ARRAY()=1)¦?→none
+1,MSet(A=1,ARRAY(INC(X))=2)¦?→asks INC(X)
+1,ExecIf(1?Set(ARRAY(EVAL(x))=1))¦?→asks EVAL(x)
+# The called side goes elsewhere: the option `G` outside parentheses, where there are devices.
+1,Dial(SIP/1,20,G(a^s^1))¦?→asks G
+1,Dial(SIP/1,20,tTG(a^s^1)r)¦?→asks G
+1,dial(SIP/1,,G(2))¦?→asks G
+1,Dial(SIP/1,20,g)¦?→none
+1,Dial(SIP/1,20,U(subG(x)))¦?→none
+1,Dial(SIP/1,G(2))¦?→none
+1,Dial(SIP/1,20,t,G(2))¦?→none
+1,Dial(,20,G(a^s^1))¦?→none
+1,Dial(SIP/1,20,G)¦?→asks G
+1,ExecIf(1?Dial(SIP/1,20,G(a^s^1)))¦?→asks G
+1,ExecIf(0?Dial(SIP/1,20,G(a^s^1)))¦?→none
 # The side that an `ExecIf` takes, also inside of another one, and the one that it does not take.
 1,ExecIf(1?While(1):NoOp())¦?→asks While
 1,ExecIf(0?While(1):NoOp())¦?→none

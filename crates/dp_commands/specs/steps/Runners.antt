@@ -5,10 +5,9 @@ use Rattle.dp_commands.specs.Turns.{Taken}
 use Rattle.dp_commands.specs.steps.Streams.{Streams}
 use Rattle.dp_commands.specs.declared.fault.PbxFault.{PbxFault}
 use Rattle.dp_commands.specs.declared.run.Runner.{Runner}
-use Rattle.dp_commands.specs.declared.script.Turn.{Turn}
 
 -- what some turns come to where a runner takes them, by what was written before them and the runner, and what is written after them
 -- and the runner then
-abbrev pub Takes : {T : Type 0} → (T × World → Turn → Taken (T × World)) → List Turn → Option (List ℕ) → Runner T → Option (List ℕ) → Runner T → Result Bool PbxFault → Type 0
+abbrev pub Takes : {T A U : Type 0} → (T × World → U → Taken (T × World)) → List U → Option (List ℕ) → Runner T A → Option (List ℕ) → Runner T A → Result Bool PbxFault → Type 0
 Takes step turns old before new after result =
     Streams step (before.taker, before.machine) turns old before.block.whole new after.block.whole (after.taker, after.machine) result

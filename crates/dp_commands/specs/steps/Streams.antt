@@ -4,7 +4,6 @@ use Rattle.std.specs.Io.KnownBytes.{Appends, Keeps}
 use Rattle.dp_conf.specs.Fronts.{AppendsFront, IsFront}
 use Rattle.dp_machine.specs.World.{World}
 use Rattle.dp_commands.specs.Faults.{is_write_failed}
-use Rattle.dp_commands.specs.Run.{status_by}
 use Rattle.dp_commands.specs.Trace.{after_turn}
 use Rattle.dp_commands.specs.Turns.{Taken, lines_of, refused_in, state_past, text_of}
 use Rattle.dp_commands.specs.declared.fault.Code.TheVariants.{WriteFailed}
@@ -24,7 +23,7 @@ Flows (Some xs) waited None waits bytes = ⊥
 Flows (Some xs) waited (Some ys) waits bytes = (ys ++ waits ≡ xs ++ (waited ++ bytes)) × IsFront xs ys
 
 -- the lines of the first so many turns flowed, and nothing else
-pub record FlowsFirst {S : Type 0} (step : S → Turn → Taken S) (s : S) (turns : List Turn) (old : Option (List ℕ)) (waited : List ℕ) (new : Option (List ℕ)) (waits : List ℕ) : Type 0 where
+pub record FlowsFirst {S U : Type 0} (step : S → U → Taken S) (s : S) (turns : List U) (old : Option (List ℕ)) (waited : List ℕ) (new : Option (List ℕ)) (waits : List ℕ) : Type 0 where
   pub count : ℕ
   pub within : count ≤ length turns
   pub flowed : Flows old waited new waits (lines_of step s (take count turns))
@@ -32,26 +31,26 @@ pub record FlowsFirst {S : Type 0} (step : S → Turn → Taken S) (s : S) (turn
 -- what some turns come to where a state meets them, by what was written and what waited before, and what is written and
 -- waits after them: their lines flow, with whether one was refused; where a write failed, a front was written of what
 -- waited and the lines; and the lines of the first so many of them flow where memory was refused
-abbrev pub Streams : {S : Type 0} → (S → Turn → Taken S) → S → List Turn → Option (List ℕ) → List ℕ → Option (List ℕ) → List ℕ → S → Result Bool PbxFault → Type 0
+abbrev pub Streams : {S U : Type 0} → (S → U → Taken S) → S → List U → Option (List ℕ) → List ℕ → Option (List ℕ) → List ℕ → S → Result Bool PbxFault → Type 0
 Streams step s turns old waited new waits after (Ok refused) =
     Flows old waited new waits (lines_of step s turns) × (after ≡ state_past step s turns) × (refused ≡ refused_in step s turns)
 Streams step s turns old waited new waits after (Err (Coded code line)) =
     AppendsFront old new (waited ++ lines_of step s turns) × (code ≡ WriteFailed) × (line ≡ None)
 Streams step s turns old waited new waits after (Err NoMemory) = FlowsFirst step s turns old waited new waits
 
--- the same of the turns and of the lines after the last of them
-abbrev pub StreamsAll : {S : Type 0} → (S → Turn → Taken S) → (S → List ℕ) → S → List Turn → Option (List ℕ) → List ℕ → Option (List ℕ) → List ℕ → Result Bool PbxFault → Type 0
-StreamsAll step last s turns old waited new waits (Ok refused) =
-    Flows old waited new waits (text_of step last s turns) × (refused ≡ refused_in step s turns)
-StreamsAll step last s turns old waited new waits (Err (Coded code line)) =
+-- the same of the turns and of the lines after the last of them, with the status
+abbrev pub StreamsAll : {S U : Type 0} → (S → U → Taken S) → (S → List ℕ) → (S → Bool → ℕ) → S → List U → Option (List ℕ) → List ℕ → Option (List ℕ) → List ℕ → Result ℕ PbxFault → Type 0
+StreamsAll step last status s turns old waited new waits (Ok answer) =
+    Flows old waited new waits (text_of step last s turns) × (answer ≡ status (state_past step s turns) (refused_in step s turns))
+StreamsAll step last status s turns old waited new waits (Err (Coded code line)) =
     AppendsFront old new (waited ++ text_of step last s turns) × (code ≡ WriteFailed) × (line ≡ None)
-StreamsAll step last s turns old waited new waits (Err NoMemory) = FlowsFirst step s turns old waited new waits
+StreamsAll step last status s turns old waited new waits (Err NoMemory) = FlowsFirst step s turns old waited new waits
 
 -- what the end of a run writes and answers, by what waits and what the run came to
-abbrev pub Ends : Option (List ℕ) → List ℕ → Option (List ℕ) → Result Bool PbxFault → Result ℕ PbxFault → Type 0
-Ends old waits new (Ok refused) (Ok status) = Appends old new waits × (status ≡ status_by refused)
-Ends old waits new (Ok refused) (Err (Coded code line)) = AppendsFront old new waits × (code ≡ WriteFailed) × (line ≡ None)
-Ends old waits new (Ok refused) (Err NoMemory) = ⊥
+abbrev pub Ends : Option (List ℕ) → List ℕ → Option (List ℕ) → Result ℕ PbxFault → Result ℕ PbxFault → Type 0
+Ends old waits new (Ok came_to) (Ok status) = Appends old new waits × (status ≡ came_to)
+Ends old waits new (Ok came_to) (Err (Coded code line)) = AppendsFront old new waits × (code ≡ WriteFailed) × (line ≡ None)
+Ends old waits new (Ok came_to) (Err NoMemory) = ⊥
 Ends old waits new (Err (Coded code line)) (Ok status) = ⊥
 Ends old waits new (Err (Coded code line)) (Err (Coded other at)) = Keeps old new × (other ≡ code) × (at ≡ line)
 Ends old waits new (Err (Coded code line)) (Err NoMemory) = ⊥
@@ -60,7 +59,7 @@ Ends old waits new (Err NoMemory) (Err (Coded code line)) = AppendsFront old new
 Ends old waits new (Err NoMemory) (Err NoMemory) = Appends old new waits
 
 -- whether the write at the end of a run failed, by what the run came to: after a failed write there is none
-abbrev pub fails_at_the_end : Result Bool PbxFault → Result ℕ PbxFault → Bool
-fails_at_the_end (Ok refused) result = is_write_failed result
+abbrev pub fails_at_the_end : Result ℕ PbxFault → Result ℕ PbxFault → Bool
+fails_at_the_end (Ok came_to) result = is_write_failed result
 fails_at_the_end (Err (Coded code line)) result = false
 fails_at_the_end (Err NoMemory) result = is_write_failed result

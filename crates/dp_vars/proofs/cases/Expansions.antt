@@ -1,9 +1,11 @@
 -- Texts that are expanded, and parts of values, computed on the definitions themselves.
-use Rattle.std.proofs.Common.{◌≡◌, [], Some, None, refl, ◌||◌, if◌then◌else◌, codes}
+use Rattle.std.proofs.Common.{◌≡◌, [], Some, None, refl, not, ◌||◌, if◌then◌else◌, codes}
 use Rattle.std.specs.Fmt.{digits}
 use Rattle.dp_conf.specs.GroupsRead.{levels, reading_of}
 use Rattle.dp_conf.specs.Levels.{cut_outside}
 use Rattle.dp_conf.specs.Words.{same_text}
+use Rattle.dp_expr.specs.declared.reading.ExpressionReading.TheVariants as readings
+use Rattle.dp_vars.specs.Openings.{has_opening}
 use Rattle.dp_vars.specs.Parts.{asked_of, part}
 use Rattle.dp_vars.specs.Sights.{Sight}
 use Rattle.dp_vars.specs.Functions.{FunctionTable, Nothing}
@@ -71,12 +73,15 @@ row-functions : expansion sight (codes "${GLOBAL(G)}${CALLERID(num):-4}${CALLERI
 unfolding sight reading_of levels expansion_of_with group_value_with head_value_with cut_outside digits
 row-functions = refl
 
--- a table that knows of functions `DB` alone, whose value is its argument, and of names those that are set
+-- a table that knows of functions `DB` alone, whose value is its argument, of names those that are set, and of expressions one, and
+-- one that is `0`
 own_functions : FunctionTable
 own_functions = record {
   value = λ sight name argument. if same_text name (codes "DB") then argument else [];
   knows = λ sight name argument. same_text name (codes "DB");
   knows_name = λ sight name. sight.is_set name;
+  reads = λ text. not (same_text text (codes "${A{}}"));
+  expression = λ body. if same_text body (codes "1 + 2") then readings.Value else (if same_text body (codes "1 2") then readings.Zero else readings.Unknown);
   target = λ name. Nothing;
 }
 
@@ -87,14 +92,28 @@ row-own = refl
 
 -- what stands inside of a group comes first
 row-unknown : first_unknown own_functions sight (codes "${DB(x)}${G(${F(${X}):1})}") ≡ Some (codes "F(abcdef)")
-unfolding own_functions sight reading_of levels expansion_of_with group_value_with head_value_with cut_outside unknown_of unknown_group
+unfolding own_functions sight reading_of levels expansion_of_with group_value_with head_value_with cut_outside unknown_of unknown_group has_opening
 row-unknown = refl
 
 row-known : first_unknown own_functions sight (codes "${DB(x)}${X}$[1 + 2]${F(}") ≡ None
-unfolding own_functions sight reading_of levels expansion_of_with group_value_with head_value_with cut_outside unknown_of unknown_group
+unfolding own_functions sight reading_of levels expansion_of_with group_value_with head_value_with cut_outside unknown_of unknown_group has_opening
 row-known = refl
 
 -- a name that is not known, by which an argument is found
 row-unknown_name : first_unknown own_functions sight (codes "${X}${DB(${N:1})}${M}") ≡ Some (codes "N")
-unfolding own_functions sight reading_of levels expansion_of_with group_value_with head_value_with cut_outside unknown_of unknown_group
+unfolding own_functions sight reading_of levels expansion_of_with group_value_with head_value_with cut_outside unknown_of unknown_group has_opening
 row-unknown_name = refl
+
+-- an expression that is not known comes after what stands inside of it, and is named as it stands
+row-unknown_expression : first_unknown own_functions sight (codes "$[1 + 2]$[1 2]$[${X}]${N}") ≡ Some (codes "$[abcdef]")
+unfolding own_functions sight reading_of levels expansion_of_with group_value_with head_value_with cut_outside unknown_of unknown_group has_opening
+row-unknown_expression = refl
+
+row-zero : expansion_with own_functions sight (codes "a$[1 2]b") ≡ codes "a0b"
+unfolding own_functions sight reading_of levels expansion_of_with group_value_with head_value_with cut_outside
+row-zero = refl
+
+-- a text in which the table reads other groups is not known itself
+row-read_otherwise : first_unknown own_functions sight (codes "${A{}}") ≡ Some (codes "${A{}}")
+unfolding own_functions sight reading_of levels expansion_of_with group_value_with head_value_with cut_outside unknown_of unknown_group has_opening
+row-read_otherwise = refl

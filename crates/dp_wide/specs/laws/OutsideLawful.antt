@@ -14,9 +14,9 @@ use Rattle.dp_app.specs.Lawful.{IsBlind, IsLawful, IsLawfulRow, KeepsUntouched, 
 use Rattle.dp_app.specs.Rows.{Rows}
 use Rattle.dp_app.specs.declared.touch.Touch.{Touch}
 use Rattle.dp_flow.specs.Touches.{the_variables}
-use Rattle.dp_wide.specs.Outside.{is_outside, is_read, outside_applications, outside_outcome, outside_row, outside_statuses, row_outside, without_first, without_values, with_outside, with_outside_knowledge, with_outside_touch}
+use Rattle.dp_wide.specs.Outside.{after_arguments, is_outside, is_read, outside_applications, outside_outcome, outside_row, outside_statuses, row_outside, without_values, with_outside, with_outside_knowledge, with_outside_touch}
 use Rattle.dp_wide.specs.laws.NamesLawful.{lowered, with_named_blind, with_named_lawful, with_named_overlooks}
-use Rattle.dp_wide.specs.laws.UnsetKept.{without_first_kept, without_values_kept}
+use Rattle.dp_wide.specs.laws.UnsetKept.{after_arguments_kept, without_values_kept}
 
 false_is_true : false ≡ true → ⊥
 false_is_true e = cc
@@ -26,9 +26,9 @@ module _ (statuses : List (List ℕ)) (reads : Bool) (arguments : List ℕ) (cel
   outside_kept : (closing : Bool) → KeepsUntouched the_variables cell (outside_outcome statuses reads arguments cell closing).cell
   outside_kept true = cell_kept the_variables cell
   outside_kept false =
-      with_store_kept the_variables cell (without_first reads arguments (without_values statuses cell.store))
-      (without_first_kept the_variables cell.store (without_values statuses cell.store) reads arguments refl
-      (without_values_kept the_variables cell.store cell.store statuses refl (store_kept the_variables cell.store)))
+      with_store_kept the_variables cell (without_values statuses (after_arguments reads arguments cell.store))
+      (without_values_kept the_variables cell.store (after_arguments reads arguments cell.store) statuses refl
+      (after_arguments_kept the_variables cell.store cell.store reads arguments refl (store_kept the_variables cell.store)))
 
   outside_parks : (count : ℕ) (closing : Bool) → MayGo count (outside_outcome statuses reads arguments cell closing).next
   outside_parks count true = tt

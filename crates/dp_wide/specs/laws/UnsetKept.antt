@@ -1,13 +1,13 @@
 -- What is kept of a store in which names have no value any more.
 use Rattle.std.specs.Prelude.{◌≡◌, ℕ, Bool, true, false, List, [], ◌∷◌, map, refl}
 use Rattle.std.proofs.Common.{ap, sym, ◌∙◌}
-use Rattle.dp_conf.specs.Levels.{arguments_of}
-use Rattle.dp_vars.specs.Stores.{Frame, StoreOf, unset, without_local}
+use Rattle.dp_vars.specs.Stores.{Frame, StoreOf, set, unset, value_in, without_local}
 use Rattle.dp_app.specs.Lawful.{KeepsStore}
-use Rattle.dp_app.specs.Parts.{part}
+use Rattle.dp_app.specs.laws.StoreKept.{set_kept}
 use Rattle.dp_app.specs.declared.place.Place.{Place}
 use Rattle.dp_app.specs.declared.touch.Touch.{Touch}
-use Rattle.dp_wide.specs.Outside.{without_first, without_values}
+use Rattle.dp_wide.specs.Outside.{after_arguments, name_to_read, without_values}
+use Rattle.dp_wide.specs.ReadNames.{read_names, with_listed}
 
 true_is_false : true ≡ false → ⊥
 true_is_false e = cc
@@ -40,9 +40,13 @@ without_values_kept touch before after [] touches kept = kept
 without_values_kept touch before after (name ∷ names) touches kept =
     without_values_kept touch before (unset after name) names touches (unset_kept touch before after name touches kept)
 
--- and the name that the first argument is
-pub without_first_kept : (touch : Touch) (before after : StoreOf Place) (reads : Bool) (arguments : List ℕ) → touch.variables ≡ true
-    → KeepsStore touch before after → KeepsStore touch before (without_first reads arguments after)
-without_first_kept touch before after false arguments touches kept = kept
-without_first_kept touch before after true arguments touches kept =
-    unset_kept touch before after (part 0 (arguments_of arguments)) touches kept
+-- and a name that is to be read, where the first argument is one
+pub after_arguments_kept : (touch : Touch) (before after : StoreOf Place) (reads : Bool) (arguments : List ℕ) → touch.variables ≡ true
+    → KeepsStore touch before after → KeepsStore touch before (after_arguments reads arguments after)
+after_arguments_kept touch before after false arguments touches kept = kept
+after_arguments_kept touch before after true arguments touches kept =
+    unset_kept touch before (set after read_names value) (name_to_read arguments) touches
+    (set_kept touch before after read_names value touches kept)
+  where
+    value : List ℕ
+    value = with_listed (value_in after read_names) (name_to_read arguments)

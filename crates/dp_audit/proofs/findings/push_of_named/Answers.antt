@@ -1,4 +1,4 @@
-use Rattle.std.proofs.Common.{◌∙◌, ℕ, Bool, List, [], sym, subst}
+use Rattle.std.proofs.Common.{ℕ, Bool, List, [], sym, subst}
 use Rattle.dp_lookup.specs.FoundEntry.{entries_at}
 use Rattle.dp_audit.specs.Findings.{has_greater, has_lower, some_first}
 use Rattle.dp_audit.specs.steps.Firsts.{Adds}

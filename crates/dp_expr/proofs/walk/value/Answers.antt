@@ -1,6 +1,7 @@
 use Rattle.std.proofs.Common.{None, unwrap_or, sym, ap, ◌∙◌}
 use Rattle.dp_expr.specs.Tokens.{tokens_of}
-use Rattle.dp_expr.specs.Walk.{walk, values}
+use Rattle.dp_expr.specs.Walk.{walk}
+use Rattle.dp_expr.specs.steps.Exact.{values_by}
 use Rattle.dp_expr.specs.steps.Frames.{frames_seen}
 use Rattle.dp_expr.specs.steps.Places.{place_seen}
 use Rattle.dp_expr.proofs.walk.value.Goals as goal
@@ -10,8 +11,8 @@ unfolding walk
 loop-token-preserved c =
     let here = place_seen c.loop-token.place (frames_seen c.loop-token.stack.frames.items) in
     let after = tokens_of c.in-Some.after.now in
-    ap (λ s. walk values s after) c.in_ok-place.ensures
-    ∙ sym (ap (walk values here) c.in-Some.ensures.tokens)
+    ap (λ s. walk (values_by c.args.division) s after) c.in_ok-place.ensures
+    ∙ sym (ap (walk (values_by c.args.division) here) c.in-Some.ensures.tokens)
     ∙ c.loop-token.invariant
 
 pub returns : goal.returns
@@ -19,4 +20,4 @@ unfolding walk
 returns c =
     let here = place_seen c.loop-token.place (frames_seen c.loop-token.stack.frames.items) in
     c.finish.ensures
-    ∙ ap (λ o. unwrap_or o None) (sym (ap (walk values here) c.in_default.ensures) ∙ c.loop-token.invariant)
+    ∙ ap (λ o. unwrap_or o None) (sym (ap (walk (values_by c.args.division) here) c.in_default.ensures) ∙ c.loop-token.invariant)

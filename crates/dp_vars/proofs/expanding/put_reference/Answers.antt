@@ -13,6 +13,7 @@ returns-clause-value g c =
 
 pub returns-clause-unknown : goal.returns-clause-unknown
 returns-clause-unknown g c =
-    put-unknown g.F.Functions.table (sight_of g.C.Counts.count c.args.scope.now) c.args.start c.args.bytes.now.items _ c.split_at.result.1.now
-    c.in_ok-reference.ensures.unknown
+    put-unknown g.F.Functions.table (sight_of g.C.Counts.count c.args.scope.now) c.args.start c.args.bytes.now.items
+    c.args.noted.now.items c.note_body.new.noted.items c.split_at.result.1.now c.in_ok-reference.reference.called.is_known
+    c.in_ok-note_body.ensures c.in_ok-reference.ensures.known
     (c.split_at.ensures.back ∙ ap (drop (c.args.start + 2)) c.deref.ensures.value)

@@ -12,8 +12,8 @@ returns-clause-writes g c =
     let new = g.W.WriteTold.contents c.end.new.writer in
     let waits = c.take_all-ran.new.self.block.whole in
     let turns = turns_of c.args.lines.now in
-    let P : List ℕ → Type 0 = λ b. StreamsAll g.T.Taker.step (λ at. g.T.Taker.last at.0) (c.args.self.now.taker, c.args.self.now.machine) turns old b mid waits c.take_all-ran.result in
-    Writes-ends g.T.Taker.step (λ at. g.T.Taker.last at.0) (c.args.self.now.taker, c.args.self.now.machine) turns old mid new waits c.take_all-ran.result c.end.result (subst P c.requires c.take_all-ran.ensures.streams) c.end.ensures.ends
+    let P : List ℕ → Type 0 = λ b. StreamsAll g.T.Taker.step (λ at. g.T.Taker.last at.0) (λ at. g.T.Taker.status at.0) (c.args.self.now.taker, c.args.self.now.machine) turns old b mid waits c.take_all-ran.result in
+    Writes-ends g.T.Taker.step (λ at. g.T.Taker.last at.0) (λ at. g.T.Taker.status at.0) (c.args.self.now.taker, c.args.self.now.machine) turns old mid new waits c.take_all-ran.result c.end.result (subst P c.requires c.take_all-ran.ensures.streams) c.end.ensures.ends
 
 -- and so whether a write failed
 pub returns-clause-told : goal.returns-clause-told

@@ -2,7 +2,6 @@ use Rattle.std.proofs.Common.{◌≡◌, ◌+◌, ◌-◌, List, [], ◌∷◌, 
 use Rattle.std.proofs.lemmas.List.{replicate-append-replicate}
 use Rattle.std.proofs.Math.Bool.{or-false}
 use Rattle.std.proofs.lemmas.Result.{err_from_is_err_and}
-use Rattle.dp_commands.specs.declared.script.Turn.{Turn}
 use Rattle.dp_commands.proofs.RunnersLemmas.{Takes-goes_on, Takes-stops}
 use Rattle.dp_commands.proofs.run.Runner.take_line.Goals as goal
 
@@ -15,7 +14,7 @@ returns-in_err-refused-clause-streams g c =
     let left = count - (i + 1) in
     let all : (i + 1) + left ≡ count = omega (arith, c.loop-turn-test.true) in
     let whole : (replicate i x ++ x ∷ []) ++ replicate left x ≡ replicate count x =
-    ap (λ (ts : List Turn). ts ++ replicate left x) (replicate-append-replicate i 1 x) ∙ (replicate-append-replicate (i + 1) left x ∙ ap (λ n. replicate n x) all) in
+    ap (λ (ts : List _). ts ++ replicate left x) (replicate-append-replicate i 1 x) ∙ (replicate-append-replicate (i + 1) left x ∙ ap (λ n. replicate n x) all) in
     let p = err_from_is_err_and c.from_residual.result c.from_residual.ensures.1 in
     rw (p.1, p.2) (Takes-stops g.T.Taker.step (replicate i x) (x ∷ []) (replicate count x) (g.W.WriteTold.contents c.args.writer.now)
     (g.W.WriteTold.contents c.loop-turn.writer) (g.W.WriteTold.contents c.take_turn.new.writer) c.args.self.now c.loop-turn.self c.take_turn.new.self c.loop-turn.refused

@@ -5,13 +5,12 @@ use Rattle.std.proofs.Math.Bool.{or-false}
 use Rattle.std.proofs.lemmas.Result.{err_from_is_err_and}
 use Rattle.dp_commands.specs.Script.{line_turns, turns_of}
 use Rattle.dp_commands.specs.declared.script.ScriptLine.{ScriptLine}
-use Rattle.dp_commands.specs.declared.script.Turn.{Turn}
 use Rattle.dp_commands.proofs.RunnersLemmas.{Takes-goes_on, Takes-stops}
 use Rattle.dp_commands.proofs.run.Runner.take_lines.Goals as goal
 
 -- the turns of some lines and of one more
-turns_of-push : (lines : List ScriptLine) (line : ScriptLine) → turns_of (lines ++ line ∷ []) ≡ turns_of lines ++ line_turns line
-turns_of-push lines line = flat_map-append line_turns lines (line ∷ []) ∙ ap (λ (ts : List Turn). turns_of lines ++ ts) (append-nil (line_turns line))
+turns_of-push : {U : Type 0} (lines : List (ScriptLine U)) (line : ScriptLine U) → turns_of (lines ++ line ∷ []) ≡ turns_of lines ++ line_turns line
+turns_of-push lines line = flat_map-append line_turns lines (line ∷ []) ∙ ap (λ (ts : List _). turns_of lines ++ ts) (append-nil (line_turns line))
 
 -- a line stopped after the others
 pub returns-in_err-refused-clause-streams : goal.returns-in_err-refused-clause-streams
@@ -22,7 +21,7 @@ returns-in_err-refused-clause-streams g c =
     let rest = turns_of (drop (i + 1) lines) in
     let more : take (i + 1) lines ≡ take i lines ++ line ∷ [] = take_more lines i line c.loop-line-test.true ∙ ap (λ l. take i lines ++ l ∷ []) (sym c.line-item.is) in
     let whole : (turns_of (take i lines) ++ line_turns line) ++ rest ≡ turns_of lines =
-    ap (λ (ts : List Turn). ts ++ rest) (sym (ap turns_of more ∙ turns_of-push (take i lines) line))
+    ap (λ (ts : List _). ts ++ rest) (sym (ap turns_of more ∙ turns_of-push (take i lines) line))
     ∙ (sym (flat_map-append line_turns (take (i + 1) lines) (drop (i + 1) lines)) ∙ ap turns_of (take-append-drop (i + 1) lines)) in
     let p = err_from_is_err_and c.from_residual.result c.from_residual.ensures.1 in
     rw (p.1, p.2) (Takes-stops g.T.Taker.step (turns_of (take i lines)) (line_turns line) (turns_of lines) (g.W.WriteTold.contents c.args.writer.now)

@@ -1,0 +1,249 @@
+//! Endless runs: loops of jumps and of applications that always go on at once.
+ghost use Rattle.std.specs.Prelude.{◌≡◌, ◌≢◌, ◌<◌, ◌++◌, ◌↔◌, Bool, Contains, IfOk, IsSome, List, MatchOption, None, OnOk, Some, length, slice_get, true, ℕ};
+ghost use Rattle.dp_audit.specs.Loops as spec;
+ghost use Rattle.dp_audit.specs.Runs as runs;
+ghost use Rattle.dp_audit.specs.steps.Marks as marks;
+ghost use Rattle.dp_audit.specs.steps.Walks as walks;
+ghost use Rattle.dp_lookup.specs.SearchOrder.{context_count};
+ghost use Rattle.dp_plan.specs.Plan.{PlanOf};
+ghost use Rattle.dp_plan.specs.declared.entry.EntryId.{EntryId};
+
+use crate::finder::PlanFinder;
+use crate::marks::EntryMarks;
+use crate::neighbours::entries_at;
+use crate::onward_names::OnwardNames;
+use crate::successor::successor;
+use dp_plan::{Dialplan, EntryId, NoMemory};
+use std::alloc::Global;
+
+/// An endless run: a call that meets an entry of it comes to that entry again and again, and nothing that it or anyone does
+/// ends it.
+#[derive(Clone, Copy, Debug, PartialEq, Eq)]
+pub struct Loop {
+    /// Of its entries, the one that stands first in the file.
+    pub first: EntryId,
+}
+
+/// Whether the entry stands before another in the file.
+fn is_before(entry: EntryId, other: EntryId) -> bool
+    ensures { result ≡ spec.is_before entry other }
+{
+    entry.context < other.context || entry.context == other.context && entry.entry < other.entry
+}
+
+/// The place of an entry in a path.
+fn place_of(path: &[EntryId], id: EntryId) -> Option<usize>
+    ensures { MatchOption result ((place : ℕ) → slice_get path.now place ≢ Some id)
+        (λ place. slice_get path.now place ≡ Some id) }
+{
+    for place in 0..path.len() {
+        if path[place] == id {
+            return Some(place);
+        }
+    }
+    None
+}
+
+/// Of the entries of a path from a place on, the one that stands first in the file.
+fn least_from(path: &[EntryId], place: usize) -> EntryId
+    requires { place < length path.now }
+    ensures { walks.IsLeastFrom spec.is_before path.now place result }
+{
+    let mut least = path[place];
+    for number in place + 1..path.len() {
+        if is_before(path[number], least) {
+            least = path[number];
+        }
+    }
+    least
+}
+
+/// The first entry of the loop that a path comes to, where its next entry is one of its own.
+fn first_of_loop(path: &[EntryId], end: Option<EntryId>) -> Option<EntryId>
+    ensures { MatchOption result (walks.IsOpen path.now end) (walks.Closes spec.is_before path.now end) }
+{
+    let end = end?;
+    let place = place_of(path, end)?;
+    Some(least_from(path, place))
+}
+
+/// A search for loops.
+#[derive(Drop)]
+struct Search {
+    /// The entries that were come to.
+    seen: EntryMarks,
+    /// Of each loop among them the first entry.
+    firsts: EntryMarks,
+    /// The entries of the last walk.
+    path: Vec<EntryId>,
+}
+
+impl Search {
+    /// A search that has come to no entry.
+    fn new(alloc: Global, plan: &Dialplan) -> Result<Self, NoMemory>
+        ensures seen { IfOk result (λ search. search.seen ≡ marks.no_marks plan.now.contexts) }
+        ensures firsts { IfOk result (λ search. search.firsts ≡ marks.no_marks plan.now.contexts) }
+    {
+        let seen = EntryMarks::none(alloc, plan.contexts())?;
+        let firsts = EntryMarks::none(alloc, plan.contexts())?;
+        let path = Vec::new(alloc);
+        Ok(Search { seen, firsts, path })
+    }
+
+    /// Walks from an entry to where a call goes from it, until the walk ends or comes to an entry that was come to before. What
+    /// comes after its path is answered.
+    fn walk<N: OnwardNames>(
+        &mut self,
+        finder: &mut PlanFinder<'_>,
+        alloc: Global,
+        start: EntryId,
+    ) -> Result<Option<EntryId>, NoMemory>
+        ensures walk { IfOk result (λ end. walks.IsWalk (spec.successor N.onward finder.old) start self.new.path.items end) }
+        ensures stop { IfOk result (λ end. marks.if_unmarked self.new.seen end ≡ None) }
+        ensures seen { OnOk result (marks.Adds self.old.seen self.new.path.items self.new.seen) }
+        ensures firsts { self.new.firsts ≡ self.old.firsts }
+        ensures same { finder.new ≡ finder.old }
+    {
+        self.path.clear();
+        let mut end = Some(start);
+        while let Some(id) = self.seen.keep_unmarked(end) {
+            self.seen.set(id);
+            self.path.push(id)?;
+            end = successor::<N>(finder, alloc, id)?;
+        }
+        Ok(end)
+    }
+
+    /// Searches for the loop to which a call comes from an entry, where no walk came to it before.
+    fn search_from<N: OnwardNames>(
+        &mut self,
+        finder: &mut PlanFinder<'_>,
+        alloc: Global,
+        start: EntryId,
+    ) -> Result<(), NoMemory>
+        requires { marks.AreSearched N.onward finder.old self.old.seen self.old.firsts }
+        ensures searched { OnOk result (marks.AreSearched N.onward finder.old self.new.seen self.new.firsts) }
+        ensures seen { OnOk result (marks.Sees finder.old self.old.seen self.new.seen (λ id. id ≡ start)) }
+        ensures same { finder.new ≡ finder.old }
+    {
+        let end = self.walk::<N>(finder, alloc, start)?;
+        if let Some(first) = first_of_loop(&self.path, end) {
+            self.firsts.set(first);
+        }
+        Ok(())
+    }
+
+    /// Searches from the entries of the context of the number.
+    fn search_context<N: OnwardNames>(
+        &mut self,
+        finder: &mut PlanFinder<'_>,
+        alloc: Global,
+        number: usize,
+    ) -> Result<(), NoMemory>
+        requires { marks.AreSearched N.onward finder.old self.old.seen self.old.firsts }
+        ensures searched { OnOk result (marks.AreSearched N.onward finder.old self.new.seen self.new.firsts) }
+        ensures seen { OnOk result (marks.Sees finder.old self.old.seen self.new.seen (λ id. id.context ≡ number)) }
+        ensures same { finder.new ≡ finder.old }
+    {
+        for entry in 0..entries_at(finder.plan(), number).len() {
+            let start = EntryId {
+                context: number,
+                entry,
+            };
+            self.search_from::<N>(finder, alloc, start)?;
+        }
+        Ok(())
+    }
+
+    /// Searches from each entry of the dialplan.
+    fn search_all<N: OnwardNames>(
+        &mut self,
+        finder: &mut PlanFinder<'_>,
+        alloc: Global,
+    ) -> Result<(), NoMemory>
+        requires { marks.AreSearched N.onward finder.old self.old.seen self.old.firsts }
+        ensures searched { OnOk result (marks.AreSearched N.onward finder.old self.new.seen self.new.firsts) }
+        ensures seen { OnOk result (marks.Sees finder.old self.old.seen self.new.seen (λ id. id.context < context_count finder.old)) }
+    {
+        for number in 0..finder.plan().contexts().len() {
+            self.search_context::<N>(finder, alloc, number)?;
+        }
+        Ok(())
+    }
+
+    /// The first entries of all loops of a dialplan.
+    fn of<N: OnwardNames>(alloc: Global, plan: &Dialplan) -> Result<Self, NoMemory>
+        ensures { IfOk result (λ search. (id : EntryId) → (marks.is_marked search.firsts id ≡ true) ↔ spec.IsLoop N.onward plan.now id) }
+    {
+        let mut finder = PlanFinder::new(alloc, plan)?;
+        let mut search = Search::new(alloc, plan)?;
+        search.search_all::<N>(&mut finder, alloc)?;
+        Ok(search)
+    }
+}
+
+/// Adds the entry of these numbers, where it is marked.
+fn push_if(list: &mut Vec<Loop>, firsts: &EntryMarks, id: EntryId) -> Result<(), NoMemory>
+    ensures { OnOk result (list.new.items ≡ list.old.items ++ spec.loop_if (marks.is_marked firsts.now) id) }
+{
+    if firsts.is_set(id) {
+        list.push(Loop { first: id })?;
+    }
+    Ok(())
+}
+
+/// Adds those of the entries of the context of the number that are marked.
+#[tactic(auto, using(crate::proofs::FindingsLemmas::entries_more))]
+fn push_of_context(
+    list: &mut Vec<Loop>,
+    plan: &Dialplan,
+    firsts: &EntryMarks,
+    number: usize,
+) -> Result<(), NoMemory>
+    ensures { OnOk result (list.new.items
+        ≡ list.old.items ++ spec.loops_of_context (marks.is_marked firsts.now) plan.now number) }
+{
+    for entry in 0..entries_at(plan, number).len() {
+        let id = EntryId {
+            context: number,
+            entry,
+        };
+        push_if(list, firsts, id)?;
+    }
+    Ok(())
+}
+
+/// The entries that are marked, in the order of the file.
+fn list_loops(alloc: Global, plan: &Dialplan, firsts: &EntryMarks) -> Result<Vec<Loop>, NoMemory>
+    ensures { IfOk result (λ list. list.items ≡ spec.loops_by (marks.is_marked firsts.now) plan.now) }
+{
+    let mut list = Vec::new(alloc);
+    for number in 0..plan.contexts().len() {
+        push_of_context(&mut list, plan, firsts, number)?;
+    }
+    Ok(list)
+}
+
+/// The endless runs of a dialplan, each by its first entry, in the order of the file.
+///
+/// A call goes from an entry to another by a `Goto` whose target stands, and after an application after which it always goes on.
+/// It is followed from entries of plain names, and as long as it meets entries of the context in which it searches and of plain
+/// names: by way of patterns and included contexts nothing is told. It is linear in the dialplan, but for what search orders and
+/// look-ups in tries cost. The error comes only where a growth was refused.
+pub fn find_loops<N: OnwardNames>(alloc: Global, plan: &Dialplan) -> Result<Vec<Loop>, NoMemory>
+    ensures listed { IfOk result (λ loops. spec.ListsLoops N.onward plan.now loops.items) }
+    ensures each { IfOk result (λ loops. (id : EntryId)
+        → Contains loops.items (spec.loop_of id) ↔ spec.IsLoop N.onward plan.now id) }
+{
+    let search = Search::of::<N>(alloc, plan)?;
+    let loops = list_loops(alloc, plan, &search.firsts)?;
+    Ok(loops)
+}
+
+/// A call that meets the first entry of a loop, in the entry's own context and by its plain name, goes on for ever: it has a next
+/// place after any number of them, in any dialplan and for any applications that always go on.
+pub fn loop_never_ends()
+    ensures { (onward : List ℕ → Bool) (plan : PlanOf) (id : EntryId) → spec.IsLoop onward plan id
+        → (place : runs.CallPlace) → runs.MeetsHome plan place id
+        → (count : ℕ) → IsSome (spec.after (runs.next_place onward plan) count place) }
+{}

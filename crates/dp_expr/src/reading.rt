@@ -1,0 +1,81 @@
+//! How Asterisk reads an expression, beside its value here.
+
+ghost use Rattle.std.specs.Prelude.{◌≡◌, IfOk, is_some, unwrap_or, None, []};
+ghost use Rattle.dp_expr.specs.AsteriskReading.{asterisk_reading, reading_of, reading_without_tree, tree_reading, is_unknown_text};
+ghost use Rattle.dp_expr.specs.Tokens.{tokens_of};
+ghost use Rattle.dp_expr.specs.Trees.{Tree, IsTree};
+ghost use Rattle.dp_expr.specs.Walk.{Wanting, walk, trees};
+ghost use Rattle.dp_expr.specs.steps.Exact.{values_by};
+
+use crate::division::Division;
+use crate::fraction::has_fraction;
+use crate::token::{has_foreign_mark, next_token};
+use crate::{NoMemory, walk};
+use std::alloc::Global;
+
+/// What an expression comes to in Asterisk, beside its value here.
+#[derive(Clone, Copy, Debug, PartialEq, Eq)]
+pub enum ExpressionReading {
+    /// The value that it has here.
+    Value,
+    /// `0`: it has a fault, and is not empty.
+    Zero,
+    /// That is not known here.
+    Unknown,
+}
+
+/// How Asterisk reads the expression that a text holds.
+///
+/// Takes a text of any bytes. What the two do in different ways is unknown: an expression that has
+/// `:`, `=~`, `~~` or `?` outside quotes, or an operand that is a fraction, as `1.5`; and one with
+/// a value here where a quotient is not whole, also on the side of `|` or `&` that is not chosen.
+/// Any other expression with a fault is `0`, unless it is empty. `evaluate` gives the value.
+///
+/// The error comes only where a growth was refused.
+pub fn asterisk_reading(alloc: Global, text: &[u8]) -> Result<ExpressionReading, NoMemory>
+    // By the text's one tree.
+    ensures tree { (tree : Tree) → IsTree text.now tree
+        → IfOk result (λ reading. reading ≡ reading_of tree) }
+    // A text with no tree.
+    ensures fault { ((tree : Tree) → ¬ (IsTree text.now tree))
+        → IfOk result (λ reading. reading ≡ reading_without_tree text.now) }
+    // The same by a function.
+    ensures exact { IfOk result (λ reading. reading ≡ asterisk_reading text.now) }
+{
+    if is_unknown_text(text) {
+        return Ok(ExpressionReading::Unknown);
+    }
+    match next_token(text) {
+        Some(_) => tree_reading(alloc, text),
+        None => Ok(ExpressionReading::Value),
+    }
+}
+
+/// The reading is unknown whatever the text comes to.
+fn is_unknown_text(text: &[u8]) -> bool
+    ensures { result ≡ is_unknown_text text.now }
+{
+    has_foreign_mark(text) || has_fraction(text)
+}
+
+/// The reading by the value here, and by whether a quotient is not whole.
+fn tree_reading(alloc: Global, text: &[u8]) -> Result<ExpressionReading, NoMemory>
+    ensures { IfOk result (λ reading.
+        reading ≡ tree_reading (walk trees (Wanting []) (tokens_of text.now))) }
+{
+    if has_value(alloc, text, Division::Exact)? {
+        Ok(ExpressionReading::Value)
+    } else if has_value(alloc, text, Division::Cut)? {
+        Ok(ExpressionReading::Unknown)
+    } else {
+        Ok(ExpressionReading::Zero)
+    }
+}
+
+/// The text has a value by that division.
+fn has_value(alloc: Global, text: &[u8], division: Division) -> Result<bool, NoMemory>
+    ensures { IfOk result (λ has. has
+        ≡ is_some (unwrap_or (walk (values_by division) (Wanting []) (tokens_of text.now)) None)) }
+{
+    Ok(walk::value(alloc, text, division)?.is_some())
+}

@@ -1,0 +1,14 @@
+-- Applications of the wide table that look at their arguments, and ask nothing whatever these are.
+use Rattle.std.specs.Prelude.{ℕ, Bool, List, [], ◌∷◌, codes}
+use Rattle.dp_wide.specs.Names.{is_word_of}
+
+-- their names
+unfoldable pub plain_names : List (List ℕ)
+plain_names =
+    codes "Goto" ∷ codes "GotoIf" ∷ codes "Gosub" ∷ codes "GosubIf" ∷ codes "Return" ∷ codes "Playback" ∷ codes "Background"
+    ∷ codes "Wait" ∷ codes "WaitExten" ∷ codes "Queue" ∷ codes "Macro" ∷ codes "MacroExit" ∷ codes "DBdel" ∷ codes "StackPop"
+    ∷ codes "AddQueueMember" ∷ codes "RemoveQueueMember" ∷ codes "PauseQueueMember" ∷ codes "UnpauseQueueMember" ∷ []
+
+-- whether a name is one of these
+abbrev pub is_plain : List ℕ → Bool
+is_plain name = is_word_of plain_names name

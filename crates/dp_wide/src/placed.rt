@@ -1,0 +1,62 @@
+//! The applications of the wide table that are found by their numbers.
+ghost use Rattle.std.specs.Prelude.{◌≡◌, is_some};
+ghost use Rattle.dp_app.specs.Rows.{has_row};
+ghost use Rattle.dp_wide.specs.steps.Placed as spec;
+
+use crate::deleting::DbDel;
+use crate::ended::{Busy, Congestion};
+use crate::macros::{Macro, MacroExit};
+use crate::settings::{MSet, SetWide};
+use crate::subroutines::{GosubIfWide, GosubWide};
+use crate::time_choice::GotoIfTime;
+use dp_app::{AppNumber, AppTable, NoApps, With};
+use dp_flow::{
+    Answer, Background, Dial, Goto, GotoIf, Hangup, NoOp, Playback, Return, StackPop, Verbose,
+    Wait, WaitExten,
+};
+use dp_qapps::{AddQueueMember, PauseQueueMember, Queue, RemoveQueueMember, UnpauseQueueMember};
+
+/// The applications that add, remove and pause the members of queues.
+type Membership = With<
+    AddQueueMember,
+    With<RemoveQueueMember, With<PauseQueueMember, With<UnpauseQueueMember, NoApps>>>,
+>;
+
+/// Those and the ones that wait.
+type Waiting = With<Wait, With<WaitExten, With<Background, With<Dial, With<Queue, Membership>>>>>;
+
+/// Those and the ones that end the call, and that play or print nothing here.
+type Silent = With<
+    Answer,
+    With<Hangup, With<Verbose, With<Playback, With<Busy, With<Congestion, Waiting>>>>>,
+>;
+
+/// Those and the ones that enter and leave subroutines and macros.
+type Calling = With<
+    GosubWide,
+    With<GosubIfWide, With<Return, With<StackPop, With<Macro, With<MacroExit, Silent>>>>>,
+>;
+
+/// The applications of the wide table, each by its place, but `ExecIf`, those that only go on and those that run outside. The ones
+/// that most lines of a dialplan name come first, since names are compared in this order.
+pub(crate) type Placed = With<
+    NoOp,
+    With<Goto, With<SetWide, With<GotoIf, With<MSet, With<GotoIfTime, With<DbDel, Calling>>>>>>,
+>;
+
+/// The number of all applications that only go on. It is above the number of each place.
+pub(crate) const GOES_ON: AppNumber = AppNumber { place: 1000 };
+
+/// The number of all applications that run outside.
+pub(crate) const OUTSIDE: AppNumber = AppNumber { place: 1001 };
+
+/// The number of `ExecIf`, with whose name the table begins.
+pub(crate) const BY_NAME: AppNumber = AppNumber { place: 1002 };
+
+/// The number of a placed application.
+#[tactic(auto, unfolding(crate::specs::steps::Placed::placed))]
+pub(crate) fn placed_number(name: &[u8]) -> Option<AppNumber>
+    ensures { is_some result ≡ has_row (spec.rows_of spec.placed) name.now }
+{
+    Placed::number_of(name)
+}

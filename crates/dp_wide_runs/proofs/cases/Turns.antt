@@ -1,0 +1,45 @@
+-- Where a run has stopped, and its status.
+use Rattle.std.proofs.Common.{◌≡◌, ℕ, true, false, [], None, Some, refl}
+use Rattle.dp_app.specs.declared.phase.Phase.TheVariants.{Ready, Ended as phase_ended}
+use Rattle.dp_machine.specs.World.{World}
+use Rattle.dp_machine.specs.declared.refusal.Refusal.TheVariants.{NoChannel, NotReady, Ended}
+use Rattle.dp_machine.specs.declared.unknown.Unknown.{Unknown}
+use Rattle.dp_wide_runs.specs.Given.{given_as}
+use Rattle.dp_wide_runs.specs.Turns.{further_turn, no_stops, pass_refusal, priority_after, step_turn, at_stop, wide_status}
+use Rattle.dp_wide_runs.specs.declared.wide_turn.WideTurn.TheVariants.{Further}
+
+-- a step before what is unknown changes nothing in the world
+stops_here : (w : World) (channel : ℕ) (what : Unknown) → (step_turn no_stops w channel (Some what)).state ≡ (at_stop, w)
+stops_here w channel what = refl
+
+-- and the further steps of its line are left out
+left_out : (w : World) (channel : ℕ) → (further_turn at_stop w channel).lines ≡ []
+left_out w channel = refl
+
+not_given : (w : World) (channel : ℕ) → given_as (at_stop, w) (Further channel) ≡ None
+not_given w channel = refl
+
+-- a later step is asked anew, and the run has stopped nonetheless
+asked_anew : (w : World) (channel : ℕ) → (step_turn at_stop w channel None).state.0 ≡ record { line_is_over = false; has_stopped = true }
+asked_anew w channel = refl
+
+status_of_a_stop : wide_status at_stop false ≡ 4
+status_of_a_stop = refl
+
+status_of_a_refusal : wide_status at_stop true ≡ 1
+status_of_a_refusal = refl
+
+status_of_neither : wide_status no_stops false ≡ 0
+status_of_neither = refl
+
+refused_without_channel : pass_refusal None ≡ NoChannel
+refused_without_channel = refl
+
+refused_when_over : pass_refusal (Some phase_ended) ≡ Ended
+refused_when_over = refl
+
+refused_when_known : pass_refusal (Some Ready) ≡ NotReady
+refused_when_known = refl
+
+next_priority : priority_after 1 ≡ 2
+next_priority = refl

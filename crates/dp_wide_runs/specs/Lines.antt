@@ -1,0 +1,150 @@
+-- A script with facts: what its lines stand for. Those of a plain script stand for what they stand for there.
+use Rattle.std.specs.Prelude.{ℕ, ◌-◌, Bool, ◌||◌, nat_le, min, List, [], ◌∷◌, position, take, drop, Option, Some, None, is_some, Result, codes, if◌then◌else◌}
+use Rattle.std.specs.List.{flat_map}
+use Rattle.std.specs.Option.{option_and_then, option_map}
+use Rattle.dp_conf.specs.Blanks.{is_blank, trim}
+use Rattle.dp_conf.specs.Cut.{cut_once}
+use Rattle.dp_conf.specs.Numbers.{most_priority}
+use Rattle.dp_conf.specs.Words.{same_text}
+use Rattle.dp_app.specs.declared.place.Place.{Place}
+use Rattle.dp_machine.specs.declared.event.Event.{Event as MachineEvent}
+use Rattle.dp_machine.specs.declared.event.Event.TheVariants.{Start, Step, Digit, Timeout, Poll, Hangup, DialResult, Offer, Answer, Decline, AgentDone, Reload, Assign, Redirect}
+use Rattle.dp_wide.specs.Times.{moment_of}
+use Rattle.dp_commands.specs.Script.{channel_in, line_in, number_within, once, one_channel, script_by, words_of}
+use Rattle.dp_commands.specs.declared.fault.PbxFault.{PbxFault}
+use Rattle.dp_commands.specs.declared.script.ScriptLine.{ScriptLine}
+use Rattle.dp_commands.specs.declared.script.Turn.{Turn}
+use Rattle.dp_commands.specs.declared.script.Turn.TheVariants.{Event, Show}
+use Rattle.dp_wide_runs.specs.declared.wide_turn.WideTurn.{WideTurn}
+use Rattle.dp_wide_runs.specs.declared.wide_turn.WideTurn.TheVariants.{Plain, Further, Pass}
+
+-- a text that is cut at its first blank, and what comes behind that without blanks at its ends
+abbrev pub cut_at : List ℕ → Option ℕ → List ℕ × List ℕ
+cut_at text None = (text, [])
+cut_at text (Some place) = (take place text, trim (drop place text))
+
+-- the first word of a text that begins with one, and what comes behind it without blanks at its ends
+abbrev pub cut_word : List ℕ → List ℕ × List ℕ
+cut_word text = cut_at text (position is_blank text)
+
+-- a name and its value; a name has a byte
+abbrev pub setting_of : List ℕ → List ℕ → Option (List ℕ × List ℕ)
+setting_of [] value = None
+setting_of (byte ∷ name) value = Some (byte ∷ name, value)
+
+-- the name and the value of `NAME=VALUE`, without blanks at the ends of each
+abbrev pub setting_in : List ℕ → Option (List ℕ × List ℕ)
+setting_in text = option_and_then (λ cut. setting_of (trim cut.0) (trim cut.1)) (cut_once 61 text)
+
+-- a line that gives the event once
+abbrev pub gives : MachineEvent → ScriptLine WideTurn
+gives event = once (Plain (Event event))
+
+-- a line that sets a name of a channel, or the global
+abbrev pub assigns : Option ℕ → List ℕ × List ℕ → ScriptLine WideTurn
+assigns channel setting = gives (Assign channel setting.0 setting.1)
+
+-- `let CH NAME=VALUE`, by what comes behind `let`
+abbrev pub let_line : List ℕ → Option (ScriptLine WideTurn)
+let_line text =
+    option_and_then (λ channel. option_map (assigns (Some channel)) (setting_in (cut_word text).1)) (channel_in (cut_word text).0)
+
+-- `global NAME=VALUE`, by what comes behind `global`
+abbrev pub global_line : List ℕ → Option (ScriptLine WideTurn)
+global_line text = option_map (assigns None) (setting_in text)
+
+-- `clock WEEKDAY YYYY-MM-DD HH:MM`, by the moment that comes behind `clock`: the global `CLOCK` is set to it
+abbrev pub clock_line : List ℕ → Option (ScriptLine WideTurn)
+clock_line text = if is_some (moment_of text) then Some (assigns None (codes "CLOCK", text)) else None
+
+-- `go CH`, by the words behind `go`: what the channel waits for comes to its end
+abbrev pub go_line : List (List ℕ) → Option (ScriptLine WideTurn)
+go_line words = option_map (λ channel. gives (Timeout channel)) (one_channel words)
+
+-- `pass CH`, by the words behind `pass`
+abbrev pub pass_line : List (List ℕ) → Option (ScriptLine WideTurn)
+pass_line words = option_map (λ channel. once (Pass channel)) (one_channel words)
+
+-- the priority that a word writes: a number from 1 to the greatest priority
+unfoldable pub priority_in : List ℕ → Option ℕ
+priority_in word = option_and_then (λ number. if nat_le 1 number then Some number else None) (number_within most_priority word)
+
+-- a place by its words
+abbrev pub place_by : List ℕ → List ℕ → ℕ → Place
+place_by context exten priority = record { context = context; exten = exten; priority = priority }
+
+-- a channel is sent to a place
+abbrev pub redirects : List ℕ → List ℕ → List ℕ → Option ℕ → Option (ScriptLine WideTurn)
+redirects channel context exten priority =
+    option_and_then (λ number. option_map (λ at. gives (Redirect number (place_by context exten at))) priority) (channel_in channel)
+
+-- `redirect CH CONTEXT EXTEN [PRIORITY]`, by the words behind `redirect`: the priority is 1 unless given
+abbrev pub redirect_line : List (List ℕ) → Option (ScriptLine WideTurn)
+redirect_line [] = None
+redirect_line (channel ∷ []) = None
+redirect_line (channel ∷ context ∷ []) = None
+redirect_line (channel ∷ context ∷ exten ∷ []) = redirects channel context exten (Some 1)
+redirect_line (channel ∷ context ∷ exten ∷ priority ∷ []) = redirects channel context exten (priority_in priority)
+redirect_line (channel ∷ context ∷ exten ∷ priority ∷ more ∷ words) = None
+
+-- whether a line with this first word is none of a plain script
+abbrev pub is_own : List ℕ → Bool
+is_own word =
+    same_text word (codes "let") || (same_text word (codes "global") || (same_text word (codes "clock")
+    || (same_text word (codes "go") || (same_text word (codes "redirect") || same_text word (codes "pass")))))
+
+-- what such a line stands for, by what comes behind its first word; and None where it is faulty
+abbrev pub own_line : List ℕ → List ℕ → Option (ScriptLine WideTurn)
+own_line word text =
+    if same_text word (codes "let") then let_line text
+    else if same_text word (codes "global") then global_line text
+    else if same_text word (codes "clock") then clock_line text
+    else if same_text word (codes "go") then go_line (words_of text)
+    else if same_text word (codes "redirect") then redirect_line (words_of text)
+    else pass_line (words_of text)
+
+-- the channel of which an event is a step
+abbrev pub stepped : MachineEvent → Option ℕ
+stepped (Step channel) = Some channel
+stepped (Start context exten caller) = None
+stepped (Digit channel digit) = None
+stepped (Timeout channel) = None
+stepped (Poll channel) = None
+stepped (Hangup channel) = None
+stepped (DialResult channel status) = None
+stepped (Offer queue) = None
+stepped (Answer agent) = None
+stepped (Decline agent) = None
+stepped (AgentDone agent) = None
+stepped (Reload text) = None
+stepped (Assign channel name value) = None
+stepped (Redirect channel place) = None
+
+-- the channel of which a turn is a step
+abbrev pub stepped_by : Turn → Option ℕ
+stepped_by (Event event) = stepped event
+stepped_by (Show channel name) = None
+
+-- a line of a plain script, by the channel of which its turn is a step: the steps after the first are further ones
+abbrev pub wide_lines : Option ℕ → ScriptLine Turn → List (ScriptLine WideTurn)
+wide_lines None line = (record { turn = Plain line.turn; count = line.count }) ∷ []
+wide_lines (Some channel) line =
+    (record { turn = Plain line.turn; count = min 1 line.count }) ∷ (record { turn = Further channel; count = line.count - 1 }) ∷ []
+
+-- the same by the line alone
+abbrev pub wide_lines_of : ScriptLine Turn → List (ScriptLine WideTurn)
+wide_lines_of line = wide_lines (stepped_by line.turn) line
+
+-- what a line stands for, by its first word and what comes behind it
+abbrev pub line_by : Option (List ℕ) → List ℕ → List ℕ × List ℕ → Option (List (ScriptLine WideTurn))
+line_by second_plan part cut =
+    if is_own cut.0 then option_map (λ line. line ∷ []) (own_line cut.0 cut.1)
+    else option_map (λ lines. flat_map wide_lines_of lines) (line_in second_plan part)
+
+-- what a line stands for beside a second dialplan, where there is one: nothing, where it is passed over; and None where it is faulty
+unfoldable pub stands_for : Option (List ℕ) → List ℕ → Option (List (ScriptLine WideTurn))
+stands_for second_plan part = line_by second_plan part (cut_word (trim part))
+
+-- the lines of a script beside a second dialplan, where there is one; or the fault of its first faulty line
+abbrev pub wide_script_of : Option (List ℕ) → List ℕ → Result (List (ScriptLine WideTurn)) PbxFault
+wide_script_of second_plan text = script_by (stands_for second_plan) text

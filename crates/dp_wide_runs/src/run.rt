@@ -1,0 +1,53 @@
+//! Runs of a script that tells facts, over the wide table.
+ghost use Rattle.std.specs.Prelude.{◌≡◌, ◌||◌, IfOk, Ok};
+ghost use Rattle.dp_commands.specs.Faults.{is_write_failed};
+ghost use Rattle.dp_commands.specs.Script.{turns_of};
+ghost use Rattle.dp_wide_runs.specs.Runs as spec;
+
+use crate::begun::{WideBegun, begin};
+use crate::taker::WideRunner;
+use dp_commands::{PbxFault, RunTexts, run_lines};
+use dp_conf::WriteTold;
+use std::alloc::Global;
+
+/// Takes the turns of a run that has begun, and writes all of their lines.
+fn run_begun<W: WriteTold>(alloc: Global, begun: WideBegun, writer: &mut W) -> Result<u8, PbxFault>
+    ensures writes { spec.WritesWide (W.contents writer.old) (W.contents writer.new)
+        (Ok (spec.run_on begun.machine (turns_of begun.lines.items))) result }
+    ensures told { W.has_failed writer.new ≡ (W.has_failed writer.old || is_write_failed result) }
+{
+    let (machine, lines) = begun.into_parts();
+    run_lines(alloc, WideRunner::new(), machine, &lines, writer)
+}
+
+/// Begins the run of the texts, takes its turns, and writes all of their lines.
+fn run_texts<W: WriteTold>(
+    alloc: Global,
+    texts: RunTexts<'_>,
+    writer: &mut W,
+) -> Result<u8, PbxFault>
+    ensures writes { spec.WritesWide (W.contents writer.old) (W.contents writer.new) (spec.run_of_texts texts.entry) result }
+    ensures told { W.has_failed writer.new ≡ (W.has_failed writer.old || is_write_failed result) }
+{
+    let begun = begin(alloc, texts)?;
+    run_begun(alloc, begun, writer)
+}
+
+/// Runs a script that may tell facts on a dialplan with its queues over the wide table, and writes the trace as it goes, a block of lines
+/// at a time. A step is taken only where nothing is unknown ahead of its channel; else its line is `unknown CH WHAT -> STATE`, and the
+/// further steps of the same line of the script are left out. The status is 1 where a turn was refused, else 4 where a step was not
+/// taken, else 0.
+///
+/// The texts are read first, and their faults come as in [`dp_commands::run_script`]. Where memory is refused the lines of the turns
+/// before are written. Where memory is refused or a write fails, what was written stays written.
+pub fn run_wide<W: WriteTold>(
+    alloc: Global,
+    texts: RunTexts<'_>,
+    writer: &mut W,
+) -> Result<u8, PbxFault>
+    ensures writes { spec.WritesWide (W.contents writer.old) (W.contents writer.new) (spec.run_of_texts texts.entry) result }
+    ensures plain { IfOk result (spec.IsPlain (spec.run_of_texts texts.entry)) }
+    ensures told { W.has_failed writer.new ≡ (W.has_failed writer.old || is_write_failed result) }
+{
+    run_texts(alloc, texts, writer)
+}

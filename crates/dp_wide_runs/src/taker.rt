@@ -1,0 +1,270 @@
+//! How the turns of a script with facts are taken.
+ghost use Rattle.std.specs.Prelude.{◌≡◌, ◌++◌, ◌∷◌, [], IfOk, OnOk, OnErr, Some};
+ghost use Rattle.std.specs.Option.{option_map};
+ghost use Rattle.dp_commands.specs.Trace.{phase_at, refusal_text};
+ghost use Rattle.dp_machine.specs.World.{World};
+ghost use Rattle.dp_wide_runs.specs.Turns as spec;
+
+use crate::wide_lines::stepped_by;
+use crate::wide_turn::WideTurn;
+use dp_commands::{
+    Block, Taker, Turn, push_after, push_refused, push_short, take_event, take_show,
+};
+use dp_machine::{Event, Machine, NoMemory, Phase, Place, Refusal, Text, Unknown};
+use dp_wide::WideApps;
+use std::alloc::Global;
+use std::marker::Model;
+
+/// The name of what is unknown.
+fn unknown_name(unknown: &Unknown) -> &Text
+    ensures { result.now ≡ spec.unknown_name unknown.now }
+{
+    match unknown {
+        Unknown::Application(name) | Unknown::Group(name) | Unknown::Asked(name) => name,
+    }
+}
+
+/// Adds the line of a step that is not taken to what waits.
+fn push_unknown(
+    block: &mut Block,
+    machine: &Machine<WideApps>,
+    number: u32,
+    unknown: &Unknown,
+) -> Result<(), NoMemory>
+    ensures line { OnOk result (block.new.whole ≡ block.old.whole ++ spec.unknown_line machine.now number unknown.now) }
+    ensures err { OnErr result (block.new.whole ≡ block.old.whole) }
+{
+    block.begin_line();
+    block.push(b"unknown ")?;
+    push_short(block, number)?;
+    block.push_byte(b' ')?;
+    block.push(unknown_name(unknown).bytes())?;
+    push_after(block, machine, number)?;
+    block.end_line()
+}
+
+/// Why a channel does not pass where nothing is unknown ahead of it, by its phase, where there is one.
+fn pass_refusal(phase: Option<&Phase>) -> Refusal
+    ensures { result ≡ spec.pass_refusal (option_map (λ phase. phase.now) phase.entry) }
+{
+    match phase {
+        None => Refusal::NoChannel,
+        Some(Phase::Ended) => Refusal::Ended,
+        Some(_) => Refusal::NotReady,
+    }
+}
+
+/// Adds the line of a refusal to what waits.
+fn push_refusal(block: &mut Block, refusal: Refusal) -> Result<(), NoMemory>
+    ensures line { OnOk result (block.new.whole ≡ block.old.whole ++ (refusal_text refusal ++ 10 ∷ [])) }
+    ensures err { OnErr result (block.new.whole ≡ block.old.whole) }
+{
+    block.begin_line();
+    push_refused(block, refusal)?;
+    block.end_line()
+}
+
+/// A priority after another; the greatest number of 32 bits stays, which no entry has.
+fn priority_after(priority: u32) -> u32
+    ensures { result ≡ spec.priority_after priority }
+{
+    priority.saturating_add(1)
+}
+
+/// A copy of the place after another.
+fn place_after(place: &Place) -> Result<Place, NoMemory>
+    ensures { IfOk result (λ after. after ≡ spec.place_after place.now) }
+{
+    let mut after = place.clone()?;
+    after.priority = priority_after(place.priority);
+    Ok(after)
+}
+
+/// The place after that of a channel ahead of which something is unknown.
+fn place_past(
+    alloc: Global,
+    machine: &mut Machine<WideApps>,
+    channel: u32,
+) -> Result<Option<Place>, NoMemory>
+    ensures place { IfOk result (λ place. place ≡ option_map spec.place_after (spec.place_of_unknown machine.old channel)) }
+    ensures same { machine.new ≡ machine.old }
+{
+    let unknown = machine.unknown_ahead(alloc, channel)?;
+    if unknown.is_none() {
+        return Ok(None);
+    }
+    match machine.place(channel) {
+        Some(place) => {
+            let after = place_after(place)?;
+            Ok(Some(after))
+        }
+        None => Ok(None),
+    }
+}
+
+/// A run over the wide table, which stops before what is unknown. Contracts see it as where it has stopped.
+#[derive(Drop)]
+pub(crate) struct WideRunner {
+    line_is_over: bool,
+    has_stopped: bool,
+}
+
+impl Model for WideRunner {
+    ghost use Rattle.dp_wide_runs.specs.Turns.{Stops};
+
+    ghost Value = { Stops };
+
+    ghost view = { λ runner. record { line_is_over = runner.line_is_over; has_stopped = runner.has_stopped } };
+}
+
+impl WideRunner {
+    ghost use Rattle.std.specs.Prelude.{◌≡◌, ◌++◌, IfOk, OnOk, OnErr, Some};
+    ghost use Rattle.dp_wide_runs.specs.Turns as spec;
+
+    /// Before the first turn.
+    pub(crate) fn new() -> Self
+        ensures { result ≡ spec.no_stops }
+    {
+        WideRunner {
+            line_is_over: false,
+            has_stopped: false,
+        }
+    }
+
+    /// Takes a step, where nothing is unknown ahead of its channel; else adds the line that says what is. It says whether the step was
+    /// refused.
+    fn take_step(
+        &mut self,
+        alloc: Global,
+        machine: &mut Machine<WideApps>,
+        channel: u32,
+        block: &mut Block,
+    ) -> Result<bool, NoMemory>
+        ensures lines { OnOk result (block.new.whole
+            ≡ block.old.whole ++ (spec.step_turn self.old machine.old channel (spec.unknown_at machine.old channel)).lines) }
+        ensures state { OnOk result ((self.new, machine.new)
+            ≡ (spec.step_turn self.old machine.old channel (spec.unknown_at machine.old channel)).state) }
+        ensures refused { IfOk result (λ refused. refused
+            ≡ (spec.step_turn self.old machine.old channel (spec.unknown_at machine.old channel)).refused) }
+        ensures err { OnErr result (block.new.whole ≡ block.old.whole) }
+    {
+        let unknown = machine.unknown_ahead(alloc, channel)?;
+        if let Some(unknown) = unknown {
+            push_unknown(block, machine, channel, &unknown)?;
+            self.line_is_over = true;
+            self.has_stopped = true;
+            return Ok(false);
+        }
+        self.line_is_over = false;
+        take_event(alloc, machine, &Event::Step { channel }, block)
+    }
+
+    /// Takes a turn of a plain script.
+    fn take_plain(
+        &mut self,
+        alloc: Global,
+        machine: &mut Machine<WideApps>,
+        turn: &Turn,
+        block: &mut Block,
+    ) -> Result<bool, NoMemory>
+        ensures lines { OnOk result (block.new.whole
+            ≡ block.old.whole ++ (spec.wide_turn (self.old, machine.old) (WideTurn.Plain turn.now)).lines) }
+        ensures state { OnOk result ((self.new, machine.new)
+            ≡ (spec.wide_turn (self.old, machine.old) (WideTurn.Plain turn.now)).state) }
+        ensures refused { IfOk result (λ refused. refused
+            ≡ (spec.wide_turn (self.old, machine.old) (WideTurn.Plain turn.now)).refused) }
+        ensures err { OnErr result (block.new.whole ≡ block.old.whole) }
+    {
+        if let Some(channel) = stepped_by(turn) {
+            return self.take_step(alloc, machine, channel, block);
+        }
+        match turn {
+            Turn::Event(event) => take_event(alloc, machine, event, block),
+            Turn::Show { channel, name } => take_show(alloc, machine, *channel, name, block),
+        }
+    }
+
+    /// Takes a further step of a line, where the line is not over.
+    fn take_further(
+        &mut self,
+        alloc: Global,
+        machine: &mut Machine<WideApps>,
+        channel: u32,
+        block: &mut Block,
+    ) -> Result<bool, NoMemory>
+        ensures lines { OnOk result (block.new.whole ≡ block.old.whole ++ (spec.further_turn self.old machine.old channel).lines) }
+        ensures state { OnOk result ((self.new, machine.new) ≡ (spec.further_turn self.old machine.old channel).state) }
+        ensures refused { IfOk result (λ refused. refused ≡ (spec.further_turn self.old machine.old channel).refused) }
+        ensures err { OnErr result (block.new.whole ≡ block.old.whole) }
+    {
+        if self.line_is_over {
+            return Ok(false);
+        }
+        self.take_step(alloc, machine, channel, block)
+    }
+
+    /// Takes a pass, by the place to which the channel goes, where something is unknown ahead of it.
+    fn take_pass(
+        &self,
+        alloc: Global,
+        machine: &mut Machine<WideApps>,
+        channel: u32,
+        block: &mut Block,
+    ) -> Result<bool, NoMemory>
+        ensures lines { OnOk result (block.new.whole ≡ block.old.whole
+            ++ (spec.pass_turn self.now machine.old channel (spec.place_of_unknown machine.old channel)).lines) }
+        ensures state { OnOk result ((self.now, machine.new)
+            ≡ (spec.pass_turn self.now machine.old channel (spec.place_of_unknown machine.old channel)).state) }
+        ensures refused { IfOk result (λ refused. refused
+            ≡ (spec.pass_turn self.now machine.old channel (spec.place_of_unknown machine.old channel)).refused) }
+        ensures err { OnErr result (block.new.whole ≡ block.old.whole) }
+    {
+        match place_past(alloc, machine, channel)? {
+            Some(place) => take_event(alloc, machine, &Event::Redirect { channel, place }, block),
+            None => {
+                push_refusal(block, pass_refusal(machine.phase(channel)))?;
+                Ok(true)
+            }
+        }
+    }
+}
+
+impl Taker for WideRunner {
+    ghost use Rattle.std.specs.Prelude.{[]};
+    ghost use Rattle.dp_wide_runs.specs.Turns.{wide_status, wide_turn};
+
+    type Table = WideApps;
+
+    type Turn = WideTurn;
+
+    ghost step = { wide_turn };
+
+    ghost last = { λ _. [] };
+
+    ghost status = { wide_status };
+
+    fn take(
+        &mut self,
+        alloc: Global,
+        machine: &mut Machine<WideApps>,
+        turn: &WideTurn,
+        block: &mut Block,
+    ) -> Result<bool, NoMemory> {
+        match turn {
+            WideTurn::Plain(turn) => self.take_plain(alloc, machine, turn, block),
+            WideTurn::Further { channel } => self.take_further(alloc, machine, *channel, block),
+            WideTurn::Pass { channel } => self.take_pass(alloc, machine, *channel, block),
+        }
+    }
+
+    fn finish(&self, _block: &mut Block) -> Result<(), NoMemory> {
+        Ok(())
+    }
+
+    fn status(&self, refused: bool) -> u8 {
+        if refused {
+            return 1;
+        }
+        if self.has_stopped { 4 } else { 0 }
+    }
+}
