@@ -7,8 +7,8 @@ use Rattle.clap.specs.declared.error.kind.ErrorKind.{ErrorKind}
 use Rattle.clap.specs.declared.error.kind.ErrorKind.TheVariants.{OutOfMemory}
 use Rattle.dp_conf.specs.Words.{same_text}
 use Rattle.dp_program.specs.Requests.{RequestOf, explaining}
-use Rattle.dp_cli.specs.CommandLine.{asked_by, audit_asked, check_asked, command_asked, debug_asked, explain_asked, fault_in, list_asked, match_asked, match_at, priority_in, reach_asked, run_asked, run_by, run_in, threads_in}
-use Rattle.dp_cli.specs.Refusals.{command_kinds, kinds_by, number_kinds, unless_number}
+use Rattle.dp_cli.specs.CommandLine.{asked_by, audit_asked, check_asked, command_asked, debug_asked, explain_asked, fault_in, list_asked, match_asked, match_at, priority_in, reach_asked, run_asked, run_by, run_in, run_over, run_wide_in, is_set, has_other_manner, threads_in}
+use Rattle.dp_cli.specs.Refusals.{command_kinds, conflict_kinds, kinds_by, number_kinds, run_kinds_over, unless_number}
 
 -- one of the first kinds is one of all
 pub has_first : (kinds next : Kinds) (kind : ErrorKind) → (kind ≡ OutOfMemory) ⊎ IsAmong kind kinds → (kind ≡ OutOfMemory) ⊎ IsAmong kind (or_else kinds next)
@@ -39,6 +39,14 @@ run_numbers : (words : List Row) (word : Option (List ℕ)) → is_some (run_by 
 run_numbers words None is = refl
 run_numbers words (Some word) is = unless_asked (threads_in word) (λ threads. run_in words (Some threads)) is
 
+wide_kinds : (words : List Row) (conflicts : Bool) → is_some (run_wide_in words conflicts) ≡ true → conflict_kinds conflicts ≡ []
+wide_kinds words true is = absurd cc
+wide_kinds words false is = refl
+
+run_kinds_none : (words : List Row) (is_wide : Bool) → is_some (run_over words is_wide) ≡ true → run_kinds_over words is_wide ≡ []
+run_kinds_none words true is = wide_kinds words (has_other_manner words) is
+run_kinds_none words false is = run_numbers words (first_of (codes "N") words) is
+
 -- of a choice
 either : (b : Bool) (first later : Option RequestOf) (kinds others : Kinds) → (is_some first ≡ true → kinds ≡ []) → (is_some later ≡ true → others ≡ [])
     → is_some (cond b first later) ≡ true → cond b kinds others ≡ []
@@ -50,7 +58,7 @@ command_numbers name words =
     either (same_text name (codes "check")) (check_asked words) _ [] _ (λ some. refl)
     (either (same_text name (codes "list")) (list_asked words) _ [] _ (λ some. refl)
     (either (same_text name (codes "match")) (match_asked words) _ _ _ (match_numbers words (first_of (codes "PRIORITY") words))
-    (either (same_text name (codes "run")) (run_asked words) _ _ _ (run_numbers words (first_of (codes "N") words))
+    (either (same_text name (codes "run")) (run_asked words) _ _ _ (run_kinds_none words (is_set (codes "asterisk") words))
     (either (same_text name (codes "debug")) (debug_asked words) _ [] _ (λ some. refl)
     (either (same_text name (codes "audit")) (audit_asked words) _ [] _ (λ some. refl)
     (either (same_text name (codes "reach")) (reach_asked words) _ [] _ (λ some. refl)

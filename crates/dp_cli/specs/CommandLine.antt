@@ -1,6 +1,6 @@
 -- What the words of a command line ask for. Which word belongs to which name of a command is what clap's definitions say
 -- of the commands below.
-use Rattle.std.specs.Prelude.{ℕ, Bool, true, false, String, string_bytes, List, [], ◌∷◌, Option, Some, None, nat_lt, map, codes, if◌then◌else◌}
+use Rattle.std.specs.Prelude.{ℕ, Bool, true, false, String, string_bytes, List, [], ◌∷◌, Option, Some, None, is_some, nat_lt, map, codes, ◌||◌, if◌then◌else◌}
 use Rattle.std.specs.Option.{option_and_then, option_map, option_map_or}
 use Rattle.std.specs.declared.alloc.Global.{Global}
 use Rattle.clap.specs.Simple.{App, new_app, new_rule, on_top, with_rule, with_subcommand, subcommand_of}
@@ -10,7 +10,7 @@ use Rattle.dp_conf.specs.Words.{same_text}
 use Rattle.dp_commands.specs.Script.{number_within}
 use Rattle.dp_conf.specs.Numbers.{most_priority}
 use Rattle.dp_program.specs.Entries.{fault_named, fault_numbered}
-use Rattle.dp_program.specs.Requests.{RequestOf, joined, check, check_queues, check_both, listing, auditing, matching, explaining, run, debug, reaching, QuestionOf}
+use Rattle.dp_program.specs.Requests.{RequestOf, joined, check, check_queues, check_both, listing, auditing, matching, explaining, run, run_wide, debug, reaching, QuestionOf}
 use Rattle.dp_program.specs.Texts.{OfRun}
 
 -- a word that has to be given
@@ -93,10 +93,14 @@ explain_app = with_explain (with_rule (new_app (codes "explain")) (required_word
 abbrev pub with_verbose : App → App
 with_verbose app = with_rule app (flag (codes "verbose") (codes "verbose"))
 
--- `run [--queues QUEUES] [--reload DIALPLAN] [--threads N] [--verbose] [--explain] FILE SCRIPT`
+-- a command with the flag that asks for the wide table
+abbrev pub with_asterisk : App → App
+with_asterisk app = with_rule app (flag (codes "asterisk") (codes "asterisk"))
+
+-- `run [--asterisk] [--queues QUEUES] [--reload DIALPLAN] [--threads N] [--verbose] [--explain] FILE SCRIPT`
 abbrev pub run_app : App
 run_app =
-    with_explain (with_files (with_verbose (with_rule (with_more_files (new_app (codes "run"))) (named_word (codes "N") (codes "threads")))))
+    with_explain (with_files (with_verbose (with_rule (with_more_files (with_asterisk (new_app (codes "run")))) (named_word (codes "N") (codes "threads")))))
 
 -- `debug [--queues QUEUES] [--reload DIALPLAN] --break CONTEXT,EXTEN,PRIORITY [--verbose] [--explain] FILE SCRIPT`
 abbrev pub debug_app : App
@@ -210,9 +214,23 @@ abbrev pub run_by : List Row → Option (List ℕ) → Option RequestOf
 run_by words None = run_in words None
 run_by words (Some word) = option_and_then (λ threads. run_in words (Some threads)) (threads_in word)
 
+-- whether a run has a word that cannot stand beside `--asterisk`
+abbrev pub has_other_manner : List Row → Bool
+has_other_manner words = is_set (codes "verbose") words || is_some (first_of (codes "N") words)
+
+-- what `run --asterisk` asks for, by whether it has such a word
+abbrev pub run_wide_in : List Row → Bool → Option RequestOf
+run_wide_in words true = None
+run_wide_in words false = option_map run_wide (run_paths words)
+
+-- what `run` asks for, by its words and by whether the wide table is asked for
+abbrev pub run_over : List Row → Bool → Option RequestOf
+run_over words true = run_wide_in words (has_other_manner words)
+run_over words false = run_by words (first_of (codes "N") words)
+
 -- what `run` asks for, by its words
 abbrev pub run_asked : List Row → Option RequestOf
-run_asked words = run_by words (first_of (codes "N") words)
+run_asked words = run_over words (is_set (codes "asterisk") words)
 
 -- what `debug` asks for, by its words
 abbrev pub debug_asked : List Row → Option RequestOf

@@ -1,14 +1,14 @@
 -- The kinds with which words are refused. Those of words that are no command line of the program's are clap's; after them
--- stand those of words that are one, but for a number.
-use Rattle.std.specs.Prelude.{ℕ, List, [], ◌∷◌, Option, Some, None, codes, if◌then◌else◌}
+-- stand those of words that are one, but for a number or for two that cannot stand beside each other.
+use Rattle.std.specs.Prelude.{ℕ, Bool, true, false, List, [], ◌∷◌, Option, Some, None, codes, if◌then◌else◌}
 use Rattle.clap.specs.Faults.{fault_of}
 use Rattle.clap.specs.Kinds.{Kinds, or_else}
 use Rattle.clap.specs.Simple.{subcommand_of}
 use Rattle.clap.specs.Walk.{Row, first_of}
-use Rattle.clap.specs.declared.error.kind.ErrorKind.TheVariants.{MissingRequiredArgument, ValueValidation}
+use Rattle.clap.specs.declared.error.kind.ErrorKind.TheVariants.{ArgumentConflict, MissingRequiredArgument, ValueValidation}
 use Rattle.dp_conf.specs.Words.{same_text}
 use Rattle.dp_program.specs.Requests.{RequestOf}
-use Rattle.dp_cli.specs.CommandLine.{pbx_app, asked_by, fault_in, priority_in, threads_in}
+use Rattle.dp_cli.specs.CommandLine.{pbx_app, asked_by, fault_in, has_other_manner, is_set, priority_in, threads_in}
 
 -- the kind of an invalid value where there is no number
 abbrev pub unless_number : Option ℕ → Kinds
@@ -20,13 +20,27 @@ abbrev pub number_kinds : (List ℕ → Option ℕ) → Option (List ℕ) → Ki
 number_kinds number_in None = []
 number_kinds number_in (Some word) = unless_number (number_in word)
 
--- those of a command: of the priority of `match`, of the threads of `run`, and of the number of `explain`
+-- the kind of words that cannot stand beside each other, where there are some
+abbrev pub conflict_kinds : Bool → Kinds
+conflict_kinds true = ArgumentConflict ∷ []
+conflict_kinds false = []
+
+-- those of `run`, by whether the wide table is asked for
+abbrev pub run_kinds_over : List Row → Bool → Kinds
+run_kinds_over words true = conflict_kinds (has_other_manner words)
+run_kinds_over words false = number_kinds threads_in (first_of (codes "N") words)
+
+-- those of `run`
+abbrev pub run_kinds : List Row → Kinds
+run_kinds words = run_kinds_over words (is_set (codes "asterisk") words)
+
+-- those of a command: of the priority of `match`, of the words of `run` beside each other and its threads, and of the number of `explain`
 abbrev pub command_kinds : List ℕ → List Row → Kinds
 command_kinds name words =
     if same_text name (codes "check") then []
     else if same_text name (codes "list") then []
     else if same_text name (codes "match") then number_kinds priority_in (first_of (codes "PRIORITY") words)
-    else if same_text name (codes "run") then number_kinds threads_in (first_of (codes "N") words)
+    else if same_text name (codes "run") then run_kinds words
     else if same_text name (codes "debug") then []
     else if same_text name (codes "audit") then []
     else if same_text name (codes "reach") then []

@@ -1,5 +1,5 @@
 //! The command line: what its words ask for.
-ghost use Rattle.std.specs.Prelude.{◌≡◌, IfOk, IfErr, Some, is_some, codes, option_map, true};
+ghost use Rattle.std.specs.Prelude.{◌≡◌, IfOk, IfErr, Some, is_some, codes, option_map, true, false};
 ghost use Rattle.std.specs.Option.{option_and_then};
 ghost use Rattle.clap.specs.Faults.{fault_of};
 ghost use Rattle.clap.specs.Kinds.{FailsBy};
@@ -8,7 +8,7 @@ ghost use Rattle.clap.specs.Simple.{subcommand_of, subcommand_rows_of};
 ghost use Rattle.clap.specs.Takes.{takes};
 ghost use Rattle.clap.specs.Values.{kind_of};
 ghost use Rattle.clap.specs.Walk.{first_of, rows_of};
-ghost use Rattle.clap.specs.declared.error.kind.ErrorKind.TheVariants.{MissingRequiredArgument, OutOfMemory, ValueValidation};
+ghost use Rattle.clap.specs.declared.error.kind.ErrorKind.TheVariants.{ArgumentConflict, MissingRequiredArgument, OutOfMemory, ValueValidation};
 ghost use Rattle.dp_commands.specs.Script.{number_within};
 ghost use Rattle.dp_program.specs.Entries.{fault_numbered};
 ghost use Rattle.dp_program.specs.Requests.{request_asked};
@@ -239,9 +239,68 @@ fn run_files<'a>(given: &ArgMatches<'a>) -> Option<RunFiles<'a>>
     })
 }
 
-/// What the words of `run` ask for, or its refusal where they name threads but no number of them.
+/// The option of a run that cannot stand beside `--asterisk`, where one is given.
+fn other_manner(given: &ArgMatches<'_>) -> Option<&'static str>
+    ensures { is_some result ≡ spec.has_other_manner (rows_of (found_of given.now)) }
+{
+    if is_set(given, "verbose") {
+        return Some("--verbose");
+    }
+    if word_of(given, "N").is_some() {
+        return Some("--threads <N>");
+    }
+    None
+}
+
+/// The refusal of an option of a run beside `--asterisk`.
+fn refuse_conflict(alloc: Global, option: &str) -> Result<Error, NoMemory>
+    ensures { IfOk result (λ error. kind_of error ≡ ArgumentConflict) }
+{
+    let message = format!(in alloc; "the argument '--asterisk' cannot be used with '{option}'")?;
+    refuse(
+        run_command(alloc),
+        "pbx run",
+        ErrorKind::ArgumentConflict,
+        &message,
+    )
+}
+
+/// What the words of `run --asterisk` ask for, or its refusal where they have an option that cannot stand beside it.
+fn wide_request<'a>(alloc: Global, given: &ArgMatches<'a>) -> Result<Option<Request<'a>>, Error>
+    ensures asked { IfOk result (λ request. option_map request_asked request
+        ≡ spec.run_wide_in (rows_of (found_of given.now)) (spec.has_other_manner (rows_of (found_of given.now)))) }
+    ensures kinds { FailsBy (refusals.conflict_kinds (spec.has_other_manner (rows_of (found_of given.now)))) result }
+{
+    match other_manner(given) {
+        Some(option) => Err(refuse_conflict(alloc, option)?),
+        None => Ok(run_wide_in(given)),
+    }
+}
+
+/// What the words of `run --asterisk` name, where they name all that it needs.
+fn run_wide_in<'a>(given: &ArgMatches<'a>) -> Option<Request<'a>>
+    ensures { option_map request_asked result ≡ spec.run_wide_in (rows_of (found_of given.now)) false }
+{
+    Some(Request::RunWide {
+        files: run_files(given)?,
+    })
+}
+
+/// What the words of `run` ask for, or its refusal.
 fn run_request<'a>(alloc: Global, given: &ArgMatches<'a>) -> Result<Option<Request<'a>>, Error>
     ensures asked { IfOk result (λ request. option_map request_asked request ≡ spec.run_asked (rows_of (found_of given.now))) }
+    ensures kinds { FailsBy (refusals.run_kinds (rows_of (found_of given.now))) result }
+{
+    if is_set(given, "asterisk") {
+        return wide_request(alloc, given);
+    }
+    plain_request(alloc, given)
+}
+
+/// What the words of `run` ask for without `--asterisk`, or its refusal where they name threads but no number of them.
+fn plain_request<'a>(alloc: Global, given: &ArgMatches<'a>) -> Result<Option<Request<'a>>, Error>
+    ensures asked { IfOk result (λ request. option_map request_asked request
+        ≡ spec.run_by (rows_of (found_of given.now)) (first_of (codes "N") (rows_of (found_of given.now)))) }
     ensures kinds { FailsBy (refusals.number_kinds spec.threads_in
         (first_of (codes "N") (rows_of (found_of given.now)))) result }
 {

@@ -133,6 +133,22 @@ fn with_verbose<'a>(
     with_word(command, verbose)
 }
 
+/// The command with the flag `--asterisk`.
+fn with_asterisk<'a>(
+    alloc: Global,
+    command: Result<Command<'a>, NoMemory>,
+) -> Result<Command<'a>, NoMemory>
+    ensures { (app : App) → Makes app command.entry → Makes (spec.with_asterisk app) result }
+{
+    let asterisk = flag(
+        alloc,
+        "asterisk",
+        "asterisk",
+        "Use the applications and functions that people use, take facts from the script, and stop at what is unknown",
+    );
+    with_word(command, asterisk)
+}
+
 /// A command whose one word is its dialplan's file.
 fn file_command<'a>(
     alloc: Global,
@@ -346,6 +362,7 @@ pub(crate) fn run_command<'a>(alloc: Global) -> Result<Command<'a>, NoMemory>
         "Run a script of events on a dialplan, and print the trace",
         RUN_NOTES,
     );
+    let run = with_asterisk(alloc, run);
     let run = with_more_files(alloc, run);
     let threads = named_word(
         alloc,

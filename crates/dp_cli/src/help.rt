@@ -20,7 +20,7 @@ Examples:
   pbx < joined.conf
 
 Status: 0; 1 where a fault was printed, an event was refused, an audit found something or a context may be reached; 2 where the
-command line was refused.";
+command line was refused; 4 where a run with --asterisk stopped at what is unknown.";
 
 /// What the help of `check` says below its words.
 pub(crate) const CHECK_NOTES: &str = "\
@@ -125,6 +125,18 @@ turn one, and each thread its own in their order; `show` is passed over. One lin
 
 With --verbose the line `  FILE:LINE APP(ARGS)` stands above that of each step that runs an entry, and what `pbx explain` prints above
 that of each refusal. It has no effect beside --threads.
+
+With --asterisk a run has the applications and functions that people use. It never guesses: at a step before which something is unknown
+it prints `unknown CHANNEL WHAT -> STATE`, leaves out the further steps of that line, and ends with the status 4 unless an event was
+refused. Further lines of a script tell it what it does not know:
+  let CHANNEL NAME=VALUE         a variable of the channel, or what `Set` would set
+  global NAME=VALUE              a global variable
+  assume NAME ..                 what nothing has set in these functions, such as DB, is empty
+  clock DAY YYYY-MM-DD HH:MM     what time it is
+  go CHANNEL                     what the channel waits for comes to its end
+  redirect CHANNEL CONTEXT EXTEN [PRIORITY]   the channel goes to a place
+  pass CHANNEL                   the channel passes over an entry that is unknown
+It cannot be used with --threads or --verbose.
 
 Example:
   $ cat calls.script

@@ -90,7 +90,7 @@ fn fulfil<F: ReadFiles, I: ReadTold, W: WriteTold, E: WriteTold, R: Threads + Wa
 }
 
 /// Does what the words of the command line ask for, the program's own name first among them, and gives the status: 0; 1
-/// where a fault was printed or an event was refused; 2 where the command line was refused.
+/// where a fault was printed or an event was refused; 2 where the command line was refused; 4 where a run stopped at what is unknown.
 ///
 /// What was asked for goes to `output`, and faults and mistakes go to `errors`; where these cannot be written, the
 /// status tells alone. `input` is read where there is no command, and never where the words have a fault.

@@ -47,13 +47,17 @@ impl Block {
         Ok(Block { bytes, whole: 0 })
     }
 
-    /// Adds bytes to what is begun. After a refused growth the whole lines are as before, as after that of a byte.
+    /// Adds bytes to what is begun. After a refused growth the whole lines are as before, as after that of a byte. Many names are one
+    /// byte, which goes in without a call that copies memory.
     #[inline(always)]
     pub fn push(&mut self, bytes: &[u8]) -> Result<(), NoMemory>
         ensures kept { self.new.whole ≡ self.old.whole }
         ensures ok { OnOk result (self.new.begun ≡ self.old.begun ++ bytes.now) }
     {
-        self.bytes.extend_from_slice(bytes)
+        match bytes {
+            [byte] => self.push_byte(*byte),
+            _ => self.bytes.extend_from_slice(bytes),
+        }
     }
 
     /// Adds one byte to what is begun.

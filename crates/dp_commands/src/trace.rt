@@ -83,6 +83,7 @@ pub fn push_after<A: AppTable>(
 }
 
 /// Adds ` -> ` and the state of a channel by its phase and its place. The arrow goes in with the word of the state, at once.
+#[inline(always)]
 fn push_phase(
     out: &mut Block,
     queues: &Queues,

@@ -27,6 +27,7 @@ use dp_plan::{Entry, EntryId, NoMemory};
 use std::alloc::Global;
 
 /// Moves the channel, after an application that a table may lack.
+#[inline(always)]
 fn go(plan: &mut Directory, channel: &mut Channel, going: Option<Move>)
     requires { channel.old.place.priority ≤ most_priority }
     ensures channel { channel.new ≡ channels.after_application plan.old channel.old going }

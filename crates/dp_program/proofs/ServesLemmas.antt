@@ -16,13 +16,14 @@ use Rattle.dp_program.specs.Faulted.{StandsIn, in_none, nowhere, place_by, place
 use Rattle.dp_program.specs.Files.{Source, Reads}
 use Rattle.dp_program.specs.Hints.{Tells, audit_hint_of, match_hint_of, status_in}
 use Rattle.dp_program.specs.Reaches.{Reaches, place_of_files}
-use Rattle.dp_program.specs.Requests.{RequestOf, LookupOf, QuestionOf, joined, check, check_queues, check_both, listing, auditing, matching, explaining, run, debug, reaching}
+use Rattle.dp_program.specs.Requests.{RequestOf, LookupOf, QuestionOf, joined, check, check_queues, check_both, listing, auditing, matching, explaining, run, run_wide, debug, reaching}
 use Rattle.dp_program.specs.Entries.{explanation_of}
-use Rattle.dp_program.specs.Serves.{AuditsFile, ChecksBoth, DebugsAsked, DebugsFiles, DebugsFilesVerbosely, DebugsVerbosely, LooksUp, ReportsOn, Runs, RunsAsked, RunsFiles, RunsFilesVerbosely, RunsVerbosely, Serves, SharesSome, debug_of_texts, in_force_at_first, look_up, run_of_texts}
+use Rattle.dp_program.specs.Serves.{AuditsFile, ChecksBoth, DebugsAsked, DebugsFiles, DebugsFilesVerbosely, DebugsVerbosely, LooksUp, ReportsOn, Runs, RunsAsked, RunsFiles, RunsFilesVerbosely, RunsFilesWide, RunsVerbosely, RunsWide, Serves, SharesSome, debug_of_texts, in_force_at_first, look_up, run_of_texts, wide_run_of_texts}
 use Rattle.dp_program.specs.Texts.{OfRun, ReadsTexts, all_texts, some_text, sources_of}
 use Rattle.dp_program.specs.declared.faulted.Faulted.{Faulted}
 use Rattle.dp_program.specs.declared.faulted.Unread.{Unread}
 use Rattle.dp_program.specs.declared.hints.Served.{Served}
+use Rattle.dp_wide_runs.specs.Runs.{WideRun}
 use Rattle.dp_program.proofs.ReadsLemmas.{IsUnread, by_reason, Reads-any, Reads-weaker, ReadsSome-any, ReadsTexts-any, ReadsTexts-weaker}
 
 -- where memory is refused before anything was written
@@ -50,6 +51,10 @@ verbose_debug_lacks : (in_force : InForce) (old : Option (List ℕ)) (given : Re
     → WritesVerboseDebug explanation_of in_force old old given (Err NoMemory)
 verbose_debug_lacks in_force old (Ok ran) = record { count = 0; within = omega arith; written = Appends-nil old }
 verbose_debug_lacks in_force old (Err fault) = Appends-nil old
+
+wide_lacks : (old : Option (List ℕ)) (given : Result WideRun PbxFault) → RunsWide old old given (Err NoMemory)
+wide_lacks old (Ok ran) = (record { count = 0; within = omega arith; written = Appends-nil old }, tt)
+wide_lacks old (Err fault) = (Appends-nil old, tt)
 
 runs_verbosely_lacks : (paths : OfRun (List ℕ)) (old : Option (List ℕ)) (texts : Result (OfRun (List ℕ)) PbxFault) → RunsVerbosely paths old old texts (Err NoMemory)
 runs_verbosely_lacks paths old (Ok texts) = verbose_lacks (in_force_at_first paths texts) old (run_of_texts texts)
@@ -87,6 +92,11 @@ pub writes_refused : {X : Type 0} (old : Option (List ℕ)) (next : X → Result
     → Refuses (reason_of fault) text → Writes old old (text >>= next) (Err fault)
 writes_refused old next =
     by_reason (λ fault text. Writes old old (text >>= next) (Err fault)) (λ code line. (Appends-nil old, refl)) (λ text. writes_lacks old (text >>= next))
+
+wide_refused : {X : Type 0} (old : Option (List ℕ)) (next : X → Result WideRun PbxFault) (fault : PbxFault) (text : Result X PbxFault)
+    → Refuses (reason_of fault) text → RunsWide old old (text >>= next) (Err fault)
+wide_refused old next =
+    by_reason (λ fault text. RunsWide old old (text >>= next) (Err fault)) (λ code line. ((Appends-nil old, refl), tt)) (λ text. wide_lacks old (text >>= next))
 
 pub debug_refused : {X : Type 0} (old : Option (List ℕ)) (next : X → Result DebugRun PbxFault) (fault : PbxFault) (text : Result X PbxFault)
     → Refuses (reason_of fault) text → WritesDebug old old (text >>= next) (Err fault)
@@ -293,6 +303,17 @@ debug_run_refused paths sources held old unread reads =
       unread_stands unread unread.fault ∙ (is.1 ∙ refused_place_by paths (unread_path paths read) unread.fault (all_texts read) is.0),
     )) reads
 
+-- the same over the wide table
+pub run_wide_refused : (paths : OfRun (List ℕ)) (sources : OfRun Source) (old : Option (List ℕ)) (unread : Unread)
+    → ReadsTexts sources (IsUnread paths unread.path.now unread.fault) → RunsFilesWide paths sources old old (Err (unread_fault unread))
+run_wide_refused paths sources old unread reads =
+    ReadsTexts-weaker sources (IsUnread paths unread.path.now unread.fault)
+    (λ read. RunsWide old old (all_texts read >>= wide_run_of_texts) (Err unread.fault) × (place_of (place_unread unread unread.fault) ≡ place_of_run paths read unread.fault))
+    (λ read is. (
+      wide_refused old wide_run_of_texts unread.fault (all_texts read) is.0,
+      unread_stands unread unread.fault ∙ (is.1 ∙ refused_place_by paths (unread_path paths read) unread.fault (all_texts read) is.0),
+    )) reads
+
 -- the same of verbose runs
 pub run_verbose_refused : (paths : OfRun (List ℕ)) (sources : OfRun Source) (old : Option (List ℕ)) (unread : Unread)
     → ReadsTexts sources (IsUnread paths unread.path.now unread.fault) → RunsFilesVerbosely paths sources old old (Err (unread_fault unread))
@@ -333,6 +354,16 @@ debug_run_read paths sources held old new texts result answered reads same debug
     (λ read is. subst (λ (joined : Result (OfRun (List ℕ)) PbxFault). WritesDebug old new (joined >>= debug_of_texts held) (without_place answered) × StandsIn (place_by paths (unread_path paths read) joined) answered) (sym is.0)
     (subst (λ result. WritesDebug old new (debug_of_texts held texts) result) (sym same) debugs, stands)) reads
 
+-- the same over the wide table
+pub run_wide_read : (paths : OfRun (List ℕ)) (sources : OfRun Source) (old new : Option (List ℕ)) (texts : OfRun (List ℕ))
+    (result : Result ℕ PbxFault) (answered : Result ℕ Faulted) → ReadsTexts sources (λ read. (all_texts read ≡ Ok texts) × Unit {0}) → without_place answered ≡ result
+    → RunsWide old new (wide_run_of_texts texts) result → StandsIn (place_in_files paths texts) answered → RunsFilesWide paths sources old new answered
+run_wide_read paths sources old new texts result answered reads same runs stands =
+    ReadsTexts-weaker sources (λ read. (all_texts read ≡ Ok texts) × Unit {0})
+    (λ read. RunsWide old new (all_texts read >>= wide_run_of_texts) (without_place answered) × StandsIn (place_of_run paths read) answered)
+    (λ read is. subst (λ (joined : Result (OfRun (List ℕ)) PbxFault). RunsWide old new (joined >>= wide_run_of_texts) (without_place answered) × StandsIn (place_by paths (unread_path paths read) joined) answered) (sym is.0)
+    (subst (λ result. RunsWide old new (wide_run_of_texts texts) result) (sym same) runs, stands)) reads
+
 -- the same of verbose runs
 pub run_verbose_read : (paths : OfRun (List ℕ)) (sources : OfRun Source) (old new : Option (List ℕ)) (texts : OfRun (List ℕ))
     (result : Result ℕ PbxFault) (answered : Result ℕ Faulted) → ReadsTexts sources (λ read. (all_texts read ≡ Ok texts) × Unit {0}) → without_place answered ≡ result
@@ -359,6 +390,11 @@ run_lacks : (paths : OfRun (List ℕ)) (sources : OfRun Source) (threads : Optio
 run_lacks paths sources threads old =
     ReadsTexts-any sources (λ read. Runs threads old old (all_texts read >>= run_of_texts) (Err NoMemory) × (in_none ≡ place_of_run paths read NoMemory))
     (λ read. (runs_lacks threads old (all_texts read >>= run_of_texts), lacks_place_by paths (unread_path paths read) (all_texts read)))
+
+run_wide_lacks : (paths : OfRun (List ℕ)) (sources : OfRun Source) (old : Option (List ℕ)) → RunsFilesWide paths sources old old (Err (nowhere NoMemory))
+run_wide_lacks paths sources old =
+    ReadsTexts-any sources (λ read. RunsWide old old (all_texts read >>= wide_run_of_texts) (Err NoMemory) × (in_none ≡ place_of_run paths read NoMemory))
+    (λ read. (wide_lacks old (all_texts read >>= wide_run_of_texts), lacks_place_by paths (unread_path paths read) (all_texts read)))
 
 run_asked_lacks : (paths : OfRun (List ℕ)) (sources : OfRun Source) (threads : Option ℕ) (is_verbose : Bool) (old : Option (List ℕ))
     → RunsAsked paths sources threads is_verbose old old (Err (nowhere NoMemory))
@@ -389,6 +425,7 @@ Serves-lacks files input (auditing file) explains old = Reads-any (files file) _
 Serves-lacks files input (matching lookup all) explains old = Reads-any (files lookup.file) _ (λ text. (reports_lacks old _, lacks_report_place lookup.file text, tt))
 Serves-lacks files input (explaining fault) explains old = ((Appends-nil old, refl), tt)
 Serves-lacks files input (run paths threads is_verbose) explains old = (run_asked_lacks paths (sources_of files paths) threads is_verbose old, tt)
+Serves-lacks files input (run_wide paths) explains old = (run_wide_lacks paths (sources_of files paths) old, tt)
 Serves-lacks files input (debug paths held is_verbose) explains old = (debug_asked_lacks paths (sources_of files paths) held is_verbose old, tt)
 Serves-lacks files input (reaching question) explains old =
     Reads-any (files question.file) _ (λ plan. ReadsSome-any (option_map files question.queues) _ (λ queues. (

@@ -6,7 +6,7 @@ use Rattle.dp_program.specs.Texts.{OfRun, paths_of}
 use Rattle.dp_program.specs.declared.request.Lookup.{Lookup}
 use Rattle.dp_program.specs.declared.request.ReachQuestion.{ReachQuestion}
 use Rattle.dp_program.specs.declared.request.Request.{Request}
-use Rattle.dp_program.specs.declared.request.Request.TheVariants.{Joined, Check, CheckQueues, CheckBoth, Listing, Audit, Match, Explain, Run, Debug, Reach}
+use Rattle.dp_program.specs.declared.request.Request.TheVariants.{Joined, Check, CheckQueues, CheckBoth, Listing, Audit, Match, Explain, Run, RunWide, Debug, Reach}
 
 -- what is looked up in the dialplan of a file, with its texts
 pub record LookupOf : Type 0 where
@@ -51,6 +51,7 @@ pub data RequestOf : Type 0 where
   matching : LookupOf → Bool → RequestOf
   explaining : ℕ → RequestOf
   run : OfRun (List ℕ) → Option ℕ → Bool → RequestOf
+  run_wide : OfRun (List ℕ) → RequestOf
   debug : OfRun (List ℕ) → List ℕ → Bool → RequestOf
   reaching : QuestionOf → RequestOf
 
@@ -65,5 +66,6 @@ request_asked (Audit file) = auditing file.now
 request_asked (Match lookup all) = matching (lookup_of lookup) all
 request_asked (Explain fault) = explaining fault
 request_asked (Run files threads is_verbose) = run (paths_of files) threads is_verbose
+request_asked (RunWide files) = run_wide (paths_of files)
 request_asked (Debug files held is_verbose) = debug (paths_of files) held.now is_verbose
 request_asked (Reach question) = reaching (question_of question)

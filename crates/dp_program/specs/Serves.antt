@@ -1,5 +1,5 @@
 -- What a request writes and answers, by what is known of the files and of the input that it reads.
-use Rattle.std.specs.Prelude.{ℕ, Bool, true, false, List, max, Option, Some, None, Result, Ok, Err}
+use Rattle.std.specs.Prelude.{ℕ, Bool, true, false, List, max, Option, Some, None, Result, Ok, Err, IfOk}
 use Rattle.dp_board.specs.Log.{Log}
 use Rattle.dp_conf.specs.Answers.{◌>>=◌}
 use Rattle.dp_commands.specs.Audit.{WritesAudit, audit_of}
@@ -17,10 +17,11 @@ use Rattle.dp_program.specs.Faulted.{StandsIn, in_none, place_of_report, place_o
 use Rattle.dp_program.specs.Files.{Source, Reads, has_read_failed}
 use Rattle.dp_program.specs.Hints.{Tells, TellsNothing, audit_hint_of, match_hint_of, status_in}
 use Rattle.dp_program.specs.Reaches.{ReachesFiles}
-use Rattle.dp_program.specs.Requests.{RequestOf, LookupOf, joined, check, check_queues, check_both, listing, auditing, matching, explaining, run, debug, reaching}
+use Rattle.dp_program.specs.Requests.{RequestOf, LookupOf, joined, check, check_queues, check_both, listing, auditing, matching, explaining, run, run_wide, debug, reaching}
 use Rattle.dp_program.specs.Texts.{OfRun, ReadsTexts, all_texts, sources_of}
 use Rattle.dp_program.specs.declared.faulted.Faulted.{Faulted}
 use Rattle.dp_program.specs.declared.hints.Served.{Served}
+use Rattle.dp_wide_runs.specs.Runs.{IsPlain, WideRun, WritesWide, run_of as wide_run_of}
 
 -- what a report on the text of the file of a path writes and answers, and where its fault stands
 abbrev pub ReportsOn : List ℕ → Source → (List ℕ → Result (List ℕ) PbxFault) → Option (List ℕ) → Option (List ℕ) → Result ℕ Faulted → Type 0
@@ -117,6 +118,19 @@ abbrev pub DebugsFilesVerbosely : OfRun (List ℕ) → OfRun Source → List ℕ
 DebugsFilesVerbosely paths sources held old new answered =
     ReadsTexts sources (λ read. DebugsVerbosely paths held old new (all_texts read) (without_place answered) × StandsIn (place_of_run paths read) answered)
 
+-- the run of the texts of its files over the wide table
+abbrev pub wide_run_of_texts : OfRun (List ℕ) → Result WideRun PbxFault
+wide_run_of_texts texts = wide_run_of texts.plan texts.queues texts.second_plan texts.script
+
+-- what such a run writes and answers: one that ends with status 0 left nothing out
+abbrev pub RunsWide : Option (List ℕ) → Option (List ℕ) → Result WideRun PbxFault → Result ℕ PbxFault → Type 0
+RunsWide old new given result = WritesWide old new given result × IfOk result (IsPlain given)
+
+-- what such a run over the files of paths writes and answers, and where its fault stands
+abbrev pub RunsFilesWide : OfRun (List ℕ) → OfRun Source → Option (List ℕ) → Option (List ℕ) → Result ℕ Faulted → Type 0
+RunsFilesWide paths sources old new answered =
+    ReadsTexts sources (λ read. RunsWide old new (all_texts read >>= wide_run_of_texts) (without_place answered) × StandsIn (place_of_run paths read) answered)
+
 -- what a run writes and answers, in threads where their number is given, and else by whether it is verbose
 abbrev pub RunsAsked : OfRun (List ℕ) → OfRun Source → Option ℕ → Bool → Option (List ℕ) → Option (List ℕ) → Result ℕ Faulted → Type 0
 RunsAsked paths sources None true old new answered = RunsFilesVerbosely paths sources old new answered
@@ -148,6 +162,7 @@ Serves files input (matching lookup all) explains old new answered = LooksUp loo
 Serves files input (explaining fault) explains old new answered = Quietly (WritesEntry fault old new) answered
 Serves files input (run paths threads is_verbose) explains old new answered =
     Quietly (RunsAsked paths (sources_of files paths) threads is_verbose old new) answered
+Serves files input (run_wide paths) explains old new answered = Quietly (RunsFilesWide paths (sources_of files paths) old new) answered
 Serves files input (debug paths held is_verbose) explains old new answered =
     Quietly (DebugsAsked paths (sources_of files paths) held is_verbose old new) answered
 Serves files input (reaching question) explains old new answered = ReachesFiles files question explains old new answered
@@ -163,5 +178,6 @@ fails_on_input (auditing file) result = false
 fails_on_input (matching lookup all) result = false
 fails_on_input (explaining fault) result = false
 fails_on_input (run paths threads is_verbose) result = false
+fails_on_input (run_wide paths) result = false
 fails_on_input (debug paths held is_verbose) result = false
 fails_on_input (reaching question) result = false

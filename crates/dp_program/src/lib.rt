@@ -15,6 +15,7 @@ mod request;
 mod runs;
 mod texts;
 mod verbose_runs;
+mod wide_runs;
 
 pub use dp_commands::{Code, FileLine, PbxFault};
 pub use entries::{FaultNumber, entries_are_headed};

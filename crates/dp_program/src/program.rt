@@ -15,6 +15,7 @@ use crate::reports::{Manner, serve_audit, serve_explain, serve_list, serve_match
 use crate::request::Request;
 use crate::runs::{serve_debug, serve_joined, serve_run};
 use crate::verbose_runs::{serve_debug_verbose, serve_run_verbose};
+use crate::wide_runs::serve_run_wide;
 use dp_conf::{ReadTold, WriteTold};
 use std::alloc::Global;
 use std::sync::Wait;
@@ -84,6 +85,9 @@ pub fn serve<'a, F: ReadFiles, I: ReadTold, W: WriteTold, R: Threads + Wait + Sy
                 alloc,
                 serve_run(rt, files, alloc, run, Some(*threads), output),
             )
+        }
+        Request::RunWide { files: run } => {
+            without_hint(alloc, serve_run_wide(files, alloc, run, output))
         }
         Request::Debug {
             files: run,

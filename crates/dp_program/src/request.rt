@@ -116,6 +116,11 @@ pub enum Request<'a> {
         threads: Option<u32>,
         is_verbose: bool,
     },
+    /// `run --asterisk [--queues QUEUES] [--reload DIALPLAN] FILE SCRIPT`: to run a script on a dialplan likewise, over the applications and
+    /// functions of the wide table. The script may tell facts, and the run stops before what is unknown.
+    RunWide {
+        files: RunFiles<'a>,
+    },
     /// `debug [--queues QUEUES] [--reload DIALPLAN] --break BREAK [--verbose] FILE SCRIPT`: to run a script on a dialplan likewise, with
     /// a halt at each step where the break holds.
     Debug {

@@ -33,10 +33,12 @@ impl Texts {
     ghost use Rattle.dp_commands.specs.Run.{run_of_texts};
     ghost use Rattle.dp_program.specs.Serves as serves;
     ghost use Rattle.dp_program.specs.Texts.{texts_of};
+    ghost use Rattle.dp_wide_runs.specs.Runs as wide;
 
     /// The texts, as they are given to a run.
     pub(crate) fn lend(&self) -> RunTexts<'_>
         ensures run { run_of_texts result ≡ serves.run_of_texts (texts_of self.now) }
+        ensures wide { wide.run_of_texts result ≡ serves.wide_run_of_texts (texts_of self.now) }
         ensures plan { result.plan.now ≡ (texts_of self.now).plan }
     {
         RunTexts {

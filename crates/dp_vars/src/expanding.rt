@@ -16,7 +16,7 @@ use crate::functions::Functions;
 use crate::head::{CutPart, Head, push_cut, push_full};
 use crate::naming::{note_body, note_expression, note_head};
 use crate::opening::has_opening;
-use crate::reference::{Called, Reference, push_value, read_reference};
+use crate::reference::{Called, Reference, push_bytes, push_value, read_reference};
 use crate::scope::{Counts, Scope};
 use crate::text_piece::{KnownExpression, OtherCall, TextPiece};
 use dp_conf::{GroupKind, Mark, NoMemory};
@@ -350,7 +350,7 @@ impl Expanding {
         note_expression(alloc, &mut self.unknown, body, reading)?;
         match reading {
             ExpressionReading::Value | ExpressionReading::Unknown => {
-                self.bytes.extend_from_slice(&known.value)
+                push_bytes(&mut self.bytes, &known.value)
             }
             ExpressionReading::Zero => {
                 self.bytes.push(b'0')?;
@@ -371,7 +371,7 @@ impl Expanding {
         ensures { OnOk result (self.new ≡ past F.table (sights.sight_of C.count scope.now) text.now self.old piece.now) }
     {
         match piece {
-            TextPiece::Run(span) => self.bytes.extend_from_slice(span.of(text)),
+            TextPiece::Run(span) => push_bytes(&mut self.bytes, span.of(text)),
             TextPiece::Name(name) => {
                 self.write_head::<F, B, C>(alloc, scope, text, Head::Name(*name))
             }

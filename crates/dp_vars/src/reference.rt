@@ -142,12 +142,27 @@ pub(crate) fn read_reference<'a, F: Functions, B, C: Counts>(
     }
 }
 
+/// Adds bytes. Many runs of a text and many values are one byte, which goes in without a call that copies memory.
+#[inline(always)]
+pub(crate) fn push_bytes(out: &mut Vec<u8>, bytes: &[u8]) -> Result<(), NoMemory>
+    ensures { OnOk result (out.new.items ≡ out.old.items ++ bytes.now) }
+{
+    match bytes {
+        [byte] => {
+            out.push(*byte)?;
+            Ok(())
+        }
+        _ => out.extend_from_slice(bytes),
+    }
+}
+
 /// Adds the part that is asked for of some bytes.
+#[inline(always)]
 fn push_part(out: &mut Vec<u8>, value: &[u8], asked: Selection) -> Result<(), NoMemory>
     ensures ok { OnOk result (out.new.items ≡ out.old.items ++ part asked value.now) }
     ensures small { length value.now < 2 ^ 64 }
 {
-    out.extend_from_slice(part(value, asked))
+    push_bytes(out, part(value, asked))
 }
 
 /// Adds the part that is asked for of a value. Most values are bytes that stand somewhere, so these take no call.

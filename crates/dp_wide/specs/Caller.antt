@@ -2,7 +2,7 @@
 use Rattle.std.specs.Prelude.{ℕ, Bool, true, ◌||◌, List, ◌++◌, codes, if◌then◌else◌}
 use Rattle.dp_conf.specs.Words.{same_text}
 use Rattle.dp_vars.specs.Sights.{Sight}
-use Rattle.dp_wide.specs.CellValues.{cell_is_set, cell_value}
+use Rattle.dp_wide.specs.CellValues.{cell_value, knows_cell}
 
 -- whether an argument asks for the number
 abbrev pub asks_number : List ℕ → Bool
@@ -22,7 +22,7 @@ all_value sight = caller_text (cell_value sight (codes "CALLERID") (codes "name"
 
 -- whether both are known: the number is
 abbrev pub knows_all : Sight → Bool
-knows_all sight = cell_is_set sight (codes "CALLERID") (codes "name")
+knows_all sight = knows_cell sight (codes "CALLERID") (codes "name")
 
 -- the value of `CALLERID` of an argument
 abbrev pub caller_value : Sight → List ℕ → List ℕ
@@ -30,8 +30,8 @@ caller_value sight argument =
     if asks_number argument then sight.caller
     else (if asks_all argument then all_value sight else cell_value sight (codes "CALLERID") argument)
 
--- whether it is known: the number is, and what reads a cell is where something wrote that
+-- whether it is known: the number is, and what reads a cell is where that is
 abbrev pub knows_caller : Sight → List ℕ → Bool
 knows_caller sight argument =
     if asks_number argument then true
-    else (if asks_all argument then knows_all sight else cell_is_set sight (codes "CALLERID") argument)
+    else (if asks_all argument then knows_all sight else knows_cell sight (codes "CALLERID") argument)

@@ -11,7 +11,7 @@ use Rattle.dp_vars.specs.declared.value.Function.{Function}
 use Rattle.dp_vars.specs.declared.value.Function.TheVariants.{Global, Local, Len, CallerId, QueueWaitingCount}
 use Rattle.dp_wide.specs.Brackets.{reads}
 use Rattle.dp_wide.specs.Caller.{caller_value, knows_caller}
-use Rattle.dp_wide.specs.CellValues.{cell_is_set, cell_value}
+use Rattle.dp_wide.specs.CellValues.{cell_value, knows_cell}
 use Rattle.dp_wide.specs.Fields.{count_value, cut_value, knows_fields}
 use Rattle.dp_wide.specs.Names.{is_given_by_asterisk, is_status}
 use Rattle.dp_wide.specs.ReadNames.{was_read}
@@ -103,7 +103,7 @@ other_value inner sight (Some function) name argument = wide_value inner sight f
 
 -- whether it is known
 abbrev pub knows_other : FunctionTable → Sight → Option WideFunction → List ℕ → List ℕ → Bool
-knows_other inner sight None name argument = cell_is_set sight name argument
+knows_other inner sight None name argument = knows_cell sight name argument
 knows_other inner sight (Some function) name argument = knows_wide inner sight function argument
 
 -- the value of a name and an argument

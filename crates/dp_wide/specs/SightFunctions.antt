@@ -2,7 +2,7 @@
 use Rattle.std.specs.Prelude.{ℕ, Bool, not, true, ◌==◌, List, length, is_some, unwrap_or, codes, if◌then◌else◌}
 use Rattle.std.specs.Fmt.{decimal}
 use Rattle.dp_vars.specs.Sights.{Sight}
-use Rattle.dp_wide.specs.CellValues.{cell_is_set, cell_value}
+use Rattle.dp_wide.specs.CellValues.{cell_value, knows_cell}
 use Rattle.dp_wide.specs.declared.sight_functions.SightFunction.{SightFunction}
 use Rattle.dp_wide.specs.declared.sight_functions.SightFunction.TheVariants.{DbExists, DbDelete, QueueExists, QueueMemberCount}
 
@@ -18,9 +18,9 @@ is_empty text = length text == 0
 abbrev pub key_value : Sight → List ℕ → List ℕ
 key_value sight key = cell_value sight (codes "DB") key
 
--- whether something wrote it
-abbrev pub key_is_set : Sight → List ℕ → Bool
-key_is_set sight key = cell_is_set sight (codes "DB") key
+-- whether it is known
+abbrev pub knows_key : Sight → List ℕ → Bool
+knows_key sight key = knows_cell sight (codes "DB") key
 
 -- the value of a function of a key or of the name of a queue
 abbrev pub sight_value : Sight → SightFunction → List ℕ → List ℕ
@@ -29,9 +29,9 @@ sight_value sight DbDelete key = key_value sight key
 sight_value sight QueueExists queue = flag (is_some (sight.members queue))
 sight_value sight QueueMemberCount queue = decimal (unwrap_or (sight.members queue) 0)
 
--- whether it is known: of a key where something wrote that, and of a queue always
+-- whether it is known: of a key where that is, and of a queue always
 abbrev pub knows_sight : Sight → SightFunction → List ℕ → Bool
-knows_sight sight DbExists key = key_is_set sight key
-knows_sight sight DbDelete key = key_is_set sight key
+knows_sight sight DbExists key = knows_key sight key
+knows_sight sight DbDelete key = knows_key sight key
 knows_sight sight QueueExists queue = true
 knows_sight sight QueueMemberCount queue = true

@@ -8,7 +8,7 @@ ghost use Rattle.dp_vars.specs.Shown.{value_bytes};
 ghost use Rattle.dp_vars.specs.Sights.{caller_of, sight_of, view_of};
 ghost use Rattle.dp_wide.specs.Caller as spec;
 
-use crate::cell_values::cell_value;
+use crate::cell_values::{cell_value, knows_cell};
 use dp_conf::NoMemory;
 use dp_vars::{ChannelSeen, Counts, FoundValue, FunctionValue, Scope, is_set, value_of};
 use std::alloc::Global;
@@ -60,13 +60,14 @@ fn all_value<'a, B, C: Counts>(
 {
     let name = value_of(alloc, scope, b"CALLERID(name)")?;
     let text = caller_text(alloc, &name, number_of(scope.channel))?;
+    let is_known = knows_cell(alloc, scope, b"CALLERID", is_set(scope, b"CALLERID(name)"))?;
     Ok(FunctionValue {
         value: FoundValue::Owned(text),
-        is_known: is_set(scope, b"CALLERID(name)"),
+        is_known,
     })
 }
 
-/// The part of the caller that an argument asks for. The number is known, and what reads a cell is where something wrote that.
+/// The part of the caller that an argument asks for. The number is known, and what reads a cell is where that is.
 pub(crate) fn caller_value<'a, B, C: Counts>(
     alloc: Global,
     scope: &Scope<'a, B, C>,

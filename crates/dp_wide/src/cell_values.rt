@@ -1,7 +1,7 @@
 //! What cells have been set to, after the Asterisk documentation's pages on functions.
 //!
-//! That a cell keeps what was written in it, and is not known before, is a choice of this program.
-ghost use Rattle.std.specs.Prelude.{◌≡◌, IfOk};
+//! That a cell keeps what was written in it, and is not known before unless a script says that it is empty, is a choice of this program.
+ghost use Rattle.std.specs.Prelude.{◌≡◌, ◌||◌, IfOk};
 ghost use Rattle.dp_vars.specs.Shown.{value_bytes};
 ghost use Rattle.dp_vars.specs.Sights.{sight_of};
 ghost use Rattle.dp_wide.specs.CellValues as spec;
@@ -11,7 +11,42 @@ use dp_conf::NoMemory;
 use dp_vars::{Counts, FoundValue, FunctionValue, Scope, is_set, variable};
 use std::alloc::Global;
 
-/// The value of a function of an argument that is a cell, which is known where something wrote it.
+/// The name of the global that says of a function that those of its cells are empty which nothing wrote.
+pub fn assumed_name(alloc: Global, function: &[u8]) -> Result<Vec<u8>, NoMemory>
+    ensures { IfOk result (λ name. name.items ≡ spec.assumed_name function.now) }
+{
+    cell_name(alloc, b"ASSUMED", function)
+}
+
+/// Whether a script said of a function that those of its cells are empty which nothing wrote.
+fn is_assumed<B, C: Counts>(
+    alloc: Global,
+    scope: &Scope<'_, B, C>,
+    function: &[u8],
+) -> Result<bool, NoMemory>
+    ensures { IfOk result (λ is_assumed. is_assumed ≡ spec.is_assumed (sight_of C.count scope.now) function.now) }
+{
+    let name = assumed_name(alloc, function)?;
+    Ok(scope.globals.has(&name))
+}
+
+/// Whether a cell of a function is known, by whether something wrote it.
+pub(crate) fn knows_cell<B, C: Counts>(
+    alloc: Global,
+    scope: &Scope<'_, B, C>,
+    function: &[u8],
+    is_set: bool,
+) -> Result<bool, NoMemory>
+    ensures { IfOk result (λ is_known. is_known ≡ (is_set || spec.is_assumed (sight_of C.count scope.now) function.now)) }
+{
+    if is_set {
+        return Ok(true);
+    }
+    is_assumed(alloc, scope, function)
+}
+
+/// The value of a function of an argument that is a cell, which is known where something wrote it, or where a script said that it is
+/// empty.
 pub(crate) fn cell_value<'a, B, C: Counts>(
     alloc: Global,
     scope: &Scope<'a, B, C>,
@@ -21,17 +56,17 @@ pub(crate) fn cell_value<'a, B, C: Counts>(
     ensures value { IfOk result (λ found. value_bytes found.value
         ≡ spec.cell_value (sight_of C.count scope.now) function.now argument.now) }
     ensures known { IfOk result (λ found. found.is_known
-        ≡ spec.cell_is_set (sight_of C.count scope.now) function.now argument.now) }
+        ≡ spec.knows_cell (sight_of C.count scope.now) function.now argument.now) }
 {
     let name = cell_name(alloc, function, argument)?;
     if is_of_all(function) {
         return Ok(FunctionValue {
             value: FoundValue::Bytes(scope.globals.at(&name)),
-            is_known: scope.globals.has(&name),
+            is_known: knows_cell(alloc, scope, function, scope.globals.has(&name))?,
         });
     }
     Ok(FunctionValue {
         value: variable(scope, &name),
-        is_known: is_set(scope, &name),
+        is_known: knows_cell(alloc, scope, function, is_set(scope, &name))?,
     })
 }

@@ -31,6 +31,7 @@ mod times;
 mod wide_table;
 
 pub use asterisk_functions::is_asterisk_function;
+pub use cell_values::assumed_name;
 pub use choices::if_value;
 pub use deleting::DbDel;
 pub use dp_conf::NoMemory;

@@ -5,7 +5,7 @@ ghost use Rattle.dp_vars.specs.Shown.{value_bytes};
 ghost use Rattle.dp_vars.specs.Sights.{sight_of};
 ghost use Rattle.dp_wide.specs.SightFunctions as spec;
 
-use crate::cell_values::cell_value;
+use crate::cell_values::{cell_value, knows_cell};
 use crate::cells::cell_name;
 use dp_conf::NoMemory;
 use dp_vars::{Counts, FoundValue, FunctionValue, Scope};
@@ -60,7 +60,7 @@ fn key_exists<'a, B, C: Counts>(
     let name = cell_name(alloc, b"DB", key)?;
     Ok(FunctionValue {
         value: flag(!scope.globals.at(&name).is_empty()),
-        is_known: scope.globals.has(&name),
+        is_known: knows_cell(alloc, scope, b"DB", scope.globals.has(&name))?,
     })
 }
 

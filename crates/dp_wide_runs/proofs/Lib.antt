@@ -1,3 +1,4 @@
 mod GivenLemmas
+mod LinesLemmas
 mod RunsLemmas
 mod cases

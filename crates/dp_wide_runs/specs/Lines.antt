@@ -1,5 +1,5 @@
 -- A script with facts: what its lines stand for. Those of a plain script stand for what they stand for there.
-use Rattle.std.specs.Prelude.{ℕ, ◌-◌, Bool, ◌||◌, nat_le, min, List, [], ◌∷◌, position, take, drop, Option, Some, None, is_some, Result, codes, if◌then◌else◌}
+use Rattle.std.specs.Prelude.{ℕ, ◌-◌, Bool, ◌||◌, nat_le, min, List, [], ◌∷◌, map, position, take, drop, Option, Some, None, is_some, Result, codes, if◌then◌else◌}
 use Rattle.std.specs.List.{flat_map}
 use Rattle.std.specs.Option.{option_and_then, option_map}
 use Rattle.dp_conf.specs.Blanks.{is_blank, trim}
@@ -9,6 +9,7 @@ use Rattle.dp_conf.specs.Words.{same_text}
 use Rattle.dp_app.specs.declared.place.Place.{Place}
 use Rattle.dp_machine.specs.declared.event.Event.{Event as MachineEvent}
 use Rattle.dp_machine.specs.declared.event.Event.TheVariants.{Start, Step, Digit, Timeout, Poll, Hangup, DialResult, Offer, Answer, Decline, AgentDone, Reload, Assign, Redirect}
+use Rattle.dp_wide.specs.CellValues.{assumed_name}
 use Rattle.dp_wide.specs.Times.{moment_of}
 use Rattle.dp_commands.specs.Script.{channel_in, line_in, number_within, once, one_channel, script_by, words_of}
 use Rattle.dp_commands.specs.declared.fault.PbxFault.{PbxFault}
@@ -87,13 +88,23 @@ redirect_line (channel ∷ context ∷ exten ∷ []) = redirects channel context
 redirect_line (channel ∷ context ∷ exten ∷ priority ∷ []) = redirects channel context exten (priority_in priority)
 redirect_line (channel ∷ context ∷ exten ∷ priority ∷ more ∷ words) = None
 
+-- it is said of a function that those of its cells are empty which nothing wrote
+abbrev pub assumes : List ℕ → ScriptLine WideTurn
+assumes function = assigns None (assumed_name function, codes "1")
+
+-- `assume NAME..`, by the words behind `assume`: it is said of each of these functions
+abbrev pub assume_lines : List (List ℕ) → Option (List (ScriptLine WideTurn))
+assume_lines [] = None
+assume_lines (name ∷ names) = Some (map assumes (name ∷ names))
+
 -- whether a line with this first word is none of a plain script
 abbrev pub is_own : List ℕ → Bool
 is_own word =
     same_text word (codes "let") || (same_text word (codes "global") || (same_text word (codes "clock")
-    || (same_text word (codes "go") || (same_text word (codes "redirect") || same_text word (codes "pass")))))
+    || (same_text word (codes "go") || (same_text word (codes "redirect") || (same_text word (codes "pass")
+    || same_text word (codes "assume"))))))
 
--- what such a line stands for, by what comes behind its first word; and None where it is faulty
+-- what such a line stands for but one that assumes, by what comes behind its first word; and None where it is faulty
 abbrev pub own_line : List ℕ → List ℕ → Option (ScriptLine WideTurn)
 own_line word text =
     if same_text word (codes "let") then let_line text
@@ -102,6 +113,11 @@ own_line word text =
     else if same_text word (codes "go") then go_line (words_of text)
     else if same_text word (codes "redirect") then redirect_line (words_of text)
     else pass_line (words_of text)
+
+-- what such a line stands for, by what comes behind its first word; and None where it is faulty
+abbrev pub own_lines : List ℕ → List ℕ → Option (List (ScriptLine WideTurn))
+own_lines word text =
+    if same_text word (codes "assume") then assume_lines (words_of text) else option_map (λ line. line ∷ []) (own_line word text)
 
 -- the channel of which an event is a step
 abbrev pub stepped : MachineEvent → Option ℕ
@@ -138,7 +154,7 @@ wide_lines_of line = wide_lines (stepped_by line.turn) line
 -- what a line stands for, by its first word and what comes behind it
 abbrev pub line_by : Option (List ℕ) → List ℕ → List ℕ × List ℕ → Option (List (ScriptLine WideTurn))
 line_by second_plan part cut =
-    if is_own cut.0 then option_map (λ line. line ∷ []) (own_line cut.0 cut.1)
+    if is_own cut.0 then own_lines cut.0 cut.1
     else option_map (λ lines. flat_map wide_lines_of lines) (line_in second_plan part)
 
 -- what a line stands for beside a second dialplan, where there is one: nothing, where it is passed over; and None where it is faulty

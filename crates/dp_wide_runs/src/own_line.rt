@@ -1,5 +1,5 @@
 //! The lines of a script that no plain script has: those that tell facts, and those that lead a channel on from outside.
-ghost use Rattle.std.specs.Prelude.{◌≡◌, IfOk, map, position};
+ghost use Rattle.std.specs.Prelude.{◌≡◌, ◌++◌, IfOk, OnOk, map, position};
 ghost use Rattle.std.specs.Option.{option_map};
 ghost use Rattle.dp_conf.specs.Blanks as blanks;
 ghost use Rattle.dp_commands.specs.Script as script;
@@ -10,7 +10,7 @@ use dp_commands::{ScriptLine, Turn, number_within, read_channel, words};
 use dp_conf::{cut_once, is_blank, trim};
 use dp_machine::{Event, Exten, Place};
 use dp_plan::{MOST_PRIORITY, NoMemory, Text};
-use dp_wide::read_moment;
+use dp_wide::{assumed_name, read_moment};
 use std::alloc::Global;
 
 /// The place of the first blank of a text.
@@ -200,9 +200,32 @@ pub(crate) fn is_own(word: &[u8]) -> bool
         || word == b"go".as_slice()
         || word == b"redirect".as_slice()
         || word == b"pass".as_slice()
+        || word == b"assume".as_slice()
 }
 
-/// What a line with one of these first words stands for, by what comes behind that; or None where it is faulty.
+/// A line that says of a function that those of its cells are empty which nothing wrote.
+fn assumes(alloc: Global, function: &[u8]) -> Result<ScriptLine<WideTurn>, NoMemory>
+    ensures { IfOk result (λ line. line ≡ spec.assumes function.now) }
+{
+    let name = assumed_name(alloc, function)?;
+    assigns(alloc, None, &name, b"1")
+}
+
+/// Adds such a line for each of these functions.
+pub(crate) fn push_assumes(
+    alloc: Global,
+    functions: &[&[u8]],
+    lines: &mut Vec<ScriptLine<WideTurn>>,
+) -> Result<(), NoMemory>
+    ensures { OnOk result (lines.new.items ≡ lines.old.items ++ map spec.assumes (map (λ function. function.now) functions.now)) }
+{
+    for function in functions {
+        lines.push(assumes(alloc, function)?)?;
+    }
+    Ok(())
+}
+
+/// What a line with one of these first words but `assume` stands for, by what comes behind that; or None where it is faulty.
 pub(crate) fn read_own(
     alloc: Global,
     word: &[u8],

@@ -2,12 +2,12 @@
 ghost use Rattle.std.specs.Prelude.{◌≡◌, ◌++◌, [], IfOk, OnOk, is_some};
 ghost use Rattle.std.specs.List.{flat_map};
 ghost use Rattle.std.specs.Option.{option_map, option_to_list, unwrap_or};
-ghost use Rattle.dp_commands.specs.Script.{line_in};
+ghost use Rattle.dp_commands.specs.Script.{line_in, words_of};
 ghost use Rattle.dp_wide_runs.specs.Lines as spec;
 
-use crate::own_line::{cut_word, is_own, read_own};
+use crate::own_line::{cut_word, is_own, push_assumes, read_own};
 use crate::wide_turn::WideTurn;
-use dp_commands::{PlainLines, ReadLine, ScriptLine, Turn};
+use dp_commands::{PlainLines, ReadLine, ScriptLine, Turn, words};
 use dp_conf::trim;
 use dp_machine::Event;
 use dp_plan::NoMemory;
@@ -78,7 +78,7 @@ fn push_plain(
 }
 
 /// Adds the line at the end, where it is sound, and says whether it is.
-fn push_own(
+fn push_sound(
     lines: &mut Vec<ScriptLine<WideTurn>>,
     line: Option<ScriptLine<WideTurn>>,
 ) -> Result<bool, NoMemory>
@@ -92,6 +92,38 @@ fn push_own(
         }
         None => Ok(false),
     }
+}
+
+/// Adds what `assume` stands for at the end, by what comes behind it, and says whether it is sound.
+#[tactic(auto, using(crate::proofs::LinesLemmas::all_assumed))]
+fn push_assumed(
+    alloc: Global,
+    text: &[u8],
+    lines: &mut Vec<ScriptLine<WideTurn>>,
+) -> Result<bool, NoMemory>
+    ensures sound { IfOk result (λ is_sound. is_sound ≡ is_some (spec.assume_lines (words_of text.now))) }
+    ensures lines { OnOk result (lines.new.items ≡ lines.old.items ++ unwrap_or (spec.assume_lines (words_of text.now)) []) }
+{
+    let functions = words(alloc, text)?;
+    push_assumes(alloc, &functions, lines)?;
+    Ok(!functions.is_empty())
+}
+
+/// Adds what a line that no plain script has stands for at the end, and says whether it is sound.
+fn push_own(
+    alloc: Global,
+    word: &[u8],
+    text: &[u8],
+    lines: &mut Vec<ScriptLine<WideTurn>>,
+) -> Result<bool, NoMemory>
+    ensures sound { IfOk result (λ is_sound. is_sound ≡ is_some (spec.own_lines word.now text.now)) }
+    ensures lines { OnOk result (lines.new.items ≡ lines.old.items ++ unwrap_or (spec.own_lines word.now text.now) []) }
+{
+    if word == b"assume".as_slice() {
+        return push_assumed(alloc, text, lines);
+    }
+    let line = read_own(alloc, word, text)?;
+    push_sound(lines, line)
 }
 
 /// How the lines of a script with facts are read, beside a second dialplan, where there is one. Contracts see it as the text of that.
@@ -134,8 +166,7 @@ impl ReadLine for WideLines {
     ) -> Result<bool, NoMemory> {
         let (word, rest) = cut_word(trim(part));
         if is_own(word) {
-            let line = read_own(alloc, word, rest)?;
-            return push_own(lines, line);
+            return push_own(alloc, word, rest, lines);
         }
         push_plain(alloc, &self.plain, part, lines)
     }

@@ -4,7 +4,7 @@ use Rattle.clap.proofs.OnLiterals.{clap_on_literals}
 use Rattle.clap.specs.Faults.{fault_of}
 use Rattle.clap.specs.declared.error.kind.ErrorKind.TheVariants as kind
 use Rattle.dp_program.specs.Entries.{found_entry, found_number}
-use Rattle.dp_program.specs.Requests.{joined, check, check_queues, check_both, listing, auditing, matching, explaining, run, debug}
+use Rattle.dp_program.specs.Requests.{joined, check, check_queues, check_both, listing, auditing, matching, explaining, run, run_wide, debug}
 use Rattle.dp_cli.specs.CommandLine.{pbx_app, asked_of, explains_of}
 use Rattle.dp_cli.specs.Refusals.{refusals_of}
 
@@ -112,6 +112,18 @@ ran_verbose_in_threads : asked_of (codes "pbx" ∷ codes "run" ∷ codes "a.conf
 unfolding clap_on_literals asked_of
 ran_verbose_in_threads = refl
 
+ran_wide : asked_of (codes "pbx" ∷ codes "run" ∷ codes "--asterisk" ∷ codes "a.conf" ∷ codes "b.script" ∷ []) ≡ Some (run_wide (record { plan = codes "a.conf"; queues = None; second_plan = None; script = codes "b.script" }))
+unfolding clap_on_literals asked_of
+ran_wide = refl
+
+ran_wide_with_more_files : asked_of (codes "pbx" ∷ codes "run" ∷ codes "a.conf" ∷ codes "--reload" ∷ codes "c.conf" ∷ codes "--queues" ∷ codes "q.conf" ∷ codes "b.script" ∷ codes "--asterisk" ∷ []) ≡ Some (run_wide (record { plan = codes "a.conf"; queues = Some (codes "q.conf"); second_plan = Some (codes "c.conf"); script = codes "b.script" }))
+unfolding clap_on_literals asked_of
+ran_wide_with_more_files = refl
+
+ran_wide_verbose : asked_of (codes "pbx" ∷ codes "run" ∷ codes "--asterisk" ∷ codes "--verbose" ∷ codes "a.conf" ∷ codes "b.script" ∷ []) ≡ None
+unfolding clap_on_literals asked_of
+ran_wide_verbose = refl
+
 debugged_verbose : asked_of (codes "pbx" ∷ codes "debug" ∷ codes "--break" ∷ codes "x" ∷ codes "--verbose" ∷ codes "a.conf" ∷ codes "b.script" ∷ []) ≡ Some (debug (record { plan = codes "a.conf"; queues = None; second_plan = None; script = codes "b.script" }) (codes "x") true)
 unfolding clap_on_literals asked_of
 debugged_verbose = refl
@@ -186,6 +198,10 @@ no_priority = refl
 no_threads : refusals_of (codes "pbx" ∷ codes "run" ∷ codes "--threads" ∷ codes "65" ∷ codes "a.conf" ∷ codes "b.script" ∷ []) ≡ kind.ValueValidation ∷ []
 unfolding clap_on_literals refusals_of
 no_threads = refl
+
+no_threads_over_the_wide_table : refusals_of (codes "pbx" ∷ codes "run" ∷ codes "--threads" ∷ codes "2" ∷ codes "--asterisk" ∷ codes "a.conf" ∷ codes "b.script" ∷ []) ≡ kind.ArgumentConflict ∷ []
+unfolding clap_on_literals refusals_of
+no_threads_over_the_wide_table = refl
 
 no_fault_number : refusals_of (codes "pbx" ∷ codes "explain" ∷ codes "16" ∷ []) ≡ kind.ValueValidation ∷ []
 unfolding clap_on_literals refusals_of found_entry found_number

@@ -313,6 +313,29 @@ run --queues @faulty @first @faulty.script→1→→fault 4 NoEquals line 2¶
 run --queues @help @first @faulty.script→1→→fault 70 BadScript line 2¶
 ";
 
+/// `run --asterisk`.
+const ASTERISK_RUNS: &str = "\
+# A run stops before what is unknown, and a fact or a pass lets it go on. Without the option a value that nothing wrote is empty, an
+# unknown application ends the call, and no line tells facts.
+run --asterisk @asking @asking.script→4→started 1¶unknown 1 DB(x) -> ready main,s,1¶→
+run --asterisk @asking @telling.script→0→started 1¶ok 1 -> ready main,s,1¶ran 1 main,s,1 Set -> ready main,s,2¶A=5¶ok 1 -> ready main,s,3¶ran 1 main,s,3 Hangup -> ended¶→
+run @asking @asking.script→0→started 1¶ran 1 main,s,1 Set -> ready main,s,2¶ran 1 main,s,2 While -> ended¶→
+run @asking @telling.script→1→→fault 70 BadScript line 2¶
+# Where all is known a run goes as ever.
+run @first @first.script --asterisk→0→started 1¶ran 1 main,100,1 NoOp -> ready main,100,2¶ran 1 main,100,2 Goto -> ready main,200,1¶ran 1 main,200,1 Hangup -> ended¶→
+run --asterisk @first @refused.script→1→refused 40 NoChannel¶started 1¶ran 1 main,100,1 NoOp -> ready main,100,2¶→
+run --asterisk --queues @help @callers @callers.script→0→started 1¶ran 1 main,s,1 Queue -> queued help¶ok 1 -> ready main,s,2¶ran 1 main,s,2 Hangup -> ended¶→
+run --reload @changed --asterisk @changing @changing.script→0→started 1¶ran 1 main,100,1 NoOp -> ready main,100,2¶ok¶X=12¶Y=5¶ran 1 main,_1XX,2 Hangup -> ended¶→
+# Faults of its files, and of its script.
+run --asterisk @first @missing→1→→fault 7 ReadFailed¶
+run --asterisk @missing @untold.script→1→→fault 7 ReadFailed¶
+run --asterisk --queues @faulty @first @untold.script→1→→fault 4 NoEquals line 2¶
+run --asterisk --reload @long @faulty @untold.script→1→→fault 8 TooLong¶
+run --asterisk @first @untold.script→1→→fault 70 BadScript line 2¶
+run --asterisk --explain @faulty @untold.script→1→→fault 4 NoEquals line 2¶  @faulty:2¶  abc¶  a line of a section with no `=`¶
+run --asterisk --explain --reload @missing @first @untold.script→1→→fault 7 ReadFailed¶  @missing¶  a file could not be opened or read¶
+";
+
 /// `run --verbose` and `debug --verbose`.
 const VERBOSE_RUNS: &str = "\
 run --verbose @first @first.script→0→started 1¶  @first:2 NoOp(hello)¶ran 1 main,100,1 NoOp -> ready main,100,2¶  @first:3 Goto(200,1)¶ran 1 main,100,2 Goto -> ready main,200,1¶  @first:4 Hangup()¶ran 1 main,200,1 Hangup -> ended¶→
@@ -431,7 +454,7 @@ check @empty←[main]¶exten => 100,1,NoOp(hello)¶exten => 100,2,Goto(200,1)¶e
 ";
 
 /// All the tables.
-const TABLES: [&str; 13] = [
+const TABLES: [&str; 14] = [
     CHECKS,
     LISTS,
     MATCHES,
@@ -440,6 +463,7 @@ const TABLES: [&str; 13] = [
     EXPLAINS,
     EXPLAINED,
     RUNS,
+    ASTERISK_RUNS,
     VERBOSE_RUNS,
     THREAD_RUNS,
     DEBUGS,

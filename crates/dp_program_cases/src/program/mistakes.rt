@@ -52,6 +52,9 @@ run a b c→unexpected argument 'c' found→pbx run [OPTIONS] <FILE> <SCRIPT>
 run --threads 0 @missing @missing→invalid value '0' for '--threads <N>': the number of threads is from 1 to 64→pbx run [OPTIONS] <FILE> <SCRIPT>
 run --threads 65 @missing @missing→invalid value '65' for '--threads <N>': the number of threads is from 1 to 64→pbx run [OPTIONS] <FILE> <SCRIPT>
 run --threads=two @missing @missing→invalid value 'two' for '--threads <N>': the number of threads is from 1 to 64→pbx run [OPTIONS] <FILE> <SCRIPT>
+run --asterisk --verbose @missing @missing→the argument '--asterisk' cannot be used with '--verbose'→pbx run [OPTIONS] <FILE> <SCRIPT>
+run --threads 0 --asterisk @missing @missing→the argument '--asterisk' cannot be used with '--threads <N>'→pbx run [OPTIONS] <FILE> <SCRIPT>
+run --asterisk @missing→the following required arguments were not provided:¶  <SCRIPT>→pbx run --asterisk <FILE> <SCRIPT>
 run --threads 2 @missing→the following required arguments were not provided:¶  <SCRIPT>→pbx run --threads <N> <FILE> <SCRIPT>
 debug @missing @missing→the following required arguments were not provided:¶  --break <CONTEXT,EXTEN,PRIORITY>→pbx debug --break <CONTEXT,EXTEN,PRIORITY> <FILE> <SCRIPT>
 debug --break main,s,1 a b c→unexpected argument 'c' found→pbx debug [OPTIONS] --break <CONTEXT,EXTEN,PRIORITY> <FILE> <SCRIPT>
@@ -122,7 +125,7 @@ Examples:
   pbx < joined.conf
 
 Status: 0; 1 where a fault was printed, an event was refused, an audit found something or a context may be reached; 2 where the
-command line was refused.
+command line was refused; 4 where a run with --asterisk stopped at what is unknown.
 ";
 
 /// What is printed where help with `check` is asked for.
@@ -300,6 +303,7 @@ Arguments:
   <SCRIPT>  The script of events
 
 Options:
+      --asterisk           Use the applications and functions that people use, take facts from the script, and stop at what is unknown
       --queues <QUEUES>    The queues, as queues.conf; without it there are none
       --reload <DIALPLAN>  The second dialplan, which a line `reload` of the script puts in force
       --threads <N>        Give the events in so many threads at once, from 1 to 64
@@ -327,6 +331,18 @@ turn one, and each thread its own in their order; `show` is passed over. One lin
 
 With --verbose the line `  FILE:LINE APP(ARGS)` stands above that of each step that runs an entry, and what `pbx explain` prints above
 that of each refusal. It has no effect beside --threads.
+
+With --asterisk a run has the applications and functions that people use. It never guesses: at a step before which something is unknown
+it prints `unknown CHANNEL WHAT -> STATE`, leaves out the further steps of that line, and ends with the status 4 unless an event was
+refused. Further lines of a script tell it what it does not know:
+  let CHANNEL NAME=VALUE         a variable of the channel, or what `Set` would set
+  global NAME=VALUE              a global variable
+  assume NAME ..                 what nothing has set in these functions, such as DB, is empty
+  clock DAY YYYY-MM-DD HH:MM     what time it is
+  go CHANNEL                     what the channel waits for comes to its end
+  redirect CHANNEL CONTEXT EXTEN [PRIORITY]   the channel goes to a place
+  pass CHANNEL                   the channel passes over an entry that is unknown
+It cannot be used with --threads or --verbose.
 
 Example:
   $ cat calls.script

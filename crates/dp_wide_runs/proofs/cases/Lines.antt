@@ -39,6 +39,14 @@ redirect_to_none : stands_for None (codes "redirect 1 main s 0") ≡ None
 unfolding stands_for priority_in
 redirect_to_none = refl
 
+assume_of_two_functions : stands_for None (codes "assume DB  CDR") ≡ Some (gives (Assign None (codes "ASSUMED(DB)") (codes "1")) ∷ gives (Assign None (codes "ASSUMED(CDR)") (codes "1")) ∷ [])
+unfolding stands_for
+assume_of_two_functions = refl
+
+assume_of_nothing : stands_for None (codes " assume ") ≡ None
+unfolding stands_for
+assume_of_nothing = refl
+
 pass_of_a_channel : stands_for None (codes "pass 1") ≡ Some (once (Pass 1) ∷ [])
 unfolding stands_for
 pass_of_a_channel = refl
@@ -61,6 +69,6 @@ comment_is_passed_over : stands_for None (codes "; let 1 A=5") ≡ Some []
 unfolding stands_for
 comment_is_passed_over = refl
 
-no_such_line : stands_for None (codes "assume DB") ≡ None
+no_such_line : stands_for None (codes "walk 1") ≡ None
 unfolding stands_for
 no_such_line = refl

@@ -1,7 +1,0 @@
-//! Cases of runs over the wide table, as tables with their answers.
-//!
-//! A crate with tests is proved twice, so the cases of the libraries stand in crates of their own, where each is proved once.
-#![tactic(auto)]
-
-#[cfg(test)]
-mod runs;
