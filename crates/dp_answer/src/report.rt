@@ -230,7 +230,7 @@ fn report_found(
 /// answered, waited for or done by other calls. Nothing is told, with the status 1, where the dialplan lacks a context that is named.
 ///
 /// That an entry is not told, or that a context is unreachable, is proved of every run: see the clause. Of what is told nothing is proved:
-/// conditions are not followed. It fails only for want of memory.
+/// conditions are not followed. It fails only when out of memory.
 pub fn report_on(
     alloc: Global,
     plan: &Dialplan,

@@ -17,7 +17,7 @@ pub(crate) enum HeldExten {
     Byte(u8),
 }
 
-/// An extension. One of a single byte takes no memory, as `i`, `t` and `h`, to which a channel goes by itself, and one digit.
+/// An extension. One of a single byte is not allocated, as `i`, `t` and `h`, to which a channel goes by itself, and one digit.
 ///
 /// A contract sees it as its bytes. Two extensions are equal where their bytes are.
 pub struct Exten {
@@ -41,7 +41,7 @@ impl Model for Exten {
 }
 
 impl Exten {
-    /// The extension of a text. It takes no memory, and gives that of a single byte back.
+    /// The extension of a text. It never allocates, and gives that of a single byte back.
     pub fn new(text: Text) -> Self
         ensures { result ≡ text }
     {
@@ -53,7 +53,7 @@ impl Exten {
         }
     }
 
-    /// The extension of one byte. It takes no memory.
+    /// The extension of one byte. It never allocates.
     pub fn of_byte(byte: u8) -> Self
         ensures { result ≡ byte ∷ [] }
     {

@@ -11,7 +11,7 @@ use std::marker::Model;
 /// How the parts of a target are kept.
 #[derive(Drop)]
 pub(crate) enum KeptParts {
-    /// The parts before the last one, and the last one, which takes no memory where it has few bytes.
+    /// The parts before the last one, and the last one, which is not allocated where it has few bytes.
     Apart {
         front: Vec<Text>,
         last: SmallVec<u8, 16>,
@@ -105,7 +105,7 @@ impl TargetParts {
     }
 
     /// The texts before the last one themselves, in their order; None only where there are more than three parts. It
-    /// takes no memory.
+    /// never allocates.
     pub fn into_front(self) -> Option<Vec<Text>>
         ensures { MatchOption result (3 < length self) (λ front. (last : List ℕ) × (self ≡ front.items ++ last ∷ [])) }
     {

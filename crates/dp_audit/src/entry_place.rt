@@ -15,7 +15,7 @@ pub(crate) struct EntryPlace {
 }
 
 impl EntryPlace {
-    /// The place of the entry. It takes no memory.
+    /// The place of the entry. It never allocates.
     fn of(entry: &Entry) -> Result<Self, NoMemory>
         ensures { IfOk result (λ place. place ≡ spec.place_of entry.now) }
     {

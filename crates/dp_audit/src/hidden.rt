@@ -39,7 +39,7 @@ impl Model for ContextNumbers {
 }
 
 impl ContextNumbers {
-    /// No numbers. It takes no memory.
+    /// No numbers. It never allocates.
     fn new(alloc: Global) -> Self
         ensures { result ≡ [] }
     {

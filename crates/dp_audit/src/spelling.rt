@@ -27,7 +27,7 @@ impl Model for Spelling {
 }
 
 impl Spelling {
-    /// The spelling of the name. It takes no memory.
+    /// The spelling of the name. It never allocates.
     pub(crate) fn of(name: &SharedName) -> Result<Self, NoMemory>
         ensures { IfOk result (λ held. held ≡ spelling name.now) }
     {

@@ -9,7 +9,7 @@ use std::alloc::Global;
 use std::process::Abort;
 use std::sync::Wait;
 
-/// The dialplan that comes in force.
+/// The dialplan that is put in force.
 const SECOND: &[u8] = b"[globals]
 X=${X}2
 [main]

@@ -1,4 +1,4 @@
-//! What owns a machine, a board or a history. So what it comes to that one is let go is proved here, and in no crate of cases.
+//! What owns a machine, a board or a history. The proofs of their drops are here, and in no crate of cases.
 //!
 //! Where memory is refused each call of a board hands back what it was given, or leaves it as it was, and is made once more where that is
 //! asked for.

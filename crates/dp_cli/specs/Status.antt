@@ -54,7 +54,7 @@ pub record RefusesAs (kind : ErrorKind) (errors errors_after : Sink) (status : �
   pub told : status ≡ status_after answered
   pub printed : IfErr answered (λ fault. errors_after.failed ≡ false → Appends errors.contents errors_after.contents (fault_line fault))
 
--- the words are refused with one of these kinds, or for want of memory
+-- the words are refused with one of these kinds, or when out of memory
 pub record Refuses (kinds : Kinds) (errors errors_after : Sink) (status : ℕ) : Type 0 where
   pub kind : ErrorKind
   pub among : (kind ≡ OutOfMemory) ⊎ IsAmong kind kinds

@@ -111,7 +111,7 @@ impl Audit<'_> {
     }
 
     /// Whether the audit is seen to be closed, with the entries that are answered: those that are marked, or without marks all. Then
-    /// a call that comes in at the context runs none but these, in every run. It fails only for want of memory.
+    /// a call that comes in at the context runs none but these, in every run. It fails only when out of memory.
     pub fn is_closed(self, alloc: Global, answers: Option<&Marks>) -> Result<bool, NoMemory>
         ensures closed { IfOk result (λ yes. IsTrue yes → (settings : List Settings) → AreWays settings self.entry.wide.ways.now
             → IsAudit standard_duties (shown_outside self.entry.outside.now) self.entry.context.now (kept_claim self.entry.wide settings) (λ id. true)

@@ -57,7 +57,7 @@ impl Claim<'_> {
         Ok(true)
     }
 
-    /// Whether the duty is seen to be met. It fails only for want of memory.
+    /// Whether the duty is seen to be met. It fails only when out of memory.
     pub fn meets(self, alloc: Global, duty: &Duty) -> Result<bool, NoMemory>
         ensures { IfOk result (λ yes. IsTrue yes → (settings : List Settings) → AreWays settings self.entry.ways.now
             → Meets (kept_claim self.entry settings) (shown_duty duty.now)) }
@@ -73,7 +73,7 @@ impl Claim<'_> {
         }
     }
 
-    /// Whether each of these duties is seen to be met. It fails only for want of memory.
+    /// Whether each of these duties is seen to be met. It fails only when out of memory.
     pub fn meets_all(self, alloc: Global, duties: &[Duty]) -> Result<bool, NoMemory>
         ensures { IfOk result (λ yes. IsTrue yes → (settings : List Settings) → AreWays settings self.entry.ways.now
             → MeetsAll (kept_claim self.entry settings) (shown_duties duties.now)) }

@@ -80,7 +80,7 @@ impl Claim<'_> {
     }
 
     /// Whether the claim is seen to be closed, with the entries that are answered: those that are marked, or without marks all. It
-    /// fails only for want of memory.
+    /// fails only when out of memory.
     pub fn is_closed(self, alloc: Global, answers: Option<&Marks>) -> Result<bool, NoMemory>
         ensures { IfOk result (λ yes. IsTrue yes → (settings : List Settings) → AreWays settings self.entry.ways.now
             → IsClosed standard_duties (kept_claim self.entry settings) (answers_in (option_map (λ marks. marks.now) answers.entry))) }

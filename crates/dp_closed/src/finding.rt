@@ -54,7 +54,7 @@ fn met_shape(alloc: Global, exten: &[Piece], name: &Name) -> Result<Option<Vec<P
 }
 
 /// What is known of the extensions of a shape by which an entry is found in a context of these entries, or None where none is: no
-/// extension of the shape matches its name, or each that does finds a better entry. It fails only for want of memory.
+/// extension of the shape matches its name, or each that does finds a better entry. It fails only when out of memory.
 pub fn found_shape(
     alloc: Global,
     entries: &[Entry],
@@ -122,7 +122,7 @@ impl<'a> Meeting<'a> {
     }
 
     /// The meeting of an area with a name, which is the one before it where that is of the same name: the entries of an extension mostly
-    /// stand below one another. It fails only for want of memory.
+    /// stand below one another. It fails only when out of memory.
     pub fn after(
         alloc: Global,
         area: &Area,

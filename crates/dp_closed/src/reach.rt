@@ -82,7 +82,7 @@ impl Reach {
     }
 
     /// Whether each place of these shapes is seen to be in the reach, over the contexts of a dialplan. A place in a context that the
-    /// dialplan lacks is in it, since nothing is found there. It fails only for want of memory.
+    /// dialplan lacks is in it, since nothing is found there. It fails only when out of memory.
     pub fn includes(
         &self,
         alloc: Global,

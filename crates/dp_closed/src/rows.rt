@@ -221,7 +221,7 @@ impl Row {
 }
 
 /// What an application owes from an area, by its name in any ASCII case and its arguments as they stand in the dialplan, which are read
-/// only where what it owes depends on them. It fails only for want of memory.
+/// only where what it owes depends on them. It fails only when out of memory.
 pub fn owed<N: NamedPieces>(
     alloc: Global,
     names: &N,

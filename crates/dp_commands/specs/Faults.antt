@@ -1,4 +1,4 @@
--- The faults of the program beside those of its parts, and want of memory.
+-- The faults of the program beside those of its parts, and out of memory.
 use Rattle.std.specs.Prelude.{Bool, true, false, Option, Some, None, Result, Ok, Err}
 use Rattle.dp_conf.specs.declared.fault.ConfFault.TheVariants.{At, NoMemory as conf_no_memory}
 use Rattle.dp_conf.specs.declared.fault.ReadFault.{ReadFault}
@@ -32,7 +32,7 @@ fault_of_read read_failed = Coded ReadFailed None
 fault_of_read read_too_long = Coded TooLong None
 fault_of_read read_no_memory = NoMemory
 
--- why the program ends; want of memory is no reason
+-- why the program ends; out of memory is no reason
 abbrev pub reason_of : PbxFault → Option PbxFault
 reason_of (Coded code line) = Some (Coded code line)
 reason_of NoMemory = None

@@ -139,7 +139,7 @@ agent_line word words =
     else if same_text word (codes "done") then event_line (λ name. AgentDone name) (one_name words)
     else None
 
--- the second dialplan comes in force, where there is one
+-- the second dialplan is put in force, where there is one
 abbrev pub reload_by : Option (List ℕ) → Option (ScriptLine Turn)
 reload_by second_plan = event_line (λ text. Reload text) second_plan
 

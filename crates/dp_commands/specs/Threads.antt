@@ -109,7 +109,7 @@ misses_no_seat (SeatMissing seat) = false
 misses_no_seat (Differs found) = true
 misses_no_seat settle_no_memory = true
 
--- whether a fault is of settling with every seat, or want of memory
+-- whether a fault is of settling with every seat, or out of memory
 abbrev pub is_settle_fault : PbxFault → Bool
 is_settle_fault (Coded (Settle fault) line) = misses_no_seat fault && is_none line
 is_settle_fault (Coded (Line kind) line) = false

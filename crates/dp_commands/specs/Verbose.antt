@@ -50,7 +50,7 @@ lines_in text = lines_or_none (lines_loaded text)
 abbrev pub first_in_force : List ℕ → Option (List ℕ) → List ℕ → InForce
 first_in_force name second_name text = record { file = name; second_file = unwrap_or second_name []; lines = lines_in text }
 
--- the second dialplan comes in force, which has this text
+-- the second dialplan is put in force, which has this text
 abbrev pub with_second : InForce → List ℕ → InForce
 with_second in_force text = record { file = in_force.second_file; second_file = in_force.second_file; lines = lines_in text }
 

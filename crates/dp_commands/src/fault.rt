@@ -75,7 +75,7 @@ impl Code {
     }
 }
 
-/// A fault with its line, counted from 1 in its own text, where it has one; or want of memory.
+/// A fault with its line, counted from 1 in its own text, where it has one; or out of memory.
 #[derive(Clone, Copy, Debug, PartialEq, Eq)]
 pub enum PbxFault {
     Coded { code: Code, line: Option<usize> },

@@ -99,7 +99,7 @@ impl<'a> PlanInForce<'a> {
         }
     }
 
-    /// Puts the second dialplan in force, which has this text. The text has loaded before, so that memory alone can be lacking.
+    /// Puts the second dialplan in force, which has this text. The text has loaded before, so the only error is out of memory.
     fn put_second(&mut self, alloc: Global, text: &[u8]) -> Result<(), NoMemory>
         ensures { OnOk result (self.new ≡ spec.with_second self.old text.now) }
     {

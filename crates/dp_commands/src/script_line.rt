@@ -208,7 +208,7 @@ fn read_agent_line(
     Ok(None)
 }
 
-/// The second dialplan comes in force, where there is one.
+/// The second dialplan is put in force, where there is one.
 fn read_second(second_plan: Option<&SharedText>) -> Result<Option<ScriptLine>, NoMemory>
     ensures { IfOk result (λ line. line ≡ spec.reload_by (option_map (λ text. text.now) second_plan.entry)) }
 {
@@ -219,7 +219,7 @@ fn read_second(second_plan: Option<&SharedText>) -> Result<Option<ScriptLine>, N
     Ok(Some(once(Event::Reload { text })))
 }
 
-/// `reload`, by the words after it, of which there is none: the second dialplan comes in force.
+/// `reload`, by the words after it, of which there is none: the second dialplan is put in force.
 fn read_reload(
     second_plan: Option<&SharedText>,
     words: &[&[u8]],

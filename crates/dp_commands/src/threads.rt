@@ -84,7 +84,7 @@ fn act_and_settle<S: Session + Send + Sync, R: Threads + Wait + Sync, G: Gate + 
     }
 }
 
-/// Why a board did not open. The machine that was handed back is let go.
+/// Why a board did not open. The machine that was handed back is dropped.
 fn open_fault(_back: (Machine<StandardApps>, NoMemory)) -> PbxFault
     ensures { spec.is_settle_fault result ≡ true }
 {

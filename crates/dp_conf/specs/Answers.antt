@@ -1,12 +1,12 @@
 -- What a call returned beside what its definition gives, the first fault of a sequence, and lists read with what stands before.
 use Rattle.std.specs.Prelude.{◌≡◌, List, [], ◌∷◌, ◌++◌, Option, Some, None, Result, Ok, Err}
 
--- a call that refused for this reason was refused by its definition too; want of memory, with no reason, says nothing
+-- a call that refused for this reason was refused by its definition too; out of memory, with no reason, says nothing
 abbrev pub Refuses : {Y D : Type 0} → Option D → Result Y D → Type 0
 Refuses None given = Unit {0}
 Refuses (Some reason) given = given ≡ Err reason
 
--- what the call returned, as contracts see it, is what the definition gives, or want of memory
+-- what the call returned, as contracts see it, is what the definition gives, or out of memory
 abbrev pub Answers : {X Y E D : Type 0} → (X → Y) → (E → Option D) → Result X E → Result Y D → Type 0
 Answers view reason (Ok x) given = given ≡ Ok (view x)
 Answers view reason (Err e) given = Refuses (reason e) given

@@ -30,7 +30,7 @@ abbrev pub conf_fault_text : ConfFault → List ℕ
 conf_fault_text (At line kind) = line_name kind ++ codes " line " ++ decimal line
 conf_fault_text conf_no_memory = codes "out of memory"
 
--- the number of a reader's fault; want of memory has none
+-- the number of a reader's fault; out of memory has none
 abbrev pub read_code : ReadFault → Option ℕ
 read_code ReadFailed = Some 7
 read_code TooLong = Some 8

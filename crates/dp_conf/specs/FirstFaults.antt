@@ -1,4 +1,4 @@
--- The first line that is refused by what goes after the lines of a text.
+-- The first line that is refused by what takes the lines of a text.
 use Rattle.std.specs.Prelude.{Bool, true, false, Option, Some, None, Result, Ok, Err}
 use Rattle.dp_conf.specs.declared.first_fault.FaultyLine.{FaultyLine}
 use Rattle.dp_conf.specs.declared.first_fault.TakeFault.{TakeFault}
@@ -17,7 +17,7 @@ wants_memory (Ok done) = false
 wants_memory (Err (Line fault)) = false
 wants_memory (Err NoMemory) = true
 
--- why nothing went after a line, by what a faulty line is in the whole; want of memory is no reason
+-- why nothing took a line, by what a faulty line is in the whole; out of memory is no reason
 abbrev pub line_reason : {K D : Type 0} → (FaultyLine K → D) → TakeFault K → Option D
 line_reason in_whole (Line fault) = Some (in_whole fault)
 line_reason in_whole NoMemory = None

@@ -120,7 +120,7 @@ lines_of text = all_of (each_after reading_of [] (parts_of (without_mark text)))
 unfoldable pub items_before_fault : List ℕ → List LineOf
 items_before_fault text = before_fault (each_after reading_of [] (parts_of (without_mark text)))
 
--- the faulty line that a fault names; want of memory names none
+-- the faulty line that a fault names; out of memory names none
 abbrev pub line_fault : ConfFault → Option LineFault
 line_fault (At line kind) = Some (record { line = line; kind = kind })
 line_fault NoMemory = None

@@ -11,7 +11,7 @@ most_bytes = 16777216
 abbrev pub whole_of : List ℕ → Result (List ℕ) ReadFault
 whole_of bytes = if nat_le (length bytes) most_bytes then Ok bytes else Err TooLong
 
--- a fault that the bytes alone decide; a failed read and want of memory they do not
+-- a fault that the bytes alone decide; a failed read and out of memory they do not
 abbrev pub length_fault : ReadFault → Option ReadFault
 length_fault ReadFailed = None
 length_fault TooLong = Some TooLong

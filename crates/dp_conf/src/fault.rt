@@ -109,7 +109,7 @@ pub enum ReadFault {
 }
 
 impl ReadFault {
-    /// The number of the fault, 7 or 8; want of memory has none.
+    /// The number of the fault, 7 or 8; out of memory has none.
     pub fn code(self) -> Option<u8>
         ensures { result ≡ read_code self }
     {

@@ -1,4 +1,4 @@
-//! The first line of a text that is refused by what goes after its lines.
+//! The first line of a text that is refused by what takes its lines.
 ghost use Rattle.std.specs.Prelude.{◌≡◌, is_err, is_some, MatchOption, None, Ok, Err};
 ghost use Rattle.dp_conf.specs.FirstFaults as spec;
 
@@ -12,7 +12,7 @@ pub struct FaultyLine<K> {
     pub kind: K,
 }
 
-/// Why nothing went after a line.
+/// Why a line was not taken.
 #[derive(Clone, Copy, Debug, PartialEq, Eq, Drop)]
 pub enum TakeFault<K> {
     /// The line is refused.
@@ -62,7 +62,7 @@ impl<K: Drop> FirstFault<K> {
         self.first.is_some()
     }
 
-    /// Keeps the fault of a line, unless one is kept already. Want of memory is handed on.
+    /// Keeps the fault of a line, unless one is kept already. Out of memory is passed on.
     pub fn keep(&mut self, taken: Result<(), TakeFault<K>>) -> Result<(), AllocError>
         ensures kept { self.new ≡ spec.first_fault self.old taken }
         ensures memory { is_err result ≡ spec.wants_memory taken }

@@ -104,7 +104,7 @@ fn unescape(alloc: Global, bytes: &[u8]) -> Result<Vec<u8>, AllocError>
     Ok(plain)
 }
 
-/// What stands before a comment, with each `\;` written `;`. It takes no memory where there is no `\`.
+/// What stands before a comment, with each `\;` written `;`. It never allocates where there is no `\`.
 fn plain_text(alloc: Global, before: &[u8]) -> Result<Content<'_>, AllocError>
     ensures { IfOk result (λ content. borrowed.content_now content ≡ trim_spec (spec.without_escapes before.now)) }
 {
@@ -117,7 +117,7 @@ fn plain_text(alloc: Global, before: &[u8]) -> Result<Content<'_>, AllocError>
 
 /// What a line says: what stands before its comment, without the blanks at its ends and with each `\;` written `;`.
 ///
-/// A block comment is refused. It takes memory only for a line with a `\`.
+/// A block comment is refused. It allocates only for a line with a `\`.
 pub(crate) fn read_content(
     alloc: Global,
     line: usize,

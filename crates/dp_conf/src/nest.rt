@@ -72,7 +72,7 @@ impl Nest {
         Ok(())
     }
 
-    /// Goes after a mark. After a refused growth all is as before.
+    /// Takes a mark. After a refused growth all is as before.
     fn take(&mut self, mark: Mark) -> Result<(), AllocError>
         requires { self.old.deepest + 1 < 2 ^ 64 }
         ensures ok { OnOk result (self.new ≡ nests.nest_after mark self.old) }

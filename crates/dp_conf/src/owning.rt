@@ -1,7 +1,7 @@
 //! What is owned beside a call that may fail.
 ghost use Rattle.std.specs.Prelude.{◌≡◌, IfErr, IfOk, Err, Ok};
 
-/// What a call gave, with what is owned beside it. Where the call failed, that is let go.
+/// What a call gave, with what is owned beside it. Where the call failed, that is dropped.
 ///
 /// A function that owns much has the drop of all of it in each place where it can fail. Here what is owned is of any type, so that the
 /// one drop is that of a variable, whatever it stands for.

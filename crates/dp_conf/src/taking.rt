@@ -10,17 +10,17 @@ use crate::fault::ConfFault;
 use crate::lines::{Line, has_begun, read_content, read_line, without_mark};
 use std::alloc::{AllocError, Global};
 
-/// What goes after the lines of a text, one after another.
+/// What takes the lines of a text, one after another.
 pub trait TakeLine {
     // What it is after a line.
     ghost after_line: { Self → LineOf → Self };
 
-    /// Goes after a line.
+    /// Takes a line.
     fn take(&mut self, alloc: Global, line: Line<'_>) -> Result<(), AllocError>
         ensures { OnOk result (self.new ≡ after_line self.old (line_now line.entry)) };
 }
 
-/// Goes after the line of a content, and gives whether a section has begun after it.
+/// Takes the line of a content, and says whether a section has begun after it.
 fn take_content<T: TakeLine>(
     alloc: Global,
     taker: &mut T,
@@ -39,7 +39,7 @@ fn take_content<T: TakeLine>(
     Ok(has_begun(in_section, item))
 }
 
-/// Goes after a part of the text, and gives whether a section has begun after it.
+/// Takes a part of the text, and says whether a section has begun after it.
 fn take_part<T: TakeLine>(
     alloc: Global,
     taker: &mut T,
@@ -59,14 +59,14 @@ fn take_part<T: TakeLine>(
     take_content(alloc, taker, line, in_section, content.bytes())
 }
 
-/// Goes after the lines of a configuration text in order, with their numbers, up to the first faulty one.
+/// Takes the lines of a configuration text in order, with their numbers, up to the first faulty one.
 ///
 /// Lines end at line feeds; a byte order mark at the front is skipped, and blanks are bytes of 32 or less (choices of
 /// this program). A `;` begins a comment unless a `\` stands directly before it, and `\;` is a `;`. What is left of
 /// a line, without the blanks at its ends, is nothing, a header `[name]`, or a pair `key = value` or `key => value`.
 ///
 /// A line is refused, in this order, for a block comment, a bad header, a template, a directive, a pair before any
-/// header, and a missing `=`: see [`LineKind`](crate::LineKind). It takes memory of its own only for lines with a `\`.
+/// header, and a missing `=`: see [`LineKind`](crate::LineKind). It allocates only for lines with a `\`.
 ///
 /// After a faulty line the taker has gone after the lines before it, and no others. After out-of-memory it is what its
 /// own [`take`](TakeLine::take) left, which its type says.

@@ -37,7 +37,7 @@ impl Model for Text {
 }
 
 impl Text {
-    /// The text of these bytes. It takes no memory.
+    /// The text of these bytes. It never allocates.
     pub fn new(bytes: Vec<u8>) -> Self
         ensures { result ≡ bytes.items }
     {

@@ -136,7 +136,7 @@ fn first_for<T: AppTable>(machine: &mut Machine<T>, channel: u32, breaks: &[Brea
     first_at(machine, channel, entry, breaks)
 }
 
-/// The number of the first break that holds before the event. Before others than steps none does. It takes no memory.
+/// The number of the first break that holds before the event. Before others than steps none does. It never allocates.
 pub(crate) fn first_before<T: AppTable>(
     machine: &mut Machine<T>,
     event: &Event,

@@ -1,5 +1,5 @@
-//! Events that are given once more where memory was refused, over dialplans with queues and others that come in force, worked out by hand
-//! from the rules.
+//! Events that are given once more where memory was refused, over dialplans with queues and others that are put in force, worked out
+//! by hand from the rules.
 use dp_case_tables::{Question, bytes_of, check, check_same};
 use dp_commands::{ScriptLine, Turn, read_script};
 use dp_machine::{Dialplan, Event, Machine, NoMemory, Queues, Reply};
@@ -36,13 +36,13 @@ const ROWS: &str = r"
 [main]\nexten => s,1,Gosub(sub,s,1)\n[sub]\nexten => s,1,Set(LOCAL(DIALSTATUS)=mine)\nexten => s,2,Dial(Line/5,20)\nexten => s,3,Return()¦¦start main s\nstep 1 3\nresult 1 CONGESTION\nshow 1 DIALSTATUS\nstep 1\nshow 1 DIALSTATUS→Started(1), ran 0 0, ran 1 0, ran 1 1, Done, DIALSTATUS=CONGESTION, ran 1 2, DIALSTATUS=, ready main,s,2, none
 # A device with the name of an agent is neither asked nor rung, and the agent's calls are not the device's.
 [main]\nexten => s,1,Dial(Line/1)\nexten => w,1,Queue(q)¦[q]\nmember => Line/1¦start main s\nstart main w\nstep 1\nanswer Line/1\nresult 2 BUSY\nstep 2\nresult 2 BUSY\noffer q\nresult 1 BUSY\nanswer Line/1\nresult 2 BUSY→Started(1), Started(2), ran 0 0, Refused(NotRinging), Refused(NotDialling), ran 0 1, Refused(NotDialling), Offered { channel: 2, rung: 1 }, Done, Done, Refused(NotDialling), ready main,s,2, talking main,w,1
-# Another dialplan comes in force, and one with a fault does not.
+# Another dialplan is put in force, and one with a fault does not.
 [globals]\nX=1\nY=5\n[main]\nexten => 100,1,NoOp(a)\nexten => 100,2,NoOp(b)¦¦[globals]\nX=${X}2\n[main]\nexten => _1XX,2,Hangup()¦start main 100\nstep 1\nreload\nshow 1 X\nshow 1 Y\nstep 1→Started(1), ran 0 0, Done, X=12, Y=5, ran 0 0, ended main,100,2, none
 [globals]\nX=1\nY=5\n[main]\nexten => 100,1,NoOp(a)\nexten => 100,2,NoOp(b)¦¦[main¦start main 100\nstep 1\nreload\nshow 1 X\nshow 1 Y\nstep 1→Started(1), ran 0 0, Refused(BadPlan), X=1, Y=5, ran 0 1, ready main,100,3, none
 [globals]\nX=1\n[main]\nexten => s,1,NoOp()¦¦[globals]\nX=2\nY=3\n[main]\nexten => s,1,Hangup()\nexten => s,0,NoOp()¦start main s\nreload\nshow 1 X\nshow 1 Y\nstep 1→Started(1), Refused(BadPlan), X=1, Y=, ran 0 0, ready main,s,2, none
 # Calls stay in their queues, and agents at theirs; a way out is one of the new dialplan, and globals count those who wait then.
 [main]\nexten => s,1,Queue(q,c)\n[out]\nexten => 5,1,NoOp()¦[q]\ncontext = out\nmember => Line/1¦[globals]\nX=${QUEUE_WAITING_COUNT(q)} wait\n[out]\nexten => 6,1,NoOp()\n[main]\nexten => s,2,Hangup()¦start main s\nstart main s\nstep 1\nstep 2\noffer q\nreload\nshow 1 X\ndigit 2 5\ndigit 2 6\nreload\nshow 1 X\nanswer Line/1\nreload\nshow 1 X\ndone Line/1\nshow 1 QUEUESTATUS\nstep 1\nstep 2→Started(1), Started(2), ran 0 0, ran 0 0, Offered { channel: 1, rung: 1 }, Done, X=2 wait, Done, Done, Done, X=1 wait, Done, Done, X=0 wait, Done, QUEUESTATUS=CONTINUE, ran 1 0, ran 0 0, ended main,s,2, ready out,6,2
-# Many contexts, names and globals come in force, twice.
+# Many contexts, names and globals are put in force, twice.
 [main]\nexten => s,1,Set(A=${B})¦¦[globals]\nB=1\nC=${B}${B}\nD=${C}${C}\n[main]\nexten => s,1,Goto(c,_12,1)\nexten => s,2(top),Set(A=${D})\ninclude => b\n[b]\nexten => _1[2-9]X.,1,NoOp()\nexten => _ZXN,1,NoOp(${A})\ninclude => c\n[c]\nexten => 5551234,1(top),NoOp()\nexten => _555!,2(end),NoOp()\ninclude => main¦start main s\nstep 1\nreload\nstep 1\nshow 1 A\nreload\nstart c 5551234\nstep 2 2→Started(1), ran 0 0, Done, ran 0 1, A=1111, Done, Started(2), ran 2 0, ran 2 1, ready main,s,3, ready c,5551234,3
 ";
 

@@ -11,7 +11,7 @@ use crate::operand::Operand;
 use itoa::Buffer;
 use std::cmp::Ordering;
 
-/// The value of an expression that has no fault. It borrows from the text and takes no memory.
+/// The value of an expression that has no fault. It borrows from the text and never allocates.
 #[derive(Clone, Copy)]
 pub enum TextValue<'a> {
     /// An operand as it stands.

@@ -16,7 +16,7 @@ pub(crate) enum HeldValue {
     Number(i64),
 }
 
-/// The value of an expression. A number that was computed takes no memory.
+/// The value of an expression. A number that was computed is not allocated.
 ///
 /// A contract sees it as its bytes.
 pub struct Value {
@@ -40,7 +40,7 @@ impl Model for Value {
 }
 
 impl Value {
-    /// The empty value. It takes no memory.
+    /// The empty value. It never allocates.
     pub(crate) fn empty(alloc: Global) -> Self
         ensures { result ≡ [] }
     {

@@ -18,7 +18,7 @@ pub(crate) fn park_move(phase: Phase, is_closing: bool) -> Move
     Move::Park(phase)
 }
 
-/// Digits, of which none came yet. It takes no memory.
+/// Digits, of which none came yet. It never allocates.
 fn no_digits(alloc: Global, is_background: bool) -> Phase
     ensures { result ≡ Digits [] is_background }
 {

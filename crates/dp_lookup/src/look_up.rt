@@ -89,7 +89,7 @@ fn find_first(
 ///
 /// Of several, it is in the context that stands first in the order, and there it has the most specific name, after
 /// the Asterisk documentation's page on pattern matching. The priority is asked before the name is chosen (a choice of
-/// this program), and the extensions `s`, `i`, `t` and `h` are found as any other text is. It takes no memory. A
+/// this program), and the extensions `s`, `i`, `t` and `h` are found as any other text is. It never allocates. A
 /// number in the order that no context of the dialplan has finds nothing.
 pub fn find(plan: &Dialplan, order: &SearchOrder, text: &[u8], priority: u32) -> Option<EntryId>
     ensures found { MatchOption result (NoneAsked (HasPriority text.now priority) plan.now order.now.contexts)
@@ -106,7 +106,7 @@ pub fn find(plan: &Dialplan, order: &SearchOrder, text: &[u8], priority: u32) ->
 /// there is none.
 ///
 /// Of several entries it is the one that `find` would choose, by the context and then by the name (a choice of this
-/// program); of one name, the one of the lowest priority. It takes no memory.
+/// program); of one name, the one of the lowest priority. It never allocates.
 pub fn find_label(plan: &Dialplan, order: &SearchOrder, text: &[u8], label: &[u8]) -> Option<u32>
     ensures found { MatchOption result (NoneAsked (HasLabel text.now label.now) plan.now order.now.contexts)
         (IsFoundLabel plan.now order.now.contexts text.now label.now) }
@@ -119,7 +119,7 @@ pub fn find_label(plan: &Dialplan, order: &SearchOrder, text: &[u8], label: &[u8
     Some(entry.priority.get())
 }
 
-/// Whether `find` gives an entry. It takes no memory.
+/// Whether `find` gives an entry. It never allocates.
 pub fn exists(plan: &Dialplan, order: &SearchOrder, text: &[u8], priority: u32) -> bool
     ensures found { IsTrue result ↔ SomeFound plan.now order.now.contexts text.now priority }
     ensures value { result ≡ is_some (found_entry plan.now order.now.contexts text.now priority) }
@@ -128,7 +128,7 @@ pub fn exists(plan: &Dialplan, order: &SearchOrder, text: &[u8], priority: u32) 
 }
 
 /// Whether some ending of one or more bytes other than `-` makes the dialled text match an entry of priority 1 whose
-/// name does not end with `!`: a caller who has dialled so far may go on. It takes no memory, and is a choice of this
+/// name does not end with `!`: a caller who has dialled so far may go on. It never allocates, and is a choice of this
 /// program.
 pub fn could_be_more(plan: &Dialplan, order: &SearchOrder, text: &[u8]) -> bool
     ensures found { IsTrue result ↔ SomeGoesOn plan.now order.now.contexts text.now }

@@ -90,7 +90,7 @@ impl SearchOrder {
     }
 
     /// Makes this the order of the context of this name, as `of` gives it. There is room for every context of the
-    /// dialplan, as in an order that `room` made for it. It takes no memory, since each list keeps the room that it has,
+    /// dialplan, as in an order that `room` made for it. It never allocates, since each list keeps the room that it has,
     /// and costs the order that stood here before and the includes of the contexts that it visits.
     pub fn fill(&mut self, plan: &Dialplan, context: &Text)
         requires { context_count plan.now ≤ self.old.room }

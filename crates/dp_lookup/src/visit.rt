@@ -1,4 +1,4 @@
-//! The walk through a dialplan's contexts. It takes no memory, and no call of it stands inside another.
+//! The walk through a dialplan's contexts. It never allocates, and no call of it stands inside another.
 ghost use Rattle.std.specs.Prelude.{◌≡◌, ◌<◌, ◌≤◌, [], ◌∷◌, length, fold, All, vec_len, vec_capacity, MatchOption};
 ghost use Rattle.dp_lookup.specs.SearchOrder.{context_count, link_of, visit, AreContexts};
 ghost use Rattle.dp_lookup.specs.steps.Filling.{pending, work, IsMarked, IsFilling};

@@ -1,4 +1,4 @@
--- Another dialplan comes in force.
+-- Another dialplan is put in force.
 use Rattle.std.specs.Prelude.{ℕ, List, Option, Some, None, Result, Ok, Err}
 use Rattle.dp_plan.specs.Loaded.{plan_and_notes}
 use Rattle.dp_plan.specs.Plan.{PlanOf}
@@ -26,7 +26,7 @@ shared_with functions shared variables = record {
   queues = shared.queues;
 }
 
--- the world after a dialplan that is given, and the reply: the dialplan comes in force and its globals are set, and the channels
+-- the world after a dialplan that is given, and the reply: the dialplan is put in force and its globals are set, and the channels
 -- stay as they are; one with a fault is refused
 abbrev pub reloaded_by : FunctionTable → World → Option PlanOf → World × Reply
 reloaded_by functions w None = (w, Refused BadPlan)

@@ -1,4 +1,4 @@
-//! The dialplan, and what look-ups in it search in. No look-up takes memory.
+//! The dialplan, and what look-ups in it search in. No look-up allocates.
 ghost use Rattle.std.specs.Prelude.{◌≡◌, IfOk, IfSome, IsSome, Some};
 ghost use Rattle.dp_plan.specs.Lookup.{entry_at};
 ghost use Rattle.dp_machine.specs.Found as spec;

@@ -58,7 +58,7 @@ pub enum Event {
     AgentDone {
         agent: Text,
     },
-    /// The dialplan of this text comes in force. A reply of an earlier event names an entry of the dialplan that was in force
+    /// The dialplan of this text is put in force. A reply of an earlier event names an entry of the dialplan that was in force
     /// at that event, and is to be read there. Copies of the event have the text in common, since it may be long.
     Reload {
         text: SharedText,

@@ -249,7 +249,7 @@ impl<T: AppTable> Machine<T> {
         })
     }
 
-    /// Applies one event, and gives the reply. A refused event changes nothing, and takes no memory but where it gives another
+    /// Applies one event, and gives the reply. A refused event changes nothing, and allocates only where it gives another
     /// dialplan, which is loaded to tell. Where memory is refused the machine is as before.
     pub fn apply(&mut self, alloc: Global, event: Event) -> Result<Reply, NoMemory>
         ensures ok { IfOk result (λ reply. spec.event_row (with_functions T.rows T.Functions.table) self.old event ≡ (self.new, reply)) }
@@ -343,7 +343,7 @@ impl<T: AppTable> Machine<T> {
         }
     }
 
-    /// The same as `next_entry`, looked up as a step looks up. It takes no memory, and changes nothing that a contract sees.
+    /// The same as `next_entry`, looked up as a step looks up. It never allocates, and changes nothing that a contract sees.
     pub fn entry_ahead(&mut self, channel: u32) -> Option<EntryId>
         ensures entry { result ≡ spec.next_entry self.old channel }
         ensures same { self.new ≡ self.old }

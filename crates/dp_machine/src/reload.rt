@@ -1,4 +1,4 @@
-//! Another dialplan comes in force, after the Asterisk documentation's pages on reloading the dialplan.
+//! Another dialplan is put in force, after the Asterisk documentation's pages on reloading the dialplan.
 ghost use Rattle.std.specs.Prelude.{◌≡◌, IfOk, List};
 ghost use Rattle.dp_plan.specs.Loaded.{plan_and_notes};
 ghost use Rattle.dp_machine.specs.steps.Follows.{Makes};
@@ -24,7 +24,7 @@ fn load(alloc: Global, text: &[u8]) -> Result<Option<Dialplan>, NoMemory>
     }
 }
 
-/// The dialplan of this text comes in force, and its globals are set. All of it is made before anything is replaced.
+/// The dialplan of this text is put in force, and its globals are set. All of it is made before anything is replaced.
 pub(crate) fn reload<T: AppTable>(
     alloc: Global,
     exchange: &mut Exchange,

@@ -13,7 +13,7 @@ use std::alloc::Global;
 /// How many channels a machine has at most.
 pub const MOST_CHANNELS: usize = 65_535;
 
-/// A call comes in. The event is refused where all numbers of channels were given, and then takes no memory.
+/// A call comes in. The event is refused where all numbers of channels were given, and then does not allocate.
 #[tactic(auto, unfolding(crate::specs::Events::start_call))]
 pub(crate) fn start(
     alloc: Global,

@@ -1,4 +1,5 @@
-//! What is read of a dialplan's entries once, when it comes in force: their applications and their arguments, after the Asterisk documentation's pages on variables.
+//! What is read of a dialplan's entries once, when it is put in force: their applications and their arguments, after the Asterisk
+//! documentation's pages on variables.
 ghost use Rattle.std.specs.Prelude.{◌≡◌, IfOk};
 ghost use Rattle.std.specs.Option.{option_copied};
 ghost use Rattle.dp_machine.specs.steps.Templates as spec;

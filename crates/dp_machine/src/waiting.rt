@@ -309,7 +309,7 @@ pub(crate) fn poll(
 }
 
 /// The caller hangs up: the channel leaves its queue, or its talk ends, or it reads that its call to devices was given up, and
-/// it is hung up. Only that reading takes memory.
+/// it is hung up. Only that reading allocates.
 #[tactic(auto, unfolding(crate::specs::Events::hang_up_row))]
 pub(crate) fn hang_up_channel(
     alloc: Global,

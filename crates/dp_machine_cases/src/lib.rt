@@ -13,6 +13,8 @@ mod codes;
 #[cfg(test)]
 mod dial;
 #[cfg(test)]
+mod example;
+#[cfg(test)]
 mod machines;
 #[cfg(test)]
 mod nameless;

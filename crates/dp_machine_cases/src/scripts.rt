@@ -1,4 +1,4 @@
-//! Scripts that machines are given: calls to devices, and dialplans that come in force, worked out by hand from the rules.
+//! Scripts that machines are given: calls to devices, and dialplans that are put in force, worked out by hand from the rules.
 use dp_case_tables::{Question, bytes_of, check_all};
 use dp_commands::{ScriptLine, Turn, read_script};
 use dp_machine::NoMemory;
@@ -48,7 +48,7 @@ const DIALLING: &str = r"
 [main]\nexten => s,1,Dial(Line/5,20)\nexten => s,2,NoOp()¦¦start main s\nstart main s\nstep 1\nstep 2\nresult 2 BUSY\nshow 1 DIALSTATUS\nshow 2 DIALSTATUS\nresult 1 NOANSWER→started 1 -> ready main,s,1 ; started 2 -> ready main,s,1 ; ran main,s,1 Dial -> dialling main,s,1 ; ran main,s,1 Dial -> dialling main,s,1 ; done -> ready main,s,2 ; DIALSTATUS= ; DIALSTATUS=BUSY ; done -> ready main,s,2
 ";
 
-/// Dialplans that come in force, in the same form:
+/// Dialplans that are put in force, in the same form:
 const RELOADING: &str = r"
 # The next step is one of the new dialplan, and its globals go on from those that are there.
 [globals]\nX=1\nY=5\n[main]\nexten => 100,1,NoOp(a)\nexten => 100,2,NoOp(b)¦[globals]\nX=${X}2\n[main]\nexten => _1XX,2,Hangup()¦start main 100\nstep 1\nreload\nshow 1 X\nshow 1 Y\nstep 1→started 1 -> ready main,100,1 ; ran main,100,1 NoOp -> ready main,100,2 ; done ; X=12 ; Y=5 ; ran main,_1XX,2 Hangup -> ended main,100,2
@@ -65,7 +65,7 @@ const RELOADING: &str = r"
 [globals]\nX=1\n[main]\nexten => s,1,Set(GLOBAL(X)=9)\nexten => s,2,Set(A=own)¦[globals]\nX=${X}2\nA=${A}3¦start main s\nstep 1 2\nreload\nshow 1 X\nshow 1 A\nstart main s\nshow 2 A→started 1 -> ready main,s,1 ; ran main,s,1 Set -> ready main,s,2 ; ran main,s,2 Set -> ready main,s,3 ; done ; X=92 ; A=own ; started 2 -> ready main,s,1 ; A=3
 # There is no channel while globals are expanded, and a value is not expanded again.
 ¦[globals]\nEXTEN=x\nE=<${EXTEN}${CONTEXT}${PRIORITY}${CHANNEL}${CALLERID(num)}${LOCAL(E)}>\nF=<${GLOBAL(EXTEN)}>\nD=$\nG=${D}{F}\nL=${LEN(${G})}¦start main s 555\nreload\nshow 1 E\nshow 1 F\nshow 1 G\nshow 1 L→started 1 -> ready main,s,1 ; done ; E=<> ; F=<x> ; G=${F} ; L=4
-# The empty dialplan is one, and comes in force before any call too.
+# The empty dialplan is one, and is put in force before any call too.
 [globals]\nX=1\n[main]\nexten => s,1,NoOp()¦¦reload\nstart main s\nshow 1 X\nstep 1→done ; started 1 -> ready main,s,1 ; X=1 ; no entry -> ended main,s,1
 # A place that is gone: to `i` where the extension has no priority 1 and `i` is there, else it is hung up.
 [main]\nexten => s,1,NoOp()\nexten => s,2,NoOp()¦[main]\nexten => i,1,NoOp()¦start main s\nstep 1\nreload\nstep 1\nshow 1 INVALID_EXTEN\nstep 1→started 1 -> ready main,s,1 ; ran main,s,1 NoOp -> ready main,s,2 ; done ; invalid -> ready main,i,1 ; INVALID_EXTEN=s ; ran main,i,1 NoOp -> ready main,i,2
@@ -183,7 +183,7 @@ impl Ask for InScript {
     }
 }
 
-/// What a new machine answers to a script, by its dialplan and the one that comes in force.
+/// What a new machine answers to a script, by its dialplan and the one that is put in force.
 struct Happened;
 
 impl Question for Happened {
@@ -194,7 +194,7 @@ impl Question for Happened {
     }
 }
 
-/// Devices are called, and dialplans come in force.
+/// Devices are called, and dialplans are put in force.
 #[test]
 fn scripts_are_answered_so(rt: HostRuntime) -> Result<(), Fail> {
     check_all::<Happened>(rt.alloc(), &[DIALLING, RELOADING])

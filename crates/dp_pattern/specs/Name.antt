@@ -185,7 +185,7 @@ pub record IsName (name : Meaning) : Type 0 where
   pub bytes : EachIndex text (λ k. slice_index text k < 256)
   pub read : meaning_of text ≡ Ok name
 
--- why a text was not read: the fault of the name, or want of memory in place of any answer
+-- why a text was not read: the fault of the name, or out of memory in place of any answer
 abbrev pub IsReason : {X : Type 0} → PatternFault → Result X NameFault → Type 0
 IsReason (Name fault) given = given ≡ Err fault
 IsReason NoMemory given = Unit {0}

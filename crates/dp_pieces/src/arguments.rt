@@ -35,7 +35,7 @@ pub(crate) fn any_of(alloc: Global, pieces: &[Piece]) -> Result<Vec<Piece>, NoMe
 }
 
 /// The pieces without so many of the first bytes. Where a piece that may have any bytes comes first, it and what follows it become one
-/// such piece. It fails only for want of memory.
+/// such piece. It fails only when out of memory.
 pub fn without(alloc: Global, count: usize, pieces: &[Piece]) -> Result<Vec<Piece>, NoMemory>
     ensures { IfOk result (λ rest. shown_all rest.items ≡ without count (shown_all pieces.now)) }
 {
@@ -58,7 +58,7 @@ pub fn without(alloc: Global, count: usize, pieces: &[Piece]) -> Result<Vec<Piec
 }
 
 /// So many of the first bytes of the pieces. Where a piece that may have any bytes comes before that, it and what follows it become one
-/// such piece. It fails only for want of memory.
+/// such piece. It fails only when out of memory.
 pub fn front(alloc: Global, count: usize, pieces: &[Piece]) -> Result<Vec<Piece>, NoMemory>
     ensures { IfOk result (λ first. shown_all first.items ≡ front count (shown_all pieces.now)) }
 {

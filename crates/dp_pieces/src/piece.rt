@@ -99,7 +99,7 @@ pub(crate) fn copy_of(alloc: Global, pieces: &[Piece]) -> Result<Vec<Piece>, NoM
     Ok(copy)
 }
 
-/// The text of pieces that are all known, or None where some piece is not. It fails only for want of memory.
+/// The text of pieces that are all known, or None where some piece is not. It fails only when out of memory.
 pub fn known_text(alloc: Global, pieces: &[Piece]) -> Result<Option<Vec<u8>>, NoMemory>
     ensures { IfOk result (λ text. MatchOption text (text_known (shown_all pieces.now) ≡ None) (λ bytes. text_known (shown_all pieces.now) ≡ Some bytes.items)) }
 {

@@ -17,7 +17,7 @@ pub trait NamedPieces {
     // What that is.
     ghost names: { Self → Names };
 
-    /// The pieces of the value of a group, by the pieces of its body. It fails only for want of memory.
+    /// The pieces of the value of a group, by the pieces of its body. It fails only when out of memory.
     fn group(&self, alloc: Global, kind: GroupKind, body: &[Piece]) -> Result<Vec<Piece>, NoMemory>
         ensures { IfOk result (λ pieces. shown_all pieces.items ≡ group_pieces (names self.now) kind (shown_all body.now)) };
 }
@@ -72,7 +72,7 @@ struct Reading {
     waiting: Vec<Open>,
 }
 
-/// Reads a text that is not expanded yet as its pieces. It fails only for want of memory.
+/// Reads a text that is not expanded yet as its pieces. It fails only when out of memory.
 pub fn read_pieces<N: NamedPieces>(
     alloc: Global,
     names: &N,
@@ -104,7 +104,7 @@ impl Reading {
         }
     }
 
-    /// Goes after a mark.
+    /// Takes a mark.
     fn take<N: NamedPieces>(&mut self, alloc: Global, names: &N, mark: Mark) -> Result<(), NoMemory>
         requires { StandIn (read_of self.old).waiting (length (read_of self.old).pieces) }
         ensures { OnOk result (read_of self.new ≡ steps.after (N.names names.now) mark (read_of self.old)) }

@@ -153,7 +153,7 @@ fn trimmed_end(alloc: Global, pieces: &[Piece]) -> Result<Vec<Piece>, NoMemory>
     Ok(kept)
 }
 
-/// The pieces of a text without the blanks at both ends. It fails only for want of memory.
+/// The pieces of a text without the blanks at both ends. It fails only when out of memory.
 pub fn trimmed(alloc: Global, pieces: &[Piece]) -> Result<Vec<Piece>, NoMemory>
     ensures { IfOk result (λ kept. shown_all kept.items ≡ trims.without_end_blanks (shown_all pieces.now)) }
 {

@@ -381,7 +381,7 @@ impl Draft {
     }
 
     /// The parts of the draft's dialplan, the numbers of its entries' extensions, and its entries' lines. The places, the labels
-    /// and the remarks are let go.
+    /// and the remarks are dropped.
     fn into_parts(self) -> (PlanParts, Vec<Numbers>, EntryLines)
         ensures globals { result.0.globals.items ≡ self.globals }
         ensures names { result.0.names.keys ≡ self.names }
@@ -407,7 +407,7 @@ impl Draft {
         (parts, numbers, EntryLines::of_contexts(lines))
     }
 
-    /// The dialplan of the draft, its notes, and its entries' lines. The places and labels are let go before the entries are ranked.
+    /// The dialplan of the draft, its notes, and its entries' lines. The places and labels are dropped before the entries are ranked.
     pub(crate) fn into_plan(self, alloc: Global) -> Result<LoadedPlan, NoMemory>
         requires names { self.names ≡ map (λ context. context.name) self.contexts }
         requires apart { All (λ context. AreApart context.entries) self.contexts }

@@ -16,7 +16,7 @@ pub(crate) struct Extension {
 }
 
 impl Extension {
-    /// The extension of the name in the context. It takes no memory.
+    /// The extension of the name in the context. It never allocates.
     pub(crate) fn of(context: &ContextName, name: &SharedName) -> Result<Self, NoMemory>
         ensures { IfOk result (λ extension. extension ≡ extension_of context.now name.now) }
     {

@@ -109,7 +109,7 @@ pub(crate) fn fault(line: usize, kind: PlanKind) -> ItemFault
     TakeFault::Line(FaultyLine { line, kind })
 }
 
-/// Why a dialplan did not load. Want of memory is always `NoMemory`, and never within `Conf`.
+/// Why a dialplan did not load. Out of memory is always `NoMemory`, and never within `Conf`.
 #[derive(Clone, Copy, Debug, PartialEq, Eq)]
 pub enum LoadFault {
     /// A line of the text is refused, whatever its section.

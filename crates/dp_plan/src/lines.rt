@@ -153,7 +153,7 @@ impl Lines {
         Ok(())
     }
 
-    /// Goes after a line with a key that is none of a context's.
+    /// Takes a line with a key that is none of a context's.
     fn take_other(
         &mut self,
         line: usize,
@@ -175,7 +175,7 @@ impl Lines {
         }
     }
 
-    /// Goes after a pair of the open context.
+    /// Takes a pair of the open context.
     #[tactic(auto, unfolding(crate::specs::Items::context_item))]
     #[inline(always)]
     pub(crate) fn take(

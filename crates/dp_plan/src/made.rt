@@ -67,7 +67,7 @@ impl Made {
         Ok(())
     }
 
-    /// Goes after a pair of the section.
+    /// Takes a pair of the section.
     #[inline(always)]
     fn take_pair(
         &mut self,
@@ -86,7 +86,7 @@ impl Made {
         }
     }
 
-    /// Goes after a line.
+    /// Takes a line.
     pub(crate) fn take(&mut self, alloc: Global, line: Line<'_>) -> Result<(), ItemFault>
         ensures { Answers (λ done. self.new) item_reason result (spec.after_line self.old (line_now line.entry)) }
     {

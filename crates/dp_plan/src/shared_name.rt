@@ -82,7 +82,7 @@ impl SharedName {
         &self.spelled.name
     }
 
-    /// The canonical spelling of the name, which was made once. It takes no memory.
+    /// The canonical spelling of the name, which was made once. It never allocates.
     pub fn spelling(&self) -> &[u8]
         ensures { result.now ≡ spelling self.now }
     {
@@ -120,7 +120,7 @@ impl Model for SharedSpelling {
 }
 
 impl SharedSpelling {
-    /// The spelling of the name. It takes no memory.
+    /// The spelling of the name. It never allocates.
     pub(crate) fn of(name: &SharedName) -> Result<Self, NoMemory>
         ensures { IfOk result (λ shared. shared ≡ spelling name.now) }
     {

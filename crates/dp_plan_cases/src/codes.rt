@@ -112,7 +112,7 @@ fn faults_are_printed_so(rt: &impl Abort, alloc: Global) -> Result<(), Fail> {
     Ok(())
 }
 
-/// Want of memory is outermost, whichever call met it.
+/// Out of memory is outermost, whichever call met it.
 fn want_of_memory_is_outermost(rt: &impl Abort) {
     assert_eq!(rt; LoadFault::from(ConfFault::NoMemory), LoadFault::NoMemory);
     let fault = ConfFault::At {

@@ -31,7 +31,7 @@ nowhere fault = record { fault = fault; place = Nowhere }
 abbrev pub unread_reason : Unread → Option PbxFault
 unread_reason unread = reason_of unread.fault
 
--- where the fault of a file stands that could not be read: in the file; want of memory stands in none
+-- where the fault of a file stands that could not be read: in the file; out of memory stands in none
 abbrev pub place_unread : Unread → PbxFault → Place
 place_unread unread (Coded code line) = InFile unread.path
 place_unread unread NoMemory = Nowhere

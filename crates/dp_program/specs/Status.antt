@@ -25,7 +25,7 @@ place_text (in_line line) = line_text line
 place_text (in_file path) = file_text path
 place_text in_none = []
 
--- the explanation of a fault: where it stands, and what is said of it; want of memory has none
+-- the explanation of a fault: where it stands, and what is said of it; out of memory has none
 abbrev pub explanation : PbxFault → PlaceOf → List ℕ
 explanation (Coded code line) place = place_text place ++ sentence_text (said_of code)
 explanation NoMemory place = []

@@ -58,7 +58,7 @@ pub(crate) fn serve_joined<'a, I: ReadTold, W: WriteTold>(
     placed_nowhere(run_input(alloc, input, output))
 }
 
-/// The status of a run whose history is let go.
+/// The status of a run whose history is dropped.
 fn status_of<H: Drop>(ran: (u8, H)) -> u8
     ensures { result ≡ ran.0 }
 {

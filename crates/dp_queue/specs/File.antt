@@ -25,7 +25,7 @@ pub record FileOf : Type 0 where
 abbrev pub unread : FileOf
 unread = record { section = None; made = record { queues = []; agents = []; finished = 0 } }
 
--- a queue of which nothing is said
+-- a queue with the default settings
 abbrev pub queue_named : List ℕ → QueueOf
 queue_named name = record { name = name; settings = usual; members = []; waiting = []; last = None }
 

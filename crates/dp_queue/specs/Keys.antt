@@ -60,7 +60,7 @@ setting_of key value =
     else if same_word key (codes "context") then Ok (DigitsIn value)
     else Ok Ignored
 
--- the settings of a queue of which nothing is said
+-- the default settings of a queue
 abbrev pub usual : Settings
 usual = record { strategy = RingAll; maxlen = 0; joinempty = Yes; leavewhenempty = No; context = [] }
 

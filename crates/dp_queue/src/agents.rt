@@ -31,7 +31,7 @@ impl Model for Agents {
 }
 
 impl Agents {
-    /// No agents. It takes no memory.
+    /// No agents. It never allocates.
     pub(crate) fn new(alloc: Global) -> Self
         ensures { result ≡ [] }
     {

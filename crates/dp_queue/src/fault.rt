@@ -47,7 +47,7 @@ impl QueueKind {
     }
 }
 
-/// Why a file of queues did not load. Want of memory is always `NoMemory`, and never within `Conf`.
+/// Why a file of queues did not load. Out of memory is always `NoMemory`, and never within `Conf`.
 #[derive(Clone, Copy, Debug, PartialEq, Eq)]
 pub enum QueueFault {
     /// A line of the text is refused, whatever its section.

@@ -101,7 +101,7 @@ impl File {
         Ok(())
     }
 
-    /// Goes after a header.
+    /// Takes a header.
     fn begin(&mut self, alloc: Global, line: usize, name: &[u8]) -> Result<(), TakeFault<QueueKind>>
         ensures { Answers (λ done. self.new) line_reason result (at_line line (spec.after_header self.old name.now)) }
     {
@@ -145,7 +145,7 @@ impl File {
         Ok(())
     }
 
-    /// Goes after a member's line in the section of the queue of a number, by its arguments.
+    /// Takes a member's line in the section of the queue of a number, by its arguments.
     fn take_arguments(
         &mut self,
         alloc: Global,
@@ -162,7 +162,7 @@ impl File {
         Ok(())
     }
 
-    /// Goes after a member's line in the section of the queue of a number.
+    /// Takes a member's line in the section of the queue of a number.
     fn take_member(
         &mut self,
         alloc: Global,
@@ -178,7 +178,7 @@ impl File {
         self.take_arguments(alloc, line, number, &arguments)
     }
 
-    /// Goes after another pair in the section of the queue of a number.
+    /// Takes another pair in the section of the queue of a number.
     fn take_setting(
         &mut self,
         alloc: Global,
@@ -196,7 +196,7 @@ impl File {
         Ok(())
     }
 
-    /// Goes after a pair.
+    /// Takes a pair.
     fn take_pair(
         &mut self,
         alloc: Global,
@@ -218,7 +218,7 @@ impl File {
         }
     }
 
-    /// Goes after a line.
+    /// Takes a line.
     pub(crate) fn take(&mut self, alloc: Global, line: Line<'_>) -> Result<(), TakeFault<QueueKind>>
         ensures { Answers (λ done. self.new) line_reason result (spec.after_line self.old (line_now line.entry)) }
     {

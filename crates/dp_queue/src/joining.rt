@@ -77,7 +77,7 @@ pub(crate) fn unseat(
 }
 
 impl Queues {
-    /// What a call that asks to join the queue of this name would be told. It takes no memory.
+    /// What a call that asks to join the queue of this name would be told. It never allocates.
     pub fn would_join(&self, queue: &[u8]) -> Join
         ensures { result ≡ spec.would_join self.now.queues queue.now }
     {

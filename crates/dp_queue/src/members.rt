@@ -108,7 +108,7 @@ fn finish_at(members: &mut Vec<Member>, place: usize, agent: usize, count: u64)
 }
 
 impl Members {
-    /// No members. It takes no memory.
+    /// No members. It never allocates.
     pub(crate) fn new(alloc: Global) -> Self
         ensures { result ≡ [] }
     {

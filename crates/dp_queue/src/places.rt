@@ -48,7 +48,7 @@ pub(crate) fn word_hash(word: &[u8]) -> u64
 }
 
 impl Places {
-    /// Of no elements. It takes no memory.
+    /// Of no elements. It never allocates.
     pub(crate) fn new(alloc: Global) -> Self
         ensures { result ≡ [] }
     {

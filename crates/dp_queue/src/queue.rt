@@ -107,7 +107,7 @@ fn take_out(waiting: &mut VecDeque<u32>, hint: usize, channel: u32)
 }
 
 impl Queue {
-    /// A queue of this name of which nothing is said.
+    /// A queue of this name with the default settings.
     pub(crate) fn new(alloc: Global, name: Text) -> Self
         ensures { result ≡ file.queue_named name }
     {

@@ -156,7 +156,7 @@ fn set_last_at(queues: &mut Vec<Queue>, number: usize, last: Option<usize>)
 }
 
 impl QueueList {
-    /// No queues. It takes no memory.
+    /// No queues. It never allocates.
     pub(crate) fn new(alloc: Global) -> Self
         ensures { result ≡ [] }
     {
@@ -181,7 +181,7 @@ impl QueueList {
         find_queue(&self.list, &self.places, name)
     }
 
-    /// Adds a queue of a name that none has, of which nothing is said. After a refused growth all is as before.
+    /// Adds a queue with the default settings, of a name that no queue has. After a refused growth all is as before.
     pub(crate) fn push(&mut self, alloc: Global, name: &[u8]) -> Result<(), NoMemory>
         requires { spec.queue_number self.old name.now ≡ None }
         ensures ok { OnOk result (self.new ≡ self.old ++ queue_named name.now ∷ []) }

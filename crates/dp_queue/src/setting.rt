@@ -109,7 +109,7 @@ fn read_rule(value: &[u8]) -> Result<EmptyRule, QueueKind>
     Err(QueueKind::LeftOut)
 }
 
-/// What a pair says of the settings of its queue. It takes memory only for `context`.
+/// What a pair says of the settings of its queue. It allocates only for `context`.
 #[tactic(auto, unfolding(crate::specs::Keys::setting_of))]
 pub(crate) fn read_setting(
     alloc: Global,
@@ -143,7 +143,7 @@ pub(crate) fn read_setting(
     Ok(Setting::Ignored)
 }
 
-/// The settings of a queue of which nothing is said.
+/// The default settings of a queue.
 pub(crate) fn usual_settings(alloc: Global) -> Settings
     ensures { result ≡ spec.usual }
 {

@@ -13,7 +13,7 @@ use crate::waiting_seat::Seats;
 use std::alloc::Global;
 
 impl Queues {
-    /// No queues and no agents. It takes no memory.
+    /// No queues and no agents. It never allocates.
     pub fn none(alloc: Global) -> Self
         ensures none { result ≡ no_queues }
         ensures rest { IsAtRest result }

@@ -101,7 +101,7 @@ pub(crate) fn take_seat(seats: &mut Seats, channel: u32, seat: WaitingSeat, arri
     seated.unwrap();
 }
 
-/// Changes what a channel does that has a seat. It takes no memory.
+/// Changes what a channel does that has a seat. It never allocates.
 fn put_sitting(seats: &mut Seats, channel: u32, sitting: Sitting)
     requires { IsSome (spec.seat_at seats.old channel) }
     ensures seats { spec.ReplacesSeat channel (spec.seat_of (Some sitting)) seats.old seats.new }
@@ -112,7 +112,7 @@ fn put_sitting(seats: &mut Seats, channel: u32, sitting: Sitting)
     }
 }
 
-/// Changes the seat of a channel that has one. It takes no memory.
+/// Changes the seat of a channel that has one. It never allocates.
 pub(crate) fn put_seat(seats: &mut Seats, channel: u32, seat: WaitingSeat)
     requires { IsSome (spec.seat_at seats.old channel) }
     ensures seats { spec.ReplacesSeat channel (Some seat) seats.old seats.new }
@@ -122,7 +122,7 @@ pub(crate) fn put_seat(seats: &mut Seats, channel: u32, seat: WaitingSeat)
     put_sitting(seats, channel, Sitting::Waits { seat, arrival });
 }
 
-/// Lets a channel that has a seat talk with the agent of a number. It takes no memory.
+/// Lets a channel that has a seat talk with the agent of a number. It never allocates.
 pub(crate) fn put_talk(seats: &mut Seats, channel: u32, agent: usize)
     requires { IsSome (spec.seat_at seats.old channel) }
     ensures seats { spec.ReplacesSeat channel None seats.old seats.new }

@@ -92,7 +92,7 @@ fn bare<'a>(plan: &'a [u8], script: &'a [u8]) -> RunTexts<'a> {
     }
 }
 
-/// The status of a run of these texts, of which the history is let go.
+/// The status of a run of these texts, of which the history is dropped.
 fn end_status<R: Threads + Wait + Sync>(
     rt: &R,
     alloc: Global,

@@ -1,4 +1,4 @@
-//! Look-ups in a dialplan from its contexts. None of them takes memory.
+//! Look-ups in a dialplan from its contexts. None of them allocates.
 ghost use Rattle.std.specs.Prelude.{◌≡◌, ℕ, List, IfOk};
 ghost use Rattle.dp_lookup.specs.FoundEntry.{found_entry, found_label, goes_on_more};
 ghost use Rattle.dp_lookup.specs.SearchOrder.{search_order};

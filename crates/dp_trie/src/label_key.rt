@@ -27,7 +27,7 @@ impl Model for LabelKey {
 }
 
 impl LabelKey {
-    /// The key of the label. It takes no memory.
+    /// The key of the label. It never allocates.
     pub(crate) fn of(label: &SharedText) -> Result<Self, NoMemory>
         ensures { IfOk result (λ key. key ≡ label.now) }
     {

@@ -206,7 +206,7 @@ impl Trie {
 
     /// The entry of the order's contexts that matches the dialled text and has the priority, as `dp_lookup::find` gives
     /// it, and how many nodes were entered. Each entry into a node raises that count by one, in each of the contexts up to
-    /// the one that answers. The count stays at 18,446,744,073,709,551,615 where it would be more. It takes no memory.
+    /// the one that answers. The count stays at 18,446,744,073,709,551,615 where it would be more. It never allocates.
     pub fn find_counted(
         &self,
         order: &SearchOrder,
@@ -224,7 +224,7 @@ impl Trie {
     }
 
     /// The entry of the order's contexts that matches the dialled text and has the priority, as `dp_lookup::find` gives
-    /// it. It takes no memory.
+    /// it. It never allocates.
     pub fn find(&self, order: &SearchOrder, text: &[u8], priority: u32) -> Option<EntryId>
         ensures { (plan : PlanOf) → Keeps plan self.now
             → result ≡ found_entry plan order.now.contexts text.now priority }
@@ -241,7 +241,7 @@ impl Trie {
     }
 
     /// The priority of the entry of the order's contexts that matches the dialled text and has the label, as
-    /// `dp_lookup::find_label` gives it. It takes no memory.
+    /// `dp_lookup::find_label` gives it. It never allocates.
     pub fn find_label(&self, order: &SearchOrder, text: &[u8], label: &[u8]) -> Option<u32>
         ensures { (plan : PlanOf) → Keeps plan self.now
             → result ≡ found_label plan order.now.contexts text.now label.now }
@@ -257,7 +257,7 @@ impl Trie {
     }
 
     /// Whether some ending of one or more bytes other than `-` makes the dialled text match an entry of priority 1 whose
-    /// name does not end with `!`, as `dp_lookup::could_be_more` says. It takes no memory.
+    /// name does not end with `!`, as `dp_lookup::could_be_more` says. It never allocates.
     pub fn more(&self, order: &SearchOrder, text: &[u8]) -> bool
         ensures { (plan : PlanOf) → Keeps plan self.now → result ≡ goes_on_more plan order.now.contexts text.now }
     {

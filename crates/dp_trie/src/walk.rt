@@ -1,4 +1,4 @@
-//! The walk through a tree of patterns. It takes no memory, and no call of it stands inside another.
+//! The walk through a tree of patterns. It never allocates, and no call of it stands inside another.
 ghost use Rattle.std.specs.Prelude.{◌≡◌, ◌≤◌, length, slice_index, MatchOption, [], find, if◌then◌else◌};
 ghost use Rattle.std.specs.Option.{option_map};
 ghost use Rattle.dp_pattern.specs.Walk.{classes_of};

@@ -81,7 +81,7 @@ fn number_after<T, C: Change<T>>(
 }
 
 impl BindingTable {
-    /// No names. It takes no memory.
+    /// No names. It never allocates.
     pub(crate) fn new(alloc: Global) -> Self
         ensures { result ≡ [] }
     {

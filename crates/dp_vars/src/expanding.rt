@@ -288,7 +288,7 @@ impl Expanding {
         }
     }
 
-    /// Goes after a mark.
+    /// Takes a mark.
     pub(crate) fn take<F: Functions, B, C: Counts>(
         &mut self,
         alloc: Global,
@@ -359,7 +359,7 @@ impl Expanding {
         }
     }
 
-    /// Goes after a piece of this text.
+    /// Takes a piece of this text.
     fn write<F: Functions, B, C: Counts>(
         &mut self,
         alloc: Global,

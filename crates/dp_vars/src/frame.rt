@@ -22,7 +22,7 @@ impl Model for NameNumbers {
 }
 
 impl NameNumbers {
-    /// No numbers. It takes no memory.
+    /// No numbers. It never allocates.
     pub(crate) fn new(alloc: Global) -> Self
         ensures { result ≡ [] }
     {

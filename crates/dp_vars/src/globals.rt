@@ -37,7 +37,7 @@ impl Model for Globals {
 }
 
 impl Globals {
-    /// No globals. It takes no memory.
+    /// No globals. It never allocates.
     pub fn new(alloc: Global) -> Self
         ensures { result ≡ finite.empty }
     {

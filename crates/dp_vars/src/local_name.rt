@@ -6,7 +6,7 @@ use smallvec::SmallVec;
 use std::alloc::Global;
 use std::marker::Model;
 
-/// The name of a local, which takes no memory where it has few bytes, as `ARG1`.
+/// The name of a local, which is not allocated where it has few bytes, as `ARG1`.
 ///
 /// A contract sees it as its bytes.
 pub struct LocalName {
@@ -29,7 +29,7 @@ impl Model for LocalName {
 }
 
 impl LocalName {
-    /// A name of the same bytes. It takes memory where there are more than 24.
+    /// A name of the same bytes. It allocates where there are more than 24.
     pub fn copy_of(alloc: Global, bytes: &[u8]) -> Result<Self, NoMemory>
         ensures { IfOk result (λ name. name ≡ bytes.now) }
     {

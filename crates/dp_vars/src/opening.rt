@@ -35,7 +35,7 @@ fn holds_opening(text: &[u8]) -> bool
 
 /// Whether `${` or `$[` stands in the text. Where nothing opens a group, the text is its own expansion.
 ///
-/// It takes no memory.
+/// It never allocates.
 pub fn has_opening(text: &[u8]) -> bool
     ensures opening { result ≡ openings.has_opening text.now }
     // Whatever functions there are.

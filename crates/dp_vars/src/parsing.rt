@@ -76,7 +76,7 @@ impl Parsing {
         Ok(())
     }
 
-    /// Goes after an opening, which waits from now on.
+    /// Takes an opening, which waits from now on.
     fn begin(&mut self, kind: GroupKind, place: usize) -> Result<(), NoMemory>
         ensures { OnOk result (self.new ≡ record {
           pieces = TextPiece.Begins kind ∷ spec.with_run self.old.run self.old.pieces;
@@ -117,7 +117,7 @@ impl Parsing {
         self.run = Span::at(place);
     }
 
-    /// Goes after the end of the innermost group.
+    /// Takes the end of the innermost group.
     fn end(&mut self, alloc: Global, text: &[u8], place: usize) -> Result<(), NoMemory>
         ensures { OnOk result (spec.GoesAfter text.now Mark.End place self.old self.new) }
     {
@@ -132,7 +132,7 @@ impl Parsing {
         Ok(())
     }
 
-    /// Goes after a mark that ends at this place.
+    /// Takes a mark that ends at this place.
     fn take(&mut self, alloc: Global, text: &[u8], mark: Mark, place: usize) -> Result<(), NoMemory>
         requires stands { spec.StandsAfter text.now self.old.run mark place }
         requires begins { self.old.run.from ≤ place }

@@ -49,7 +49,7 @@ impl<B> Model for Store<B> {
 }
 
 impl<B> Store<B> {
-    /// No variables and no frames. It takes no memory.
+    /// No variables and no frames. It never allocates.
     pub fn new(alloc: Global) -> Self
         ensures { result ≡ stores.nothing }
     {
@@ -83,7 +83,7 @@ impl<B> Store<B> {
     }
 
     /// The number of a name: how many other names were given to the store before it, each to be set or as a local of a
-    /// frame; None for a name that was never given. It takes no memory, and a name keeps its number.
+    /// frame; None for a name that was never given. It never allocates, and a name keeps its number.
     pub fn slot(&self, name: &[u8]) -> Option<usize>
         ensures { result ≡ stores.slot self.now.names name.now }
     {

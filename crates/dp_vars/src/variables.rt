@@ -30,7 +30,7 @@ impl Model for Variables {
 }
 
 impl Variables {
-    /// No variables. It takes no memory.
+    /// No variables. It never allocates.
     pub(crate) fn new(alloc: Global) -> Self
         ensures { result ≡ finite.empty }
     {

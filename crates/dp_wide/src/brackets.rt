@@ -70,7 +70,7 @@ impl Model for OpenGroups {
 }
 
 impl OpenGroups {
-    /// No group. It takes no memory.
+    /// No group. It never allocates.
     fn new(alloc: Global) -> Self
         ensures { result ≡ [] }
     {
@@ -119,7 +119,7 @@ impl OpenGroups {
         }
     }
 
-    /// Goes after a mark. After a refused growth all is as before.
+    /// Takes a mark. After a refused growth all is as before.
     fn take(&mut self, mark: Mark) -> Result<(), NoMemory>
         ensures ok { OnOk result (self.new ≡ spec.open_after mark self.old) }
         ensures err { OnErr result (self.new ≡ self.old) }
@@ -162,7 +162,7 @@ fn behind(mark: Mark, after: &[u8]) -> &[u8]
 
 /// Whether the groups of a text are those that Asterisk reads in it.
 ///
-/// It takes no memory for a text with no `$`. The error comes only where a growth was refused.
+/// It never allocates for a text with no `$`. The error comes only where a growth was refused.
 pub(crate) fn reads(alloc: Global, text: &[u8]) -> Result<bool, NoMemory>
     ensures { IfOk result (λ is. is ≡ spec.reads text.now) }
 {

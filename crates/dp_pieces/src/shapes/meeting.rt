@@ -97,7 +97,7 @@ fn most_pieces(pieces: &[Piece], name: &Name) -> usize {
     places.saturating_add(pieces.len())
 }
 
-/// What is known of a text of this shape that has matched the name of an extension. It fails only for want of memory.
+/// What is known of a text of this shape that has matched the name of an extension. It fails only when out of memory.
 ///
 /// Dashes do not count for a match, so a shape that may have one stays as it is.
 pub fn matched(alloc: Global, pieces: &[Piece], name: &Name) -> Result<Vec<Piece>, NoMemory>

@@ -6,6 +6,6 @@ use Rattle.dp_plan.specs.Faults.{fault_of_line}
 use Rattle.dp_plan.specs.declared.fault.ItemKind.{ItemKind}
 use Rattle.dp_plan.specs.declared.fault.LoadFault.{LoadFault}
 
--- why a line has no item; want of memory is no reason
+-- why a line has no item; out of memory is no reason
 abbrev pub item_reason : TakeFault ItemKind → Option LoadFault
 item_reason = line_reason fault_of_line

@@ -15,7 +15,7 @@ use Rattle.dp_queue.specs.declared.fault.QueueKind.{QueueKind}
 abbrev pub after_one : Result FileOf QueueFault → LineOf → Result FileOf QueueFault
 after_one state line = state >>= λ file. after_line file line
 
--- why nothing went after a line; want of memory is no reason
+-- why nothing took a line; out of memory is no reason
 abbrev pub line_reason : TakeFault QueueKind → Option QueueFault
 line_reason = whole_reason fault_of_line
 

@@ -116,7 +116,7 @@ pub(super) fn push_queues(
     Ok(())
 }
 
-/// A fault as `fault CODE` and its text; want of memory has no code.
+/// A fault as `fault CODE` and its text; out of memory has no code.
 pub(super) fn push_fault(out: &mut String, fault: QueueFault) -> Result<(), NoMemory> {
     match fault {
         QueueFault::Conf(ConfFault::At { line: _, kind }) => {

@@ -144,7 +144,7 @@ exten => s,1,Queue(q)\nexten => p,1,PauseQueueMember(q,A)¦[q]\nleavewhenempty=l
 exten => s,1,Queue(q)\nexten => n,1,Set(N=${QUEUE_WAITING_COUNT(Q)}${QUEUE_WAITING_COUNT(x)})¦[q]¦start main s\nstart main s\nstart main n\nstep 1\nstep 2\nstep 3\nshow 3 N→started 1\nstarted 2\nstarted 3\nran 1 main,s,1 Queue -> queued q\nran 2 main,s,1 Queue -> queued q\nran 3 main,n,1 Set -> ready main,n,2\nN=20\nstatus 0
 ";
 
-/// Dialplans that come in force in place of others.
+/// Dialplans that are put in force in place of others.
 const RELOADS: &str = r"
 # A count of a queue is of those who wait at the event, and there is no channel.
 exten => s,1,Queue(q)¦[q]¦start main s\nreload\nshow 1 N\nstep 1\nreload\nshow 1 N¦[globals]\nN=${QUEUE_WAITING_COUNT(q)}<${EXTEN}>\n[main]\nexten => s,1,Queue(q)→started 1\nok\nN=0<>\nran 1 main,s,1 Queue -> queued q\nok\nN=1<>\nstatus 0

@@ -104,7 +104,7 @@ const SECONDS: &str = r"
 [main]\n;; reload\n\nabc\n;; script\nreload\n→refused 52 BadPlan\nstatus 1
 ";
 
-/// Dialplans that come in force in place of others.
+/// Dialplans that are put in force in place of others.
 const RELOADS: &str = r"
 # Its globals are set one after another into those that are, each time anew; others stay.
 [globals]\nX=1\n;; reload\n[globals]\nX=${X}2\nX=${X}3\n;; script\nstart main s\nreload\nshow 1 X\nreload\nshow 1 X\n→started 1\nok\nX=123\nok\nX=12323\nstatus 0
