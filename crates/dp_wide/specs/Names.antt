@@ -19,7 +19,11 @@ unfoldable pub status_names : List (List ℕ)
 status_names =
     codes "VMSTATUS" ∷ codes "READSTATUS" ∷ codes "AGISTATUS" ∷ codes "SYSTEMSTATUS" ∷ codes "PAGESTATUS" ∷ codes "RECORD_STATUS"
     ∷ codes "FAXSTATUS" ∷ codes "AMDSTATUS" ∷ codes "TRANSFERSTATUS" ∷ codes "PARKEDAT" ∷ codes "PRIVACYMGRSTATUS"
-    ∷ codes "ORIGINATE_STATUS" ∷ codes "CONFBRIDGE_RESULT" ∷ codes "LOOKUPSTATUS" ∷ codes "FAXERROR" ∷ []
+    ∷ codes "ORIGINATE_STATUS" ∷ codes "CONFBRIDGE_RESULT" ∷ codes "LOOKUPSTATUS" ∷ codes "FAXERROR"
+    ∷ codes "AMDCAUSE" ∷ codes "AUTH_MAILBOX" ∷ codes "AUTH_CONTEXT" ∷ codes "DIRECTORY_RESULT" ∷ codes "READEXTENSTATUS"
+    ∷ codes "CPLAYBACKSTATUS" ∷ codes "CPLAYBACKOFFSET" ∷ codes "WAITSTATUS" ∷ codes "BRIDGERESULT" ∷ codes "AGENT_STATUS"
+    ∷ codes "SENDTEXTSTATUS" ∷ codes "CHANNELREDIRECT_STATUS" ∷ codes "MESSAGE_SEND_STATUS" ∷ codes "MIXMONITOR_FILENAME"
+    ∷ codes "LOOKUPBLSTATUS" ∷ []
 
 -- whether a name is one of these
 abbrev pub is_status : List ℕ → Bool

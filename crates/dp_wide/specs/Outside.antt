@@ -1,5 +1,5 @@
 -- The applications that run outside this program, for which a channel waits.
-use Rattle.std.specs.Prelude.{ℕ, Bool, true, false, List, [], ◌∷◌, Option, codes, fold, is_some}
+use Rattle.std.specs.Prelude.{ℕ, ◌||◌, Bool, true, false, List, [], ◌∷◌, Option, codes, fold, is_some}
 use Rattle.std.specs.List.{find}
 use Rattle.std.specs.Option.{option_map, unwrap_or}
 use Rattle.dp_conf.specs.Levels.{arguments_of}
@@ -31,28 +31,30 @@ with_status name status = (name, status ∷ [])
 unfoldable pub outside_applications : List (List ℕ × List (List ℕ))
 outside_applications =
     with_status (codes "VoiceMail") (codes "VMSTATUS") ∷ without_status (codes "VoiceMailMain")
-    ∷ without_status (codes "VMAuthenticate") ∷ without_status (codes "Directory")
-    ∷ with_status (codes "Read") (codes "READSTATUS") ∷ without_status (codes "ReadExten")
-    ∷ with_status (codes "Record") (codes "RECORD_STATUS") ∷ without_status (codes "ControlPlayback")
-    ∷ without_status (codes "BackgroundDetect") ∷ with_status (codes "AGI") (codes "AGISTATUS")
-    ∷ with_status (codes "DeadAGI") (codes "AGISTATUS") ∷ with_status (codes "EAGI") (codes "AGISTATUS")
-    ∷ without_status (codes "ExternalIVR") ∷ with_status (codes "ConfBridge") (codes "CONFBRIDGE_RESULT")
-    ∷ without_status (codes "MeetMe") ∷ with_status (codes "Page") (codes "PAGESTATUS") ∷ without_status (codes "Pickup")
-    ∷ without_status (codes "PickupChan") ∷ with_status (codes "Park") (codes "PARKEDAT") ∷ without_status (codes "ParkedCall")
+    ∷ (codes "VMAuthenticate", codes "AUTH_MAILBOX" ∷ codes "AUTH_CONTEXT" ∷ [])
+    ∷ with_status (codes "Directory") (codes "DIRECTORY_RESULT") ∷ with_status (codes "Read") (codes "READSTATUS")
+    ∷ with_status (codes "ReadExten") (codes "READEXTENSTATUS") ∷ with_status (codes "Record") (codes "RECORD_STATUS")
+    ∷ (codes "ControlPlayback", codes "CPLAYBACKSTATUS" ∷ codes "CPLAYBACKOFFSET" ∷ []) ∷ without_status (codes "BackgroundDetect")
+    ∷ with_status (codes "AGI") (codes "AGISTATUS") ∷ with_status (codes "DeadAGI") (codes "AGISTATUS")
+    ∷ with_status (codes "EAGI") (codes "AGISTATUS") ∷ without_status (codes "ExternalIVR")
+    ∷ with_status (codes "ConfBridge") (codes "CONFBRIDGE_RESULT") ∷ without_status (codes "MeetMe")
+    ∷ with_status (codes "Page") (codes "PAGESTATUS") ∷ without_status (codes "Pickup") ∷ without_status (codes "PickupChan")
+    ∷ with_status (codes "Park") (codes "PARKEDAT") ∷ without_status (codes "ParkedCall")
     ∷ with_status (codes "ParkAndAnnounce") (codes "PARKEDAT") ∷ without_status (codes "Authenticate")
     ∷ without_status (codes "FollowMe") ∷ without_status (codes "ChanSpy") ∷ without_status (codes "ExtenSpy")
-    ∷ (codes "SendFAX", codes "FAXSTATUS" ∷ codes "FAXERROR" ∷ [])
-    ∷ (codes "ReceiveFAX", codes "FAXSTATUS" ∷ codes "FAXERROR" ∷ []) ∷ without_status (codes "Echo")
-    ∷ without_status (codes "Milliwatt") ∷ without_status (codes "MP3Player") ∷ without_status (codes "Festival")
-    ∷ without_status (codes "MusicOnHold") ∷ without_status (codes "WaitMusicOnHold") ∷ without_status (codes "WaitForSilence")
-    ∷ without_status (codes "WaitForNoise") ∷ without_status (codes "WaitForRing") ∷ without_status (codes "WaitUntil")
-    ∷ with_status (codes "Transfer") (codes "TRANSFERSTATUS") ∷ without_status (codes "Bridge")
+    ∷ (codes "SendFAX", codes "FAXSTATUS" ∷ codes "FAXERROR" ∷ []) ∷ (codes "ReceiveFAX", codes "FAXSTATUS" ∷ codes "FAXERROR" ∷ [])
+    ∷ without_status (codes "Echo") ∷ without_status (codes "Milliwatt") ∷ without_status (codes "MP3Player")
+    ∷ without_status (codes "Festival") ∷ without_status (codes "MusicOnHold") ∷ without_status (codes "WaitMusicOnHold")
+    ∷ with_status (codes "WaitForSilence") (codes "WAITSTATUS") ∷ with_status (codes "WaitForNoise") (codes "WAITSTATUS")
+    ∷ without_status (codes "WaitForRing") ∷ without_status (codes "WaitUntil")
+    ∷ with_status (codes "Transfer") (codes "TRANSFERSTATUS") ∷ with_status (codes "Bridge") (codes "BRIDGERESULT")
     ∷ without_status (codes "BridgeWait") ∷ without_status (codes "Stasis") ∷ without_status (codes "DISA")
     ∷ with_status (codes "PrivacyManager") (codes "PRIVACYMGRSTATUS") ∷ without_status (codes "Zapateller")
-    ∷ without_status (codes "Flash") ∷ with_status (codes "AMD") (codes "AMDSTATUS") ∷ without_status (codes "NVFaxDetect")
-    ∷ without_status (codes "Dictate") ∷ without_status (codes "TestClient") ∷ without_status (codes "TestServer")
-    ∷ without_status (codes "AgentLogin") ∷ without_status (codes "AgentRequest") ∷ without_status (codes "Morsecode")
-    ∷ without_status (codes "SMS") ∷ without_status (codes "Curl") ∷ []
+    ∷ without_status (codes "Flash") ∷ (codes "AMD", codes "AMDSTATUS" ∷ codes "AMDCAUSE" ∷ [])
+    ∷ without_status (codes "NVFaxDetect") ∷ without_status (codes "Dictate") ∷ without_status (codes "TestClient")
+    ∷ without_status (codes "TestServer") ∷ without_status (codes "AgentLogin")
+    ∷ with_status (codes "AgentRequest") (codes "AGENT_STATUS") ∷ without_status (codes "Morsecode") ∷ without_status (codes "SMS")
+    ∷ without_status (codes "Curl") ∷ []
 
 -- the variables in which the application of a name among some says how it ended
 abbrev pub statuses_among : List (List ℕ × List (List ℕ)) → List ℕ → Option (List (List ℕ))
@@ -68,7 +70,7 @@ is_outside name = is_some (outside_statuses name)
 
 -- whether the first argument names a variable for what is read
 abbrev pub is_read : List ℕ → Bool
-is_read name = same_word name (codes "Read")
+is_read name = same_word name (codes "Read") || same_word name (codes "ReadExten")
 
 -- a store in which names have no value any more
 abbrev pub without_values : List (List ℕ) → StoreOf Place → StoreOf Place

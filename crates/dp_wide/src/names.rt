@@ -7,7 +7,7 @@ ghost use Rattle.dp_wide.specs.Names as spec;
 use dp_conf::same_word;
 
 /// The variables in which applications say how they ended.
-const STATUSES: [&[u8]; 15] = [
+const STATUSES: [&[u8]; 30] = [
     b"VMSTATUS",
     b"READSTATUS",
     b"AGISTATUS",
@@ -23,6 +23,21 @@ const STATUSES: [&[u8]; 15] = [
     b"CONFBRIDGE_RESULT",
     b"LOOKUPSTATUS",
     b"FAXERROR",
+    b"AMDCAUSE",
+    b"AUTH_MAILBOX",
+    b"AUTH_CONTEXT",
+    b"DIRECTORY_RESULT",
+    b"READEXTENSTATUS",
+    b"CPLAYBACKSTATUS",
+    b"CPLAYBACKOFFSET",
+    b"WAITSTATUS",
+    b"BRIDGERESULT",
+    b"AGENT_STATUS",
+    b"SENDTEXTSTATUS",
+    b"CHANNELREDIRECT_STATUS",
+    b"MESSAGE_SEND_STATUS",
+    b"MIXMONITOR_FILENAME",
+    b"LOOKUPBLSTATUS",
 ];
 
 /// The names that Asterisk itself gives a value.

@@ -17,12 +17,12 @@ use std::marker::PhantomData;
 const OUTSIDE: [(&[u8], &[&[u8]]); 55] = [
     (b"VoiceMail", &[b"VMSTATUS"]),
     (b"VoiceMailMain", &[]),
-    (b"VMAuthenticate", &[]),
-    (b"Directory", &[]),
+    (b"VMAuthenticate", &[b"AUTH_MAILBOX", b"AUTH_CONTEXT"]),
+    (b"Directory", &[b"DIRECTORY_RESULT"]),
     (b"Read", &[b"READSTATUS"]),
-    (b"ReadExten", &[]),
+    (b"ReadExten", &[b"READEXTENSTATUS"]),
     (b"Record", &[b"RECORD_STATUS"]),
-    (b"ControlPlayback", &[]),
+    (b"ControlPlayback", &[b"CPLAYBACKSTATUS", b"CPLAYBACKOFFSET"]),
     (b"BackgroundDetect", &[]),
     (b"AGI", &[b"AGISTATUS"]),
     (b"DeadAGI", &[b"AGISTATUS"]),
@@ -48,25 +48,25 @@ const OUTSIDE: [(&[u8], &[&[u8]]); 55] = [
     (b"Festival", &[]),
     (b"MusicOnHold", &[]),
     (b"WaitMusicOnHold", &[]),
-    (b"WaitForSilence", &[]),
-    (b"WaitForNoise", &[]),
+    (b"WaitForSilence", &[b"WAITSTATUS"]),
+    (b"WaitForNoise", &[b"WAITSTATUS"]),
     (b"WaitForRing", &[]),
     (b"WaitUntil", &[]),
     (b"Transfer", &[b"TRANSFERSTATUS"]),
-    (b"Bridge", &[]),
+    (b"Bridge", &[b"BRIDGERESULT"]),
     (b"BridgeWait", &[]),
     (b"Stasis", &[]),
     (b"DISA", &[]),
     (b"PrivacyManager", &[b"PRIVACYMGRSTATUS"]),
     (b"Zapateller", &[]),
     (b"Flash", &[]),
-    (b"AMD", &[b"AMDSTATUS"]),
+    (b"AMD", &[b"AMDSTATUS", b"AMDCAUSE"]),
     (b"NVFaxDetect", &[]),
     (b"Dictate", &[]),
     (b"TestClient", &[]),
     (b"TestServer", &[]),
     (b"AgentLogin", &[]),
-    (b"AgentRequest", &[]),
+    (b"AgentRequest", &[b"AGENT_STATUS"]),
     (b"Morsecode", &[]),
     (b"SMS", &[]),
     (b"Curl", &[]),
@@ -109,7 +109,7 @@ pub fn is_outside(name: &[u8]) -> bool
 fn is_read(name: &[u8]) -> bool
     ensures { result ≡ spec.is_read name.now }
 {
-    same_word(name, b"Read")
+    same_word(name, b"Read") || same_word(name, b"ReadExten")
 }
 
 /// Takes the values of some names away.

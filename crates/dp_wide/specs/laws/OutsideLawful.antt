@@ -1,5 +1,5 @@
 -- The row of an application that runs outside keeps the laws of rows, and a table in which they come first those of tables.
-use Rattle.std.specs.Prelude.{◌≡◌, ℕ, Bool, true, false, List, [], Option, map, nat_eq, codes, length, is_some, refl}
+use Rattle.std.specs.Prelude.{◌≡◌, ℕ, ◌||◌, Bool, true, false, List, [], Option, map, nat_eq, codes, length, is_some, refl}
 use Rattle.std.specs.Char.{to_ascii_lowercase}
 use Rattle.std.specs.Cmp.Lexicographic.{pointwise}
 use Rattle.std.specs.List.{find}
@@ -63,7 +63,11 @@ is_outside-spelled : (name spelling : List ℕ) → same_word name spelling ≡ 
 is_outside-spelled name spelling same = ap (λ (o : Option (List (List ℕ))). is_some o) (outside_statuses-spelled name spelling same)
 
 is_read-spelled : (name spelling : List ℕ) → same_word name spelling ≡ true → is_read spelling ≡ is_read name
-is_read-spelled name spelling same = lowered (λ lower. pointwise nat_eq lower (map to_ascii_lowercase (codes "Read"))) name spelling same
+is_read-spelled name spelling same =
+    lowered
+    (λ lower. pointwise nat_eq lower (map to_ascii_lowercase (codes "Read"))
+        || pointwise nat_eq lower (map to_ascii_lowercase (codes "ReadExten")))
+    name spelling same
 
 row_outside-spelled : (name spelling : List ℕ) → same_word name spelling ≡ true → row_outside spelling ≡ row_outside name
 row_outside-spelled name spelling same =

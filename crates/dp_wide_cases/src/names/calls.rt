@@ -35,7 +35,16 @@ s,1,Page(SIP/1&SIP/2)¦PAGESTATUS=x;step;$PAGESTATUS→PAGESTATUS=
 s,1,Record(a:wav)¦RECORD_STATUS=x;RECORDED_FILE=y;step;$RECORD_STATUS;$RECORDED_FILE→RECORD_STATUS=, RECORDED_FILE=y
 s,1,SendFAX(a.tif)¦FAXSTATUS=x;FAXERROR=y;step;$FAXSTATUS;$FAXERROR→FAXSTATUS=, FAXERROR=
 s,1,ReceiveFAX(a.tif)¦FAXSTATUS=x;FAXERROR=y;step;$FAXSTATUS;$FAXERROR→FAXSTATUS=, FAXERROR=
-s,1,AMD()¦AMDSTATUS=x;step;$AMDSTATUS→AMDSTATUS=
+s,1,AMD()¦AMDSTATUS=x;AMDCAUSE=y;step;$AMDSTATUS;$AMDCAUSE→AMDSTATUS=, AMDCAUSE=
+s,1,WaitForSilence(1000)¦WAITSTATUS=x;step;$WAITSTATUS→WAITSTATUS=
+s,1,WaitForNoise(1000)¦WAITSTATUS=x;step;$WAITSTATUS→WAITSTATUS=
+s,1,WaitForRing(5)¦WAITSTATUS=x;step;$WAITSTATUS→WAITSTATUS=x
+s,1,VMAuthenticate(100@default)¦AUTH_MAILBOX=x;AUTH_CONTEXT=y;step;$AUTH_MAILBOX;$AUTH_CONTEXT→AUTH_MAILBOX=, AUTH_CONTEXT=
+s,1,Directory(default)¦DIRECTORY_RESULT=x;step;$DIRECTORY_RESULT→DIRECTORY_RESULT=
+s,1,ControlPlayback(a)¦CPLAYBACKSTATUS=x;CPLAYBACKOFFSET=y;step;$CPLAYBACKSTATUS;$CPLAYBACKOFFSET→CPLAYBACKSTATUS=, CPLAYBACKOFFSET=
+s,1,Bridge(SIP/1)¦BRIDGERESULT=x;step;$BRIDGERESULT→BRIDGERESULT=
+s,1,BridgeWait()¦BRIDGERESULT=x;step;$BRIDGERESULT→BRIDGERESULT=x
+s,1,AgentRequest(7)¦AGENT_STATUS=x;step;$AGENT_STATUS→AGENT_STATUS=
 s,1,Transfer(200)¦TRANSFERSTATUS=x;step;$TRANSFERSTATUS→TRANSFERSTATUS=
 s,1,Park()¦PARKEDAT=x;step;$PARKEDAT→PARKEDAT=
 s,1,ParkAndAnnounce(a)¦PARKEDAT=x;step;$PARKEDAT→PARKEDAT=
@@ -44,7 +53,7 @@ s,1,PrivacyManager()¦PRIVACYMGRSTATUS=x;step;$PRIVACYMGRSTATUS→PRIVACYMGRSTAT
 s,1,ConfBridge(1)¦CONFBRIDGE_RESULT=x;step;$CONFBRIDGE_RESULT→CONFBRIDGE_RESULT=
 # Names of variables are compared byte by byte.
 s,1,AGI(a.py)¦agistatus=x;step;$agistatus→agistatus=x
-# `Read` takes the variable of its first argument away too, and no other does.
+# `Read` and `ReadExten` take the variable of their first argument away too, and no other does.
 s,1,Read(X,beep)¦X=5;Y=6;READSTATUS=OK;step;?;$X;$Y;$READSTATUS→Pause s,1, X=, Y=6, READSTATUS=
 s,1,Read(X)¦step;X=42;READSTATUS=OK;time;?;$X;$READSTATUS→Ready s,2, X=42, READSTATUS=OK
 s,1,rEAD( X ,X2)¦X=5;X2=6;step;$X;$X2→X=, X2=6
@@ -53,7 +62,8 @@ s,1,Read(X(1,2),beep)¦X(1,2)=5;X=6;step;$X(1,2);$X→X(1,2)=, X=6
 s,1,Read(,X)¦X=5;READSTATUS=OK;step;?;$X;$READSTATUS→Pause s,1, X=5, READSTATUS=
 s,1,Read()¦X=5;step;?;$X→Pause s,1, X=5
 s,1,Read(Z)¦X=5;step;?;$Z;$X→Pause s,1, Z=, X=5
-s,1,ReadExten(X)¦X=5;READSTATUS=OK;step;$X;$READSTATUS→X=5, READSTATUS=OK
+s,1,ReadExten(X)¦X=5;READSTATUS=OK;READEXTENSTATUS=OK;step;$X;$READSTATUS;$READEXTENSTATUS→X=, READSTATUS=OK, READEXTENSTATUS=
+s,1,readexten(X,beep)¦step;X=42;READEXTENSTATUS=OK;time;?;$X;$READEXTENSTATUS→Ready s,2, X=42, READEXTENSTATUS=OK
 s,1,Record(X)¦X=5;step;$X→X=5
 # A name has no value as a local of any frame either.
 s,1,Gosub(in,1)\nin,1,Set(LOCAL(VMSTATUS)=a)\nin,2,Gosub(on,1)\non,1,Set(LOCAL(VMSTATUS)=b)\non,2,VoiceMail(1)¦VMSTATUS=c;step;step;step;step;$VMSTATUS;step;?;$VMSTATUS→VMSTATUS=b, Pause on,2, VMSTATUS=
