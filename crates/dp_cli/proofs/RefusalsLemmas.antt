@@ -1,5 +1,5 @@
 -- The kinds with which words are refused.
-use Rattle.std.proofs.Common.{◌≡◌, ◌⊎◌, Bool, true, false, cond, List, ℕ, [], ◌∷◌, Option, Some, None, is_some, codes, inl, inr, refl}
+use Rattle.std.proofs.Common.{◌≡◌, ◌⊎◌, Bool, true, false, cond, List, ℕ, [], ◌∷◌, Option, Some, None, is_some, codes, inl, inr, refl, if◌then◌else◌}
 use Rattle.std.specs.Option.{option_and_then, option_map}
 use Rattle.clap.specs.Kinds.{IsAmong, Kinds, or_else}
 use Rattle.clap.specs.Walk.{Row, first_of}
@@ -7,8 +7,9 @@ use Rattle.clap.specs.declared.error.kind.ErrorKind.{ErrorKind}
 use Rattle.clap.specs.declared.error.kind.ErrorKind.TheVariants.{OutOfMemory}
 use Rattle.dp_conf.specs.Words.{same_text}
 use Rattle.dp_program.specs.Requests.{RequestOf, explaining}
-use Rattle.dp_cli.specs.CommandLine.{asked_by, audit_asked, check_asked, command_asked, debug_asked, explain_asked, fault_in, list_asked, match_asked, match_at, priority_in, reach_asked, run_asked, run_by, run_in, run_over, run_wide_in, is_set, has_other_manner, threads_in}
-use Rattle.dp_cli.specs.Refusals.{command_kinds, conflict_kinds, kinds_by, number_kinds, run_kinds_over, unless_number}
+use Rattle.dp_cli.specs.CommandLine.{asked_by, audit_asked, audit_by, audit_in, audit_named, check_asked, command_asked, debug_asked, explain_asked, fault_in, list_asked, match_asked, match_at, priority_in, reach_asked, run_asked, run_by, run_in, run_over, run_wide_in, is_set, has_threads, threads_in}
+use Rattle.dp_wide_runs.specs.Kinds.{KindsTold, all, only, except, are_kinds}
+use Rattle.dp_cli.specs.Refusals.{audit_kinds_by, command_kinds, conflict_kinds, kinds_by, number_kinds, run_kinds_over, unless_kinds, unless_number}
 
 -- one of the first kinds is one of all
 pub has_first : (kinds next : Kinds) (kind : ErrorKind) → (kind ≡ OutOfMemory) ⊎ IsAmong kind kinds → (kind ≡ OutOfMemory) ⊎ IsAmong kind (or_else kinds next)
@@ -44,8 +45,18 @@ wide_kinds words true is = absurd cc
 wide_kinds words false is = refl
 
 run_kinds_none : (words : List Row) (is_wide : Bool) → is_some (run_over words is_wide) ≡ true → run_kinds_over words is_wide ≡ []
-run_kinds_none words true is = wide_kinds words (has_other_manner words) is
+run_kinds_none words true is = wide_kinds words (has_threads words) is
 run_kinds_none words false is = run_numbers words (first_of (codes "N") words) is
+
+named_kinds : (is_kinds : Bool) (request : Option RequestOf) → is_some (if is_kinds then request else None) ≡ true → unless_kinds is_kinds ≡ []
+named_kinds true request is = refl
+named_kinds false request is = absurd cc
+
+audit_kinds_none : (words : List Row) (wanted unwanted : Option (List ℕ)) → is_some (audit_by words wanted unwanted) ≡ true → audit_kinds_by words wanted unwanted ≡ []
+audit_kinds_none words None None is = refl
+audit_kinds_none words (Some text) None is = named_kinds (are_kinds (is_set (codes "asterisk") words) text) (audit_in words (only text)) is
+audit_kinds_none words None (Some text) is = named_kinds (are_kinds (is_set (codes "asterisk") words) text) (audit_in words (except text)) is
+audit_kinds_none words (Some wanted) (Some unwanted) is = absurd cc
 
 -- of a choice
 either : (b : Bool) (first later : Option RequestOf) (kinds others : Kinds) → (is_some first ≡ true → kinds ≡ []) → (is_some later ≡ true → others ≡ [])
@@ -60,7 +71,7 @@ command_numbers name words =
     (either (same_text name (codes "match")) (match_asked words) _ _ _ (match_numbers words (first_of (codes "PRIORITY") words))
     (either (same_text name (codes "run")) (run_asked words) _ _ _ (run_kinds_none words (is_set (codes "asterisk") words))
     (either (same_text name (codes "debug")) (debug_asked words) _ [] _ (λ some. refl)
-    (either (same_text name (codes "audit")) (audit_asked words) _ [] _ (λ some. refl)
+    (either (same_text name (codes "audit")) (audit_asked words) _ _ _ (audit_kinds_none words (first_of (codes "KINDS") words) (first_of (codes "UNWANTED") words))
     (either (same_text name (codes "reach")) (reach_asked words) _ [] _ (λ some. refl)
     (either (same_text name (codes "explain")) (explain_asked words) _ _ [] (explain_numbers (first_of (codes "CODE") words)) (λ some. refl))))))))
 

@@ -1,6 +1,6 @@
 -- What the words of a command line ask for. Which word belongs to which name of a command is what clap's definitions say
 -- of the commands below.
-use Rattle.std.specs.Prelude.{ℕ, Bool, true, false, String, string_bytes, List, [], ◌∷◌, Option, Some, None, is_some, nat_lt, map, codes, ◌||◌, if◌then◌else◌}
+use Rattle.std.specs.Prelude.{ℕ, Bool, true, false, String, string_bytes, List, [], ◌∷◌, Option, Some, None, is_some, nat_lt, map, codes, if◌then◌else◌}
 use Rattle.std.specs.Option.{option_and_then, option_map, option_map_or}
 use Rattle.std.specs.declared.alloc.Global.{Global}
 use Rattle.clap.specs.Simple.{App, new_app, new_rule, on_top, with_rule, with_subcommand, subcommand_of}
@@ -10,8 +10,9 @@ use Rattle.dp_conf.specs.Words.{same_text}
 use Rattle.dp_commands.specs.Script.{number_within}
 use Rattle.dp_conf.specs.Numbers.{most_priority}
 use Rattle.dp_program.specs.Entries.{fault_named, fault_numbered}
-use Rattle.dp_program.specs.Requests.{RequestOf, joined, check, check_queues, check_both, listing, auditing, matching, explaining, run, run_wide, debug, reaching, QuestionOf}
+use Rattle.dp_program.specs.Requests.{RequestOf, joined, check, check_queues, check_both, listing, auditing, auditing_by, matching, explaining, run, run_wide, debug, reaching, QuestionOf}
 use Rattle.dp_program.specs.Texts.{OfRun}
+use Rattle.dp_wide_runs.specs.Kinds.{KindsTold, all, only, except, are_kinds}
 
 -- a word that has to be given
 abbrev pub required_word : List ℕ → Rule
@@ -81,10 +82,6 @@ abbrev pub match_app : App
 match_app =
     with_explain (with_lookup (with_rule (with_rule (new_app (codes "match")) (flag (codes "all") (codes "all"))) file_word))
 
--- `audit [--explain] FILE`
-abbrev pub audit_app : App
-audit_app = file_app (codes "audit")
-
 -- `explain [--explain] CODE`
 abbrev pub explain_app : App
 explain_app = with_explain (with_rule (new_app (codes "explain")) (required_word (codes "CODE")))
@@ -96,6 +93,15 @@ with_verbose app = with_rule app (flag (codes "verbose") (codes "verbose"))
 -- a command with the flag that asks for the wide table
 abbrev pub with_asterisk : App → App
 with_asterisk app = with_rule app (flag (codes "asterisk") (codes "asterisk"))
+
+-- a command with the words that name kinds of findings: those that are told, and those that are not
+abbrev pub with_kinds : App → App
+with_kinds app =
+    with_rule (with_rule app (named_word (codes "KINDS") (codes "only"))) (named_word (codes "UNWANTED") (codes "ignore"))
+
+-- `audit [--asterisk] [--only KINDS] [--ignore UNWANTED] [--explain] FILE`
+abbrev pub audit_app : App
+audit_app = with_explain (with_rule (with_kinds (with_asterisk (new_app (codes "audit")))) file_word)
 
 -- `run [--asterisk] [--queues QUEUES] [--reload DIALPLAN] [--threads N] [--verbose] [--explain] FILE SCRIPT`
 abbrev pub run_app : App
@@ -190,9 +196,35 @@ abbrev pub match_asked : List Row → Option RequestOf
 match_asked words =
     option_and_then (λ word. option_and_then (match_at words) (priority_in word)) (first_of (codes "PRIORITY") words)
 
+-- what `audit` asks of a file for all kinds of findings, by whether it goes by the wide table
+abbrev pub audit_all : Bool → List ℕ → RequestOf
+audit_all false file = auditing file
+audit_all true file = auditing_by file (record { is_wide = true; kinds = all })
+
+-- the same by the kinds that are told
+abbrev pub audit_over : Bool → KindsTold → List ℕ → RequestOf
+audit_over is_wide all file = audit_all is_wide file
+audit_over is_wide (only text) file = auditing_by file (record { is_wide = is_wide; kinds = only text })
+audit_over is_wide (except text) file = auditing_by file (record { is_wide = is_wide; kinds = except text })
+
+-- what `audit` asks for, by its other words
+abbrev pub audit_in : List Row → KindsTold → Option RequestOf
+audit_in words kinds = option_map (audit_over (is_set (codes "asterisk") words) kinds) (first_of (codes "FILE") words)
+
+-- the same with a text that names kinds; where a word of it is none, it asks for nothing
+abbrev pub audit_named : List Row → List ℕ → KindsTold → Option RequestOf
+audit_named words text kinds = if are_kinds (is_set (codes "asterisk") words) text then audit_in words kinds else None
+
+-- what `audit` asks for, by the words after `--only` and `--ignore`, which cannot stand beside each other
+abbrev pub audit_by : List Row → Option (List ℕ) → Option (List ℕ) → Option RequestOf
+audit_by words None None = audit_in words all
+audit_by words (Some text) None = audit_named words text (only text)
+audit_by words None (Some text) = audit_named words text (except text)
+audit_by words (Some wanted) (Some unwanted) = None
+
 -- what `audit` asks for, by its words
 abbrev pub audit_asked : List Row → Option RequestOf
-audit_asked words = option_map auditing (first_of (codes "FILE") words)
+audit_asked words = audit_by words (first_of (codes "KINDS") words) (first_of (codes "UNWANTED") words)
 
 -- what `explain` asks for, by its words
 abbrev pub explain_asked : List Row → Option RequestOf
@@ -214,18 +246,18 @@ abbrev pub run_by : List Row → Option (List ℕ) → Option RequestOf
 run_by words None = run_in words None
 run_by words (Some word) = option_and_then (λ threads. run_in words (Some threads)) (threads_in word)
 
--- whether a run has a word that cannot stand beside `--asterisk`
-abbrev pub has_other_manner : List Row → Bool
-has_other_manner words = is_set (codes "verbose") words || is_some (first_of (codes "N") words)
+-- whether a run is asked for in threads, which cannot stand beside `--asterisk`
+abbrev pub has_threads : List Row → Bool
+has_threads words = is_some (first_of (codes "N") words)
 
--- what `run --asterisk` asks for, by whether it has such a word
+-- what `run --asterisk` asks for, by whether it has threads too
 abbrev pub run_wide_in : List Row → Bool → Option RequestOf
 run_wide_in words true = None
-run_wide_in words false = option_map run_wide (run_paths words)
+run_wide_in words false = option_map (λ paths. run_wide paths (is_set (codes "verbose") words)) (run_paths words)
 
 -- what `run` asks for, by its words and by whether the wide table is asked for
 abbrev pub run_over : List Row → Bool → Option RequestOf
-run_over words true = run_wide_in words (has_other_manner words)
+run_over words true = run_wide_in words (has_threads words)
 run_over words false = run_by words (first_of (codes "N") words)
 
 -- what `run` asks for, by its words

@@ -1,5 +1,5 @@
 -- The kinds with which words are refused. Those of words that are no command line of the program's are clap's; after them
--- stand those of words that are one, but for a number or for two that cannot stand beside each other.
+-- stand those of words that are one, but for a number, for a kind of findings or for two that cannot stand beside each other.
 use Rattle.std.specs.Prelude.{ℕ, Bool, true, false, List, [], ◌∷◌, Option, Some, None, codes, if◌then◌else◌}
 use Rattle.clap.specs.Faults.{fault_of}
 use Rattle.clap.specs.Kinds.{Kinds, or_else}
@@ -8,7 +8,8 @@ use Rattle.clap.specs.Walk.{Row, first_of}
 use Rattle.clap.specs.declared.error.kind.ErrorKind.TheVariants.{ArgumentConflict, MissingRequiredArgument, ValueValidation}
 use Rattle.dp_conf.specs.Words.{same_text}
 use Rattle.dp_program.specs.Requests.{RequestOf}
-use Rattle.dp_cli.specs.CommandLine.{pbx_app, asked_by, fault_in, has_other_manner, is_set, priority_in, threads_in}
+use Rattle.dp_wide_runs.specs.Kinds.{are_kinds}
+use Rattle.dp_cli.specs.CommandLine.{pbx_app, asked_by, fault_in, has_threads, is_set, priority_in, threads_in}
 
 -- the kind of an invalid value where there is no number
 abbrev pub unless_number : Option ℕ → Kinds
@@ -27,14 +28,31 @@ conflict_kinds false = []
 
 -- those of `run`, by whether the wide table is asked for
 abbrev pub run_kinds_over : List Row → Bool → Kinds
-run_kinds_over words true = conflict_kinds (has_other_manner words)
+run_kinds_over words true = conflict_kinds (has_threads words)
 run_kinds_over words false = number_kinds threads_in (first_of (codes "N") words)
 
 -- those of `run`
 abbrev pub run_kinds : List Row → Kinds
 run_kinds words = run_kinds_over words (is_set (codes "asterisk") words)
 
--- those of a command: of the priority of `match`, of the words of `run` beside each other and its threads, and of the number of `explain`
+-- the kind of an invalid value where a word is no kind of findings
+abbrev pub unless_kinds : Bool → Kinds
+unless_kinds true = []
+unless_kinds false = ValueValidation ∷ []
+
+-- those of `audit`, by the words after `--only` and `--ignore`
+abbrev pub audit_kinds_by : List Row → Option (List ℕ) → Option (List ℕ) → Kinds
+audit_kinds_by words None None = []
+audit_kinds_by words (Some text) None = unless_kinds (are_kinds (is_set (codes "asterisk") words) text)
+audit_kinds_by words None (Some text) = unless_kinds (are_kinds (is_set (codes "asterisk") words) text)
+audit_kinds_by words (Some wanted) (Some unwanted) = ArgumentConflict ∷ []
+
+-- those of `audit`
+abbrev pub audit_kinds : List Row → Kinds
+audit_kinds words = audit_kinds_by words (first_of (codes "KINDS") words) (first_of (codes "UNWANTED") words)
+
+-- those of a command: of the priority of `match`, of the words of `run` beside each other and its threads, of the kinds of `audit`, and of
+-- the number of `explain`
 abbrev pub command_kinds : List ℕ → List Row → Kinds
 command_kinds name words =
     if same_text name (codes "check") then []
@@ -42,7 +60,7 @@ command_kinds name words =
     else if same_text name (codes "match") then number_kinds priority_in (first_of (codes "PRIORITY") words)
     else if same_text name (codes "run") then run_kinds words
     else if same_text name (codes "debug") then []
-    else if same_text name (codes "audit") then []
+    else if same_text name (codes "audit") then audit_kinds words
     else if same_text name (codes "reach") then []
     else if same_text name (codes "explain") then number_kinds fault_in (first_of (codes "CODE") words)
     else []

@@ -16,6 +16,7 @@ ghost use Rattle.dp_program.specs.Texts.{paths_of};
 ghost use Rattle.dp_cli.specs.CommandLine as spec;
 ghost use Rattle.dp_cli.specs.Refusals as refusals;
 
+use crate::audit_words::audit_request;
 use crate::commands::{
     check_of_dialplan, explain_command, match_command, pbx_command, run_command,
 };
@@ -47,7 +48,7 @@ fn read_priority(word: &str) -> Option<Priority>
 }
 
 /// The refusal of a command line for a command, which help calls by its whole name.
-fn refuse<'a>(
+pub(crate) fn refuse<'a>(
     command: Result<Command<'a>, NoMemory>,
     name: &'a str,
     kind: ErrorKind,
@@ -133,14 +134,14 @@ fn refuse_fault(alloc: Global, word: &str) -> Result<Error, NoMemory>
 }
 
 /// The word of this name among those of a command.
-fn word_of<'a>(given: &ArgMatches<'a>, name: &str) -> Option<&'a str>
+pub(crate) fn word_of<'a>(given: &ArgMatches<'a>, name: &str) -> Option<&'a str>
     ensures { option_map (λ word. word.now) result ≡ first_of name.now (rows_of (found_of given.now)) }
 {
     given.get_str(name)
 }
 
 /// Whether the flag of this name is given.
-fn is_set(given: &ArgMatches<'_>, name: &str) -> bool
+pub(crate) fn is_set(given: &ArgMatches<'_>, name: &str) -> bool
     ensures { result ≡ spec.is_set name.now (rows_of (found_of given.now)) }
 {
     match word_of(given, name) {
@@ -168,15 +169,6 @@ fn list_request<'a>(given: &ArgMatches<'a>) -> Option<Request<'a>>
     ensures { option_map request_asked result ≡ spec.list_asked (rows_of (found_of given.now)) }
 {
     Some(Request::Listing {
-        file: word_of(given, "FILE")?,
-    })
-}
-
-/// What the words of `audit` ask for.
-fn audit_request<'a>(given: &ArgMatches<'a>) -> Option<Request<'a>>
-    ensures { option_map request_asked result ≡ spec.audit_asked (rows_of (found_of given.now)) }
-{
-    Some(Request::Audit {
         file: word_of(given, "FILE")?,
     })
 }
@@ -239,42 +231,35 @@ fn run_files<'a>(given: &ArgMatches<'a>) -> Option<RunFiles<'a>>
     })
 }
 
-/// The option of a run that cannot stand beside `--asterisk`, where one is given.
-fn other_manner(given: &ArgMatches<'_>) -> Option<&'static str>
-    ensures { is_some result ≡ spec.has_other_manner (rows_of (found_of given.now)) }
+/// Whether a run is asked for in threads, which cannot stand beside `--asterisk`.
+fn has_threads(given: &ArgMatches<'_>) -> bool
+    ensures { result ≡ spec.has_threads (rows_of (found_of given.now)) }
 {
-    if is_set(given, "verbose") {
-        return Some("--verbose");
-    }
-    if word_of(given, "N").is_some() {
-        return Some("--threads <N>");
-    }
-    None
+    word_of(given, "N").is_some()
 }
 
-/// The refusal of an option of a run beside `--asterisk`.
-fn refuse_conflict(alloc: Global, option: &str) -> Result<Error, NoMemory>
+/// The refusal of `--threads` beside `--asterisk`.
+fn refuse_conflict(alloc: Global) -> Result<Error, NoMemory>
     ensures { IfOk result (λ error. kind_of error ≡ ArgumentConflict) }
 {
-    let message = format!(in alloc; "the argument '--asterisk' cannot be used with '{option}'")?;
     refuse(
         run_command(alloc),
         "pbx run",
         ErrorKind::ArgumentConflict,
-        &message,
+        "the argument '--asterisk' cannot be used with '--threads <N>'",
     )
 }
 
-/// What the words of `run --asterisk` ask for, or its refusal where they have an option that cannot stand beside it.
+/// What the words of `run --asterisk` ask for, or its refusal where they ask for threads too.
 fn wide_request<'a>(alloc: Global, given: &ArgMatches<'a>) -> Result<Option<Request<'a>>, Error>
     ensures asked { IfOk result (λ request. option_map request_asked request
-        ≡ spec.run_wide_in (rows_of (found_of given.now)) (spec.has_other_manner (rows_of (found_of given.now)))) }
-    ensures kinds { FailsBy (refusals.conflict_kinds (spec.has_other_manner (rows_of (found_of given.now)))) result }
+        ≡ spec.run_wide_in (rows_of (found_of given.now)) (spec.has_threads (rows_of (found_of given.now)))) }
+    ensures kinds { FailsBy (refusals.conflict_kinds (spec.has_threads (rows_of (found_of given.now)))) result }
 {
-    match other_manner(given) {
-        Some(option) => Err(refuse_conflict(alloc, option)?),
-        None => Ok(run_wide_in(given)),
+    if has_threads(given) {
+        return Err(refuse_conflict(alloc)?);
     }
+    Ok(run_wide_in(given))
 }
 
 /// What the words of `run --asterisk` name, where they name all that it needs.
@@ -283,6 +268,7 @@ fn run_wide_in<'a>(given: &ArgMatches<'a>) -> Option<Request<'a>>
 {
     Some(Request::RunWide {
         files: run_files(given)?,
+        is_verbose: is_set(given, "verbose"),
     })
 }
 
@@ -367,7 +353,7 @@ fn command_request<'a>(
         "match" => match_request(alloc, given),
         "run" => run_request(alloc, given),
         "debug" => Ok(debug_request(given)),
-        "audit" => Ok(audit_request(given)),
+        "audit" => audit_request(alloc, given),
         "reach" => Ok(reach_request(given)),
         "explain" => explain_request(alloc, given),
         _ => Ok(None),

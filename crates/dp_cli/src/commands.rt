@@ -137,15 +137,11 @@ fn with_verbose<'a>(
 fn with_asterisk<'a>(
     alloc: Global,
     command: Result<Command<'a>, NoMemory>,
+    help: &'a str,
 ) -> Result<Command<'a>, NoMemory>
     ensures { (app : App) → Makes app command.entry → Makes (spec.with_asterisk app) result }
 {
-    let asterisk = flag(
-        alloc,
-        "asterisk",
-        "asterisk",
-        "Use the applications and functions that people use, take facts from the script, and stop at what is unknown",
-    );
+    let asterisk = flag(alloc, "asterisk", "asterisk", help);
     with_word(command, asterisk)
 }
 
@@ -267,16 +263,47 @@ pub(crate) fn check_of_dialplan<'a>(
     }
 }
 
+/// The command with the words that name kinds of findings.
+fn with_kinds<'a>(
+    alloc: Global,
+    command: Result<Command<'a>, NoMemory>,
+) -> Result<Command<'a>, NoMemory>
+    ensures { (app : App) → Makes app command.entry → Makes (spec.with_kinds app) result }
+{
+    let only = named_word(
+        alloc,
+        "KINDS",
+        "only",
+        "Print the findings of these kinds alone, separated by commas",
+    );
+    let with = with_word(command, only);
+    let ignore = named_word(
+        alloc,
+        "UNWANTED",
+        "ignore",
+        "Leave out the findings of these kinds, separated by commas",
+    );
+    with_word(with, ignore)
+}
+
 /// The command `audit`.
-fn audit_command<'a>(alloc: Global) -> Result<Command<'a>, NoMemory>
+pub(crate) fn audit_command<'a>(alloc: Global) -> Result<Command<'a>, NoMemory>
     ensures { Makes spec.audit_app result }
 {
-    file_command(
+    let audit = command_of(
         alloc,
         "audit",
         "Print what the writer of a dialplan may not have meant",
         AUDIT_NOTES,
-    )
+    );
+    let audit = with_asterisk(
+        alloc,
+        audit,
+        "Know the applications and functions that people use, and look for endless runs and calls that go on elsewhere",
+    );
+    let audit = with_kinds(alloc, audit);
+    let audit = with_dialplan(alloc, audit);
+    with_explain(alloc, audit)
 }
 
 /// The command `list`.
@@ -362,7 +389,11 @@ pub(crate) fn run_command<'a>(alloc: Global) -> Result<Command<'a>, NoMemory>
         "Run a script of events on a dialplan, and print the trace",
         RUN_NOTES,
     );
-    let run = with_asterisk(alloc, run);
+    let run = with_asterisk(
+        alloc,
+        run,
+        "Use the applications and functions that people use, take facts from the script, and stop at what is unknown",
+    );
     let run = with_more_files(alloc, run);
     let threads = named_word(
         alloc,

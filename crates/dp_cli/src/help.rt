@@ -72,6 +72,14 @@ Prints `KIND CONTEXT,NAME,PRIORITY` for each finding, with what it is about afte
   Unused         no target names the label
 The status is 0 where nothing is found, and else 1.
 
+With --asterisk the applications and functions that people use are known, there is no `Unset`, and behind the others come:
+  FallsThrough   a call goes on behind the entry in another extension, which is printed after it
+  Loop           a call that gets there comes back again and again, and nothing ends it
+  NoFunction     there is no such function
+
+With --only KINDS, findings of these kinds are printed alone, and with --ignore KINDS all but these. A kind is one of the words above, in
+any case.
+
 Example:
   $ pbx audit extensions.conf
   Gap sales,s,1 2
@@ -136,7 +144,7 @@ refused. Further lines of a script tell it what it does not know:
   go CHANNEL                     what the channel waits for comes to its end
   redirect CHANNEL CONTEXT EXTEN [PRIORITY]   the channel goes to a place
   pass CHANNEL                   the channel passes over an entry that is unknown
-It cannot be used with --threads or --verbose.
+It cannot be used with --threads.
 
 Example:
   $ cat calls.script

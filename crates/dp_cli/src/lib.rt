@@ -1,6 +1,7 @@
 //! What the words of a command line ask the program `pbx` for, and its answer to them.
 #![tactic(auto)]
 
+mod audit_words;
 mod command_line;
 mod commands;
 mod help;

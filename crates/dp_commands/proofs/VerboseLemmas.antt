@@ -15,7 +15,7 @@ use Rattle.dp_commands.specs.Faults.{reason_of}
 use Rattle.dp_commands.specs.Run.{Run, contents_of, files_of, plan_fault, run_of, status_by, status_of}
 use Rattle.dp_commands.specs.Trace.{after_turn, any_refused}
 use Rattle.dp_commands.specs.Turns.{refused_in}
-use Rattle.dp_commands.specs.Verbose.{InForce, VerboseWatch, WritesVerbose, WritesVerboseDebug, debug_status, debug_with, in_force_after, in_force_past, verbose_debug_turn, verbose_end, verbose_turn, verbose_watching}
+use Rattle.dp_commands.specs.Verbose.{InForce, VerboseWatch, WritesVerbose, WritesVerboseDebug, debug_status, debug_with, in_force_after_by, in_force_past, verbose_debug_turn, verbose_end, verbose_turn, verbose_watching}
 use Rattle.dp_commands.specs.steps.Texts.{WritesRun}
 use Rattle.dp_commands.specs.declared.fault.PbxFault.{PbxFault}
 use Rattle.dp_commands.specs.declared.fault.PbxFault.TheVariants.{Coded, NoMemory}
@@ -77,7 +77,7 @@ module _ (explanation : Refusal → List ℕ) (in_force : InForce) where
   refused_in-verbose : (at : InForce) (w : World) (turns : List Turn) → refused_in (verbose_turn explanation) (at, w) turns ≡ any_refused w turns
   refused_in-verbose at w [] = refl
   refused_in-verbose at w (turn ∷ turns) =
-      ap (λ r. (after_turn w turn).refused || r) (refused_in-verbose (in_force_after at w turn) (after_turn w turn).world turns)
+      ap (λ r. (after_turn w turn).refused || r) (refused_in-verbose (in_force_after_by standard_meanings at w turn) (after_turn w turn).world turns)
 
   -- and so the status is that of the plain run
   status_when : (given : Result Run PbxFault) (old new : Option (List ℕ)) (status : ℕ) → WritesVerbose explanation in_force old new given (Ok status)

@@ -2,6 +2,7 @@
 use Rattle.std.specs.Prelude.{◌≡◌, ℕ, ◌++◌, ◌==◌, Bool, true, false, List, [], ◌∷◌, Option, Some, None, is_some, is_none, Result, Ok, Err, codes, decimal, if◌then◌else◌}
 use Rattle.std.specs.Io.KnownBytes.{Appends}
 use Rattle.std.specs.Option.{unwrap_or}
+use Rattle.dp_app.specs.Rows.{Meanings}
 use Rattle.dp_conf.specs.Answers.{◌>>=◌}
 use Rattle.dp_debug.specs.Breaks.{first_before}
 use Rattle.dp_debug.specs.declared.breaks.Break.{Break}
@@ -72,26 +73,31 @@ in_force_by in_force (AgentDone agent) refused = in_force
 in_force_by in_force (Assign channel name value) refused = in_force
 in_force_by in_force (Redirect number place) refused = in_force
 
--- the dialplan in force after an event that a world meets
-abbrev pub in_force_past : InForce → World → Event → InForce
-in_force_past in_force w event = in_force_by in_force event (is_refused (event_row standard_meanings w event).1)
+-- the dialplan in force after an event that a world meets, by what names mean
+abbrev pub in_force_past_by : Meanings → InForce → World → Event → InForce
+in_force_past_by meanings in_force w event = in_force_by in_force event (is_refused (event_row meanings w event).1)
 
--- the arguments of the entry that an event runs, as they are expanded in the world that it meets; only a step runs an entry
-abbrev pub arguments_of : World → Event → List ℕ
-arguments_of w (Step number) = unwrap_or (arguments_ahead standard_meanings.functions w number) []
-arguments_of w (Start context exten caller) = []
-arguments_of w (Digit number digit) = []
-arguments_of w (Timeout number) = []
-arguments_of w (Poll number) = []
-arguments_of w (Hangup number) = []
-arguments_of w (DialResult number status) = []
-arguments_of w (Offer queue) = []
-arguments_of w (Answer agent) = []
-arguments_of w (Decline agent) = []
-arguments_of w (AgentDone agent) = []
-arguments_of w (Reload text) = []
-arguments_of w (Assign channel name value) = []
-arguments_of w (Redirect number place) = []
+-- the same by what they mean in this program
+abbrev pub in_force_past : InForce → World → Event → InForce
+in_force_past in_force w event = in_force_past_by standard_meanings in_force w event
+
+-- the arguments of the entry that an event runs, as they are expanded in the world that it meets, by what names mean; only a step runs
+-- an entry
+abbrev pub arguments_of_by : Meanings → World → Event → List ℕ
+arguments_of_by meanings w (Step number) = unwrap_or (arguments_ahead meanings.functions w number) []
+arguments_of_by meanings w (Start context exten caller) = []
+arguments_of_by meanings w (Digit number digit) = []
+arguments_of_by meanings w (Timeout number) = []
+arguments_of_by meanings w (Poll number) = []
+arguments_of_by meanings w (Hangup number) = []
+arguments_of_by meanings w (DialResult number status) = []
+arguments_of_by meanings w (Offer queue) = []
+arguments_of_by meanings w (Answer agent) = []
+arguments_of_by meanings w (Decline agent) = []
+arguments_of_by meanings w (AgentDone agent) = []
+arguments_of_by meanings w (Reload text) = []
+arguments_of_by meanings w (Assign channel name value) = []
+arguments_of_by meanings w (Redirect number place) = []
 
 -- the number of an entry's line
 abbrev pub line_number : Option ℕ → List ℕ
@@ -138,32 +144,36 @@ above_reply explanation in_force plan arguments Invalid = []
 above_reply explanation in_force plan arguments (Offered channel rung) = []
 above_reply explanation in_force plan arguments Done = []
 
--- what stands above the line of an event that a world meets
+-- what stands above the line of an event that a world meets, by what names mean
+abbrev pub above_event_by : Meanings → (Refusal → List ℕ) → InForce → World → Event → List ℕ
+above_event_by meanings explanation in_force w event =
+    above_reply explanation (in_force_past_by meanings in_force w event) (final_world meanings w event).plan
+    (arguments_of_by meanings w event) (event_row meanings w event).1
+
+-- the same by what they mean in this program
 abbrev pub above_event : (Refusal → List ℕ) → InForce → World → Event → List ℕ
-above_event explanation in_force w event =
-    above_reply explanation (in_force_past in_force w event) (final_world standard_meanings w event).plan (arguments_of w event)
-    (event_row standard_meanings w event).1
+above_event explanation in_force w event = above_event_by standard_meanings explanation in_force w event
 
 -- what stands above the line of a `show`, by whether it is refused, since no channel has the number
 abbrev pub above_show : (Refusal → List ℕ) → Bool → List ℕ
 above_show explanation refused = if refused then indented (explanation NoChannel) else []
 
--- what stands above the line of a turn
-abbrev pub above_turn : (Refusal → List ℕ) → InForce → World → Turn → List ℕ
-above_turn explanation in_force w (turn_event event) = above_event explanation in_force w event
-above_turn explanation in_force w (Show number name) = above_show explanation (is_none (phase_at w number))
+-- what stands above the line of a turn, by what names mean
+abbrev pub above_turn_by : Meanings → (Refusal → List ℕ) → InForce → World → Turn → List ℕ
+above_turn_by meanings explanation in_force w (turn_event event) = above_event_by meanings explanation in_force w event
+above_turn_by meanings explanation in_force w (Show number name) = above_show explanation (is_none (phase_at w number))
 
--- the dialplan in force after a turn
-abbrev pub in_force_after : InForce → World → Turn → InForce
-in_force_after in_force w (turn_event event) = in_force_past in_force w event
-in_force_after in_force w (Show number name) = in_force
+-- the dialplan in force after a turn, by what names mean
+abbrev pub in_force_after_by : Meanings → InForce → World → Turn → InForce
+in_force_after_by meanings in_force w (turn_event event) = in_force_past_by meanings in_force w event
+in_force_after_by meanings in_force w (Show number name) = in_force
 
 -- what a turn makes of a verbose run and its world: what a plain run does, with more above the line of the turn
 abbrev pub verbose_turn : (Refusal → List ℕ) → InForce × World → Turn → Taken (InForce × World)
 verbose_turn explanation at turn =
     record {
-      state = (in_force_after at.0 at.1 turn, (after_turn at.1 turn).world);
-      lines = above_turn explanation at.0 at.1 turn ++ (after_turn at.1 turn).line;
+      state = (in_force_after_by standard_meanings at.0 at.1 turn, (after_turn at.1 turn).world);
+      lines = above_turn_by standard_meanings explanation at.0 at.1 turn ++ (after_turn at.1 turn).line;
       refused = (after_turn at.1 turn).refused;
     }
 

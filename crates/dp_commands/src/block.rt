@@ -39,8 +39,8 @@ impl Block {
     ghost use Rattle.std.specs.Prelude.{◌≡◌, ◌++◌, ◌||◌, ◌∷◌, [], IfOk, OnOk, OnErr};
     ghost use Rattle.dp_commands.specs.Block.{waiting};
 
-    /// A block in which nothing waits, with room for so many bytes.
-    pub(crate) fn new(alloc: Global, room: usize) -> Result<Self, NoMemory>
+    /// A block in which nothing waits, with room for so many bytes. The error comes only where a growth was refused.
+    pub fn new(alloc: Global, room: usize) -> Result<Self, NoMemory>
         ensures { IfOk result (λ block. block ≡ waiting [] []) }
     {
         let bytes = Vec::with_capacity(alloc, room)?;
@@ -71,7 +71,7 @@ impl Block {
     }
 
     /// What is begun.
-    pub(crate) fn bytes(&self) -> &[u8]
+    pub fn bytes(&self) -> &[u8]
         ensures { result.now ≡ self.now.begun }
     {
         &self.bytes[self.whole..]

@@ -45,8 +45,9 @@ fn context_name(plan: &Dialplan, number: usize) -> &[u8]
     }
 }
 
-/// Adds where the entry of the numbers stands, `CONTEXT,NAME,PRIORITY`.
-fn push_spot(out: &mut Block, plan: &Dialplan, id: EntryId) -> Result<(), NoMemory>
+/// Adds where the entry of the numbers stands, `CONTEXT,NAME,PRIORITY`, or nothing where there is none. The error comes only where a growth
+/// was refused.
+pub fn push_spot(out: &mut Block, plan: &Dialplan, id: EntryId) -> Result<(), NoMemory>
     ensures { OnOk result (out.new.begun ≡ out.old.begun ++ spec.spot_text plan.now id) }
 {
     let Some(entry) = plan.entry(id) else {
@@ -129,8 +130,12 @@ fn push_finding(out: &mut Block, plan: &Dialplan, finding: &Finding) -> Result<(
     }
 }
 
-/// Adds the line of a finding.
-fn push_finding_line(out: &mut Block, plan: &Dialplan, finding: &Finding) -> Result<(), NoMemory>
+/// Adds the line of a finding. The error comes only where a growth was refused.
+pub fn push_finding_line(
+    out: &mut Block,
+    plan: &Dialplan,
+    finding: &Finding,
+) -> Result<(), NoMemory>
     ensures { OnOk result (out.new.begun ≡ out.old.begun ++ spec.finding_line plan.now finding.now) }
 {
     push_finding(out, plan, finding)?;

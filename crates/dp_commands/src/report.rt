@@ -64,24 +64,25 @@ fn push_counts(out: &mut Block, plan: &Dialplan) -> Result<(), NoMemory>
 
 /// A dialplan that was read, and its notes. Its drop is one function, so that it is proved once, and not on each way out of all that hold
 /// one.
-pub(crate) struct Read {
-    pub(crate) plan: Dialplan,
+pub struct LoadedPlan {
+    /// The dialplan.
+    pub plan: Dialplan,
     notes: Vec<Note>,
 }
 
-impl Drop for Read {
+impl Drop for LoadedPlan {
     fn drop(self) {
-        let Read { plan: _, notes: _ } = self;
+        let LoadedPlan { plan: _, notes: _ } = self;
     }
 }
 
-/// The dialplan of a text with its notes, or its fault.
-pub(crate) fn read_plan(alloc: Global, text: &[u8]) -> Result<Read, PbxFault>
+/// The dialplan of a text with its notes, or its fault. Where memory is refused that is told in place of a fault.
+pub fn read_plan(alloc: Global, text: &[u8]) -> Result<LoadedPlan, PbxFault>
     ensures read { Answers (λ read. (read.plan, read.notes.items)) reason_of result (plan_fault (plan_and_notes text.now)) }
     ensures quiet { is_write_failed result ≡ false }
 {
     let (plan, notes) = Dialplan::load(alloc, text)?;
-    Ok(Read { plan, notes })
+    Ok(LoadedPlan { plan, notes })
 }
 
 /// Adds what is reported of a dialplan with its notes.

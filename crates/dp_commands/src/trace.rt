@@ -11,8 +11,8 @@ use dp_plan::{Context, Dialplan, Entry, NoMemory};
 use itoa::{Buffer, Integer};
 use std::alloc::Global;
 
-/// Adds a number in decimal.
-pub(crate) fn push_number<I: Integer>(out: &mut Block, number: I) -> Result<(), NoMemory>
+/// Adds a number in decimal. The error comes only where a growth was refused.
+pub fn push_number<I: Integer>(out: &mut Block, number: I) -> Result<(), NoMemory>
     ensures kept { out.new.whole ≡ out.old.whole }
     ensures ok { OnOk result (out.new.begun ≡ out.old.begun ++ I.text number) }
 {
@@ -22,6 +22,7 @@ pub(crate) fn push_number<I: Integer>(out: &mut Block, number: I) -> Result<(), 
 
 /// Adds the number of a channel or of a priority in decimal. Many have one digit.
 #[tactic(auto, using(std::proofs::lemmas::Fmt::decimal_digit))]
+#[inline(always)]
 pub fn push_short(out: &mut Block, number: u32) -> Result<(), NoMemory>
     ensures kept { out.new.whole ≡ out.old.whole }
     ensures ok { OnOk result (out.new.begun ≡ out.old.begun ++ decimal number) }

@@ -1,11 +1,14 @@
 //! Verbose runs of a dialplan by a script: above the line of a step stands which entry it runs, and above that of a refusal its
 //! explanation.
-ghost use Rattle.std.specs.Prelude.{◌≡◌, ◌++◌, ◌||◌, IfOk, OnOk, OnErr, Ok};
+ghost use Rattle.std.specs.Prelude.{◌≡◌, ◌++◌, ◌||◌, IfOk, IfErr, OnOk, OnErr, Ok, false};
 ghost use Rattle.std.specs.Option.{option_map};
-ghost use Rattle.dp_commands.specs.Faults.{is_write_failed};
-ghost use Rattle.dp_commands.specs.Run.{Run as runs, run_of_texts, status_of};
-ghost use Rattle.dp_commands.specs.Trace.{after_turn};
+ghost use Rattle.dp_app.specs.Rows.{with_functions};
+ghost use Rattle.dp_conf.specs.Answers.{Refuses};
+ghost use Rattle.dp_commands.specs.Faults.{is_write_failed, reason_of};
+ghost use Rattle.dp_commands.specs.Run.{Run as runs, plan_fault, run_of_texts, status_of};
+ghost use Rattle.dp_commands.specs.Trace.{after_turn_by};
 ghost use Rattle.dp_commands.specs.Verbose as spec;
+ghost use Rattle.dp_plan.specs.Loaded.{plan_and_notes};
 ghost use Rattle.dp_plan.specs.Lookup.{entry_at};
 
 use crate::block::Block;
@@ -17,6 +20,7 @@ use crate::script::Turn;
 use crate::taker::Taker;
 use crate::texts::RunTexts;
 use crate::trace::{push_number, push_reply, push_show};
+use dp_app::AppTable;
 use dp_conf::WriteTold;
 use dp_machine::{EntryId, Event, Machine, Refusal, Reply};
 use dp_plan::{Dialplan, NoMemory, Text};
@@ -25,12 +29,13 @@ use std::alloc::Global;
 use std::marker::{Model, PhantomData};
 
 /// The arguments of the entry that an event runs, as they are expanded now. Only a step runs an entry.
-pub(crate) fn arguments_of(
+pub(crate) fn arguments_of<A: AppTable>(
     alloc: Global,
-    machine: &mut Machine<StandardApps>,
+    machine: &mut Machine<A>,
     event: &Event,
 ) -> Result<Vec<u8>, NoMemory>
-    ensures arguments { IfOk result (λ arguments. arguments.items ≡ spec.arguments_of machine.old event.now) }
+    ensures arguments { IfOk result (λ arguments. arguments.items
+        ≡ spec.arguments_of_by (with_functions A.rows A.Functions.table) machine.old event.now) }
     ensures same { machine.new ≡ machine.old }
 {
     let Event::Step { channel } = event else {
@@ -133,6 +138,14 @@ fn push_indented(out: &mut Block, text: &[u8]) -> Result<(), NoMemory>
     Ok(())
 }
 
+/// Adds the explanation of a refusal, each of its lines indented.
+pub fn push_explanation<E: Explanations>(out: &mut Block, refusal: Refusal) -> Result<(), NoMemory>
+    ensures kept { out.new.whole ≡ out.old.whole }
+    ensures ok { OnOk result (out.new.begun ≡ out.old.begun ++ spec.indented (E.explanation_of refusal)) }
+{
+    push_indented(out, E::explanation(refusal).as_bytes())
+}
+
 /// Adds what stands above the line of a reply, by the dialplan in force and the arguments of the entry that was run.
 pub(crate) fn push_above<E: Explanations>(
     out: &mut Block,
@@ -147,7 +160,7 @@ pub(crate) fn push_above<E: Explanations>(
 {
     match reply {
         Reply::Ran(id) => push_ran_text(out, in_force, plan, arguments, id),
-        Reply::Refused(refusal) => push_indented(out, E::explanation(refusal).as_bytes()),
+        Reply::Refused(refusal) => push_explanation::<E>(out, refusal),
         Reply::Started(_) | Reply::NoEntry | Reply::Invalid | Reply::Offered { .. } | Reply::Done =>
             { Ok(()) }
     }
@@ -161,22 +174,23 @@ fn push_above_show<E: Explanations>(out: &mut Block, refused: bool) -> Result<()
     if !refused {
         return Ok(());
     }
-    push_indented(out, E::explanation(Refusal::NoChannel).as_bytes())
+    push_explanation::<E>(out, Refusal::NoChannel)
 }
 
 /// Adds the line that shows a name in a channel to what waits, and above it the explanation where that is refused. It says whether it
 /// was.
-fn take_show<E: Explanations>(
+fn take_show<E: Explanations, A: AppTable>(
     alloc: Global,
-    machine: &Machine<StandardApps>,
+    machine: &Machine<A>,
     channel: u32,
     name: &Text,
     block: &mut Block,
 ) -> Result<bool, NoMemory>
     ensures lines { OnOk result (block.new.whole ≡ block.old.whole
-        ++ (spec.above_show E.explanation_of (after_turn machine.now (Turn.Show channel name.now)).refused
-        ++ (after_turn machine.now (Turn.Show channel name.now)).line)) }
-    ensures refused { IfOk result (λ refused. refused ≡ (after_turn machine.now (Turn.Show channel name.now)).refused) }
+        ++ (spec.above_show E.explanation_of (after_turn_by (with_functions A.rows A.Functions.table) machine.now (Turn.Show channel name.now)).refused
+        ++ (after_turn_by (with_functions A.rows A.Functions.table) machine.now (Turn.Show channel name.now)).line)) }
+    ensures refused { IfOk result (λ refused. refused
+        ≡ (after_turn_by (with_functions A.rows A.Functions.table) machine.now (Turn.Show channel name.now)).refused) }
     ensures err { OnErr result (block.new.whole ≡ block.old.whole) }
 {
     let refused = machine.phase(channel).is_none();
@@ -187,30 +201,105 @@ fn take_show<E: Explanations>(
     Ok(refused)
 }
 
-/// Turns that are taken with more above their lines, which contracts see as the dialplan in force.
-struct Verbose<'a, E> {
+/// What takes the turns of a script and writes more above their lines. Contracts see it as the dialplan in force.
+pub struct VerboseTaker<'a, E> {
     in_force: PlanInForce<'a>,
     explanations: PhantomData<E>,
 }
 
-impl<'a, E> Drop for Verbose<'a, E> {
+impl<'a, E> Drop for VerboseTaker<'a, E> {
     fn drop(self) {
-        let Verbose {
+        let VerboseTaker {
             in_force: _,
             explanations: _,
         } = self;
     }
 }
 
-impl<'a, E> Model for Verbose<'a, E> {
+impl<'a, E> Model for VerboseTaker<'a, E> {
     ghost use Rattle.dp_commands.specs.Verbose.{InForce};
 
     ghost Value = { InForce };
 
-    ghost view = { λ verbose. verbose.in_force };
+    ghost view = { λ taker. taker.in_force };
 }
 
-impl<'a, E: Explanations> Taker for Verbose<'a, E> {
+impl<'a, E: Explanations> VerboseTaker<'a, E> {
+    /// Before the first turn, by the names of the files of a run's dialplans and the text of the first; or the fault of that.
+    pub fn first(alloc: Global, names: PlanNames<'a>, text: &[u8]) -> Result<Self, PbxFault>
+        ensures plan { IfOk result (λ taker. taker ≡ spec.first_in_force names.entry.plan.now
+            (option_map (λ name. name.now) names.entry.second_plan) text.now) }
+        ensures fault { IfErr result (λ fault. Refuses (reason_of fault) (plan_fault (plan_and_notes text.now))) }
+        ensures quiet { is_write_failed result ≡ false }
+    {
+        match first_in_force(alloc, names, text) {
+            Ok(in_force) => Ok(VerboseTaker {
+                in_force,
+                explanations: PhantomData,
+            }),
+            Err(fault) => Err(fault),
+        }
+    }
+
+    /// Gives the machine one event, and adds its line to what waits with more above it. It says whether the event was refused.
+    #[tactic(auto, unfolding(crate::specs::Trace::event_line_by))]
+    fn take_event<A: AppTable>(
+        &mut self,
+        alloc: Global,
+        machine: &mut Machine<A>,
+        event: &Event,
+        block: &mut Block,
+    ) -> Result<bool, NoMemory>
+        ensures lines { OnOk result (block.new.whole ≡ block.old.whole
+            ++ (spec.above_turn_by (with_functions A.rows A.Functions.table) E.explanation_of self.old machine.old (Turn.Event event.now)
+            ++ (after_turn_by (with_functions A.rows A.Functions.table) machine.old (Turn.Event event.now)).line)) }
+        ensures in_force { OnOk result (self.new
+            ≡ spec.in_force_after_by (with_functions A.rows A.Functions.table) self.old machine.old (Turn.Event event.now)) }
+        ensures world { OnOk result (machine.new ≡ (after_turn_by (with_functions A.rows A.Functions.table) machine.old (Turn.Event event.now)).world) }
+        ensures refused { IfOk result (λ refused. refused
+            ≡ (after_turn_by (with_functions A.rows A.Functions.table) machine.old (Turn.Event event.now)).refused) }
+        ensures err { OnErr result (block.new.whole ≡ block.old.whole) }
+    {
+        let arguments = arguments_of(alloc, machine, event)?;
+        let reply = machine.apply_kept(alloc, event)?;
+        let refused = reply.is_refusal();
+        self.in_force.go_on(alloc, event, refused)?;
+        block.begin_line();
+        push_above::<E>(block, &self.in_force, machine.plan(), &arguments, reply)?;
+        push_reply(block, machine, event.channel(), reply)?;
+        block.end_line()?;
+        Ok(refused)
+    }
+
+    /// Takes one turn over the machine of a table of applications, and adds its line to what waits with more above it. It says whether
+    /// the turn was refused. The error comes only where a growth was refused; then no line was added.
+    pub fn take_turn<A: AppTable>(
+        &mut self,
+        alloc: Global,
+        machine: &mut Machine<A>,
+        turn: &Turn,
+        block: &mut Block,
+    ) -> Result<bool, NoMemory>
+        ensures lines { OnOk result (block.new.whole ≡ block.old.whole
+            ++ (spec.above_turn_by (with_functions A.rows A.Functions.table) E.explanation_of self.old machine.old turn.now
+            ++ (after_turn_by (with_functions A.rows A.Functions.table) machine.old turn.now).line)) }
+        ensures in_force { OnOk result (self.new
+            ≡ spec.in_force_after_by (with_functions A.rows A.Functions.table) self.old machine.old turn.now) }
+        ensures world { OnOk result (machine.new ≡ (after_turn_by (with_functions A.rows A.Functions.table) machine.old turn.now).world) }
+        ensures refused { IfOk result (λ refused. refused
+            ≡ (after_turn_by (with_functions A.rows A.Functions.table) machine.old turn.now).refused) }
+        ensures err { OnErr result (block.new.whole ≡ block.old.whole) }
+    {
+        match turn {
+            Turn::Event(event) => self.take_event(alloc, machine, event, block),
+            Turn::Show { channel, name } => {
+                take_show::<E, A>(alloc, machine, *channel, name, block)
+            }
+        }
+    }
+}
+
+impl<'a, E: Explanations> Taker for VerboseTaker<'a, E> {
     ghost use Rattle.std.specs.Prelude.{[]};
     ghost use Rattle.dp_commands.specs.Run.{status_by};
     ghost use Rattle.dp_commands.specs.Verbose.{verbose_turn};
@@ -232,10 +321,7 @@ impl<'a, E: Explanations> Taker for Verbose<'a, E> {
         turn: &Turn,
         block: &mut Block,
     ) -> Result<bool, NoMemory> {
-        match turn {
-            Turn::Event(event) => self.take_event(alloc, machine, event, block),
-            Turn::Show { channel, name } => take_show::<E>(alloc, machine, *channel, name, block),
-        }
+        self.take_turn(alloc, machine, turn, block)
     }
 
     fn finish(&self, _block: &mut Block) -> Result<(), NoMemory> {
@@ -247,53 +333,19 @@ impl<'a, E: Explanations> Taker for Verbose<'a, E> {
     }
 }
 
-impl<'a, E: Explanations> Verbose<'a, E> {
-    /// Gives the machine one event, and adds its line to what waits with more above it. It says whether the event was refused.
-    #[tactic(auto, unfolding(crate::specs::Trace::event_line_by))]
-    fn take_event(
-        &mut self,
-        alloc: Global,
-        machine: &mut Machine<StandardApps>,
-        event: &Event,
-        block: &mut Block,
-    ) -> Result<bool, NoMemory>
-        ensures lines { OnOk result (block.new.whole ≡ block.old.whole
-            ++ (spec.verbose_turn E.explanation_of (self.old, machine.old) (Turn.Event event.now)).lines) }
-        ensures state { OnOk result ((self.new, machine.new)
-            ≡ (spec.verbose_turn E.explanation_of (self.old, machine.old) (Turn.Event event.now)).state) }
-        ensures refused { IfOk result (λ refused. refused
-            ≡ (spec.verbose_turn E.explanation_of (self.old, machine.old) (Turn.Event event.now)).refused) }
-        ensures err { OnErr result (block.new.whole ≡ block.old.whole) }
-    {
-        let arguments = arguments_of(alloc, machine, event)?;
-        let reply = machine.apply_kept(alloc, event)?;
-        let refused = reply.is_refusal();
-        self.in_force.go_on(alloc, event, refused)?;
-        block.begin_line();
-        push_above::<E>(block, &self.in_force, machine.plan(), &arguments, reply)?;
-        push_reply(block, machine, event.channel(), reply)?;
-        block.end_line()?;
-        Ok(refused)
-    }
-}
-
 /// Runs the script of the texts, whose dialplan is in force at first, and writes more above the lines.
 fn run_in_force<E: Explanations, W: WriteTold>(
     alloc: Global,
     texts: RunTexts<'_>,
-    in_force: PlanInForce<'_>,
+    taker: VerboseTaker<'_, E>,
     writer: &mut W,
 ) -> Result<u8, PbxFault>
-    ensures writes { spec.WritesVerbose E.explanation_of in_force.entry (W.contents writer.old) (W.contents writer.new)
+    ensures writes { spec.WritesVerbose E.explanation_of taker.entry (W.contents writer.old) (W.contents writer.new)
         (run_of_texts texts.entry) result }
     ensures status { IfOk result (λ status. (run : runs) → run_of_texts texts.entry ≡ Ok run → status ≡ status_of run) }
     ensures told { W.has_failed writer.new ≡ (W.has_failed writer.old || is_write_failed result) }
 {
-    let verbose: Verbose<'_, E> = Verbose {
-        in_force,
-        explanations: PhantomData,
-    };
-    run_texts(alloc, texts, verbose, writer)
+    run_texts(alloc, texts, taker, writer)
 }
 
 /// Runs a script on a dialplan with its queues as [`crate::run_script`] does, and writes more above some of the lines: above that of a
@@ -311,8 +363,8 @@ pub fn run_verbose<E: Explanations, W: WriteTold>(
     ensures status { IfOk result (λ status. (run : runs) → run_of_texts texts.entry ≡ Ok run → status ≡ status_of run) }
     ensures told { W.has_failed writer.new ≡ (W.has_failed writer.old || is_write_failed result) }
 {
-    match first_in_force(alloc, names, texts.plan) {
-        Ok(in_force) => run_in_force::<E, W>(alloc, texts, in_force, writer),
+    match VerboseTaker::<E>::first(alloc, names, texts.plan) {
+        Ok(taker) => run_in_force::<E, W>(alloc, texts, taker, writer),
         Err(fault) => Err(fault),
     }
 }

@@ -26,7 +26,7 @@ pub use escaping::{escape, push_escaped};
 pub use fault::{ConfFault, LineKind, ReadFault, WriteFailed};
 pub use first_fault::{FaultyLine, FirstFault, TakeFault};
 pub use groups::{GroupKind, Mark, next_mark, one_reading};
-pub use lines::Line;
+pub use lines::{Content, Line, line_content, opens_block, read_line, without_mark};
 pub use nest::nesting;
 pub use owning::beside;
 pub use shallow::{MOST_NESTING, ShallowText};

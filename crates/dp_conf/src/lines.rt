@@ -30,7 +30,7 @@ pub enum Line<'a> {
 
 /// What a line says before its comment.
 #[derive(Drop)]
-pub(crate) enum Content<'a> {
+pub enum Content<'a> {
     /// The bytes of the line itself.
     AsWritten(&'a [u8]),
     /// The bytes of a line that has a `\`, with each `\;` written `;`.
@@ -42,7 +42,7 @@ impl Content<'_> {
     ghost use Rattle.dp_conf.specs.Borrowed as borrowed;
 
     /// The bytes without the blanks at their ends.
-    pub(crate) fn bytes(&self) -> &[u8]
+    pub fn bytes(&self) -> &[u8]
         ensures { result.now ≡ borrowed.content_now self.now }
     {
         match self {
@@ -52,8 +52,8 @@ impl Content<'_> {
     }
 }
 
-/// The text without the byte order mark at its front.
-pub(crate) fn without_mark(text: &[u8]) -> &[u8]
+/// The text without the byte order mark `EF BB BF` at its front.
+pub fn without_mark(text: &[u8]) -> &[u8]
     ensures { result.now ≡ spec.without_mark text.now }
 {
     if text.starts_with(b"\xEF\xBB\xBF") {
@@ -82,8 +82,9 @@ fn comment_start(part: &[u8]) -> usize
     part.len()
 }
 
-/// Whether a comment, with its `;`, begins a block comment: `;--` and no third dash.
-fn opens_block(comment: &[u8]) -> bool
+/// Whether a comment, with its `;`, begins a block comment: `;--` and no third dash, after the Asterisk documentation's page on its
+/// configuration files.
+pub fn opens_block(comment: &[u8]) -> bool
     ensures { result ≡ spec.opens_block comment.now }
 {
     comment.starts_with(b";--") && !comment.starts_with(b";---")
@@ -113,6 +114,17 @@ fn plain_text(alloc: Global, before: &[u8]) -> Result<Content<'_>, AllocError>
     }
     let plain = unescape(alloc, before)?;
     Ok(Content::Unescaped(plain))
+}
+
+/// What a line of a configuration text says: what stands before its comment, without the blanks at its ends and with each `\;` written
+/// `;`.
+///
+/// A line is what stands between two line feeds. A block comment is a comment like any other here. It allocates only for a line with a
+/// `\`.
+pub fn line_content(alloc: Global, part: &[u8]) -> Result<Content<'_>, AllocError>
+    ensures { IfOk result (λ content. borrowed.content_now content ≡ spec.content_of part.now) }
+{
+    plain_text(alloc, &part[..comment_start(part)])
 }
 
 /// What a line says: what stands before its comment, without the blanks at its ends and with each `\;` written `;`.
@@ -197,7 +209,7 @@ fn read_pair(line: usize, content: &[u8]) -> Result<Line<'_>, ConfFault>
 ///
 /// A line is refused, in this order, for a bad header, a template, a directive, a pair before any header, and a missing
 /// `=`: see [`LineKind`].
-pub(crate) fn read_line(
+pub fn read_line(
     line: usize,
     in_section: bool,
     content: &[u8],

@@ -2,6 +2,7 @@ mod Reducing
 mod Completeness
 mod Soundness
 mod Making
+pub mod OverLemmas
 mod QuotientsLemmas
 pub mod Readings
 pub mod AsteriskReadings

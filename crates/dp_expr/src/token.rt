@@ -128,6 +128,7 @@ fn only(token: Token<'_>) -> TokenCut<'_>
 
 /// A mark other than a quote, before the rest.
 #[tactic(auto, unfolding(crate::specs::Tokens::mark_cut))]
+#[inline(always)]
 fn mark_cut(first: u8, rest: &[u8]) -> TokenCut<'_>
     ensures cut { cut_seen result ≡ mark_cut first rest.now }
     ensures within { result.more ≤ length rest.now }
@@ -152,6 +153,7 @@ fn mark_cut(first: u8, rest: &[u8]) -> TokenCut<'_>
 
 /// The token that begins with a byte that is no blank; the text is that byte and the rest.
 #[tactic(auto, unfolding(crate::specs::Tokens::cut_at))]
+#[inline(always)]
 fn cut_at<'a>(first: u8, rest: &'a [u8], text: &'a [u8]) -> TokenCut<'a>
     requires { text.now ≡ first ∷ rest.now }
     ensures cut { cut_seen result ≡ cut_at first rest.now }
@@ -198,6 +200,7 @@ fn skip_blanks(text: &[u8]) -> &[u8]
 }
 
 /// The first token of a text, and the text after it; none where only blanks are left.
+#[inline(always)]
 pub fn next_token(text: &[u8]) -> Option<(Token<'_>, &[u8])>
     ensures { MatchOption result (tokens_of text.now ≡ [])
         (λ next. IsNext text.now (token_seen next.0) next.1.now) }

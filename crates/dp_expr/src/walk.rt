@@ -1,9 +1,10 @@
 //! A walk over the tokens of a text, which makes its value on the way.
 
-ghost use Rattle.std.specs.Prelude.{◌≡◌, ◌≤◌, ◌∷◌, [], IfOk, None, unwrap_or};
+ghost use Rattle.std.specs.Prelude.{◌≡◌, ◌≤◌, ◌∷◌, [], IfOk, MatchOption, None, unwrap_or};
 ghost use Rattle.dp_expr.specs.Tokens.{tokens_of};
 ghost use Rattle.dp_expr.specs.steps.Texts.{value_seen};
-ghost use Rattle.dp_expr.specs.steps.Seen.{token_seen};
+ghost use Rattle.dp_expr.specs.steps.Places.{IsOver};
+ghost use Rattle.dp_expr.specs.steps.Seen.{IsNext, token_seen};
 ghost use Rattle.dp_expr.specs.Trees.{level_of};
 ghost use Rattle.dp_expr.specs.Walk.{Wanting, entry, closing_step, prefix_entry, first_step, next_step, operator_step, reduction, step, whole_of, ending, walk, values};
 ghost use Rattle.dp_expr.specs.steps.Exact.{values_by};
@@ -20,6 +21,19 @@ use crate::token::{Token, next_token};
 use crate::walk_place::WalkPlace;
 use std::alloc::{AllocError, Global};
 
+/// The next token of the text, where the walk goes on; none where only blanks are left, and after a fault, whatever follows.
+#[tactic(auto, using(crate::proofs::OverLemmas::over_failed, crate::proofs::OverLemmas::over_empty))]
+#[inline(always)]
+fn token_after<'a>(place: WalkPlace<'_>, text: &'a [u8]) -> Option<(Token<'a>, &'a [u8])>
+    ensures { MatchOption result (IsOver place.entry text.now)
+        (λ next. IsNext text.now (token_seen next.0) next.1.now) }
+{
+    match place {
+        WalkPlace::Failed => None,
+        WalkPlace::Wanting | WalkPlace::Holding(_) => next_token(text),
+    }
+}
+
 /// The value of the expression that a text holds; none for a fault.
 pub fn value(
     alloc: Global,
@@ -32,7 +46,7 @@ pub fn value(
     let mut stack = Stack::new(alloc);
     let mut place = WalkPlace::Wanting;
     let mut rest = text;
-    while let Some((token, after)) = next_token(rest) {
+    while let Some((token, after)) = token_after(place, rest) {
         place = step(&mut stack, place, token, division)?;
         rest = after;
     }

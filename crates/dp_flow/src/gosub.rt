@@ -121,6 +121,7 @@ fn enter(
 }
 
 /// A subroutine is entered by the parts of its target. After a refused growth the cell is as before.
+#[inline(always)]
 fn enter_by_parts(alloc: Global, parts: &[&[u8]], cell: &mut Cell) -> Result<Move, NoMemory>
     requires { cell.old.place.now.priority ≤ most_priority }
     ensures ok { IfOk result (λ going. spec.gosub_parts (map (λ part. part.now) parts.now) (cell_now cell.old)

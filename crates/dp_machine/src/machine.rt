@@ -68,6 +68,7 @@ impl<T> Model for Machine<T> {
 }
 
 /// An event of the channel.
+#[inline(always)]
 fn answer_to<T: AppTable>(
     alloc: Global,
     exchange: &mut Exchange,
@@ -95,6 +96,7 @@ fn answer_to<T: AppTable>(
 }
 
 /// An event of the channel of a number.
+#[inline(always)]
 fn ask<T: AppTable>(
     alloc: Global,
     exchange: &mut Exchange,
@@ -116,6 +118,7 @@ fn ask<T: AppTable>(
 }
 
 /// Applies one event to an exchange and its channels. The texts of a call that comes in are copied.
+#[inline(always)]
 fn apply_kept_to<T: AppTable>(
     alloc: Global,
     exchange: &mut Exchange,
@@ -264,6 +267,7 @@ impl<T: AppTable> Machine<T> {
     }
 
     /// Applies one event that is kept, as `apply` does: the texts of a call that comes in are copied, and no others.
+    #[inline(always)]
     pub fn apply_kept(&mut self, alloc: Global, event: &Event) -> Result<Reply, NoMemory>
         ensures ok { IfOk result (λ reply. spec.event_row (with_functions T.rows T.Functions.table) self.old event.now ≡ (self.new, reply)) }
         ensures unchanged { IfOk result (λ reply. spec.is_refused reply ≡ true → self.new ≡ self.old) }

@@ -229,6 +229,7 @@ fn step_ready<T: AppTable>(
 
 /// A step of the channel of this number. One that is not ready takes none.
 #[tactic(auto, unfolding(crate::specs::Events::step_row))]
+#[inline(always)]
 pub(crate) fn step_channel<T: AppTable>(
     alloc: Global,
     exchange: &mut Exchange,

@@ -23,6 +23,7 @@ fn target_priority(number: u64) -> Option<u32>
 }
 
 /// The priority that the text asks for at the extension of the context, where it asks for one.
+#[inline(always)]
 fn priority_of(plan: &mut Directory, context: &Text, exten: &[u8], text: &[u8]) -> Option<u32>
     ensures priority { result ≡ spec.priority_of plan.old context.now exten.now text.now }
     ensures same { plan.new ≡ plan.old }

@@ -54,7 +54,11 @@ fn push_call(
     let started = machine.apply(alloc, call_to(alloc, "105")?)?;
     let first = machine.apply(alloc, Event::Step { channel: 1 })?;
     let second = machine.apply(alloc, Event::Step { channel: 1 })?;
-    write!(out, "{started:?}\n{first:?}\n{second:?}\n{:?}\n", machine.phase(1))?;
+    write!(
+        out,
+        "{started:?}\n{first:?}\n{second:?}\n{:?}\n",
+        machine.phase(1)
+    )?;
     Ok(())
 }
 

@@ -18,5 +18,6 @@ mod NumberingLemmas
 mod PlaceLemmas
 mod PositionLemmas
 pub mod RankingLemmas
+mod SiftingLemmas
 mod TableLemmas
 mod cases

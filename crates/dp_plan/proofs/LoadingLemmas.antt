@@ -62,14 +62,14 @@ Refuses-text text before conf_no_memory refused = tt
 -- ---- items
 
 -- what some items make
-abbrev made_by : List Item → MadeOf
+abbrev pub made_by : List Item → MadeOf
 made_by items = fold after_item unmade items
 
-made_by-append : (before items : List Item) → fold after_item (made_by before) items ≡ made_by (before ++ items)
+pub made_by-append : (before items : List Item) → fold after_item (made_by before) items ≡ made_by (before ++ items)
 made_by-append before items = sym (fold-append after_item unmade before items)
 
 -- what they leave for the next line is their history
-made_by-history : (before : List Item) → history_in (made_by before).reading ≡ history_of before
+pub made_by-history : (before : List Item) → history_in (made_by before).reading ≡ history_of before
 made_by-history before = ap history_in (reading-items unmade before) ∙ history_kept before
 
 abbrev made_of_items : List Item → Result (List Item) LoadFault → State

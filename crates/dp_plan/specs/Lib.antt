@@ -1,3 +1,4 @@
+pub mod AllFaults
 pub mod Codes
 pub mod Contexts
 pub mod EntryLine

@@ -9,4 +9,5 @@ pub mod Open
 pub mod Places
 pub mod Reader
 pub mod SharedName
+pub mod Sifting
 pub mod Table

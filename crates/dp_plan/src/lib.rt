@@ -1,6 +1,7 @@
 //! Loads a dialplan: its global variables, and its contexts with their entries.
 #![tactic(auto)]
 
+mod all_faults;
 mod application;
 mod context;
 mod context_name;
@@ -29,6 +30,7 @@ mod shared_name;
 mod shared_text;
 mod taken_places;
 
+pub use all_faults::{plan_faults, show_faultless_lines_stand_alone, show_faults_decide_loading};
 pub use context::Context;
 pub use dp_conf::{ConfFault, LineKind, NoMemory, ShallowText, Text};
 pub use dp_pattern::{Name, NameFault};

@@ -5,7 +5,7 @@ ghost use Rattle.dp_plan.specs.EntryLine.{exten_entry, same_entry};
 ghost use Rattle.dp_plan.specs.Extensions.{extension_of};
 ghost use Rattle.dp_plan.specs.Item.{Adds};
 ghost use Rattle.dp_plan.specs.Items as items;
-ghost use Rattle.dp_plan.specs.steps.ItemFaults.{item_reason};
+ghost use Rattle.dp_plan.specs.steps.ItemFaults.{AtRefusal, item_reason};
 ghost use Rattle.dp_plan.specs.steps.Loading as spec;
 ghost use Rattle.dp_plan.specs.steps.Open.{IsOpen, history_at};
 ghost use Rattle.dp_plan.specs.steps.Table.{HasNumber};
@@ -50,8 +50,9 @@ impl Lines {
         key: &[u8],
         value: &[u8],
     ) -> Result<(), ItemFault>
-        ensures { Answers (λ done. spec.made_in OpenSection.Variables self.new) item_reason result
+        ensures read { Answers (λ done. spec.made_in OpenSection.Variables self.new) item_reason result
             (spec.after_read (spec.made_in OpenSection.Variables self.old) (items.global_item line key.now value.now)) }
+        ensures kept { AtRefusal (spec.made_in OpenSection.Variables self.new ≡ spec.made_in OpenSection.Variables self.old) result }
     {
         if key.is_empty() {
             self.draft.note(line, NoteKind::UnknownKey)?;
@@ -103,6 +104,8 @@ impl Lines {
         ensures read { Answers (λ done. spec.made_in (OpenSection.Entries context.new) self.new) item_reason result
             (spec.after_read (spec.made_in (OpenSection.Entries context.old) self.old) (items.entry_item context.old.name line
             (exten_entry (history_at context.old self.old.reader) line context.old.name value.now))) }
+        ensures kept { AtRefusal (spec.made_in (OpenSection.Entries context.new) self.new
+            ≡ spec.made_in (OpenSection.Entries context.old) self.old) result }
         ensures opened { IsOpen self.new.draft.names self.new.reader context.new }
     {
         let read = read_exten(alloc, &mut self.reader, context, line, value)?;
@@ -123,6 +126,8 @@ impl Lines {
         ensures read { Answers (λ done. spec.made_in (OpenSection.Entries context.new) self.new) item_reason result
             (spec.after_read (spec.made_in (OpenSection.Entries context.old) self.old) (items.entry_item context.old.name line
             (same_entry (history_at context.old self.old.reader) line context.old.name value.now))) }
+        ensures kept { AtRefusal (spec.made_in (OpenSection.Entries context.new) self.new
+            ≡ spec.made_in (OpenSection.Entries context.old) self.old) result }
         ensures opened { IsOpen self.new.draft.names self.new.reader context.new }
     {
         let read = read_same(alloc, &mut self.reader, context, line, value)?;
@@ -143,6 +148,8 @@ impl Lines {
         ensures read { Answers (λ done. spec.made_in (OpenSection.Entries context.now) self.new) item_reason result
             (spec.after_read (spec.made_in (OpenSection.Entries context.now) self.old)
             (items.include_item line context.now.name name.now)) }
+        ensures kept { AtRefusal (spec.made_in (OpenSection.Entries context.now) self.new
+            ≡ spec.made_in (OpenSection.Entries context.now) self.old) result }
         ensures opened { IsOpen self.new.draft.names self.new.reader context.now }
     {
         if name.contains(&b',') {
@@ -164,6 +171,8 @@ impl Lines {
         ensures read { Answers (λ done. spec.made_in (OpenSection.Entries context.now) self.new) item_reason result
             (spec.after_read (spec.made_in (OpenSection.Entries context.now) self.old)
             (items.other_item line (items.refused_key key.now))) }
+        ensures kept { AtRefusal (spec.made_in (OpenSection.Entries context.now) self.new
+            ≡ spec.made_in (OpenSection.Entries context.now) self.old) result }
         ensures opened { IsOpen self.new.draft.names self.new.reader context.now }
     {
         match refused_key(key) {
@@ -190,6 +199,8 @@ impl Lines {
         ensures read { Answers (λ done. spec.made_in (OpenSection.Entries context.new) self.new) item_reason result
             (spec.after_read (spec.made_in (OpenSection.Entries context.old) self.old)
             (items.context_item (history_at context.old self.old.reader) context.old.name line key.now value.now)) }
+        ensures kept { AtRefusal (spec.made_in (OpenSection.Entries context.new) self.new
+            ≡ spec.made_in (OpenSection.Entries context.old) self.old) result }
         ensures opened { IsOpen self.new.draft.names self.new.reader context.new }
     {
         if same_word(key, b"exten") {

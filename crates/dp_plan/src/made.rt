@@ -4,7 +4,7 @@ ghost use Rattle.dp_conf.specs.Answers.{Answers};
 ghost use Rattle.dp_conf.specs.Borrowed.{line_now};
 ghost use Rattle.dp_plan.specs.Item.{Begins};
 ghost use Rattle.dp_plan.specs.Items as items;
-ghost use Rattle.dp_plan.specs.steps.ItemFaults.{item_reason};
+ghost use Rattle.dp_plan.specs.steps.ItemFaults.{AtRefusal, item_reason};
 ghost use Rattle.dp_plan.specs.steps.Loading as spec;
 ghost use Rattle.dp_plan.specs.steps.Reader.{history_in};
 
@@ -76,8 +76,9 @@ impl Made {
         key: &[u8],
         value: &[u8],
     ) -> Result<(), ItemFault>
-        ensures { Answers (λ done. self.new) item_reason result (spec.after_items self.old
+        ensures taken { Answers (λ done. self.new) item_reason result (spec.after_items self.old
             (items.pair_item (history_in self.old.reading) self.old.reading.section line key.now value.now)) }
+        ensures kept { AtRefusal (self.new ≡ self.old) result }
     {
         match &mut self.section {
             OpenSection::Settings => Ok(()),
@@ -86,9 +87,10 @@ impl Made {
         }
     }
 
-    /// Takes a line.
+    /// Takes a line. One that is refused leaves everything as it was.
     pub(crate) fn take(&mut self, alloc: Global, line: Line<'_>) -> Result<(), ItemFault>
-        ensures { Answers (λ done. self.new) item_reason result (spec.after_line self.old (line_now line.entry)) }
+        ensures taken { Answers (λ done. self.new) item_reason result (spec.after_line self.old (line_now line.entry)) }
+        ensures kept { AtRefusal (self.new ≡ self.old) result }
     {
         match line {
             Line::Header { line: _, name } => {

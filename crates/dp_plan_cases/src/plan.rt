@@ -1,5 +1,6 @@
 //! Dialplans and how they load, worked out by hand from the rules.
 pub(crate) mod cuts;
+pub(crate) mod every_fault;
 pub(crate) mod faults;
 pub(crate) mod includes;
 pub(crate) mod labels;
@@ -14,6 +15,7 @@ pub(crate) mod render;
 pub(crate) mod rows;
 
 use crate::plan::cuts::Fronts;
+use crate::plan::every_fault::EveryFault;
 use crate::plan::render::Loads;
 use dp_case_tables::{check, check_all};
 use std::alloc::Global;
@@ -78,4 +80,9 @@ fn texts_load_so(rt: HostRuntime) -> Result<(), Fail> {
 #[test]
 fn fronts_load_or_have_a_fault_of_their_last_line(rt: HostRuntime) -> Result<(), Fail> {
     check::<Fronts>(rt.alloc(), cuts::CUT)
+}
+
+#[test]
+fn texts_have_these_faults(rt: HostRuntime) -> Result<(), Fail> {
+    check::<EveryFault>(rt.alloc(), every_fault::EVERY)
 }

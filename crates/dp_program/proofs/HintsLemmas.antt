@@ -15,7 +15,9 @@ use Rattle.dp_program.specs.Hints.{audit_hint_of, match_hint_of}
 use Rattle.dp_program.specs.Requests.{LookupOf}
 use Rattle.dp_program.specs.Serves.{look_up}
 use Rattle.dp_program.proofs.ReadsLemmas.{by_reason}
-use Rattle.dp_program.proofs.ServesLemmas.{audits_lacks, reports_lacks}
+use Rattle.dp_wide_runs.specs.Kinds.{ChoiceOf}
+use Rattle.dp_wide_runs.specs.WideAudits.{WritesChoice, plan_of}
+use Rattle.dp_program.proofs.ServesLemmas.{audits_lacks, choices_lacks, reports_lacks}
 
 -- what is refused for one thing of a dialplan is refused for another
 same_refused : {X Y Z : Type 0} (read : Result Z LoadFault) (next : Z → X) (other : Z → Y) (fault : PbxFault)
@@ -31,6 +33,12 @@ pub audit_hint_refused : (old : Option (List ℕ)) (file plan : List ℕ) (fault
 unfolding audit_of audit_hint_of
 audit_hint_refused old file plan fault refused =
     by_reason (λ fault given. WritesAudit old old given (Err fault)) (λ code line. (Appends-nil old, refl)) (audits_lacks old) fault (audit_of plan) (same_refused (plan_and_notes plan) _ _ fault refused)
+
+pub choice_hint_refused : (choice : ChoiceOf) (old : Option (List ℕ)) (file plan : List ℕ) (fault : PbxFault) → Refuses (reason_of fault) (audit_hint_of file plan)
+    → WritesChoice choice old old (plan_of plan) (Err fault)
+unfolding plan_of audit_hint_of
+choice_hint_refused choice old file plan fault refused =
+    by_reason (λ fault given. WritesChoice choice old old given (Err fault)) (λ code line. (Appends-nil old, refl)) (choices_lacks choice old) fault (plan_of plan) (same_refused (plan_and_notes plan) _ _ fault refused)
 
 look_up_refused_by : (lookup : LookupOf) (all explains : Bool) (plan : List ℕ) (fault : PbxFault) → Refuses (reason_of fault) (match_hint_of lookup explains plan) → Refuses (reason_of fault) (look_up lookup all plan)
 unfolding match_of match_all_of match_hint_of

@@ -16,14 +16,17 @@ use Rattle.dp_program.specs.Faulted.{StandsIn, in_none, nowhere, place_by, place
 use Rattle.dp_program.specs.Files.{Source, Reads}
 use Rattle.dp_program.specs.Hints.{Tells, audit_hint_of, match_hint_of, status_in}
 use Rattle.dp_program.specs.Reaches.{Reaches, place_of_files}
-use Rattle.dp_program.specs.Requests.{RequestOf, LookupOf, QuestionOf, joined, check, check_queues, check_both, listing, auditing, matching, explaining, run, run_wide, debug, reaching}
+use Rattle.dp_program.specs.Requests.{RequestOf, LookupOf, QuestionOf, joined, check, check_queues, check_both, listing, auditing, auditing_by, matching, explaining, run, run_wide, debug, reaching}
 use Rattle.dp_program.specs.Entries.{explanation_of}
-use Rattle.dp_program.specs.Serves.{AuditsFile, ChecksBoth, DebugsAsked, DebugsFiles, DebugsFilesVerbosely, DebugsVerbosely, LooksUp, ReportsOn, Runs, RunsAsked, RunsFiles, RunsFilesVerbosely, RunsFilesWide, RunsVerbosely, RunsWide, Serves, SharesSome, debug_of_texts, in_force_at_first, look_up, run_of_texts, wide_run_of_texts}
+use Rattle.dp_program.specs.Serves.{AuditsFile, AuditsFileBy, ChecksBoth, DebugsAsked, DebugsFiles, DebugsFilesVerbosely, DebugsVerbosely, LooksUp, ReportsOn, Runs, RunsAsked, RunsFiles, RunsFilesVerbosely, RunsFilesWide, RunsVerbosely, RunsWide, Serves, SharesSome, debug_of_texts, in_force_at_first, look_up, run_of_texts, wide_run_of_texts, RunsFilesWideVerbosely, RunsTextsWideVerbosely, RunsWideAsked, RunsWideVerbosely}
 use Rattle.dp_program.specs.Texts.{OfRun, ReadsTexts, all_texts, some_text, sources_of}
 use Rattle.dp_program.specs.declared.faulted.Faulted.{Faulted}
 use Rattle.dp_program.specs.declared.faulted.Unread.{Unread}
 use Rattle.dp_program.specs.declared.hints.Served.{Served}
+use Rattle.dp_plan.specs.Plan.{PlanOf}
+use Rattle.dp_wide_runs.specs.Kinds.{ChoiceOf}
 use Rattle.dp_wide_runs.specs.Runs.{WideRun}
+use Rattle.dp_wide_runs.specs.WideAudits.{WritesChoice, plan_of}
 use Rattle.dp_program.proofs.ReadsLemmas.{IsUnread, by_reason, Reads-any, Reads-weaker, ReadsSome-any, ReadsTexts-any, ReadsTexts-weaker}
 
 -- where memory is refused before anything was written
@@ -34,6 +37,10 @@ reports_lacks old (Err fault) = Appends-nil old
 pub audits_lacks : (old : Option (List ℕ)) (given : Result Audited PbxFault) → WritesAudit old old given (Err NoMemory)
 audits_lacks old (Ok report) = Appends-nil old
 audits_lacks old (Err fault) = Appends-nil old
+
+pub choices_lacks : (choice : ChoiceOf) (old : Option (List ℕ)) (given : Result PlanOf PbxFault) → WritesChoice choice old old given (Err NoMemory)
+choices_lacks choice old (Ok plan) = Appends-nil old
+choices_lacks choice old (Err fault) = Appends-nil old
 
 writes_lacks : (old : Option (List ℕ)) (given : Result Run PbxFault) → Writes old old given (Err NoMemory)
 writes_lacks old (Ok ran) = record { count = 0; within = omega arith; written = Appends-nil old }
@@ -65,6 +72,15 @@ debugs_verbosely_lacks : (paths : OfRun (List ℕ)) (held : List ℕ) (old : Opt
 debugs_verbosely_lacks paths held old (Ok texts) = verbose_debug_lacks (in_force_at_first paths texts) old (debug_of_texts held texts)
 debugs_verbosely_lacks paths held old (Err fault) = Appends-nil old
 
+wide_verbose_lacks : (in_force : InForce) (old : Option (List ℕ)) (given : Result WideRun PbxFault) → RunsWideVerbosely in_force old old given (Err NoMemory)
+wide_verbose_lacks in_force old (Ok ran) = (record { count = 0; within = omega arith; written = Appends-nil old }, tt, tt)
+wide_verbose_lacks in_force old (Err fault) = (Appends-nil old, tt, tt)
+
+runs_wide_verbosely_lacks : (paths : OfRun (List ℕ)) (old : Option (List ℕ)) (texts : Result (OfRun (List ℕ)) PbxFault)
+    → RunsTextsWideVerbosely paths old old texts (Err NoMemory)
+runs_wide_verbosely_lacks paths old (Ok texts) = wide_verbose_lacks (in_force_at_first paths texts) old (wide_run_of_texts texts)
+runs_wide_verbosely_lacks paths old (Err fault) = Appends-nil old
+
 shares_lacks : (count : ℕ) (old : Option (List ℕ)) (given : Result Run PbxFault) → SharesSome count old old given (Err NoMemory)
 shares_lacks count old (Ok ran) = inl (Appends-nil old, refl)
 shares_lacks count old (Err fault) = Appends-nil old
@@ -87,6 +103,11 @@ audits_refused : (old : Option (List ℕ)) (fault : PbxFault) (text : Result (Li
     → Refuses (reason_of fault) text → WritesAudit old old (text >>= audit_of) (Err fault)
 audits_refused old =
     by_reason (λ fault text. WritesAudit old old (text >>= audit_of) (Err fault)) (λ code line. (Appends-nil old, refl)) (λ text. audits_lacks old (text >>= audit_of))
+
+choices_refused : (choice : ChoiceOf) (old : Option (List ℕ)) (fault : PbxFault) (text : Result (List ℕ) PbxFault)
+    → Refuses (reason_of fault) text → WritesChoice choice old old (text >>= plan_of) (Err fault)
+choices_refused choice old =
+    by_reason (λ fault text. WritesChoice choice old old (text >>= plan_of) (Err fault)) (λ code line. (Appends-nil old, refl)) (λ text. choices_lacks choice old (text >>= plan_of))
 
 pub writes_refused : {X : Type 0} (old : Option (List ℕ)) (next : X → Result Run PbxFault) (fault : PbxFault) (text : Result X PbxFault)
     → Refuses (reason_of fault) text → Writes old old (text >>= next) (Err fault)
@@ -112,6 +133,12 @@ debugs_verbosely_refused : (paths : OfRun (List ℕ)) (held : List ℕ) (old : O
     → Refuses (reason_of fault) texts → DebugsVerbosely paths held old old texts (Err fault)
 debugs_verbosely_refused paths held old =
     by_reason (λ fault texts. DebugsVerbosely paths held old old texts (Err fault)) (λ code line. (Appends-nil old, refl)) (λ texts. debugs_verbosely_lacks paths held old texts)
+
+runs_wide_verbosely_refused : (paths : OfRun (List ℕ)) (old : Option (List ℕ)) (fault : PbxFault) (texts : Result (OfRun (List ℕ)) PbxFault)
+    → Refuses (reason_of fault) texts → RunsTextsWideVerbosely paths old old texts (Err fault)
+runs_wide_verbosely_refused paths old =
+    by_reason (λ fault texts. RunsTextsWideVerbosely paths old old texts (Err fault)) (λ code line. (Appends-nil old, refl))
+    (λ texts. runs_wide_verbosely_lacks paths old texts)
 
 shares_refused : {X : Type 0} (count : ℕ) (old : Option (List ℕ)) (next : X → Result Run PbxFault) (fault : PbxFault) (text : Result X PbxFault)
     → Refuses (reason_of fault) text → SharesSome count old old (text >>= next) (Err fault)
@@ -188,6 +215,17 @@ audit_refused path file old unread at reads =
       tt,
     )) reads
 
+pub choice_refused : (choice : ChoiceOf) (path : List ℕ) (file : Source) (old : Option (List ℕ)) (unread : Unread) → unread.path.now ≡ path
+    → Reads file (λ text. Refuses (reason_of unread.fault) text) → AuditsFileBy choice path file old old (Err (unread_fault unread))
+choice_refused choice path file old unread at reads =
+    Reads-weaker (λ text. Refuses (reason_of unread.fault) text)
+    (λ text. WritesChoice choice old old (text >>= plan_of) (Err unread.fault) × (place_of (place_unread unread unread.fault) ≡ place_of_report path text unread.fault) × Unit {0})
+    (λ text refused. (
+      choices_refused choice old unread.fault text refused,
+      unread_stands unread unread.fault ∙ (ap (λ path. unread_place path unread.fault) at ∙ refused_report_place path unread.fault text refused),
+      tt,
+    )) reads
+
 pub look_up_refused : (lookup : LookupOf) (file : Source) (all explains : Bool) (old : Option (List ℕ)) (unread : Unread) → unread.path.now ≡ lookup.file
     → Reads file (λ text. Refuses (reason_of unread.fault) text) → LooksUp lookup file all explains old old (Err (unread_fault unread))
 look_up_refused lookup file all explains old unread at reads =
@@ -225,6 +263,19 @@ audit_read path file old new read given asked given-is asked-is result answered 
     (λ text. WritesAudit old new (text >>= audit_of) (status_in (without_place answered)) × StandsIn (place_of_report path text) answered × Tells (text >>= audit_hint_of path) answered)
     (λ text is. subst (λ (text : Result (List ℕ) PbxFault). WritesAudit old new (text >>= audit_of) (status_in (without_place answered)) × StandsIn (place_of_report path text) answered × Tells (text >>= audit_hint_of path) answered) (sym is) (
       subst (λ result. WritesAudit old new (audit_of read) (status_in result)) (sym same) (subst (λ (text : List ℕ). WritesAudit old new (audit_of text) (status_in result)) given-is audits),
+      subst (λ (text : List ℕ). StandsIn (place_in_file path text) answered) asked-is stands,
+      tells_same (audit_hint_of path read) result answered same (subst (λ (text : List ℕ). Tells (audit_hint_of path text) result) given-is tells),
+    )) reads
+
+pub choice_read : (choice : ChoiceOf) (path : List ℕ) (file : Source) (old new : Option (List ℕ)) (read given asked : List ℕ)
+    → given ≡ read → asked ≡ read → (result : Result Served PbxFault) (answered : Result Served Faulted) → Reads file (λ text. text ≡ Ok read)
+    → without_place answered ≡ result → WritesChoice choice old new (plan_of given) (status_in result) → StandsIn (place_in_file path asked) answered
+    → Tells (audit_hint_of path given) result → AuditsFileBy choice path file old new answered
+choice_read choice path file old new read given asked given-is asked-is result answered reads same audits stands tells =
+    Reads-weaker (λ text. text ≡ Ok read)
+    (λ text. WritesChoice choice old new (text >>= plan_of) (status_in (without_place answered)) × StandsIn (place_of_report path text) answered × Tells (text >>= audit_hint_of path) answered)
+    (λ text is. subst (λ (text : Result (List ℕ) PbxFault). WritesChoice choice old new (text >>= plan_of) (status_in (without_place answered)) × StandsIn (place_of_report path text) answered × Tells (text >>= audit_hint_of path) answered) (sym is) (
+      subst (λ result. WritesChoice choice old new (plan_of read) (status_in result)) (sym same) (subst (λ (text : List ℕ). WritesChoice choice old new (plan_of text) (status_in result)) given-is audits),
       subst (λ (text : List ℕ). StandsIn (place_in_file path text) answered) asked-is stands,
       tells_same (audit_hint_of path read) result answered same (subst (λ (text : List ℕ). Tells (audit_hint_of path text) result) given-is tells),
     )) reads
@@ -325,6 +376,16 @@ run_verbose_refused paths sources old unread reads =
       unread_stands unread unread.fault ∙ (is.1 ∙ refused_place_by paths (unread_path paths read) unread.fault (all_texts read) is.0),
     )) reads
 
+pub run_wide_verbose_refused : (paths : OfRun (List ℕ)) (sources : OfRun Source) (old : Option (List ℕ)) (unread : Unread)
+    → ReadsTexts sources (IsUnread paths unread.path.now unread.fault) → RunsFilesWideVerbosely paths sources old old (Err (unread_fault unread))
+run_wide_verbose_refused paths sources old unread reads =
+    ReadsTexts-weaker sources (IsUnread paths unread.path.now unread.fault)
+    (λ read. RunsTextsWideVerbosely paths old old (all_texts read) (Err unread.fault) × (place_of (place_unread unread unread.fault) ≡ place_of_run paths read unread.fault))
+    (λ read is. (
+      runs_wide_verbosely_refused paths old unread.fault (all_texts read) is.0,
+      unread_stands unread unread.fault ∙ (is.1 ∙ refused_place_by paths (unread_path paths read) unread.fault (all_texts read) is.0),
+    )) reads
+
 pub debug_verbose_refused : (paths : OfRun (List ℕ)) (sources : OfRun Source) (held : List ℕ) (old : Option (List ℕ)) (unread : Unread)
     → ReadsTexts sources (IsUnread paths unread.path.now unread.fault) → DebugsFilesVerbosely paths sources held old old (Err (unread_fault unread))
 debug_verbose_refused paths sources held old unread reads =
@@ -375,6 +436,16 @@ run_verbose_read paths sources old new texts result answered reads same runs sta
     (λ read is. subst (λ (joined : Result (OfRun (List ℕ)) PbxFault). RunsVerbosely paths old new joined (without_place answered) × StandsIn (place_by paths (unread_path paths read) joined) answered) (sym is.0)
     (subst (λ result. WritesVerbose explanation_of (in_force_at_first paths texts) old new (run_of_texts texts) result) (sym same) runs, stands)) reads
 
+pub run_wide_verbose_read : (paths : OfRun (List ℕ)) (sources : OfRun Source) (old new : Option (List ℕ)) (texts : OfRun (List ℕ))
+    (result : Result ℕ PbxFault) (answered : Result ℕ Faulted) → ReadsTexts sources (λ read. (all_texts read ≡ Ok texts) × Unit {0}) → without_place answered ≡ result
+    → RunsWideVerbosely (in_force_at_first paths texts) old new (wide_run_of_texts texts) result → StandsIn (place_in_files paths texts) answered
+    → RunsFilesWideVerbosely paths sources old new answered
+run_wide_verbose_read paths sources old new texts result answered reads same runs stands =
+    ReadsTexts-weaker sources (λ read. (all_texts read ≡ Ok texts) × Unit {0})
+    (λ read. RunsTextsWideVerbosely paths old new (all_texts read) (without_place answered) × StandsIn (place_of_run paths read) answered)
+    (λ read is. subst (λ (joined : Result (OfRun (List ℕ)) PbxFault). RunsTextsWideVerbosely paths old new joined (without_place answered) × StandsIn (place_by paths (unread_path paths read) joined) answered) (sym is.0)
+    (subst (λ result. RunsWideVerbosely (in_force_at_first paths texts) old new (wide_run_of_texts texts) result) (sym same) runs, stands)) reads
+
 pub debug_verbose_read : (paths : OfRun (List ℕ)) (sources : OfRun Source) (held : List ℕ) (old new : Option (List ℕ)) (texts : OfRun (List ℕ))
     (result : Result ℕ PbxFault) (answered : Result ℕ Faulted) → ReadsTexts sources (λ read. (all_texts read ≡ Ok texts) × Unit {0}) → without_place answered ≡ result
     → WritesVerboseDebug explanation_of (in_force_at_first paths texts) old new (debug_of_texts held texts) result → StandsIn (place_in_files paths texts) answered
@@ -395,6 +466,13 @@ run_wide_lacks : (paths : OfRun (List ℕ)) (sources : OfRun Source) (old : Opti
 run_wide_lacks paths sources old =
     ReadsTexts-any sources (λ read. RunsWide old old (all_texts read >>= wide_run_of_texts) (Err NoMemory) × (in_none ≡ place_of_run paths read NoMemory))
     (λ read. (wide_lacks old (all_texts read >>= wide_run_of_texts), lacks_place_by paths (unread_path paths read) (all_texts read)))
+
+run_wide_asked_lacks : (paths : OfRun (List ℕ)) (sources : OfRun Source) (is_verbose : Bool) (old : Option (List ℕ))
+    → RunsWideAsked paths sources is_verbose old old (Err (nowhere NoMemory))
+run_wide_asked_lacks paths sources true old =
+    ReadsTexts-any sources (λ read. RunsTextsWideVerbosely paths old old (all_texts read) (Err NoMemory) × (in_none ≡ place_of_run paths read NoMemory))
+    (λ read. (runs_wide_verbosely_lacks paths old (all_texts read), lacks_place_by paths (unread_path paths read) (all_texts read)))
+run_wide_asked_lacks paths sources false old = run_wide_lacks paths sources old
 
 run_asked_lacks : (paths : OfRun (List ℕ)) (sources : OfRun Source) (threads : Option ℕ) (is_verbose : Bool) (old : Option (List ℕ))
     → RunsAsked paths sources threads is_verbose old old (Err (nowhere NoMemory))
@@ -422,10 +500,12 @@ Serves-lacks files input (check_both file queues) explains old =
     (Reads-any (files file) _ (λ plan. Reads-any (files queues) _ (λ held. (reports_lacks old _, lacks_two_place file queues plan held))), tt)
 Serves-lacks files input (listing file) explains old = (Reads-any (files file) _ (λ text. (reports_lacks old _, lacks_report_place file text)), tt)
 Serves-lacks files input (auditing file) explains old = Reads-any (files file) _ (λ text. (audits_lacks old _, lacks_report_place file text, tt))
+Serves-lacks files input (auditing_by file choice) explains old =
+    Reads-any (files file) _ (λ text. (choices_lacks choice old _, lacks_report_place file text, tt))
 Serves-lacks files input (matching lookup all) explains old = Reads-any (files lookup.file) _ (λ text. (reports_lacks old _, lacks_report_place lookup.file text, tt))
 Serves-lacks files input (explaining fault) explains old = ((Appends-nil old, refl), tt)
 Serves-lacks files input (run paths threads is_verbose) explains old = (run_asked_lacks paths (sources_of files paths) threads is_verbose old, tt)
-Serves-lacks files input (run_wide paths) explains old = (run_wide_lacks paths (sources_of files paths) old, tt)
+Serves-lacks files input (run_wide paths is_verbose) explains old = (run_wide_asked_lacks paths (sources_of files paths) is_verbose old, tt)
 Serves-lacks files input (debug paths held is_verbose) explains old = (debug_asked_lacks paths (sources_of files paths) held is_verbose old, tt)
 Serves-lacks files input (reaching question) explains old =
     Reads-any (files question.file) _ (λ plan. ReadsSome-any (option_map files question.queues) _ (λ queues. (

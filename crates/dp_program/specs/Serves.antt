@@ -17,11 +17,14 @@ use Rattle.dp_program.specs.Faulted.{StandsIn, in_none, place_of_report, place_o
 use Rattle.dp_program.specs.Files.{Source, Reads, has_read_failed}
 use Rattle.dp_program.specs.Hints.{Tells, TellsNothing, audit_hint_of, match_hint_of, status_in}
 use Rattle.dp_program.specs.Reaches.{ReachesFiles}
-use Rattle.dp_program.specs.Requests.{RequestOf, LookupOf, joined, check, check_queues, check_both, listing, auditing, matching, explaining, run, run_wide, debug, reaching}
+use Rattle.dp_program.specs.Requests.{RequestOf, LookupOf, joined, check, check_queues, check_both, listing, auditing, auditing_by, matching, explaining, run, run_wide, debug, reaching}
 use Rattle.dp_program.specs.Texts.{OfRun, ReadsTexts, all_texts, sources_of}
 use Rattle.dp_program.specs.declared.faulted.Faulted.{Faulted}
 use Rattle.dp_program.specs.declared.hints.Served.{Served}
+use Rattle.dp_wide_runs.specs.Kinds.{ChoiceOf}
 use Rattle.dp_wide_runs.specs.Runs.{IsPlain, WideRun, WritesWide, run_of as wide_run_of}
+use Rattle.dp_wide_runs.specs.WideAudits.{WritesChoice, plan_of}
+use Rattle.dp_wide_runs.specs.Verbose.{HasPlainStatus, WritesWideVerbose}
 
 -- what a report on the text of the file of a path writes and answers, and where its fault stands
 abbrev pub ReportsOn : List ℕ → Source → (List ℕ → Result (List ℕ) PbxFault) → Option (List ℕ) → Option (List ℕ) → Result ℕ Faulted → Type 0
@@ -32,6 +35,12 @@ ReportsOn path file report old new answered =
 abbrev pub AuditsFile : List ℕ → Source → Option (List ℕ) → Option (List ℕ) → Result Served Faulted → Type 0
 AuditsFile path file old new answered =
     Reads file (λ text. WritesAudit old new (text >>= audit_of) (status_in (without_place answered)) × StandsIn (place_of_report path text) answered
+    × Tells (text >>= audit_hint_of path) answered)
+
+-- the same of an audit that is asked for some kinds of findings, or over the wide table
+abbrev pub AuditsFileBy : ChoiceOf → List ℕ → Source → Option (List ℕ) → Option (List ℕ) → Result Served Faulted → Type 0
+AuditsFileBy choice path file old new answered =
+    Reads file (λ text. WritesChoice choice old new (text >>= plan_of) (status_in (without_place answered)) × StandsIn (place_of_report path text) answered
     × Tells (text >>= audit_hint_of path) answered)
 
 -- what a run of a joined text writes and answers, but for where its fault stands
@@ -131,6 +140,27 @@ abbrev pub RunsFilesWide : OfRun (List ℕ) → OfRun Source → Option (List �
 RunsFilesWide paths sources old new answered =
     ReadsTexts sources (λ read. RunsWide old new (all_texts read >>= wide_run_of_texts) (without_place answered) × StandsIn (place_of_run paths read) answered)
 
+-- what a verbose run over the wide table writes and answers, by the dialplan in force at first: it ends with the status of the run that is
+-- not verbose, and one that ends with status 0 left nothing out
+abbrev pub RunsWideVerbosely : InForce → Option (List ℕ) → Option (List ℕ) → Result WideRun PbxFault → Result ℕ PbxFault → Type 0
+RunsWideVerbosely in_force old new given result =
+    WritesWideVerbose explanation_of in_force old new given result × IfOk result (HasPlainStatus given) × IfOk result (IsPlain given)
+
+-- the same, by the texts or the fault with which they were not read
+abbrev pub RunsTextsWideVerbosely : OfRun (List ℕ) → Option (List ℕ) → Option (List ℕ) → Result (OfRun (List ℕ)) PbxFault → Result ℕ PbxFault → Type 0
+RunsTextsWideVerbosely paths old new (Ok texts) result = RunsWideVerbosely (in_force_at_first paths texts) old new (wide_run_of_texts texts) result
+RunsTextsWideVerbosely paths old new (Err fault) result = WritesWide old new (Err fault) result
+
+-- what such a run over the files of paths writes and answers, and where its fault stands
+abbrev pub RunsFilesWideVerbosely : OfRun (List ℕ) → OfRun Source → Option (List ℕ) → Option (List ℕ) → Result ℕ Faulted → Type 0
+RunsFilesWideVerbosely paths sources old new answered =
+    ReadsTexts sources (λ read. RunsTextsWideVerbosely paths old new (all_texts read) (without_place answered) × StandsIn (place_of_run paths read) answered)
+
+-- what a run over the wide table writes and answers, by whether it is verbose
+abbrev pub RunsWideAsked : OfRun (List ℕ) → OfRun Source → Bool → Option (List ℕ) → Option (List ℕ) → Result ℕ Faulted → Type 0
+RunsWideAsked paths sources true old new answered = RunsFilesWideVerbosely paths sources old new answered
+RunsWideAsked paths sources false old new answered = RunsFilesWide paths sources old new answered
+
 -- what a run writes and answers, in threads where their number is given, and else by whether it is verbose
 abbrev pub RunsAsked : OfRun (List ℕ) → OfRun Source → Option ℕ → Bool → Option (List ℕ) → Option (List ℕ) → Result ℕ Faulted → Type 0
 RunsAsked paths sources None true old new answered = RunsFilesVerbosely paths sources old new answered
@@ -158,11 +188,13 @@ Serves files input (check_queues queues) explains old new answered = Quietly (Re
 Serves files input (check_both file queues) explains old new answered = Quietly (ChecksBoth files file queues explains old new) answered
 Serves files input (listing file) explains old new answered = Quietly (ReportsOn file (files file) list_of old new) answered
 Serves files input (auditing file) explains old new answered = AuditsFile file (files file) old new answered
+Serves files input (auditing_by file choice) explains old new answered = AuditsFileBy choice file (files file) old new answered
 Serves files input (matching lookup all) explains old new answered = LooksUp lookup (files lookup.file) all explains old new answered
 Serves files input (explaining fault) explains old new answered = Quietly (WritesEntry fault old new) answered
 Serves files input (run paths threads is_verbose) explains old new answered =
     Quietly (RunsAsked paths (sources_of files paths) threads is_verbose old new) answered
-Serves files input (run_wide paths) explains old new answered = Quietly (RunsFilesWide paths (sources_of files paths) old new) answered
+Serves files input (run_wide paths is_verbose) explains old new answered =
+    Quietly (RunsWideAsked paths (sources_of files paths) is_verbose old new) answered
 Serves files input (debug paths held is_verbose) explains old new answered =
     Quietly (DebugsAsked paths (sources_of files paths) held is_verbose old new) answered
 Serves files input (reaching question) explains old new answered = ReachesFiles files question explains old new answered
@@ -175,9 +207,10 @@ fails_on_input (check_queues queues) result = false
 fails_on_input (check_both file queues) result = false
 fails_on_input (listing file) result = false
 fails_on_input (auditing file) result = false
+fails_on_input (auditing_by file choice) result = false
 fails_on_input (matching lookup all) result = false
 fails_on_input (explaining fault) result = false
 fails_on_input (run paths threads is_verbose) result = false
-fails_on_input (run_wide paths) result = false
+fails_on_input (run_wide paths is_verbose) result = false
 fails_on_input (debug paths held is_verbose) result = false
 fails_on_input (reaching question) result = false

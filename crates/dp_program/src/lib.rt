@@ -15,9 +15,11 @@ mod request;
 mod runs;
 mod texts;
 mod verbose_runs;
+mod wide_audits;
 mod wide_runs;
 
 pub use dp_commands::{Code, FileLine, PbxFault};
+pub use dp_wide_runs::{AuditChoice, KindChoice, are_kinds};
 pub use entries::{FaultNumber, entries_are_headed};
 pub use fault::{finish, print_fault};
 pub use faulted::{Faulted, Place};

@@ -15,7 +15,8 @@ use crate::reports::{Manner, serve_audit, serve_explain, serve_list, serve_match
 use crate::request::Request;
 use crate::runs::{serve_debug, serve_joined, serve_run};
 use crate::verbose_runs::{serve_debug_verbose, serve_run_verbose};
-use crate::wide_runs::serve_run_wide;
+use crate::wide_audits::serve_audit_by;
+use crate::wide_runs::{serve_run_wide, serve_run_wide_verbose};
 use dp_conf::{ReadTold, WriteTold};
 use std::alloc::Global;
 use std::sync::Wait;
@@ -58,6 +59,7 @@ pub fn serve<'a, F: ReadFiles, I: ReadTold, W: WriteTold, R: Threads + Wait + Sy
         }
         Request::Listing { file } => without_hint(alloc, serve_list(files, alloc, file, output)),
         Request::Audit { file } => serve_audit(files, alloc, file, output),
+        Request::AuditBy { file, choice } => serve_audit_by(files, alloc, file, *choice, output),
         Request::Match { lookup, all } => {
             let manner = Manner {
                 all: *all,
@@ -86,9 +88,14 @@ pub fn serve<'a, F: ReadFiles, I: ReadTold, W: WriteTold, R: Threads + Wait + Sy
                 serve_run(rt, files, alloc, run, Some(*threads), output),
             )
         }
-        Request::RunWide { files: run } => {
-            without_hint(alloc, serve_run_wide(files, alloc, run, output))
-        }
+        Request::RunWide {
+            files: run,
+            is_verbose: true,
+        } => without_hint(alloc, serve_run_wide_verbose(files, alloc, run, output)),
+        Request::RunWide {
+            files: run,
+            is_verbose: false,
+        } => without_hint(alloc, serve_run_wide(files, alloc, run, output)),
         Request::Debug {
             files: run,
             held,

@@ -2,6 +2,7 @@
 use crate::entries::FaultNumber;
 use dp_commands::PlanNames;
 use dp_plan::Priority;
+use dp_wide_runs::AuditChoice;
 
 /// What is looked up in a dialplan: what was dialled, in the context where the call begins, and at which priority.
 #[derive(Clone, Copy, Debug, PartialEq, Eq)]
@@ -98,6 +99,12 @@ pub enum Request<'a> {
     Audit {
         file: &'a str,
     },
+    /// `audit [--asterisk] [--only KINDS] [--ignore KINDS] FILE` with at least one of these options: to tell the findings of some kinds, or
+    /// those over the wide table.
+    AuditBy {
+        file: &'a str,
+        choice: AuditChoice<'a>,
+    },
     /// `match [--all] FILE CONTEXT TEXT [PRIORITY]`: to find the entry that answers, and to say of all extensions that match what
     /// becomes of them, where that is asked for.
     Match {
@@ -116,10 +123,11 @@ pub enum Request<'a> {
         threads: Option<u32>,
         is_verbose: bool,
     },
-    /// `run --asterisk [--queues QUEUES] [--reload DIALPLAN] FILE SCRIPT`: to run a script on a dialplan likewise, over the applications and
-    /// functions of the wide table. The script may tell facts, and the run stops before what is unknown.
+    /// `run --asterisk [--queues QUEUES] [--reload DIALPLAN] [--verbose] FILE SCRIPT`: to run a script on a dialplan likewise, over the
+    /// applications and functions of the wide table. The script may tell facts, and the run stops before what is unknown.
     RunWide {
         files: RunFiles<'a>,
+        is_verbose: bool,
     },
     /// `debug [--queues QUEUES] [--reload DIALPLAN] --break BREAK [--verbose] FILE SCRIPT`: to run a script on a dialplan likewise, with
     /// a halt at each step where the break holds.

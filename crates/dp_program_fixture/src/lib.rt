@@ -55,6 +55,7 @@ between.script→start main s¶start main s¶step 1¶reload¶step 2¶
 late.script→start main s¶reload¶start main s¶
 dialling→[main]¶exten => s,1,Dial(Line/5,20)¶exten => s,2,NoOp()¶exten => h,1,Dial(Line/6)¶
 dialling.script→start main s¶step 1¶result 1 BUSY¶show 1 DIALSTATUS¶result 1 BUSY¶
+circling→[main]¶exten => s,1,Answer()¶exten => s,2,Goto(s,1)¶exten => 100,1,NoOp()¶exten => 100,2,While(1)¶exten => _X.,1,NoOp()¶exten => _X.,2,NoOp()¶exten => _X.,3,NoOp(${CUTT(a,-,1)})¶
 asking→[main]¶exten => s,1,Set(A=${DB(x)})¶ same => n,While(1)¶ same => n,Hangup()¶
 asking.script→start main s¶step 1 2¶
 telling.script→start main s¶let 1 DB(x)=5¶step 1¶show 1 A¶pass 1¶step 1¶

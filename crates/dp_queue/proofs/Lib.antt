@@ -11,7 +11,9 @@ pub mod OfferLemmas
 pub mod PlacesLemmas
 pub mod RefusedLemmas
 pub mod RestLemmas
+mod SiftingLemmas
 pub mod StandsLemmas
 pub mod TalkLemmas
 pub mod WaitingLemmas
 pub mod WordLemmas
+mod cases

@@ -1,4 +1,5 @@
 pub mod Agents
+pub mod AllFaults
 pub mod Calls
 pub mod Changes
 pub mod Codes

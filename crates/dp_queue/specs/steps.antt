@@ -3,3 +3,4 @@ pub mod Held
 pub mod Loading
 pub mod Places
 pub mod Seats
+pub mod Sifting

@@ -7,7 +7,7 @@ ghost use Rattle.dp_queue.specs.Queues.{queue_number};
 ghost use Rattle.dp_queue.specs.Faults.{at_line};
 ghost use Rattle.dp_queue.specs.File as spec;
 ghost use Rattle.dp_queue.specs.Rest.{IsAtRest};
-ghost use Rattle.dp_queue.specs.steps.Loading.{line_reason};
+ghost use Rattle.dp_queue.specs.steps.Loading.{AtRefusal, line_reason};
 
 use crate::agents::Agents;
 use crate::fault::QueueKind;
@@ -103,7 +103,8 @@ impl File {
 
     /// Takes a header.
     fn begin(&mut self, alloc: Global, line: usize, name: &[u8]) -> Result<(), TakeFault<QueueKind>>
-        ensures { Answers (λ done. self.new) line_reason result (at_line line (spec.after_header self.old name.now)) }
+        ensures taken { Answers (λ done. self.new) line_reason result (at_line line (spec.after_header self.old name.now)) }
+        ensures kept { AtRefusal (self.new ≡ self.old) result }
     {
         if same_word(name, b"general") {
             self.section = None;
@@ -154,8 +155,9 @@ impl File {
         arguments: &[&[u8]],
     ) -> Result<(), TakeFault<QueueKind>>
         requires { number < length self.old.made.queues }
-        ensures { Answers (λ done. self.new) line_reason result (at_line line (spec.made_in self.old
+        ensures taken { Answers (λ done. self.new) line_reason result (at_line line (spec.made_in self.old
             (spec.with_member_line self.old.made number (map (λ argument. argument.now) arguments.now)))) }
+        ensures kept { AtRefusal (self.new ≡ self.old) result }
     {
         let penalty = at_line(line, penalty_of(arguments))?;
         self.add_named(alloc, number, argument_at(arguments, 0), penalty)?;
@@ -171,8 +173,9 @@ impl File {
         value: &[u8],
     ) -> Result<(), TakeFault<QueueKind>>
         requires { number < length self.old.made.queues }
-        ensures { Answers (λ done. self.new) line_reason result
+        ensures taken { Answers (λ done. self.new) line_reason result
             (at_line line (spec.made_in self.old (spec.with_member_line self.old.made number (arguments_of value.now)))) }
+        ensures kept { AtRefusal (self.new ≡ self.old) result }
     {
         let arguments = split_args(alloc, value)?;
         self.take_arguments(alloc, line, number, &arguments)
@@ -188,8 +191,9 @@ impl File {
         value: &[u8],
     ) -> Result<(), TakeFault<QueueKind>>
         requires { number < length self.old.made.queues }
-        ensures { Answers (λ done. self.new) line_reason result
+        ensures taken { Answers (λ done. self.new) line_reason result
             (at_line line (spec.made_in self.old (spec.with_key self.old.made number key.now value.now))) }
+        ensures kept { AtRefusal (self.new ≡ self.old) result }
     {
         let setting = read_setting(alloc, line, key, value)?;
         self.queues.set(number, setting);
@@ -204,8 +208,9 @@ impl File {
         key: &[u8],
         value: &[u8],
     ) -> Result<(), TakeFault<QueueKind>>
-        ensures { Answers (λ done. self.new) line_reason result
+        ensures taken { Answers (λ done. self.new) line_reason result
             (at_line line (spec.after_pair self.old self.old.section key.now value.now)) }
+        ensures kept { AtRefusal (self.new ≡ self.old) result }
     {
         match self.section {
             None => Ok(()),
@@ -218,9 +223,10 @@ impl File {
         }
     }
 
-    /// Takes a line.
+    /// Takes a line. One that is refused leaves everything as it was.
     pub(crate) fn take(&mut self, alloc: Global, line: Line<'_>) -> Result<(), TakeFault<QueueKind>>
-        ensures { Answers (λ done. self.new) line_reason result (spec.after_line self.old (line_now line.entry)) }
+        ensures taken { Answers (λ done. self.new) line_reason result (spec.after_line self.old (line_now line.entry)) }
+        ensures kept { AtRefusal (self.new ≡ self.old) result }
     {
         match line {
             Line::Header { line, name } => self.begin(alloc, line, name),

@@ -3,6 +3,7 @@
 
 mod agent;
 mod agents;
+mod all_faults;
 mod answering;
 mod asking;
 mod call;
@@ -28,6 +29,7 @@ mod standing;
 mod waiting_seat;
 
 pub use agent::{Agent, AgentState};
+pub use all_faults::{queue_faults, show_faultless_lines_stand_alone, show_faults_decide_loading};
 pub use call::Call;
 pub use change::{Added, Removed};
 pub use dp_conf::{NoMemory, Text};

@@ -1,4 +1,5 @@
 //! Queues, how they load and what their calls answer, worked out by hand from the rules.
+mod every_fault;
 mod files;
 mod manual;
 mod offers;
@@ -7,6 +8,7 @@ mod rows;
 mod sizes;
 mod steps;
 
+use crate::queues::every_fault::EveryFault;
 use crate::queues::render::{push_fault, queues_text};
 use crate::queues::sizes::{count_of, file_of, push_counts};
 use crate::queues::steps::take;
@@ -99,6 +101,11 @@ fn fault_text(alloc: Global, fault: QueueFault) -> Result<String, Fail> {
 #[test]
 fn files_load_so(rt: HostRuntime) -> Result<(), Fail> {
     check_all::<Loads>(rt.alloc(), files::TABLES)
+}
+
+#[test]
+fn files_have_these_faults(rt: HostRuntime) -> Result<(), Fail> {
+    check_all::<EveryFault>(rt.alloc(), &[every_fault::EVERY])
 }
 
 #[test]

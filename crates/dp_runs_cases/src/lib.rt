@@ -1,4 +1,4 @@
-//! Cases of runs, of runs in threads and of runs over the wide table, as tables with all that they print.
+//! Cases of runs, of runs in threads, and of runs and audits over the wide table, as tables with all that they print.
 //!
 //! A crate with tests is proved twice, so the cases of the libraries stand in crates of their own, where each is proved once.
 #![tactic(auto)]
@@ -10,4 +10,8 @@ mod threads;
 #[cfg(test)]
 mod verbose;
 #[cfg(test)]
+mod wide_audits;
+#[cfg(test)]
 mod wide_runs;
+#[cfg(test)]
+mod wide_verbose;

@@ -8,7 +8,7 @@ use std::alloc::Global;
 use std::test::Fail;
 
 /// One explanation of two lines for all refusals.
-struct Same;
+pub(crate) struct Same;
 
 impl Explanations for Same {
     ghost use Rattle.std.specs.Prelude.{codes};
@@ -21,7 +21,7 @@ impl Explanations for Same {
 }
 
 /// The files of the dialplans of all cases.
-const NAMES: PlanNames<'static> = PlanNames {
+pub(crate) const NAMES: PlanNames<'static> = PlanNames {
     plan: "conf/a.conf",
     second_plan: Some("b.conf"),
 };

@@ -1,4 +1,4 @@
-//! Cases of configuration texts, names and expressions, as tables with their answers.
+//! Cases of configuration texts and files, names and expressions, as tables with their answers.
 //!
 //! A crate with tests is proved twice, so the cases of the libraries stand in crates of their own, where each is proved once.
 #![tactic(auto)]
@@ -7,6 +7,8 @@
 mod conf;
 #[cfg(test)]
 mod expr;
+#[cfg(test)]
+mod files;
 #[cfg(test)]
 mod pattern;
 #[cfg(test)]

@@ -42,6 +42,7 @@ impl Model for Trie {
 }
 
 /// The first entry of the context of a number that the question asks for; none where there is no such context.
+#[inline(always)]
 fn find_at(
     tables: &[ContextTable],
     number: usize,
@@ -67,6 +68,7 @@ fn find_at(
 }
 
 /// The first entry that the question asks for, in the first of the contexts of these numbers that has such an entry.
+#[inline(always)]
 fn find_first(
     tables: &[ContextTable],
     order: &[usize],
@@ -97,6 +99,7 @@ fn find_first(
 }
 
 /// The same by the text.
+#[inline(always)]
 fn look_up(
     tables: &[ContextTable],
     order: &[usize],
@@ -187,6 +190,7 @@ impl Trie {
     }
 
     /// What `find_counted` gives, in the contexts of these numbers.
+    #[inline(always)]
     fn counted_in(&self, contexts: &[usize], text: &[u8], priority: u32) -> (Option<EntryId>, usize)
         ensures found { (plan : PlanOf) → Keeps plan self.now
             → result.0 ≡ found_entry plan contexts.now text.now priority }
@@ -233,6 +237,7 @@ impl Trie {
     }
 
     /// The same in the contexts of these numbers.
+    #[inline(always)]
     pub fn find_in(&self, contexts: &[usize], text: &[u8], priority: u32) -> Option<EntryId>
         ensures { (plan : PlanOf) → Keeps plan self.now → result ≡ found_entry plan contexts.now text.now priority }
     {

@@ -183,6 +183,7 @@ fn push_expression(
 }
 
 /// Puts the value of a body in brackets in place of the group, and keeps the expression where it is not known and the first.
+#[inline(always)]
 fn put_expression<F: Functions>(
     alloc: Global,
     bytes: &mut Vec<u8>,
@@ -257,6 +258,7 @@ impl Expanding {
     }
 
     /// Writes an opening, which waits from now on.
+    #[inline(always)]
     fn open(&mut self, kind: GroupKind) -> Result<(), NoMemory>
         ensures { OnOk result (self.new ≡ record {
           bytes = self.old.bytes ++ 36 ∷ groups.opener kind ∷ [];

@@ -127,6 +127,7 @@ impl<B> Store<B> {
     }
 
     /// Sets a local of the innermost frame to a value that is taken over.
+    #[inline(always)]
     fn hold_local(&mut self, alloc: Global, name: &[u8], value: Text) -> Result<(), NoMemory>
         requires { 0 < length self.old.frames }
         ensures ok { OnOk result (self.new ≡ stores.set_local self.old name.now value) }

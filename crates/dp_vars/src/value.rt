@@ -101,6 +101,7 @@ pub fn is_set<B, C>(scope: &Scope<'_, B, C>, name: &[u8]) -> bool
 }
 
 /// The value of a name, by what the channel gives and else by the variables and the globals; empty where it has none.
+#[inline(always)]
 pub fn variable<'a, B, C>(scope: &Scope<'a, B, C>, name: &[u8]) -> FoundValue<'a>
     ensures { value_bytes result ≡ value_or_empty (sights.maps_of scope.now) name.now }
 {

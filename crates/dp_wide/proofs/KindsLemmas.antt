@@ -1,5 +1,5 @@
 -- What the wide table knows of the applications that most lines of a dialplan name.
-use Rattle.std.proofs.Common.{◌≡◌, ℕ, Bool, true, false, List, [], Some, if◌then◌else◌, is_some, refl, ap, ◌∙◌}
+use Rattle.std.proofs.Common.{◌≡◌, ◌||◌, ℕ, Bool, true, false, List, [], Some, if◌then◌else◌, is_some, refl, ap, ◌∙◌}
 use Rattle.std.specs.Prelude.{codes}
 use Rattle.std.specs.List.{find, list_any}
 use Rattle.std.specs.Option.{option_and_then, option_map}
@@ -25,7 +25,8 @@ looks_by same =
     else (if list_any same quiet_names then false
     else (if list_any same own_names then true
     else (if list_any same going_names then false
-    else (if is_some (option_map (λ a. a.1) (find (λ a. same a.0) outside_applications)) then same (codes "Read") else true))))
+    else (if is_some (option_map (λ a. a.1) (find (λ a. same a.0) outside_applications)) then same (codes "Read") || same (codes "ReadExten")
+    else true))))
 
 quiet_look : (name : List ℕ) → is_word_of quiet_names name ≡ true → looks_by (same_word name) ≡ false
 unfolding going_names outside_applications

@@ -127,7 +127,7 @@ runs_among touches rows blind (a ∷ rest) are name among =
     by : (b : Bool) → same_word name a.0 ≡ b → (is_some (statuses_among rest name) ≡ true → rows name ≡ Some (row_among rest name))
         → is_some (found b) ≡ true → rows name ≡ Some (outside_row (unwrap_or (found b) []) (is_read name))
     by true same later e =
-        sym (blind.row name a.0 same) ∙ (are.0 ∙ ap (λ reads. Some (outside_row a.1 reads)) (sym (of_spelling (λ test. test (codes "Read")) name a.0 same)))
+        sym (blind.row name a.0 same) ∙ (are.0 ∙ ap (λ reads. Some (outside_row a.1 reads)) (sym (of_spelling (λ test. test (codes "Read") || test (codes "ReadExten")) name a.0 same)))
     by false same later e = later e
 
 outside_inner : RunOutside inner_table.rows outside_applications

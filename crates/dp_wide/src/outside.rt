@@ -22,7 +22,10 @@ const OUTSIDE: [(&[u8], &[&[u8]]); 55] = [
     (b"Read", &[b"READSTATUS"]),
     (b"ReadExten", &[b"READEXTENSTATUS"]),
     (b"Record", &[b"RECORD_STATUS"]),
-    (b"ControlPlayback", &[b"CPLAYBACKSTATUS", b"CPLAYBACKOFFSET"]),
+    (
+        b"ControlPlayback",
+        &[b"CPLAYBACKSTATUS", b"CPLAYBACKOFFSET"],
+    ),
     (b"BackgroundDetect", &[]),
     (b"AGI", &[b"AGISTATUS"]),
     (b"DeadAGI", &[b"AGISTATUS"]),

@@ -1,4 +1,9 @@
+mod BesideLemmas
+mod FunctionsLemmas
 mod GivenLemmas
+mod KindsLemmas
 mod LinesLemmas
+mod OnwardLemmas
+mod PartsLemmas
 mod RunsLemmas
 mod cases

@@ -1,4 +1,11 @@
+pub mod Beside
+pub mod FunctionsCalled
 pub mod Given
+pub mod Kinds
 pub mod Lines
 pub mod Runs
 pub mod Turns
+pub mod Verbose
+pub mod WideAudits
+pub mod WideFindings
+pub mod steps

@@ -1,14 +1,26 @@
-//! Runs of a script that tells facts, over the wide table: a run stops before what is unknown.
+//! The commands over the wide table: runs of a script that tells facts, which stop before what is unknown, and audits that are asked for
+//! some kinds of findings.
 #![tactic(auto)]
 
 mod begun;
+mod functions_called;
+mod kinds;
 pub mod laws;
+mod manner;
 mod own_line;
 mod run;
 mod taker;
+mod told;
+mod verbose;
+mod wide_audit;
+mod wide_finding;
 mod wide_lines;
 mod wide_turn;
 
+pub use kinds::{AuditChoice, KindChoice, are_kinds};
 pub use run::run_wide;
+pub use verbose::run_wide_verbose;
+pub use wide_audit::audit_by;
+pub use wide_finding::WideFinding;
 pub use wide_lines::WideLines;
 pub use wide_turn::WideTurn;

@@ -2,35 +2,44 @@
 ghost use Rattle.std.specs.Prelude.{◌≡◌, ◌||◌, IfOk, Ok};
 ghost use Rattle.dp_commands.specs.Faults.{is_write_failed};
 ghost use Rattle.dp_commands.specs.Script.{turns_of};
+ghost use Rattle.dp_wide_runs.specs.Beside.{WritesBeside};
 ghost use Rattle.dp_wide_runs.specs.Runs as spec;
 
 use crate::begun::{WideBegun, begin};
+use crate::manner::{Manner, Plain};
 use crate::taker::WideRunner;
 use dp_commands::{PbxFault, RunTexts, run_lines};
 use dp_conf::WriteTold;
 use std::alloc::Global;
 
 /// Takes the turns of a run that has begun, and writes all of their lines.
-fn run_begun<W: WriteTold>(alloc: Global, begun: WideBegun, writer: &mut W) -> Result<u8, PbxFault>
-    ensures writes { spec.WritesWide (W.contents writer.old) (W.contents writer.new)
+fn run_begun<M: Manner, W: WriteTold>(
+    alloc: Global,
+    begun: WideBegun,
+    manner: M,
+    writer: &mut W,
+) -> Result<u8, PbxFault>
+    ensures writes { WritesBeside M.after M.above M.above_refusal manner (W.contents writer.old) (W.contents writer.new)
         (Ok (spec.run_on begun.machine (turns_of begun.lines.items))) result }
     ensures told { W.has_failed writer.new ≡ (W.has_failed writer.old || is_write_failed result) }
 {
     let (machine, lines) = begun.into_parts();
-    run_lines(alloc, WideRunner::new(), machine, &lines, writer)
+    run_lines(alloc, WideRunner::new(manner), machine, &lines, writer)
 }
 
 /// Begins the run of the texts, takes its turns, and writes all of their lines.
-fn run_texts<W: WriteTold>(
+pub(crate) fn run_texts<M: Manner, W: WriteTold>(
     alloc: Global,
     texts: RunTexts<'_>,
+    manner: M,
     writer: &mut W,
 ) -> Result<u8, PbxFault>
-    ensures writes { spec.WritesWide (W.contents writer.old) (W.contents writer.new) (spec.run_of_texts texts.entry) result }
+    ensures writes { WritesBeside M.after M.above M.above_refusal manner (W.contents writer.old) (W.contents writer.new)
+        (spec.run_of_texts texts.entry) result }
     ensures told { W.has_failed writer.new ≡ (W.has_failed writer.old || is_write_failed result) }
 {
     let begun = begin(alloc, texts)?;
-    run_begun(alloc, begun, writer)
+    run_begun(alloc, begun, manner, writer)
 }
 
 /// Runs a script that may tell facts on a dialplan with its queues over the wide table, and writes the trace as it goes, a block of lines
@@ -49,5 +58,5 @@ pub fn run_wide<W: WriteTold>(
     ensures plain { IfOk result (spec.IsPlain (spec.run_of_texts texts.entry)) }
     ensures told { W.has_failed writer.new ≡ (W.has_failed writer.old || is_write_failed result) }
 {
-    run_texts(alloc, texts, writer)
+    run_texts(alloc, texts, Plain, writer)
 }

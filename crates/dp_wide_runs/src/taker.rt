@@ -1,15 +1,13 @@
 //! How the turns of a script with facts are taken.
 ghost use Rattle.std.specs.Prelude.{◌≡◌, ◌++◌, ◌∷◌, [], IfOk, OnOk, OnErr, Some};
 ghost use Rattle.std.specs.Option.{option_map};
-ghost use Rattle.dp_commands.specs.Trace.{phase_at, refusal_text};
-ghost use Rattle.dp_machine.specs.World.{World};
+ghost use Rattle.dp_commands.specs.Trace.{refusal_text};
 ghost use Rattle.dp_wide_runs.specs.Turns as spec;
 
+use crate::manner::Manner;
 use crate::wide_lines::stepped_by;
 use crate::wide_turn::WideTurn;
-use dp_commands::{
-    Block, Taker, Turn, push_after, push_refused, push_short, take_event, take_show,
-};
+use dp_commands::{Block, Taker, Turn, push_after, push_refused, push_short};
 use dp_machine::{Event, Machine, NoMemory, Phase, Place, Refusal, Text, Unknown};
 use dp_wide::WideApps;
 use std::alloc::Global;
@@ -54,12 +52,13 @@ fn pass_refusal(phase: Option<&Phase>) -> Refusal
     }
 }
 
-/// Adds the line of a refusal to what waits.
-fn push_refusal(block: &mut Block, refusal: Refusal) -> Result<(), NoMemory>
-    ensures line { OnOk result (block.new.whole ≡ block.old.whole ++ (refusal_text refusal ++ 10 ∷ [])) }
+/// Adds the line of a pass that is refused to what waits, with what stands above it.
+fn push_refusal<M: Manner>(block: &mut Block, refusal: Refusal) -> Result<(), NoMemory>
+    ensures line { OnOk result (block.new.whole ≡ block.old.whole ++ (M.above_refusal refusal ++ (refusal_text refusal ++ 10 ∷ []))) }
     ensures err { OnErr result (block.new.whole ≡ block.old.whole) }
 {
     block.begin_line();
+    M::push_above(block, refusal)?;
     push_refused(block, refusal)?;
     block.end_line()
 }
@@ -102,32 +101,44 @@ fn place_past(
     }
 }
 
-/// A run over the wide table, which stops before what is unknown. Contracts see it as where it has stopped.
-#[derive(Drop)]
-pub(crate) struct WideRunner {
+/// A run over the wide table, which stops before what is unknown. Contracts see it as where it has stopped, and how turns are taken.
+pub(crate) struct WideRunner<M> {
     line_is_over: bool,
     has_stopped: bool,
+    manner: M,
 }
 
-impl Model for WideRunner {
+impl<M: Drop> Drop for WideRunner<M> {
+    fn drop(self) {
+        let WideRunner {
+            line_is_over: _,
+            has_stopped: _,
+            manner: _,
+        } = self;
+    }
+}
+
+impl<M> Model for WideRunner<M> {
     ghost use Rattle.dp_wide_runs.specs.Turns.{Stops};
 
-    ghost Value = { Stops };
+    ghost Value = { Stops × M };
 
-    ghost view = { λ runner. record { line_is_over = runner.line_is_over; has_stopped = runner.has_stopped } };
+    ghost view = { λ runner. (record { line_is_over = runner.line_is_over; has_stopped = runner.has_stopped }, runner.manner) };
 }
 
-impl WideRunner {
+impl<M: Manner> WideRunner<M> {
     ghost use Rattle.std.specs.Prelude.{◌≡◌, ◌++◌, IfOk, OnOk, OnErr, Some};
+    ghost use Rattle.dp_wide_runs.specs.Beside as beside;
     ghost use Rattle.dp_wide_runs.specs.Turns as spec;
 
     /// Before the first turn.
-    pub(crate) fn new() -> Self
-        ensures { result ≡ spec.no_stops }
+    pub(crate) fn new(manner: M) -> Self
+        ensures { result ≡ (spec.no_stops, manner) }
     {
         WideRunner {
             line_is_over: false,
             has_stopped: false,
+            manner,
         }
     }
 
@@ -140,12 +151,12 @@ impl WideRunner {
         channel: u32,
         block: &mut Block,
     ) -> Result<bool, NoMemory>
-        ensures lines { OnOk result (block.new.whole
-            ≡ block.old.whole ++ (spec.step_turn self.old machine.old channel (spec.unknown_at machine.old channel)).lines) }
+        ensures lines { OnOk result (block.new.whole ≡ block.old.whole
+            ++ (beside.step_beside M.after M.above self.old machine.old channel (spec.unknown_at machine.old channel)).lines) }
         ensures state { OnOk result ((self.new, machine.new)
-            ≡ (spec.step_turn self.old machine.old channel (spec.unknown_at machine.old channel)).state) }
+            ≡ (beside.step_beside M.after M.above self.old machine.old channel (spec.unknown_at machine.old channel)).state) }
         ensures refused { IfOk result (λ refused. refused
-            ≡ (spec.step_turn self.old machine.old channel (spec.unknown_at machine.old channel)).refused) }
+            ≡ (beside.step_beside M.after M.above self.old machine.old channel (spec.unknown_at machine.old channel)).refused) }
         ensures err { OnErr result (block.new.whole ≡ block.old.whole) }
     {
         let unknown = machine.unknown_ahead(alloc, channel)?;
@@ -156,7 +167,8 @@ impl WideRunner {
             return Ok(false);
         }
         self.line_is_over = false;
-        take_event(alloc, machine, &Event::Step { channel }, block)
+        let step = Turn::Event(Event::Step { channel });
+        self.manner.give_turn(alloc, machine, &step, block)
     }
 
     /// Takes a turn of a plain script.
@@ -167,20 +179,17 @@ impl WideRunner {
         turn: &Turn,
         block: &mut Block,
     ) -> Result<bool, NoMemory>
-        ensures lines { OnOk result (block.new.whole
-            ≡ block.old.whole ++ (spec.wide_turn (self.old, machine.old) (WideTurn.Plain turn.now)).lines) }
+        ensures lines { OnOk result (block.new.whole ≡ block.old.whole
+            ++ (beside.turn_beside M.after M.above M.above_refusal (self.old, machine.old) (WideTurn.Plain turn.now)).lines) }
         ensures state { OnOk result ((self.new, machine.new)
-            ≡ (spec.wide_turn (self.old, machine.old) (WideTurn.Plain turn.now)).state) }
+            ≡ (beside.turn_beside M.after M.above M.above_refusal (self.old, machine.old) (WideTurn.Plain turn.now)).state) }
         ensures refused { IfOk result (λ refused. refused
-            ≡ (spec.wide_turn (self.old, machine.old) (WideTurn.Plain turn.now)).refused) }
+            ≡ (beside.turn_beside M.after M.above M.above_refusal (self.old, machine.old) (WideTurn.Plain turn.now)).refused) }
         ensures err { OnErr result (block.new.whole ≡ block.old.whole) }
     {
-        if let Some(channel) = stepped_by(turn) {
-            return self.take_step(alloc, machine, channel, block);
-        }
-        match turn {
-            Turn::Event(event) => take_event(alloc, machine, event, block),
-            Turn::Show { channel, name } => take_show(alloc, machine, *channel, name, block),
+        match stepped_by(turn) {
+            Some(channel) => self.take_step(alloc, machine, channel, block),
+            None => self.manner.give_turn(alloc, machine, turn, block),
         }
     }
 
@@ -192,9 +201,12 @@ impl WideRunner {
         channel: u32,
         block: &mut Block,
     ) -> Result<bool, NoMemory>
-        ensures lines { OnOk result (block.new.whole ≡ block.old.whole ++ (spec.further_turn self.old machine.old channel).lines) }
-        ensures state { OnOk result ((self.new, machine.new) ≡ (spec.further_turn self.old machine.old channel).state) }
-        ensures refused { IfOk result (λ refused. refused ≡ (spec.further_turn self.old machine.old channel).refused) }
+        ensures lines { OnOk result (block.new.whole ≡ block.old.whole
+            ++ (beside.turn_beside M.after M.above M.above_refusal (self.old, machine.old) (WideTurn.Further channel)).lines) }
+        ensures state { OnOk result ((self.new, machine.new)
+            ≡ (beside.turn_beside M.after M.above M.above_refusal (self.old, machine.old) (WideTurn.Further channel)).state) }
+        ensures refused { IfOk result (λ refused. refused
+            ≡ (beside.turn_beside M.after M.above M.above_refusal (self.old, machine.old) (WideTurn.Further channel)).refused) }
         ensures err { OnErr result (block.new.whole ≡ block.old.whole) }
     {
         if self.line_is_over {
@@ -205,43 +217,43 @@ impl WideRunner {
 
     /// Takes a pass, by the place to which the channel goes, where something is unknown ahead of it.
     fn take_pass(
-        &self,
+        &mut self,
         alloc: Global,
         machine: &mut Machine<WideApps>,
         channel: u32,
         block: &mut Block,
     ) -> Result<bool, NoMemory>
         ensures lines { OnOk result (block.new.whole ≡ block.old.whole
-            ++ (spec.pass_turn self.now machine.old channel (spec.place_of_unknown machine.old channel)).lines) }
-        ensures state { OnOk result ((self.now, machine.new)
-            ≡ (spec.pass_turn self.now machine.old channel (spec.place_of_unknown machine.old channel)).state) }
+            ++ (beside.turn_beside M.after M.above M.above_refusal (self.old, machine.old) (WideTurn.Pass channel)).lines) }
+        ensures state { OnOk result ((self.new, machine.new)
+            ≡ (beside.turn_beside M.after M.above M.above_refusal (self.old, machine.old) (WideTurn.Pass channel)).state) }
         ensures refused { IfOk result (λ refused. refused
-            ≡ (spec.pass_turn self.now machine.old channel (spec.place_of_unknown machine.old channel)).refused) }
+            ≡ (beside.turn_beside M.after M.above M.above_refusal (self.old, machine.old) (WideTurn.Pass channel)).refused) }
         ensures err { OnErr result (block.new.whole ≡ block.old.whole) }
     {
-        match place_past(alloc, machine, channel)? {
-            Some(place) => take_event(alloc, machine, &Event::Redirect { channel, place }, block),
-            None => {
-                push_refusal(block, pass_refusal(machine.phase(channel)))?;
-                Ok(true)
-            }
-        }
+        let Some(place) = place_past(alloc, machine, channel)? else {
+            push_refusal::<M>(block, pass_refusal(machine.phase(channel)))?;
+            return Ok(true);
+        };
+        let redirect = Turn::Event(Event::Redirect { channel, place });
+        self.manner.give_turn(alloc, machine, &redirect, block)
     }
 }
 
-impl Taker for WideRunner {
+impl<M: Manner> Taker for WideRunner<M> {
     ghost use Rattle.std.specs.Prelude.{[]};
-    ghost use Rattle.dp_wide_runs.specs.Turns.{wide_status, wide_turn};
+    ghost use Rattle.dp_wide_runs.specs.Beside.{turn_beside};
+    ghost use Rattle.dp_wide_runs.specs.Turns.{wide_status};
 
     type Table = WideApps;
 
     type Turn = WideTurn;
 
-    ghost step = { wide_turn };
+    ghost step = { turn_beside M.after M.above M.above_refusal };
 
     ghost last = { λ _. [] };
 
-    ghost status = { wide_status };
+    ghost status = { λ runner refused. wide_status runner.0 refused };
 
     fn take(
         &mut self,

@@ -112,15 +112,15 @@ ran_verbose_in_threads : asked_of (codes "pbx" ∷ codes "run" ∷ codes "a.conf
 unfolding clap_on_literals asked_of
 ran_verbose_in_threads = refl
 
-ran_wide : asked_of (codes "pbx" ∷ codes "run" ∷ codes "--asterisk" ∷ codes "a.conf" ∷ codes "b.script" ∷ []) ≡ Some (run_wide (record { plan = codes "a.conf"; queues = None; second_plan = None; script = codes "b.script" }))
+ran_wide : asked_of (codes "pbx" ∷ codes "run" ∷ codes "--asterisk" ∷ codes "a.conf" ∷ codes "b.script" ∷ []) ≡ Some (run_wide (record { plan = codes "a.conf"; queues = None; second_plan = None; script = codes "b.script" }) false)
 unfolding clap_on_literals asked_of
 ran_wide = refl
 
-ran_wide_with_more_files : asked_of (codes "pbx" ∷ codes "run" ∷ codes "a.conf" ∷ codes "--reload" ∷ codes "c.conf" ∷ codes "--queues" ∷ codes "q.conf" ∷ codes "b.script" ∷ codes "--asterisk" ∷ []) ≡ Some (run_wide (record { plan = codes "a.conf"; queues = Some (codes "q.conf"); second_plan = Some (codes "c.conf"); script = codes "b.script" }))
+ran_wide_with_more_files : asked_of (codes "pbx" ∷ codes "run" ∷ codes "a.conf" ∷ codes "--reload" ∷ codes "c.conf" ∷ codes "--queues" ∷ codes "q.conf" ∷ codes "b.script" ∷ codes "--asterisk" ∷ []) ≡ Some (run_wide (record { plan = codes "a.conf"; queues = Some (codes "q.conf"); second_plan = Some (codes "c.conf"); script = codes "b.script" }) false)
 unfolding clap_on_literals asked_of
 ran_wide_with_more_files = refl
 
-ran_wide_verbose : asked_of (codes "pbx" ∷ codes "run" ∷ codes "--asterisk" ∷ codes "--verbose" ∷ codes "a.conf" ∷ codes "b.script" ∷ []) ≡ None
+ran_wide_verbose : asked_of (codes "pbx" ∷ codes "run" ∷ codes "--asterisk" ∷ codes "--verbose" ∷ codes "a.conf" ∷ codes "b.script" ∷ []) ≡ Some (run_wide (record { plan = codes "a.conf"; queues = None; second_plan = None; script = codes "b.script" }) true)
 unfolding clap_on_literals asked_of
 ran_wide_verbose = refl
 

@@ -1,13 +1,19 @@
 -- A step of the code: how definitions see where its walk is, which is a place of `walk` of Walk.
-use Rattle.std.specs.Prelude.{List}
+use Rattle.std.specs.Prelude.{◌≡◌, ℕ, List}
 use Rattle.dp_expr.specs.declared.walk_place.WalkPlace.{WalkPlace}
 use Rattle.dp_expr.specs.declared.walk_place.WalkPlace.TheVariants as places
 use Rattle.dp_expr.specs.steps.Texts.{value_seen}
+use Rattle.dp_expr.specs.Tokens.{tokens_of}
 use Rattle.dp_expr.specs.Values.{Outcome}
-use Rattle.dp_expr.specs.Walk.{Frame, State, Wanting, Holding, Failed}
+use Rattle.dp_expr.specs.Walk.{Making, Frame, State, Wanting, Holding, Failed, ending, walk}
 
 -- a place above those frames
 abbrev pub place_seen : WalkPlace → List (Frame Outcome) → State Outcome
 place_seen places.Wanting frames = Wanting frames
 place_seen (places.Holding value) frames = Holding frames (value_seen value)
 place_seen places.Failed frames = Failed
+
+-- whatever is made, the walk makes of the tokens of the text what it makes where they end
+unfoldable pub IsOver : WalkPlace → List ℕ → Type 0
+IsOver place text = (make : Making Outcome) (frames : List (Frame Outcome))
+    → walk make (place_seen place frames) (tokens_of text) ≡ ending make (place_seen place frames)

@@ -1,7 +1,8 @@
 -- A step of the code: why a line has no item.
-use Rattle.std.specs.Prelude.{Option}
+use Rattle.std.specs.Prelude.{Option, Result, Ok, Err}
 use Rattle.dp_conf.specs.FirstFaults.{line_reason}
 use Rattle.dp_conf.specs.declared.first_fault.TakeFault.{TakeFault}
+use Rattle.dp_conf.specs.declared.first_fault.TakeFault.TheVariants.{Line, NoMemory}
 use Rattle.dp_plan.specs.Faults.{fault_of_line}
 use Rattle.dp_plan.specs.declared.fault.ItemKind.{ItemKind}
 use Rattle.dp_plan.specs.declared.fault.LoadFault.{LoadFault}
@@ -9,3 +10,9 @@ use Rattle.dp_plan.specs.declared.fault.LoadFault.{LoadFault}
 -- why a line has no item; out of memory is no reason
 abbrev pub item_reason : TakeFault ItemKind → Option LoadFault
 item_reason = line_reason fault_of_line
+
+-- what holds where a line was refused
+abbrev pub AtRefusal : {X : Type 0} → Type 0 → Result X (TakeFault ItemKind) → Type 0
+AtRefusal Holds (Ok x) = Unit {0}
+AtRefusal Holds (Err (Line fault)) = Holds
+AtRefusal Holds (Err NoMemory) = Unit {0}

@@ -84,7 +84,8 @@ fn push_fault_of_plan(out: &mut String, line: usize, kind: PlanKind) -> Result<(
     }
 }
 
-fn push_fault(out: &mut String, fault: LoadFault) -> Result<(), NoMemory> {
+/// A fault as `plan_text` says.
+pub(super) fn push_fault(out: &mut String, fault: LoadFault) -> Result<(), NoMemory> {
     match fault {
         LoadFault::Conf(ConfFault::At { line, kind }) => {
             write!(out, "fault {} line {line}", kind.code())

@@ -685,4 +685,17 @@ ok 1 -> pause
 ok 1 -> ready main,s,3
 ran 1 main,s,3 Hangup -> ended
 ? 0
+$ pbx run --asterisk --verbose hours.conf ask.script
+started 1
+unknown 1 CLOCK -> ready main,s,1
+ok
+  hours.conf:2 GotoIfTime(9:00-17:00,mon-fri,*,*?day)
+ran 1 main,s,1 GotoIfTime -> ready main,s,4
+unknown 1 DB(desk/today) -> ready main,s,4
+ok 1 -> ready main,s,4
+  hours.conf:5 Set(DESK=200)
+ran 1 main,s,4 Set -> ready main,s,5
+  hours.conf:6 Dial(PJSIP/200,20)
+ran 1 main,s,5 Dial -> dialling
+? 4
 "##;

@@ -348,6 +348,38 @@ ok 12 findings
 $ pbx audit sample/extensions.conf
 ok 0 findings
 ? 0
+@ reception.conf
+[main]
+exten => 100,1,Answer()
+ same => n,VoiceMail(100)
+exten => _1XX,1,NoOp(a room)
+ same => n,Dial(PJSIP/${EXTEN},20)
+ same => n,Set(DESK=${CUTT(EXTEN,0,2)})
+exten => s,1,Answer()
+ same => n(again),NoOp(try ${TRY})
+ same => n,Goto(again)
+exten => t,1,While($[1])
+@
+$ pbx audit --asterisk reception.conf
+NoApplication main,t,1 While
+FallsThrough main,100,2 main,_1XX,3
+Loop main,s,2
+NoFunction main,_1XX,3 CUTT
+ok 4 findings
+? 1
+$ pbx audit --only NoApplication,Unset reception.conf
+NoApplication main,100,2 VoiceMail
+Unset main,s,2 TRY
+NoApplication main,t,1 While
+ok 3 findings
+? 1
+$ pbx audit --only NoApplication,Loop reception.conf
+error: invalid value 'NoApplication,Loop' for '--only <KINDS>': without '--asterisk' the kinds are Cycle, NoApplication, NoTarget, Gap, NoFirst, Hidden, Unset and Unused
+
+Usage: pbx audit [OPTIONS] <FILE>
+
+For more information, try '--help'.
+? 2
 $ pbx explain 20
 20 BadPriority
 a priority that is neither `n` nor a number from 1 on

@@ -156,6 +156,25 @@ audit @missing→1→→fault 7 ReadFailed¶
 audit @long→1→→fault 8 TooLong¶
 # It reads no input.
 audit @empty←[main]¶abc¶→0→ok 0 findings¶→pbx: @empty has no context: is it a dialplan?¶
+# Some kinds alone, and all but some.
+audit --only cycle @cycle→1→Cycle a¶Cycle b¶ok 2 findings¶→
+audit @cycle --only=Gap,Hidden→0→ok 0 findings¶→
+audit --ignore CYCLE,Gap @cycle→0→ok 0 findings¶→
+audit --ignore Unset --explain @cycle→1→Cycle a¶Cycle b¶ok 2 findings¶→
+# Over the wide table.
+audit @asking→1→NoApplication main,s,2 While¶ok 1 findings¶→
+audit @jumps→1→NoApplication desk,s,1 Macro¶ok 1 findings¶→
+audit --asterisk @jumps→0→ok 0 findings¶→
+audit --asterisk @circling→1→NoApplication main,100,2 While¶FallsThrough main,100,2 main,_X.,3¶Loop main,s,1¶NoFunction main,_X.,3 CUTT¶ok 4 findings¶→
+audit --asterisk --only loop,FallsThrough @circling→1→FallsThrough main,100,2 main,_X.,3¶Loop main,s,1¶ok 2 findings¶→
+audit @circling --ignore loop,noapplication,nofunction,fallsthrough --asterisk→0→ok 0 findings¶→
+# What is told beside it, and faults, are as without them.
+audit --asterisk @empty→0→ok 0 findings¶→pbx: @empty has no context: is it a dialplan?¶
+audit --only Gap @help→0→ok 0 findings¶→pbx: @help has no entry: is it a dialplan?¶
+audit --asterisk @faulty→1→→fault 4 NoEquals line 2¶
+audit --only Gap --explain @faulty→1→→fault 4 NoEquals line 2¶  @faulty:2¶  abc¶  a line of a section with no `=`¶
+audit --ignore Gap @missing→1→→fault 7 ReadFailed¶
+audit --asterisk @long→1→→fault 8 TooLong¶
 ";
 
 /// `explain`.
@@ -326,6 +345,14 @@ run @first @first.script --asterisk→0→started 1¶ran 1 main,100,1 NoOp -> re
 run --asterisk @first @refused.script→1→refused 40 NoChannel¶started 1¶ran 1 main,100,1 NoOp -> ready main,100,2¶→
 run --asterisk --queues @help @callers @callers.script→0→started 1¶ran 1 main,s,1 Queue -> queued help¶ok 1 -> ready main,s,2¶ran 1 main,s,2 Hangup -> ended¶→
 run --reload @changed --asterisk @changing @changing.script→0→started 1¶ran 1 main,100,1 NoOp -> ready main,100,2¶ok¶X=12¶Y=5¶ran 1 main,_1XX,2 Hangup -> ended¶→
+# A verbose run writes more above the same lines, and ends likewise.
+run --asterisk --verbose @asking @asking.script→4→started 1¶unknown 1 DB(x) -> ready main,s,1¶→
+run --asterisk @asking @telling.script --verbose→0→started 1¶ok 1 -> ready main,s,1¶  @asking:2 Set(A=5)¶ran 1 main,s,1 Set -> ready main,s,2¶A=5¶ok 1 -> ready main,s,3¶  @asking:4 Hangup()¶ran 1 main,s,3 Hangup -> ended¶→
+run --verbose --asterisk @first @refused.script→1→  40 NoChannel¶  no channel has the number¶  example: `step 1` as the first line¶refused 40 NoChannel¶started 1¶  @first:2 NoOp(hello)¶ran 1 main,100,1 NoOp -> ready main,100,2¶→
+run --asterisk --verbose --queues @help @callers @callers.script→0→started 1¶  @callers:2 Queue(help,,,,30)¶ran 1 main,s,1 Queue -> queued help¶ok 1 -> ready main,s,2¶  @callers:3 Hangup()¶ran 1 main,s,2 Hangup -> ended¶→
+run --asterisk --verbose --reload @changed @changing @changing.script→0→started 1¶  @changing:5 NoOp(a)¶ran 1 main,100,1 NoOp -> ready main,100,2¶ok¶X=12¶Y=5¶  @changed:4 Hangup()¶ran 1 main,_1XX,2 Hangup -> ended¶→
+run --asterisk --verbose @faulty @untold.script→1→→fault 4 NoEquals line 2¶
+run --asterisk --verbose @first @missing→1→→fault 7 ReadFailed¶
 # Faults of its files, and of its script.
 run --asterisk @first @missing→1→→fault 7 ReadFailed¶
 run --asterisk @missing @untold.script→1→→fault 7 ReadFailed¶

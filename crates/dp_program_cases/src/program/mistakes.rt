@@ -32,6 +32,13 @@ match @usual main 5 --all --all→the argument '--all' cannot be used multiple t
 match --all=1 @usual main 5→unexpected value '1' for '--all' found; no more were expected→pbx match --all <FILE> <CONTEXT> <TEXT> [PRIORITY]
 audit→the following required arguments were not provided:¶  <FILE>→pbx audit <FILE>
 audit a b→unexpected argument 'b' found→pbx audit [OPTIONS] <FILE>
+audit --asterisk→the following required arguments were not provided:¶  <FILE>→pbx audit --asterisk <FILE>
+audit --only Gap --ignore Hidden @missing→the argument '--only <KINDS>' cannot be used with '--ignore <UNWANTED>'→pbx audit [OPTIONS] <FILE>
+audit --only Gap --only Hidden @missing→the argument '--only <KINDS>' cannot be used multiple times→pbx audit [OPTIONS] <FILE>
+audit --only gaps @missing→invalid value 'gaps' for '--only <KINDS>': without '--asterisk' the kinds are Cycle, NoApplication, NoTarget, Gap, NoFirst, Hidden, Unset and Unused→pbx audit [OPTIONS] <FILE>
+audit --ignore=Gap, @missing→invalid value 'Gap,' for '--ignore <UNWANTED>': without '--asterisk' the kinds are Cycle, NoApplication, NoTarget, Gap, NoFirst, Hidden, Unset and Unused→pbx audit [OPTIONS] <FILE>
+audit --only Loop @missing→invalid value 'Loop' for '--only <KINDS>': without '--asterisk' the kinds are Cycle, NoApplication, NoTarget, Gap, NoFirst, Hidden, Unset and Unused→pbx audit [OPTIONS] <FILE>
+audit --asterisk --only Gap,Unset @missing→invalid value 'Gap,Unset' for '--only <KINDS>': with '--asterisk' the kinds are Cycle, NoApplication, NoTarget, Gap, NoFirst, Hidden, Unused, FallsThrough, Loop and NoFunction→pbx audit [OPTIONS] <FILE>
 reach @doors→the following required arguments were not provided:¶  <CONTEXT>→pbx reach <FILE> <CONTEXT>
 reach --to safe→the following required arguments were not provided:¶  <FILE>¶  <CONTEXT>→pbx reach --to <TARGET> <FILE> <CONTEXT>
 reach a b c→unexpected argument 'c' found→pbx reach [OPTIONS] <FILE> <CONTEXT>
@@ -52,7 +59,7 @@ run a b c→unexpected argument 'c' found→pbx run [OPTIONS] <FILE> <SCRIPT>
 run --threads 0 @missing @missing→invalid value '0' for '--threads <N>': the number of threads is from 1 to 64→pbx run [OPTIONS] <FILE> <SCRIPT>
 run --threads 65 @missing @missing→invalid value '65' for '--threads <N>': the number of threads is from 1 to 64→pbx run [OPTIONS] <FILE> <SCRIPT>
 run --threads=two @missing @missing→invalid value 'two' for '--threads <N>': the number of threads is from 1 to 64→pbx run [OPTIONS] <FILE> <SCRIPT>
-run --asterisk --verbose @missing @missing→the argument '--asterisk' cannot be used with '--verbose'→pbx run [OPTIONS] <FILE> <SCRIPT>
+run --asterisk --verbose --threads 2 @missing @missing→the argument '--asterisk' cannot be used with '--threads <N>'→pbx run [OPTIONS] <FILE> <SCRIPT>
 run --threads 0 --asterisk @missing @missing→the argument '--asterisk' cannot be used with '--threads <N>'→pbx run [OPTIONS] <FILE> <SCRIPT>
 run --asterisk @missing→the following required arguments were not provided:¶  <SCRIPT>→pbx run --asterisk <FILE> <SCRIPT>
 run --threads 2 @missing→the following required arguments were not provided:¶  <SCRIPT>→pbx run --threads <N> <FILE> <SCRIPT>
@@ -216,8 +223,11 @@ Arguments:
   <FILE>  The dialplan, as extensions.conf
 
 Options:
-      --explain  Print below each fault, and below each note of `check`, where it stands and what the manual says of it
-  -h, --help     Print help
+      --asterisk           Know the applications and functions that people use, and look for endless runs and calls that go on elsewhere
+      --only <KINDS>       Print the findings of these kinds alone, separated by commas
+      --ignore <UNWANTED>  Leave out the findings of these kinds, separated by commas
+      --explain            Print below each fault, and below each note of `check`, where it stands and what the manual says of it
+  -h, --help               Print help
 
 Prints `KIND CONTEXT,NAME,PRIORITY` for each finding, with what it is about after it, and then how many there are:
   Cycle          a context includes itself
@@ -229,6 +239,14 @@ Prints `KIND CONTEXT,NAME,PRIORITY` for each finding, with what it is about afte
   Unset          nothing sets the variable that is read
   Unused         no target names the label
 The status is 0 where nothing is found, and else 1.
+
+With --asterisk the applications and functions that people use are known, there is no `Unset`, and behind the others come:
+  FallsThrough   a call goes on behind the entry in another extension, which is printed after it
+  Loop           a call that gets there comes back again and again, and nothing ends it
+  NoFunction     there is no such function
+
+With --only KINDS, findings of these kinds are printed alone, and with --ignore KINDS all but these. A kind is one of the words above, in
+any case.
 
 Example:
   $ pbx audit extensions.conf
@@ -342,7 +360,7 @@ refused. Further lines of a script tell it what it does not know:
   go CHANNEL                     what the channel waits for comes to its end
   redirect CHANNEL CONTEXT EXTEN [PRIORITY]   the channel goes to a place
   pass CHANNEL                   the channel passes over an entry that is unknown
-It cannot be used with --threads or --verbose.
+It cannot be used with --threads.
 
 Example:
   $ cat calls.script

@@ -5,7 +5,7 @@ use Rattle.dp_conf.specs.FirstFaults.{line_reason as whole_reason, made_or_fault
 use Rattle.dp_conf.specs.Lines.{LineOf, lines_of}
 use Rattle.dp_conf.specs.declared.first_fault.FaultyLine.{FaultyLine}
 use Rattle.dp_conf.specs.declared.first_fault.TakeFault.{TakeFault}
-use Rattle.dp_conf.specs.declared.first_fault.TakeFault.TheVariants.{Line}
+use Rattle.dp_conf.specs.declared.first_fault.TakeFault.TheVariants.{Line, NoMemory}
 use Rattle.dp_queue.specs.Faults.{fault_of_line, text_fault}
 use Rattle.dp_queue.specs.File.{FileOf, unread, after_line, after_lines}
 use Rattle.dp_queue.specs.declared.fault.QueueFault.{QueueFault}
@@ -18,6 +18,12 @@ after_one state line = state >>= λ file. after_line file line
 -- why nothing took a line; out of memory is no reason
 abbrev pub line_reason : TakeFault QueueKind → Option QueueFault
 line_reason = whole_reason fault_of_line
+
+-- what holds where a line was refused
+abbrev pub AtRefusal : {X : Type 0} → Type 0 → Result X (TakeFault QueueKind) → Type 0
+AtRefusal Holds (Ok x) = Unit {0}
+AtRefusal Holds (Err (Line fault)) = Holds
+AtRefusal Holds (Err NoMemory) = Unit {0}
 
 -- what was read of a line, or the fault of the line
 abbrev pub line_read : {X : Type 0} → ℕ → Result X QueueKind → Result X (TakeFault QueueKind)

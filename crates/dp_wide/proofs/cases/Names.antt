@@ -57,7 +57,7 @@ outside-two : outside_statuses (codes "SendFAX") ≡ Some (codes "FAXSTATUS" ∷
 unfolding outside_applications
 outside-two = refl
 
-outside-none : outside_statuses (codes "ReadExten") ≡ Some []
+outside-none : outside_statuses (codes "VoiceMailMain") ≡ Some []
 unfolding outside_applications
 outside-none = refl
 

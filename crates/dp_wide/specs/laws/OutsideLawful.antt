@@ -66,7 +66,7 @@ is_read-spelled : (name spelling : List ℕ) → same_word name spelling ≡ tru
 is_read-spelled name spelling same =
     lowered
     (λ lower. pointwise nat_eq lower (map to_ascii_lowercase (codes "Read"))
-        || pointwise nat_eq lower (map to_ascii_lowercase (codes "ReadExten")))
+    || pointwise nat_eq lower (map to_ascii_lowercase (codes "ReadExten")))
     name spelling same
 
 row_outside-spelled : (name spelling : List ℕ) → same_word name spelling ≡ true → row_outside spelling ≡ row_outside name

@@ -21,10 +21,10 @@ mixmonitor(${AWAY(1)}.wav)→none
 System(ls ${AWAY(1)})→none
 VoiceMail(${AWAY(1)})→none
 agi(a.py,${AWAY(1)})→none
-ReadExten(${AWAY(1)})→none
-# `Read` does: its first argument names a variable.
+# `Read` and `ReadExten` do: their first argument names a variable.
 Read(X,beep)→none
 Read(${AWAY(1)})→group AWAY(1)
+ReadExten(${AWAY(1)})→group AWAY(1)
 rEAD(X,${AWAY(1)})→group AWAY(1)
 # Those of the other table are as they are there.
 Ping(${AWAY(1)})→group AWAY(1)

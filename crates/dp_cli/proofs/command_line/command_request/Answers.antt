@@ -15,6 +15,11 @@ returns-in-run-clause-kinds c =
     let P : List ℕ → Type 0 = λ name. FailsBy (command_kinds name (rows_of (found_of c.args.given.now))) c.run_request.result in
     subst P (sym c.in-run.is) c.run_request.ensures.kinds
 
+pub returns-in-audit-clause-kinds : goal.returns-in-audit-clause-kinds
+returns-in-audit-clause-kinds c =
+    let P : List ℕ → Type 0 = λ name. FailsBy (command_kinds name (rows_of (found_of c.args.given.now))) c.audit_request.result in
+    subst P (sym c.in-audit.is) c.audit_request.ensures.kinds
+
 pub returns-in-explain-clause-kinds : goal.returns-in-explain-clause-kinds
 returns-in-explain-clause-kinds c =
     let P : List ℕ → Type 0 = λ name. FailsBy (command_kinds name (rows_of (found_of c.args.given.now))) c.explain_request.result in

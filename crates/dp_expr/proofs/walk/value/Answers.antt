@@ -3,7 +3,7 @@ use Rattle.dp_expr.specs.Tokens.{tokens_of}
 use Rattle.dp_expr.specs.Walk.{walk}
 use Rattle.dp_expr.specs.steps.Exact.{values_by}
 use Rattle.dp_expr.specs.steps.Frames.{frames_seen}
-use Rattle.dp_expr.specs.steps.Places.{place_seen}
+use Rattle.dp_expr.specs.steps.Places.{IsOver, place_seen}
 use Rattle.dp_expr.proofs.walk.value.Goals as goal
 
 pub loop-token-preserved : goal.loop-token-preserved
@@ -16,8 +16,8 @@ loop-token-preserved c =
     ∙ c.loop-token.invariant
 
 pub returns : goal.returns
-unfolding walk
+unfolding IsOver
 returns c =
-    let here = place_seen c.loop-token.place (frames_seen c.loop-token.stack.frames.items) in
+    let frames = frames_seen c.loop-token.stack.frames.items in
     c.finish.ensures
-    ∙ ap (λ o. unwrap_or o None) (sym (ap (walk (values_by c.args.division) here) c.in_default.ensures) ∙ c.loop-token.invariant)
+    ∙ ap (λ o. unwrap_or o None) (sym (c.in_default.ensures (values_by c.args.division) frames) ∙ c.loop-token.invariant)

@@ -16,8 +16,8 @@ line_read-ok line (Ok m) n e = ap (λ (s : Result ℕ (TakeFault QueueKind)). va
     value (Err fault) other = Ok other
 line_read-ok line (Err kind) n e = absurd (cc)
 
-pub returns : goal.returns
-returns c =
+pub returns-clause-taken : goal.returns-clause-taken
+returns-clause-taken c =
     let file = c.args.self.now in
     let arguments = map (λ argument. argument.now) c.args.arguments.now in
     let read : Result ℕ QueueKind → Result FileOf QueueKind =

@@ -1,0 +1,15 @@
+pub mod CommentsLemmas
+pub mod DirectivesLemmas
+pub mod FileMapsLemmas
+mod HeaderLemmas
+mod HistoryLemmas
+mod LabelLemmas
+mod LimitLemmas
+mod LookupLemmas
+mod OrderLemmas
+mod PlainLemmas
+pub mod PlainFilesLemmas
+pub mod ReadingLemmas
+mod SectionLemmas
+pub mod WildcardsLemmas
+mod cases

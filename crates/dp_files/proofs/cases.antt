@@ -1,0 +1,9 @@
+mod Comments
+mod ContextCases
+mod Directives
+mod GeneralCases
+mod Headers
+mod PriorityCases
+mod Sections
+mod Wildcards
+mod Reading

@@ -1,0 +1,42 @@
+-- Lines with block comments, computed on the definition itself.
+use Rattle.std.proofs.Common.{◌≡◌, [], ◌∷◌, ◌++◌, Some, None, refl}
+use Rattle.std.specs.Prelude.{codes}
+use Rattle.dp_files.specs.Comments.{uncovered, file_lines}
+
+-- the line goes on after the comment
+comment-inside : uncovered 1 [] (codes "a;--b--;c") ≡ record { text = codes "ac"; unclosed = [] }
+unfolding uncovered
+comment-inside = refl
+
+-- a `;` after a `\` begins no comment, and one with a third dash is a comment like any other
+comment-escaped : uncovered 1 [] (codes "a" ++ 92 ∷ codes ";--b;---c") ≡ record { text = codes "a" ++ 92 ∷ codes ";--b;---c"; unclosed = [] }
+unfolding uncovered
+comment-escaped = refl
+
+-- the dashes of an opening close nothing
+comment-dashes : uncovered 4 [] (codes "a;--;b") ≡ record { text = codes "a"; unclosed = 4 ∷ [] }
+unfolding uncovered
+comment-dashes = refl
+
+comment-nested : uncovered 4 [] (codes "a;--;--b--;c--;d ; e;--f") ≡ record { text = codes "ad ; e;--f"; unclosed = [] }
+unfolding uncovered
+comment-nested = refl
+
+-- whether a `;` opens is asked before whether it closes
+comment-opens_first : uncovered 5 (4 ∷ []) (codes "b--;--c") ≡ record { text = []; unclosed = 5 ∷ 4 ∷ [] }
+unfolding uncovered
+comment-opens_first = refl
+
+-- an end outside of all block comments is a comment
+comment-end_alone : uncovered 1 [] (codes "a--;b") ≡ record { text = codes "a--;b"; unclosed = [] }
+unfolding uncovered
+comment-end_alone = refl
+
+-- parts stay parts, and the innermost of those that are open at the end is told
+lines-open : file_lines (239 ∷ 187 ∷ 191 ∷ codes "a;--" ++ 10 ∷ codes "b;--" ++ 10 ∷ codes "--;c" ++ 10 ∷ codes ";--d") ≡ record { texts = codes "a" ∷ [] ∷ [] ∷ [] ∷ []; open_comment = Some 4 }
+unfolding file_lines uncovered
+lines-open = refl
+
+lines-closed : file_lines (codes "a ; b" ++ 10 ∷ []) ≡ record { texts = codes "a ; b" ∷ [] ∷ []; open_comment = None }
+unfolding file_lines uncovered
+lines-closed = refl

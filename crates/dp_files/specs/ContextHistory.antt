@@ -1,0 +1,92 @@
+-- What a line of a context is read with: what the lines before it in the section say.
+use Rattle.std.specs.Prelude.{ℕ, Bool, true, false, ◌&&◌, ◌==◌, List, [], ◌∷◌, Option, Some, None, Result, Ok, Err, if◌then◌else◌}
+use Rattle.std.specs.List.{list_any}
+use Rattle.std.specs.Option.{option_or, unwrap_or}
+use Rattle.std.specs.Str.{byte}
+use Rattle.dp_conf.specs.Words.{same_text}
+use Rattle.dp_pattern.specs.Name.{Meaning, meaning_of}
+use Rattle.dp_pattern.specs.Spelling.{spelling}
+use Rattle.dp_pattern.specs.declared.fault.NameFault.{NameFault}
+use Rattle.dp_files.specs.declared.extension.Extension.{Extension}
+
+-- ---- extensions
+
+-- a caller's number stands behind the name
+abbrev pub has_caller : List ℕ → Bool
+has_caller name = list_any (λ b. b == byte "/") name
+
+-- a name that was read has the canonical spelling of its meaning: names of one meaning are one extension
+abbrev pub spelled : List ℕ → Result Meaning NameFault → Option Extension
+spelled name (Err fault) = None
+spelled name (Ok meaning) = Some (record { name = name; spelling = spelling meaning })
+
+-- the extension of a name, where it is one; one with a caller's number is told from others by its text alone
+unfoldable pub extension_of : List ℕ → Option Extension
+extension_of name = if has_caller name then Some (record { name = name; spelling = name }) else spelled name (meaning_of name)
+
+-- ---- what a line says to those behind it
+
+-- nothing; its extension; its extension, and that it is a hint; or its extension, its number and the label that it keeps
+pub data Said : Type 0 where
+  Nothing : Said
+  Names : Extension → Said
+  Hints : Extension → Said
+  Counts : Extension → ℕ → Option (List ℕ) → Said
+
+-- the number
+abbrev pub number_in : Said → Option ℕ
+number_in Nothing = None
+number_in (Names extension) = None
+number_in (Hints extension) = None
+number_in (Counts extension number label) = Some number
+
+-- the extension
+abbrev pub extension_in : Said → Option Extension
+extension_in Nothing = None
+extension_in (Names extension) = Some extension
+extension_in (Hints extension) = Some extension
+extension_in (Counts extension number label) = Some extension
+
+-- a hint, and a line with a number, which is none
+abbrev pub hint_in : Said → Option Bool
+hint_in Nothing = None
+hint_in (Names extension) = None
+hint_in (Hints extension) = Some true
+hint_in (Counts extension number label) = Some false
+
+-- the number of the label, where the line has the label and its extension has the spelling
+abbrev pub number_with : List ℕ → List ℕ → Extension → ℕ → Option (List ℕ) → Option ℕ
+number_with name label extension number None = None
+number_with name label extension number (Some own) =
+    if same_text name extension.spelling && same_text label own then Some number else None
+
+-- the same of all lines
+abbrev pub label_in : List ℕ → List ℕ → Said → Option ℕ
+label_in name label Nothing = None
+label_in name label (Names extension) = None
+label_in name label (Hints extension) = None
+label_in name label (Counts extension number own) = number_with name label extension number own
+
+-- ---- the history
+
+-- the last number, the last extension, whether a hint stands behind the last number, and the number of a label of an extension,
+-- which is given by the spelling of its name
+pub record History : Type 0 where
+  pub number : Option ℕ
+  pub extension : Option Extension
+  pub is_after_hint : Bool
+  pub label : List ℕ → List ℕ → Option ℕ
+
+-- the first value that the elements give
+abbrev pub nearest : {X Y : Type 0} → (X → Option Y) → List X → Option Y
+nearest f [] = None
+nearest f (x ∷ xs) = option_or (f x) (nearest f xs)
+
+-- what the lines before say, the nearest line first
+abbrev pub history_of : List Said → History
+history_of before = record {
+  number = nearest number_in before;
+  extension = nearest extension_in before;
+  is_after_hint = unwrap_or (nearest hint_in before) false;
+  label = λ name label. nearest (label_in name label) before;
+}

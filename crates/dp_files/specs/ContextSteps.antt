@@ -1,0 +1,102 @@
+-- Steps of the code: what the lines so far leave for the next one, kept so that it is found at once. What all of them say, the
+-- nearest first, is `history_of` of ContextHistory.
+use Rattle.std.specs.Prelude.{ℕ, Bool, ◌&&◌, List, [], ◌∷◌, Option, Some, None}
+use Rattle.std.specs.Map.{lookup}
+use Rattle.std.specs.Option.{option_map, option_or, unwrap_or}
+use Rattle.indexmap.specs.IndexMap.{insert_entry}
+use Rattle.dp_conf.specs.Words.{same_text}
+use Rattle.dp_files.specs.ContextHistory as said
+use Rattle.dp_files.specs.ContextLines as lines
+use Rattle.dp_files.specs.ContextWords as words
+use Rattle.dp_files.specs.PriorityView.{priority_now}
+use Rattle.dp_files.specs.declared.context_line.ContextLine.{ContextLine}
+use Rattle.dp_files.specs.declared.context_line.ContextLine.TheVariants.{Exten, Same, LeftOut, Other}
+use Rattle.dp_files.specs.declared.extension.Extension.{Extension}
+use Rattle.dp_files.specs.declared.history.ExtensionLabel.{ExtensionLabel}
+use Rattle.dp_files.specs.declared.history.History.{History}
+use Rattle.dp_files.specs.declared.history.Leaves.{Leaves}
+use Rattle.dp_files.specs.declared.history.Leaves.TheVariants.{Nothing, Names, Hints, Counts}
+use Rattle.dp_files.specs.declared.line_reading.Made.{Made}
+use Rattle.dp_files.specs.declared.line_reading.Reading.{Reading}
+use Rattle.dp_files.specs.declared.line_reading.EntrySource.{EntrySource}
+use Rattle.dp_files.specs.declared.entry_line.EntryLine.{EntryLine}
+
+-- a line of a context, as its texts
+abbrev pub line_now : ContextLine → words.ContextLine
+line_now (Exten name entry) = words.Exten name.now entry.priority.now entry.application.now
+line_now (Same entry) = words.Same entry.priority.now entry.application.now
+line_now (LeftOut note) = words.LeftOut note
+line_now Other = words.Other
+
+-- ---- labels
+
+-- two labels of extensions are the same
+abbrev pub same_label : ExtensionLabel → ExtensionLabel → Bool
+same_label a b = same_text a.spelling b.spelling && same_text a.label b.label
+
+-- the label of an extension
+abbrev pub label_key : List ℕ → List ℕ → ExtensionLabel
+label_key spelling label = record { spelling = spelling; label = label }
+
+-- the labels with one more, where there is one
+abbrev pub with_label : List (ExtensionLabel × ℕ) → List ℕ → ℕ → Option (List ℕ) → List (ExtensionLabel × ℕ)
+with_label labels spelling number None = labels
+with_label labels spelling number (Some label) = insert_entry same_label labels (label_key spelling label) number
+
+-- the number of a label
+abbrev pub number_of_label : List (ExtensionLabel × ℕ) → List ℕ → List ℕ → Option ℕ
+number_of_label labels spelling label = lookup (same_label (label_key spelling label)) labels
+
+-- ---- the history
+
+-- what is kept, as the history that it stands for
+abbrev pub history_in : History → said.History
+history_in history = record {
+  number = history.number;
+  extension = history.extension;
+  is_after_hint = history.is_after_hint;
+  label = number_of_label history.labels.entries;
+}
+
+-- the history after one more line
+abbrev pub after : said.History → said.Said → said.History
+after history line = record {
+  number = option_or (said.number_in line) history.number;
+  extension = option_or (said.extension_in line) history.extension;
+  is_after_hint = unwrap_or (said.hint_in line) history.is_after_hint;
+  label = λ spelling label. option_or (said.label_in spelling label line) (history.label spelling label);
+}
+
+-- what a line of the extension says
+abbrev pub said_by : Extension → Leaves → said.Said
+said_by extension Nothing = said.Nothing
+said_by extension Names = said.Names extension
+said_by extension Hints = said.Hints extension
+said_by extension (Counts number label) = said.Counts extension number (option_map (λ label. label.now) label)
+
+-- ---- readings
+
+-- an entry, as its texts
+abbrev pub entry_now : EntryLine → lines.Entry
+entry_now entry = record {
+  is_same = entry.is_same;
+  extension = entry.extension.now;
+  priority = option_map priority_now entry.priority;
+  application = entry.application.now;
+}
+
+-- the reading of a line of the extension
+abbrev pub reading_now : Extension → Reading → lines.Reading
+reading_now extension reading = record { said = said_by extension reading.leaves; made = reading.made }
+
+-- the reading of the line of an entry by its texts, whose extension may be none
+abbrev pub source_reading : said.History → Option Extension → EntrySource → lines.Reading
+source_reading history extension source =
+    lines.reading_of history source.line.now source.is_same extension source.text.priority.now source.text.application.now
+
+-- what is made of each line, by the history that stands before the first
+abbrev pub all_made_after : said.History → List (ℕ × List ℕ) → List (ℕ × Made)
+all_made_after history [] = []
+all_made_after history (line ∷ rest) =
+    (line.0, (lines.line_reading history line.1).made)
+    ∷ all_made_after (after history (lines.line_reading history line.1).said) rest

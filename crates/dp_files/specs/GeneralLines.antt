@@ -1,0 +1,47 @@
+-- The lines that are made of the lines of the section `[general]`, and what is remarked of them.
+use Rattle.std.specs.Prelude.{ℕ, Bool, false, not, ◌&&◌, ◌||◌, List, map, Option, Some, None, codes, if◌then◌else◌}
+use Rattle.std.specs.List.{flat_map}
+use Rattle.std.specs.Str.{byte}
+use Rattle.dp_conf.specs.Blanks.{trim}
+use Rattle.dp_conf.specs.Cut.{cut_once}
+use Rattle.dp_conf.specs.Lines.{after_sign, content_of}
+use Rattle.dp_conf.specs.Words.{same_word}
+use Rattle.dp_files.specs.ContextLines.{made_line, remark_on}
+use Rattle.dp_files.specs.declared.line_reading.Made.{Made}
+use Rattle.dp_files.specs.declared.remark.Note.TheVariants.{AutoFallThrough}
+use Rattle.dp_files.specs.declared.remark.Remark.{Remark}
+use Rattle.dp_files.specs.declared.remark.RemarkKind.TheVariants.{Note}
+use Rattle.dp_files.specs.declared.source_line.MadeLine.{MadeLine}
+
+-- a value that Asterisk takes as true
+abbrev pub is_true_word : List ℕ → Bool
+is_true_word value =
+    same_word value (codes "yes") || same_word value (codes "true") || same_word value (codes "y")
+    || same_word value (codes "t") || same_word value (codes "1") || same_word value (codes "on")
+
+-- the setting after which calls do not end where nothing is left to run
+abbrev pub turns_off : List ℕ → List ℕ → Bool
+turns_off key value = same_word key (codes "autofallthrough") && not (is_true_word value)
+
+-- by what the first `=` cuts: a key and its value, behind a `>` that belongs to the sign
+abbrev pub turns_off_by : Option (List ℕ × List ℕ) → Bool
+turns_off_by None = false
+turns_off_by (Some cut) = turns_off (trim cut.0) (trim (after_sign cut.1))
+
+-- a line: that setting is left out with a note, and all else stands as it is
+unfoldable pub general_made : List ℕ → Made
+general_made line =
+    if turns_off_by (cut_once (byte "=") (content_of line)) then record { text = None; remark = Some (Note AutoFallThrough) }
+    else record { text = Some line; remark = None }
+
+-- what is made of each line
+abbrev pub all_general_made : List (ℕ × List ℕ) → List (ℕ × Made)
+all_general_made lines = map (λ (line : ℕ × List ℕ). (line.0, general_made line.1)) lines
+
+-- the lines that are made of the lines of a section, in order
+abbrev pub general_lines : List (ℕ × List ℕ) → List MadeLine
+general_lines lines = flat_map made_line (all_general_made lines)
+
+-- the remarks on the lines of a section, in order
+abbrev pub general_remarks : List (ℕ × List ℕ) → List Remark
+general_remarks lines = flat_map remark_on (all_general_made lines)

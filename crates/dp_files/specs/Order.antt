@@ -1,0 +1,36 @@
+-- Lines that sections keep in their order.
+use Rattle.std.specs.Prelude.{◌≡◌, ℕ, Bool, false, not, ◌==◌, List, ◌++◌, length, IfOk, None}
+use Rattle.std.specs.Option.{option_to_list}
+use Rattle.std.specs.List.{filter, flat_map, list_any, range_with_len}
+use Rattle.std.specs.Str.{byte}
+use Rattle.dp_conf.specs.Cut.{begins_with}
+use Rattle.dp_conf.specs.Lines.{content_of}
+use Rattle.dp_files.specs.Headers.{header_in}
+use Rattle.dp_files.specs.Sections.{sections_of}
+use Rattle.dp_files.specs.declared.remark.Remark.{Remark}
+use Rattle.dp_files.specs.declared.sections.SourceSection.{SourceSection}
+use Rattle.dp_files.specs.declared.source_line.SourceFile.{SourceFile}
+use Rattle.dp_files.specs.declared.source_line.SourceLine.{SourceLine}
+
+-- a line of the first file that is no directive and whose header, where it is one, has no parentheses
+pub record IsPlain (line : SourceLine) : Type 0 where
+  pub file : line.file ≡ 0
+  pub directive : begins_with (byte "#") (content_of line.text) ≡ false
+  pub header : IfOk (header_in (content_of line.text)) (λ header. header.options ≡ None)
+
+-- the places of a section's lines, that of its header before the others
+abbrev pub section_places : SourceSection → List ℕ
+section_places section = option_to_list section.header ++ section.lines
+
+-- a remark tells of the line at a place
+abbrev pub has_remark : List Remark → ℕ → Bool
+has_remark remarks place = list_any (λ remark. remark.source == place) remarks
+
+-- the places of so many lines, without those of which a remark tells
+abbrev pub without_remark : List Remark → ℕ → List ℕ
+without_remark remarks count = filter (λ place. not (has_remark remarks place)) (range_with_len 0 count)
+
+-- the lines of the sections with their headers, one section after another, are all lines in order but those of which a remark tells
+abbrev pub KeepsOrder : List SourceFile → List SourceLine → Type 0
+KeepsOrder files lines =
+    flat_map section_places (sections_of files lines).sections ≡ without_remark (sections_of files lines).remarks (length lines)

@@ -1,0 +1,24 @@
+-- A step of the code: a priority as it stands in its line, as its texts.
+use Rattle.std.specs.Option.{option_map}
+use Rattle.dp_files.specs.Priorities as spec
+use Rattle.dp_files.specs.declared.priority.Base.{Base}
+use Rattle.dp_files.specs.declared.priority.Base.TheVariants.{Number, Next, Same, Label}
+use Rattle.dp_files.specs.declared.priority.Written.{Written}
+use Rattle.dp_files.specs.declared.priority.Written.TheVariants.{Hint, Counted}
+use Rattle.dp_files.specs.declared.priority.Priority.{Priority}
+
+-- a base
+abbrev pub base_now : Base → spec.Base
+base_now (Number number) = spec.Number number
+base_now Next = spec.Next
+base_now Same = spec.Same
+base_now (Label text) = spec.Label text.now
+
+-- what is counted
+abbrev pub written_now : Written → spec.Written
+written_now Hint = spec.Hint
+written_now (Counted base more) = spec.Counted (base_now base) more
+
+-- with its label
+abbrev pub priority_now : Priority → spec.Priority
+priority_now priority = record { written = written_now priority.written; label = option_map (λ label. label.now) priority.label }

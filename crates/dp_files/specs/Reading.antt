@@ -1,0 +1,184 @@
+-- The lines of files that include each other, and what is told of them.
+use Rattle.std.specs.Prelude.{ℕ, zero, suc, ◌+◌, ◌-◌, Bool, true, false, nat_le, List, [], ◌∷◌, ◌++◌, length, fold, Option, Some, None, Result, Ok, Err, if◌then◌else◌, ◌==◌}
+use Rattle.dp_conf.specs.Lines.{content_of}
+use Rattle.dp_conf.specs.Whole.{most_bytes}
+use Rattle.dp_conf.specs.declared.fault.LineKind.TheVariants.{Directive as directive_kind}
+use Rattle.dp_files.specs.Comments.{file_lines}
+use Rattle.dp_files.specs.Directives.{DirectiveOf, Include, TryInclude, Exec, Unknown, directive_of}
+use Rattle.dp_files.specs.Sources.{Files, TextRead, Bytes, Absent, TooLong, text_read}
+use Rattle.dp_files.specs.Wildcards.{is_wildcard}
+use Rattle.dp_files.specs.declared.including.Request.{Request}
+use Rattle.dp_files.specs.declared.reading.FilesRead.{FilesRead}
+use Rattle.dp_files.specs.declared.reading.ReadingFault.{ReadingFault}
+use Rattle.dp_files.specs.declared.reading.ReadingFault.TheVariants.{NotFound as not_found_error, TooLong as too_long_error, NoMemory}
+use Rattle.dp_files.specs.declared.source_line.SourceFile.{SourceFile}
+use Rattle.dp_files.specs.declared.source_line.SourceLine.{SourceLine}
+use Rattle.dp_files.specs.declared.remark.Remark.{Remark}
+use Rattle.dp_files.specs.declared.remark.RemarkKind.{RemarkKind}
+use Rattle.dp_files.specs.declared.remark.RemarkKind.TheVariants.{Note, Fault}
+use Rattle.dp_files.specs.declared.remark.Note.TheVariants.{OpenComment, Exec as exec_note}
+use Rattle.dp_files.specs.declared.remark.Fault.TheVariants.{IncludeDepth, NotFound, TooLong as too_long_fault, Line}
+
+-- the files that were opened so far, their lines, what is told of these, and how many bytes further files may have
+pub record ReadSoFar : Type 0 where
+  pub files : List SourceFile
+  pub lines : List SourceLine
+  pub remarks : List Remark
+  pub room : ℕ
+
+-- the line that asks for files, by its place among the lines, the name that it gives, and whether one is to be there
+pub record RequestOf : Type 0 where
+  pub place : ℕ
+  pub name : List ℕ
+  pub required : Bool
+
+-- how many files may be opened, and how deep they stand inside each other
+abbrev pub most_files : ℕ
+most_files = 100000
+
+abbrev pub most_depth : ℕ
+most_depth = 10
+
+-- a remark is told of a line
+abbrev pub told : ℕ → RemarkKind → ReadSoFar → ReadSoFar
+told place kind read = record {
+  files = read.files;
+  lines = read.lines;
+  remarks = read.remarks ++ record { source = place; kind = kind } ∷ [];
+  room = read.room;
+}
+
+-- a line of a file comes after the others
+abbrev pub with_line : ℕ → ℕ → List ℕ → ReadSoFar → ReadSoFar
+with_line file line text read = record {
+  files = read.files;
+  lines = read.lines ++ record { file = file; line = line; text = text } ∷ [];
+  remarks = read.remarks;
+  room = read.room;
+}
+
+-- a file of so many bytes is opened
+abbrev pub with_file : List ℕ → Option ℕ → ℕ → ReadSoFar → ReadSoFar
+with_file name included_by count read = record {
+  files = read.files ++ record { name = name; included_by = included_by } ∷ [];
+  lines = read.lines;
+  remarks = read.remarks;
+  room = read.room - count;
+}
+
+-- block comments that are open at the end of the file are noted at the line of the innermost opening
+abbrev pub after_comment : Bool → ℕ → ReadSoFar → ReadSoFar
+after_comment opens place read = if opens then told place (Note OpenComment) read else read
+
+-- after what the line at a place asks for, by what including files does
+abbrev pub after_directive : (RequestOf → ReadSoFar → ReadSoFar) → ℕ → Option DirectiveOf → ReadSoFar → ReadSoFar
+after_directive include place None read = read
+after_directive include place (Some (Include name)) read = include (record { place = place; name = name; required = true }) read
+after_directive include place (Some (TryInclude name)) read = include (record { place = place; name = name; required = false }) read
+after_directive include place (Some Exec) read = told place (Note exec_note) read
+after_directive include place (Some Unknown) read = told place (Fault (Line directive_kind)) read
+
+-- after a line of a file: it stands there itself, and then what it asks for
+unfoldable pub after_line : (RequestOf → ReadSoFar → ReadSoFar) → ℕ → Bool → ℕ → List ℕ → ReadSoFar → ReadSoFar
+after_line include file opens line text read =
+    after_directive include (length read.lines) (directive_of (content_of text))
+    (after_comment opens (length read.lines) (with_line file line text read))
+
+-- whether a line is the one of the innermost opening
+abbrev pub is_open_at : ℕ → Option ℕ → Bool
+is_open_at line None = false
+is_open_at line (Some opening) = opening == line
+
+-- after lines of a file, before which `count` others stand
+abbrev pub after_lines : (RequestOf → ReadSoFar → ReadSoFar) → ℕ → Option ℕ → ℕ → List (List ℕ) → ReadSoFar → ReadSoFar
+after_lines include file open_comment count [] read = read
+after_lines include file open_comment count (text ∷ texts) read =
+    after_lines include file open_comment (count + 1) texts
+    (after_line include file (is_open_at (count + 1) open_comment) (count + 1) text read)
+
+-- after the lines of the text of a file
+unfoldable pub after_text : (RequestOf → ReadSoFar → ReadSoFar) → ℕ → List ℕ → ReadSoFar → ReadSoFar
+after_text include file text read = after_lines include file (file_lines text).open_comment 0 (file_lines text).texts read
+
+-- after a file that was read: it is opened, and its lines come
+abbrev pub after_file : (RequestOf → ReadSoFar → ReadSoFar) → List ℕ → Option ℕ → List ℕ → ReadSoFar → ReadSoFar
+after_file include name included_by text read =
+    after_text include (length read.files) text (with_file name included_by (length text) read)
+
+-- after a file that is not there
+abbrev pub after_miss : Bool → ℕ → ReadSoFar → ReadSoFar
+after_miss required place read = if required then told place (Fault NotFound) read else read
+
+-- after a file that the line at a place names: it is read where one more may be opened
+abbrev pub after_included : (RequestOf → ReadSoFar → ReadSoFar) → ℕ → List ℕ → Option ℕ → List ℕ → ReadSoFar → ReadSoFar
+after_included include place name included_by text read =
+    if nat_le most_files (length read.files) then told place (Fault too_long_fault) read else after_file include name included_by text read
+
+-- after a file that a line names, by what reading it gave
+abbrev pub after_read : (RequestOf → ReadSoFar → ReadSoFar) → RequestOf → List ℕ → TextRead → ReadSoFar → ReadSoFar
+after_read include request name (Bytes text) read = after_included include request.place name (Some request.place) text read
+after_read include request name Absent read = after_miss request.required request.place read
+after_read include request name TooLong read = told request.place (Fault too_long_fault) read
+
+-- after a file that a line names
+unfoldable pub after_name : (RequestOf → ReadSoFar → ReadSoFar) → Files → RequestOf → ReadSoFar → List ℕ → ReadSoFar
+after_name include files request read name =
+    after_read include request name (text_read read.room (files.text name)) read
+
+-- after the files of the names that one with `*` and `?` stands for; none is as a file that is not there
+abbrev pub after_names : (RequestOf → ReadSoFar → ReadSoFar) → Files → RequestOf → List (List ℕ) → ReadSoFar → ReadSoFar
+after_names include files request [] read = after_miss request.required request.place read
+after_names include files request (name ∷ names) read = fold (after_name include files request) read (name ∷ names)
+
+-- after the files that a line asks for, where files may stand inside its own
+unfoldable pub after_request : (RequestOf → ReadSoFar → ReadSoFar) → Files → RequestOf → ReadSoFar → ReadSoFar
+after_request include files request read =
+    if is_wildcard request.name then after_names include files request (files.names request.name) read
+    else after_name include files request read request.name
+
+-- after the files that a line asks for, by how many files may stand inside each other in the file of the line
+unfoldable pub including : ℕ → Files → RequestOf → ReadSoFar → ReadSoFar
+including zero files request read = told request.place (Fault IncludeDepth) read
+including (suc depth) files request read = after_request (including depth files) files request read
+
+-- what including files does in the lines of the first file
+abbrev pub including_first : Files → RequestOf → ReadSoFar → ReadSoFar
+including_first files = including (most_depth - 1) files
+
+-- a request with its name
+abbrev pub request_now : Request → RequestOf
+request_now request = record { place = request.place; name = request.name.now; required = request.required }
+
+-- before any file was opened
+abbrev pub nothing_read : ReadSoFar
+nothing_read = record { files = []; lines = []; remarks = []; room = most_bytes }
+
+-- the files, their lines and the remarks on these
+pub record FilesOf : Type 0 where
+  pub files : List SourceFile
+  pub lines : List SourceLine
+  pub remarks : List Remark
+
+-- what was read
+abbrev pub files_of : ReadSoFar → FilesOf
+files_of read = record { files = read.files; lines = read.lines; remarks = read.remarks }
+
+-- what the first file and those in it give, by what reading the first gave
+abbrev pub reading_by : Files → List ℕ → TextRead → Result FilesOf ReadingFault
+reading_by files name (Bytes text) = Ok (files_of (after_file (including_first files) name None text nothing_read))
+reading_by files name Absent = Err not_found_error
+reading_by files name TooLong = Err too_long_error
+
+-- what the file of this name and those in it give
+unfoldable pub reading_of : Files → List ℕ → Result FilesOf ReadingFault
+reading_of files name = reading_by files name (text_read most_bytes (files.text name))
+
+-- what a call gave
+abbrev pub files_read : FilesRead → FilesOf
+files_read read = record { files = read.files.items; lines = read.lines.items; remarks = read.remarks.items }
+
+-- a fault that the files decide; out of memory they do not
+abbrev pub first_fault : ReadingFault → Option ReadingFault
+first_fault not_found_error = Some not_found_error
+first_fault too_long_error = Some too_long_error
+first_fault NoMemory = None

@@ -1,0 +1,27 @@
+-- What private functions say of what was read so far. No public clause rests on it.
+use Rattle.std.specs.Prelude.{ℕ, List}
+use Rattle.dp_files.specs.Sections.{SectionsSoFar}
+use Rattle.dp_files.specs.declared.remark.Fault.{Fault}
+use Rattle.dp_files.specs.declared.remark.Remark.{Remark}
+use Rattle.dp_files.specs.declared.remark.RemarkKind.TheVariants.{Fault as fault_kind}
+use Rattle.dp_files.specs.declared.sections.NamedSections.{NamedSections}
+use Rattle.dp_files.specs.declared.sections.Opening.{Opening}
+use Rattle.dp_files.specs.declared.sections.Reading.{Reading}
+
+-- what was read so far, as the definition has it
+abbrev pub reading_now : Reading → SectionsSoFar
+reading_now reading =
+    record {
+      sections = reading.sections.items;
+      remarks = reading.remarks.items;
+      open_in = reading.open_in.items;
+      room = reading.room;
+    }
+
+-- the section that a header opens, and those whose lines it copies
+abbrev pub named_now : NamedSections → Opening × List ℕ
+named_now named = (named.opening, named.parents.items)
+
+-- the remark on a faulty line
+abbrev pub fault_at : ℕ → Fault → Remark
+fault_at place fault = record { source = place; kind = fault_kind fault }

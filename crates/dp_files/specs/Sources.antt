@@ -1,0 +1,32 @@
+-- What a source of files has, and what reading one of them gives.
+use Rattle.std.specs.Prelude.{ℕ, nat_le, List, length, Option, Some, None, if◌then◌else◌}
+use Rattle.dp_files.specs.declared.source.FileText.{FileText}
+use Rattle.dp_files.specs.declared.source.FileText.TheVariants.{Bytes as bytes_in, Absent as absent_in, TooLong as too_long_in}
+
+-- the text of the file of a name, where it is there and can be read, and the names in byte order that one with `*` and `?` stands for
+pub record Files : Type 0 where
+  pub text : List ℕ → Option (List ℕ)
+  pub names : List ℕ → List (List ℕ)
+
+-- the bytes of a file, that there is none, or that it has too many
+pub data TextRead : Type 0 where
+  Bytes : List ℕ → TextRead
+  Absent : TextRead
+  TooLong : TextRead
+
+-- what reading a file gives that may have so many bytes
+abbrev pub text_read : ℕ → Option (List ℕ) → TextRead
+text_read most None = Absent
+text_read most (Some bytes) = if nat_le (length bytes) most then Bytes bytes else TooLong
+
+-- what a call gave
+abbrev pub text_now : FileText → TextRead
+text_now (bytes_in bytes) = Bytes bytes.items
+text_now absent_in = Absent
+text_now too_long_in = TooLong
+
+-- how many bytes were given
+abbrev pub length_read : TextRead → ℕ
+length_read (Bytes bytes) = length bytes
+length_read Absent = 0
+length_read TooLong = 0

@@ -1,0 +1,163 @@
+//! Block comments, after the Asterisk documentation's page on its configuration files.
+ghost use Rattle.std.specs.Prelude.{◌≡◌, ◌<◌, ◌==◌, ◌&&◌, not, IfOk, ℕ, length};
+ghost use Rattle.dp_files.specs.Comments as spec;
+
+use dp_conf::{NoMemory, Text, first_part, opens_block, without_mark};
+use std::alloc::Global;
+use std::marker::Model;
+
+/// The block comments that are open, by the lines of their openings. A contract sees the innermost first.
+#[derive(Drop)]
+struct OpenComments {
+    lines: Vec<usize>,
+}
+
+impl Model for OpenComments {
+    ghost use Rattle.std.specs.Prelude.{ℕ, List, reverse};
+
+    ghost Value = { List ℕ };
+
+    ghost view = { λ comments. reverse comments.lines.items };
+}
+
+impl OpenComments {
+    ghost use Rattle.std.specs.Prelude.{◌≡◌, ◌==◌, ◌∷◌, OnOk, [], drop, length};
+    ghost use Rattle.dp_files.specs.Comments as spec;
+
+    /// No comments. It never allocates.
+    fn new(alloc: Global) -> Self
+        ensures { result ≡ [] }
+    {
+        OpenComments {
+            lines: Vec::new(alloc),
+        }
+    }
+
+    /// Whether none is open.
+    fn is_empty(&self) -> bool
+        ensures { result ≡ (length self.now == 0) }
+    {
+        self.lines.is_empty()
+    }
+
+    /// Opens a block comment at this line.
+    fn open(&mut self, line: usize) -> Result<(), NoMemory>
+        ensures { OnOk result (self.new ≡ line ∷ self.old) }
+    {
+        self.lines.push(line)?;
+        Ok(())
+    }
+
+    /// Closes the innermost one, where one is open.
+    fn close(&mut self)
+        ensures { self.new ≡ drop 1 self.old }
+    {
+        let _closed = self.lines.pop();
+    }
+
+    /// The line of the innermost opening.
+    fn innermost(&self) -> Option<usize>
+        ensures { result ≡ spec.innermost self.now }
+    {
+        self.lines.last().copied()
+    }
+}
+
+/// Whether a byte outside of block comments begins a comment: a `;` with no `\` directly before it.
+fn begins_comment(previous: u8, byte: u8) -> bool
+    ensures { result ≡ (byte == 59 && not (previous == 92)) }
+{
+    byte == b';' && previous != b'\\'
+}
+
+/// Whether a text inside a block comment begins with its end: `--;`, of which the `;` opens none.
+fn closes_block(text: &[u8]) -> bool
+    ensures { result ≡ spec.closes_block text.now }
+{
+    text.starts_with(b"--;") && !opens_block(&text[2..])
+}
+
+/// Passes over a mark or a byte inside a block comment, and gives what comes after it.
+fn pass_covered<'a>(
+    line: usize,
+    open: &mut OpenComments,
+    text: &'a [u8],
+) -> Result<&'a [u8], NoMemory>
+    requires open { 0 < length open.old }
+    requires some { 0 < length text.now }
+    ensures rest { IfOk result (λ after. (previous : ℕ) → spec.uncovered_from line 0 open.new 10 after.now
+        ≡ spec.uncovered_from line 0 open.old previous text.now) }
+    ensures shorter { IfOk result (λ after. length after.now < length text.now) }
+{
+    if opens_block(text) {
+        open.open(line)?;
+        return Ok(&text[3..]);
+    }
+    if closes_block(text) {
+        open.close();
+        return Ok(&text[3..]);
+    }
+    Ok(&text[1..])
+}
+
+/// What block comments leave of a line. A comment of another kind ends the line, and stays in it.
+fn uncover_line(
+    alloc: Global,
+    line: usize,
+    open: &mut OpenComments,
+    part: &[u8],
+) -> Result<Text, NoMemory>
+    ensures { IfOk result (λ text. spec.uncovered line open.old part.now ≡ record { text = text; unclosed = open.new }) }
+{
+    let mut kept = Vec::new(alloc);
+    let mut previous = b'\n';
+    let mut left = part;
+    while let Some((byte, rest)) = left.split_first() {
+        if !open.is_empty() {
+            left = pass_covered(line, open, left)?;
+            previous = b'\n';
+        } else if !begins_comment(previous, *byte) {
+            kept.push(*byte)?;
+            left = rest;
+            previous = *byte;
+        } else if opens_block(left) {
+            open.open(line)?;
+            left = &left[3..];
+            previous = b'\n';
+        } else {
+            kept.extend_from_slice(left)?;
+            return Ok(Text::new(kept));
+        }
+    }
+    Ok(Text::new(kept))
+}
+
+/// The lines of a file.
+#[derive(Drop)]
+pub(crate) struct FileLines {
+    /// The lines in order, without what block comments cover.
+    pub(crate) texts: Vec<Text>,
+    /// Where block comments are open at the end of the file, the line of the innermost opening, counted from 1.
+    pub(crate) open_comment: Option<usize>,
+}
+
+/// The lines of the text of a file without what block comments cover. A byte order mark at the front is left out.
+pub(crate) fn file_lines(alloc: Global, text: &[u8]) -> Result<FileLines, NoMemory>
+    ensures { IfOk result (λ lines. spec.file_lines text.now ≡ record { texts = lines.texts.items; open_comment = lines.open_comment }) }
+{
+    let mut texts = Vec::new(alloc);
+    let mut open = OpenComments::new(alloc);
+    let mut line: usize = 0;
+    let mut rest = Some(without_mark(text));
+    while let Some(left) = rest {
+        let (part, after) = first_part(left);
+        line += 1;
+        let kept = uncover_line(alloc, line, &mut open, part)?;
+        texts.push(kept)?;
+        rest = after;
+    }
+    Ok(FileLines {
+        texts,
+        open_comment: open.innermost(),
+    })
+}

@@ -1,0 +1,81 @@
+//! The lines of a context that a loader reads, from those of its section.
+ghost use Rattle.std.specs.Prelude.{◌≡◌, ◌++◌, ◌∷◌, ℕ, List, IfOk, OnOk, slice_get};
+ghost use Rattle.dp_files.specs.ContextLines as spec;
+ghost use Rattle.dp_files.specs.ToldSteps as steps;
+ghost use Rattle.dp_files.specs.PlainContexts.{PlainLinesStand};
+
+use crate::history::History;
+use crate::line_reading::make_line;
+use crate::made_text::MadeText;
+use crate::source_line::SourceLine;
+use dp_conf::NoMemory;
+use std::alloc::Global;
+
+/// What is made of the lines so far, and what they leave for the next one.
+#[derive(Drop)]
+struct ContextReader {
+    history: History,
+    text: MadeText,
+}
+
+impl ContextReader {
+    /// Reads a line.
+    fn read_line(&mut self, alloc: Global, place: usize, line: &[u8]) -> Result<(), NoMemory>
+        ensures { OnOk result ((rest : List (ℕ × List ℕ)) → steps.told self.new rest
+            ≡ steps.told self.old ((place, line.now) ∷ rest)) }
+    {
+        let made = make_line(alloc, &mut self.history, line)?;
+        self.text.push(place, made)?;
+        Ok(())
+    }
+
+    /// Reads the line at a place, where there is one.
+    fn read_place(
+        &mut self,
+        alloc: Global,
+        lines: &[SourceLine],
+        place: usize,
+    ) -> Result<(), NoMemory>
+        ensures { OnOk result ((rest : List (ℕ × List ℕ)) → steps.told self.new rest
+            ≡ steps.told self.old (spec.line_at place (slice_get lines.now place) ++ rest)) }
+    {
+        match lines.get(place) {
+            Some(line) => self.read_line(alloc, place, line.text.bytes()),
+            None => Ok(()),
+        }
+    }
+}
+
+/// The lines that a loader reads for those of a context's section, and the remarks on these.
+///
+/// It takes the lines of all files, and the places of the section's among them, in order; a place behind the last line is passed over.
+/// Priorities become numbers, as the Asterisk documentation's page on contexts, extensions and priorities says. Hints, lines of other
+/// switches, `ignorepat` and extensions with a caller's number are left out with a note, and applications of the old form
+/// `NAME,ARGUMENTS` with a fault. A line that the loader refuses stands as it is, so that the loader tells the fault. The error comes
+/// only where a growth was refused.
+pub fn read_context(
+    alloc: Global,
+    lines: &[SourceLine],
+    places: &[usize],
+) -> Result<MadeText, NoMemory>
+    ensures lines { IfOk result (λ text. text.lines.items
+        ≡ spec.context_lines (spec.section_lines lines.now places.now)) }
+    ensures remarks { IfOk result (λ text. text.remarks.items
+        ≡ spec.context_remarks (spec.section_lines lines.now places.now)) }
+{
+    let mut reader = ContextReader {
+        history: History::new(alloc),
+        text: MadeText::new(alloc),
+    };
+    for place in places {
+        reader.read_place(alloc, lines, *place)?;
+    }
+    let ContextReader { history: _, text } = reader;
+    Ok(text)
+}
+
+/// Lines whose entries have priorities of digits, and that have none of the forms that are left out, stand as they are, byte for byte,
+/// and nothing is remarked on them.
+pub fn plain_lines_stand()
+    ensures { PlainLinesStand }
+{}

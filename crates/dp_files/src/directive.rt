@@ -1,0 +1,107 @@
+//! Lines that begin with `#`, after the Asterisk documentation's page on its configuration files.
+ghost use Rattle.std.specs.Prelude.{◌≡◌, ◌≤◌, length};
+ghost use Rattle.std.specs.Option.{option_map};
+ghost use Rattle.dp_files.specs.Directives as spec;
+
+use dp_conf::{is_blank, same_word, trim};
+
+/// What a line that begins with `#` asks for.
+#[derive(Clone, Copy)]
+pub(crate) enum Directive<'a> {
+    /// The lines of the files of this name are to stand here.
+    Include(&'a [u8]),
+    /// The same, and nothing where there is no such file.
+    TryInclude(&'a [u8]),
+    /// A command, which is not run.
+    Exec,
+    /// A word that is none of these, or one of the first two with no name.
+    Unknown,
+}
+
+/// How many bytes stand before the first blank.
+fn word_length(text: &[u8]) -> usize
+    ensures length { result ≡ spec.word_length text.now }
+    ensures within { result ≤ length text.now }
+{
+    for (at, byte) in text.iter().enumerate() {
+        if is_blank(*byte) {
+            return at;
+        }
+    }
+    text.len()
+}
+
+/// What stands before the last byte, where it is this one.
+fn before_end(text: &[u8], byte: u8) -> Option<&[u8]>
+    ensures { option_map (λ front. front.now) result ≡ spec.before_end byte text.now }
+{
+    let Some((last, front)) = text.split_last() else {
+        return None;
+    };
+    if *last != byte {
+        return None;
+    }
+    Some(front)
+}
+
+/// The byte that closes what this one opens.
+fn closing_of(byte: u8) -> Option<u8>
+    ensures { result ≡ spec.closing_of byte }
+{
+    match byte {
+        b'"' => Some(b'"'),
+        b'\'' => Some(b'\''),
+        b'<' => Some(b'>'),
+        _ => None,
+    }
+}
+
+/// A name without the quotes, or the `<` and the `>`, that it stands in. One that does not end with what it begins with is bare.
+fn unquoted(text: &[u8]) -> &[u8]
+    ensures { result.now ≡ spec.unquoted text.now }
+{
+    let Some((first, inside)) = text.split_first() else {
+        return text;
+    };
+    let Some(closing) = closing_of(*first) else {
+        return text;
+    };
+    match before_end(inside, closing) {
+        Some(name) => name,
+        None => text,
+    }
+}
+
+/// The directive of a word and a name.
+fn directive_by<'a>(word: &[u8], name: &'a [u8]) -> Directive<'a>
+    ensures { spec.directive_now result ≡ spec.directive_by word.now name.now }
+{
+    if same_word(word, b"exec") {
+        Directive::Exec
+    } else if name.is_empty() {
+        Directive::Unknown
+    } else if same_word(word, b"include") {
+        Directive::Include(name)
+    } else if same_word(word, b"tryinclude") {
+        Directive::TryInclude(name)
+    } else {
+        Directive::Unknown
+    }
+}
+
+/// What the content of a line asks for, where it begins with `#`.
+///
+/// The word goes from the `#` up to the first blank, and its letters are of any case. The name is what comes after the word,
+/// without blanks at its ends and without the quotes, or the `<` and the `>`, that it stands in.
+#[tactic(auto, unfolding(crate::specs::Directives::directive_of))]
+pub(crate) fn read_directive(content: &[u8]) -> Option<Directive<'_>>
+    ensures { option_map spec.directive_now result ≡ spec.directive_of content.now }
+{
+    match content.split_first() {
+        Some((b'#', after)) => {
+            let (word, rest) = after.split_at(word_length(after));
+            Some(directive_by(word, unquoted(trim(rest))))
+        }
+        _ => None,
+    }
+}

@@ -1,0 +1,95 @@
+//! The lines of the section `[general]` that a loader reads.
+ghost use Rattle.std.specs.Prelude.{◌≡◌, ◌++◌, ◌∷◌, ℕ, List, IfOk, OnOk, slice_get};
+ghost use Rattle.dp_conf.specs.Cut as cuts;
+ghost use Rattle.dp_files.specs.ContextLines.{line_at, section_lines};
+ghost use Rattle.dp_files.specs.GeneralLines as spec;
+ghost use Rattle.dp_files.specs.GeneralSteps as steps;
+
+use crate::context_line::after_sign;
+use crate::line_reading::Made;
+use crate::made_text::MadeText;
+use crate::remark::{Note, RemarkKind};
+use crate::source_line::SourceLine;
+use dp_conf::{NoMemory, cut_once, line_content, same_word, trim};
+use std::alloc::Global;
+
+/// Whether Asterisk takes the value as true.
+fn is_true_word(value: &[u8]) -> bool
+    ensures { result ≡ spec.is_true_word value.now }
+{
+    same_word(value, b"yes")
+        || same_word(value, b"true")
+        || same_word(value, b"y")
+        || same_word(value, b"t")
+        || same_word(value, b"1")
+        || same_word(value, b"on")
+}
+
+/// Whether the content of a line says that calls do not end where nothing is left to run.
+fn turns_off(content: &[u8]) -> bool
+    ensures { result ≡ spec.turns_off_by (cuts.cut_once 61 content.now) }
+{
+    let Some((key, value)) = cut_once(content, b'=') else {
+        return false;
+    };
+    same_word(trim(key), b"autofallthrough") && !is_true_word(trim(after_sign(value)))
+}
+
+/// What is made of a line.
+#[tactic(auto, unfolding(crate::specs::GeneralLines::general_made))]
+fn make_general(alloc: Global, line: &[u8]) -> Result<Made, NoMemory>
+    ensures { IfOk result (λ made. made ≡ spec.general_made line.now) }
+{
+    let content = line_content(alloc, line)?;
+    if turns_off(content.bytes()) {
+        return Ok(Made::remark(RemarkKind::Note(Note::AutoFallThrough)));
+    }
+    Made::standing(alloc, line)
+}
+
+/// Adds what is made of a line.
+fn read_line(alloc: Global, text: &mut MadeText, place: usize, line: &[u8]) -> Result<(), NoMemory>
+    ensures { OnOk result ((rest : List (ℕ × List ℕ)) → steps.told text.new rest
+        ≡ steps.told text.old ((place, line.now) ∷ rest)) }
+{
+    let made = make_general(alloc, line)?;
+    text.push(place, made)?;
+    Ok(())
+}
+
+/// Adds what is made of the line at a place, where there is one.
+fn read_place(
+    alloc: Global,
+    text: &mut MadeText,
+    lines: &[SourceLine],
+    place: usize,
+) -> Result<(), NoMemory>
+    ensures { OnOk result ((rest : List (ℕ × List ℕ)) → steps.told text.new rest
+        ≡ steps.told text.old (line_at place (slice_get lines.now place) ++ rest)) }
+{
+    match lines.get(place) {
+        Some(line) => read_line(alloc, text, place, line.text.bytes()),
+        None => Ok(()),
+    }
+}
+
+/// The lines that a loader reads for those of a section `[general]`, and the remarks on these.
+///
+/// It takes the lines of all files, and the places of the section's among them, in order; a place behind the last line is passed over.
+/// All stand as they are but `autofallthrough=no`, which is left out with a note: an exchange with it does not end a call where nothing
+/// is left to run. As the Asterisk documentation's page on its configuration files says, a value is true where it is `yes`, `true`, `y`,
+/// `t`, `1` or `on` in any case, and any other says `no`. The error comes only where a growth was refused.
+pub fn read_general(
+    alloc: Global,
+    lines: &[SourceLine],
+    places: &[usize],
+) -> Result<MadeText, NoMemory>
+    ensures lines { IfOk result (λ text. text.lines.items ≡ spec.general_lines (section_lines lines.now places.now)) }
+    ensures remarks { IfOk result (λ text. text.remarks.items ≡ spec.general_remarks (section_lines lines.now places.now)) }
+{
+    let mut text = MadeText::new(alloc);
+    for place in places {
+        read_place(alloc, &mut text, lines, *place)?;
+    }
+    Ok(text)
+}

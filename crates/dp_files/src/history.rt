@@ -1,0 +1,190 @@
+//! What the lines of a section so far leave for the next one.
+ghost use Rattle.std.specs.Prelude.{◌≡◌, [], IfOk, OnOk};
+ghost use Rattle.std.specs.Option.{option_map};
+ghost use Rattle.dp_files.specs.ContextHistory as spec;
+ghost use Rattle.dp_files.specs.ContextSteps as steps;
+
+use crate::extension::Extension;
+use dp_conf::{NoMemory, Text};
+use indexmap::IndexMap;
+use std::alloc::Global;
+
+/// A label of an extension, which is given by the spelling of its name.
+#[derive(PartialEq, Eq, Hash, Drop)]
+pub(crate) struct ExtensionLabel {
+    spelling: Text,
+    label: Text,
+}
+
+/// What a line says to those behind it, beside its extension.
+#[derive(Clone, Copy)]
+pub(crate) enum Leaves<'a> {
+    /// Not even the extension.
+    Nothing,
+    /// The extension.
+    Names,
+    /// The extension, and that the line is a hint.
+    Hints,
+    /// The extension, the number of the line, and the label that it keeps.
+    Counts {
+        number: u64,
+        label: Option<&'a [u8]>,
+    },
+}
+
+/// What the lines of a section so far leave for the next one.
+#[derive(Drop)]
+pub(crate) struct History {
+    number: Option<u64>,
+    extension: Option<Extension>,
+    is_after_hint: bool,
+    labels: IndexMap<ExtensionLabel, u64>,
+}
+
+impl ExtensionLabel {
+    /// The label of the extension.
+    fn of(alloc: Global, spelling: &[u8], label: &[u8]) -> Result<Self, NoMemory>
+        ensures { IfOk result (λ key. key ≡ steps.label_key spelling.now label.now) }
+    {
+        let spelling = Text::copy_of(alloc, spelling)?;
+        let label = Text::copy_of(alloc, label)?;
+        Ok(ExtensionLabel { spelling, label })
+    }
+}
+
+/// Adds a label, where there is one.
+fn add_label(
+    alloc: Global,
+    labels: &mut IndexMap<ExtensionLabel, u64>,
+    spelling: &[u8],
+    number: u64,
+    label: Option<&[u8]>,
+) -> Result<(), NoMemory>
+    ensures { OnOk result (labels.new.entries
+        ≡ steps.with_label labels.old.entries spelling.now number (option_map (λ label. label.now) label.entry)) }
+{
+    let Some(label) = label else {
+        return Ok(());
+    };
+    let key = ExtensionLabel::of(alloc, spelling, label)?;
+    labels.insert(key, number)?;
+    Ok(())
+}
+
+impl History {
+    /// Before the first line.
+    pub(crate) fn new(alloc: Global) -> Self
+        ensures { steps.history_in result ≡ spec.history_of [] }
+    {
+        History {
+            number: None,
+            extension: None,
+            is_after_hint: false,
+            labels: IndexMap::new(alloc),
+        }
+    }
+
+    /// The last number.
+    pub(crate) fn number(&self) -> Option<u64>
+        ensures { result ≡ (steps.history_in self.now).number }
+    {
+        self.number
+    }
+
+    /// A copy of the last extension.
+    pub(crate) fn extension(&self) -> Result<Option<Extension>, NoMemory>
+        ensures { IfOk result (λ extension. extension ≡ (steps.history_in self.now).extension) }
+    {
+        match &self.extension {
+            None => Ok(None),
+            Some(extension) => {
+                let extension = extension.copy()?;
+                Ok(Some(extension))
+            }
+        }
+    }
+
+    /// Whether a hint stands behind the last number.
+    pub(crate) fn is_after_hint(&self) -> bool
+        ensures { result ≡ (steps.history_in self.now).is_after_hint }
+    {
+        self.is_after_hint
+    }
+
+    /// The number of the label of the extension whose name is spelled so.
+    pub(crate) fn number_of_label(
+        &self,
+        alloc: Global,
+        spelling: &[u8],
+        label: &[u8],
+    ) -> Result<Option<u64>, NoMemory>
+        ensures { IfOk result (λ number. number ≡ (steps.history_in self.now).label spelling.now label.now) }
+    {
+        let key = ExtensionLabel::of(alloc, spelling, label)?;
+        let number = self.labels.get(&key).copied();
+        Ok(number)
+    }
+
+    /// Adds a hint of the extension.
+    fn hint(&mut self, extension: Extension)
+        ensures { steps.history_in self.new ≡ steps.after (steps.history_in self.old) (spec.Hints extension) }
+    {
+        self.extension = Some(extension);
+        self.is_after_hint = true;
+    }
+
+    /// Adds a line of the extension that has no number.
+    fn name(&mut self, extension: Extension)
+        ensures { steps.history_in self.new ≡ steps.after (steps.history_in self.old) (spec.Names extension) }
+    {
+        self.extension = Some(extension);
+    }
+
+    /// Adds a line of the extension that has a number.
+    fn count(
+        &mut self,
+        alloc: Global,
+        extension: Extension,
+        number: u64,
+        label: Option<&[u8]>,
+    ) -> Result<(), NoMemory>
+        ensures { OnOk result (steps.history_in self.new ≡ steps.after (steps.history_in self.old)
+            (spec.Counts extension number (option_map (λ label. label.now) label.entry))) }
+    {
+        add_label(
+            alloc,
+            &mut self.labels,
+            extension.spelling.bytes(),
+            number,
+            label,
+        )?;
+        self.number = Some(number);
+        self.extension = Some(extension);
+        self.is_after_hint = false;
+        Ok(())
+    }
+
+    /// Adds a line of the extension.
+    pub(crate) fn add(
+        &mut self,
+        alloc: Global,
+        extension: Extension,
+        leaves: Leaves<'_>,
+    ) -> Result<(), NoMemory>
+        ensures { OnOk result (steps.history_in self.new
+            ≡ steps.after (steps.history_in self.old) (steps.said_by extension leaves.entry)) }
+    {
+        match leaves {
+            Leaves::Nothing => Ok(()),
+            Leaves::Names => {
+                self.name(extension);
+                Ok(())
+            }
+            Leaves::Hints => {
+                self.hint(extension);
+                Ok(())
+            }
+            Leaves::Counts { number, label } => self.count(alloc, extension, number, label),
+        }
+    }
+}

@@ -1,0 +1,326 @@
+//! Files inside the lines of other files, after the Asterisk documentation's page on its configuration files.
+ghost use Rattle.std.specs.Prelude.{◌≡◌, Option, Some, OnOk};
+ghost use Rattle.dp_files.specs.Directives.{directive_of};
+ghost use Rattle.dp_files.specs.Reading as spec;
+ghost use Rattle.dp_files.specs.Sources.{Files};
+
+use crate::comments::{FileLines, file_lines};
+use crate::directive::{Directive, read_directive};
+use crate::reading::Reading;
+use crate::remark::{Fault, Note, RemarkKind};
+use crate::source::{FileText, Source};
+use crate::wildcard::is_wildcard;
+use dp_conf::{LineKind, NoMemory, Text, line_content};
+use std::alloc::Global;
+use std::marker::PhantomData;
+
+/// What a line asks for: the files of a name.
+#[derive(Clone, Copy)]
+pub(crate) struct Request<'a> {
+    /// The place of the line.
+    place: usize,
+    name: &'a [u8],
+    /// Whether it is told where there is no such file.
+    required: bool,
+}
+
+/// A file that was read.
+#[derive(Clone, Copy)]
+pub(crate) struct FileRead<'a> {
+    pub(crate) name: &'a [u8],
+    /// The place of the line that includes it.
+    pub(crate) included_by: Option<usize>,
+    pub(crate) text: &'a [u8],
+}
+
+/// A line of a file.
+#[derive(Clone, Copy)]
+struct LineRead<'a> {
+    file: usize,
+    line: usize,
+    /// Whether it has the innermost opening of block comments that are open at the end of the file.
+    opens: bool,
+    text: &'a [u8],
+}
+
+/// How the files are read that a line asks for. How deep they may stand inside each other is in the type.
+pub(crate) trait Including<S: Source> {
+    // What is read after the files that a line asks for.
+    ghost after: { Files → spec.RequestOf → spec.ReadSoFar → spec.ReadSoFar };
+
+    /// Reads the files that a line asks for.
+    fn include(
+        alloc: Global,
+        source: &mut S,
+        reading: &mut Reading,
+        request: Request<'_>,
+    ) -> Result<(), NoMemory>
+        ensures read { OnOk result ((has : Files) → S.files source.old ≡ Some has
+            → reading.new ≡ after has (spec.request_now request.entry) reading.old) }
+        ensures kept { S.files source.new ≡ S.files source.old };
+}
+
+/// In a file that stands inside nine others no file is read.
+pub(crate) struct Deepest;
+
+impl<S: Source> Including<S> for Deepest {
+    ghost use Rattle.dp_files.specs.Reading as spec;
+
+    ghost after = { spec.including 0 };
+
+    #[tactic(auto, unfolding(crate::specs::Reading::including))]
+    fn include(
+        _alloc: Global,
+        _source: &mut S,
+        reading: &mut Reading,
+        request: Request<'_>,
+    ) -> Result<(), NoMemory> {
+        reading.tell(request.place, RemarkKind::Fault(Fault::IncludeDepth))?;
+        Ok(())
+    }
+}
+
+/// Files are read, and in their lines files are read as `I` says.
+pub(crate) struct Within<I> {
+    inner: PhantomData<I>,
+}
+
+impl<S: Source, I: Including<S>> Including<S> for Within<I> {
+    ghost use Rattle.dp_files.specs.Reading as spec;
+
+    ghost after = { λ has. spec.after_request (I.after has) has };
+
+    fn include(
+        alloc: Global,
+        source: &mut S,
+        reading: &mut Reading,
+        request: Request<'_>,
+    ) -> Result<(), NoMemory> {
+        include_request::<S, I>(alloc, source, reading, request)?;
+        Ok(())
+    }
+}
+
+/// What the lines of the first file include: files may stand inside each other ten deep, the first among them.
+pub(crate) type First = Within<
+    Within<Within<Within<Within<Within<Within<Within<Within<Deepest>>>>>>>>,
+>;
+
+/// Reads the files that a line asks for.
+#[tactic(auto, unfolding(crate::specs::Reading::after_request))]
+fn include_request<S: Source, I: Including<S>>(
+    alloc: Global,
+    source: &mut S,
+    reading: &mut Reading,
+    request: Request<'_>,
+) -> Result<(), NoMemory>
+    ensures read { OnOk result ((has : Files) → S.files source.old ≡ Some has
+        → reading.new ≡ spec.after_request (I.after has) has (spec.request_now request.entry) reading.old) }
+    ensures kept { S.files source.new ≡ S.files source.old }
+{
+    if !is_wildcard(request.name) {
+        include_name::<S, I>(alloc, source, reading, request, request.name)?;
+        return Ok(());
+    }
+    let names = source.names(alloc, request.name)?;
+    include_names::<S, I>(alloc, source, reading, request, &names)?;
+    Ok(())
+}
+
+/// Reads the files of some names, of which there are to be some.
+fn include_names<S: Source, I: Including<S>>(
+    alloc: Global,
+    source: &mut S,
+    reading: &mut Reading,
+    request: Request<'_>,
+    names: &[Text],
+) -> Result<(), NoMemory>
+    ensures read { OnOk result ((has : Files) → S.files source.old ≡ Some has
+        → reading.new ≡ spec.after_names (I.after has) has (spec.request_now request.entry) names.now reading.old) }
+    ensures kept { S.files source.new ≡ S.files source.old }
+{
+    if names.is_empty() {
+        reading.miss(request.required, request.place)?;
+        return Ok(());
+    }
+    for name in names {
+        include_name::<S, I>(alloc, source, reading, request, name.bytes())?;
+    }
+    Ok(())
+}
+
+/// Reads the file of a name, where it is there and there is room for it.
+#[tactic(auto, unfolding(crate::specs::Reading::after_name))]
+fn include_name<S: Source, I: Including<S>>(
+    alloc: Global,
+    source: &mut S,
+    reading: &mut Reading,
+    request: Request<'_>,
+    name: &[u8],
+) -> Result<(), NoMemory>
+    ensures read { OnOk result ((has : Files) → S.files source.old ≡ Some has
+        → reading.new ≡ spec.after_name (I.after has) has (spec.request_now request.entry) reading.old name.now) }
+    ensures kept { S.files source.new ≡ S.files source.old }
+{
+    let room = reading.room();
+    let text = match source.read(alloc, name, room)? {
+        FileText::Bytes(text) => text,
+        FileText::Absent => {
+            reading.miss(request.required, request.place)?;
+            return Ok(());
+        }
+        FileText::TooLong => {
+            reading.tell(request.place, RemarkKind::Fault(Fault::TooLong))?;
+            return Ok(());
+        }
+    };
+    let file = FileRead {
+        name,
+        included_by: Some(request.place),
+        text: text.as_slice(),
+    };
+    include_file::<S, I>(alloc, source, reading, request.place, file)?;
+    Ok(())
+}
+
+/// Reads a file that a line names, where one more may be open.
+fn include_file<S: Source, I: Including<S>>(
+    alloc: Global,
+    source: &mut S,
+    reading: &mut Reading,
+    place: usize,
+    file: FileRead<'_>,
+) -> Result<(), NoMemory>
+    ensures read { OnOk result ((has : Files) → S.files source.old ≡ Some has
+        → reading.new ≡ spec.after_included (I.after has) place file.entry.name.now file.entry.included_by file.entry.text.now
+        reading.old) }
+    ensures kept { S.files source.new ≡ S.files source.old }
+{
+    if reading.is_full() {
+        reading.tell(place, RemarkKind::Fault(Fault::TooLong))?;
+        return Ok(());
+    }
+    read_file::<S, I>(alloc, source, reading, file)?;
+    Ok(())
+}
+
+/// Opens a file, and reads its lines with the files in them.
+#[tactic(auto, unfolding(crate::specs::Reading::after_text))]
+pub(crate) fn read_file<S: Source, I: Including<S>>(
+    alloc: Global,
+    source: &mut S,
+    reading: &mut Reading,
+    file: FileRead<'_>,
+) -> Result<(), NoMemory>
+    ensures read { OnOk result ((has : Files) → S.files source.old ≡ Some has
+        → reading.new ≡ spec.after_file (I.after has) file.entry.name.now file.entry.included_by file.entry.text.now reading.old) }
+    ensures kept { S.files source.new ≡ S.files source.old }
+{
+    let number = reading.open_file(alloc, file.name, file.included_by, file.text.len())?;
+    let lines = file_lines(alloc, file.text)?;
+    read_lines::<S, I>(alloc, source, reading, number, &lines)?;
+    Ok(())
+}
+
+/// Whether a line is the one of the innermost opening.
+fn is_open_at(opening: Option<usize>, line: usize) -> bool
+    ensures { result ≡ spec.is_open_at line opening }
+{
+    match opening {
+        None => false,
+        Some(opening) => opening == line,
+    }
+}
+
+/// Reads the lines of a file, with the files in them.
+fn read_lines<S: Source, I: Including<S>>(
+    alloc: Global,
+    source: &mut S,
+    reading: &mut Reading,
+    file: usize,
+    lines: &FileLines,
+) -> Result<(), NoMemory>
+    ensures read { OnOk result ((has : Files) → S.files source.old ≡ Some has
+        → reading.new ≡ spec.after_lines (I.after has) file lines.now.open_comment 0 lines.now.texts.items reading.old) }
+    ensures kept { S.files source.new ≡ S.files source.old }
+{
+    for (at, text) in lines.texts.iter().enumerate() {
+        let line = LineRead {
+            file,
+            line: at + 1,
+            opens: is_open_at(lines.open_comment, at + 1),
+            text: text.bytes(),
+        };
+        read_line::<S, I>(alloc, source, reading, line)?;
+    }
+    Ok(())
+}
+
+/// Reads a line of a file, with the files that it asks for.
+#[tactic(auto, unfolding(crate::specs::Reading::after_line))]
+fn read_line<S: Source, I: Including<S>>(
+    alloc: Global,
+    source: &mut S,
+    reading: &mut Reading,
+    line: LineRead<'_>,
+) -> Result<(), NoMemory>
+    ensures read { OnOk result ((has : Files) → S.files source.old ≡ Some has
+        → reading.new ≡ spec.after_line (I.after has) line.entry.file line.entry.opens line.entry.line line.entry.text.now reading.old) }
+    ensures kept { S.files source.new ≡ S.files source.old }
+{
+    let place = reading.add_line(alloc, line.file, line.line, line.text)?;
+    reading.note_comment(line.opens, place)?;
+    let content = line_content(alloc, line.text)?;
+    follow_line::<S, I>(alloc, source, reading, place, content.bytes())?;
+    Ok(())
+}
+
+/// Does what the line at a place asks for, by its content.
+fn follow_line<S: Source, I: Including<S>>(
+    alloc: Global,
+    source: &mut S,
+    reading: &mut Reading,
+    place: usize,
+    content: &[u8],
+) -> Result<(), NoMemory>
+    ensures read { OnOk result ((has : Files) → S.files source.old ≡ Some has
+        → reading.new ≡ spec.after_directive (I.after has) place (directive_of content.now) reading.old) }
+    ensures kept { S.files source.new ≡ S.files source.old }
+{
+    let Some(directive) = read_directive(content) else {
+        return Ok(());
+    };
+    match directive {
+        Directive::Include(name) => {
+            let required = true;
+            I::include(
+                alloc,
+                source,
+                reading,
+                Request {
+                    place,
+                    name,
+                    required,
+                },
+            )?;
+        }
+        Directive::TryInclude(name) => {
+            let required = false;
+            I::include(
+                alloc,
+                source,
+                reading,
+                Request {
+                    place,
+                    name,
+                    required,
+                },
+            )?;
+        }
+        Directive::Exec => reading.tell(place, RemarkKind::Note(Note::Exec))?,
+        Directive::Unknown => {
+            reading.tell(place, RemarkKind::Fault(Fault::Line(LineKind::Directive)))?;
+        }
+    }
+    Ok(())
+}

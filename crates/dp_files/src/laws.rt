@@ -1,0 +1,30 @@
+//! Laws over the definitions of this crate.
+ghost use Rattle.std.specs.Prelude.{◌≡◌, ◌∷◌, [], ◌<◌, ℕ, Bool, List, Ok, length};
+ghost use Rattle.std.specs.List.{AllByRecursion};
+ghost use Rattle.dp_conf.specs.Lines.{Header, content_of, item_of};
+ghost use Rattle.dp_files.specs.Headers.{HeaderOf, header_of, plain_header};
+ghost use Rattle.dp_files.specs.Order.{IsPlain, KeepsOrder};
+ghost use Rattle.dp_files.specs.PlainFiles as plain;
+ghost use Rattle.dp_files.specs.Reading.{reading_of};
+ghost use Rattle.dp_files.specs.Sources.{Files};
+ghost use Rattle.dp_files.specs.declared.source_line.SourceFile.{SourceFile};
+ghost use Rattle.dp_files.specs.declared.source_line.SourceLine.{SourceLine};
+
+/// The line that is made of a header with parentheses is a header of the same name to the reader of lines. It does nothing.
+pub fn plain_headers_say_names()
+    ensures { (in_section : Bool) (line : ℕ) (inside : List ℕ) (header : HeaderOf) → header_of inside ≡ Ok header
+        → item_of in_section line (content_of (plain_header header.name)) ≡ Ok (Header line header.name ∷ []) }
+{}
+
+/// The lines of one file without directives, whose headers have no parentheses, are those of their sections: the lines of the sections
+/// with their headers, one section after another, are all lines in order, but those of which a remark tells. It does nothing.
+pub fn sections_keep_order()
+    ensures { (files : List SourceFile) (lines : List SourceLine) → 0 < length files → AllByRecursion IsPlain lines
+        → KeepsOrder files lines }
+{}
+
+/// A file in which no block comment begins, and of which no line's content begins with `#`, is read as it stands: it is the one file, its
+/// lines are the parts between its line feeds, byte for byte and numbered from 1, and nothing is told of them. It does nothing.
+pub fn plain_files_are_kept()
+    ensures { (files : Files) (name text : List ℕ) → plain.IsPlain files name text → reading_of files name ≡ Ok (plain.plain_reading name text) }
+{}

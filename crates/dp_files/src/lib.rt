@@ -1,0 +1,43 @@
+//! Files as people have them: from the texts of files to a text that a loader reads, with the source line of each of its lines, and
+//! remarks on the lines that it leaves out.
+#![tactic(auto)]
+
+mod comments;
+mod context_line;
+mod context_text;
+mod dialplan;
+mod dialplan_text;
+mod directive;
+mod entry_line;
+mod extension;
+mod file_map;
+mod general_text;
+mod header;
+mod history;
+mod including;
+pub mod laws;
+mod line_reading;
+mod made_text;
+mod outcome;
+mod priority;
+mod reading;
+mod remark;
+mod sections;
+mod source;
+mod source_line;
+mod wildcard;
+
+pub use context_text::{plain_lines_stand, read_context};
+pub use dialplan::{DialplanFiles, read_dialplan};
+pub use dialplan_text::{make_dialplan, text_of};
+pub use dp_conf::NoMemory;
+pub use file_map::{FileMap, NamedText};
+pub use general_text::read_general;
+pub use header::{SectionHeader, header_text, read_header};
+pub use made_text::MadeText;
+pub use reading::{FilesRead, ReadingFault, read_files};
+pub use remark::{Fault, Note, Remark, RemarkKind};
+pub use sections::{MOST_COPIED, Places, Sections, SourceSection, read_sections};
+pub use source::{FileText, Source};
+pub use source_line::{MadeLine, SourceFile, SourceLine};
+pub use wildcard::{is_wildcard, matches_wildcard, stands_for};

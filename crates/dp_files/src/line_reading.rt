@@ -1,0 +1,288 @@
+//! What is made of a line of a context, and what it leaves for the lines behind it.
+ghost use Rattle.std.specs.Prelude.{◌≡◌, IfOk, OnOk, None, Some};
+ghost use Rattle.std.specs.Option.{option_map};
+ghost use Rattle.dp_files.specs.ContextLines as spec;
+ghost use Rattle.dp_files.specs.ContextSteps as steps;
+ghost use Rattle.dp_files.specs.declared.extension.Extension.{Extension};
+ghost use Rattle.dp_files.specs.declared.remark.RemarkKind.TheVariants.{Note as note_kind};
+
+use crate::context_line::{ContextLine, EntryText, is_old_form, read_context_line};
+use crate::entry_line::{EntryLine, NumberedLine};
+use crate::extension::{Extension, has_caller};
+use crate::history::{History, Leaves};
+use crate::outcome::{Outcome, outcome_of};
+use crate::priority::read_priority;
+use crate::remark::{Fault, Note, RemarkKind};
+use dp_conf::{NoMemory, Text, beside, line_content};
+use std::alloc::Global;
+
+/// What is made of a line: a text, unless it is left out, and a remark, where there is one.
+#[derive(Drop)]
+pub(crate) struct Made {
+    pub(crate) text: Option<Text>,
+    pub(crate) remark: Option<RemarkKind>,
+}
+
+/// What is made of a line, and what it says to those behind it.
+#[derive(Drop)]
+pub(crate) struct Reading<'a> {
+    pub(crate) leaves: Leaves<'a>,
+    pub(crate) made: Made,
+}
+
+impl Made {
+    /// The line as it stands.
+    pub(crate) fn standing(alloc: Global, line: &[u8]) -> Result<Self, NoMemory>
+        ensures { IfOk result (λ made. made ≡ (spec.stands line.now).made) }
+    {
+        let text = Text::copy_of(alloc, line)?;
+        Ok(Made {
+            text: Some(text),
+            remark: None,
+        })
+    }
+
+    /// None of the line but a remark.
+    pub(crate) fn remark(kind: RemarkKind) -> Self
+        ensures { (result.text ≡ None) × (result.remark ≡ Some kind) }
+    {
+        Made {
+            text: None,
+            remark: Some(kind),
+        }
+    }
+}
+
+/// The note of a label that a line before has.
+fn double_note(is_double: bool) -> Option<RemarkKind>
+    ensures { result ≡ spec.double_note is_double }
+{
+    if is_double {
+        Some(RemarkKind::Note(Note::DoubleLabel))
+    } else {
+        None
+    }
+}
+
+/// The label, unless a line before has given it to the extension.
+fn kept_label<'a>(
+    alloc: Global,
+    history: &History,
+    spelling: &[u8],
+    label: Option<&'a [u8]>,
+) -> Result<Option<&'a [u8]>, NoMemory>
+    ensures { IfOk result (λ kept. option_map (λ label. label.now) kept
+        ≡ spec.kept_label (steps.history_in history.now) spelling.now (option_map (λ label. label.now) label.entry)) }
+{
+    let Some(label) = label else {
+        return Ok(None);
+    };
+    match history.number_of_label(alloc, spelling, label)? {
+        Some(_) => Ok(None),
+        None => Ok(Some(label)),
+    }
+}
+
+/// What an entry leaves that is left out for its caller's number.
+fn caller_leaves(outcome: Outcome, label: Option<&[u8]>) -> Leaves<'_>
+    ensures { (extension : Extension) → steps.said_by extension result
+        ≡ spec.caller_said extension (option_map (λ label. label.now) label.entry) outcome }
+{
+    match outcome {
+        Outcome::Refused | Outcome::AfterTheHint => Leaves::Names,
+        Outcome::Hinted => Leaves::Hints,
+        Outcome::Numbered(number) => Leaves::Counts { number, label },
+    }
+}
+
+/// The reading of a line with a number.
+#[tactic(auto, unfolding(crate::specs::ContextLines::numbered_reading))]
+fn numbered_reading<'a>(
+    alloc: Global,
+    line: &[u8],
+    numbered: &NumberedLine<'a, '_>,
+) -> Result<Reading<'a>, NoMemory>
+    ensures { IfOk result (λ reading.
+        steps.reading_now numbered.now.entry.extension.now reading
+        ≡ spec.numbered_reading numbered.now.is_after_hint line.now (steps.entry_now numbered.now.entry) numbered.now.number
+        (option_map (λ label. label.now) numbered.now.label)) }
+{
+    if is_old_form(numbered.entry.application) {
+        return Ok(Reading {
+            leaves: Leaves::Nothing,
+            made: Made::remark(RemarkKind::Fault(Fault::OldForm)),
+        });
+    }
+    let text = numbered.text(alloc, line)?;
+    Ok(Reading {
+        leaves: Leaves::Counts {
+            number: numbered.number,
+            label: numbered.label,
+        },
+        made: Made {
+            text: Some(text),
+            remark: double_note(numbered.is_double()),
+        },
+    })
+}
+
+/// A line of an extension that is left out.
+fn left_out<'a>(leaves: Leaves<'a>, note: Note) -> Reading<'a>
+    ensures { (extension : Extension) → steps.reading_now extension result
+        ≡ spec.left_out (steps.said_by extension leaves.entry) (note_kind note) }
+{
+    Reading {
+        leaves,
+        made: Made::remark(RemarkKind::Note(note)),
+    }
+}
+
+/// A line of an extension that stands as it is.
+fn standing(alloc: Global, line: &[u8]) -> Result<Reading<'static>, NoMemory>
+    ensures { IfOk result (λ reading. (extension : Extension) → steps.reading_now extension reading ≡ spec.stands line.now) }
+{
+    let made = Made::standing(alloc, line)?;
+    Ok(Reading {
+        leaves: Leaves::Nothing,
+        made,
+    })
+}
+
+/// The line of an entry, with the label that it keeps, and whether a hint stands before it.
+#[derive(Clone, Copy)]
+struct KeptLine<'a, 'e> {
+    entry: EntryLine<'a, 'e>,
+    label: Option<&'a [u8]>,
+    is_after_hint: bool,
+}
+
+/// The reading of an entry of an extension without a caller's number.
+fn plain_reading<'a>(
+    alloc: Global,
+    line: &[u8],
+    kept: &KeptLine<'a, '_>,
+    outcome: Outcome,
+) -> Result<Reading<'a>, NoMemory>
+    ensures { IfOk result (λ reading. steps.reading_now kept.now.entry.extension.now reading
+        ≡ spec.plain_reading kept.now.is_after_hint line.now (steps.entry_now kept.now.entry)
+        (option_map (λ label. label.now) kept.now.label) outcome) }
+{
+    match outcome {
+        Outcome::Refused => standing(alloc, line),
+        Outcome::Hinted => Ok(left_out(Leaves::Hints, Note::Hint)),
+        Outcome::AfterTheHint => Ok(left_out(Leaves::Names, Note::AfterHint)),
+        Outcome::Numbered(number) => {
+            let numbered = NumberedLine {
+                entry: kept.entry,
+                number,
+                label: kept.label,
+                is_after_hint: kept.is_after_hint,
+            };
+            numbered_reading(alloc, line, &numbered)
+        }
+    }
+}
+
+/// The reading of an entry.
+#[tactic(auto, unfolding(crate::specs::ContextLines::entry_reading))]
+fn entry_reading<'a>(
+    alloc: Global,
+    history: &History,
+    line: &[u8],
+    entry: EntryLine<'a, '_>,
+) -> Result<Reading<'a>, NoMemory>
+    ensures { IfOk result (λ reading. steps.reading_now entry.entry.extension.now reading
+        ≡ spec.entry_reading (steps.history_in history.now) line.now (steps.entry_now entry.entry)) }
+{
+    let spelling = entry.extension.spelling.bytes();
+    let label = kept_label(alloc, history, spelling, entry.label())?;
+    let outcome = outcome_of(alloc, history, spelling, entry.priority)?;
+    if has_caller(entry.extension.name.bytes()) {
+        return Ok(left_out(caller_leaves(outcome, label), Note::CallerId));
+    }
+    let kept = KeptLine {
+        entry,
+        label,
+        is_after_hint: history.is_after_hint(),
+    };
+    plain_reading(alloc, line, &kept, outcome)
+}
+
+/// The line of an entry, whose extension may be none, as its texts.
+#[derive(Clone, Copy)]
+struct EntrySource<'a> {
+    line: &'a [u8],
+    is_same: bool,
+    text: EntryText<'a>,
+}
+
+/// Makes the line of an entry of the extension.
+fn make_entry(
+    alloc: Global,
+    history: &mut History,
+    extension: Extension,
+    source: EntrySource<'_>,
+) -> Result<Made, NoMemory>
+    ensures made { IfOk result (λ made. made ≡ (steps.source_reading (steps.history_in history.old) (Some extension) source.entry).made) }
+    ensures said { OnOk result (steps.history_in history.new ≡ steps.after (steps.history_in history.old)
+        (steps.source_reading (steps.history_in history.old) (Some extension) source.entry).said) }
+{
+    let entry = EntryLine {
+        is_same: source.is_same,
+        extension: &extension,
+        priority: read_priority(source.text.priority),
+        application: source.text.application,
+    };
+    let Reading { leaves, made } = entry_reading(alloc, history, source.line, entry)?;
+    let (_, made) = beside(history.add(alloc, extension, leaves), made)?;
+    Ok(made)
+}
+
+/// Makes the line of an entry, where its extension is one.
+fn make_known(
+    alloc: Global,
+    history: &mut History,
+    extension: Option<Extension>,
+    source: EntrySource<'_>,
+) -> Result<Made, NoMemory>
+    ensures made { IfOk result (λ made. made ≡ (steps.source_reading (steps.history_in history.old) extension source.entry).made) }
+    ensures said { OnOk result (steps.history_in history.new ≡ steps.after (steps.history_in history.old)
+        (steps.source_reading (steps.history_in history.old) extension source.entry).said) }
+{
+    match extension {
+        None => Made::standing(alloc, source.line),
+        Some(extension) => make_entry(alloc, history, extension, source),
+    }
+}
+
+/// Makes a line of a context, and adds what it says to those behind it.
+#[tactic(auto, unfolding(crate::specs::ContextLines::line_reading))]
+pub(crate) fn make_line(alloc: Global, history: &mut History, line: &[u8]) -> Result<Made, NoMemory>
+    ensures made { IfOk result (λ made. made ≡ (spec.line_reading (steps.history_in history.old) line.now).made) }
+    ensures said { OnOk result (steps.history_in history.new ≡ steps.after (steps.history_in history.old)
+        (spec.line_reading (steps.history_in history.old) line.now).said) }
+{
+    let content = line_content(alloc, line)?;
+    match read_context_line(content.bytes()) {
+        ContextLine::Exten { name, entry } => {
+            let extension = Extension::read(alloc, name)?;
+            let source = EntrySource {
+                line,
+                is_same: false,
+                text: entry,
+            };
+            make_known(alloc, history, extension, source)
+        }
+        ContextLine::Same(entry) => {
+            let extension = history.extension()?;
+            let source = EntrySource {
+                line,
+                is_same: true,
+                text: entry,
+            };
+            make_known(alloc, history, extension, source)
+        }
+        ContextLine::LeftOut(note) => Ok(Made::remark(RemarkKind::Note(note))),
+        ContextLine::Other => Made::standing(alloc, line),
+    }
+}

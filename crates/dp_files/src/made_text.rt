@@ -1,0 +1,83 @@
+//! Lines that are made of the lines of files, and what is remarked on these.
+ghost use Rattle.std.specs.Prelude.{◌≡◌, ◌++◌, OnOk};
+ghost use Rattle.dp_files.specs.ContextLines as spec;
+ghost use Rattle.dp_files.specs.ToldSteps as steps;
+
+use crate::line_reading::Made;
+use crate::remark::{Remark, RemarkKind};
+use crate::source_line::MadeLine;
+use dp_conf::{NoMemory, Text};
+use std::alloc::Global;
+
+/// Lines that a loader reads, made of those of a section or of all sections, and what is remarked on these, both in their order.
+#[derive(Drop)]
+pub struct MadeText {
+    pub lines: Vec<MadeLine>,
+    pub remarks: Vec<Remark>,
+}
+
+/// Adds the text of a line, where there is one.
+fn push_text(lines: &mut Vec<MadeLine>, source: usize, text: Option<Text>) -> Result<(), NoMemory>
+    ensures { OnOk result (lines.new.items ≡ lines.old.items ++ steps.line_of source text) }
+{
+    match text {
+        Some(text) => {
+            lines.push(MadeLine { source, text })?;
+            Ok(())
+        }
+        None => Ok(()),
+    }
+}
+
+/// Adds a remark on a line, where there is one.
+fn push_remark(
+    remarks: &mut Vec<Remark>,
+    source: usize,
+    kind: Option<RemarkKind>,
+) -> Result<(), NoMemory>
+    ensures { OnOk result (remarks.new.items ≡ remarks.old.items ++ steps.remark_of source kind) }
+{
+    match kind {
+        Some(kind) => {
+            remarks.push(Remark { source, kind })?;
+            Ok(())
+        }
+        None => Ok(()),
+    }
+}
+
+impl MadeText {
+    ghost use Rattle.std.specs.Prelude.{◌≡◌, ◌++◌, [], OnOk, OnErr};
+
+    /// No lines. It never allocates.
+    pub(crate) fn new(alloc: Global) -> Self
+        ensures lines { result.lines.items ≡ [] }
+        ensures remarks { result.remarks.items ≡ [] }
+    {
+        MadeText {
+            lines: Vec::new(alloc),
+            remarks: Vec::new(alloc),
+        }
+    }
+
+    /// Adds the lines and the remarks of another text.
+    pub(crate) fn append(&mut self, mut other: MadeText) -> Result<(), NoMemory>
+        ensures lines { OnOk result (self.new.lines.items ≡ self.old.lines.items ++ other.lines.items) }
+        ensures remarks { OnOk result (self.new.remarks.items ≡ self.old.remarks.items ++ other.remarks.items) }
+    {
+        self.lines.append(&mut other.lines)?;
+        self.remarks.append(&mut other.remarks)?;
+        Ok(())
+    }
+
+    /// Adds what is made of a line.
+    pub(crate) fn push(&mut self, source: usize, made: Made) -> Result<(), NoMemory>
+        ensures lines { OnOk result (self.new.lines.items ≡ self.old.lines.items ++ spec.made_line (source, made)) }
+        ensures remarks { OnOk result (self.new.remarks.items ≡ self.old.remarks.items ++ spec.remark_on (source, made)) }
+    {
+        let Made { text, remark } = made;
+        push_text(&mut self.lines, source, text)?;
+        push_remark(&mut self.remarks, source, remark)?;
+        Ok(())
+    }
+}

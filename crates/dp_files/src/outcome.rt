@@ -1,0 +1,111 @@
+//! What becomes of a priority.
+ghost use Rattle.std.specs.Prelude.{◌≡◌, IfOk};
+ghost use Rattle.dp_files.specs.ContextLines as spec;
+ghost use Rattle.dp_files.specs.ContextSteps as steps;
+ghost use Rattle.dp_files.specs.PriorityView as view;
+ghost use Rattle.std.specs.Option.{option_map};
+
+use crate::history::History;
+use crate::priority::{Base, Priority, Written, within_limit};
+use dp_conf::NoMemory;
+use std::alloc::Global;
+
+/// What becomes of a priority.
+#[derive(Clone, Copy)]
+pub(crate) enum Outcome {
+    /// The loader refuses it.
+    Refused,
+    /// It is a hint.
+    Hinted,
+    /// It is an `n` behind a hint, of which the exchange makes no number.
+    AfterTheHint,
+    /// It is this number.
+    Numbered(u64),
+}
+
+/// The number with what is added to it, unless the sum is too great.
+#[tactic(auto, using(crate::proofs::LimitLemmas::within_limit_capped))]
+fn sum_of(base: Option<u64>, more: Option<u64>) -> Option<u64>
+    ensures { result ≡ spec.sum_of base more }
+{
+    match base {
+        Some(number) => within_limit(number.saturating_add(more.unwrap_or(0))),
+        None => None,
+    }
+}
+
+/// The number that a priority counts from, for an extension whose name is spelled so.
+fn base_number(
+    alloc: Global,
+    history: &History,
+    spelling: &[u8],
+    base: Base<'_>,
+) -> Result<Option<u64>, NoMemory>
+    ensures { IfOk result (λ number.
+        number ≡ spec.base_number (steps.history_in history.now) spelling.now (view.base_now base.entry)) }
+{
+    match base {
+        Base::Number(number) => Ok(Some(number)),
+        Base::Next => Ok(sum_of(history.number(), Some(1))),
+        Base::Same => Ok(history.number()),
+        Base::Label(label) => history.number_of_label(alloc, spelling, label),
+    }
+}
+
+/// Whether the base is `n` or `next`.
+fn is_next(base: Base<'_>) -> bool
+    ensures { result ≡ spec.is_next (view.base_now base.entry) }
+{
+    match base {
+        Base::Next => true,
+        Base::Number(_) | Base::Same | Base::Label(_) => false,
+    }
+}
+
+/// The outcome of a number, where there is one.
+fn numbered(number: Option<u64>) -> Outcome
+    ensures { result ≡ spec.numbered number }
+{
+    match number {
+        Some(number) => Outcome::Numbered(number),
+        None => Outcome::Refused,
+    }
+}
+
+/// The outcome of a priority without its label.
+fn written_outcome(
+    alloc: Global,
+    history: &History,
+    spelling: &[u8],
+    written: Written<'_>,
+) -> Result<Outcome, NoMemory>
+    ensures { IfOk result (λ outcome.
+        outcome ≡ spec.written_outcome (steps.history_in history.now) spelling.now (view.written_now written.entry)) }
+{
+    match written {
+        Written::Hint => Ok(Outcome::Hinted),
+        Written::Counted { base, more } => {
+            if is_next(base) && history.is_after_hint() {
+                return Ok(Outcome::AfterTheHint);
+            }
+            let number = base_number(alloc, history, spelling, base)?;
+            Ok(numbered(sum_of(number, more)))
+        }
+    }
+}
+
+/// The outcome of a priority of the extension whose name is spelled so.
+pub(crate) fn outcome_of(
+    alloc: Global,
+    history: &History,
+    spelling: &[u8],
+    priority: Option<Priority<'_>>,
+) -> Result<Outcome, NoMemory>
+    ensures { IfOk result (λ outcome. outcome
+        ≡ spec.outcome_of (steps.history_in history.now) spelling.now (option_map view.priority_now priority.entry)) }
+{
+    match priority {
+        Some(priority) => written_outcome(alloc, history, spelling, priority.written),
+        None => Ok(Outcome::Refused),
+    }
+}

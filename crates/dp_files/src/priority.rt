@@ -1,0 +1,208 @@
+//! The priority of an `exten` or `same` line, after the Asterisk documentation's page on contexts, extensions and priorities.
+ghost use Rattle.std.specs.Prelude.{◌≡◌, MatchOption, None, Some};
+ghost use Rattle.std.specs.List.{list_all};
+ghost use Rattle.std.specs.Option.{option_map};
+ghost use Rattle.dp_conf.specs.Cut as cuts;
+ghost use Rattle.dp_conf.specs.Numbers as numbers;
+ghost use Rattle.dp_files.specs.Priorities as spec;
+ghost use Rattle.dp_files.specs.PriorityView as view;
+
+use dp_conf::{cut_once, read_number, same_word, trim};
+
+/// The greatest priority of an entry.
+const MOST_PRIORITY: u64 = 2_147_483_647;
+
+/// What a priority is counted from.
+#[derive(Clone, Copy)]
+pub(crate) enum Base<'a> {
+    /// A number of its own.
+    Number(u64),
+    /// `n` or `next`: the priority after that of the line before.
+    Next,
+    /// `s` or `same`: the priority of the line before.
+    Same,
+    /// The priority of the line of the extension that has this label.
+    Label(&'a [u8]),
+}
+
+/// A priority without its label.
+#[derive(Clone, Copy)]
+pub(crate) enum Written<'a> {
+    Hint,
+    /// A base, and the number behind a `+`, where there is one.
+    Counted { base: Base<'a>, more: Option<u64> },
+}
+
+/// A priority as it stands in its line.
+#[derive(Clone, Copy)]
+pub(crate) struct Priority<'a> {
+    pub(crate) written: Written<'a>,
+    pub(crate) label: Option<&'a [u8]>,
+}
+
+/// The number, unless it is above the greatest priority.
+pub(crate) fn within_limit(number: u64) -> Option<u64>
+    ensures { result ≡ spec.within_limit number }
+{
+    if number <= MOST_PRIORITY {
+        Some(number)
+    } else {
+        None
+    }
+}
+
+/// The base that is a word.
+fn word_base(text: &[u8]) -> Base<'_>
+    ensures { view.base_now result ≡ spec.word_base text.now }
+{
+    if same_word(text, b"n") || same_word(text, b"next") {
+        return Base::Next;
+    }
+    if same_word(text, b"s") || same_word(text, b"same") {
+        return Base::Same;
+    }
+    Base::Label(text)
+}
+
+/// The base that is a number.
+fn number_base(number: u64) -> Option<Base<'static>>
+    ensures { option_map view.base_now result ≡ spec.number_base number }
+{
+    if number == 0 {
+        return None;
+    }
+    match within_limit(number) {
+        Some(number) => Some(Base::Number(number)),
+        None => None,
+    }
+}
+
+/// What a priority is counted from.
+#[tactic(auto, using(crate::proofs::LimitLemmas::number_base_capped))]
+fn read_base(text: &[u8]) -> Option<Base<'_>>
+    ensures { option_map view.base_now result ≡ spec.base_of text.now }
+{
+    match read_number(text) {
+        Some(number) => number_base(number),
+        None => Some(word_base(text)),
+    }
+}
+
+/// The number behind a `+`.
+#[tactic(auto, using(crate::proofs::LimitLemmas::within_limit_capped))]
+fn read_added(text: &[u8]) -> Option<u64>
+    ensures { result ≡ spec.added text.now }
+{
+    match read_number(text) {
+        Some(number) => within_limit(number),
+        None => None,
+    }
+}
+
+/// A base that a number is added to.
+fn read_sum<'a>(base: &'a [u8], more: &[u8]) -> Option<Written<'a>>
+    ensures { option_map view.written_now result ≡ spec.counted base.now (Some (base.now, more.now)) }
+{
+    match (read_base(trim(base)), read_added(trim(more))) {
+        (Some(base), Some(more)) => Some(Written::Counted {
+            base,
+            more: Some(more),
+        }),
+        _ => None,
+    }
+}
+
+/// A base with or without a number that is added to it.
+fn read_counted(text: &[u8]) -> Option<Written<'_>>
+    ensures { option_map view.written_now result ≡ spec.counted text.now (cuts.cut_once 43 text.now) }
+{
+    if let Some((base, more)) = cut_once(text, b'+') {
+        return read_sum(base, more);
+    }
+    match read_base(text) {
+        Some(base) => Some(Written::Counted { base, more: None }),
+        None => None,
+    }
+}
+
+/// A priority without its label.
+#[tactic(auto, unfolding(crate::specs::Priorities::written_of))]
+fn read_written(text: &[u8]) -> Option<Written<'_>>
+    ensures { option_map view.written_now result ≡ spec.written_of text.now }
+{
+    if same_word(text, b"hint") {
+        return Some(Written::Hint);
+    }
+    read_counted(text)
+}
+
+/// The text without its last byte, where that is a `)`.
+fn before_closing(text: &[u8]) -> Option<&[u8]>
+    ensures { MatchOption result (spec.without_last 41 text.now ≡ None)
+        (λ front. spec.without_last 41 text.now ≡ Some front.now) }
+{
+    let (last, front) = text.split_last()?;
+    if *last != b')' {
+        return None;
+    }
+    Some(front)
+}
+
+/// Whether each byte of the text is a digit.
+fn has_digits_alone(text: &[u8]) -> bool
+    ensures { result ≡ list_all numbers.is_digit text.now }
+{
+    text.iter().all(u8::is_ascii_digit)
+}
+
+/// Whether a parenthesis stands in the text.
+fn has_parenthesis(text: &[u8]) -> bool
+    ensures { result ≡ spec.has_parenthesis text.now }
+{
+    text.iter().any(|byte| *byte == b'(' || *byte == b')')
+}
+
+/// The label of what stands behind the first `(` of a priority.
+#[tactic(auto, unfolding(crate::specs::Priorities::label_within))]
+fn read_label(text: &[u8]) -> Option<&[u8]>
+    ensures { option_map (λ label. label.now) result ≡ spec.label_within text.now }
+{
+    let Some(inside) = before_closing(text) else {
+        return None;
+    };
+    let label = trim(inside);
+    if has_digits_alone(label) || has_parenthesis(label) {
+        return None;
+    }
+    Some(label)
+}
+
+/// A priority with a label.
+fn read_labelled<'a>(written: &'a [u8], label: &'a [u8]) -> Option<Priority<'a>>
+    ensures { option_map view.priority_now result ≡ spec.priority_by written.now (Some (written.now, label.now)) }
+{
+    match (read_written(trim(written)), read_label(label)) {
+        (Some(written), Some(label)) => Some(Priority {
+            written,
+            label: Some(label),
+        }),
+        _ => None,
+    }
+}
+
+/// The priority that the text writes, or None where it is faulty in itself.
+#[tactic(auto, unfolding(crate::specs::Priorities::priority_of))]
+pub(crate) fn read_priority(text: &[u8]) -> Option<Priority<'_>>
+    ensures { option_map view.priority_now result ≡ spec.priority_of text.now }
+{
+    if let Some((written, label)) = cut_once(text, b'(') {
+        return read_labelled(written, label);
+    }
+    match read_written(text) {
+        Some(written) => Some(Priority {
+            written,
+            label: None,
+        }),
+        None => None,
+    }
+}

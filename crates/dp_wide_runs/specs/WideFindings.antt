@@ -1,0 +1,136 @@
+-- What an audit tells that is asked for some kinds of findings, over the applications of this program or over the wide table.
+use Rattle.std.specs.Prelude.{◌≡◌, ℕ, Bool, true, false, not, ◌&&◌, ◌||◌, List, [], ◌∷◌, ◌++◌, map, codes, if◌then◌else◌}
+use Rattle.std.specs.List.{flat_map, range_with_len}
+use Rattle.std.specs.Option.{option_map_or}
+use Rattle.dp_conf.specs.Words.{same_word}
+use Rattle.dp_lookup.specs.FoundEntry.{entries_at, passes}
+use Rattle.dp_lookup.specs.SearchOrder.{context_count}
+use Rattle.dp_plan.specs.Lookup.{entry_at}
+use Rattle.dp_plan.specs.Plan.{PlanOf}
+use Rattle.dp_plan.specs.Ranking.{ids_of}
+use Rattle.dp_plan.specs.declared.entry.Entry.{Entry}
+use Rattle.dp_plan.specs.declared.entry.EntryId.{EntryId}
+use Rattle.dp_app.specs.Rows.{has_row}
+use Rattle.dp_audit.specs.FallThroughs.{fall_throughs_of}
+use Rattle.dp_audit.specs.Findings.{findings_of}
+use Rattle.dp_audit.specs.Loops.{ListsLoops}
+use Rattle.dp_audit.specs.declared.fall_through.FallThrough.{FallThrough}
+use Rattle.dp_audit.specs.declared.finding.Finding.{Finding}
+use Rattle.dp_audit.specs.declared.finding.Finding.TheVariants.{Cycle, NoApplication, NoTarget, Gap, NoFirst, Hidden, Unset, Unused}
+use Rattle.dp_audit.specs.declared.loops.Loop.{Loop}
+use Rattle.dp_table.specs.Standard.{standard_rows}
+use Rattle.dp_wide.specs.Wide.{wide_rows}
+use Rattle.dp_wide_runs.specs.FunctionsCalled.{no_functions_in}
+use Rattle.dp_wide_runs.specs.Kinds.{ChoiceOf, is_told}
+use Rattle.dp_wide_runs.specs.declared.wide_finding.WideFinding.{WideFinding}
+use Rattle.dp_wide_runs.specs.declared.wide_finding.WideFinding.TheVariants.{Plain, FallsThrough, EndlessRun, NoFunction}
+
+-- ---- the findings that an audit has with the applications of this program
+
+-- the word that is printed of a finding
+abbrev pub kind_of : Finding → List ℕ
+kind_of (Cycle number) = codes "Cycle"
+kind_of (NoApplication id) = codes "NoApplication"
+kind_of (NoTarget id target) = codes "NoTarget"
+kind_of (Gap id) = codes "Gap"
+kind_of (NoFirst id) = codes "NoFirst"
+kind_of (Hidden id from) = codes "Hidden"
+kind_of (Unset id name) = codes "Unset"
+kind_of (Unused id) = codes "Unused"
+
+-- the wide table has the application of the entry of these numbers
+abbrev pub has_wide_application : PlanOf → EntryId → Bool
+has_wide_application plan id = passes plan (λ entry. has_row wide_rows entry.application) id
+
+-- the finding is one over the wide table too: it is of no variable, and of no application that the wide table has
+abbrev pub is_wide_finding : PlanOf → Finding → Bool
+is_wide_finding plan (Cycle number) = true
+is_wide_finding plan (NoApplication id) = not (has_wide_application plan id)
+is_wide_finding plan (NoTarget id target) = true
+is_wide_finding plan (Gap id) = true
+is_wide_finding plan (NoFirst id) = true
+is_wide_finding plan (Hidden id from) = true
+is_wide_finding plan (Unset id name) = false
+is_wide_finding plan (Unused id) = true
+
+-- the finding is one over the applications that are asked for
+abbrev pub stands : Bool → PlanOf → Finding → Bool
+stands false plan finding = true
+stands true plan finding = is_wide_finding plan finding
+
+-- the finding, where it is one and its kind is told
+abbrev pub finding_if : ChoiceOf → PlanOf → Finding → List WideFinding
+finding_if choice plan finding =
+    if is_told choice.kinds (kind_of finding) && stands choice.is_wide plan finding then Plain finding ∷ [] else []
+
+-- those that are told, in the order of the file
+abbrev pub findings_told : ChoiceOf → PlanOf → List WideFinding
+findings_told choice plan = flat_map (finding_if choice plan) (findings_of (has_row standard_rows) plan)
+
+-- ---- those that an audit has over the wide table alone
+
+-- such a kind is told
+abbrev pub tells_wide : ChoiceOf → List ℕ → Bool
+tells_wide choice kind = choice.is_wide && is_told choice.kinds kind
+
+-- after an application of this name a call never goes on to the next priority
+abbrev pub ends_there : List ℕ → Bool
+ends_there name =
+    same_word name (codes "Hangup") || (same_word name (codes "Goto") || (same_word name (codes "Return") || (same_word name (codes "Busy")
+    || same_word name (codes "Congestion"))))
+
+-- the entry with the one of another name that a call meets after it, unless no call goes on after its application
+abbrev pub fall_through_if : PlanOf → FallThrough → List WideFinding
+fall_through_if plan found = if passes plan (λ entry. ends_there entry.application) found.entry then [] else FallsThrough found ∷ []
+
+-- those that are told, in the order of the file
+abbrev pub fall_throughs_told : ChoiceOf → PlanOf → List WideFinding
+fall_throughs_told choice plan =
+    if tells_wide choice (codes "FallsThrough") then flat_map (fall_through_if plan) (fall_throughs_of plan) else []
+
+-- after an application of this name a call goes on at once to the next priority
+abbrev pub goes_on_at_once : List ℕ → Bool
+goes_on_at_once name =
+    same_word name (codes "NoOp") || (same_word name (codes "Verbose") || (same_word name (codes "Log") || (same_word name (codes "Set")
+    || (same_word name (codes "MSet") || (same_word name (codes "Answer") || (same_word name (codes "Ringing")
+    || (same_word name (codes "Progress") || (same_word name (codes "Proceeding") || same_word name (codes "UserEvent")))))))))
+
+-- the first entries of the endless runs, in the order of the file
+pub record AreEndlessRuns (plan : PlanOf) (findings : List WideFinding) : Type 0 where
+  pub loops : List Loop
+  pub listed : ListsLoops goes_on_at_once plan loops
+  pub told : findings ≡ map EndlessRun loops
+
+-- these are told, by whether their kind is
+abbrev pub AreRunsTold : Bool → PlanOf → List WideFinding → Type 0
+AreRunsTold false plan findings = findings ≡ []
+AreRunsTold true plan findings = AreEndlessRuns plan findings
+
+-- the names of functions that Asterisk does not have, in the arguments of an entry
+abbrev pub of_entry : EntryId → Entry → List WideFinding
+of_entry id entry = map (NoFunction id) (no_functions_in entry.arguments)
+
+-- those of the entry of these numbers; where there is none, none
+abbrev pub of_id : PlanOf → EntryId → List WideFinding
+of_id plan id = option_map_or (of_entry id) (entry_at plan id) []
+
+-- those of the entries of the context of a number, in the order of the file
+abbrev pub of_context : PlanOf → ℕ → List WideFinding
+of_context plan number = flat_map (of_id plan) (ids_of number (entries_at plan number))
+
+-- those of all contexts, in the order of the file
+unfoldable pub no_functions : PlanOf → List WideFinding
+no_functions plan = flat_map (of_context plan) (range_with_len 0 (context_count plan))
+
+-- those that are told
+abbrev pub functions_told : ChoiceOf → PlanOf → List WideFinding
+functions_told choice plan = if tells_wide choice (codes "NoFunction") then no_functions plan else []
+
+-- ---- all of them
+
+-- the findings are all that are told of the dialplan, and no others: first those that an audit has without the wide table, then the
+-- entries after which a call goes on in another extension, then the endless runs, then the functions that Asterisk does not have
+pub record AreTold (choice : ChoiceOf) (plan : PlanOf) (findings : List WideFinding) : Type 0 where
+  pub runs : List WideFinding
+  pub endless : AreRunsTold (tells_wide choice (codes "Loop")) plan runs
+  pub all : findings ≡ findings_told choice plan ++ fall_throughs_told choice plan ++ runs ++ functions_told choice plan

@@ -1,0 +1,102 @@
+//! How the turns of a plain script are taken that a run with facts is given: plainly, or verbosely.
+ghost use Rattle.std.specs.Prelude.{◌≡◌, ℕ, ◌++◌, List, [], IfOk, OnOk, OnErr};
+ghost use Rattle.dp_machine.specs.World.{World};
+ghost use Rattle.dp_machine.specs.declared.refusal.Refusal.{Refusal as refusals};
+ghost use Rattle.dp_commands.specs.Trace.{after_turn_by};
+ghost use Rattle.dp_commands.specs.declared.script.Turn.{Turn as turns};
+ghost use Rattle.dp_wide_runs.specs.Turns.{wide_meanings};
+ghost use Rattle.dp_wide_runs.specs.Verbose as verbose;
+
+use dp_commands::{
+    Block, Explanations, Turn, VerboseTaker, push_explanation, take_event, take_show,
+};
+use dp_machine::{Machine, NoMemory, Refusal};
+use dp_wide::WideApps;
+use std::alloc::Global;
+
+/// How the turns of a plain script are taken that a run with facts is given.
+pub(crate) trait Manner: Drop {
+    // The manner after a turn that a world meets.
+    ghost after: { Self → World → turns → Self };
+
+    // What stands above the line of a turn that a world meets.
+    ghost above: { Self → World → turns → List ℕ };
+
+    // What stands above the line of a pass that is refused.
+    ghost above_refusal: { refusals → List ℕ };
+
+    /// Gives the machine one turn, and adds its line to what waits, with what stands above it. It says whether the turn was refused. The error comes
+    /// only where a growth was refused; then no line was added.
+    fn give_turn(
+        &mut self,
+        alloc: Global,
+        machine: &mut Machine<WideApps>,
+        turn: &Turn,
+        block: &mut Block,
+    ) -> Result<bool, NoMemory>
+        ensures lines { OnOk result (block.new.whole ≡ block.old.whole
+            ++ (above self.old machine.old turn.now ++ (after_turn_by wide_meanings machine.old turn.now).line)) }
+        ensures manner { OnOk result (self.new ≡ after self.old machine.old turn.now) }
+        ensures world { OnOk result (machine.new ≡ (after_turn_by wide_meanings machine.old turn.now).world) }
+        ensures refused { IfOk result (λ refused. refused ≡ (after_turn_by wide_meanings machine.old turn.now).refused) }
+        ensures err { OnErr result (block.new.whole ≡ block.old.whole) };
+
+    /// Adds what stands above the line of a pass that is refused.
+    fn push_above(block: &mut Block, refusal: Refusal) -> Result<(), NoMemory>
+        ensures kept { block.new.whole ≡ block.old.whole }
+        ensures ok { OnOk result (block.new.begun ≡ block.old.begun ++ above_refusal refusal) };
+}
+
+/// Turns that are taken as they stand.
+#[derive(Drop)]
+pub(crate) struct Plain;
+
+impl Manner for Plain {
+    ghost after = { λ manner _ _. manner };
+
+    ghost above = { λ _ _ _. [] };
+
+    ghost above_refusal = { λ _. [] };
+
+    fn give_turn(
+        &mut self,
+        alloc: Global,
+        machine: &mut Machine<WideApps>,
+        turn: &Turn,
+        block: &mut Block,
+    ) -> Result<bool, NoMemory> {
+        match turn {
+            Turn::Event(event) => take_event(alloc, machine, event, block),
+            Turn::Show { channel, name } => take_show(alloc, machine, *channel, name, block),
+        }
+    }
+
+    fn push_above(_block: &mut Block, _refusal: Refusal) -> Result<(), NoMemory> {
+        Ok(())
+    }
+}
+
+impl<'a, E: Explanations> Manner for VerboseTaker<'a, E> {
+    ghost after = { verbose.in_force_after };
+
+    ghost above = { verbose.above_turn E.explanation_of };
+
+    ghost above_refusal = { verbose.above_refusal E.explanation_of };
+
+    fn give_turn(
+        &mut self,
+        alloc: Global,
+        machine: &mut Machine<WideApps>,
+        turn: &Turn,
+        block: &mut Block,
+    ) -> Result<bool, NoMemory> {
+        self.take_turn(alloc, machine, turn, block)
+    }
+
+    fn push_above(block: &mut Block, refusal: Refusal) -> Result<(), NoMemory>
+        ensures kept { block.new.whole ≡ block.old.whole }
+        ensures ok { OnOk result (block.new.begun ≡ block.old.begun ++ verbose.above_refusal E.explanation_of refusal) }
+    {
+        push_explanation::<E>(block, refusal)
+    }
+}
