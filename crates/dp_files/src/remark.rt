@@ -32,7 +32,7 @@ pub enum Fault {
     IncludeDepth,
     /// A file that is not there, or that cannot be read, or names of files of which there is none.
     NotFound,
-    /// More than 16,777,216 bytes of text, or more than 100,000 files.
+    /// More than 16,777,216 bytes of text or 100,000 files, or headers that copy more than 16,777,216 lines.
     TooLong,
     /// The line is no line of a configuration file.
     Line(LineKind),
