@@ -1,6 +1,7 @@
 pub mod CommentsLemmas
 pub mod DirectivesLemmas
 pub mod FileMapsLemmas
+mod FolderFilesLemmas
 mod HeaderLemmas
 mod HistoryLemmas
 mod LabelLemmas

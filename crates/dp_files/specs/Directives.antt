@@ -59,3 +59,11 @@ directive_now (include_in name) = Include name.now
 directive_now (try_include_in name) = TryInclude name.now
 directive_now exec_in = Exec
 directive_now unknown_in = Unknown
+
+-- the name that a line includes, and nothing where it includes none
+abbrev pub included_name : Option DirectiveOf → List ℕ
+included_name None = []
+included_name (Some (Include name)) = name
+included_name (Some (TryInclude name)) = name
+included_name (Some Exec) = []
+included_name (Some Unknown) = []

@@ -7,6 +7,7 @@ pub mod Dialplan
 pub mod DialplanText
 pub mod Directives
 pub mod FileMaps
+pub mod FolderFiles
 pub mod GeneralLines
 pub mod GeneralSteps
 pub mod Headers

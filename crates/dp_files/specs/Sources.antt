@@ -1,5 +1,6 @@
 -- What a source of files has, and what reading one of them gives.
-use Rattle.std.specs.Prelude.{ℕ, nat_le, List, length, Option, Some, None, if◌then◌else◌}
+use Rattle.std.specs.Prelude.{◌≡◌, ℕ, min, nat_le, List, length, Option, Some, None, if◌then◌else◌}
+use Rattle.dp_conf.specs.Whole.{most_bytes}
 use Rattle.dp_files.specs.declared.source.FileText.{FileText}
 use Rattle.dp_files.specs.declared.source.FileText.TheVariants.{Bytes as bytes_in, Absent as absent_in, TooLong as too_long_in}
 
@@ -8,16 +9,26 @@ pub record Files : Type 0 where
   pub text : List ℕ → Option (List ℕ)
   pub names : List ℕ → List (List ℕ)
 
+-- what may be told of a name: the text of its file, or that it has none; and of one with `*` and `?` the names that it stands for
+pub data Telling : Type 0 where
+  TextOf : List ℕ → Option (List ℕ) → Telling
+  NamesOf : List ℕ → List (List ℕ) → Telling
+
+-- it is told of these files
+abbrev pub Tells : Files → Telling → Type 0
+Tells files (TextOf name text) = files.text name ≡ text
+Tells files (NamesOf pattern names) = files.names pattern ≡ names
+
 -- the bytes of a file, that there is none, or that it has too many
 pub data TextRead : Type 0 where
   Bytes : List ℕ → TextRead
   Absent : TextRead
   TooLong : TextRead
 
--- what reading a file gives that may have so many bytes
+-- what reading a file gives that may have so many bytes, and never more than 16,777,216
 abbrev pub text_read : ℕ → Option (List ℕ) → TextRead
 text_read most None = Absent
-text_read most (Some bytes) = if nat_le (length bytes) most then Bytes bytes else TooLong
+text_read most (Some bytes) = if nat_le (length bytes) (min most most_bytes) then Bytes bytes else TooLong
 
 -- what a call gave
 abbrev pub text_now : FileText → TextRead

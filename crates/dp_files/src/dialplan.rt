@@ -1,9 +1,9 @@
 //! A dialplan's text, made of a file and of those that it includes.
-ghost use Rattle.std.specs.Prelude.{◌≡◌, IfOk, Some};
+ghost use Rattle.std.specs.Prelude.{◌≡◌, IfOk};
 ghost use Rattle.dp_conf.specs.Answers.{Answers};
 ghost use Rattle.dp_files.specs.Dialplan as spec;
 ghost use Rattle.dp_files.specs.Reading.{files_read, first_fault};
-ghost use Rattle.dp_files.specs.Sources.{Files};
+ghost use Rattle.dp_files.specs.Sources.{Files, Telling};
 
 use crate::dialplan_text::make_dialplan;
 use crate::made_text::MadeText;
@@ -56,9 +56,10 @@ pub fn read_dialplan<S: Source>(
     source: &mut S,
     name: &[u8],
 ) -> Result<DialplanFiles, ReadingFault>
-    ensures read { (has : Files) → S.files source.old ≡ Some has
+    ensures read { (has : Files) → S.agrees source.new has
         → Answers spec.dialplan_now first_fault result (spec.dialplan_of has name.now) }
-    ensures kept { S.files source.new ≡ S.files source.old }
+    ensures kept { (has : Files) → S.agrees source.new has → S.agrees source.old has }
+    ensures same { (told : Telling) → S.may_tell source.new told → S.may_tell source.old told }
 {
     let read = read_files(alloc, source, name)?;
     let made = make_text(alloc, read)?;

@@ -105,3 +105,13 @@ pub(crate) fn read_directive(content: &[u8]) -> Option<Directive<'_>>
         _ => None,
     }
 }
+
+/// The name that the content of a line includes, and nothing where it includes none.
+pub fn included_name(content: &[u8]) -> &[u8]
+    ensures { result.now ≡ spec.included_name (spec.directive_of content.now) }
+{
+    match read_directive(content) {
+        Some(Directive::Include(name) | Directive::TryInclude(name)) => name,
+        _ => b"",
+    }
+}

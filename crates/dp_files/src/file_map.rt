@@ -8,7 +8,7 @@ ghost use Rattle.dp_files.specs.Sources as sources;
 
 use crate::source::{FileText, Source};
 use crate::wildcard::stands_for;
-use dp_conf::{NoMemory, Text};
+use dp_conf::{MOST_BYTES, NoMemory, Text};
 use std::alloc::Global;
 use std::cmp::Ordering;
 use std::marker::Model;
@@ -110,15 +110,19 @@ fn text_of<'a>(files: &'a [NamedText], name: &[u8]) -> Option<&'a [u8]>
     None
 }
 
-/// A copy of a text, where it has at most `most` bytes.
-fn copy_text(alloc: Global, text: Option<&[u8]>, most: usize) -> Result<FileText, NoMemory>
+/// A copy of a text, where it has at most `most` bytes, and at most 16,777,216.
+pub(crate) fn copy_text(
+    alloc: Global,
+    text: Option<&[u8]>,
+    most: usize,
+) -> Result<FileText, NoMemory>
     ensures text { IfOk result (λ copy. sources.text_now copy ≡ sources.text_read most (option_map (λ text. text.now) text.entry)) }
     ensures within { IfOk result (λ copy. sources.length_read (sources.text_now copy) ≤ most) }
 {
     let Some(text) = text else {
         return Ok(FileText::Absent);
     };
-    if text.len() > most {
+    if text.len() > most.min(MOST_BYTES) {
         return Ok(FileText::TooLong);
     }
     let bytes = Vec::from_slice(alloc, text)?;
@@ -140,10 +144,13 @@ fn names_of(alloc: Global, files: &[NamedText], pattern: &[u8]) -> Result<Vec<Te
 }
 
 impl Source for FileMap {
-    ghost use Rattle.std.specs.Prelude.{Some};
+    ghost use Rattle.std.specs.Prelude.{◌≡◌};
     ghost use Rattle.dp_files.specs.FileMaps.{files_in};
+    ghost use Rattle.dp_files.specs.Sources.{Tells};
 
-    ghost files = { λ map. Some (files_in map) };
+    ghost agrees = { λ map has. has ≡ files_in map };
+
+    ghost may_tell = { λ map. Tells (files_in map) };
 
     fn read(&mut self, alloc: Global, name: &[u8], most: usize) -> Result<FileText, NoMemory> {
         let text = copy_text(alloc, text_of(&self.files, name), most)?;

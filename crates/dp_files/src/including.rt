@@ -1,8 +1,8 @@
 //! Files inside the lines of other files, after the Asterisk documentation's page on its configuration files.
-ghost use Rattle.std.specs.Prelude.{◌≡◌, Option, Some, OnOk};
+ghost use Rattle.std.specs.Prelude.{◌≡◌, OnOk};
 ghost use Rattle.dp_files.specs.Directives.{directive_of};
 ghost use Rattle.dp_files.specs.Reading as spec;
-ghost use Rattle.dp_files.specs.Sources.{Files};
+ghost use Rattle.dp_files.specs.Sources.{Files, Telling};
 
 use crate::comments::{FileLines, file_lines};
 use crate::directive::{Directive, read_directive};
@@ -55,9 +55,10 @@ pub(crate) trait Including<S: Source> {
         reading: &mut Reading,
         request: Request<'_>,
     ) -> Result<(), NoMemory>
-        ensures read { OnOk result ((has : Files) → S.files source.old ≡ Some has
+        ensures read { OnOk result ((has : Files) → S.agrees source.new has
             → reading.new ≡ after has (spec.request_now request.entry) reading.old) }
-        ensures kept { S.files source.new ≡ S.files source.old };
+        ensures kept { (has : Files) → S.agrees source.new has → S.agrees source.old has }
+        ensures same { (told : Telling) → S.may_tell source.new told → S.may_tell source.old told };
 }
 
 /// In a file that stands inside nine others no file is read.
@@ -114,9 +115,10 @@ fn include_request<S: Source, I: Including<S>>(
     reading: &mut Reading,
     request: Request<'_>,
 ) -> Result<(), NoMemory>
-    ensures read { OnOk result ((has : Files) → S.files source.old ≡ Some has
+    ensures read { OnOk result ((has : Files) → S.agrees source.new has
         → reading.new ≡ spec.after_request (I.after has) has (spec.request_now request.entry) reading.old) }
-    ensures kept { S.files source.new ≡ S.files source.old }
+    ensures kept { (has : Files) → S.agrees source.new has → S.agrees source.old has }
+    ensures same { (told : Telling) → S.may_tell source.new told → S.may_tell source.old told }
 {
     if !is_wildcard(request.name) {
         include_name::<S, I>(alloc, source, reading, request, request.name)?;
@@ -135,9 +137,10 @@ fn include_names<S: Source, I: Including<S>>(
     request: Request<'_>,
     names: &[Text],
 ) -> Result<(), NoMemory>
-    ensures read { OnOk result ((has : Files) → S.files source.old ≡ Some has
+    ensures read { OnOk result ((has : Files) → S.agrees source.new has
         → reading.new ≡ spec.after_names (I.after has) has (spec.request_now request.entry) names.now reading.old) }
-    ensures kept { S.files source.new ≡ S.files source.old }
+    ensures kept { (has : Files) → S.agrees source.new has → S.agrees source.old has }
+    ensures same { (told : Telling) → S.may_tell source.new told → S.may_tell source.old told }
 {
     if names.is_empty() {
         reading.miss(request.required, request.place)?;
@@ -158,9 +161,10 @@ fn include_name<S: Source, I: Including<S>>(
     request: Request<'_>,
     name: &[u8],
 ) -> Result<(), NoMemory>
-    ensures read { OnOk result ((has : Files) → S.files source.old ≡ Some has
+    ensures read { OnOk result ((has : Files) → S.agrees source.new has
         → reading.new ≡ spec.after_name (I.after has) has (spec.request_now request.entry) reading.old name.now) }
-    ensures kept { S.files source.new ≡ S.files source.old }
+    ensures kept { (has : Files) → S.agrees source.new has → S.agrees source.old has }
+    ensures same { (told : Telling) → S.may_tell source.new told → S.may_tell source.old told }
 {
     let room = reading.room();
     let text = match source.read(alloc, name, room)? {
@@ -191,10 +195,11 @@ fn include_file<S: Source, I: Including<S>>(
     place: usize,
     file: FileRead<'_>,
 ) -> Result<(), NoMemory>
-    ensures read { OnOk result ((has : Files) → S.files source.old ≡ Some has
+    ensures read { OnOk result ((has : Files) → S.agrees source.new has
         → reading.new ≡ spec.after_included (I.after has) place file.entry.name.now file.entry.included_by file.entry.text.now
         reading.old) }
-    ensures kept { S.files source.new ≡ S.files source.old }
+    ensures kept { (has : Files) → S.agrees source.new has → S.agrees source.old has }
+    ensures same { (told : Telling) → S.may_tell source.new told → S.may_tell source.old told }
 {
     if reading.is_full() {
         reading.tell(place, RemarkKind::Fault(Fault::TooLong))?;
@@ -212,9 +217,10 @@ pub(crate) fn read_file<S: Source, I: Including<S>>(
     reading: &mut Reading,
     file: FileRead<'_>,
 ) -> Result<(), NoMemory>
-    ensures read { OnOk result ((has : Files) → S.files source.old ≡ Some has
+    ensures read { OnOk result ((has : Files) → S.agrees source.new has
         → reading.new ≡ spec.after_file (I.after has) file.entry.name.now file.entry.included_by file.entry.text.now reading.old) }
-    ensures kept { S.files source.new ≡ S.files source.old }
+    ensures kept { (has : Files) → S.agrees source.new has → S.agrees source.old has }
+    ensures same { (told : Telling) → S.may_tell source.new told → S.may_tell source.old told }
 {
     let number = reading.open_file(alloc, file.name, file.included_by, file.text.len())?;
     let lines = file_lines(alloc, file.text)?;
@@ -240,9 +246,10 @@ fn read_lines<S: Source, I: Including<S>>(
     file: usize,
     lines: &FileLines,
 ) -> Result<(), NoMemory>
-    ensures read { OnOk result ((has : Files) → S.files source.old ≡ Some has
+    ensures read { OnOk result ((has : Files) → S.agrees source.new has
         → reading.new ≡ spec.after_lines (I.after has) file lines.now.open_comment 0 lines.now.texts.items reading.old) }
-    ensures kept { S.files source.new ≡ S.files source.old }
+    ensures kept { (has : Files) → S.agrees source.new has → S.agrees source.old has }
+    ensures same { (told : Telling) → S.may_tell source.new told → S.may_tell source.old told }
 {
     for (at, text) in lines.texts.iter().enumerate() {
         let line = LineRead {
@@ -264,9 +271,10 @@ fn read_line<S: Source, I: Including<S>>(
     reading: &mut Reading,
     line: LineRead<'_>,
 ) -> Result<(), NoMemory>
-    ensures read { OnOk result ((has : Files) → S.files source.old ≡ Some has
+    ensures read { OnOk result ((has : Files) → S.agrees source.new has
         → reading.new ≡ spec.after_line (I.after has) line.entry.file line.entry.opens line.entry.line line.entry.text.now reading.old) }
-    ensures kept { S.files source.new ≡ S.files source.old }
+    ensures kept { (has : Files) → S.agrees source.new has → S.agrees source.old has }
+    ensures same { (told : Telling) → S.may_tell source.new told → S.may_tell source.old told }
 {
     let place = reading.add_line(alloc, line.file, line.line, line.text)?;
     reading.note_comment(line.opens, place)?;
@@ -283,9 +291,10 @@ fn follow_line<S: Source, I: Including<S>>(
     place: usize,
     content: &[u8],
 ) -> Result<(), NoMemory>
-    ensures read { OnOk result ((has : Files) → S.files source.old ≡ Some has
+    ensures read { OnOk result ((has : Files) → S.agrees source.new has
         → reading.new ≡ spec.after_directive (I.after has) place (directive_of content.now) reading.old) }
-    ensures kept { S.files source.new ≡ S.files source.old }
+    ensures kept { (has : Files) → S.agrees source.new has → S.agrees source.old has }
+    ensures same { (told : Telling) → S.may_tell source.new told → S.may_tell source.old told }
 {
     let Some(directive) = read_directive(content) else {
         return Ok(());

@@ -1,8 +1,8 @@
 //! What was read of files that include each other.
-ghost use Rattle.std.specs.Prelude.{◌≡◌, None, Some, IfOk};
+ghost use Rattle.std.specs.Prelude.{◌≡◌, None, IfOk};
 ghost use Rattle.dp_conf.specs.Answers.{Answers};
 ghost use Rattle.dp_files.specs.Reading as spec;
-ghost use Rattle.dp_files.specs.Sources.{Files};
+ghost use Rattle.dp_files.specs.Sources.{Files, Telling};
 
 use crate::including::{FileRead, First, read_file};
 use crate::remark::{Fault, Note, Remark, RemarkKind};
@@ -192,9 +192,10 @@ fn read_first<S: Source>(
     name: &[u8],
     text: &[u8],
 ) -> Result<FilesRead, NoMemory>
-    ensures read { IfOk result (λ read. (has : Files) → S.files source.old ≡ Some has
+    ensures read { IfOk result (λ read. (has : Files) → S.agrees source.new has
         → spec.files_read read ≡ spec.files_of (spec.after_file (spec.including_first has) name.now None text.now spec.nothing_read)) }
-    ensures kept { S.files source.new ≡ S.files source.old }
+    ensures kept { (has : Files) → S.agrees source.new has → S.agrees source.old has }
+    ensures same { (told : Telling) → S.may_tell source.new told → S.may_tell source.old told }
 {
     let mut reading = Reading::new(alloc);
     let file = FileRead {
@@ -223,9 +224,10 @@ pub fn read_files<S: Source>(
     source: &mut S,
     name: &[u8],
 ) -> Result<FilesRead, ReadingFault>
-    ensures read { (has : Files) → S.files source.old ≡ Some has
+    ensures read { (has : Files) → S.agrees source.new has
         → Answers spec.files_read spec.first_fault result (spec.reading_of has name.now) }
-    ensures kept { S.files source.new ≡ S.files source.old }
+    ensures kept { (has : Files) → S.agrees source.new has → S.agrees source.old has }
+    ensures same { (told : Telling) → S.may_tell source.new told → S.may_tell source.old told }
 {
     match source.read(alloc, name, MOST_BYTES)? {
         FileText::Bytes(text) => {

@@ -11,6 +11,8 @@ mod lines;
 #[cfg(test)]
 mod lister;
 #[cfg(test)]
+mod notices;
+#[cfg(test)]
 mod plan;
 #[cfg(test)]
 mod readers;

@@ -5,6 +5,6 @@ use Rattle.dp_files.proofs.reading.read_first.Goals as goal
 -- files stand inside the first as deep as the type says
 pub returns-clause-read : goal.returns-clause-read
 unfolding including
-returns-clause-read g c has known =
+returns-clause-read g c has agrees =
     c.into_files_read.ensures
-    ∙ ap files_of (c.in_ok-read_file.ensures.read has known ∙ ap (after_file (including_first has) c.args.name.now None c.args.text.now) c.new-reading.ensures)
+    ∙ ap files_of (c.in_ok-read_file.ensures.read has agrees ∙ ap (after_file (including_first has) c.args.name.now None c.args.text.now) c.new-reading.ensures)

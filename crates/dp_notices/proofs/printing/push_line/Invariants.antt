@@ -1,0 +1,8 @@
+use Rattle.std.proofs.Common.{◌≡◌, ◌++◌, drop}
+use Rattle.dp_notices.specs.Printing.{notice_lines}
+use Rattle.dp_notices.proofs.printing.push_line.Given as goal
+
+abbrev pub invariant-loop-notice : goal.invariant-loop-notice
+invariant-loop-notice l =
+    l.out.items ++ notice_lines l.shown l.named.file.now l.named.line.now (drop l.notice-index l.notices)
+    ≡ l.fn.out.items ++ notice_lines l.shown l.named.file.now l.named.line.now l.notices

@@ -1,0 +1,91 @@
+-- The lines that are printed of notices, in the order of the lines that they are on.
+use Rattle.std.specs.Prelude.{ℕ, Bool, true, false, List, [], ◌++◌, Option, Some, None, slice_get, codes, decimal, if◌then◌else◌}
+use Rattle.std.specs.List.{flat_map}
+use Rattle.std.specs.Option.{option_map_or}
+use Rattle.dp_conf.specs.Lines.{content_of}
+use Rattle.dp_files.specs.Directives.{directive_of, included_name}
+use Rattle.dp_files.specs.declared.remark.Fault.{Fault}
+use Rattle.dp_files.specs.declared.remark.Fault.TheVariants.{IncludeDepth, NotFound, TooLong, Line, OldForm, NoClock}
+use Rattle.dp_files.specs.declared.source_line.SourceFile.{SourceFile}
+use Rattle.dp_files.specs.declared.source_line.SourceLine.{SourceLine}
+use Rattle.dp_notices.specs.Notices.{is_fault, wording}
+use Rattle.dp_notices.specs.PlanFiles.{PlanFilesOf}
+use Rattle.dp_notices.specs.declared.line_notices.NotedLine.{NotedLine}
+use Rattle.dp_notices.specs.declared.notice.Notice.{Notice}
+use Rattle.dp_notices.specs.declared.notice.Notice.TheVariants.{Read, Loaded, Fault as fault_notice}
+use Rattle.dp_notices.specs.declared.notice.NoticeFault.{NoticeFault}
+use Rattle.dp_notices.specs.declared.notice.NoticeFault.TheVariants.{Reading, Name, Plan}
+use Rattle.dp_notices.specs.declared.printing.Shown.{Shown}
+use Rattle.dp_notices.specs.declared.printing.Shown.TheVariants.{All, Faults}
+
+-- the name of the file of a number
+abbrev pub file_name : List SourceFile → ℕ → List ℕ
+file_name files number = option_map_or (λ file. file.name) (slice_get files number) []
+
+-- where a line stands, `FILE:LINE: `
+abbrev pub place_text : List ℕ → ℕ → List ℕ
+place_text file line = file ++ codes ":" ++ decimal line ++ codes ": "
+
+-- a number and a blank, where there is a number
+abbrev pub number_text : Option ℕ → List ℕ
+number_text None = []
+number_text (Some number) = decimal number ++ codes " "
+
+-- the word before a notice
+abbrev pub first_word : Notice → List ℕ
+first_word notice = if is_fault notice then codes "fault " else codes "note "
+
+-- what is printed of a notice: `note KIND`, `fault CODE NAME`, or `fault NAME` of a fault without a number
+abbrev pub notice_text : Notice → List ℕ
+notice_text notice = first_word notice ++ number_text (wording notice).number ++ (wording notice).name
+
+-- whether a fault is that a file is not there
+abbrev pub is_not_found : Fault → Bool
+is_not_found IncludeDepth = false
+is_not_found NotFound = true
+is_not_found TooLong = false
+is_not_found (Line kind) = false
+is_not_found OldForm = false
+is_not_found NoClock = false
+
+abbrev pub is_missing_fault : NoticeFault → Bool
+is_missing_fault (Reading fault) = is_not_found fault
+is_missing_fault (Name fault) = false
+is_missing_fault (Plan kind) = false
+
+-- whether a notice is that a file is not there
+abbrev pub is_missing_file : Notice → Bool
+is_missing_file (Read note) = false
+is_missing_file (Loaded kind) = false
+is_missing_file (fault_notice fault) = is_missing_fault fault
+
+-- a blank, and the name of the file that a line asks for
+abbrev pub name_behind : List ℕ → List ℕ
+name_behind text = codes " " ++ included_name (directive_of (content_of text))
+
+-- the same where the notice is that the file is not there
+abbrev pub missing_name : List ℕ → Notice → List ℕ
+missing_name text notice = if is_missing_file notice then name_behind text else []
+
+-- the line of a notice: behind a file that is not there stands its name
+abbrev pub notice_line : List ℕ → SourceLine → Notice → List ℕ
+notice_line file line notice =
+    place_text file line.line ++ notice_text notice ++ missing_name line.text notice ++ codes "\n"
+
+-- whether a notice is printed
+abbrev pub is_shown : Shown → Notice → Bool
+is_shown All notice = true
+is_shown Faults notice = is_fault notice
+
+-- the lines of the notices on a line that are printed
+abbrev pub notice_lines : Shown → List ℕ → SourceLine → List Notice → List ℕ
+notice_lines shown file line notices =
+    flat_map (λ notice. if is_shown shown notice then notice_line file line notice else []) notices
+
+-- the same of a line of some files
+abbrev pub noted_text : Shown → List SourceFile → NotedLine → List ℕ
+noted_text shown files noted = notice_lines shown (file_name files noted.line.file) noted.line noted.notices
+
+-- those of all lines
+unfoldable pub notices_text : Shown → PlanFilesOf → List ℕ
+notices_text shown plan = flat_map (noted_text shown plan.files) plan.lines

@@ -1,0 +1,67 @@
+//! What is reported of a dialplan that is read from files.
+ghost use Rattle.std.specs.Prelude.{◌≡◌, ◌++◌, IfOk, OnOk};
+ghost use Rattle.dp_notices.specs.Checks as spec;
+ghost use Rattle.dp_notices.specs.PlanFiles.{plan_now};
+
+use crate::line_notices::count_faults;
+use crate::loading::PlanCounts;
+use crate::plan_files::PlanFiles;
+use crate::printing::{Shown, print_notices};
+use dp_conf::NoMemory;
+use itoa::Buffer;
+use std::alloc::Global;
+
+/// What is reported of a dialplan.
+#[derive(Drop)]
+pub struct CheckReport {
+    pub text: Vec<u8>,
+    /// How many faults there are.
+    pub faults: u128,
+}
+
+/// Adds the line that a dialplan loads.
+fn push_counts(out: &mut Vec<u8>, counts: PlanCounts) -> Result<(), NoMemory>
+    ensures { OnOk result (out.new.items ≡ out.old.items ++ spec.counts_line counts) }
+{
+    let mut buffer = Buffer::new();
+    out.extend_from_slice(b"ok ")?;
+    out.extend_from_slice(buffer.format(counts.contexts).as_bytes())?;
+    out.extend_from_slice(b" contexts ")?;
+    out.extend_from_slice(buffer.format(counts.entries).as_bytes())?;
+    out.extend_from_slice(b" entries\n")?;
+    Ok(())
+}
+
+/// Adds the line that there are so many faults.
+fn push_faults(out: &mut Vec<u8>, faults: u128) -> Result<(), NoMemory>
+    ensures { OnOk result (out.new.items ≡ out.old.items ++ spec.faults_line faults) }
+{
+    let mut buffer = Buffer::new();
+    out.extend_from_slice(buffer.format(faults).as_bytes())?;
+    out.extend_from_slice(b" faults\n")?;
+    Ok(())
+}
+
+/// Adds the last line: the counts, or how many faults there are.
+fn push_last(out: &mut Vec<u8>, counts: PlanCounts, faults: u128) -> Result<(), NoMemory>
+    ensures { OnOk result (out.new.items ≡ out.old.items ++ spec.last_line counts faults) }
+{
+    if faults == 0 {
+        push_counts(out, counts)
+    } else {
+        push_faults(out, faults)
+    }
+}
+
+/// What is reported of a dialplan that is read from files: the lines of all its notices, and then `ok C contexts E entries`, or
+/// `N faults` where it has any. The error comes only where a growth was refused.
+#[tactic(auto, unfolding(crate::specs::Checks::check_text))]
+pub fn check_plan(alloc: Global, plan: &PlanFiles) -> Result<CheckReport, NoMemory>
+    ensures text { IfOk result (λ report. report.text.items ≡ spec.check_text (plan_now plan.now)) }
+    ensures faults { IfOk result (λ report. report.faults ≡ spec.faults_of (plan_now plan.now)) }
+{
+    let faults = plan.count_faults();
+    let mut text = print_notices(alloc, Shown::All, plan)?;
+    push_last(&mut text, plan.counts, faults)?;
+    Ok(CheckReport { text, faults })
+}

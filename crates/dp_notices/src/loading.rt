@@ -1,0 +1,305 @@
+//! Lines that are loaded as a dialplan, and the notices of the loader.
+ghost use Rattle.std.specs.Prelude.{◌≡◌, ◌++◌, ◌-◌, IfOk, OnOk, Some, slice_get};
+ghost use Rattle.std.specs.List.{flat_map};
+ghost use Rattle.std.specs.Option.{option_map};
+ghost use Rattle.dp_files.specs.DialplanText.{text_of};
+ghost use Rattle.dp_notices.specs.Loading as spec;
+ghost use Rattle.dp_plan.specs.Loaded.{plan_and_notes};
+
+use crate::line_notices::NoticeAt;
+use crate::notice::{Notice, NoticeFault};
+use dp_conf::{ConfFault, NoMemory, Text};
+use dp_files::{Fault, MadeLine, text_of};
+use dp_plan::{
+    Context, Dialplan, LoadFault, Note, PlanKind, Word, plan_faults, show_faults_decide_loading,
+};
+use std::alloc::Global;
+
+/// How many contexts a dialplan has, and how many entries they have together.
+#[derive(Clone, Copy, Debug, PartialEq, Eq)]
+pub struct PlanCounts {
+    pub contexts: usize,
+    pub entries: u128,
+}
+
+/// A notice on the line of a number, counted from 1, of the text that is loaded.
+#[derive(Clone, Copy)]
+pub(crate) struct NumberedNotice {
+    line: usize,
+    notice: Notice,
+}
+
+/// What loading lines gives.
+#[derive(Drop)]
+pub(crate) struct LoadedLines {
+    /// The lines that load: a line with a fault is empty.
+    pub(crate) lines: Vec<MadeLine>,
+    /// The faults, and then the notes.
+    pub(crate) notices: Vec<NoticeAt>,
+    pub(crate) counts: PlanCounts,
+}
+
+/// Why a line is left out that the loader refuses. An include with times is one for which no moment is given.
+fn loader_fault(kind: PlanKind) -> NoticeFault
+    ensures { result ≡ spec.loader_fault kind }
+{
+    match kind {
+        PlanKind::LeftOut(Word::IncludeTimes) => NoticeFault::Reading(Fault::NoClock),
+        kind => NoticeFault::Plan(kind),
+    }
+}
+
+/// The notice of a fault, where it is at a line.
+fn fault_notice(fault: LoadFault) -> Option<NumberedNotice>
+    ensures { result ≡ spec.fault_notice fault }
+{
+    match fault {
+        LoadFault::Conf(ConfFault::At { line, kind }) => Some(NumberedNotice {
+            line,
+            notice: Notice::Fault(NoticeFault::Reading(Fault::Line(kind))),
+        }),
+        LoadFault::Pattern { line, fault } => Some(NumberedNotice {
+            line,
+            notice: Notice::Fault(NoticeFault::Name(fault)),
+        }),
+        LoadFault::Plan { line, kind } => Some(NumberedNotice {
+            line,
+            notice: Notice::Fault(loader_fault(kind)),
+        }),
+        LoadFault::Conf(ConfFault::NoMemory) | LoadFault::NoMemory => None,
+    }
+}
+
+/// Adds the notice of a fault, where it is at a line.
+fn push_fault(faults: &mut Vec<NumberedNotice>, fault: LoadFault) -> Result<(), NoMemory>
+    ensures { OnOk result (faults.new.items ≡ faults.old.items ++ spec.fault_notices fault) }
+{
+    match fault_notice(fault) {
+        Some(notice) => {
+            faults.push(notice)?;
+            Ok(())
+        }
+        None => Ok(()),
+    }
+}
+
+/// The notices of faults.
+fn notices_of_faults(alloc: Global, faults: &[LoadFault]) -> Result<Vec<NumberedNotice>, NoMemory>
+    ensures { IfOk result (λ notices. notices.items ≡ flat_map spec.fault_notices faults.now) }
+{
+    let mut notices = Vec::new(alloc);
+    for fault in faults {
+        push_fault(&mut notices, *fault)?;
+    }
+    Ok(notices)
+}
+
+/// The notices of a fault of the text itself.
+fn notices_of_text_fault(alloc: Global, fault: LoadFault) -> Result<Vec<NumberedNotice>, NoMemory>
+    ensures { IfOk result (λ notices. notices.items ≡ spec.fault_notices fault) }
+{
+    let mut notices = Vec::new(alloc);
+    push_fault(&mut notices, fault)?;
+    Ok(notices)
+}
+
+/// The notices of the faults of a text: those of its lines, or of the text itself.
+fn faults_in_text(alloc: Global, text: &[u8]) -> Result<Vec<NumberedNotice>, NoMemory>
+    ensures { IfOk result (λ notices. notices.items ≡ spec.faults_in_text text.now) }
+{
+    match plan_faults(alloc, text) {
+        Ok(faults) => notices_of_faults(alloc, &faults),
+        Err(LoadFault::NoMemory) => Err(NoMemory),
+        Err(fault) => notices_of_text_fault(alloc, fault),
+    }
+}
+
+/// The line of a number, counted from 1, where there is one.
+fn line_of_number(lines: &[MadeLine], number: usize) -> Option<&MadeLine>
+    ensures { option_map (λ line. line.now) result ≡ slice_get lines.now (number - 1) }
+{
+    lines.get(number.saturating_sub(1))
+}
+
+/// Adds the notice on the line that a line of the text is made of.
+fn push_notice(
+    notices: &mut Vec<NoticeAt>,
+    lines: &[MadeLine],
+    numbered: NumberedNotice,
+) -> Result<(), NoMemory>
+    ensures { OnOk result (notices.new.items ≡ notices.old.items ++ spec.notice_at_source lines.now numbered) }
+{
+    match line_of_number(lines, numbered.line) {
+        Some(line) => {
+            notices.push(NoticeAt {
+                source: line.source,
+                notice: numbered.notice,
+            })?;
+            Ok(())
+        }
+        None => Ok(()),
+    }
+}
+
+/// Adds the notices on the lines that lines of the text are made of.
+fn push_notices(
+    notices: &mut Vec<NoticeAt>,
+    lines: &[MadeLine],
+    numbered: &[NumberedNotice],
+) -> Result<(), NoMemory>
+    ensures { OnOk result (notices.new.items ≡ notices.old.items ++ flat_map (spec.notice_at_source lines.now) numbered.now) }
+{
+    for notice in numbered {
+        push_notice(notices, lines, *notice)?;
+    }
+    Ok(())
+}
+
+/// Adds the notes of the loader.
+fn push_notes(
+    notices: &mut Vec<NoticeAt>,
+    lines: &[MadeLine],
+    notes: &[Note],
+) -> Result<(), NoMemory>
+    ensures { OnOk result (notices.new.items ≡ notices.old.items ++ flat_map (spec.note_at_source lines.now) notes.now) }
+{
+    for note in notes {
+        let numbered = NumberedNotice {
+            line: note.line,
+            notice: Notice::Loaded(note.kind),
+        };
+        push_notice(notices, lines, numbered)?;
+    }
+    Ok(())
+}
+
+/// Makes the line at a place empty.
+fn empty_line(alloc: Global, lines: &mut Vec<MadeLine>, place: usize) -> Result<(), NoMemory>
+    ensures { OnOk result (lines.new.items ≡ spec.emptied_at place lines.old.items) }
+{
+    let empty = Text::copy_of(alloc, b"")?;
+    if let Some(line) = lines.get_mut(place) {
+        line.text = empty;
+    }
+    Ok(())
+}
+
+/// Makes the lines empty that have these faults.
+fn empty_lines(
+    alloc: Global,
+    lines: &mut Vec<MadeLine>,
+    faults: &[NumberedNotice],
+) -> Result<(), NoMemory>
+    ensures { OnOk result (lines.new.items ≡ spec.without_faulty faults.now lines.old.items) }
+{
+    for fault in faults {
+        empty_line(alloc, lines, fault.line.saturating_sub(1))?;
+    }
+    Ok(())
+}
+
+/// How many entries the contexts have, all together. No list is longer than a `usize`, so that 128 bits hold the sum.
+fn count_entries(contexts: &[Context]) -> u128
+    ensures { result ≡ spec.entries_in contexts.now }
+{
+    let mut count: u128 = 0;
+    for context in contexts {
+        count += context.entries().len() as u128;
+    }
+    count
+}
+
+/// What a text loads as: its counts and its notes.
+#[derive(Drop)]
+struct Loading {
+    counts: PlanCounts,
+    notes: Vec<Note>,
+}
+
+/// What a text loads as, or None where it does not load.
+fn load_text(alloc: Global, text: &[u8]) -> Result<Option<Loading>, NoMemory>
+    ensures { IfOk result (λ loading. option_map spec.loading_now loading ≡ spec.loading_in (plan_and_notes text.now)) }
+{
+    match Dialplan::load(alloc, text) {
+        Ok((plan, notes)) => {
+            let counts = PlanCounts {
+                contexts: plan.contexts().len(),
+                entries: count_entries(plan.contexts()),
+            };
+            Ok(Some(Loading { counts, notes }))
+        }
+        Err(LoadFault::NoMemory) => Err(NoMemory),
+        Err(_) => Ok(None),
+    }
+}
+
+/// Lines that have no fault, by what they load as.
+#[tactic(auto)]
+fn load_faultless(
+    alloc: Global,
+    lines: Vec<MadeLine>,
+    loading: &Loading,
+) -> Result<LoadedLines, NoMemory>
+    requires { Some (spec.loading_now loading.now) ≡ spec.loading_in (plan_and_notes (text_of lines.items)) }
+    ensures { IfOk result (λ loaded. spec.loaded_now loaded ≡ spec.loaded_lines lines.items) }
+{
+    show_faults_decide_loading();
+    let mut notices = Vec::new(alloc);
+    push_notes(&mut notices, &lines, &loading.notes)?;
+    Ok(LoadedLines {
+        lines,
+        notices,
+        counts: loading.counts,
+    })
+}
+
+/// What a text loads as, and nothing where it does not load.
+fn load_or_nothing(alloc: Global, text: &[u8]) -> Result<Loading, NoMemory>
+    ensures { IfOk result (λ loading. spec.loading_now loading ≡ spec.loading_of (plan_and_notes text.now)) }
+{
+    match load_text(alloc, text)? {
+        Some(loading) => Ok(loading),
+        None => Ok(Loading {
+            counts: PlanCounts {
+                contexts: 0,
+                entries: 0,
+            },
+            notes: Vec::new(alloc),
+        }),
+    }
+}
+
+/// Lines of which some have a fault, by their text.
+#[tactic(auto, unfolding(crate::specs::Loading::loaded_lines))]
+fn load_faulty(
+    alloc: Global,
+    mut lines: Vec<MadeLine>,
+    text: &[u8],
+) -> Result<LoadedLines, NoMemory>
+    requires { text.now ≡ text_of lines.items }
+    ensures { IfOk result (λ loaded. spec.loaded_now loaded ≡ spec.loaded_lines lines.items) }
+{
+    let faults = faults_in_text(alloc, text)?;
+    let mut notices = Vec::new(alloc);
+    push_notices(&mut notices, &lines, &faults)?;
+    empty_lines(alloc, &mut lines, &faults)?;
+    let text = text_of(alloc, &lines)?;
+    let loading = load_or_nothing(alloc, &text)?;
+    push_notes(&mut notices, &lines, &loading.notes)?;
+    Ok(LoadedLines {
+        lines,
+        notices,
+        counts: loading.counts,
+    })
+}
+
+/// Loads lines without those that have a fault. Where none has one, the text is read once.
+pub(crate) fn load_lines(alloc: Global, lines: Vec<MadeLine>) -> Result<LoadedLines, NoMemory>
+    ensures { IfOk result (λ loaded. spec.loaded_now loaded ≡ spec.loaded_lines lines.items) }
+{
+    let text = text_of(alloc, &lines)?;
+    match load_text(alloc, &text)? {
+        Some(loading) => load_faultless(alloc, lines, &loading),
+        None => load_faulty(alloc, lines, &text),
+    }
+}

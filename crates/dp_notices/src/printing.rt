@@ -1,0 +1,205 @@
+//! The lines that are printed of notices.
+ghost use Rattle.std.specs.Prelude.{◌≡◌, ◌++◌, IfOk, OnOk};
+ghost use Rattle.dp_notices.specs.Printing as spec;
+ghost use Rattle.dp_notices.specs.PlanFiles.{plan_now};
+
+use crate::line_notices::NotedLine;
+use crate::notice::{Notice, NoticeFault};
+use crate::plan_files::PlanFiles;
+use dp_conf::{NoMemory, line_content};
+use dp_files::{Fault, SourceFile, SourceLine, included_name};
+use itoa::Buffer;
+use std::alloc::Global;
+
+/// The name of the file of a number, as it was opened.
+fn file_name(files: &[SourceFile], number: usize) -> &[u8]
+    ensures { result.now ≡ spec.file_name files.now number }
+{
+    match files.get(number) {
+        Some(file) => file.name.bytes(),
+        None => b"",
+    }
+}
+
+/// Adds where a line stands, `FILE:LINE: `.
+fn push_place(out: &mut Vec<u8>, file: &[u8], line: usize) -> Result<(), NoMemory>
+    ensures { OnOk result (out.new.items ≡ out.old.items ++ spec.place_text file.now line) }
+{
+    let mut buffer = Buffer::new();
+    out.extend_from_slice(file)?;
+    out.push(b':')?;
+    out.extend_from_slice(buffer.format(line).as_bytes())?;
+    out.extend_from_slice(b": ")?;
+    Ok(())
+}
+
+/// Adds a number and a blank, where there is a number.
+fn push_number(out: &mut Vec<u8>, number: Option<u8>) -> Result<(), NoMemory>
+    ensures { OnOk result (out.new.items ≡ out.old.items ++ spec.number_text number) }
+{
+    let Some(number) = number else {
+        return Ok(());
+    };
+    let mut buffer = Buffer::new();
+    out.extend_from_slice(buffer.format(number).as_bytes())?;
+    out.push(b' ')?;
+    Ok(())
+}
+
+/// The word before what is printed of a notice.
+fn first_word(notice: Notice) -> &'static str
+    ensures { result.now ≡ spec.first_word notice }
+{
+    if notice.is_fault() { "fault " } else { "note " }
+}
+
+/// Adds what is printed of a notice.
+fn push_words(out: &mut Vec<u8>, notice: Notice) -> Result<(), NoMemory>
+    ensures { OnOk result (out.new.items ≡ out.old.items ++ spec.notice_text notice) }
+{
+    out.extend_from_slice(first_word(notice).as_bytes())?;
+    push_number(out, notice.number())?;
+    out.extend_from_slice(notice.name().as_bytes())?;
+    Ok(())
+}
+
+/// Whether the notice is that a file is not there.
+fn is_missing_file(notice: Notice) -> bool
+    ensures { result ≡ spec.is_missing_file notice }
+{
+    match notice {
+        Notice::Fault(NoticeFault::Reading(Fault::NotFound)) => true,
+        _ => false,
+    }
+}
+
+/// Adds the name of the file that a line asks for.
+fn push_name(alloc: Global, out: &mut Vec<u8>, text: &[u8]) -> Result<(), NoMemory>
+    ensures { OnOk result (out.new.items ≡ out.old.items ++ spec.name_behind text.now) }
+{
+    let content = line_content(alloc, text)?;
+    out.push(b' ')?;
+    out.extend_from_slice(included_name(content.bytes()))?;
+    Ok(())
+}
+
+/// Adds the name of the file that a line asks for, where the notice is that it is not there.
+fn push_missing_name(
+    alloc: Global,
+    out: &mut Vec<u8>,
+    text: &[u8],
+    notice: Notice,
+) -> Result<(), NoMemory>
+    ensures { OnOk result (out.new.items ≡ out.old.items ++ spec.missing_name text.now notice) }
+{
+    if is_missing_file(notice) {
+        return push_name(alloc, out, text);
+    }
+    Ok(())
+}
+
+/// A line of a file, with the name of the file.
+#[derive(Clone, Copy)]
+struct NamedLine<'a> {
+    file: &'a [u8],
+    line: &'a SourceLine,
+}
+
+/// Adds the line of a notice.
+fn push_notice(
+    alloc: Global,
+    out: &mut Vec<u8>,
+    named: NamedLine<'_>,
+    notice: Notice,
+) -> Result<(), NoMemory>
+    ensures { OnOk result (out.new.items ≡ out.old.items ++ spec.notice_line named.entry.file.now named.entry.line.now notice) }
+{
+    push_place(out, named.file, named.line.line)?;
+    push_words(out, notice)?;
+    push_missing_name(alloc, out, named.line.text.bytes(), notice)?;
+    out.push(b'\n')?;
+    Ok(())
+}
+
+/// Which notices are printed.
+#[derive(Clone, Copy, Debug, PartialEq, Eq)]
+pub enum Shown {
+    /// Notes and faults.
+    All,
+    /// Faults alone.
+    Faults,
+}
+
+/// Whether a notice is printed.
+fn is_shown(shown: Shown, notice: Notice) -> bool
+    ensures { result ≡ spec.is_shown shown notice }
+{
+    match shown {
+        Shown::All => true,
+        Shown::Faults => notice.is_fault(),
+    }
+}
+
+/// Adds the lines of the notices on a line that are printed.
+fn push_line(
+    alloc: Global,
+    out: &mut Vec<u8>,
+    shown: Shown,
+    named: NamedLine<'_>,
+    notices: &[Notice],
+) -> Result<(), NoMemory>
+    ensures { OnOk result (out.new.items
+        ≡ out.old.items ++ spec.notice_lines shown named.entry.file.now named.entry.line.now notices.now) }
+{
+    for notice in notices {
+        if is_shown(shown, *notice) {
+            push_notice(alloc, out, named, *notice)?;
+        }
+    }
+    Ok(())
+}
+
+/// Adds the lines of the notices on a line of some files that are printed.
+fn push_noted(
+    alloc: Global,
+    out: &mut Vec<u8>,
+    shown: Shown,
+    files: &[SourceFile],
+    noted: &NotedLine,
+) -> Result<(), NoMemory>
+    ensures { OnOk result (out.new.items ≡ out.old.items ++ spec.noted_text shown files.now noted.now) }
+{
+    let named = NamedLine {
+        file: file_name(files, noted.line.file),
+        line: &noted.line,
+    };
+    push_line(alloc, out, shown, named, noted.notices.as_slice())
+}
+
+/// Adds the lines of the notices on each line that are printed.
+#[tactic(auto, unfolding(crate::specs::Printing::notices_text))]
+fn push_lines(
+    alloc: Global,
+    out: &mut Vec<u8>,
+    shown: Shown,
+    plan: &PlanFiles,
+) -> Result<(), NoMemory>
+    ensures { OnOk result (out.new.items ≡ out.old.items ++ spec.notices_text shown (plan_now plan.now)) }
+{
+    for noted in &plan.lines {
+        push_noted(alloc, out, shown, &plan.files, noted)?;
+    }
+    Ok(())
+}
+
+/// The lines of the notices on a dialplan that is read from files, in the order of the lines that they are on: `FILE:LINE: note KIND`,
+/// `FILE:LINE: fault CODE NAME`, or `FILE:LINE: fault NAME` of a fault that has no number. FILE is the name of the file as it was opened.
+/// Behind a file that is not there stands its name, and behind what this program leaves out its kind. The error comes only where a growth
+/// was refused.
+pub fn print_notices(alloc: Global, shown: Shown, plan: &PlanFiles) -> Result<Vec<u8>, NoMemory>
+    ensures { IfOk result (λ text. text.items ≡ spec.notices_text shown (plan_now plan.now)) }
+{
+    let mut out = Vec::new(alloc);
+    push_lines(alloc, &mut out, shown, plan)?;
+    Ok(out)
+}
